@@ -1,0 +1,125 @@
+-- A run cut by keys: what it answers and leaves at a key is what the operations on that key do to the one cell.
+use Rattle.std.proofs.Common.{subst, map, ◌≡◌, ℕ, ◌<◌, List, [], ◌∷◌, ltb, Some, None, refl, ap, sym, ◌∙◌, inl, inr, arith}
+use Rattle.std.proofs.lemmas.Bool.{cases_eq, eq-eqb, ne_eqb, cases_order, ltb-true, cond_both}
+use Rattle.std.proofs.lemmas.Bool.Decides.{nat_tests}
+use Rattle.std.specs.List.{AllByRecursion, zip, filter}
+use Rattle.blink_batch.specs.declared.entry.Entry.{Entry}
+use Rattle.blink_batch.specs.declared.operation.Op.{Op}
+use Rattle.blink_batch.specs.declared.operation.Op.TheVariants.{Find, Insert}
+use Rattle.blink_batch.specs.declared.operation.Answer.{Answer}
+use Rattle.blink_batch.specs.PlainMap.{entry, IsAscending, pointer_of, added}
+use Rattle.blink_batch.specs.Operation.{key_of, answer_at, map_at, answer_of, map_after, answers, map_after_all}
+use Rattle.blink_batch.specs.Cell.{cell_after, cell_answers, cell_after_all, is_on_key, on_key}
+
+-- an entry added under a key that had none is what the key keeps
+pub pointer_of-added : (m : List Entry) (k p : ℕ) → pointer_of m k ≡ None → pointer_of (added m (entry k p)) k ≡ Some p
+pointer_of-added [] k p none = rw (eq-eqb k k refl)
+pointer_of-added (e ∷ es) k p none =
+    let rest : pointer_of es k ≡ None → pointer_of (added es (entry k p)) k ≡ Some p = pointer_of-added es k p in
+    grind (arith, nat_tests, rest)
+
+-- and leaves the other keys alone
+pub pointer_of-added_elsewhere : (m : List Entry) (k p q : ℕ) → (k ≡ q → ⊥) → pointer_of (added m (entry k p)) q ≡ pointer_of m q
+pointer_of-added_elsewhere [] k p q other = rw (ne_eqb k q other)
+pointer_of-added_elsewhere (e ∷ es) k p q other =
+    let rest : pointer_of (added es (entry k p)) q ≡ pointer_of es q = pointer_of-added_elsewhere es k p q other in
+    grind (arith, nat_tests, rest)
+
+-- an operation on a key does to it what it does to the cell alone
+pub pointer_of-map_after_own : (m : List Entry) (op : Op) (k : ℕ) → key_of op ≡ k → pointer_of (map_after m op) k ≡ cell_after op (pointer_of m k)
+pointer_of-map_after_own m (Find key) k own = refl
+pointer_of-map_after_own m (Insert key p) k own = subst (λ (q : ℕ). pointer_of (map_after m (Insert key p)) q ≡ cell_after (Insert key p) (pointer_of m q)) own ((elim (pointer_of m key) as (λ kept. pointer_of m key ≡ kept → pointer_of (map_at (Insert key p) kept m) key ≡ cell_after (Insert key p) kept) [ Some there ↦ λ h. h | None ↦ λ h. pointer_of-added m key p h ]) refl)
+
+-- and leaves every other key alone
+pub pointer_of-map_after_other : (m : List Entry) (op : Op) (k : ℕ) → (key_of op ≡ k → ⊥) → pointer_of (map_after m op) k ≡ pointer_of m k
+pointer_of-map_after_other m (Find key) k other = refl
+pointer_of-map_after_other m (Insert key p) k other = elim (pointer_of m key) as (λ kept. pointer_of (map_at (Insert key p) kept m) k ≡ pointer_of m k) [ Some there ↦ refl | None ↦ pointer_of-added_elsewhere m key p k other ]
+
+-- ---- ascending keys
+
+-- what holds of each element still holds when it is weakened
+pub every_weaker : {X : Type 0} (P Q : X → Type 0) → ((x : X) → P x → Q x) → (xs : List X) → AllByRecursion P xs → AllByRecursion Q xs
+every_weaker P Q weaker [] all = tt
+every_weaker P Q weaker (x ∷ xs) all = (weaker x all.0, every_weaker P Q weaker xs all.1)
+
+-- what holds of the entries and of one more holds with it added
+every-added : (P : Entry → Type 0) (m : List Entry) (new : Entry) → P new → AllByRecursion P m → AllByRecursion P (added m new)
+every-added P [] new here all = (here, tt)
+every-added P (e ∷ es) new here all = cond_both (ltb new.key e.key) (new ∷ e ∷ es) (e ∷ added es new) (AllByRecursion P) (λ _. (here, all)) (λ _. (all.0, every-added P es new here all.1))
+
+-- an entry added under a key that had none leaves the keys ascending
+pub IsAscending-added : (m : List Entry) (k p : ℕ) → pointer_of m k ≡ None → IsAscending m → IsAscending (added m (entry k p))
+IsAscending-added [] k p none ascending = (tt, tt)
+IsAscending-added (e ∷ es) k p none ascending = cond_both (ltb k e.key) (entry k p ∷ e ∷ es) (e ∷ added es (entry k p)) IsAscending
+    (λ before. let here : k < e.key = ltb-true k e.key before in ((here, every_weaker (λ after. e.key < after.key) (λ after. k < after.key) (λ after h. omega arith) es ascending.0), ascending))
+    (λ behind. let here : e.key < k = grind (arith, nat_tests) in let rest : pointer_of es k ≡ None = grind (arith, nat_tests) in
+    (every-added (λ after. e.key < after.key) es (entry k p) here ascending.0, IsAscending-added es k p rest ascending.1))
+
+-- so an operation leaves the keys ascending
+pub IsAscending-map_after : (m : List Entry) (op : Op) → IsAscending m → IsAscending (map_after m op)
+IsAscending-map_after m (Find key) ascending = ascending
+IsAscending-map_after m (Insert key p) ascending = (elim (pointer_of m key) as (λ kept. pointer_of m key ≡ kept → IsAscending (map_at (Insert key p) kept m)) [ Some there ↦ λ h. ascending | None ↦ λ h. IsAscending-added m key p h ascending ]) refl
+
+-- and so does a run of them
+pub IsAscending-map_after_all : (m : List Entry) (ops : List Op) → IsAscending m → IsAscending (map_after_all m ops)
+IsAscending-map_after_all m [] ascending = ascending
+IsAscending-map_after_all m (op ∷ ops) ascending = IsAscending-map_after_all (map_after m op) ops (IsAscending-map_after m op ascending)
+
+-- a key below all of the map's keeps nothing
+pub pointer_of-below : (m : List Entry) (k : ℕ) → AllByRecursion (λ e. k < e.key) m → pointer_of m k ≡ None
+pointer_of-below [] k below = refl
+pointer_of-below (e ∷ es) k below = let here : k < e.key = below.0 in rw (ne_eqb e.key k (λ same. omega arith)) (pointer_of-below es k below.1)
+
+pointer_of-first : (e : Entry) (es : List Entry) (k : ℕ) → e.key ≡ k → pointer_of (e ∷ es) k ≡ Some e.pointer
+pointer_of-first e es k same = rw (eq-eqb e.key k same)
+
+pointer_of-rest : (e : Entry) (es : List Entry) (k : ℕ) → (e.key ≡ k → ⊥) → pointer_of (e ∷ es) k ≡ pointer_of es k
+pointer_of-rest e es k other = rw (ne_eqb e.key k other)
+
+same_entry : (d e : Entry) → d.key ≡ e.key → d.pointer ≡ e.pointer → d ≡ e
+same_entry d e keys pointers = λ i. record { key = keys i; pointer = pointers i }
+
+-- a key that one map begins with isn't kept alike in a map that begins above it
+least_is_only_its_own : (d : Entry) (ds : List Entry) (e : Entry) (es : List Entry) → d.key < e.key → IsAscending (e ∷ es) → pointer_of (d ∷ ds) d.key ≡ pointer_of (e ∷ es) d.key → ⊥
+least_is_only_its_own d ds e es less ascending same =
+    let first = pointer_of-first d ds d.key refl in
+    let none = pointer_of-below (e ∷ es) d.key (less, every_weaker (λ after. e.key < after.key) (λ after. d.key < after.key) (λ after h. omega arith) es ascending.0) in
+    cc
+
+-- two ascending maps that keep the same under every key are one
+pub same_map_from_pointers : (m n : List Entry) → IsAscending m → IsAscending n → ((k : ℕ) → pointer_of m k ≡ pointer_of n k) → m ≡ n
+same_map_from_pointers [] [] up_m up_n same = refl
+same_map_from_pointers [] (e ∷ es) up_m up_n same = let first = pointer_of-first e es e.key refl in let h = same e.key in absurd (cc)
+same_map_from_pointers (d ∷ ds) [] up_m up_n same = let first = pointer_of-first d ds d.key refl in let h = same d.key in absurd (cc)
+same_map_from_pointers (d ∷ ds) (e ∷ es) up_m up_n same = elim (cases_order d.key e.key) [
+  | inl keys ↦
+      let first = pointer_of-first d ds d.key refl in let second = pointer_of-first e es d.key (sym keys) in let at_first = same d.key in
+      let pointers : d.pointer ≡ e.pointer = cc in
+      let rest : ds ≡ es = same_map_from_pointers ds es up_m.1 up_n.1 (λ k. elim (cases_eq d.key k) [
+        | inl here ↦ pointer_of-below ds k (subst (λ (q : ℕ). AllByRecursion (λ after. q < after.key) ds) here up_m.0) ∙ sym (pointer_of-below es k (subst (λ (q : ℕ). AllByRecursion (λ after. q < after.key) es) (sym keys ∙ here) up_n.0))
+        | inr other ↦ sym (pointer_of-rest d ds k other) ∙ same k ∙ pointer_of-rest e es k (λ h. other (keys ∙ h))
+      ]) in
+      let heads : d ≡ e = same_entry d e keys pointers in cc
+  | inr (inl less) ↦ absurd (least_is_only_its_own d ds e es less up_n (same d.key))
+  | inr (inr more) ↦ absurd (least_is_only_its_own e es d ds more up_m (sym (same e.key)))
+]
+
+-- ---- the cut
+
+-- what a run leaves under a key is what the operations on that key leave in its cell
+pub pointer_of-map_after_all : (m : List Entry) (ops : List Op) (k : ℕ) → pointer_of (map_after_all m ops) k ≡ cell_after_all (pointer_of m k) (on_key k ops)
+pointer_of-map_after_all m [] k = refl
+pointer_of-map_after_all m (op ∷ ops) k = pointer_of-map_after_all (map_after m op) ops k ∙ elim (cases_eq (key_of op) k) [
+  | inl own ↦ rw (eq-eqb (key_of op) k own, pointer_of-map_after_own m op k own)
+  | inr other ↦ rw (ne_eqb (key_of op) k other, pointer_of-map_after_other m op k other)
+]
+
+-- and what a run answers to the operations on a key is what they answer on its cell alone: here each x stands for the operation at x
+pub answers_on_key : {X : Type 0} (at : X → Op) (m : List Entry) (xs : List X) (k : ℕ) → filter (λ (answered : X × Answer). is_on_key k (at answered.0)) (zip xs (answers m (map at xs))) ≡ zip (filter (λ x. is_on_key k (at x)) xs) (cell_answers (pointer_of m k) (map at (filter (λ x. is_on_key k (at x)) xs)))
+answers_on_key at m [] k = refl
+answers_on_key at m (x ∷ xs) k = elim (cases_eq (key_of (at x)) k) [
+  | inl own ↦
+      let here : answer_of m (at x) ≡ answer_at (at x) (pointer_of m k) = ap (λ q. answer_at (at x) (pointer_of m q)) own in
+      rw (eq-eqb (key_of (at x)) k own, here, ← pointer_of-map_after_own m (at x) k own) (ap (λ r. (x, answer_at (at x) (pointer_of m k)) ∷ r) (answers_on_key at (map_after m (at x)) xs k))
+  | inr other ↦ rw (ne_eqb (key_of (at x)) k other, ← pointer_of-map_after_other m (at x) k other) (answers_on_key at (map_after m (at x)) xs k)
+]

@@ -1,0 +1,10 @@
+pub mod CellLemmas
+pub mod CutLemmas
+pub mod FieldLemmas
+pub mod NumberLemmas
+pub mod OrderLemmas
+pub mod PlaceLemmas
+pub mod ReadLemmas
+pub mod RecordLemmas
+pub mod RunLemmas
+pub mod SearchLemmas

@@ -1,0 +1,11 @@
+use Rattle.std.proofs.Common.{◌≡◌, ◌%◌, map, arith}
+use Rattle.std.proofs.lemmas.Grind.{common_steps}
+use Rattle.blink_batch.specs.Operation.{key_of}
+use Rattle.blink_batch.proofs.CutLemmas.{lawful_by_key}
+use Rattle.blink_batch.proofs.cut.Cut.by_residue.Goals as goal
+
+-- the remainder is a function of the key
+pub returns-clause-lawful : goal.returns-clause-lawful
+returns-clause-lawful c =
+    let lanes : c.loop-op.lanes.items ≡ map (λ op. key_of op % c.args.workers) c.args.batch.now = grind (arith, common_steps) in
+    rw lanes (lawful_by_key (λ key. key % c.args.workers) c.args.batch.now c.args.workers (λ key. omega arith))

@@ -1,0 +1,57 @@
+use Rattle.std.proofs.Common.{refl}
+use Rattle.blink_batch.specs.PlainMap.{IsAscending, entry}
+use Rattle.blink_batch.proofs.SearchLemmas.{kept_at_place, pointer_of-gap, insert-gap}
+use Rattle.blink_batch.proofs.CellLemmas.{IsAscending-added}
+use Rattle.blink_batch.proofs.plain.Plain.apply.Goals as goal
+
+-- the key is there: the map keeps the pointer that is read
+pub returns-in-Find-Ok-clause-answer : goal.returns-in-Find-Ok-clause-answer
+returns-in-Find-Ok-clause-answer c =
+    let place = rw c.in-Find-Ok.is-1 at c.place-place.ensures.found in
+    let ascending = rw c.self.view_is at c.self.invariant in
+    let kept = kept_at_place c.args.self.now c.key.result c.in-Find-Ok.at c.index.result.now ascending place (rw c.self.view_is at c.index.ensures) in
+    rw c.in-Find-Ok.is-0 (rw (rw (c.key.ensures, c.in-Find-Ok.is-0) at kept) refl)
+
+pub returns-in-Insert-Ok-clause-answer : goal.returns-in-Insert-Ok-clause-answer
+returns-in-Insert-Ok-clause-answer c =
+    let place = rw c.in-Insert-Ok.is-1 at c.place-place.ensures.found in
+    let ascending = rw c.self.view_is at c.self.invariant in
+    let kept = kept_at_place c.args.self.now c.key.result c.in-Insert-Ok.at c.index-in-Insert-Ok.result.now ascending place (rw c.self.view_is at c.index-in-Insert-Ok.ensures) in
+    rw c.in-Insert-Ok.is-0 (rw (rw (c.key.ensures, c.in-Insert-Ok.is-0) at kept) refl)
+
+pub returns-in-Insert-Ok-clause-map : goal.returns-in-Insert-Ok-clause-map
+returns-in-Insert-Ok-clause-map c =
+    let place = rw c.in-Insert-Ok.is-1 at c.place-place.ensures.found in
+    let ascending = rw c.self.view_is at c.self.invariant in
+    let kept = kept_at_place c.args.self.now c.key.result c.in-Insert-Ok.at c.index-in-Insert-Ok.result.now ascending place (rw c.self.view_is at c.index-in-Insert-Ok.ensures) in
+    rw c.in-Insert-Ok.is-0 (rw (rw (c.key.ensures, c.in-Insert-Ok.is-0) at kept) refl)
+
+-- the key is not there: the map keeps nothing under it
+pub returns-in-Find-Err-clause-answer : goal.returns-in-Find-Err-clause-answer
+returns-in-Find-Err-clause-answer c =
+    let gap = rw c.in-Find-Err.is-1 at c.place-place.ensures.gap in
+    let absent = pointer_of-gap _ _ _ gap in
+    rw c.in-Find-Err.is-0 (rw (rw (c.key.ensures, c.in-Find-Err.is-0) at absent) refl)
+
+pub returns-in_ok-insert-in-Insert-Err-clause-answer : goal.returns-in_ok-insert-in-Insert-Err-clause-answer
+returns-in_ok-insert-in-Insert-Err-clause-answer c =
+    let gap = rw c.in-Insert-Err.is-1 at c.place-place.ensures.gap in
+    let absent = pointer_of-gap _ _ _ gap in
+    rw c.in-Insert-Err.is-0 (rw (rw (c.key.ensures, c.in-Insert-Err.is-0) at absent) refl)
+
+pub returns-in_ok-insert-in-Insert-Err-clause-map : goal.returns-in_ok-insert-in-Insert-Err-clause-map
+returns-in_ok-insert-in-Insert-Err-clause-map c =
+    let gap = rw (c.in-Insert-Err.is-1, c.key.ensures, c.in-Insert-Err.is-0) at c.place-place.ensures.gap in
+    let absent = pointer_of-gap _ _ _ gap in
+    let inserted = insert-gap c.args.self.now (entry c.in-Insert-Err.key c.in-Insert-Err.pointer) c.in-Insert-Err.at gap in
+    rw (c.in_ok-insert-in-Insert-Err.ensures.items, c.self.view_is, c.in-Insert-Err.is-0, absent) inserted
+
+-- the new entry goes into its gap, so the keys still ascend
+pub invariant_of-self-in-Insert-Err : goal.invariant_of-self-in-Insert-Err
+invariant_of-self-in-Insert-Err c =
+    let gap = rw (c.in-Insert-Err.is-1, c.key.ensures, c.in-Insert-Err.is-0) at c.place-place.ensures.gap in
+    let absent = pointer_of-gap _ _ _ gap in
+    let new = entry c.in-Insert-Err.key c.in-Insert-Err.pointer in
+    let ascending : IsAscending c.args.self.now = rw c.self.view_is at c.self.invariant in
+    rw (c.in_ok-insert-in-Insert-Err.ensures.items, c.self.view_is, insert-gap c.args.self.now new c.in-Insert-Err.at gap)
+    (IsAscending-added c.args.self.now c.in-Insert-Err.key c.in-Insert-Err.pointer absent ascending)

@@ -1,0 +1,29 @@
+-- A map cut by keys: what operations on one key answer and leave, told from the one cell that keeps that key's pointer.
+use Rattle.std.specs.Prelude.{ℕ, ◌==◌, List, [], ◌∷◌, Bool, Option, Some, None, filter}
+use Rattle.blink_batch.specs.declared.operation.Op.{Op}
+use Rattle.blink_batch.specs.declared.operation.Op.TheVariants.{Find, Insert}
+use Rattle.blink_batch.specs.declared.operation.Answer.{Answer}
+use Rattle.blink_batch.specs.Operation.{key_of, answer_at}
+
+-- what one operation leaves kept under its own key
+abbrev pub cell_after : Op → Option ℕ → Option ℕ
+cell_after (Find key) kept = kept
+cell_after (Insert key pointer) (Some kept) = Some kept
+cell_after (Insert key pointer) None = Some pointer
+
+-- the answers of operations one after another on one cell
+abbrev pub cell_answers : Option ℕ → List Op → List Answer
+cell_answers kept [] = []
+cell_answers kept (op ∷ ops) = answer_at op kept ∷ cell_answers (cell_after op kept) ops
+
+-- and what they leave in it
+abbrev pub cell_after_all : Option ℕ → List Op → Option ℕ
+cell_after_all kept [] = kept
+cell_after_all kept (op ∷ ops) = cell_after_all (cell_after op kept) ops
+
+abbrev pub is_on_key : ℕ → Op → Bool
+is_on_key key op = key_of op == key
+
+-- the operations on one key, in their order
+abbrev pub on_key : ℕ → List Op → List Op
+on_key key ops = filter (is_on_key key) ops

@@ -1,0 +1,24 @@
+-- The number of each refusal.
+use Rattle.std.specs.Prelude.{ℕ}
+use Rattle.blink_batch.specs.declared.cut.CutError.{CutError}
+use Rattle.blink_batch.specs.declared.cut.CutError.TheVariants as cut
+use Rattle.blink_batch.specs.declared.error.RecordError.{RecordError}
+use Rattle.blink_batch.specs.declared.error.RecordError.TheVariants as row
+use Rattle.blink_batch.specs.declared.error.ScriptError.{ScriptError}
+use Rattle.blink_batch.specs.declared.error.ScriptError.TheVariants as script
+
+abbrev pub code_of_cut_error : CutError → ℕ
+code_of_cut_error cut.BadWorkers = 2
+code_of_cut_error cut.OutOfMemory = 7
+
+abbrev pub code_of_record_error : RecordError → ℕ
+code_of_record_error row.BadShape = 10
+code_of_record_error row.UnknownOperation = 11
+code_of_record_error row.BadNumber = 12
+
+abbrev pub code_of_script_error : ScriptError → ℕ
+code_of_script_error (script.Row number error) = code_of_record_error error
+code_of_script_error (script.Csv number) = 13
+code_of_script_error (script.TooMany number) = 14
+code_of_script_error script.Read = 15
+code_of_script_error script.OutOfMemory = 16

@@ -1,0 +1,11 @@
+pub mod Batch
+pub mod Cell
+pub mod Codes
+pub mod Cut
+pub mod Number
+pub mod Operation
+pub mod Order
+pub mod PlainMap
+pub mod Record
+pub mod Script
+pub mod Search

@@ -1,0 +1,42 @@
+-- What an operation answers on a plain map and makes of it, and a list of operations one after another.
+use Rattle.std.specs.Prelude.{ℕ, List, [], ◌∷◌, Option, Some, None}
+use Rattle.blink_batch.specs.declared.entry.Entry.{Entry}
+use Rattle.blink_batch.specs.declared.operation.Op.{Op}
+use Rattle.blink_batch.specs.declared.operation.Op.TheVariants.{Find, Insert}
+use Rattle.blink_batch.specs.declared.operation.Answer.{Answer}
+use Rattle.blink_batch.specs.declared.operation.Answer.TheVariants.{Found, Absent, Inserted, Exists}
+use Rattle.blink_batch.specs.PlainMap.{entry, pointer_of, added}
+
+-- the key that an operation is about
+abbrev pub key_of : Op → ℕ
+key_of (Find key) = key
+key_of (Insert key pointer) = key
+
+-- the answer, where the map keeps this pointer, or nothing, under the operation's key
+abbrev pub answer_at : Op → Option ℕ → Answer
+answer_at (Find key) (Some kept) = Found kept
+answer_at (Find key) None = Absent
+answer_at (Insert key pointer) (Some kept) = Exists kept
+answer_at (Insert key pointer) None = Inserted
+
+-- the map afterwards, likewise
+abbrev pub map_at : Op → Option ℕ → List Entry → List Entry
+map_at (Find key) kept map = map
+map_at (Insert key pointer) (Some kept) map = map
+map_at (Insert key pointer) None map = added map (entry key pointer)
+
+-- apply: the answer of an operation on a map, and the map afterwards
+abbrev pub answer_of : List Entry → Op → Answer
+answer_of map op = answer_at op (pointer_of map (key_of op))
+
+abbrev pub map_after : List Entry → Op → List Entry
+map_after map op = map_at op (pointer_of map (key_of op)) map
+
+-- run: the answers of operations one after another, and the last map
+abbrev pub answers : List Entry → List Op → List Answer
+answers map [] = []
+answers map (op ∷ ops) = answer_of map op ∷ answers (map_after map op) ops
+
+abbrev pub map_after_all : List Entry → List Op → List Entry
+map_after_all map [] = map
+map_after_all map (op ∷ ops) = map_after_all (map_after map op) ops

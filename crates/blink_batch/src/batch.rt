@@ -1,0 +1,97 @@
+ghost use Rattle.std.specs.Prelude.{◌≡◌, ◌<◌, ◌≤◌, ◌↔◌, List, length, All, count_by, IfOk, IsOk, IsTrue, [], Err};
+ghost use Rattle.blink_batch.specs.declared.operation.Op.{Op};
+ghost use Rattle.blink_batch.specs.declared.batch.BatchError.TheVariants.{TooMany};
+ghost use Rattle.blink_batch.specs.declared.batch.TheConstants.{BATCH_LIMIT};
+ghost use Rattle.blink_batch.specs.Batch.{FitsWords, is_insert};
+
+use crate::operation::Op;
+use std::marker::Model;
+use thiserror::Error;
+
+/// The greatest number of operations in a batch.
+pub const BATCH_LIMIT: usize = 4096;
+
+/// Why operations are no batch.
+#[derive(Clone, Copy, Debug, PartialEq, Eq, Error)]
+pub enum BatchError {
+    /// There are more than [`BATCH_LIMIT`].
+    #[error("too many operations")]
+    TooMany,
+}
+
+impl BatchError {
+    /// The number of the refusal, the same in every release.
+    pub fn code(&self) -> u8
+        ensures { result ≡ 1 }
+    {
+        match self {
+            BatchError::TooMany => 1,
+        }
+    }
+}
+
+/// Operations that are run together, at most [`BATCH_LIMIT`] of them.
+#[derive(Debug, Drop)]
+pub struct Batch {
+    ops: Vec<Op>,
+    inserts: usize,
+}
+
+impl Model for Batch {
+    ghost Value = { List Op };
+
+    ghost view = { λ b. b.ops.items };
+
+    ghost invariant = { λ b. (length b.ops.items ≤ BATCH_LIMIT) × All FitsWords b.ops.items × (b.inserts ≡ count_by is_insert b.ops.items) };
+}
+
+impl Batch {
+    /// The batch of these operations. It takes no memory, and a refusal gives the operations up.
+    pub fn new(ops: Vec<Op>) -> Result<Batch, BatchError>
+        ensures batch { IfOk result (λ batch. batch ≡ ops.items) }
+        ensures taken { IsOk result ↔ (length ops.items ≤ BATCH_LIMIT) }
+        ensures too_many { result ≡ Err TooMany ↔ (BATCH_LIMIT < length ops.items) }
+    {
+        if ops.len() > BATCH_LIMIT {
+            return Err(BatchError::TooMany);
+        }
+        let mut inserts = 0usize;
+        for op in &ops {
+            if op.is_insert() {
+                inserts += 1;
+            }
+        }
+        Ok(Batch { ops, inserts })
+    }
+
+    /// The operations, in the order that one thread runs them in.
+    pub fn ops(&self) -> &[Op]
+        ensures ops { result.now ≡ self.now }
+        ensures words { All FitsWords self.now }
+        ensures limit { length self.now ≤ BATCH_LIMIT }
+    {
+        let _inserts = self.inserts;
+        &self.ops
+    }
+
+    /// How many operations there are.
+    pub fn len(&self) -> usize
+        ensures { result ≡ length self.now }
+    {
+        self.ops.len()
+    }
+
+    /// Whether there is none.
+    pub fn is_empty(&self) -> bool
+        ensures { IsTrue result ↔ (self.now ≡ []) }
+    {
+        self.ops.is_empty()
+    }
+
+    /// How many of the operations are insertions.
+    pub fn inserts(&self) -> usize
+        ensures { result ≡ count_by is_insert self.now }
+    {
+        self.inserts
+    }
+}

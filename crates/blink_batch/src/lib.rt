@@ -1,0 +1,25 @@
+//! The plain side of the index: operations and answers, a sorted list that one thread works on, batches of
+//! operations and their cutting among workers, and the scripts that batches are read from.
+#![tactic(auto)]
+
+mod batch;
+mod cut;
+mod entry;
+mod error;
+mod number;
+mod operation;
+mod plain;
+mod record;
+mod script;
+
+pub use batch::{BATCH_LIMIT, Batch, BatchError};
+pub use cut::{Cut, CutError, WORKER_LIMIT};
+pub use entry::Entry;
+pub use error::{RecordError, ScriptError};
+pub use number::read_number;
+pub use operation::{Answer, Op};
+pub use plain::Plain;
+pub use script::{Part, Script, read_script};
+
+#[cfg(test)]
+mod tests;

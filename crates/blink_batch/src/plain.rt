@@ -1,0 +1,84 @@
+ghost use Rattle.std.specs.Prelude.{◌≡◌, ℕ, [], List, Option, Some, None, IsOk, IfOk, IfErr, OnOk, OnErr, MatchResult, take};
+ghost use Rattle.blink_batch.specs.declared.entry.Entry.{Entry};
+ghost use Rattle.blink_batch.specs.Search.{IsPlaceOf, IsGapFor};
+ghost use Rattle.blink_batch.specs.PlainMap.{IsAscending, pointer_of};
+ghost use Rattle.blink_batch.specs.Operation.{answer_of, map_after, answers, map_after_all};
+
+use crate::entry::Entry;
+use crate::operation::{Answer, Op};
+use std::alloc::{AllocError, Global};
+use std::marker::Model;
+
+/// A map as one thread keeps it: a sorted vector, the slow twin that every index is measured by.
+#[derive(Debug, Drop)]
+pub struct Plain {
+    entries: Vec<Entry>,
+}
+
+impl Model for Plain {
+    ghost Value = { List Entry };
+
+    ghost view = { λ p. p.entries.items };
+
+    ghost invariant = { λ p. IsAscending p.entries.items };
+}
+
+impl Plain {
+    /// The empty map. It takes no memory until the first insertion, and then from `alloc`.
+    pub fn new(alloc: Global) -> Self
+        ensures { result ≡ [] }
+    {
+        Plain {
+            entries: Vec::new(alloc),
+        }
+    }
+
+    /// Carries one operation out. An error leaves the map as it was.
+    pub fn apply(&mut self, op: Op) -> Result<Answer, AllocError>
+        ensures answer { IfOk result (λ answer. answer ≡ answer_of self.old op) }
+        ensures map { OnOk result (self.new ≡ map_after self.old op) }
+        ensures unchanged { OnErr result (self.new ≡ self.old) }
+    {
+        let place = self.place(op.key());
+        match (op, place) {
+            (Op::Find(_), Ok(at)) => Ok(Answer::Found(self.entries[at].pointer)),
+            (Op::Find(_), Err(_)) => Ok(Answer::Absent),
+            (Op::Insert(_, _), Ok(at)) => Ok(Answer::Exists(self.entries[at].pointer)),
+            (Op::Insert(key, pointer), Err(at)) => {
+                self.entries.insert(at, Entry { key, pointer })?;
+                Ok(Answer::Inserted)
+            }
+        }
+    }
+
+    /// Carries operations out, one after another, and answers each at its place. After an error the map is that of
+    /// the operations carried out so far.
+    pub fn run(&mut self, alloc: Global, ops: &[Op]) -> Result<Vec<Answer>, AllocError>
+        ensures answers { IfOk result (λ given. given.items ≡ answers self.old ops.now) }
+        ensures map { OnOk result (self.new ≡ map_after_all self.old ops.now) }
+        ensures front { OnErr result ((done : ℕ) × (self.new ≡ map_after_all self.old (take done ops.now))) }
+    {
+        let mut given = Vec::with_capacity(alloc, ops.len())?;
+        for op in ops {
+            let answer = self.apply(*op)?;
+            given.push_reserved(answer);
+        }
+        Ok(given)
+    }
+
+    /// The entries, in ascending order of their keys.
+    pub fn entries(&self) -> &[Entry]
+        ensures entries { result.now ≡ self.now }
+        ensures ascending { IsAscending self.now }
+    {
+        &self.entries
+    }
+
+    // Where the key stands, or where it would go.
+    fn place(&self, key: u64) -> Result<usize, usize>
+        ensures found { IfOk result (IsPlaceOf self.now key) }
+        ensures gap { IfErr result (IsGapFor self.now key) }
+    {
+        self.entries.binary_search_by_key(&key, |entry| entry.key)
+    }
+}

@@ -1,0 +1,283 @@
+use crate::{
+    Answer, Batch, BatchError, Cut, CutError, Entry, Op, Part, Plain, RecordError, Script,
+    ScriptError, read_number, read_script,
+};
+use std::alloc::{AllocError, Global};
+use std::io;
+use std::io::Read;
+use std::process::Abort;
+use std::test::Fail;
+
+#[test]
+fn plain_answers_alike_at_once_and_in_turn(rt: HostRuntime) -> Result<(), Fail> {
+    let cases = [
+        (
+            [Op::Insert(5, 50), Op::Find(5), Op::Find(6)],
+            [Answer::Inserted, Answer::Found(50), Answer::Absent],
+        ),
+        (
+            [Op::Insert(7, 1), Op::Insert(7, 2), Op::Find(7)],
+            [Answer::Inserted, Answer::Exists(1), Answer::Found(1)],
+        ),
+    ];
+    for (ops, expected) in cases {
+        let mut at_once = Plain::new(rt.alloc());
+        let answers = at_once.run(rt.alloc(), &ops)?;
+        assert_eq!(rt; answers.as_slice(), expected.as_slice());
+        let mut in_turn = Plain::new(rt.alloc());
+        for (op, answer) in ops.iter().zip(expected.iter()) {
+            assert_eq!(rt; in_turn.apply(*op)?, *answer, "{op:?}");
+        }
+        assert_eq!(rt; in_turn.entries(), at_once.entries());
+    }
+    Ok(())
+}
+
+#[test]
+fn plain_keeps_its_entries_in_order(rt: HostRuntime) -> Result<(), Fail> {
+    let mut plain = Plain::new(rt.alloc());
+    assert_eq!(rt; plain.entries().len(), 0);
+    plain.run(
+        rt.alloc(),
+        &[Op::Insert(u64::MAX, 2), Op::Insert(0, 1), Op::Insert(9, 3)],
+    )?;
+    let expected = [
+        Entry { key: 0, pointer: 1 },
+        Entry { key: 9, pointer: 3 },
+        Entry {
+            key: u64::MAX,
+            pointer: 2,
+        },
+    ];
+    assert_eq!(rt; plain.entries(), expected.as_slice());
+    Ok(())
+}
+
+#[test]
+fn batches_have_a_limit(rt: HostRuntime) -> Result<(), Fail> {
+    let batch = Batch::new([Op::Insert(5, 50), Op::Find(5)].to_vec(rt.alloc())?)?;
+    assert_eq!(rt; batch.ops(), [Op::Insert(5, 50), Op::Find(5)].as_slice());
+    assert_eq!(rt;
+        (batch.len(), batch.inserts(), batch.is_empty()),
+        (2, 1, false)
+    );
+    let full = Batch::new(vec![in rt.alloc(); Op::Find(1); 4096]?)?;
+    assert_eq!(rt; full.len(), 4096);
+    let too_many = Batch::new(vec![in rt.alloc(); Op::Find(1); 4097]?).err();
+    assert_eq!(rt; too_many, Some(BatchError::TooMany));
+    assert_eq!(rt; BatchError::TooMany.code(), 1);
+    Ok(())
+}
+
+#[test]
+fn cuts_by_the_remainder_of_the_key(rt: HostRuntime) -> Result<(), Fail> {
+    let batch = Batch::new([Op::Insert(5, 6), Op::Find(8), Op::Find(5)].to_vec(rt.alloc())?)?;
+    let cut = Cut::by_residue(rt.alloc(), &batch, 3)?;
+    assert_eq!(rt; cut.lanes(), [2, 2, 2].as_slice());
+    assert_eq!(rt; cut.workers(), 3);
+    let cut = Cut::by_residue(rt.alloc(), &batch, 64)?;
+    assert_eq!(rt; cut.lanes(), [5, 8, 5].as_slice());
+    for workers in [0, 65] {
+        let refused = Cut::by_residue(rt.alloc(), &batch, workers).err();
+        assert_eq!(rt; refused, Some(CutError::BadWorkers));
+    }
+    assert_eq!(rt;
+        (CutError::BadWorkers.code(), CutError::OutOfMemory.code()),
+        (2, 7)
+    );
+    Ok(())
+}
+
+#[test]
+fn numbers_are_spelled_in_one_way(rt: HostRuntime) {
+    let cases = [
+        (b"0".as_slice(), Some(0)),
+        (b"7", Some(7)),
+        (b"10", Some(10)),
+        (b"18446744073709551615", Some(u64::MAX)),
+        (b"18446744073709551616", None),
+        (b"", None),
+        (b"05", None),
+        (b"00", None),
+        (b"+5", None),
+        (b" 5", None),
+        (b"5x", None),
+        (b"\xff", None),
+    ];
+    for (text, number) in cases {
+        assert_eq!(rt; read_number(text), number, "{text:?}");
+    }
+}
+
+fn operations<'a>(rt: &impl Abort, script: &'a Script) -> &'a [Op] {
+    assert_eq!(rt; script.parts.len(), 1);
+    match &script.parts[0] {
+        Part::Batch(batch) => batch.ops(),
+    }
+}
+
+#[test]
+fn scripts_are_read_record_by_record(rt: HostRuntime) -> Result<(), Fail> {
+    let two = [Op::Insert(5, 50), Op::Find(5)];
+    for text in [
+        "insert,5,50\nfind,5,\n",
+        "insert,5,50\nfind,5,",
+        "insert,5,50\r\nfind,5,\r\n",
+        "\"insert\",\"5\",\"50\"\n\n\"find\",\"5\",\"\"\n",
+    ] {
+        let script = read_script(rt.alloc(), text.as_bytes())?;
+        assert_eq!(rt; operations(&rt, &script), two.as_slice(), "{text}");
+    }
+    let script = read_script(rt.alloc(), b"insert,18446744073709551615,0\n".as_slice())?;
+    assert_eq!(rt;
+        operations(&rt, &script),
+        [Op::Insert(u64::MAX, 0)].as_slice()
+    );
+    let script = read_script(rt.alloc(), b"".as_slice())?;
+    assert_eq!(rt; script.parts.len(), 0);
+    Ok(())
+}
+
+#[test]
+fn the_first_refusal_is_the_answer(rt: HostRuntime) -> Result<(), Fail> {
+    let cases = [
+        (
+            b"insert,05,1".as_slice(),
+            ScriptError::Row(1, RecordError::BadNumber),
+        ),
+        (
+            b"insert,18446744073709551616,1",
+            ScriptError::Row(1, RecordError::BadNumber),
+        ),
+        (b"insert,1,x", ScriptError::Row(1, RecordError::BadNumber)),
+        (b"find,5,1", ScriptError::Row(1, RecordError::BadShape)),
+        (b"find,x,1", ScriptError::Row(1, RecordError::BadShape)),
+        (b"find,\xff,", ScriptError::Row(1, RecordError::BadNumber)),
+        (
+            b"put,1,1",
+            ScriptError::Row(1, RecordError::UnknownOperation),
+        ),
+        (
+            b"delete,1,",
+            ScriptError::Row(1, RecordError::UnknownOperation),
+        ),
+        (b"put,1", ScriptError::Row(1, RecordError::BadShape)),
+        (b"find,1,,", ScriptError::Row(1, RecordError::BadShape)),
+        (
+            b"find,1,\nput,1,1\nfind,5",
+            ScriptError::Row(2, RecordError::UnknownOperation),
+        ),
+    ];
+    for (text, refusal) in cases {
+        assert_eq!(rt;
+            read_script(rt.alloc(), text).err(),
+            Some(refusal),
+            "{text:?}"
+        );
+    }
+    Ok(())
+}
+
+// So many records of one find, and then a last one.
+fn long_script(alloc: Global, finds: usize, last: &str) -> Result<String, AllocError> {
+    let mut text = String::new(alloc);
+    for _ in 0..finds {
+        text.push_str("find,1,\n")?;
+    }
+    text.push_str(last)?;
+    Ok(text)
+}
+
+#[test]
+fn one_operation_too_many_is_told_after_its_own_checks(rt: HostRuntime) -> Result<(), Fail> {
+    let full = long_script(rt.alloc(), 4095, "find,1,")?;
+    let script = read_script(rt.alloc(), full.as_bytes())?;
+    assert_eq!(rt; operations(&rt, &script).len(), 4096);
+    let cases = [
+        ("find,1,", ScriptError::TooMany(4097)),
+        ("find,x,", ScriptError::Row(4097, RecordError::BadNumber)),
+        ("find,1,\nput,1,1", ScriptError::TooMany(4097)),
+    ];
+    for (last, refusal) in cases {
+        let text = long_script(rt.alloc(), 4096, last)?;
+        assert_eq!(rt;
+            read_script(rt.alloc(), text.as_bytes()).err(),
+            Some(refusal),
+            "{last}"
+        );
+    }
+    Ok(())
+}
+
+#[test]
+fn refusals_have_their_codes_and_texts(rt: HostRuntime) -> Result<(), Fail> {
+    let cases = [
+        (
+            ScriptError::Row(5, RecordError::BadShape),
+            10,
+            "row 5: bad shape",
+        ),
+        (
+            ScriptError::Row(5, RecordError::UnknownOperation),
+            11,
+            "row 5: unknown operation",
+        ),
+        (
+            ScriptError::Row(5, RecordError::BadNumber),
+            12,
+            "row 5: bad number",
+        ),
+        (ScriptError::Csv(5), 13, "row 5: unreadable record"),
+        (
+            ScriptError::TooMany(4097),
+            14,
+            "row 4097: too many operations",
+        ),
+        (ScriptError::Read, 15, "read failed"),
+        (ScriptError::OutOfMemory, 16, "out of memory"),
+    ];
+    for (error, code, text) in cases {
+        assert_eq!(rt; error.code(), code, "{text}");
+        assert_eq!(rt; error.to_string(rt.alloc())?.as_str(), text);
+    }
+    assert_eq!(rt; RecordError::BadNumber.code(), 12);
+    Ok(())
+}
+
+// Gives a byte of its text at each call, and fails at the call after `calls` of them.
+#[derive(Drop)]
+struct Failing<'a> {
+    text: &'a [u8],
+    calls: usize,
+}
+
+impl Read for Failing<'_> {
+    fn read(&mut self, buffer: &mut [u8]) -> io::Result<usize> {
+        if self.calls == 0 {
+            return Err(io::Error::from(io::ErrorKind::Other));
+        }
+        self.calls -= 1;
+        match (self.text.split_first(), buffer.first_mut()) {
+            (Some((first, rest)), Some(place)) => {
+                *place = *first;
+                self.text = rest;
+                Ok(1)
+            }
+            _ => Ok(0),
+        }
+    }
+}
+
+#[test]
+fn a_reader_that_fails_is_told(rt: HostRuntime) -> Result<(), Fail> {
+    let text = b"insert,5,50\nfind,5,\n";
+    for calls in 0..=text.len() {
+        let reader = Failing { text, calls };
+        assert_eq!(rt;
+            read_script(rt.alloc(), reader).err(),
+            Some(ScriptError::Read),
+            "{calls}"
+        );
+    }
+    Ok(())
+}
