@@ -9,3 +9,4 @@ pub mod PlainMap
 pub mod Record
 pub mod Script
 pub mod Search
+pub mod Text

@@ -1,3 +1,4 @@
+//! Operations that are run together.
 ghost use Rattle.std.specs.Prelude.{◌≡◌, ◌<◌, ◌≤◌, ◌↔◌, List, length, All, count_by, IfOk, IsOk, IsTrue, [], Err};
 ghost use Rattle.blink_batch.specs.declared.operation.Op.{Op};
 ghost use Rattle.blink_batch.specs.declared.batch.BatchError.TheVariants.{TooMany};

@@ -1,3 +1,4 @@
+//! A batch cut among workers.
 ghost use Rattle.std.specs.Prelude.{◌≡◌, ◌<◌, ◌≤◌, ◌%◌, ◌↔◌, ◌⊎◌, ℕ, All, map, IfOk, Err};
 ghost use Rattle.blink_batch.specs.declared.cut.CutError.TheVariants.{BadWorkers};
 ghost use Rattle.blink_batch.specs.declared.cut.TheConstants.{WORKER_LIMIT};

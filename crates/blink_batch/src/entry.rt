@@ -1,3 +1,4 @@
+//! What a map keeps.
 /// A record pointer kept under a key.
 #[derive(Clone, Copy, Debug, PartialEq, Eq)]
 pub struct Entry {

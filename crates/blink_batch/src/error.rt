@@ -1,3 +1,4 @@
+//! Why a text is no script.
 ghost use Rattle.std.specs.Prelude.{◌≡◌};
 ghost use Rattle.blink_batch.specs.Codes.{code_of_record_error, code_of_script_error};
 

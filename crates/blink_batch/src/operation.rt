@@ -1,6 +1,9 @@
+//! What is asked of a map, and what is answered.
 ghost use Rattle.std.specs.Prelude.{◌≡◌};
 ghost use Rattle.blink_batch.specs.Operation.{key_of};
 ghost use Rattle.blink_batch.specs.Batch.{FitsWords, is_insert};
+
+use std::fmt;
 
 /// One operation of a batch.
 #[derive(Clone, Copy, Debug, PartialEq, Eq)]
@@ -45,4 +48,21 @@ pub enum Answer {
     Inserted,
     /// An insertion: the key was there with this pointer, and nothing changed.
     Exists(u64),
+}
+
+/// The words of the answer's output line, as `found 7`.
+impl fmt::Display for Answer {
+    ghost use Rattle.std.specs.Prelude.{Some};
+    ghost use Rattle.blink_batch.specs.Text.{words_of};
+
+    ghost output = { λ answer. Some (words_of answer) };
+
+    fn fmt<W: fmt::Write>(&self, f: &mut fmt::Formatter<W>) -> fmt::Result {
+        match self {
+            Answer::Found(pointer) => write!(f, "found {pointer}"),
+            Answer::Absent => write!(f, "absent"),
+            Answer::Inserted => write!(f, "inserted"),
+            Answer::Exists(pointer) => write!(f, "exists {pointer}"),
+        }
+    }
 }

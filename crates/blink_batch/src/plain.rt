@@ -1,3 +1,4 @@
+//! The map as one thread keeps it.
 ghost use Rattle.std.specs.Prelude.{◌≡◌, ℕ, [], List, Option, Some, None, IsOk, IfOk, IfErr, OnOk, OnErr, MatchResult, take};
 ghost use Rattle.blink_batch.specs.declared.entry.Entry.{Entry};
 ghost use Rattle.blink_batch.specs.Search.{IsPlaceOf, IsGapFor};

@@ -1,3 +1,4 @@
+//! What one record of a script means.
 ghost use Rattle.std.specs.Prelude.{◌≡◌, ◌≢◌, [], ◌∷◌, length, MatchOption};
 ghost use Rattle.csv.specs.Records.{fields_of};
 ghost use Rattle.blink_batch.specs.Number.{number_of};

@@ -1,3 +1,4 @@
+//! Reading scripts.
 ghost use Rattle.std.specs.Prelude.{◌≡◌, ◌≤◌, ℕ, List, length, Some, IfOk, IfErr, IsOkUnless};
 ghost use Rattle.csv.specs.Reading.{error_kind};
 ghost use Rattle.blink_batch.specs.declared.batch.TheConstants.{BATCH_LIMIT};

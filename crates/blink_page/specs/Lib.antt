@@ -1,0 +1,11 @@
+pub mod Limits
+pub mod Rising
+pub mod Entries
+pub mod Place
+pub mod Page
+pub mod PageView
+pub mod Way
+pub mod Put
+pub mod Post
+pub mod Split
+pub mod Laws

@@ -1,0 +1,45 @@
+//! Changes of a list of entries, whatever its room.
+ghost use Rattle.std.specs.Prelude.{◌≡◌, ◌+◌, ◌<◌, ◌≤◌, length};
+ghost use Rattle.arrayvec.specs.ArrayVec.{array_vec_len};
+ghost use Rattle.blink_page.specs.Entries.{added, posted};
+ghost use Rattle.blink_page.specs.Place.{place_of};
+
+use crate::search::place;
+use arrayvec::ArrayVec;
+
+/// A list of these entries.
+pub(crate) fn copied<const ROOM: usize>(entries: &[(u64, u64)]) -> ArrayVec<(u64, u64), ROOM>
+    requires { length entries.now ≤ ROOM }
+    ensures { result.items ≡ entries.now }
+{
+    let mut items = ArrayVec::new();
+    let _fits = items.try_extend_from_slice(entries);
+    items
+}
+
+/// Adds an entry at its place.
+pub(crate) fn add<const ROOM: usize>(items: &mut ArrayVec<(u64, u64), ROOM>, key: u64, value: u64)
+    requires { array_vec_len items.old < ROOM }
+    ensures entries { items.new.items ≡ added (key, value) items.old.items }
+    ensures one_more { array_vec_len items.new ≡ array_vec_len items.old + 1 }
+{
+    let at = place(items, key);
+    items.insert(at, (key, value));
+}
+
+/// Posts a separator: the first entry at or above it goes on to the new child, and its own child moves to the separator.
+pub(crate) fn post_among<const ROOM: usize>(
+    items: &mut ArrayVec<(u64, u64), ROOM>,
+    separator: u64,
+    new: u64,
+)
+    requires room { array_vec_len items.old < ROOM }
+    requires below_last { place_of separator items.old.items < array_vec_len items.old }
+    ensures entries { items.new.items ≡ posted (separator, new) items.old.items }
+    ensures one_more { array_vec_len items.new ≡ array_vec_len items.old + 1 }
+{
+    let at = place(items, separator);
+    let (above, child) = items[at];
+    items[at] = (above, new);
+    items.insert(at, (separator, child));
+}

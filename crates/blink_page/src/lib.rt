@@ -1,0 +1,25 @@
+//! One page of a B-link tree: what it keeps, how a search reads it, and how it changes and splits.
+//!
+//! Contracts see a page as plain data, the record `PlainPage`. No call takes memory.
+#![tactic(auto)]
+
+mod entries;
+mod laws;
+mod limits;
+mod page;
+mod post;
+mod prime;
+mod put;
+mod search;
+mod split;
+mod take;
+#[cfg(test)]
+mod tests;
+
+pub use laws::postings_commute;
+pub use limits::{GREATEST_KEY, LEVELS, MAX_FAN, MAX_LEVEL, MAX_PAGE, MIN_FAN};
+pub use page::Page;
+pub use post::Post;
+pub use prime::Prime;
+pub use put::Put;
+pub use search::Way;

@@ -1,0 +1,22 @@
+//! The bounds of pages and trees.
+
+/// The least number of entries that a tree may allow its pages.
+pub const MIN_FAN: u8 = 4;
+
+/// The greatest number of entries that a tree may allow its pages.
+pub const MAX_FAN: usize = 16;
+
+/// A full page with one entry more, which is then split.
+pub(crate) const OVERFULL: usize = MAX_FAN + 1;
+
+/// The level of the highest root.
+pub const MAX_LEVEL: u8 = 20;
+
+/// How many levels a tree may have.
+pub const LEVELS: usize = 21;
+
+/// The greatest number of a page. Number 0 is the prime block's.
+pub const MAX_PAGE: u32 = 1_048_575;
+
+/// The high key of the last page of each level, so that every key has a page.
+pub const GREATEST_KEY: u64 = 18_446_744_073_709_551_615;

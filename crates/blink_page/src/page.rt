@@ -1,0 +1,88 @@
+//! A page, and how new ones are made.
+ghost use Rattle.std.specs.Prelude.{◌≡◌, ◌<◌, ◌≤◌};
+ghost use Rattle.blink_page.specs.Limits.{IsPageNumber};
+ghost use Rattle.blink_page.specs.Page.{empty_leaf, root_over};
+
+use crate::entries::copied;
+use crate::limits::{GREATEST_KEY, MAX_FAN, MAX_LEVEL};
+use arrayvec::ArrayVec;
+use std::marker::Model;
+
+/// A page of the tree: a leaf, of level 0, or an inner page.
+///
+/// Its keys are those above `floor` and at most `high`. `floor` is `None` on the leftmost page of a level, and `high` is
+/// the greatest number on the last, which alone has no link to the `right`. A leaf's items are keys with their values, an
+/// inner page's are separators with the numbers of their children (Lehman and Yao 1981, the B-link tree).
+#[derive(Debug, Drop, PartialEq, Eq)]
+pub struct Page {
+    pub level: u8,
+    pub floor: Option<u64>,
+    pub high: u64,
+    pub right: Option<u32>,
+    pub items: ArrayVec<(u64, u64), MAX_FAN>,
+}
+
+impl Model for Page {
+    ghost use Rattle.blink_page.specs.Page.{PlainPage, IsLawfulPage};
+    ghost use Rattle.blink_page.specs.declared.limits.TheConstants.{MAX_FAN};
+
+    ghost Value = { PlainPage };
+
+    ghost use Rattle.blink_page.specs.PageView.{plain, inside_of};
+
+    ghost view = { plain };
+
+    ghost invariant = { λ page. IsLawfulPage MAX_FAN (plain page) };
+
+    ghost inverse = { inside_of };
+}
+
+impl Page {
+    /// The page of a new tree: an empty leaf for all keys.
+    pub fn leaf() -> Page
+        ensures { result ≡ empty_leaf }
+    {
+        Page {
+            level: 0,
+            floor: None,
+            high: GREATEST_KEY,
+            right: None,
+            items: ArrayVec::new(),
+        }
+    }
+
+    /// A root over the two pages into which the old root was split: `left` has the keys up to `separator`, `right` those
+    /// above it.
+    pub fn root(level: u8, separator: u64, left: u32, right: u32) -> Page
+        requires inner { 1 ≤ level }
+        requires level_in_range { level ≤ MAX_LEVEL }
+        requires parts_keys { separator < GREATEST_KEY }
+        requires left_number { IsPageNumber left }
+        requires right_number { IsPageNumber right }
+        ensures { result ≡ root_over level separator left right }
+    {
+        let mut items = ArrayVec::new();
+        items.push((separator, u64::from(left)));
+        items.push((GREATEST_KEY, u64::from(right)));
+        Page {
+            level,
+            floor: None,
+            high: GREATEST_KEY,
+            right: None,
+            items,
+        }
+    }
+
+    /// The same page once more. It takes no memory.
+    pub fn copy(&self) -> Page
+        ensures { result ≡ self.now }
+    {
+        Page {
+            level: self.level,
+            floor: self.floor,
+            high: self.high,
+            right: self.right,
+            items: copied(&self.items),
+        }
+    }
+}

@@ -1,0 +1,64 @@
+//! Splitting a full page.
+ghost use Rattle.std.specs.Prelude.{◌≡◌, ◌+◌, ◌<◌, ◌≤◌, ◌++◌, None, length};
+ghost use Rattle.arrayvec.specs.ArrayVec.{array_vec_len};
+ghost use Rattle.blink_page.specs.Limits.{IsFan, IsPageNumber};
+ghost use Rattle.blink_page.specs.Entries.{value_at};
+ghost use Rattle.blink_page.specs.Page.{IsKeyOf, entries_with};
+ghost use Rattle.blink_page.specs.Split.{lower_half, upper_half, separator_of};
+
+use crate::entries::{add, copied, post_among};
+use crate::limits::OVERFULL;
+use crate::page::Page;
+use arrayvec::ArrayVec;
+
+impl Page {
+    /// Splits a full page that gets one entry more: the lower page, which takes its place, the upper page, which gets the
+    /// number `new`, and the separator between them (Lehman and Yao 1981, the insertion algorithm). On a leaf the entry is
+    /// added, on an inner page it is posted.
+    pub fn split_with(&self, fan: u8, key: u64, value: u64, new: u32) -> (Page, Page, u64)
+        requires fan { IsFan fan }
+        requires full { length self.now.entries ≡ fan }
+        requires key { IsKeyOf self.now key }
+        requires absent { value_at key self.now.entries ≡ None }
+        requires child { 0 < self.now.level → IsPageNumber value }
+        requires new_number { IsPageNumber new }
+        ensures lower { result.0 ≡ lower_half fan new self.now (entries_with self.now (key, value)) }
+        ensures upper { result.1 ≡ upper_half fan self.now (entries_with self.now (key, value)) }
+        ensures separator { result.2 ≡ separator_of fan (entries_with self.now (key, value)) }
+        ensures whole { (result.0).entries ++ (result.1).entries ≡ entries_with self.now (key, value) }
+    {
+        let whole = self.overfull_with(key, value);
+        let kept = (usize::from(fan) + 2) / 2;
+        let (separator, _) = whole[kept - 1];
+        let lower = Page {
+            level: self.level,
+            floor: self.floor,
+            high: separator,
+            right: Some(new),
+            items: copied(&whole[..kept]),
+        };
+        let upper = Page {
+            level: self.level,
+            floor: Some(separator),
+            high: self.high,
+            right: self.right,
+            items: copied(&whole[kept..]),
+        };
+        (lower, upper, separator)
+    }
+
+    // The entries with one more, for which the page itself has no room.
+    fn overfull_with(&self, key: u64, value: u64) -> ArrayVec<(u64, u64), OVERFULL>
+        requires key { IsKeyOf self.now key }
+        ensures entries { result.items ≡ entries_with self.now (key, value) }
+        ensures one_more { array_vec_len result ≡ length self.now.entries + 1 }
+    {
+        let mut whole = copied(&self.items);
+        if self.level == 0 {
+            add(&mut whole, key, value);
+        } else {
+            post_among(&mut whole, key, value);
+        }
+        whole
+    }
+}

@@ -1,0 +1,24 @@
+//! Removing an entry from a leaf.
+ghost use Rattle.std.specs.Prelude.{◌≡◌, IfNone};
+ghost use Rattle.blink_page.specs.Entries.{value_at, removed};
+ghost use Rattle.blink_page.specs.Page.{with_entries};
+
+use crate::page::Page;
+use crate::search::place;
+
+impl Page {
+    /// Removes the entry with this key from a leaf, and returns its value. A leaf that gets empty stays a page of the tree
+    /// (Lehman and Yao 1981, deletion).
+    pub fn take(&mut self, key: u64) -> Option<u64>
+        requires { self.old.level ≡ 0 }
+        ensures value { result ≡ value_at key self.old.entries }
+        ensures entries { self.new ≡ with_entries self.old (removed key self.old.entries) }
+        ensures unchanged { IfNone result (self.new ≡ self.old) }
+    {
+        let Some(value) = self.look(key) else {
+            return None;
+        };
+        self.items.remove(place(&self.items, key));
+        Some(value)
+    }
+}

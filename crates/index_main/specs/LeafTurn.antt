@@ -1,0 +1,62 @@
+-- What a worker does in its turn: a case for each state, as the table of steps has them.
+use Rattle.std.specs.Prelude.{ℕ, ◌≡◌, ◌+◌, List, Option, Some, None, slice_get, drop}
+use Rattle.blink_batch.specs.declared.Op.{Op}
+use Rattle.blink_batch.specs.declared.Op.TheVariants.{Find, Insert}
+use Rattle.blink_batch.specs.Operation.{answer_at, answer_of, key_of, map_at}
+use Rattle.blink_batch.specs.Order.{part_of, places_from}
+use Rattle.blink_batch.specs.PlainMap.{pointer_of}
+use Rattle.index_main.specs.declared.worker.Kind.{Kind}
+use Rattle.index_main.specs.declared.worker.Kind.TheVariants.{ReadPrime, ReadPage, Latch, WritePage, Unlatch}
+use Rattle.index_main.specs.declared.worker.State.{State}
+use Rattle.index_main.specs.declared.worker.State.TheVariants.{Idle, Going, Want, Held, Change, Leave}
+use Rattle.index_main.specs.LeafWorld.{LeafWorld, decided, moved, op_at, worker_at}
+
+-- the first place of a worker's lane from one on
+abbrev pub next_place : List ℕ → ℕ → ℕ → Option ℕ
+next_place lanes worker place = slice_get (part_of lanes worker (places_from place (drop place lanes))) 0
+
+-- this step is taken and leads to this moment; with no step the turn is passed over
+abbrev pub Takes : Option Kind → LeafWorld → Option Kind → LeafWorld → Type 0
+Takes step world turn after = (turn ≡ step) × (after ≡ world)
+
+-- idle: takes the lane's next operation with a prime block read; passed over at the lane's end
+abbrev pub IdleTurn : Option ℕ → LeafWorld → ℕ → Option Kind → LeafWorld → Type 0
+IdleTurn None before worker = Takes None before
+IdleTurn (Some next) before worker = Takes (Some ReadPrime) (moved before worker Going next)
+
+-- going: reads the leaf; a find answers and ends, an insertion wants the latch
+abbrev pub GoingTurn : Op → LeafWorld → ℕ → ℕ → Option Kind → LeafWorld → Type 0
+GoingTurn (Find key) before worker place = Takes (Some ReadPage) (moved (decided before place (answer_of before.entries (Find key))) worker Idle (place + 1))
+GoingTurn (Insert key pointer) before worker place = Takes (Some ReadPage) (moved before worker Want place)
+
+-- wanting: takes the latch; passed over where another holds it
+abbrev pub WantTurn : Option ℕ → LeafWorld → ℕ → ℕ → Option Kind → LeafWorld → Type 0
+WantTurn None before worker place = Takes (Some Latch) (record (moved before worker Held place) { latch = Some worker })
+WantTurn (Some holder) before worker place = Takes None before
+
+-- holding: reads the leaf again; answers where the key is there, and else is to change the leaf
+abbrev pub HeldTurn : Op → Option ℕ → LeafWorld → ℕ → ℕ → Option Kind → LeafWorld → Type 0
+HeldTurn op (Some kept) before worker place = Takes (Some ReadPage) (moved (decided before place (answer_at op (Some kept))) worker Leave place)
+HeldTurn op None before worker place = Takes (Some ReadPage) (moved before worker Change place)
+
+-- changing: writes the leaf with the entry added, and answers
+abbrev pub ChangeTurn : Op → LeafWorld → ℕ → ℕ → Option Kind → LeafWorld → Type 0
+ChangeTurn op before worker place =
+    Takes (Some WritePage) (record (moved (decided before place (answer_at op None)) worker Leave place) { entries = map_at op None before.entries })
+
+-- leaving: lets the latch go, and is idle again
+abbrev pub LeaveTurn : LeafWorld → ℕ → ℕ → Option Kind → LeafWorld → Type 0
+LeaveTurn before worker place = Takes (Some Unlatch) (record (moved before worker Idle (place + 1)) { latch = None })
+
+-- the turn of a worker at a state and a place
+abbrev pub TurnFrom : State → ℕ → List Op → List ℕ → LeafWorld → ℕ → Option Kind → LeafWorld → Type 0
+TurnFrom Idle place ops lanes before worker = IdleTurn (next_place lanes worker place) before worker
+TurnFrom Going place ops lanes before worker = GoingTurn (op_at ops place) before worker place
+TurnFrom Want place ops lanes before worker = WantTurn before.latch before worker place
+TurnFrom Held place ops lanes before worker = HeldTurn (op_at ops place) (pointer_of before.entries (key_of (op_at ops place))) before worker place
+TurnFrom Change place ops lanes before worker = ChangeTurn (op_at ops place) before worker place
+TurnFrom Leave place ops lanes before worker = LeaveTurn before worker place
+
+-- one turn of a worker
+abbrev pub TakesTurn : List Op → List ℕ → LeafWorld → ℕ → Option Kind → LeafWorld → Type 0
+TakesTurn ops lanes before worker = TurnFrom (worker_at before worker).state (worker_at before worker).place ops lanes before worker

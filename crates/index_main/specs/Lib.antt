@@ -1,0 +1,7 @@
+pub mod Codes
+pub mod Fault
+pub mod LeafSound
+pub mod LeafTurn
+pub mod LeafWorld
+pub mod Line
+pub mod Served
