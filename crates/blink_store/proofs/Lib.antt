@@ -1,0 +1,4 @@
+pub mod ListLemmas
+pub mod StoreLemmas
+pub mod HolderLemmas
+pub mod LatchLemmas

@@ -1,0 +1,23 @@
+use Rattle.std.proofs.Common.{◌∙◌, ℕ, inl, inr, sym, subst, arith}
+use Rattle.std.proofs.lemmas.Bool.{cases_eq}
+use Rattle.blink_store.specs.Latches.{Holds}
+use Rattle.blink_store.proofs.HolderLemmas.{holder_of-holds, nobody, read_holds, read_other}
+use Rattle.blink_store.proofs.latches.Latches.holder.Goals as goal
+
+pub returns-then-eq-clause-holder : goal.returns-then-eq-clause-holder
+returns-then-eq-clause-holder c =
+    rw (← c.self.view_is)
+    (sym (holder_of-holds c.self.inside.held c.self.invariant c.args.page c.loop-worker.worker
+    (read_holds c.self.inside.held c.loop-worker.worker c.args.page (omega (arith, c.self.invariant.workers)) (sym c.eq.ensures ∙ c.if-eq.true))))
+
+pub loop-worker-preserved : goal.loop-worker-preserved
+loop-worker-preserved c = λ before below holds. elim (cases_eq before c.loop-worker.worker) [
+  | inl same ↦ read_other c.self.inside.held c.loop-worker.worker c.args.page (omega (arith, c.self.invariant.workers)) (sym c.eq.ensures ∙ c.if-eq.false)
+      (subst (λ (w : ℕ). Holds c.self.inside.held w c.args.page) same holds)
+  | inr other ↦ c.loop-worker.invariant before (omega arith) holds
+]
+
+pub returns-clause-holder : goal.returns-clause-holder
+returns-clause-holder c =
+    rw (← c.self.view_is)
+    (sym (nobody c.self.inside.held c.args.page c.self.invariant (λ worker inside. c.loop-worker.invariant worker (omega arith))))

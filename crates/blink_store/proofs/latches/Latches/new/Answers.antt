@@ -1,0 +1,5 @@
+use Rattle.blink_store.proofs.LatchLemmas.{none_held_by_one}
+use Rattle.blink_store.proofs.latches.Latches.new.Goals as goal
+
+pub invariant_of-result : goal.invariant_of-result
+invariant_of-result c = none_held_by_one

@@ -1,0 +1,15 @@
+//! The pages of a B-link tree by number, its prime block, and the latches on its pages.
+//!
+//! Contracts see a store as plain data, the record `PlainStore`, and the latches as the page that each worker holds, with
+//! `holder_of` the map from pages to workers.
+#![tactic(auto)]
+
+mod error;
+mod latches;
+mod store;
+#[cfg(test)]
+mod tests;
+
+pub use error::StoreError;
+pub use latches::{Latches, WORKERS};
+pub use store::Store;
