@@ -1,13 +1,13 @@
 -- A run cut by keys: what it answers and leaves at a key is what the operations on that key do to the one cell.
-use Rattle.std.proofs.Common.{subst, map, ◌≡◌, ℕ, ◌<◌, List, [], ◌∷◌, ltb, Some, None, refl, ap, sym, ◌∙◌, inl, inr, arith}
+use Rattle.std.proofs.Common.{subst, map, ◌≡◌, ℕ, ◌<◌, List, [], ◌∷◌, eqb, ltb, not, Some, None, refl, ap, sym, ◌∙◌, inl, inr, arith}
 use Rattle.std.proofs.lemmas.Bool.{cases_eq, eq-eqb, ne_eqb, cases_order, ltb-true, cond_both}
 use Rattle.std.proofs.lemmas.Bool.Decides.{nat_tests}
 use Rattle.std.specs.List.{AllByRecursion, zip, filter}
 use Rattle.blink_batch.specs.declared.entry.Entry.{Entry}
 use Rattle.blink_batch.specs.declared.operation.Op.{Op}
-use Rattle.blink_batch.specs.declared.operation.Op.TheVariants.{Find, Insert}
+use Rattle.blink_batch.specs.declared.operation.Op.TheVariants.{Find, Insert, Delete}
 use Rattle.blink_batch.specs.declared.operation.Answer.{Answer}
-use Rattle.blink_batch.specs.PlainMap.{entry, IsAscending, pointer_of, added}
+use Rattle.blink_batch.specs.PlainMap.{entry, IsAscending, pointer_of, added, removed}
 use Rattle.blink_batch.specs.Operation.{key_of, answer_at, map_at, answer_of, map_after, answers, map_after_all}
 use Rattle.blink_batch.specs.Cell.{cell_after, cell_answers, cell_after_all, is_on_key, on_key}
 
@@ -25,15 +25,31 @@ pointer_of-added_elsewhere (e ∷ es) k p q other =
     let rest : pointer_of (added es (entry k p)) q ≡ pointer_of es q = pointer_of-added_elsewhere es k p q other in
     grind (arith, nat_tests, rest)
 
+-- a key whose entry is removed keeps nothing
+pub pointer_of-removed : (m : List Entry) (k : ℕ) → pointer_of (removed m k) k ≡ None
+pointer_of-removed [] k = refl
+pointer_of-removed (e ∷ es) k =
+    let rest : pointer_of (removed es k) k ≡ None = pointer_of-removed es k in
+    grind (arith, nat_tests, rest)
+
+-- and the other keys are left alone
+pub pointer_of-removed_elsewhere : (m : List Entry) (k q : ℕ) → (k ≡ q → ⊥) → pointer_of (removed m k) q ≡ pointer_of m q
+pointer_of-removed_elsewhere [] k q other = refl
+pointer_of-removed_elsewhere (e ∷ es) k q other =
+    let rest : pointer_of (removed es k) q ≡ pointer_of es q = pointer_of-removed_elsewhere es k q other in
+    grind (arith, nat_tests, rest)
+
 -- an operation on a key does to it what it does to the cell alone
 pub pointer_of-map_after_own : (m : List Entry) (op : Op) (k : ℕ) → key_of op ≡ k → pointer_of (map_after m op) k ≡ cell_after op (pointer_of m k)
 pointer_of-map_after_own m (Find key) k own = refl
 pointer_of-map_after_own m (Insert key p) k own = subst (λ (q : ℕ). pointer_of (map_after m (Insert key p)) q ≡ cell_after (Insert key p) (pointer_of m q)) own ((elim (pointer_of m key) as (λ kept. pointer_of m key ≡ kept → pointer_of (map_at (Insert key p) kept m) key ≡ cell_after (Insert key p) kept) [ Some there ↦ λ h. h | None ↦ λ h. pointer_of-added m key p h ]) refl)
+pointer_of-map_after_own m (Delete key) k own = subst (λ (q : ℕ). pointer_of (map_after m (Delete key)) q ≡ None) own ((elim (pointer_of m key) as (λ kept. pointer_of m key ≡ kept → pointer_of (map_at (Delete key) kept m) key ≡ None) [ Some there ↦ λ h. pointer_of-removed m key | None ↦ λ h. h ]) refl)
 
 -- and leaves every other key alone
 pub pointer_of-map_after_other : (m : List Entry) (op : Op) (k : ℕ) → (key_of op ≡ k → ⊥) → pointer_of (map_after m op) k ≡ pointer_of m k
 pointer_of-map_after_other m (Find key) k other = refl
 pointer_of-map_after_other m (Insert key p) k other = elim (pointer_of m key) as (λ kept. pointer_of (map_at (Insert key p) kept m) k ≡ pointer_of m k) [ Some there ↦ refl | None ↦ pointer_of-added_elsewhere m key p k other ]
+pointer_of-map_after_other m (Delete key) k other = elim (pointer_of m key) as (λ kept. pointer_of (map_at (Delete key) kept m) k ≡ pointer_of m k) [ Some there ↦ pointer_of-removed_elsewhere m key k other | None ↦ refl ]
 
 -- ---- ascending keys
 
@@ -55,10 +71,23 @@ IsAscending-added (e ∷ es) k p none ascending = cond_both (ltb k e.key) (entry
     (λ behind. let here : e.key < k = grind (arith, nat_tests) in let rest : pointer_of es k ≡ None = grind (arith, nat_tests) in
     (every-added (λ after. e.key < after.key) es (entry k p) here ascending.0, IsAscending-added es k p rest ascending.1))
 
+-- what holds of the entries holds without one
+every-removed : (P : Entry → Type 0) (m : List Entry) (k : ℕ) → AllByRecursion P m → AllByRecursion P (removed m k)
+every-removed P [] k all = tt
+every-removed P (e ∷ es) k all = cond_both (not (eqb e.key k)) (e ∷ removed es k) (removed es k) (AllByRecursion P) (λ _. (all.0, every-removed P es k all.1)) (λ _. every-removed P es k all.1)
+
+-- a map without the entry of a key ascends too
+pub IsAscending-removed : (m : List Entry) (k : ℕ) → IsAscending m → IsAscending (removed m k)
+IsAscending-removed [] k ascending = tt
+IsAscending-removed (e ∷ es) k ascending = cond_both (not (eqb e.key k)) (e ∷ removed es k) (removed es k) IsAscending
+    (λ _. (every-removed (λ after. e.key < after.key) es k ascending.0, IsAscending-removed es k ascending.1))
+    (λ _. IsAscending-removed es k ascending.1)
+
 -- so an operation leaves the keys ascending
 pub IsAscending-map_after : (m : List Entry) (op : Op) → IsAscending m → IsAscending (map_after m op)
 IsAscending-map_after m (Find key) ascending = ascending
 IsAscending-map_after m (Insert key p) ascending = (elim (pointer_of m key) as (λ kept. pointer_of m key ≡ kept → IsAscending (map_at (Insert key p) kept m)) [ Some there ↦ λ h. ascending | None ↦ λ h. IsAscending-added m key p h ascending ]) refl
+IsAscending-map_after m (Delete key) ascending = elim (pointer_of m key) as (λ kept. IsAscending (map_at (Delete key) kept m)) [ Some there ↦ IsAscending-removed m key ascending | None ↦ ascending ]
 
 -- and so does a run of them
 pub IsAscending-map_after_all : (m : List Entry) (ops : List Op) → IsAscending m → IsAscending (map_after_all m ops)

@@ -1,6 +1,6 @@
 -- What a search by halves finds in a plain map, and what the map keeps and becomes there.
-use Rattle.std.proofs.Common.{◌≡◌, ◌≢◌, ℕ, zero, suc, ◌<◌, ◌≤◌, List, [], ◌∷◌, length, get_or, Some, None, Result, Ok, Err, IfOk, IfErr, refl, sym, ap, arith, inl, inr}
-use Rattle.std.specs.List.{insert, AllByRecursion}
+use Rattle.std.proofs.Common.{◌≡◌, ◌≢◌, ℕ, zero, suc, ◌<◌, ◌≤◌, List, [], ◌∷◌, length, get_or, Some, None, Result, Ok, Err, IfOk, IfErr, refl, sym, ap, arith, inl, inr, subst}
+use Rattle.std.specs.List.{insert, remove, AllByRecursion}
 use Rattle.std.specs.List.Sorted.{IsSearchInRange, IsBinarySearchResult, IsNonDecreasingBy}
 use Rattle.std.specs.Ordering.{nat_cmp, ordering_index}
 use Rattle.std.proofs.lemmas.Bool.{cases_lt}
@@ -9,7 +9,7 @@ use Rattle.std.proofs.lemmas.Cmp.{ranked}
 use Rattle.std.proofs.lemmas.List.{get_or_default}
 use Rattle.std.proofs.lemmas.List.Sorted.{IsNonDecreasingBy-from_default}
 use Rattle.blink_batch.specs.declared.entry.Entry.{Entry}
-use Rattle.blink_batch.specs.PlainMap.{entry, IsAscending, pointer_of, added}
+use Rattle.blink_batch.specs.PlainMap.{entry, IsAscending, pointer_of, added, removed}
 use Rattle.blink_batch.specs.Search.{key_at, IsPlaceOf, IsGapFor}
 
 -- what holds of each entry holds of the one at a place
@@ -73,6 +73,28 @@ insert-gap (e ∷ es) new (suc place) gap =
         greater_after = λ other after in_range. gap.greater_after (suc other) (omega arith) (omega arith);
       }),
     )
+
+-- a map that begins above a key has no entry of it to remove
+removed-below : (map : List Entry) (key : ℕ) → AllByRecursion (λ e. key < e.key) map → removed map key ≡ map
+removed-below [] key below = refl
+removed-below (e ∷ es) key below =
+    let here : key < e.key = below.0 in
+    let rest : removed es key ≡ es = removed-below es key below.1 in
+    grind (arith, nat_tests, rest)
+
+-- to remove the entry of a key is to remove it at its place
+pub remove-place : (map : List Entry) (key place : ℕ) → IsAscending map → IsPlaceOf map key place → remove map place ≡ removed map key
+remove-place [] key place ascending found = absurd (omega (arith, found.in_range))
+remove-place (e ∷ es) key zero ascending found =
+    let same : e.key ≡ key = found.has_key in
+    let rest : removed es key ≡ es = removed-below es key (subst (λ (k : ℕ). AllByRecursion (λ after. k < after.key) es) same ascending.0) in
+    grind (arith, nat_tests, rest)
+remove-place (e ∷ es) key (suc place) ascending found =
+    let inside : place < length es = omega (arith, found.in_range) in
+    let here : e.key < key_at es place = all_at (λ after. e.key < after.key) es place (entry 0 0) ascending.0 inside in
+    let is_key : key_at es place ≡ key = found.has_key in
+    let rest : remove es place ≡ removed es key = remove-place es key place ascending.1 (record { in_range = inside; has_key = is_key }) in
+    grind (arith, nat_tests, rest, here, is_key)
 
 module _ (map : List Entry) (ascending : IsAscending map) (key : ℕ) where
   -- the comparisons with the key rise along the map, as a search by halves asks

@@ -1,6 +1,9 @@
--- Which cutting of a batch among workers is lawful.
-use Rattle.std.specs.Prelude.{ℕ, ◌≡◌, ◌<◌, List, length, All, AllPairs}
+-- How the operations of a batch are given to workers: any assignment, and which one is a lawful cut.
+use Rattle.std.specs.Prelude.{ℕ, ◌≡◌, ◌≢◌, ◌<◌, ◌≤◌, ◌⊎◌, List, length, All, AllPairs, slice_index_or}
 use Rattle.std.specs.List.{zip}
+use Rattle.blink_batch.specs.declared.cut.CutError.{CutError}
+use Rattle.blink_batch.specs.declared.cut.CutError.TheVariants.{BadWorkers, WrongLength, BadLane, OutOfMemory}
+use Rattle.blink_batch.specs.declared.cut.TheConstants.{WORKER_LIMIT}
 use Rattle.blink_batch.specs.declared.operation.Op.{Op}
 use Rattle.blink_batch.specs.Operation.{key_of}
 
@@ -14,3 +17,30 @@ pub record IsLawfulCut (ops : List Op) (workers : ℕ) (lanes : List ℕ) : Type
   pub a_lane_each : length lanes ≡ length ops
   pub lanes_are_workers : All (λ lane. lane < workers) lanes
   pub one_worker_a_key : AllPairs (λ one other. key_of one.0 ≡ key_of other.0 → one.1 ≡ other.1) (zip ops lanes)
+
+-- a run has 1 to 64 workers
+abbrev pub MayWork : ℕ → Type 0
+MayWork workers = (0 < workers) × (workers ≤ WORKER_LIMIT)
+
+-- as many workers as a run may have, and each lane is one of them
+pub record AreLanes (workers : ℕ) (lanes : List ℕ) : Type 0 where
+  pub allowed : MayWork workers
+  pub lanes_are_workers : All (λ lane. lane < workers) lanes
+
+-- any assignment: such lanes, one for each operation
+pub record IsAssignment (ops : List Op) (workers : ℕ) (lanes : List ℕ) : Type 0 where
+  pub of_workers : AreLanes workers lanes
+  pub a_lane_each : length lanes ≡ length ops
+
+-- the place has the first lane that is no worker's
+pub record IsFirstBadLane (workers : ℕ) (lanes : List ℕ) (place : ℕ) : Type 0 where
+  pub in_range : place < length lanes
+  pub bad : workers ≤ slice_index_or lanes place 0
+  pub earlier_good : (other : ℕ) → other < place → slice_index_or lanes other 0 < workers
+
+-- why lanes are no assignment: the first cause, in the order of the checks
+abbrev pub IsLanesFault : List Op → ℕ → List ℕ → CutError → Type 0
+IsLanesFault ops workers lanes BadWorkers = (workers ≡ 0) ⊎ (WORKER_LIMIT < workers)
+IsLanesFault ops workers lanes WrongLength = MayWork workers × (length lanes ≢ length ops)
+IsLanesFault ops workers lanes (BadLane place) = MayWork workers × (length lanes ≡ length ops) × IsFirstBadLane workers lanes place
+IsLanesFault ops workers lanes OutOfMemory = ⊥

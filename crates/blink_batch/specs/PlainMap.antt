@@ -1,5 +1,5 @@
 -- The map that the whole index is measured by: a list of entries whose keys strictly ascend.
-use Rattle.std.specs.Prelude.{ℕ, ◌<◌, List, [], ◌∷◌, Option, Some, None, if◌then◌else◌, ◌==◌, nat_lt}
+use Rattle.std.specs.Prelude.{ℕ, ◌<◌, List, [], ◌∷◌, Option, Some, None, if◌then◌else◌, ◌==◌, filter, nat_lt, not}
 use Rattle.std.specs.List.{AllByRecursion}
 use Rattle.blink_batch.specs.declared.entry.Entry.{Entry}
 
@@ -21,3 +21,7 @@ pointer_of (e ∷ es) key = if e.key == key then Some e.pointer else pointer_of 
 abbrev pub added : List Entry → Entry → List Entry
 added [] new = new ∷ []
 added (e ∷ es) new = if nat_lt new.key e.key then new ∷ e ∷ es else e ∷ added es new
+
+-- the map without the entry of a key
+abbrev pub removed : List Entry → ℕ → List Entry
+removed map key = filter (λ (e : Entry). not (e.key == key)) map

@@ -1,6 +1,6 @@
 //! A batch cut among workers.
-ghost use Rattle.std.specs.Prelude.{◌≡◌, ◌<◌, ◌≤◌, ◌%◌, ◌↔◌, ◌⊎◌, ℕ, All, map, IfOk, Err};
-ghost use Rattle.blink_batch.specs.declared.cut.CutError.TheVariants.{BadWorkers};
+ghost use Rattle.std.specs.Prelude.{◌≡◌, ◌<◌, ◌≤◌, ◌%◌, ◌↔◌, ◌⊎◌, ℕ, All, map, IfOk, IsOkUnless, Err};
+ghost use Rattle.blink_batch.specs.declared.cut.CutError.TheVariants.{BadWorkers, OutOfMemory};
 ghost use Rattle.blink_batch.specs.declared.cut.TheConstants.{WORKER_LIMIT};
 ghost use Rattle.blink_batch.specs.Operation.{key_of};
 ghost use Rattle.blink_batch.specs.Codes.{code_of_cut_error};
@@ -14,12 +14,18 @@ use thiserror::Error;
 /// The greatest number of workers in a run.
 pub const WORKER_LIMIT: u8 = 64;
 
-/// Why there is no cut.
+/// Why there is no cut, or no assignment of lanes.
 #[derive(Clone, Copy, Debug, PartialEq, Eq, Error)]
 pub enum CutError {
     /// The workers aren't 1 to [`WORKER_LIMIT`].
     #[error("bad number of workers")]
     BadWorkers,
+    /// There are more or fewer lanes than operations.
+    #[error("wrong number of lanes")]
+    WrongLength,
+    /// The lane of this operation, counted from 0, is no worker's: it isn't below the number of workers.
+    #[error("operation {0}: bad lane")]
+    BadLane(u32),
     /// Memory for the lanes was refused.
     #[error("out of memory")]
     OutOfMemory,
@@ -32,6 +38,8 @@ impl CutError {
     {
         match self {
             CutError::BadWorkers => 2,
+            CutError::WrongLength => 3,
+            CutError::BadLane(_) => 4,
             CutError::OutOfMemory => 7,
         }
     }
@@ -56,6 +64,7 @@ impl Cut {
         ensures workers { IfOk result (λ cut. cut.workers ≡ workers) }
         ensures lanes { IfOk result (λ cut. cut.lanes ≡ map (λ op. key_of op % workers) batch.now) }
         ensures lawful { IfOk result (λ cut. IsLawfulCut batch.now cut.workers cut.lanes) }
+        ensures memory { (0 < workers) × (workers ≤ WORKER_LIMIT) → IsOkUnless result OutOfMemory }
         ensures bad_workers { result ≡ Err BadWorkers ↔ ((workers ≡ 0) ⊎ (WORKER_LIMIT < workers)) }
     {
         if workers == 0 || workers > WORKER_LIMIT {

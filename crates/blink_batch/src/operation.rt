@@ -12,6 +12,8 @@ pub enum Op {
     Find(u64),
     /// Keeps a pointer under a key, unless the key is there already.
     Insert(u64, u64),
+    /// Takes a key away with its pointer, if it is there.
+    Delete(u64),
 }
 
 impl Op {
@@ -22,6 +24,7 @@ impl Op {
         match *self {
             Op::Find(key) => key,
             Op::Insert(key, _) => key,
+            Op::Delete(key) => key,
         }
     }
 
@@ -33,6 +36,7 @@ impl Op {
         match *self {
             Op::Find(_key) => false,
             Op::Insert(_key, _pointer) => true,
+            Op::Delete(_key) => false,
         }
     }
 }
@@ -48,6 +52,8 @@ pub enum Answer {
     Inserted,
     /// An insertion: the key was there with this pointer, and nothing changed.
     Exists(u64),
+    /// A deletion: the key was there with this pointer, and is there no more.
+    Removed(u64),
 }
 
 /// The words of the answer's output line, as `found 7`.
@@ -63,6 +69,7 @@ impl fmt::Display for Answer {
             Answer::Absent => write!(f, "absent"),
             Answer::Inserted => write!(f, "inserted"),
             Answer::Exists(pointer) => write!(f, "exists {pointer}"),
+            Answer::Removed(pointer) => write!(f, "removed {pointer}"),
         }
     }
 }

@@ -49,6 +49,8 @@ impl Plain {
                 self.entries.insert(at, Entry { key, pointer })?;
                 Ok(Answer::Inserted)
             }
+            (Op::Delete(_), Ok(at)) => Ok(Answer::Removed(self.entries.remove(at).pointer)),
+            (Op::Delete(_), Err(_)) => Ok(Answer::Absent),
         }
     }
 

@@ -2,7 +2,7 @@
 ghost use Rattle.std.specs.Prelude.{◌≡◌, ◌≢◌, [], ◌∷◌, length, MatchOption};
 ghost use Rattle.csv.specs.Records.{fields_of};
 ghost use Rattle.blink_batch.specs.Number.{number_of};
-ghost use Rattle.blink_batch.specs.Record.{find_of, insert_of, named, operation_of};
+ghost use Rattle.blink_batch.specs.Record.{insert_of, key_alone, named, operation_of};
 
 use crate::error::RecordError;
 use crate::number::read_number;
@@ -36,21 +36,22 @@ fn named(word: &[u8], second: &[u8], third: &[u8]) -> Result<Op, RecordError>
     if word == b"insert".as_slice() {
         insertion(second, third)
     } else if word == b"find".as_slice() {
-        find(second, third)
+        key_alone(second, third).map(Op::Find)
+    } else if word == b"delete".as_slice() {
+        key_alone(second, third).map(Op::Delete)
     } else {
         Err(RecordError::UnknownOperation)
     }
 }
 
-fn find(second: &[u8], third: &[u8]) -> Result<Op, RecordError>
-    ensures { result ≡ find_of third.now (number_of second.now) }
+// The key of an operation that has nothing else.
+fn key_alone(second: &[u8], third: &[u8]) -> Result<u64, RecordError>
+    ensures { result ≡ key_alone third.now (number_of second.now) }
 {
     if !third.is_empty() {
         return Err(RecordError::BadShape);
     }
-    read_number(second)
-        .map(Op::Find)
-        .ok_or(RecordError::BadNumber)
+    read_number(second).ok_or(RecordError::BadNumber)
 }
 
 fn insertion(second: &[u8], third: &[u8]) -> Result<Op, RecordError>

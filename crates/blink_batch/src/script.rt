@@ -27,9 +27,9 @@ pub struct Script {
 }
 
 /// Reads a script: records of three fields as the crate `csv` reads them by default, but without a header row and
-/// of any length. `insert,k,p` keeps the pointer p under the key k, and `find,k,` looks k up. Records are counted
-/// from 1, and the first refusal in their order is the answer. A refusal leaves the reader somewhere behind the
-/// records that were read.
+/// of any length. `insert,k,p` keeps the pointer p under the key k, `find,k,` looks k up, and `delete,k,` takes k
+/// away. Records are counted from 1, and the first refusal in their order is the answer. A refusal leaves the reader
+/// somewhere behind the records that were read.
 ///
 /// What is said of the text read is said of a reader that tells its bytes. `Read` comes where the reader failed.
 pub fn read_script<R: Read + Drop>(alloc: Global, reader: R) -> Result<Script, ScriptError>

@@ -1,5 +1,5 @@
 use crate::{
-    Answer, Batch, BatchError, Cut, CutError, Entry, Op, Part, Plain, RecordError, Script,
+    Answer, Batch, BatchError, Cut, CutError, Entry, Lanes, Op, Part, Plain, RecordError, Script,
     ScriptError, read_number, read_script,
 };
 use std::alloc::{AllocError, Global};
@@ -54,6 +54,36 @@ fn plain_keeps_its_entries_in_order(rt: HostRuntime) -> Result<(), Fail> {
 }
 
 #[test]
+fn deletions_take_their_entries_away(rt: HostRuntime) -> Result<(), Fail> {
+    let mut plain = Plain::new(rt.alloc());
+    let ops = [
+        Op::Insert(7, 1),
+        Op::Delete(7),
+        Op::Delete(7),
+        Op::Insert(7, 3),
+        Op::Find(7),
+    ];
+    let expected = [
+        Answer::Inserted,
+        Answer::Removed(1),
+        Answer::Absent,
+        Answer::Inserted,
+        Answer::Found(3),
+    ];
+    assert_eq!(rt;
+        plain.run(rt.alloc(), &ops)?.as_slice(),
+        expected.as_slice()
+    );
+    plain.run(rt.alloc(), &[Op::Insert(8, 4), Op::Insert(6, 2)])?;
+    assert_eq!(rt; plain.apply(Op::Delete(7))?, Answer::Removed(3));
+    let left = [Entry { key: 6, pointer: 2 }, Entry { key: 8, pointer: 4 }];
+    assert_eq!(rt; plain.entries(), left.as_slice());
+    assert_eq!(rt; plain.apply(Op::Delete(9))?, Answer::Absent);
+    assert_eq!(rt; plain.entries(), left.as_slice());
+    Ok(())
+}
+
+#[test]
 fn batches_have_a_limit(rt: HostRuntime) -> Result<(), Fail> {
     let batch = Batch::new([Op::Insert(5, 50), Op::Find(5)].to_vec(rt.alloc())?)?;
     assert_eq!(rt; batch.ops(), [Op::Insert(5, 50), Op::Find(5)].as_slice());
@@ -85,6 +115,38 @@ fn cuts_by_the_remainder_of_the_key(rt: HostRuntime) -> Result<(), Fail> {
         (CutError::BadWorkers.code(), CutError::OutOfMemory.code()),
         (2, 7)
     );
+    Ok(())
+}
+
+#[test]
+fn lanes_may_split_a_key(rt: HostRuntime) -> Result<(), Fail> {
+    let batch = Batch::new([Op::Insert(5, 6), Op::Delete(5)].to_vec(rt.alloc())?)?;
+    let lanes = Lanes::new(&batch, 2, [1, 0].to_vec(rt.alloc())?)?;
+    assert_eq!(rt; lanes.lanes(), [1, 0].as_slice());
+    assert_eq!(rt; lanes.workers(), 2);
+    let lanes = Lanes::new(&batch, 64, [63, 63].to_vec(rt.alloc())?)?;
+    assert_eq!(rt; lanes.workers(), 64);
+    let cases = [
+        (2, [0, 2].as_slice(), CutError::BadLane(1)),
+        (2, [2, 2].as_slice(), CutError::BadLane(0)),
+        (2, [2].as_slice(), CutError::WrongLength),
+        (2, [0, 0, 0].as_slice(), CutError::WrongLength),
+        (0, [2].as_slice(), CutError::BadWorkers),
+        (65, [0, 0].as_slice(), CutError::BadWorkers),
+    ];
+    for (workers, lanes, refusal) in cases {
+        let refused = Lanes::new(&batch, workers, lanes.to_vec(rt.alloc())?).err();
+        assert_eq!(rt; refused, Some(refusal), "{workers} {lanes:?}");
+    }
+    let texts = [
+        (CutError::BadWorkers, 2, "bad number of workers"),
+        (CutError::WrongLength, 3, "wrong number of lanes"),
+        (CutError::BadLane(1), 4, "operation 1: bad lane"),
+    ];
+    for (error, code, text) in texts {
+        assert_eq!(rt; error.code(), code, "{text}");
+        assert_eq!(rt; error.to_string(rt.alloc())?.as_str(), text);
+    }
     Ok(())
 }
 
@@ -133,6 +195,11 @@ fn scripts_are_read_record_by_record(rt: HostRuntime) -> Result<(), Fail> {
         operations(&rt, &script),
         [Op::Insert(u64::MAX, 0)].as_slice()
     );
+    let script = read_script(rt.alloc(), b"insert,7,1\ndelete,7,\n".as_slice())?;
+    assert_eq!(rt;
+        operations(&rt, &script),
+        [Op::Insert(7, 1), Op::Delete(7)].as_slice()
+    );
     let script = read_script(rt.alloc(), b"".as_slice())?;
     assert_eq!(rt; script.parts.len(), 0);
     Ok(())
@@ -158,9 +225,13 @@ fn the_first_refusal_is_the_answer(rt: HostRuntime) -> Result<(), Fail> {
             ScriptError::Row(1, RecordError::UnknownOperation),
         ),
         (
-            b"delete,1,",
+            b"scan,1,2",
             ScriptError::Row(1, RecordError::UnknownOperation),
         ),
+        (b"delete,1,2", ScriptError::Row(1, RecordError::BadShape)),
+        (b"delete,x,2", ScriptError::Row(1, RecordError::BadShape)),
+        (b"delete,x,", ScriptError::Row(1, RecordError::BadNumber)),
+        (b"delete,1", ScriptError::Row(1, RecordError::BadShape)),
         (b"put,1", ScriptError::Row(1, RecordError::BadShape)),
         (b"find,1,,", ScriptError::Row(1, RecordError::BadShape)),
         (

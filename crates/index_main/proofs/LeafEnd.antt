@@ -1,15 +1,13 @@
 -- Where a run on one leaf ends: when every turn is passed over, every operation is decided.
-use Rattle.std.proofs.Common.{◌≡◌, ℕ, List, length, true, Option, Some, None, refl, ap, sym, ◌∙◌, inl, inr, ◌⊎◌}
+use Rattle.std.proofs.Common.{◌≡◌, ℕ, List, length, Bool, true, false, Option, Some, None, refl, ap, sym, ◌∙◌, inl, inr, ◌⊎◌}
 use Rattle.std.proofs.lemmas.Bool.{cases_lt}
 use Rattle.blink_batch.specs.declared.Op.{Op}
-use Rattle.blink_batch.specs.declared.Op.TheVariants.{Find, Insert}
-use Rattle.blink_batch.specs.Operation.{key_of}
+use Rattle.blink_batch.specs.declared.Op.TheVariants.{Find, Insert, Delete}
 use Rattle.blink_batch.specs.Order.{IsWholeOrder, lane_of, part_of, places_from}
-use Rattle.blink_batch.specs.PlainMap.{pointer_of}
 use Rattle.index_main.specs.declared.worker.State.{State}
 use Rattle.index_main.specs.declared.worker.State.TheVariants.{Idle, Going, Want, Held, Change, Leave}
 use Rattle.index_main.specs.LeafSound.{IsSound, IsSoundWorker, NobodyMoves, is_holding}
-use Rattle.index_main.specs.LeafTurn.{GoingTurn, HeldTurn, IdleTurn, TurnFrom, WantTurn, next_place}
+use Rattle.index_main.specs.LeafTurn.{GoingTurn, HeldTurn, IdleTurn, TurnFrom, WantTurn, changes, next_place}
 use Rattle.index_main.specs.LeafWorld.{LeafWorld, op_at, worker_at, worker_with}
 use Rattle.index_main.proofs.LeafParts.{part_of-no_next_place, part_of-nobody}
 
@@ -24,20 +22,21 @@ idle_rests lanes world worker place (Some next) found step = let taken = step.0 
 going_rests : (world : LeafWorld) (worker place : ℕ) (op : Op) → GoingTurn op world worker place None world → ⊥
 going_rests world worker place (Find key) step = let taken = step.0 in cc
 going_rests world worker place (Insert key pointer) step = let taken = step.0 in cc
+going_rests world worker place (Delete key) step = let taken = step.0 in cc
 
 want_rests : (lanes : List ℕ) (world : LeafWorld) (worker place : ℕ) (latch : Option ℕ) → world.latch ≡ latch → WantTurn latch world worker place None world → Rests lanes world worker Want place
 want_rests lanes world worker place None held step = let taken = step.0 in absurd (cc)
 want_rests lanes world worker place (Some holder) held step = inr (refl, (holder, held))
 
-held_rests : (world : LeafWorld) (worker place : ℕ) (op : Op) (kept : Option ℕ) → HeldTurn op kept world worker place None world → ⊥
-held_rests world worker place op None step = let taken = step.0 in cc
-held_rests world worker place op (Some kept) step = let taken = step.0 in cc
+held_rests : (world : LeafWorld) (worker place : ℕ) (op : Op) (changing : Bool) → HeldTurn changing op world worker place None world → ⊥
+held_rests world worker place op true step = let taken = step.0 in cc
+held_rests world worker place op false step = let taken = step.0 in cc
 
 state_rests : (ops : List Op) (lanes : List ℕ) (world : LeafWorld) (worker place : ℕ) (state : State) → TurnFrom state place ops lanes world worker None world → Rests lanes world worker state place
 state_rests ops lanes world worker place Idle step = idle_rests lanes world worker place (next_place lanes worker place) refl step
 state_rests ops lanes world worker place Going step = absurd (going_rests world worker place (op_at ops place) step)
 state_rests ops lanes world worker place Want step = want_rests lanes world worker place world.latch refl step
-state_rests ops lanes world worker place Held step = absurd (held_rests world worker place (op_at ops place) (pointer_of world.entries (key_of (op_at ops place))) step)
+state_rests ops lanes world worker place Held step = absurd (held_rests world worker place (op_at ops place) (changes world.entries (op_at ops place)) step)
 state_rests ops lanes world worker place Change step = let taken = step.0 in absurd (cc)
 state_rests ops lanes world worker place Leave step = let taken = step.0 in absurd (cc)
 

@@ -9,15 +9,15 @@ use Rattle.blink_batch.specs.declared.Answer.{Answer}
 use Rattle.blink_batch.specs.declared.Entry.{Entry}
 use Rattle.blink_batch.specs.declared.Op.{Op}
 use Rattle.blink_batch.specs.declared.Op.TheVariants.{Find}
-use Rattle.blink_batch.specs.Operation.{answer_of, key_of, map_after, map_after_all}
+use Rattle.blink_batch.specs.Operation.{answer_of, map_after, map_after_all}
 use Rattle.blink_batch.specs.Order.{AnswersInOrder, operations_at, part_of, places_from}
-use Rattle.blink_batch.specs.PlainMap.{pointer_of}
 use Rattle.blink_batch.proofs.OrderLemmas.{AnswersInOrder-push}
 use Rattle.blink_batch.proofs.PlaceLemmas.{map_after_all-push, operations_at-push, part_of-push_other, part_of-push_own}
 use Rattle.index_main.specs.declared.worker.State.{State}
 use Rattle.index_main.specs.declared.worker.State.TheVariants.{Idle}
 use Rattle.index_main.specs.declared.worker.Worker.{Worker}
 use Rattle.index_main.specs.LeafSound.{IsSound, IsSoundWorker, is_holding}
+use Rattle.index_main.specs.LeafTurn.{changes}
 use Rattle.index_main.specs.LeafWorld.{LeafWorld, op_at, worker_at, worker_with}
 use Rattle.index_main.proofs.LeafParts.{fresh_from_part, part_of_first-own}
 
@@ -44,7 +44,7 @@ other_stays ops lanes before after number other its part stays = record {
   its_part = part ∙ its.its_part;
   its_operation = its.its_operation;
   latched = λ holding. (stays (its.latched holding)).0;
-  absent = λ changing. ap (λ entries. pointer_of entries (key_of (op_at ops other.place))) (stays (its.latched (ap is_holding changing))).1 ∙ its.absent changing;
+  to_change = λ changing. ap (λ entries. changes entries (op_at ops other.place)) (stays (its.latched (ap is_holding changing))).1 ∙ its.to_change changing;
 }
 
 -- the worker that moved, afterwards

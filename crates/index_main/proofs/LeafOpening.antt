@@ -38,5 +38,5 @@ opening_sound ops lanes workers long below =
       its_part = refl;
       its_operation = λ busy. absurd (cc);
       latched = λ holding. absurd (cc);
-      absent = λ changing. absurd (cc);
+      to_change = λ changing. absurd (cc);
     }

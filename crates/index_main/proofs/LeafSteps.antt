@@ -1,20 +1,18 @@
 -- What every turn on one leaf has in common: the workers stay, and a step that is taken brings the end nearer.
-use Rattle.std.proofs.Common.{◌≡◌, ℕ, ◌+◌, ◌-◌, ◌*◌, ◌<◌, ◌≤◌, List, length, set, true, Option, Some, None, refl, ap, sym, ◌∙◌, subst, inl, inr, ◌⊎◌, arith}
+use Rattle.std.proofs.Common.{◌≡◌, ℕ, ◌+◌, ◌-◌, ◌*◌, ◌<◌, ◌≤◌, List, length, set, Bool, true, false, Option, Some, None, refl, ap, sym, ◌∙◌, subst, inl, inr, ◌⊎◌, arith}
 use Rattle.std.proofs.lemmas.List.{length-set}
 use Rattle.std.proofs.lemmas.List.Sums.{sum_by-set}
 use Rattle.std.proofs.lemmas.Option.{slice_get_within}
 use Rattle.std.specs.List.{sum_by}
 use Rattle.blink_batch.specs.declared.Op.{Op}
-use Rattle.blink_batch.specs.declared.Op.TheVariants.{Find, Insert}
-use Rattle.blink_batch.specs.Operation.{key_of}
-use Rattle.blink_batch.specs.PlainMap.{pointer_of}
+use Rattle.blink_batch.specs.declared.Op.TheVariants.{Find, Insert, Delete}
 use Rattle.index_main.specs.declared.worker.Kind.{Kind}
 use Rattle.index_main.specs.declared.worker.Kind.TheVariants.{ReadPrime, ReadPage, Latch, WritePage, Unlatch}
 use Rattle.index_main.specs.declared.worker.State.{State}
 use Rattle.index_main.specs.declared.worker.State.TheVariants.{Idle, Going, Want, Held, Change, Leave}
 use Rattle.index_main.specs.declared.worker.Worker.{Worker}
 use Rattle.index_main.specs.LeafSound.{IsSound, is_busy, steps_left, steps_taken}
-use Rattle.index_main.specs.LeafTurn.{GoingTurn, HeldTurn, IdleTurn, TakesTurn, TurnFrom, WantTurn, next_place}
+use Rattle.index_main.specs.LeafTurn.{GoingTurn, HeldTurn, IdleTurn, TakesTurn, TurnFrom, WantTurn, changes, next_place}
 use Rattle.index_main.specs.LeafWorld.{LeafWorld, op_at, worker_at, worker_with}
 use Rattle.index_main.proofs.LeafPlaces.{next_place_is}
 
@@ -65,21 +63,22 @@ idle_goes ops lanes before worker place turn after (Some next) found step =
 going_goes : (ops : List Op) (lanes : List ℕ) (before : LeafWorld) (worker place : ℕ) (turn : Option Kind) (after : LeafWorld) (op : Op) → GoingTurn op before worker place turn after → Goes ops lanes before worker (worker_with Going place) turn after
 going_goes ops lanes before worker place turn after (Find key) step = goes_to ops lanes before worker (worker_with Going place) turn after ReadPage Idle (place + 1) step.0 (ap (λ w. w.workers) step.1) (λ long inside. let here : place < length ops = inside refl in omega arith)
 going_goes ops lanes before worker place turn after (Insert key pointer) step = goes_to ops lanes before worker (worker_with Going place) turn after ReadPage Want place step.0 (ap (λ w. w.workers) step.1) (λ long inside. let here : place < length ops = inside refl in omega arith)
+going_goes ops lanes before worker place turn after (Delete key) step = goes_to ops lanes before worker (worker_with Going place) turn after ReadPage Want place step.0 (ap (λ w. w.workers) step.1) (λ long inside. let here : place < length ops = inside refl in omega arith)
 
 want_goes : (ops : List Op) (lanes : List ℕ) (before : LeafWorld) (worker place : ℕ) (turn : Option Kind) (after : LeafWorld) (latch : Option ℕ) → WantTurn latch before worker place turn after → Goes ops lanes before worker (worker_with Want place) turn after
 want_goes ops lanes before worker place turn after None step = goes_to ops lanes before worker (worker_with Want place) turn after Latch Held place step.0 (ap (λ w. w.workers) step.1) (λ long inside. let here : place < length ops = inside refl in omega arith)
 want_goes ops lanes before worker place turn after (Some holder) step = inl step
 
-held_goes : (ops : List Op) (lanes : List ℕ) (before : LeafWorld) (worker place : ℕ) (turn : Option Kind) (after : LeafWorld) (op : Op) (kept : Option ℕ) → HeldTurn op kept before worker place turn after → Goes ops lanes before worker (worker_with Held place) turn after
-held_goes ops lanes before worker place turn after op (Some kept) step = goes_to ops lanes before worker (worker_with Held place) turn after ReadPage Leave place step.0 (ap (λ w. w.workers) step.1) (λ long inside. let here : place < length ops = inside refl in omega arith)
-held_goes ops lanes before worker place turn after op None step = goes_to ops lanes before worker (worker_with Held place) turn after ReadPage Change place step.0 (ap (λ w. w.workers) step.1) (λ long inside. let here : place < length ops = inside refl in omega arith)
+held_goes : (ops : List Op) (lanes : List ℕ) (before : LeafWorld) (worker place : ℕ) (turn : Option Kind) (after : LeafWorld) (op : Op) (changing : Bool) → HeldTurn changing op before worker place turn after → Goes ops lanes before worker (worker_with Held place) turn after
+held_goes ops lanes before worker place turn after op false step = goes_to ops lanes before worker (worker_with Held place) turn after ReadPage Leave place step.0 (ap (λ w. w.workers) step.1) (λ long inside. let here : place < length ops = inside refl in omega arith)
+held_goes ops lanes before worker place turn after op true step = goes_to ops lanes before worker (worker_with Held place) turn after ReadPage Change place step.0 (ap (λ w. w.workers) step.1) (λ long inside. let here : place < length ops = inside refl in omega arith)
 
 -- by cases on the worker's state
 turn_goes : (ops : List Op) (lanes : List ℕ) (before : LeafWorld) (worker place : ℕ) (turn : Option Kind) (after : LeafWorld) (state : State) → TurnFrom state place ops lanes before worker turn after → Goes ops lanes before worker (worker_with state place) turn after
 turn_goes ops lanes before worker place turn after Idle step = idle_goes ops lanes before worker place turn after (next_place lanes worker place) refl step
 turn_goes ops lanes before worker place turn after Going step = going_goes ops lanes before worker place turn after (op_at ops place) step
 turn_goes ops lanes before worker place turn after Want step = want_goes ops lanes before worker place turn after before.latch step
-turn_goes ops lanes before worker place turn after Held step = held_goes ops lanes before worker place turn after (op_at ops place) (pointer_of before.entries (key_of (op_at ops place))) step
+turn_goes ops lanes before worker place turn after Held step = held_goes ops lanes before worker place turn after (op_at ops place) (changes before.entries (op_at ops place)) step
 turn_goes ops lanes before worker place turn after Change step = goes_to ops lanes before worker (worker_with Change place) turn after WritePage Leave place step.0 (ap (λ w. w.workers) step.1) (λ long inside. let here : place < length ops = inside refl in omega arith)
 turn_goes ops lanes before worker place turn after Leave step = goes_to ops lanes before worker (worker_with Leave place) turn after Unlatch Idle (place + 1) step.0 (ap (λ w. w.workers) step.1) (λ long inside. let here : place < length ops = inside refl in omega arith)
 

@@ -1,13 +1,12 @@
 -- What is so at every moment of a run on one leaf.
 use Rattle.std.specs.Prelude.{ℕ, ◌≡◌, ◌<◌, ◌+◌, ◌-◌, ◌*◌, List, [], length, Bool, true, false, Some, None, slice_get, sum_by, take, All}
 use Rattle.blink_batch.specs.declared.Op.{Op}
-use Rattle.blink_batch.specs.Operation.{key_of, map_after_all}
+use Rattle.blink_batch.specs.Operation.{map_after_all}
 use Rattle.blink_batch.specs.Order.{AnswersInOrder, operations_at, part_of, places_from}
-use Rattle.blink_batch.specs.PlainMap.{pointer_of}
 use Rattle.index_main.specs.declared.worker.State.{State}
 use Rattle.index_main.specs.declared.worker.State.TheVariants.{Idle, Going, Want, Held, Change, Leave}
 use Rattle.index_main.specs.declared.worker.Worker.{Worker}
-use Rattle.index_main.specs.LeafTurn.{TakesTurn}
+use Rattle.index_main.specs.LeafTurn.{TakesTurn, changes}
 use Rattle.index_main.specs.LeafWorld.{LeafWorld, op_at, worker_at}
 
 -- the states of a worker who has an operation
@@ -41,12 +40,12 @@ decided_below worker = if_leaving worker.state worker.place
     if_leaving Leave place = place + 1
 
 -- of one worker: its part of the order is the beginning of its lane, its operation is one of its lane, it holds the
--- latch where its state says so, and it changes the leaf only to add a key that is not there
+-- latch where its state says so, and it writes the leaf only for an operation that changes it
 pub record IsSoundWorker (ops : List Op) (lanes : List ℕ) (world : LeafWorld) (number : ℕ) (worker : Worker) : Type 0 where
   pub its_part : part_of lanes number world.order ≡ part_of lanes number (take (decided_below worker) (places_from 0 lanes))
   pub its_operation : is_busy worker.state ≡ true → slice_get lanes worker.place ≡ Some number
   pub latched : is_holding worker.state ≡ true → world.latch ≡ Some number
-  pub absent : worker.state ≡ Change → pointer_of world.entries (key_of (op_at ops worker.place)) ≡ None
+  pub to_change : worker.state ≡ Change → changes world.entries (op_at ops worker.place) ≡ true
 
 -- of the moment: what is decided is the run of the operations in the order of their deciding steps
 pub record IsSound (ops : List Op) (lanes : List ℕ) (world : LeafWorld) : Type 0 where

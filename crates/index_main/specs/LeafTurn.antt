@@ -1,8 +1,9 @@
 -- What a worker does in its turn: a case for each state, as the table of steps has them.
-use Rattle.std.specs.Prelude.{ℕ, ◌≡◌, ◌+◌, List, Option, Some, None, slice_get, drop}
+use Rattle.std.specs.Prelude.{ℕ, ◌≡◌, ◌+◌, Bool, true, false, List, Option, Some, None, slice_get, drop}
+use Rattle.blink_batch.specs.declared.Entry.{Entry}
 use Rattle.blink_batch.specs.declared.Op.{Op}
-use Rattle.blink_batch.specs.declared.Op.TheVariants.{Find, Insert}
-use Rattle.blink_batch.specs.Operation.{answer_at, answer_of, key_of, map_at}
+use Rattle.blink_batch.specs.declared.Op.TheVariants.{Find, Insert, Delete}
+use Rattle.blink_batch.specs.Operation.{answer_of, key_of, map_after}
 use Rattle.blink_batch.specs.Order.{part_of, places_from}
 use Rattle.blink_batch.specs.PlainMap.{pointer_of}
 use Rattle.index_main.specs.declared.worker.Kind.{Kind}
@@ -10,6 +11,18 @@ use Rattle.index_main.specs.declared.worker.Kind.TheVariants.{ReadPrime, ReadPag
 use Rattle.index_main.specs.declared.worker.State.{State}
 use Rattle.index_main.specs.declared.worker.State.TheVariants.{Idle, Going, Want, Held, Change, Leave}
 use Rattle.index_main.specs.LeafWorld.{LeafWorld, decided, moved, op_at, worker_at}
+
+-- whether an operation changes a map that keeps this pointer, or nothing, under its key: an insertion of a key that
+-- isn't there does, and a deletion of one that is
+abbrev pub changes_at : Op → Option ℕ → Bool
+changes_at (Find key) kept = false
+changes_at (Insert key pointer) (Some kept) = false
+changes_at (Insert key pointer) None = true
+changes_at (Delete key) (Some kept) = true
+changes_at (Delete key) None = false
+
+abbrev pub changes : List Entry → Op → Bool
+changes map op = changes_at op (pointer_of map (key_of op))
 
 -- the first place of a worker's lane from one on
 abbrev pub next_place : List ℕ → ℕ → ℕ → Option ℕ
@@ -24,25 +37,26 @@ abbrev pub IdleTurn : Option ℕ → LeafWorld → ℕ → Option Kind → LeafW
 IdleTurn None before worker = Takes None before
 IdleTurn (Some next) before worker = Takes (Some ReadPrime) (moved before worker Going next)
 
--- going: reads the leaf; a find answers and ends, an insertion wants the latch
+-- going: reads the leaf; a find answers and ends, an insertion or a deletion wants the latch
 abbrev pub GoingTurn : Op → LeafWorld → ℕ → ℕ → Option Kind → LeafWorld → Type 0
 GoingTurn (Find key) before worker place = Takes (Some ReadPage) (moved (decided before place (answer_of before.entries (Find key))) worker Idle (place + 1))
 GoingTurn (Insert key pointer) before worker place = Takes (Some ReadPage) (moved before worker Want place)
+GoingTurn (Delete key) before worker place = Takes (Some ReadPage) (moved before worker Want place)
 
 -- wanting: takes the latch; passed over where another holds it
 abbrev pub WantTurn : Option ℕ → LeafWorld → ℕ → ℕ → Option Kind → LeafWorld → Type 0
 WantTurn None before worker place = Takes (Some Latch) (record (moved before worker Held place) { latch = Some worker })
 WantTurn (Some holder) before worker place = Takes None before
 
--- holding: reads the leaf again; answers where the key is there, and else is to change the leaf
-abbrev pub HeldTurn : Op → Option ℕ → LeafWorld → ℕ → ℕ → Option Kind → LeafWorld → Type 0
-HeldTurn op (Some kept) before worker place = Takes (Some ReadPage) (moved (decided before place (answer_at op (Some kept))) worker Leave place)
-HeldTurn op None before worker place = Takes (Some ReadPage) (moved before worker Change place)
+-- holding: reads the leaf again; answers where there is nothing to change, and else is to change the leaf
+abbrev pub HeldTurn : Bool → Op → LeafWorld → ℕ → ℕ → Option Kind → LeafWorld → Type 0
+HeldTurn false op before worker place = Takes (Some ReadPage) (moved (decided before place (answer_of before.entries op)) worker Leave place)
+HeldTurn true op before worker place = Takes (Some ReadPage) (moved before worker Change place)
 
--- changing: writes the leaf with the entry added, and answers
+-- changing: writes the leaf with the entry added or removed, and answers
 abbrev pub ChangeTurn : Op → LeafWorld → ℕ → ℕ → Option Kind → LeafWorld → Type 0
 ChangeTurn op before worker place =
-    Takes (Some WritePage) (record (moved (decided before place (answer_at op None)) worker Leave place) { entries = map_at op None before.entries })
+    Takes (Some WritePage) (record (moved (decided before place (answer_of before.entries op)) worker Leave place) { entries = map_after before.entries op })
 
 -- leaving: lets the latch go, and is idle again
 abbrev pub LeaveTurn : LeafWorld → ℕ → ℕ → Option Kind → LeafWorld → Type 0
@@ -53,7 +67,7 @@ abbrev pub TurnFrom : State → ℕ → List Op → List ℕ → LeafWorld → �
 TurnFrom Idle place ops lanes before worker = IdleTurn (next_place lanes worker place) before worker
 TurnFrom Going place ops lanes before worker = GoingTurn (op_at ops place) before worker place
 TurnFrom Want place ops lanes before worker = WantTurn before.latch before worker place
-TurnFrom Held place ops lanes before worker = HeldTurn (op_at ops place) (pointer_of before.entries (key_of (op_at ops place))) before worker place
+TurnFrom Held place ops lanes before worker = HeldTurn (changes before.entries (op_at ops place)) (op_at ops place) before worker place
 TurnFrom Change place ops lanes before worker = ChangeTurn (op_at ops place) before worker place
 TurnFrom Leave place ops lanes before worker = LeaveTurn before worker place
 

@@ -39,8 +39,8 @@ impl LeafError {
 }
 
 /// Runs a batch on one new leaf. The workers take one step each in turn, worker 0 first, until all operations have
-/// ended: each reads the prime block and the leaf, and an insertion latches the leaf, reads it again, writes it where
-/// its key isn't there, and lets the latch go. The answers, each at its operation's place, are those of one thread
+/// ended: each reads the prime block and the leaf, and an insertion or a deletion latches the leaf, reads it again,
+/// writes it where that adds or removes an entry, and lets the latch go. The answers, each at its operation's place, are those of one thread
 /// that runs the batch in order. `LeafFull` is told before anything runs.
 pub fn run_leaf(alloc: Global, batch: &Batch, cut: &Cut) -> Result<Vec<Answer>, LeafError>
     requires { IsLawfulCut batch.now cut.now.workers cut.now.lanes }

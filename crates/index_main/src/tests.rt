@@ -16,6 +16,10 @@ fn a_batch_on_one_leaf_answers_as_one_thread(rt: HostRuntime) -> Result<(), Fail
         Op::Insert(7, 2),
         Op::Find(7),
         Op::Find(6),
+        Op::Delete(7),
+        Op::Delete(7),
+        Op::Insert(7, 3),
+        Op::Find(7),
     ];
     let expected = [
         Answer::Inserted,
@@ -24,6 +28,10 @@ fn a_batch_on_one_leaf_answers_as_one_thread(rt: HostRuntime) -> Result<(), Fail
         Answer::Exists(1),
         Answer::Found(1),
         Answer::Absent,
+        Answer::Removed(1),
+        Answer::Absent,
+        Answer::Inserted,
+        Answer::Found(3),
     ];
     let batch = Batch::new(ops.to_vec(rt.alloc())?)?;
     for workers in [1, 2, 3, 64] {
@@ -81,6 +89,11 @@ fn scripts_are_served(rt: HostRuntime) -> Result<(), Fail> {
             "insert,7,1\ninsert,7,2\nfind,7,\n",
             "inserted\nexists 1\nfound 1\n",
         ),
+        (
+            "insert,7,1\ndelete,7,\ndelete,7,\ninsert,7,3\nfind,7,\n",
+            "inserted\nremoved 1\nabsent\ninserted\nfound 3\n",
+        ),
+        ("delete,1,", "absent\n"),
         ("find,18446744073709551615,", "absent\n"),
         ("", ""),
     ];
@@ -131,7 +144,9 @@ fn refused_scripts_write_nothing(rt: HostRuntime) -> Result<(), Fail> {
             12,
             "script: row 1: bad number",
         ),
-        ("delete,1,", 11, "script: row 1: unknown operation"),
+        ("delete,1,2", 10, "script: row 1: bad shape"),
+        ("scan,1,2", 11, "script: row 1: unknown operation"),
+        ("put,1,1", 11, "script: row 1: unknown operation"),
         ("insert,5,50\nfind,5,1", 10, "script: row 2: bad shape"),
     ];
     for (script, code, text) in cases {

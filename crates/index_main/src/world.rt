@@ -1,9 +1,8 @@
 //! A run on one leaf, step by step.
-ghost use Rattle.std.specs.Prelude.{◌≡◌, ◌<◌, ◌+◌, ℕ, List, length, true, false, Option, Some, None, IfOk, OnOk, Ok};
-ghost use Rattle.blink_batch.specs.Operation.{answer_at, key_of, map_at};
-ghost use Rattle.blink_batch.specs.PlainMap.{pointer_of};
+ghost use Rattle.std.specs.Prelude.{◌≡◌, ◌<◌, ◌+◌, ℕ, List, length, true, false, Option, Some, None, IfOk, OnOk, MatchOption, Ok};
+ghost use Rattle.blink_batch.specs.Operation.{answer_at};
 ghost use Rattle.index_main.specs.LeafWorld.{decided, moved, op_at, opening, worker_at};
-ghost use Rattle.index_main.specs.LeafTurn.{ChangeTurn, GoingTurn, HeldTurn, IdleTurn, LeaveTurn, TakesTurn, WantTurn, next_place};
+ghost use Rattle.index_main.specs.LeafTurn.{ChangeTurn, GoingTurn, HeldTurn, IdleTurn, LeaveTurn, TakesTurn, WantTurn, changes, changes_at, next_place};
 ghost use Rattle.index_main.specs.LeafSound.{IsSound, NobodyMoves, is_busy, steps_left};
 ghost use Rattle.index_main.specs.declared.worker.State.{State};
 
@@ -83,7 +82,7 @@ impl World {
         Some(Kind::ReadPrime)
     }
 
-    // A find answers from the leaf that is read, and an insertion wants the latch.
+    // A find answers from the leaf that is read, and an insertion or a deletion wants the latch.
     fn read(&mut self, op: Op, worker: usize, place: usize) -> Result<Kind, AllocError>
         requires worker { worker < length self.old.workers }
         requires place { place < length self.old.answers }
@@ -95,7 +94,7 @@ impl World {
                 self.decide(place, answer)?;
                 self.put(worker, State::Idle, place + 1);
             }
-            Op::Insert(_, _) => self.put(worker, State::Want, place),
+            Op::Insert(_, _) | Op::Delete(_) => self.put(worker, State::Want, place),
         }
         Ok(Kind::ReadPage)
     }
@@ -113,31 +112,35 @@ impl World {
         Some(Kind::Latch)
     }
 
-    // Under the latch: an insertion whose key is there answers, and another is to change the leaf.
+    // Under the latch: an operation that finds nothing to change answers, and another is to change the leaf.
     fn read_again(&mut self, op: Op, worker: usize, place: usize) -> Result<Kind, AllocError>
         requires worker { worker < length self.old.workers }
         requires place { place < length self.old.answers }
-        ensures { IfOk result (λ kind. HeldTurn op (pointer_of self.old.entries (key_of op)) self.old worker place (Some kind) self.new) }
+        ensures { IfOk result (λ kind. HeldTurn (changes self.old.entries op) op self.old worker place (Some kind) self.new) }
     {
-        match self.leaf.apply(Op::Find(op.key()))? {
-            Answer::Found(pointer) => {
-                self.decide(place, answer_there(op, pointer))?;
+        let kept = match self.leaf.apply(Op::Find(op.key()))? {
+            Answer::Found(pointer) => Some(pointer),
+            _ => None,
+        };
+        match unchanging_answer(op, kept) {
+            Some(answer) => {
+                self.decide(place, answer)?;
                 self.put(worker, State::Leave, place);
             }
-            _ => self.put(worker, State::Change, place),
+            None => self.put(worker, State::Change, place),
         }
         Ok(Kind::ReadPage)
     }
 
-    // Under the latch: the leaf is written with the entry added.
+    // Under the latch: the leaf is written with the entry added or removed.
     fn write(&mut self, op: Op, worker: usize, place: usize) -> Result<Kind, AllocError>
         requires worker { worker < length self.old.workers }
         requires place { place < length self.old.answers }
-        requires absent { pointer_of self.old.entries (key_of op) ≡ None }
+        requires to_change { changes self.old.entries op ≡ true }
         ensures { IfOk result (λ kind. ChangeTurn op self.old worker place (Some kind) self.new) }
     {
-        let added = self.leaf.apply(op)?;
-        self.decide(place, added)?;
+        let written = self.leaf.apply(op)?;
+        self.decide(place, written)?;
         self.put(worker, State::Leave, place);
         Ok(Kind::WritePage)
     }
@@ -187,13 +190,17 @@ impl World {
     }
 }
 
-// The answer of an insertion whose key is there, or of a find.
-fn answer_there(op: Op, pointer: u64) -> Answer
-    ensures { result ≡ answer_at op (Some pointer) }
+// The answer of an operation that changes nothing where the leaf keeps this under its key; none of one that does.
+fn unchanging_answer(op: Op, kept: Option<u64>) -> Option<Answer>
+    ensures { MatchOption result (changes_at op kept ≡ true) (λ answer. (changes_at op kept ≡ false) × (answer ≡ answer_at op kept)) }
 {
-    match op {
-        Op::Find(_) => Answer::Found(pointer),
-        Op::Insert(_, _) => Answer::Exists(pointer),
+    match (op, kept) {
+        (Op::Find(_), Some(pointer)) => Some(Answer::Found(pointer)),
+        (Op::Find(_), None) => Some(Answer::Absent),
+        (Op::Insert(_, _), Some(pointer)) => Some(Answer::Exists(pointer)),
+        (Op::Insert(_, _), None) => None,
+        (Op::Delete(_), Some(_)) => None,
+        (Op::Delete(_), None) => Some(Answer::Absent),
     }
 }
 

@@ -1,7 +1,7 @@
 use Rattle.std.proofs.Common.{refl}
 use Rattle.blink_batch.specs.PlainMap.{IsAscending, entry}
-use Rattle.blink_batch.proofs.SearchLemmas.{kept_at_place, pointer_of-gap, insert-gap}
-use Rattle.blink_batch.proofs.CellLemmas.{IsAscending-added}
+use Rattle.blink_batch.proofs.SearchLemmas.{kept_at_place, pointer_of-gap, insert-gap, remove-place}
+use Rattle.blink_batch.proofs.CellLemmas.{IsAscending-added, IsAscending-removed}
 use Rattle.blink_batch.proofs.plain.Plain.apply.Goals as goal
 
 -- the key is there: the map keeps the pointer that is read
@@ -55,3 +55,40 @@ invariant_of-self-in-Insert-Err c =
     let ascending : IsAscending c.args.self.now = rw c.self.view_is at c.self.invariant in
     rw (c.in_ok-insert-in-Insert-Err.ensures.items, c.self.view_is, insert-gap c.args.self.now new c.in-Insert-Err.at gap)
     (IsAscending-added c.args.self.now c.in-Insert-Err.key c.in-Insert-Err.pointer absent ascending)
+
+-- the entry at the key's place is removed, and its pointer answered
+pub returns-in-Delete-Ok-clause-answer : goal.returns-in-Delete-Ok-clause-answer
+returns-in-Delete-Ok-clause-answer c =
+    let place = rw c.in-Delete-Ok.is-1 at c.place-place.ensures.found in
+    let ascending = rw c.self.view_is at c.self.invariant in
+    let kept = kept_at_place c.args.self.now c.key.result c.in-Delete-Ok.at c.remove.result ascending place (rw c.self.view_is at c.remove.ensures.value) in
+    rw c.in-Delete-Ok.is-0 (rw (rw (c.key.ensures, c.in-Delete-Ok.is-0) at kept) refl)
+
+pub returns-in-Delete-Ok-clause-map : goal.returns-in-Delete-Ok-clause-map
+returns-in-Delete-Ok-clause-map c =
+    let place = rw c.in-Delete-Ok.is-1 at c.place-place.ensures.found in
+    let ascending = rw c.self.view_is at c.self.invariant in
+    let kept = kept_at_place c.args.self.now c.key.result c.in-Delete-Ok.at c.remove.result ascending place (rw c.self.view_is at c.remove.ensures.value) in
+    let gone = remove-place c.args.self.now c.key.result c.in-Delete-Ok.at ascending place in
+    rw (c.remove.ensures.items, c.self.view_is, gone, c.key.ensures, c.in-Delete-Ok.is-0) (rw (rw (c.key.ensures, c.in-Delete-Ok.is-0) at kept) refl)
+
+-- one entry less, so the keys still ascend
+pub invariant_of-self-in-Delete-Ok : goal.invariant_of-self-in-Delete-Ok
+invariant_of-self-in-Delete-Ok c =
+    let place = rw c.in-Delete-Ok.is-1 at c.place-place.ensures.found in
+    let ascending : IsAscending c.args.self.now = rw c.self.view_is at c.self.invariant in
+    rw (c.remove.ensures.items, c.self.view_is, remove-place c.args.self.now c.key.result c.in-Delete-Ok.at ascending place)
+    (IsAscending-removed c.args.self.now c.key.result ascending)
+
+-- there is nothing to remove
+pub returns-in-Delete-Err-clause-answer : goal.returns-in-Delete-Err-clause-answer
+returns-in-Delete-Err-clause-answer c =
+    let gap = rw c.in-Delete-Err.is-1 at c.place-place.ensures.gap in
+    let absent = pointer_of-gap _ _ _ gap in
+    rw c.in-Delete-Err.is-0 (rw (rw (c.key.ensures, c.in-Delete-Err.is-0) at absent) refl)
+
+pub returns-in-Delete-Err-clause-map : goal.returns-in-Delete-Err-clause-map
+returns-in-Delete-Err-clause-map c =
+    let gap = rw c.in-Delete-Err.is-1 at c.place-place.ensures.gap in
+    let absent = pointer_of-gap _ _ _ gap in
+    rw c.in-Delete-Err.is-0 (rw (rw (c.key.ensures, c.in-Delete-Err.is-0) at absent) refl)

@@ -1,0 +1,62 @@
+//! Any assignment of a batch's operations to workers.
+ghost use Rattle.std.specs.Prelude.{◌≡◌, ◌↔◌, IfOk, IfErr, IsOk};
+ghost use Rattle.blink_batch.specs.Cut.{AreLanes, Assignment, IsAssignment, IsLanesFault};
+
+use crate::batch::Batch;
+use crate::cut::{CutError, WORKER_LIMIT};
+use std::marker::Model;
+
+/// Which worker carries out each operation of a batch. Unlike a `Cut`, it may give one key to several workers.
+#[derive(Debug, Drop)]
+pub struct Lanes {
+    workers: u8,
+    lanes: Vec<u8>,
+}
+
+impl Model for Lanes {
+    ghost Value = { Assignment };
+
+    ghost view = { λ l. record { workers = l.workers; lanes = l.lanes.items } };
+
+    ghost invariant = { λ l. AreLanes l.workers l.lanes.items };
+}
+
+impl Lanes {
+    /// The assignment that gives operation i of the batch to worker `lanes[i]`. It takes no memory. A refusal gives
+    /// the lanes up; of several causes the first in the order of the variants is told, and of several bad lanes the
+    /// first.
+    pub fn new(batch: &Batch, workers: u8, lanes: Vec<u8>) -> Result<Lanes, CutError>
+        ensures workers { IfOk result (λ given. given.workers ≡ workers) }
+        ensures lanes { IfOk result (λ given. given.lanes ≡ lanes.items) }
+        ensures taken { IsOk result ↔ IsAssignment batch.now workers lanes.items }
+        ensures refused { IfErr result (IsLanesFault batch.now workers lanes.items) }
+    {
+        if workers == 0 || workers > WORKER_LIMIT {
+            return Err(CutError::BadWorkers);
+        }
+        if lanes.len() != batch.ops().len() {
+            return Err(CutError::WrongLength);
+        }
+        for place in 0..lanes.len() {
+            if lanes[place] >= workers {
+                return Err(CutError::BadLane(place as u32));
+            }
+        }
+        Ok(Lanes { workers, lanes })
+    }
+
+    /// The worker of each operation, in the order of the batch.
+    pub fn lanes(&self) -> &[u8]
+        ensures lanes { result.now ≡ self.now.lanes }
+        ensures workers { AreLanes self.now.workers self.now.lanes }
+    {
+        &self.lanes
+    }
+
+    /// The number of workers, those without an operation included.
+    pub fn workers(&self) -> u8
+        ensures { result ≡ self.now.workers }
+    {
+        self.workers
+    }
+}
