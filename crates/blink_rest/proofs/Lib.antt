@@ -1,0 +1,17 @@
+pub mod NumberLemmas
+pub mod ChainLemmas
+pub mod DifferLemmas
+pub mod LevelLemmas
+pub mod FirstLemmas
+pub mod SameLemmas
+pub mod CountLemmas
+pub mod NamesLemmas
+pub mod ReachLemmas
+pub mod LeafLemmas
+pub mod WholeLemmas
+pub mod ExampleLemmas
+pub mod HeightLemmas
+pub mod LawLemmas
+pub mod WalkLemmas
+pub mod TailLemmas
+pub mod RestLemmas

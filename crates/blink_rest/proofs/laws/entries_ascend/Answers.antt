@@ -1,0 +1,5 @@
+use Rattle.blink_rest.proofs.LawLemmas.{entries_ascend}
+use Rattle.blink_rest.proofs.laws.entries_ascend.Goals as goal
+
+pub returns : goal.returns
+returns c = entries_ascend

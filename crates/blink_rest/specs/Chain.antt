@@ -1,0 +1,32 @@
+-- A chain: the pages of one level, met from its leftmost page along right links.
+use Rattle.std.specs.Prelude.{◌≡◌, ℕ, Option, Some, None, List, [], ◌∷◌, ⊤}
+use Rattle.blink_page.specs.Page.{PlainPage, IsLawfulPage}
+use Rattle.blink_page.specs.declared.limits.TheConstants.{GREATEST_KEY}
+
+-- the pages of a tree by their numbers, of which most have none
+abbrev pub Pages : Type 0
+Pages = ℕ → Option PlainPage
+
+-- a page, and the number that it has
+pub record Cell : Type 0 where
+  pub number : ℕ
+  pub page : PlainPage
+
+-- each of the cells is a page of the tree
+abbrev pub AreAmong : Pages → List Cell → Type 0
+AreAmong pages [] = ⊤
+AreAmong pages (c ∷ cells) = (pages c.number ≡ Some c.page) × AreAmong pages cells
+
+-- lawful pages of one level in line, from a floor and a link to a floor and a link: the link leads to the first, whose
+-- floor is the floor, and its high key and right link are the floor and the link of the rest
+abbrev pub InLine : ℕ → ℕ → Option ℕ → Option ℕ → List Cell → Option ℕ → Option ℕ → Type 0
+InLine fan level floor link [] last_floor last_link = (floor ≡ last_floor) × (link ≡ last_link)
+InLine fan level floor link (c ∷ cells) last_floor last_link =
+    (link ≡ Some c.number) × (c.page.floor ≡ floor) × (c.page.level ≡ level) × IsLawfulPage fan c.page
+    × InLine fan level (Some c.page.high) c.page.right cells last_floor last_link
+
+-- the chain of a level: it begins at the leftmost page, which has no floor, and ends at a page whose high key is the
+-- greatest number, and which has no right link
+pub record IsChain (fan : ℕ) (pages : Pages) (level leftmost : ℕ) (cells : List Cell) : Type 0 where
+  pub pages_there : AreAmong pages cells
+  pub in_line : InLine fan level None (Some leftmost) cells (Some GREATEST_KEY) None

@@ -1,0 +1,32 @@
+//! Laws of the definitions, each on a function that does nothing.
+ghost use Rattle.blink_rest.specs.Laws.{EntriesAscend, EntriesAreOneList, SearchEndsAtLeaf, EachKeyIsReached, AtMostTwentyLevels, ExampleIsAtRest};
+
+/// The keys of a tree stand in its leaves in ascending order, none twice.
+pub fn entries_ascend()
+    ensures { EntriesAscend }
+{}
+
+/// A tree at rest keeps something, and its pages leave no choice what.
+pub fn entries_are_one_list()
+    ensures { EntriesAreOneList }
+{}
+
+/// A search in a tree at rest comes to the leaf that its key belongs to, and to no other.
+pub fn search_ends_at_leaf()
+    ensures { SearchEndsAtLeaf }
+{}
+
+/// A search in a tree at rest finds what the tree keeps.
+pub fn each_key_is_reached()
+    ensures { EachKeyIsReached }
+{}
+
+/// A store has too few page numbers for more levels: each has at least twice as many pages as the one above.
+pub fn at_most_twenty_levels()
+    ensures { AtMostTwentyLevels }
+{}
+
+/// A tree of three pages is at rest, so the definition can be met by more than one leaf.
+pub fn the_example_is_at_rest()
+    ensures { ExampleIsAtRest }
+{}

@@ -1,0 +1,18 @@
+//! What a B-link tree is: chains of pages, levels that name one another, searches, and trees at rest.
+//!
+//! Contracts see a tree at rest as its store, the record `PlainStore`. What is so of every tree stands in `laws`.
+#![tactic(auto)]
+
+mod decide;
+mod laws;
+mod rest;
+#[cfg(test)]
+mod tests;
+mod walk;
+
+pub use decide::at_rest;
+pub use laws::{
+    at_most_twenty_levels, each_key_is_reached, entries_are_one_list, entries_ascend,
+    search_ends_at_leaf, the_example_is_at_rest,
+};
+pub use rest::Rest;

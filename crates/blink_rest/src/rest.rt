@@ -1,0 +1,62 @@
+//! A store whose tree is at rest.
+ghost use Rattle.std.specs.Prelude.{◌≡◌, ◌≤◌, length, IfOk, IsOkUnless};
+ghost use Rattle.blink_page.specs.Limits.{IsFan};
+ghost use Rattle.blink_store.specs.Store.{IsLawfulStore, new_store};
+ghost use Rattle.blink_rest.specs.Rest.{IsStoreAtRest};
+
+use blink_store::{Store, StoreError};
+use std::alloc::Global;
+use std::marker::Model;
+
+/// A tree at rest: no operation is under way, and every split is posted.
+///
+/// Its type keeps this, so that whoever is given one need not look at the pages.
+#[derive(Debug, Drop)]
+pub struct Rest {
+    store: Store,
+}
+
+impl Model for Rest {
+    ghost use Rattle.blink_store.specs.Store.{PlainStore};
+
+    ghost Value = { PlainStore };
+
+    ghost use Rattle.blink_rest.specs.Rest.{IsStoreAtRest};
+
+    ghost view = { λ rest. rest.store };
+
+    ghost invariant = { λ rest. IsStoreAtRest rest.store };
+}
+
+impl Rest {
+    /// A new tree, whose pages will have at most `fan` entries. Its only page is an empty leaf.
+    pub fn empty(alloc: Global, fan: u8) -> Result<Rest, StoreError>
+        requires { IsFan fan }
+        ensures new { IfOk result (λ rest. rest ≡ new_store fan) }
+        ensures refused { IsOkUnless result StoreError.OutOfMemory }
+    {
+        match Store::new(alloc, fan) {
+            Ok(store) => Ok(Rest::of(store)),
+            Err(refusal) => Err(refusal),
+        }
+    }
+
+    /// The tree of a store that is at rest. It takes no memory.
+    pub fn of(store: Store) -> Rest
+        requires { IsStoreAtRest store }
+        ensures { result ≡ store }
+    {
+        Rest { store }
+    }
+
+    /// The store of the tree, to be read.
+    pub fn store(&self) -> &Store
+        ensures store { result.now ≡ self.now }
+        ensures at_rest { IsStoreAtRest self.now }
+        ensures few_levels { length self.now.prime ≤ 20 }
+        ensures lawful { IsLawfulStore self.now }
+    {
+        let _count = self.store.pages();
+        &self.store
+    }
+}
