@@ -8,3 +8,6 @@ pub mod ReadLemmas
 pub mod RecordLemmas
 pub mod RunLemmas
 pub mod SearchLemmas
+pub mod NextPlaceLemmas
+pub mod LaneLemmas
+pub mod SplitLemmas

@@ -1,10 +1,11 @@
--- How the operations of a batch are given to workers: any assignment, and which one is a lawful cut.
+-- How the operations of a batch are given to workers: any assignment, which one is a lawful cut, and why others aren't.
 use Rattle.std.specs.Prelude.{ℕ, ◌≡◌, ◌≢◌, ◌<◌, ◌≤◌, ◌⊎◌, List, length, All, AllPairs, slice_index_or}
 use Rattle.std.specs.List.{zip}
 use Rattle.blink_batch.specs.declared.cut.CutError.{CutError}
-use Rattle.blink_batch.specs.declared.cut.CutError.TheVariants.{BadWorkers, WrongLength, BadLane, OutOfMemory}
+use Rattle.blink_batch.specs.declared.cut.CutError.TheVariants.{BadWorkers, WrongLength, BadLane, SplitKey, OutOfMemory}
 use Rattle.blink_batch.specs.declared.cut.TheConstants.{WORKER_LIMIT}
 use Rattle.blink_batch.specs.declared.operation.Op.{Op}
+use Rattle.blink_batch.specs.declared.operation.Op.TheVariants.{Find}
 use Rattle.blink_batch.specs.Operation.{key_of}
 
 -- the number of workers, and the worker of each operation
@@ -43,4 +44,33 @@ abbrev pub IsLanesFault : List Op → ℕ → List ℕ → CutError → Type 0
 IsLanesFault ops workers lanes BadWorkers = (workers ≡ 0) ⊎ (WORKER_LIMIT < workers)
 IsLanesFault ops workers lanes WrongLength = MayWork workers × (length lanes ≢ length ops)
 IsLanesFault ops workers lanes (BadLane place) = MayWork workers × (length lanes ≡ length ops) × IsFirstBadLane workers lanes place
+IsLanesFault ops workers lanes (SplitKey place) = ⊥
 IsLanesFault ops workers lanes OutOfMemory = ⊥
+
+-- the key of the operation at a place
+abbrev pub key_at : List Op → ℕ → ℕ
+key_at ops place = key_of (slice_index_or ops place (Find 0))
+
+-- an operation before the one at the place is on its key, and in another lane
+pub record SplitsKey (ops : List Op) (lanes : List ℕ) (place earlier : ℕ) : Type 0 where
+  pub before : earlier < place
+  pub same_key : key_at ops earlier ≡ key_at ops place
+  pub other_lane : slice_index_or lanes earlier 0 ≢ slice_index_or lanes place 0
+
+-- the key of the operation at the place had an earlier operation in another lane
+abbrev pub IsSplitKey : List Op → List ℕ → ℕ → Type 0
+IsSplitKey ops lanes place = (earlier : ℕ) × SplitsKey ops lanes place earlier
+
+-- the place has the first such operation
+pub record IsFirstSplitKey (ops : List Op) (lanes : List ℕ) (place : ℕ) : Type 0 where
+  pub in_range : place < length ops
+  pub split : IsSplitKey ops lanes place
+  pub earlier_whole : (other : ℕ) → other < place → ¬ IsSplitKey ops lanes other
+
+-- why lanes are no cut: they are no assignment, or they are one that splits a key
+abbrev pub IsCutFault : List Op → ℕ → List ℕ → CutError → Type 0
+IsCutFault ops workers lanes BadWorkers = IsLanesFault ops workers lanes BadWorkers
+IsCutFault ops workers lanes WrongLength = IsLanesFault ops workers lanes WrongLength
+IsCutFault ops workers lanes (BadLane place) = IsLanesFault ops workers lanes (BadLane place)
+IsCutFault ops workers lanes (SplitKey place) = IsAssignment ops workers lanes × IsFirstSplitKey ops lanes place
+IsCutFault ops workers lanes OutOfMemory = ⊥

@@ -1,5 +1,5 @@
 -- A batch's operations in another order than the batch's, as workers that go on side by side decide them.
-use Rattle.std.specs.Prelude.{ℕ, ◌≡◌, ◌<◌, ◌+◌, ◌==◌, List, [], ◌∷◌, length, filter, Bool, false, Option, Some, None, slice_get, All}
+use Rattle.std.specs.Prelude.{ℕ, ◌≡◌, ◌<◌, ◌+◌, ◌==◌, List, [], ◌∷◌, length, filter, Bool, false, Option, Some, None, slice_get, drop, All}
 use Rattle.std.specs.List.{filter_map, zip}
 use Rattle.blink_batch.specs.declared.entry.Entry.{Entry}
 use Rattle.blink_batch.specs.declared.operation.Op.{Op}
@@ -26,6 +26,10 @@ places_from place (x ∷ xs) = place ∷ places_from (place + 1) xs
 -- a worker's lane: the places of its operations in the batch's order
 abbrev pub lane_of : List ℕ → ℕ → List ℕ
 lane_of lanes worker = part_of lanes worker (places_from 0 lanes)
+
+-- the first place of a worker's lane from one on
+abbrev pub next_place : List ℕ → ℕ → ℕ → Option ℕ
+next_place lanes worker place = slice_get (part_of lanes worker (places_from place (drop place lanes))) 0
 
 -- the answers are those of a run in the given order, each at its operation's place
 abbrev pub AnswersInOrder : List Entry → List Op → List ℕ → List Answer → Type 0

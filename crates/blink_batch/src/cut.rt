@@ -1,12 +1,14 @@
 //! A batch cut among workers.
-ghost use Rattle.std.specs.Prelude.{◌≡◌, ◌<◌, ◌≤◌, ◌%◌, ◌↔◌, ◌⊎◌, ℕ, All, map, IfOk, IsOkUnless, Err};
+ghost use Rattle.std.specs.Prelude.{◌≡◌, ◌<◌, ◌≤◌, ◌%◌, ◌↔◌, ◌⊎◌, EachIndex, length, map, IfErr, IfOk, MatchOption, IsOk, IsOkUnless, IsTrue, Err};
 ghost use Rattle.blink_batch.specs.declared.cut.CutError.TheVariants.{BadWorkers, OutOfMemory};
 ghost use Rattle.blink_batch.specs.declared.cut.TheConstants.{WORKER_LIMIT};
 ghost use Rattle.blink_batch.specs.Operation.{key_of};
 ghost use Rattle.blink_batch.specs.Codes.{code_of_cut_error};
-ghost use Rattle.blink_batch.specs.Cut.{Assignment, IsLawfulCut};
+ghost use Rattle.blink_batch.specs.Cut.{AreLanes, Assignment, IsCutFault, IsFirstSplitKey, IsLawfulCut, IsSplitKey, MayWork};
 
 use crate::batch::Batch;
+use crate::lanes::Lanes;
+use crate::operation::Op;
 use std::alloc::Global;
 use std::marker::Model;
 use thiserror::Error;
@@ -26,6 +28,9 @@ pub enum CutError {
     /// The lane of this operation, counted from 0, is no worker's: it isn't below the number of workers.
     #[error("operation {0}: bad lane")]
     BadLane(u32),
+    /// This operation, counted from 0, is the first whose key had an earlier operation in another lane.
+    #[error("operation {0}: split key")]
+    SplitKey(u32),
     /// Memory for the lanes was refused.
     #[error("out of memory")]
     OutOfMemory,
@@ -40,6 +45,7 @@ impl CutError {
             CutError::BadWorkers => 2,
             CutError::WrongLength => 3,
             CutError::BadLane(_) => 4,
+            CutError::SplitKey(_) => 5,
             CutError::OutOfMemory => 7,
         }
     }
@@ -56,6 +62,8 @@ impl Model for Cut {
     ghost Value = { Assignment };
 
     ghost view = { λ c. record { workers = c.workers; lanes = c.lanes.items } };
+
+    ghost invariant = { λ c. AreLanes c.workers c.lanes.items };
 }
 
 impl Cut {
@@ -80,6 +88,51 @@ impl Cut {
         Ok(Cut { workers, lanes })
     }
 
+    /// The cut that gives operation i of the batch to worker `lanes[i]`. It takes no memory. A refusal gives the lanes
+    /// up: those of [`Lanes::new`] come first and in its order, and then `SplitKey`, which tells the first operation
+    /// whose key had an earlier operation in another lane. Each operation is compared with all earlier ones: at most
+    /// n * (n - 1) / 2 comparisons of keys for n operations.
+    pub fn from_lanes(batch: &Batch, workers: u8, lanes: Vec<u8>) -> Result<Cut, CutError>
+        ensures workers { IfOk result (λ cut. cut.workers ≡ workers) }
+        ensures lanes { IfOk result (λ cut. cut.lanes ≡ lanes.items) }
+        ensures lawful { IfOk result (λ cut. IsLawfulCut batch.now cut.workers cut.lanes) }
+        ensures taken { IsOk result ↔ (MayWork workers × IsLawfulCut batch.now workers lanes.items) }
+        ensures refused { IfErr result (IsCutFault batch.now workers lanes.items) }
+    {
+        let given = match Lanes::new(batch, workers, lanes) {
+            Ok(given) => given,
+            Err(error) => return Err(error),
+        };
+        match first_split_key(batch.ops(), given.lanes()) {
+            Some(place) => Err(CutError::SplitKey(place as u32)),
+            None => Ok(Cut {
+                workers: given.workers,
+                lanes: given.lanes,
+            }),
+        }
+    }
+
+    /// Whether it is a lawful cut of this batch, which need not be the one that it was made for: it has as many lanes
+    /// as the batch has operations, and no key of the batch is in two lanes. It takes no memory, and at most
+    /// n * (n - 1) / 2 comparisons of keys for n operations.
+    pub fn is_for(&self, batch: &Batch) -> bool
+        ensures { IsTrue result ↔ IsLawfulCut batch.now self.now.workers self.now.lanes }
+    {
+        let ops = batch.ops();
+        self.lanes.len() == ops.len() && first_split_key(ops, &self.lanes).is_none()
+    }
+
+    /// The same workers and lanes, for a run that takes any assignment. It takes no memory.
+    pub fn into_lanes(self) -> Lanes
+        ensures workers { result.workers ≡ self.workers }
+        ensures lanes { result.lanes ≡ self.lanes }
+    {
+        Lanes {
+            workers: self.workers,
+            lanes: self.lanes,
+        }
+    }
+
     /// The worker of each operation, in the order of the batch.
     pub fn lanes(&self) -> &[u8]
         ensures { result.now ≡ self.now.lanes }
@@ -93,4 +146,32 @@ impl Cut {
     {
         self.workers
     }
+}
+
+// The first operation whose key had an earlier operation in another lane.
+fn first_split_key(ops: &[Op], lanes: &[u8]) -> Option<usize>
+    requires { length lanes.now ≡ length ops.now }
+    ensures { MatchOption result (EachIndex ops.now (λ place. ¬ IsSplitKey ops.now lanes.now place)) (IsFirstSplitKey ops.now lanes.now) }
+{
+    for place in 0..ops.len() {
+        if is_split_key(ops, lanes, place) {
+            return Some(place);
+        }
+    }
+    None
+}
+
+// Whether the key of the operation at this place had an earlier operation in another lane.
+fn is_split_key(ops: &[Op], lanes: &[u8], place: usize) -> bool
+    requires lengths { length lanes.now ≡ length ops.now }
+    requires place { place < length ops.now }
+    ensures { IsTrue result ↔ IsSplitKey ops.now lanes.now place }
+{
+    let key = ops[place].key();
+    for earlier in 0..place {
+        if ops[earlier].key() == key && lanes[earlier] != lanes[place] {
+            return true;
+        }
+    }
+    false
 }

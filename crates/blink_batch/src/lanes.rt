@@ -9,8 +9,8 @@ use std::marker::Model;
 /// Which worker carries out each operation of a batch. Unlike a `Cut`, it may give one key to several workers.
 #[derive(Debug, Drop)]
 pub struct Lanes {
-    workers: u8,
-    lanes: Vec<u8>,
+    pub(crate) workers: u8,
+    pub(crate) lanes: Vec<u8>,
 }
 
 impl Model for Lanes {

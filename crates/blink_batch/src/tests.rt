@@ -142,10 +142,82 @@ fn lanes_may_split_a_key(rt: HostRuntime) -> Result<(), Fail> {
         (CutError::BadWorkers, 2, "bad number of workers"),
         (CutError::WrongLength, 3, "wrong number of lanes"),
         (CutError::BadLane(1), 4, "operation 1: bad lane"),
+        (CutError::SplitKey(1), 5, "operation 1: split key"),
     ];
     for (error, code, text) in texts {
         assert_eq!(rt; error.code(), code, "{text}");
         assert_eq!(rt; error.to_string(rt.alloc())?.as_str(), text);
+    }
+    Ok(())
+}
+
+#[test]
+fn cuts_from_lanes_split_no_key(rt: HostRuntime) -> Result<(), Fail> {
+    let batch = Batch::new([Op::Insert(5, 50), Op::Find(5)].to_vec(rt.alloc())?)?;
+    let split = [0, 1];
+    let refused = Cut::from_lanes(&batch, 2, split.to_vec(rt.alloc())?).err();
+    assert_eq!(rt; refused, Some(CutError::SplitKey(1)));
+    let taken = Lanes::new(&batch, 2, split.to_vec(rt.alloc())?)?;
+    assert_eq!(rt; taken.lanes(), split.as_slice());
+    let cases = [
+        (2, [0, 2].as_slice(), CutError::BadLane(1)),
+        (2, [0].as_slice(), CutError::WrongLength),
+        (2, [0, 0, 0].as_slice(), CutError::WrongLength),
+        (0, [0].as_slice(), CutError::BadWorkers),
+        (65, [0, 1].as_slice(), CutError::BadWorkers),
+    ];
+    for (workers, lanes, refusal) in cases {
+        let refused = Cut::from_lanes(&batch, workers, lanes.to_vec(rt.alloc())?).err();
+        assert_eq!(rt; refused, Some(refusal), "{workers} {lanes:?}");
+    }
+    let cut = Cut::from_lanes(&batch, 2, [0, 0].to_vec(rt.alloc())?)?;
+    assert_eq!(rt; (cut.workers(), cut.is_for(&batch)), (2, true));
+    let lanes = cut.into_lanes();
+    assert_eq!(rt; lanes.lanes(), [0, 0].as_slice());
+    assert_eq!(rt; lanes.workers(), 2);
+    Ok(())
+}
+
+#[test]
+fn the_first_split_key_is_told(rt: HostRuntime) -> Result<(), Fail> {
+    let ops = [
+        Op::Find(7),
+        Op::Insert(5, 1),
+        Op::Delete(7),
+        Op::Delete(5),
+        Op::Find(7),
+        Op::Insert(7, 2),
+    ];
+    let batch = Batch::new(ops.to_vec(rt.alloc())?)?;
+    let cases = [
+        ([0, 1, 0, 2, 1, 0].as_slice(), 3),
+        ([0, 1, 0, 1, 1, 2].as_slice(), 4),
+        ([0, 1, 0, 1, 0, 63].as_slice(), 5),
+        ([0, 0, 1, 1, 0, 0].as_slice(), 2),
+    ];
+    for (lanes, place) in cases {
+        let refused = Cut::from_lanes(&batch, 64, lanes.to_vec(rt.alloc())?).err();
+        assert_eq!(rt; refused, Some(CutError::SplitKey(place)), "{lanes:?}");
+    }
+    Ok(())
+}
+
+#[test]
+fn cuts_are_for_batches(rt: HostRuntime) -> Result<(), Fail> {
+    let batch = Batch::new([Op::Insert(5, 50), Op::Find(6)].to_vec(rt.alloc())?)?;
+    let cut = Cut::from_lanes(&batch, 2, [0, 1].to_vec(rt.alloc())?)?;
+    let same = Batch::new([Op::Delete(6), Op::Find(5)].to_vec(rt.alloc())?)?;
+    let split = Batch::new([Op::Insert(5, 50), Op::Find(5)].to_vec(rt.alloc())?)?;
+    let short = Batch::new([Op::Insert(5, 50)].to_vec(rt.alloc())?)?;
+    let long = Batch::new([Op::Find(5), Op::Find(6), Op::Find(7)].to_vec(rt.alloc())?)?;
+    for (batch, expected) in [
+        (&batch, true),
+        (&same, true),
+        (&split, false),
+        (&short, false),
+        (&long, false),
+    ] {
+        assert_eq!(rt; cut.is_for(batch), expected, "{batch:?}");
     }
     Ok(())
 }

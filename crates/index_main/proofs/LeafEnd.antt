@@ -7,9 +7,10 @@ use Rattle.blink_batch.specs.Order.{IsWholeOrder, lane_of, part_of, places_from}
 use Rattle.index_main.specs.declared.worker.State.{State}
 use Rattle.index_main.specs.declared.worker.State.TheVariants.{Idle, Going, Want, Held, Change, Leave}
 use Rattle.index_main.specs.LeafSound.{IsSound, IsSoundWorker, NobodyMoves, is_holding}
-use Rattle.index_main.specs.LeafTurn.{GoingTurn, HeldTurn, IdleTurn, TurnFrom, WantTurn, changes, next_place}
+use Rattle.blink_batch.specs.Order.{next_place}
+use Rattle.index_main.specs.LeafTurn.{GoingTurn, HeldTurn, IdleTurn, TurnFrom, WantTurn, changes}
 use Rattle.index_main.specs.LeafWorld.{LeafWorld, op_at, worker_at, worker_with}
-use Rattle.index_main.proofs.LeafParts.{part_of-no_next_place, part_of-nobody}
+use Rattle.blink_batch.proofs.LaneLemmas.{part_of-no_next_place, part_of-nobody}
 
 -- a worker whose turn is passed over is at the end of its lane, or waits for one who holds the latch
 abbrev Rests : List ℕ → LeafWorld → ℕ → State → ℕ → Type 0

@@ -10,11 +10,12 @@ use Rattle.index_main.specs.declared.worker.Kind.TheVariants.{ReadPage}
 use Rattle.index_main.specs.declared.worker.State.{State}
 use Rattle.index_main.specs.declared.worker.State.TheVariants.{Idle, Going, Want, Held, Change, Leave}
 use Rattle.index_main.specs.LeafSound.{IsSound}
-use Rattle.index_main.specs.LeafTurn.{ChangeTurn, GoingTurn, HeldTurn, IdleTurn, LeaveTurn, Takes, TakesTurn, TurnFrom, WantTurn, changes, changes_at, next_place}
+use Rattle.blink_batch.specs.Order.{next_place}
+use Rattle.index_main.specs.LeafTurn.{ChangeTurn, GoingTurn, HeldTurn, IdleTurn, LeaveTurn, Takes, TakesTurn, TurnFrom, WantTurn, changes, changes_at}
 use Rattle.index_main.specs.LeafWorld.{LeafWorld, decided, moved, op_at, worker_at, worker_with}
 use Rattle.index_main.proofs.LeafMoves.{Moves, Stands, its_facts, part_decided-other, part_decided-own, run_before, run_decided, same_holder, sound_from_move}
-use Rattle.index_main.proofs.LeafParts.{part_of-next_place}
-use Rattle.index_main.proofs.LeafPlaces.{next_place_is}
+use Rattle.blink_batch.proofs.LaneLemmas.{part_of-next_place}
+use Rattle.blink_batch.proofs.NextPlaceLemmas.{next_place_is}
 
 -- idle: its part has come to the next place of its lane
 idle_keeps : (ops : List Op) (lanes : List ℕ) (before : LeafWorld) (worker place : ℕ) (turn : Option Kind) (after : LeafWorld) (next : Option ℕ) → Stands ops lanes before worker Idle place → next_place lanes worker place ≡ next → IdleTurn next before worker turn after → IsSound ops lanes after

@@ -19,7 +19,7 @@ use Rattle.index_main.specs.declared.worker.Worker.{Worker}
 use Rattle.index_main.specs.LeafSound.{IsSound, IsSoundWorker, is_holding}
 use Rattle.index_main.specs.LeafTurn.{changes}
 use Rattle.index_main.specs.LeafWorld.{LeafWorld, op_at, worker_at, worker_with}
-use Rattle.index_main.proofs.LeafParts.{fresh_from_part, part_of_first-own}
+use Rattle.blink_batch.proofs.LaneLemmas.{fresh_from_part, part_of_first-own}
 
 -- ---- one worker moves
 

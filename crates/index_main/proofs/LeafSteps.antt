@@ -12,9 +12,10 @@ use Rattle.index_main.specs.declared.worker.State.{State}
 use Rattle.index_main.specs.declared.worker.State.TheVariants.{Idle, Going, Want, Held, Change, Leave}
 use Rattle.index_main.specs.declared.worker.Worker.{Worker}
 use Rattle.index_main.specs.LeafSound.{IsSound, is_busy, steps_left, steps_taken}
-use Rattle.index_main.specs.LeafTurn.{GoingTurn, HeldTurn, IdleTurn, TakesTurn, TurnFrom, WantTurn, changes, next_place}
+use Rattle.blink_batch.specs.Order.{next_place}
+use Rattle.index_main.specs.LeafTurn.{GoingTurn, HeldTurn, IdleTurn, TakesTurn, TurnFrom, WantTurn, changes}
 use Rattle.index_main.specs.LeafWorld.{LeafWorld, op_at, worker_at, worker_with}
-use Rattle.index_main.proofs.LeafPlaces.{next_place_is}
+use Rattle.blink_batch.proofs.NextPlaceLemmas.{next_place_is}
 
 -- ---- an operation's place
 

@@ -2,8 +2,6 @@ pub mod LeafEnd
 pub mod LeafKept
 pub mod LeafMoves
 pub mod LeafOpening
-pub mod LeafParts
-pub mod LeafPlaces
 pub mod LeafSteps
 pub mod LeafRound
 pub mod FaultLemmas

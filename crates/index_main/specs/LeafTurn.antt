@@ -4,7 +4,7 @@ use Rattle.blink_batch.specs.declared.Entry.{Entry}
 use Rattle.blink_batch.specs.declared.Op.{Op}
 use Rattle.blink_batch.specs.declared.Op.TheVariants.{Find, Insert, Delete}
 use Rattle.blink_batch.specs.Operation.{answer_of, key_of, map_after}
-use Rattle.blink_batch.specs.Order.{part_of, places_from}
+use Rattle.blink_batch.specs.Order.{next_place}
 use Rattle.blink_batch.specs.PlainMap.{pointer_of}
 use Rattle.index_main.specs.declared.worker.Kind.{Kind}
 use Rattle.index_main.specs.declared.worker.Kind.TheVariants.{ReadPrime, ReadPage, Latch, WritePage, Unlatch}
@@ -23,10 +23,6 @@ changes_at (Delete key) None = false
 
 abbrev pub changes : List Entry → Op → Bool
 changes map op = changes_at op (pointer_of map (key_of op))
-
--- the first place of a worker's lane from one on
-abbrev pub next_place : List ℕ → ℕ → ℕ → Option ℕ
-next_place lanes worker place = slice_get (part_of lanes worker (places_from place (drop place lanes))) 0
 
 -- this step is taken and leads to this moment; with no step the turn is passed over
 abbrev pub Takes : Option Kind → LeafWorld → Option Kind → LeafWorld → Type 0

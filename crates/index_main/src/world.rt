@@ -2,7 +2,8 @@
 ghost use Rattle.std.specs.Prelude.{◌≡◌, ◌<◌, ◌+◌, ℕ, List, length, true, false, Option, Some, None, IfOk, OnOk, MatchOption, Ok};
 ghost use Rattle.blink_batch.specs.Operation.{answer_at};
 ghost use Rattle.index_main.specs.LeafWorld.{decided, moved, op_at, opening, worker_at};
-ghost use Rattle.index_main.specs.LeafTurn.{ChangeTurn, GoingTurn, HeldTurn, IdleTurn, LeaveTurn, TakesTurn, WantTurn, changes, changes_at, next_place};
+ghost use Rattle.blink_batch.specs.Order.{next_place};
+ghost use Rattle.index_main.specs.LeafTurn.{ChangeTurn, GoingTurn, HeldTurn, IdleTurn, LeaveTurn, TakesTurn, WantTurn, changes, changes_at};
 ghost use Rattle.index_main.specs.LeafSound.{IsSound, NobodyMoves, is_busy, steps_left};
 ghost use Rattle.index_main.specs.declared.worker.State.{State};
 

@@ -1,5 +1,5 @@
 use Rattle.std.proofs.Common.{◌∙◌, sym}
-use Rattle.index_main.proofs.LeafPlaces.{next_place-here, next_place-further}
+use Rattle.blink_batch.proofs.NextPlaceLemmas.{next_place-here, next_place-further}
 use Rattle.index_main.proofs.world.find_next.Goals as goal
 
 -- the first that is the worker's

@@ -1,5 +1,5 @@
 use Rattle.std.proofs.Common.{◌≡◌}
-use Rattle.index_main.specs.LeafTurn.{next_place}
+use Rattle.blink_batch.specs.Order.{next_place}
 use Rattle.index_main.proofs.world.find_next.Given as goal
 
 -- none of the places so far is the worker's

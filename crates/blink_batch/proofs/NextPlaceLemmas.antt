@@ -4,8 +4,7 @@ use Rattle.std.proofs.lemmas.Bool.{cases_eq, cases_lt, eq-eqb, ne_eqb, eqb-true}
 use Rattle.std.proofs.lemmas.List.{drop_all, drop_more}
 use Rattle.std.proofs.lemmas.Option.{slice_get-get_or}
 use Rattle.std.specs.List.{slice_get}
-use Rattle.blink_batch.specs.Order.{is_worker}
-use Rattle.index_main.specs.LeafTurn.{next_place}
+use Rattle.blink_batch.specs.Order.{next_place, is_worker}
 
 -- ---- the scan
 

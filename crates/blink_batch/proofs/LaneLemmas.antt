@@ -5,10 +5,9 @@ use Rattle.std.proofs.lemmas.List.{append-nil, take_all, take_more}
 use Rattle.std.proofs.lemmas.List.Elements.{All-filter, All-from_recursion, All-same, filter-append, recursion_from_All}
 use Rattle.std.proofs.lemmas.Option.{slice_get_within, slice_get_past}
 use Rattle.std.specs.List.{All, AllByRecursion, Contains, slice_get}
-use Rattle.blink_batch.specs.Order.{is_worker, lane_of, part_of, places_from}
+use Rattle.blink_batch.specs.Order.{next_place, is_worker, lane_of, part_of, places_from}
 use Rattle.blink_batch.proofs.PlaceLemmas.{get_or-places_from, length-places_from, part_of-push_own}
-use Rattle.index_main.specs.LeafTurn.{next_place}
-use Rattle.index_main.proofs.LeafPlaces.{is_worker-other, next_place-end, next_place-further, next_place-here}
+use Rattle.blink_batch.proofs.NextPlaceLemmas.{is_worker-other, next_place-end, next_place-further, next_place-here}
 
 -- ---- a worker's part of the beginning of its lane
 

@@ -1,0 +1,7 @@
+use Rattle.std.proofs.Common.{ℕ, ◌<◌}
+use Rattle.blink_batch.specs.Cut.{IsSplitKey}
+use Rattle.blink_batch.proofs.cut.first_split_key.Given as goal
+
+-- no key so far is split
+abbrev pub invariant-loop-place : goal.invariant-loop-place
+invariant-loop-place l = (other : ℕ) → other < l.place → ¬ IsSplitKey l.ops l.lanes other
