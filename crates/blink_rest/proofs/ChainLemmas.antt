@@ -2,12 +2,7 @@
 use Rattle.std.proofs.Common.{◌≡◌, ℕ, ◌<◌, ◌≤◌, Option, Some, List, [], ◌∷◌, ◌++◌, ◌⊎◌, inl, inr, refl, sym, ap, arith}
 use Rattle.blink_page.specs.Rising.{least_above}
 use Rattle.blink_page.specs.Page.{PlainPage, IsLawfulPage}
-use Rattle.blink_rest.specs.Chain.{Pages, Cell, AreAmong, InLine}
-
--- the cell is one of them
-abbrev pub StandsIn : Cell → List Cell → Type 0
-StandsIn c [] = ⊥
-StandsIn c (d ∷ cells) = (c ≡ d) ⊎ StandsIn c cells
+use Rattle.blink_rest.specs.Chain.{Pages, Cell, AreAmong, InLine, StandsIn}
 
 -- a cell that stands in a list parts it
 pub stands_split : (c : Cell) (cells : List Cell) → StandsIn c cells → (before : List Cell) × (after : List Cell) × (cells ≡ before ++ c ∷ after)

@@ -3,11 +3,11 @@ use Rattle.std.proofs.Common.{◌≡◌, ◌≢◌, ℕ, ◌+◌, ◌<◌, Optio
 use Rattle.std.specs.List.{flat_map, AllPairs}
 use Rattle.blink_page.specs.Rising.{least_above}
 use Rattle.blink_page.specs.Page.{PlainPage}
-use Rattle.blink_rest.specs.Chain.{Pages, Cell, AreAmong, InLine, IsChain}
+use Rattle.blink_rest.specs.Chain.{StandsIn, Pages, Cell, AreAmong, InLine, IsChain}
 use Rattle.blink_rest.specs.Level.{numbers_of}
 use Rattle.blink_rest.specs.Rest.{AreChains}
 use Rattle.blink_rest.proofs.NumberLemmas.{IsAmong, Avoids, AllDiffer, Avoids-append, AllDiffer-append, AllPairs-from_differ}
-use Rattle.blink_rest.proofs.ChainLemmas.{StandsIn, stands_there, stands_of}
+use Rattle.blink_rest.proofs.ChainLemmas.{stands_there, stands_of}
 
 -- a number among a level's is that of a page that stands there
 pub standing : (n : ℕ) (cells : List Cell) → IsAmong n (numbers_of cells) → (c : Cell) × (n ≡ c.number) × StandsIn c cells

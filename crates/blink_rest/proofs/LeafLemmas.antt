@@ -7,13 +7,13 @@ use Rattle.blink_page.specs.Entries.{value_at}
 use Rattle.blink_page.specs.Page.{PlainPage, IsKeyOf}
 use Rattle.blink_page.specs.declared.limits.TheConstants.{GREATEST_KEY}
 use Rattle.blink_page.proofs.LookLemmas.{value_at-above}
-use Rattle.blink_rest.specs.Chain.{Pages, Cell, IsChain}
+use Rattle.blink_rest.specs.Chain.{StandsIn, Pages, Cell, IsChain}
 use Rattle.blink_rest.specs.Level.{entries_along, numbers_of}
 use Rattle.blink_rest.specs.Reach.{Reaches, IsRoot, IsLeafOf, EndsAtLeaf}
 use Rattle.blink_rest.specs.Rest.{AreLevels}
 use Rattle.blink_rest.specs.Entries.{AreEntries}
 use Rattle.blink_rest.proofs.NumberLemmas.{among_append, among_from_Contains}
-use Rattle.blink_rest.proofs.ChainLemmas.{StandsIn, stands_there, stands_of}
+use Rattle.blink_rest.proofs.ChainLemmas.{stands_there, stands_of}
 use Rattle.blink_rest.proofs.LevelLemmas.{chain_rising, chain_spans, chain_spans_once, chain_value}
 use Rattle.blink_rest.proofs.SameLemmas.{same_chain}
 use Rattle.blink_rest.proofs.ReachLemmas.{page_standing, level_at_least, lowest_reached, reached_for}

@@ -10,9 +10,9 @@ use Rattle.blink_page.specs.Page.{IsKeyOf}
 use Rattle.blink_page.specs.declared.limits.TheConstants.{GREATEST_KEY}
 use Rattle.blink_page.proofs.RisingLemmas.{IsRising-append, Covers-append}
 use Rattle.blink_page.proofs.LookLemmas.{value_at-append_front, value_at-append_rest}
-use Rattle.blink_rest.specs.Chain.{Pages, Cell, InLine, IsChain}
+use Rattle.blink_rest.specs.Chain.{StandsIn, Pages, Cell, InLine, IsChain}
 use Rattle.blink_rest.specs.Level.{entries_along}
-use Rattle.blink_rest.proofs.ChainLemmas.{StandsIn, stands_of}
+use Rattle.blink_rest.proofs.ChainLemmas.{stands_of}
 
 -- a key below what rises is below each key there
 rising_all_above : (key from : ℕ) (xs : List (ℕ × ℕ)) (to : ℕ) → key < from → IsRising from xs to → AllByRecursion (λ (b : ℕ × ℕ). key < b.0) xs

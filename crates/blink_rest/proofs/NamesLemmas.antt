@@ -7,9 +7,9 @@ use Rattle.blink_page.specs.Entries.{child_for}
 use Rattle.blink_page.specs.Page.{IsKeyOf}
 use Rattle.blink_page.specs.declared.limits.TheConstants.{GREATEST_KEY}
 use Rattle.blink_page.proofs.LookLemmas.{child_for-append_front, child_for-append_rest}
-use Rattle.blink_rest.specs.Chain.{Pages, Cell, InLine, IsChain}
+use Rattle.blink_rest.specs.Chain.{StandsIn, Pages, Cell, InLine, IsChain}
 use Rattle.blink_rest.specs.Level.{entries_along, numbers_of, high_keys, Names}
-use Rattle.blink_rest.proofs.ChainLemmas.{StandsIn, stands_of}
+use Rattle.blink_rest.proofs.ChainLemmas.{stands_of}
 
 -- where a list begins with its child, the next being as it may
 child_cases : (key separator child : ℕ) (rest : List (ℕ × ℕ)) → ((key ≤ separator) × (child_for key ((separator, child) ∷ rest) ≡ Some child)) ⊎ ((separator < key) × (child_for key ((separator, child) ∷ rest) ≡ child_for key rest))

@@ -5,12 +5,12 @@ use Rattle.std.proofs.lemmas.Bool.{cases_lt}
 use Rattle.blink_page.specs.Entries.{child_for}
 use Rattle.blink_page.specs.Page.{PlainPage, IsKeyOf}
 use Rattle.blink_page.specs.declared.limits.TheConstants.{GREATEST_KEY}
-use Rattle.blink_rest.specs.Chain.{Pages, Cell, IsChain}
+use Rattle.blink_rest.specs.Chain.{StandsIn, Pages, Cell, IsChain}
 use Rattle.blink_rest.specs.Level.{numbers_of}
 use Rattle.blink_rest.specs.Reach.{Reaches, at_root, to_right, down, IsRoot}
 use Rattle.blink_rest.specs.Rest.{AreChains, EachNames, TopHasOne, AreLevels}
 use Rattle.blink_rest.proofs.NumberLemmas.{IsAmong, among_append, among_from_Contains}
-use Rattle.blink_rest.proofs.ChainLemmas.{StandsIn, stands_there, stands_of}
+use Rattle.blink_rest.proofs.ChainLemmas.{stands_there, stands_of}
 use Rattle.blink_rest.proofs.DifferLemmas.{standing}
 use Rattle.blink_rest.proofs.LevelLemmas.{chain_spans}
 use Rattle.blink_rest.proofs.NamesLemmas.{chain_child}

@@ -1,11 +1,11 @@
 -- A tree has only one list of levels, and only one list of entries.
 use Rattle.std.proofs.Common.{◌≡◌, ℕ, ◌+◌, Option, Some, None, List, [], ◌∷◌, ◌++◌, refl, sym, subst, ap, ◌∙◌}
 use Rattle.blink_page.specs.Page.{PlainPage}
-use Rattle.blink_rest.specs.Chain.{Pages, Cell, AreAmong, InLine, IsChain}
+use Rattle.blink_rest.specs.Chain.{StandsIn, Pages, Cell, AreAmong, InLine, IsChain}
 use Rattle.blink_rest.specs.Level.{entries_along}
 use Rattle.blink_rest.specs.Rest.{AreChains, AreLevels}
 use Rattle.blink_rest.specs.Entries.{AreEntries}
-use Rattle.blink_rest.proofs.ChainLemmas.{StandsIn, stands_there}
+use Rattle.blink_rest.proofs.ChainLemmas.{stands_there}
 
 -- two cells with the same number and page
 pub same_cell : (c d : Cell) → c.number ≡ d.number → c.page ≡ d.page → c ≡ d

@@ -1,5 +1,5 @@
 -- A chain: the pages of one level, met from its leftmost page along right links.
-use Rattle.std.specs.Prelude.{◌≡◌, ℕ, Option, Some, None, List, [], ◌∷◌, ⊤}
+use Rattle.std.specs.Prelude.{◌≡◌, ℕ, Option, Some, None, List, [], ◌∷◌, ◌⊎◌, ⊤}
 use Rattle.blink_page.specs.Page.{PlainPage, IsLawfulPage}
 use Rattle.blink_page.specs.declared.limits.TheConstants.{GREATEST_KEY}
 
@@ -11,6 +11,11 @@ Pages = ℕ → Option PlainPage
 pub record Cell : Type 0 where
   pub number : ℕ
   pub page : PlainPage
+
+-- the cell is one of them
+abbrev pub StandsIn : Cell → List Cell → Type 0
+StandsIn c [] = ⊥
+StandsIn c (d ∷ cells) = (c ≡ d) ⊎ StandsIn c cells
 
 -- each of the cells is a page of the tree
 abbrev pub AreAmong : Pages → List Cell → Type 0

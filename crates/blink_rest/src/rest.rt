@@ -59,4 +59,11 @@ impl Rest {
         let _count = self.store.pages();
         &self.store
     }
+
+    /// The store of the tree, to be changed.
+    pub fn into_store(self) -> Store
+        ensures { result ≡ self }
+    {
+        self.store
+    }
 }
