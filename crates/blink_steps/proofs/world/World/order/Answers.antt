@@ -1,0 +1,5 @@
+use Rattle.blink_steps.proofs.WorldPromises.{promises}
+use Rattle.blink_steps.proofs.world.World.order.Goals as goal
+
+pub returns-clause-promised : goal.returns-clause-promised
+returns-clause-promised c start of = promises start _ of

@@ -1,0 +1,16 @@
+use Rattle.std.proofs.Common.{◌<◌, ℕ, List, length, get_or, ap, sym, subst, ◌∙◌, arith}
+use Rattle.std.proofs.lemmas.Option.{get_or_from_slice_get}
+use Rattle.blink_steps.specs.World.{PlainWorld}
+use Rattle.blink_steps.proofs.WorldPromises.{counted, shaped}
+use Rattle.blink_steps.proofs.world.World.reads_of.Goals as goal
+
+pub bounds-reads-op : goal.bounds-reads-op
+bounds-reads-op c =
+    let lists = shaped (record { run = c.self.inside.run; schedule = c.self.inside.schedule.items }) c.self.invariant in
+    let within = subst (λ (world : PlainWorld). c.args.op < length world.run.ops) (sym c.self.view_is) c.requires in
+    omega (arith, lists.a_read_count_each, ap (λ (xs : List ℕ). length xs) c.reads.ensures)
+
+pub returns : goal.returns
+returns c start of =
+    ap (λ (xs : List ℕ). get_or xs c.args.op 0) (c.reads.ensures ∙ ap (λ (world : PlainWorld). world.run.reads) c.self.view_is)
+    ∙ get_or_from_slice_get c.args.self.now.run.reads c.args.op _ 0 ((counted start c.args.self.now of).reads c.args.op c.requires)

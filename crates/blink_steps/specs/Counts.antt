@@ -1,0 +1,77 @@
+-- How often the operations of a history took new page numbers, wrote pages and the prime block, read pages, and moved.
+use Rattle.std.specs.Prelude.{ℕ, ◌+◌, ◌*◌, ◌≤◌, ◌==◌, nat_lt, ◌&&◌, Bool, true, false, List, length, count_by}
+use Rattle.std.specs.List.{zip}
+use Rattle.blink_batch.specs.declared.Op.{Op}
+use Rattle.blink_batch.specs.Batch.{is_insert}
+use Rattle.blink_store.specs.Store.{PlainStore}
+use Rattle.blink_steps.specs.declared.machine.State.{State}
+use Rattle.blink_steps.specs.declared.machine.State.TheVariants.{Start, Going, Want, Held, Change, SplitNew, SplitOld, AskPrime, Root, NewPrime, Leave, Posting, Ended}
+use Rattle.blink_steps.specs.declared.step.Kind.{Kind}
+use Rattle.blink_steps.specs.declared.step.Step.{Step}
+use Rattle.blink_steps.specs.declared.step.Step.TheVariants.{Moved, Waited, Idle}
+use Rattle.blink_steps.specs.Kinds.{is_page_read, is_page_write, is_prime_write}
+use Rattle.blink_steps.specs.Run.{PlainRun, Taken}
+
+-- a state whose step writes a new page
+abbrev pub writes_new_page : State → Bool
+writes_new_page Start = false
+writes_new_page (Going page level) = false
+writes_new_page (Want page) = false
+writes_new_page (Held page) = false
+writes_new_page (Change page changed kept) = false
+writes_new_page (SplitNew page before) = true
+writes_new_page (SplitOld page lower debt) = false
+writes_new_page (AskPrime page debt) = false
+writes_new_page (Root page debt prime) = true
+writes_new_page (NewPrime page debt root prime) = false
+writes_new_page (Leave page next) = false
+writes_new_page Posting = false
+writes_new_page Ended = false
+
+-- the turn moved, by a step of this kind
+abbrev pub moved_by : (Kind → Bool) → Step → Bool
+moved_by of_kind (Moved kind) = of_kind kind
+moved_by of_kind Waited = false
+moved_by of_kind Idle = false
+
+abbrev pub has_moved : Step → Bool
+has_moved step = moved_by (λ kind. true) step
+
+-- how many turns of the operation at a place, of such a kind, there are in a history
+abbrev pub turns_of : ℕ → (Taken → Bool) → List Taken → ℕ
+turns_of place of_kind history = count_by (λ (taken : Taken). taken.place == place && of_kind taken) history
+
+abbrev pub takes_number : Taken → Bool
+takes_number taken = has_moved taken.step && writes_new_page taken.before.state
+
+-- how many page numbers the operation at a place has taken
+abbrev pub numbers_in : List Taken → ℕ → ℕ
+numbers_in history place = turns_of place takes_number history
+
+-- how often it has written a page
+abbrev pub page_writes_in : List Taken → ℕ → ℕ
+page_writes_in history place = turns_of place (λ (taken : Taken). moved_by is_page_write taken.step) history
+
+-- how often it has written the prime block
+abbrev pub prime_writes_in : List Taken → ℕ → ℕ
+prime_writes_in history place = turns_of place (λ (taken : Taken). moved_by is_prime_write taken.step) history
+
+-- how many pages it has read, those under latches with them
+abbrev pub page_reads_in : List Taken → ℕ → ℕ
+page_reads_in history place = turns_of place (λ (taken : Taken). moved_by is_page_read taken.step) history
+
+-- how many steps it has taken; waits are not counted
+abbrev pub moves_in : List Taken → ℕ → ℕ
+moves_in history place = turns_of place (λ (taken : Taken). has_moved taken.step) history
+
+-- the insertions that have taken a step
+abbrev pub begun_inserts : List Op → List ℕ → ℕ
+begun_inserts ops moves = count_by (λ (begun : Op × ℕ). is_insert begun.0 && nat_lt 0 begun.1) (zip ops moves)
+
+-- no operation takes more page numbers, or writes more pages or more often the prime block, than this
+pub record IsBounded (start : PlainStore) (history : List Taken) (run : PlainRun) : Type 0 where
+  pub numbers : (place : ℕ) → numbers_in history place ≤ 22
+  pub page_writes : (place : ℕ) → page_writes_in history place ≤ 43
+  pub prime_writes : (place : ℕ) → prime_writes_in history place ≤ 1
+  pub pages : length run.shared.store.pages ≤ length start.pages + 22 * begun_inserts run.ops run.moves
+  pub levels : length run.shared.store.prime ≤ 20

@@ -1,0 +1,47 @@
+-- The kinds of a step, by names that no other enum has.
+use Rattle.std.specs.Prelude.{ℕ, Bool, true, false}
+use Rattle.blink_steps.specs.declared.step.Kind.{Kind}
+use Rattle.blink_steps.specs.declared.step.Kind.TheVariants.{ReadPage, ReadPrime, Latch, Unlatch, WritePage, WritePrime}
+
+abbrev pub read_page : ℕ → Kind
+read_page number = ReadPage number
+
+abbrev pub read_prime : Kind
+read_prime = ReadPrime
+
+abbrev pub latch : ℕ → Kind
+latch number = Latch number
+
+abbrev pub unlatch : ℕ → Kind
+unlatch number = Unlatch number
+
+abbrev pub write_page : ℕ → Kind
+write_page number = WritePage number
+
+abbrev pub write_prime : Kind
+write_prime = WritePrime
+
+-- what a step is about
+abbrev pub is_page_read : Kind → Bool
+is_page_read (ReadPage page) = true
+is_page_read ReadPrime = false
+is_page_read (Latch page) = false
+is_page_read (Unlatch page) = false
+is_page_read (WritePage page) = false
+is_page_read WritePrime = false
+
+abbrev pub is_page_write : Kind → Bool
+is_page_write (ReadPage page) = false
+is_page_write ReadPrime = false
+is_page_write (Latch page) = false
+is_page_write (Unlatch page) = false
+is_page_write (WritePage page) = true
+is_page_write WritePrime = false
+
+abbrev pub is_prime_write : Kind → Bool
+is_prime_write (ReadPage page) = false
+is_prime_write ReadPrime = false
+is_prime_write (Latch page) = false
+is_prime_write (Unlatch page) = false
+is_prime_write (WritePage page) = false
+is_prime_write WritePrime = true

@@ -1,0 +1,48 @@
+-- Which workers are idle, which wait, whose turn is picked, and a run that goes on by picked turns alone.
+use Rattle.std.specs.Prelude.{◌≡◌, ◌≢◌, ℕ, ◌+◌, ◌-◌, ◌*◌, ◌<◌, Option, None, Some, List, ◌++◌, length, map, reverse, slice_get, sum}
+use Rattle.blink_page.specs.declared.limits.TheConstants.{MAX_PAGE}
+use Rattle.blink_steps.specs.declared.step.Step.TheVariants.{Waited}
+use Rattle.blink_steps.specs.Acts.{Acts}
+use Rattle.blink_steps.specs.Machine.{PlainMachine}
+use Rattle.blink_steps.specs.Run.{PlainRun, Taken, Follows, IsNextOf, idle_seat}
+use Rattle.blink_steps.specs.World.{PlainWorld, OnEachTurn}
+
+-- the worker has no operation that is begun and not ended
+pub record IsIdleWorker (run : PlainRun) (worker : ℕ) : Type 0 where
+  pub next : Option ℕ
+  pub seated : slice_get run.seats worker ≡ Some (idle_seat next)
+
+-- the next step of the worker's operation would be a wait
+pub record WouldWait (run : PlainRun) (worker : ℕ) : Type 0 where
+  pub place : ℕ
+  pub m : PlainMachine
+  pub next : Option ℕ
+  pub is_next : IsNextOf run worker place m next
+  pub waits : Acts run.shared worker m Waited m run.shared
+
+-- the worker's next turn would be a step: it neither waits nor has its lane at its end
+pub record WouldMove (run : PlainRun) (worker : ℕ) : Type 0 where
+  pub not_waiting : ¬ WouldWait run worker
+  pub not_at_end : slice_get run.seats worker ≢ Some (idle_seat None)
+
+-- the worker would move, and none of a smaller number would
+pub record IsFirstMover (run : PlainRun) (worker : ℕ) : Type 0 where
+  pub a_worker : worker < run.assignment.workers
+  pub would_move : WouldMove run worker
+  pub none_before : (other : ℕ) → other < worker → ¬ WouldMove run other
+
+-- from one world to another by turns that the schedule tells, each of them the first mover's
+pub record GoesOnPicked (old new : PlainWorld) : Type 0 where
+  -- the last turn first
+  pub turns : List Taken
+  pub follows : Follows old.run turns new.run
+  pub picked : OnEachTurn (λ (before : PlainRun) (taken : Taken) (after : PlainRun). IsFirstMover before taken.worker) old.run turns new.run follows
+  pub told : new.schedule ≡ old.schedule ++ reverse (map (λ (taken : Taken). taken.worker) turns)
+
+-- a run's operations take no more steps than this together, however many pages there are
+abbrev pub steps_at_most : PlainRun → ℕ
+steps_at_most run = length run.ops * (4 * MAX_PAGE + 90)
+
+-- so no more than these are left
+abbrev pub steps_left : PlainRun → ℕ
+steps_left run = steps_at_most run - sum run.moves

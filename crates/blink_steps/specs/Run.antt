@@ -1,0 +1,122 @@
+-- A batch's run over a tree, as plain data: the tree, the workers, and what is decided; and one turn of a worker.
+use Rattle.std.specs.Prelude.{◌≡◌, ℕ, ◌+◌, ◌<◌, if◌then◌else◌, Option, Some, None, List, [], ◌∷◌, ◌++◌, length, replicate, slice_get, slice_set}
+use Rattle.blink_batch.specs.declared.Answer.{Answer}
+use Rattle.blink_batch.specs.declared.Op.{Op}
+use Rattle.blink_batch.specs.Cut.{Assignment}
+use Rattle.blink_batch.specs.Order.{next_place}
+use Rattle.blink_store.specs.Latches.{holder_of}
+use Rattle.blink_store.specs.Store.{PlainStore, page_of}
+use Rattle.blink_steps.specs.declared.seat.Seat.{Seat}
+use Rattle.blink_steps.specs.declared.seat.Working.{Working}
+use Rattle.blink_steps.specs.declared.step.Kind.{Kind}
+use Rattle.blink_steps.specs.declared.step.Step.{Step}
+use Rattle.blink_steps.specs.declared.step.Step.TheVariants.{Moved, Waited, Idle}
+use Rattle.blink_steps.specs.Acts.{PlainShared, Acts}
+use Rattle.blink_steps.specs.Kinds.{is_page_read}
+use Rattle.blink_steps.specs.Ledger.{decides_now, one_more_at}
+use Rattle.blink_steps.specs.Machine.{PlainMachine, fresh}
+use Rattle.blink_steps.specs.Moment.{Moment, goes_on}
+
+pub record PlainRun : Type 0 where
+  pub shared : PlainShared
+  pub ops : List Op
+  pub assignment : Assignment
+  -- a seat for each worker
+  pub seats : List Seat
+  -- the answer at each operation's place, once it is decided
+  pub answers : List (Option Answer)
+  -- the places of the operations in the order of their deciding steps
+  pub order : List ℕ
+  -- of each operation, how many pages it has read, and how many steps it has taken
+  pub reads : List ℕ
+  pub moves : List ℕ
+
+-- a worker without an operation, and the place of its next one
+abbrev pub idle_seat : Option ℕ → Seat
+idle_seat next = record { working = None; next = next }
+
+-- a worker with an operation of this place, and the place of its next one
+abbrev pub busy_seat : ℕ → PlainMachine → Option ℕ → Seat
+busy_seat place m next = record { working = Some (record { place = place; machine = m }); next = next }
+
+-- the operation that a worker has under way
+abbrev pub machine_in : Option Working → Option PlainMachine
+machine_in None = None
+machine_in (Some working) = Some working.machine
+
+abbrev pub machine_of_seat : Option Seat → Option PlainMachine
+machine_of_seat None = None
+machine_of_seat (Some seat) = machine_in seat.working
+
+-- the moment of a run: what a step of the tree is about
+abbrev pub moment_with : PlainShared → (ℕ → Option PlainMachine) → Moment
+moment_with shared machines = record {
+  fan = shared.store.fan;
+  prime = shared.store.prime;
+  pages = page_of shared.store;
+  holder = holder_of shared.latches;
+  machines = machines;
+}
+
+abbrev pub moment_of : PlainRun → Moment
+moment_of run = moment_with run.shared (λ worker. machine_of_seat (slice_get run.seats worker))
+
+-- the seat of a worker after a step of its operation: with the operation, or, where that has ended, without
+abbrev pub seat_after : Option PlainMachine → ℕ → Option ℕ → Seat
+seat_after None place next = idle_seat next
+seat_after (Some m) place next = busy_seat place m next
+
+-- the run after a step of this kind of the operation at a place, which was `m` and is `after`
+abbrev pub after_move : PlainRun → ℕ → ℕ → Option ℕ → PlainMachine → Kind → PlainMachine → PlainShared → PlainRun
+after_move old worker place next m kind after shared = record old {
+  shared = shared;
+  seats = slice_set old.seats worker (seat_after (goes_on after after.state) place next);
+  answers = slice_set old.answers place after.answer;
+  order = if decides_now m.answer after.answer then old.order ++ place ∷ [] else old.order;
+  reads = if is_page_read kind then one_more_at old.reads place else old.reads;
+  moves = one_more_at old.moves place;
+}
+
+-- the operation of a worker's step: the one under way, or, where it is idle, the next of its lane, which has taken no step;
+-- and the place of the one after it
+pub data IsNextOf (run : PlainRun) (worker place : ℕ) (m : PlainMachine) (next : Option ℕ) : Type 0 where
+  under_way : slice_get run.seats worker ≡ Some (busy_seat place m next) → IsNextOf run worker place m next
+  taken_on : (op : Op) → slice_get run.seats worker ≡ Some (idle_seat (Some place)) → slice_get run.ops place ≡ Some op
+      → m ≡ fresh run.shared.store.fan op → next ≡ next_place run.assignment.lanes worker (place + 1) → IsNextOf run worker place m next
+
+-- one turn of a worker: what became of it, and, where it took a step, the place of the operation, and the operation before
+-- and after
+pub record Taken : Type 0 where
+  pub worker : ℕ
+  pub step : Step
+  pub place : ℕ
+  pub before : PlainMachine
+  pub after : PlainMachine
+
+-- a turn is taken: the worker's operation moves; or it waits, and nothing changes; or the lane is at its end, and nothing
+-- changes
+pub data TakesTurn (old : PlainRun) (taken : Taken) (new : PlainRun) : Type 0 where
+  moves : (next : Option ℕ) (kind : Kind) → IsNextOf old taken.worker taken.place taken.before next → taken.step ≡ Moved kind
+      → Acts old.shared taken.worker taken.before (Moved kind) taken.after new.shared
+      → new ≡ after_move old taken.worker taken.place next taken.before kind taken.after new.shared → TakesTurn old taken new
+  waits : (next : Option ℕ) → IsNextOf old taken.worker taken.place taken.before next → taken.step ≡ Waited
+      → Acts old.shared taken.worker taken.before Waited taken.after old.shared → new ≡ old → TakesTurn old taken new
+  idles : slice_get old.seats taken.worker ≡ Some (idle_seat None) → taken.step ≡ Idle → new ≡ old → TakesTurn old taken new
+
+-- turns taken one after another, the last first, lead from one moment of a run to another
+abbrev pub Follows : PlainRun → List Taken → PlainRun → Type 0
+Follows start [] run = run ≡ start
+Follows start (taken ∷ history) run = (before : PlainRun) × Follows start history before × TakesTurn before taken run
+
+-- the first moment of a run: no latch is held, every worker is idle, and nothing is decided
+pub record IsOpeningRun (start : PlainStore) (ops : List Op) (assignment : Assignment) (run : PlainRun) : Type 0 where
+  pub same_store : run.shared.store ≡ start
+  pub no_latch : (page : ℕ) → holder_of run.shared.latches page ≡ None
+  pub same_ops : run.ops ≡ ops
+  pub same_assignment : run.assignment ≡ assignment
+  pub a_seat_each : length run.seats ≡ assignment.workers
+  pub all_idle : (worker : ℕ) → worker < assignment.workers → slice_get run.seats worker ≡ Some (idle_seat (next_place assignment.lanes worker 0))
+  pub none_answered : run.answers ≡ replicate (length ops) None
+  pub none_decided : run.order ≡ []
+  pub none_read : run.reads ≡ replicate (length ops) 0
+  pub none_moved : run.moves ≡ replicate (length ops) 0

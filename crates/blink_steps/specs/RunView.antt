@@ -1,0 +1,26 @@
+-- What a contract sees of a `Run`, and what its links keep.
+use Rattle.std.specs.Prelude.{◌≡◌, length}
+use Rattle.blink_steps.specs.declared.run.Run.TheInside.{Inside}
+use Rattle.blink_steps.specs.Links.{AreLinks}
+use Rattle.blink_steps.specs.Run.{PlainRun}
+use Rattle.blink_steps.specs.Seats.{AreOfLanes}
+
+-- the run as plain data
+abbrev pub plain : Inside → PlainRun
+plain run = record {
+  shared = run.shared;
+  ops = run.batch;
+  assignment = run.lanes;
+  seats = run.seats.items;
+  answers = run.ledger.answers;
+  order = run.ledger.order;
+  reads = run.ledger.reads;
+  moves = run.ledger.moves;
+}
+
+-- each place has its link, to the next of its lane
+pub record IsLinked (run : Inside) : Type 0 where
+  pub a_lane_each : length run.lanes.lanes ≡ length run.batch
+  pub a_link_each : length run.following.items ≡ length run.lanes.lanes
+  pub links : AreLinks run.lanes.lanes run.following.items 0
+  pub of_lanes : AreOfLanes run.lanes.lanes run.seats.items

@@ -1,0 +1,105 @@
+-- What is so at every moment of a run.
+use Rattle.std.specs.Prelude.{◌≡◌, ◌≢◌, ℕ, ◌+◌, ◌<◌, Bool, true, false, Option, Some, None, List, length, map, All, Contains, count_by, slice_get, slice_index_or, take, ◌^◌}
+use Rattle.std.specs.List.{zip}
+use Rattle.blink_batch.specs.declared.Answer.{Answer}
+use Rattle.blink_batch.specs.declared.Entry.{Entry}
+use Rattle.blink_batch.specs.declared.Op.{Op}
+use Rattle.blink_batch.specs.Batch.{FitsWords}
+use Rattle.blink_batch.specs.Cut.{AreLanes}
+use Rattle.blink_batch.specs.Operation.{answers, map_after_all}
+use Rattle.blink_batch.specs.Order.{operations_at, part_of, places_from, next_place}
+use Rattle.blink_batch.specs.PlainMap.{IsAscending}
+use Rattle.blink_rest.specs.Entries.{AreEntries}
+use Rattle.blink_store.specs.Store.{IsLawfulStore}
+use Rattle.blink_steps.specs.declared.machine.State.TheVariants.{Ended}
+use Rattle.blink_steps.specs.declared.seat.Seat.{Seat}
+use Rattle.blink_steps.specs.declared.seat.Working.{Working}
+use Rattle.blink_steps.specs.Acts.{IsReady}
+use Rattle.blink_steps.specs.Machine.{PlainMachine}
+use Rattle.blink_steps.specs.Moment.{Moment}
+use Rattle.blink_steps.specs.Run.{PlainRun, IsNextOf, idle_seat, moment_of}
+use Rattle.blink_steps.specs.Sound.{IsSound}
+
+-- the entries of a plain map as a tree keeps them
+abbrev pub pairs_of : List Entry → List (ℕ × ℕ)
+pairs_of entries = map (λ (e : Entry). (e.key, e.pointer)) entries
+
+-- the tree keeps the entries of this map
+abbrev pub Keeps : Moment → List Entry → Type 0
+Keeps moment entries = AreEntries moment.fan moment.prime moment.pages (pairs_of entries)
+
+-- the answers so far are those of a run in the given order on a map, each at its operation's place
+abbrev pub AnswersSoFar : List Entry → List Op → List ℕ → List (Option Answer) → Type 0
+AnswersSoFar entries ops order given = All (λ decided. slice_get given decided.0 ≡ Some (Some decided.1)) (zip order (answers entries (operations_at ops order)))
+
+abbrev pub is_answered : Option Answer → Bool
+is_answered None = false
+is_answered (Some answer) = true
+
+-- of the operations up to a worker's own, those before it are decided, and it is where it has its answer
+abbrev pub decided_below : ℕ → Option Answer → ℕ
+decided_below place None = place
+decided_below place (Some answer) = place + 1
+
+-- a worker's part of the order is its lane up to a place
+abbrev pub HasDecided : PlainRun → ℕ → ℕ → Type 0
+HasDecided run worker place = part_of run.assignment.lanes worker run.order ≡ part_of run.assignment.lanes worker (take place (places_from 0 run.assignment.lanes))
+
+-- a worker with an operation of its lane, which hasn't ended
+pub record IsBusy (run : PlainRun) (worker : ℕ) (working : Working) (next : Option ℕ) : Type 0 where
+  pub own : slice_get run.assignment.lanes working.place ≡ Some worker
+  pub goes_on : working.machine.state ≢ Ended
+  pub same_op : slice_get run.ops working.place ≡ Some working.machine.op
+  pub same_answer : slice_get run.answers working.place ≡ Some working.machine.answer
+  pub next_of_lane : next ≡ next_place run.assignment.lanes worker (working.place + 1)
+  pub decided : HasDecided run worker (decided_below working.place working.machine.answer)
+
+-- an idle worker, who has decided its lane up to the next place
+pub record IsIdle (run : PlainRun) (worker : ℕ) (next : Option ℕ) : Type 0 where
+  pub from : ℕ
+  pub next_of_lane : next ≡ next_place run.assignment.lanes worker from
+  pub decided : HasDecided run worker from
+
+abbrev pub IsSoundSeat : PlainRun → ℕ → Option Working → Option ℕ → Type 0
+IsSoundSeat run worker None next = IsIdle run worker next
+IsSoundSeat run worker (Some working) next = IsBusy run worker working next
+
+-- the lists of a run have their lengths, and its operations and lanes are those of a batch
+pub record IsShaped (run : PlainRun) : Type 0 where
+  pub lawful_store : IsLawfulStore run.shared.store
+  pub words : All FitsWords run.ops
+  pub lanes : AreLanes run.assignment.workers run.assignment.lanes
+  pub a_lane_each : length run.assignment.lanes ≡ length run.ops
+  pub a_seat_each : length run.seats ≡ run.assignment.workers
+  pub an_answer_each : length run.answers ≡ length run.ops
+  pub a_read_count_each : length run.reads ≡ length run.ops
+  pub a_move_count_each : length run.moves ≡ length run.ops
+
+-- what is decided is the run of the operations on the entries at the start, in the order of their deciding steps
+pub record IsDecided (entries : List Entry) (run : PlainRun) : Type 0 where
+  pub places_of_batch : All (λ place. place < length run.ops) run.order
+  pub answered : AnswersSoFar entries run.ops run.order run.answers
+  pub undecided : (place : ℕ) → place < length run.ops → ¬ Contains run.order place → slice_get run.answers place ≡ Some None
+  pub room : count_by is_answered run.answers ≡ length run.order
+  pub kept : Keeps (moment_of run) (map_after_all entries (operations_at run.ops run.order))
+
+pub record IsSoundRun (entries : List Entry) (run : PlainRun) : Type 0 where
+  pub sound : IsSound (moment_of run)
+  pub shaped : IsShaped run
+  pub ascending : IsAscending entries
+  pub decided : IsDecided entries run
+  pub seats : (worker : ℕ) (seat : Seat) → slice_get run.seats worker ≡ Some seat → IsSoundSeat run worker seat.working seat.next
+
+-- a worker's turn can be taken
+abbrev pub IsReadyForTurn : PlainRun → ℕ → Type 0
+IsReadyForTurn run worker = (place : ℕ) (m : PlainMachine) (next : Option ℕ) → IsNextOf run worker place m next → IsReady run.shared worker m
+
+-- what a worker's turn finds: a seat, a place of the batch, a step that can be taken, and room to note it
+pub record IsTurnReady (run : PlainRun) (worker : ℕ) : Type 0 where
+  pub seated : worker < length run.seats
+  pub next_of_batch : (place : ℕ) → slice_get run.seats worker ≡ Some (idle_seat (Some place)) → place < length run.ops
+  pub step_ready : IsReadyForTurn run worker
+  pub place_of_batch : (place : ℕ) (m : PlainMachine) (next : Option ℕ) → IsNextOf run worker place m next → place < length run.answers
+  pub room : (place : ℕ) (m : PlainMachine) (next : Option ℕ) → IsNextOf run worker place m next → m.answer ≡ None → length run.order < length run.answers
+  pub countable : (place : ℕ) (m : PlainMachine) (next : Option ℕ) → IsNextOf run worker place m next
+      → (slice_index_or run.reads place 0 + 1 < 2 ^ 64) × (slice_index_or run.moves place 0 + 1 < 2 ^ 64)

@@ -1,0 +1,107 @@
+-- A world: a run with its schedule, and the world that a schedule leads to.
+use Rattle.std.specs.Prelude.{◌≡◌, ℕ, ◌+◌, ◌*◌, ◌<◌, ◌≤◌, ◌⊎◌, Some, None, List, [], ◌∷◌, ◌++◌, length, map, reverse, All, count_by, slice_get, ⊤}
+use Rattle.blink_batch.specs.declared.Op.{Op}
+use Rattle.blink_batch.specs.Batch.{FitsWords, is_insert}
+use Rattle.blink_batch.specs.Cut.{Assignment, AreLanes}
+use Rattle.blink_page.specs.declared.limits.TheConstants.{MAX_PAGE}
+use Rattle.blink_rest.specs.Rest.{IsStoreAtRest}
+use Rattle.blink_store.specs.Latches.{holder_of}
+use Rattle.blink_store.specs.Store.{PlainStore, IsLawfulStore, page_of}
+use Rattle.blink_steps.specs.declared.error.StepError.{StepError}
+use Rattle.blink_steps.specs.declared.error.StepError.TheVariants.{OutOfMemory, NoWorker, TooLarge}
+use Rattle.blink_steps.specs.declared.step.Step.{Step}
+use Rattle.blink_steps.specs.declared.step.Step.TheVariants.{Moved}
+use Rattle.blink_steps.specs.Kinds.{write_page}
+use Rattle.blink_steps.specs.Run.{PlainRun, Taken, TakesTurn, Follows, IsOpeningRun, idle_seat}
+
+-- a tree at rest, and a batch with lanes, that a run may begin with
+pub record MayBegin (start : PlainStore) (ops : List Op) (assignment : Assignment) : Type 0 where
+  pub lawful_store : IsLawfulStore start
+  pub at_rest : IsStoreAtRest start
+  pub words : All FitsWords ops
+  pub lanes : AreLanes assignment.workers assignment.lanes
+  pub a_lane_each : length assignment.lanes ≡ length ops
+  pub numbers_suffice : length start.pages + 22 * count_by is_insert ops ≤ MAX_PAGE
+
+-- the schedule is the worker of each turn so far
+pub record PlainWorld : Type 0 where
+  pub run : PlainRun
+  pub schedule : List ℕ
+
+-- the world of a schedule: from the first moment over this tree, one turn for each number of the schedule
+pub record IsWorldOf (start : PlainStore) (world : PlainWorld) : Type 0 where
+  pub may_begin : MayBegin start world.run.ops world.run.assignment
+  pub opening : PlainRun
+  pub is_opening : IsOpeningRun start world.run.ops world.run.assignment opening
+  -- the last turn first
+  pub history : List Taken
+  pub follows : Follows opening history world.run
+  pub same_schedule : world.schedule ≡ reverse (map (λ (taken : Taken). taken.worker) history)
+
+-- it is that of some start
+abbrev pub IsWorld : PlainWorld → Type 0
+IsWorld world = (start : PlainStore) × IsWorldOf start world
+
+-- a world before its first turn
+pub record IsStart (start : PlainStore) (ops : List Op) (assignment : Assignment) (world : PlainWorld) : Type 0 where
+  pub is_world : IsWorldOf start world
+  pub same_ops : world.run.ops ≡ ops
+  pub same_assignment : world.run.assignment ≡ assignment
+  pub same_schedule : world.schedule ≡ []
+
+-- the world of this schedule
+pub record IsReplay (start : PlainStore) (ops : List Op) (assignment : Assignment) (schedule : List ℕ) (world : PlainWorld) : Type 0 where
+  pub is_world : IsWorldOf start world
+  pub same_ops : world.run.ops ≡ ops
+  pub same_assignment : world.run.assignment ≡ assignment
+  pub same_schedule : world.schedule ≡ schedule
+
+-- one turn of a worker, which the schedule tells afterwards
+pub record TakesStep (old : PlainWorld) (worker : ℕ) (step : Step) (new : PlainWorld) : Type 0 where
+  pub taken : Taken
+  pub same_worker : taken.worker ≡ worker
+  pub same_step : taken.step ≡ step
+  pub turn : TakesTurn old.run taken new.run
+  pub told : new.schedule ≡ old.schedule ++ worker ∷ []
+
+-- only the schedule is another
+abbrev pub with_turn : PlainWorld → ℕ → PlainWorld
+with_turn world worker = record world { schedule = world.schedule ++ worker ∷ [] }
+
+-- a run can't begin where its insertions might need more page numbers than there are, the prime block's with them
+abbrev pub IsTooLarge : PlainStore → List Op → Type 0
+IsTooLarge start ops = MAX_PAGE + 1 < 1 + length start.pages + 22 * count_by is_insert ops
+
+-- the first number of a schedule that is no worker's
+pub record IsFirstStranger (workers : ℕ) (schedule : List ℕ) (stranger : ℕ) : Type 0 where
+  pub front : List ℕ
+  pub rest : List ℕ
+  pub parts : schedule ≡ front ++ stranger ∷ rest
+  pub no_worker : workers ≤ stranger
+  pub workers_before : All (λ worker. worker < workers) front
+
+-- every operation has ended: each worker is idle, with its lane at its end
+abbrev pub HasEnded : PlainRun → Type 0
+HasEnded run = (worker : ℕ) → worker < run.assignment.workers → slice_get run.seats worker ≡ Some (idle_seat None)
+
+-- what is so of each turn of a history
+abbrev pub OnEachTurn : (PlainRun → Taken → PlainRun → Type 0) → (start : PlainRun) (history : List Taken) (run : PlainRun) → Follows start history run → Type 0
+OnEachTurn fact start [] run follows = ⊤
+OnEachTurn fact start (taken ∷ history) run follows = fact follows.0 taken run × OnEachTurn fact start history follows.0 follows.1
+
+-- a page is written only by the worker that holds its latch, or at a number that no page has
+abbrev pub WritesItsOwn : PlainRun → Taken → PlainRun → Type 0
+WritesItsOwn before taken after = (number : ℕ) → taken.step ≡ Moved (write_page number)
+    → (holder_of before.shared.latches number ≡ Some taken.worker) ⊎ (page_of before.shared.store number ≡ None)
+
+-- why a schedule isn't replayed: memory; its first number that is no worker's; or a batch that is too large
+abbrev pub IsReplayRefusal : PlainStore → List Op → ℕ → List ℕ → StepError → Type 0
+IsReplayRefusal start ops workers schedule OutOfMemory = ⊤
+IsReplayRefusal start ops workers schedule (NoWorker stranger) = IsFirstStranger workers schedule stranger
+IsReplayRefusal start ops workers schedule TooLarge = IsTooLarge start ops
+
+-- why a step isn't taken: memory, or no such worker
+abbrev pub IsStepRefusal : ℕ → ℕ → StepError → Type 0
+IsStepRefusal workers worker OutOfMemory = ⊤
+IsStepRefusal workers worker (NoWorker stranger) = (stranger ≡ worker) × (workers ≤ worker)
+IsStepRefusal workers worker TooLarge = ⊥

@@ -1,0 +1,32 @@
+//! Why a run is refused.
+ghost use Rattle.std.specs.Prelude.{◌≡◌};
+ghost use Rattle.blink_steps.specs.Codes.{code_of};
+
+use thiserror::Error;
+
+/// Why a run can't begin or can't go on.
+#[derive(Clone, Copy, Debug, PartialEq, Eq, Error)]
+pub enum StepError {
+    /// Memory was refused.
+    #[error("out of memory")]
+    OutOfMemory,
+    /// There is no worker of this number: it isn't below the number of workers.
+    #[error("no worker {0}")]
+    NoWorker(u8),
+    /// The batch's insertions might need more page numbers than there are.
+    #[error("too large")]
+    TooLarge,
+}
+
+impl StepError {
+    /// The number of the refusal, the same in every release.
+    pub fn code(&self) -> u8
+        ensures { result ≡ code_of self.now }
+    {
+        match self {
+            StepError::OutOfMemory => 30,
+            StepError::NoWorker(_) => 31,
+            StepError::TooLarge => 32,
+        }
+    }
+}

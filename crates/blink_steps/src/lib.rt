@@ -1,0 +1,20 @@
+//! The step machine of a B-link tree: what one operation does to pages, one atomic step at a time, and a batch's run over a
+//! tree, under any schedule of its workers' steps.
+#![tactic(auto)]
+
+mod error;
+mod ledger;
+mod links;
+mod machine;
+mod remembered;
+mod run;
+mod seat;
+mod shared;
+mod step;
+#[cfg(test)]
+mod tests;
+mod world;
+
+pub use error::StepError;
+pub use step::{Kind, Step};
+pub use world::{NUMBERS_OF_INSERTION, World, replay};

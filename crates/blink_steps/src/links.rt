@@ -1,0 +1,30 @@
+//! Lanes as links, so that a worker finds its next operation without a search.
+ghost use Rattle.std.specs.Prelude.{◌≡◌, ◌<◌, ◌≤◌, length, All, IfOk};
+ghost use Rattle.blink_steps.specs.Links.{AreFirsts, AreLinks};
+
+use blink_batch::WORKER_LIMIT;
+use std::alloc::{AllocError, Global};
+
+/// The most workers of a run.
+pub(crate) const SEATS: usize = WORKER_LIMIT as usize;
+
+/// For each place the next one of its lane, and for each worker the first one of its own.
+pub(crate) fn links(
+    alloc: Global,
+    lanes: &[u8],
+) -> Result<(Vec<Option<u32>>, [Option<u32>; SEATS]), AllocError>
+    requires workers { All (λ lane. lane < SEATS) lanes.now }
+    requires places { length lanes.now ≤ u32.MAX }
+    ensures as_many { IfOk result (λ made. length made.0.items ≡ length lanes.now) }
+    ensures following { IfOk result (λ made. AreLinks lanes.now made.0.items 0) }
+    ensures firsts { IfOk result (λ made. AreFirsts lanes.now made.1 0) }
+{
+    let mut following = vec![in alloc; None; lanes.len()]?;
+    let mut firsts = [None; SEATS];
+    for place in (0..lanes.len()).rev() {
+        let lane = usize::from(lanes[place]);
+        following[place] = firsts[lane];
+        firsts[lane] = Some(place as u32);
+    }
+    Ok((following, firsts))
+}

@@ -1,0 +1,200 @@
+//! One operation on its way through a tree, over any pages: the state that it is in, and what it needs next.
+
+ghost use Rattle.std.specs.Prelude.{◌≡◌, ◌↔◌, IsTrue};
+ghost use Rattle.blink_batch.specs.Operation.{answer_at};
+ghost use Rattle.blink_page.specs.Limits.{IsFan};
+ghost use Rattle.blink_steps.specs.Machine.{fresh, need_at, target, value_of_job, answered};
+ghost use Rattle.blink_steps.specs.Kept.{KeptAt};
+
+mod done;
+mod see;
+mod write;
+
+use crate::remembered::Remembered;
+use blink_batch::{Answer, Op};
+use blink_page::{Page, Prime};
+use std::marker::Model;
+
+/// What a split owes: the separator of two pages of a level, and the number of the new one. It is to be posted to the
+/// level above.
+#[derive(Clone, Copy, Debug, PartialEq, Eq)]
+pub(crate) struct Debt {
+    pub level: u8,
+    pub separator: u64,
+    pub page: u32,
+}
+
+/// What an operation is about: its own key, on a leaf, or what a split below owes, on the level above it.
+#[derive(Clone, Copy, Debug, PartialEq, Eq)]
+pub(crate) enum Job {
+    Leaf,
+    Parent(Debt),
+}
+
+/// Where an operation goes from a page whose latch it lets go.
+#[derive(Clone, Copy, Debug, PartialEq, Eq)]
+pub(crate) enum Next {
+    Finish,
+    MoveRight(u32),
+    Post(Debt),
+}
+
+/// Where an operation is.
+#[derive(Debug, Drop)]
+pub(crate) enum State {
+    /// Before the prime block read that begins it.
+    Start,
+    /// On its way down: the page that it reads next, and that page's level.
+    Going(u32, u8),
+    /// It wants the page's latch.
+    Want(u32),
+    /// It has the page's latch and reads the page again.
+    Held(u32),
+    /// It writes the page with its change. The last part is what a leaf keeps under the key before.
+    Change(u32, Page, Option<u64>),
+    /// It writes the upper half of the page, which it has read, as a new page.
+    SplitNew(u32, Page),
+    /// It writes the lower half in the page's place, which links to the new page of the debt.
+    SplitOld(u32, Page, Debt),
+    /// It has split the page and asks the prime block whether that was the root.
+    AskPrime(u32, Debt),
+    /// It writes a new root over the two halves of the old one; it has read this prime block.
+    Root(u32, Debt, Prime),
+    /// It writes the prime block with the new root, of this number, added.
+    NewPrime(u32, Debt, u32, Prime),
+    /// It lets the page's latch go.
+    Leave(u32, Next),
+    /// It has to post to a level of which it remembers no page, and reads the prime block for the leftmost.
+    Posting,
+    /// It has ended.
+    Ended,
+}
+
+/// What an operation needs next.
+#[derive(Clone, Copy, Debug, PartialEq, Eq)]
+pub(crate) enum Need {
+    ReadPrime,
+    ReadPage(u32),
+    Latch(u32),
+    WriteNew,
+    WritePage(u32),
+    WritePrime,
+    Unlatch(u32),
+    End,
+}
+
+/// One operation on its way through a tree whose pages have at most `fan` entries.
+#[derive(Debug, Drop)]
+pub(crate) struct Machine {
+    fan: u8,
+    op: Op,
+    job: Job,
+    // The pages that it looked at last on each inner level.
+    remembered: Remembered,
+    state: State,
+    // From its deciding step on.
+    answer: Option<Answer>,
+}
+
+impl Model for Machine {
+    ghost use Rattle.blink_steps.specs.Machine.{PlainMachine};
+
+    ghost Value = { PlainMachine };
+
+    ghost use Rattle.blink_steps.specs.MachineView.{plain};
+    ghost use Rattle.blink_steps.specs.Kept.{IsMachine};
+
+    ghost view = { plain };
+
+    ghost invariant = { λ m. IsMachine (plain m) };
+}
+
+impl Machine {
+    /// The operation before its first step.
+    pub(crate) fn new(op: Op, fan: u8) -> Machine
+        requires { IsFan fan }
+        ensures { result ≡ fresh fan op }
+    {
+        Machine {
+            fan,
+            op,
+            job: Job::Leaf,
+            remembered: Remembered::new(),
+            state: State::Start,
+            answer: None,
+        }
+    }
+
+    /// What it needs next: whoever runs it does that, and then tells it.
+    pub(crate) fn need(&self) -> Need
+        ensures { result ≡ need_at self.now.state }
+    {
+        match &self.state {
+            State::Start | State::AskPrime(..) | State::Posting => Need::ReadPrime,
+            State::Going(page, _) | State::Held(page) => Need::ReadPage(*page),
+            State::Want(page) => Need::Latch(*page),
+            State::Change(page, ..) | State::SplitOld(page, ..) => Need::WritePage(*page),
+            State::SplitNew(..) | State::Root(..) => Need::WriteNew,
+            State::NewPrime(..) => Need::WritePrime,
+            State::Leave(page, _) => Need::Unlatch(*page),
+            State::Ended => Need::End,
+        }
+    }
+
+    /// What it answers, once it has decided.
+    pub(crate) fn answer(&self) -> Option<Answer>
+        ensures { result ≡ self.now.answer }
+    {
+        self.answer
+    }
+
+    /// Whether it has ended, so that nothing of it is left to do.
+    pub(crate) fn ended(&self) -> bool
+        ensures { IsTrue result ↔ self.now.state ≡ State.Ended }
+    {
+        matches!(self.state, State::Ended)
+    }
+
+    // The key that its job is about.
+    fn target(&self) -> u64
+        ensures { result ≡ target self.now }
+    {
+        match self.job {
+            Job::Leaf => self.op.key(),
+            Job::Parent(debt) => debt.separator,
+        }
+    }
+
+    // What its job brings into a page.
+    fn value(&self) -> u64
+        ensures { result ≡ value_of_job self.now.op self.now.job }
+    {
+        match (self.job, self.op) {
+            (Job::Parent(debt), _) => u64::from(debt.page),
+            (Job::Leaf, Op::Insert(_, pointer)) => pointer,
+            (Job::Leaf, Op::Find(_) | Op::Delete(_)) => 0,
+        }
+    }
+
+    // Decides: answers, and goes on.
+    fn decide(&mut self, state: State, answer: Answer)
+        requires { KeptAt self.old state }
+        ensures { self.new ≡ answered self.old state answer }
+    {
+        self.state = state;
+        self.answer = Some(answer);
+    }
+}
+
+// What an operation answers, where the key was there with this pointer, or not.
+fn answer_with(op: Op, kept: Option<u64>) -> Answer
+    ensures { result ≡ answer_at op kept }
+{
+    match (op, kept) {
+        (Op::Find(_), Some(pointer)) => Answer::Found(pointer),
+        (Op::Insert(..), Some(pointer)) => Answer::Exists(pointer),
+        (Op::Insert(..), None) => Answer::Inserted,
+        (Op::Delete(_), Some(pointer)) => Answer::Removed(pointer),
+        (Op::Find(_) | Op::Delete(_), None) => Answer::Absent,
+    }
+}

@@ -1,0 +1,84 @@
+//! Where an operation is after a step of which it learns no more than that it is done.
+ghost use Rattle.std.specs.Prelude.{◌≡◌};
+ghost use Rattle.blink_page.specs.Limits.{IsPageNumber};
+ghost use Rattle.blink_page.specs.Split.{lower_half};
+ghost use Rattle.blink_steps.specs.Machine.{NeedsNew, at_state};
+ghost use Rattle.blink_steps.specs.Table.{done, decided_with, leaves_for, sets_out, overfull, debt_of_split};
+ghost use Rattle.blink_steps.specs.Kept.{KeptAt, KeptForNext, IsPostable, IsToSplit};
+ghost use Rattle.blink_steps.specs.Needs.{NeedsNoRead};
+
+use super::{Debt, Job, Machine, Next, State, answer_with};
+use blink_page::Page;
+use std::mem;
+
+impl Machine {
+    /// It has got the latch, written the page or the prime block, or let the latch go. `new` is the number of the page,
+    /// where that was a new one.
+    pub(crate) fn done(&mut self, new: u32)
+        requires needs { NeedsNoRead self.old }
+        requires new_number { NeedsNew self.old → IsPageNumber new }
+        ensures { self.new ≡ done self.old new }
+    {
+        match mem::replace(&mut self.state, State::Ended) {
+            State::Want(page) => self.state = State::Held(page),
+            State::Change(page, _, kept) => self.written(State::Leave(page, Next::Finish), kept),
+            State::SplitNew(page, before) => self.halve(page, &before, new),
+            State::SplitOld(page, _, debt) => self.written(State::AskPrime(page, debt), None),
+            State::Root(page, debt, prime) => self.state = State::NewPrime(page, debt, new, prime),
+            State::NewPrime(page, ..) => self.state = State::Leave(page, Next::Finish),
+            State::Leave(_, next) => self.leave(next),
+            _ => unreachable!(),
+        }
+    }
+
+    // Goes on from the write of its page. For an operation on a leaf that is the deciding step, and a posting has decided
+    // before.
+    fn written(&mut self, state: State, kept: Option<u64>)
+        requires { KeptAt self.old state }
+        ensures { self.new ≡ decided_with self.old self.old.job state kept }
+    {
+        match self.job {
+            Job::Leaf => self.decide(state, answer_with(self.op, kept)),
+            Job::Parent(_) => self.state = state,
+        }
+    }
+
+    // The upper half is written as the page `new`: the lower one is next, and the split is owed to the level above.
+    fn halve(&mut self, page: u32, before: &Page, new: u32)
+        requires to_split { IsToSplit self.old before.now }
+        requires new_number { IsPageNumber new }
+        ensures { self.new ≡ at_state self.old (State.SplitOld page (lower_half self.old.fan new before.now (overfull self.old before.now)) (debt_of_split self.old before.now new)) }
+    {
+        let (lower, _, separator) = self.split(before, new);
+        let debt = Debt {
+            level: before.level,
+            separator,
+            page: new,
+        };
+        self.state = State::SplitOld(page, lower, debt);
+    }
+
+    // Goes where it goes from a page whose latch it has let go.
+    fn leave(&mut self, next: Next)
+        requires { KeptForNext self.old next }
+        ensures { self.new ≡ leaves_for self.old next }
+    {
+        match next {
+            Next::Finish => self.state = State::Ended,
+            Next::MoveRight(page) => self.state = State::Want(page),
+            Next::Post(debt) => self.set_out(debt),
+        }
+    }
+
+    // Sets out to post a debt to the level above it, at the page of that level that it remembers, where it does.
+    fn set_out(&mut self, debt: Debt)
+        requires { IsPostable debt }
+        ensures { self.new ≡ sets_out self.old debt self.old.remembered }
+    {
+        self.job = Job::Parent(debt);
+        self.state = match self.remembered.pop() {
+            Some(page) => State::Want(page),
+            None => State::Posting,
+        };
+    }
+}

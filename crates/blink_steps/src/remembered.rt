@@ -1,0 +1,47 @@
+//! The pages that an operation remembers on its way down.
+ghost use Rattle.std.specs.Prelude.{◌≡◌, ◌<◌, [], ◌∷◌, length, MatchOption};
+
+use arrayvec::ArrayVec;
+use blink_page::LEVELS;
+use std::marker::Model;
+
+/// The pages that an operation looked at last, one a level. Contracts see the lowest level first.
+#[derive(Debug, Drop)]
+pub(crate) struct Remembered {
+    // The top level first.
+    pages: ArrayVec<u32, LEVELS>,
+}
+
+impl Model for Remembered {
+    ghost use Rattle.std.specs.Prelude.{ℕ, List, reverse};
+
+    ghost Value = { List ℕ };
+
+    ghost view = { λ remembered. reverse remembered.pages.items };
+}
+
+impl Remembered {
+    /// None yet.
+    pub(crate) fn new() -> Remembered
+        ensures { result ≡ [] }
+    {
+        Remembered {
+            pages: ArrayVec::new(),
+        }
+    }
+
+    /// Remembers a page of the next lower level.
+    pub(crate) fn push(&mut self, page: u32)
+        requires { length self.old < LEVELS }
+        ensures { self.new ≡ page ∷ self.old }
+    {
+        self.pages.push(page);
+    }
+
+    /// Forgets the page of the lowest level, to go there.
+    pub(crate) fn pop(&mut self) -> Option<u32>
+        ensures { MatchOption result ((self.old ≡ []) × (self.new ≡ [])) (λ page. self.old ≡ page ∷ self.new) }
+    {
+        self.pages.pop()
+    }
+}

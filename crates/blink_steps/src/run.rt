@@ -1,0 +1,241 @@
+//! A batch's run over a tree, turn by turn.
+ghost use Rattle.std.specs.Prelude.{◌≡◌, ◌↔◌, ◌+◌, ◌<◌, ℕ, Some, length, slice_get, IsTrue, IsNone, IfOk, IfSome, OnErr, IsOkUnless};
+ghost use Rattle.blink_steps.specs.Pick.{IsFirstMover, IsIdleWorker, WouldMove, WouldWait};
+ghost use Rattle.blink_steps.specs.Run.{Taken, TakesTurn, IsOpeningRun, idle_seat};
+ghost use Rattle.blink_steps.specs.Seats.{IsBusyWorker};
+ghost use Rattle.blink_steps.specs.SoundRun.{IsTurnReady};
+ghost use Rattle.blink_steps.specs.World.{HasEnded};
+
+use crate::error::StepError;
+use crate::ledger::Ledger;
+use crate::links::links;
+use crate::machine::Machine;
+use crate::seat::{Seat, Working};
+use crate::shared::Shared;
+use crate::step::Step;
+use blink_batch::{Answer, Batch, Lanes};
+use blink_store::{Latches, Store};
+use std::alloc::{AllocError, Global};
+use std::marker::Model;
+
+/// The tree, the workers, and what is decided.
+#[derive(Debug, Drop)]
+pub(crate) struct Run {
+    shared: Shared,
+    batch: Batch,
+    lanes: Lanes,
+    // For each operation, the place of the next one in its lane.
+    following: Vec<Option<u32>>,
+    // For each worker.
+    seats: Vec<Seat>,
+    ledger: Ledger,
+}
+
+impl Model for Run {
+    ghost use Rattle.blink_steps.specs.Run.{PlainRun};
+
+    ghost Value = { PlainRun };
+
+    ghost use Rattle.blink_steps.specs.RunView.{plain, IsLinked};
+
+    ghost view = { plain };
+
+    ghost invariant = { IsLinked };
+}
+
+impl Run {
+    /// The first moment of a run of a batch over a tree: every worker is idle.
+    pub(crate) fn new(
+        alloc: Global,
+        store: Store,
+        batch: Batch,
+        lanes: Lanes,
+    ) -> Result<Run, AllocError>
+        requires { length lanes.lanes ≡ length batch }
+        ensures { IfOk result (λ run. IsOpeningRun store batch lanes run) }
+    {
+        let places = batch.ops().len();
+        let (following, firsts) = links(alloc, lanes.lanes())?;
+        let workers = usize::from(lanes.workers());
+        let mut seats = Vec::with_capacity(alloc, workers)?;
+        for worker in 0..workers {
+            seats.push_reserved(Seat {
+                working: None,
+                next: firsts[worker],
+            });
+        }
+        Ok(Run {
+            shared: Shared {
+                store,
+                latches: Latches::new(),
+            },
+            batch,
+            lanes,
+            following,
+            seats,
+            ledger: Ledger::new(alloc, places)?,
+        })
+    }
+
+    /// One turn of a worker: a step of its operation, where it is idle of the next in its lane; or a wait; or, at the
+    /// lane's end, nothing. A refusal of memory changes nothing.
+    pub(crate) fn turn(&mut self, worker: u8) -> Result<Step, StepError>
+        requires { IsTurnReady self.old worker }
+        ensures turn { IfOk result (λ step. (taken : Taken) × (taken.worker ≡ worker) × (taken.step ≡ step) × TakesTurn self.old taken self.new) }
+        ensures refused { IsOkUnless result StepError.OutOfMemory }
+        ensures unchanged { OnErr result (self.new ≡ self.old) }
+    {
+        let seat = &self.seats[usize::from(worker)];
+        if seat.working.is_some() {
+            return self.go_on(worker);
+        }
+        match seat.next {
+            Some(place) => self.begin(worker, place),
+            None => Ok(Step::Idle),
+        }
+    }
+
+    // A step of the operation that the worker has under way.
+    fn go_on(&mut self, worker: u8) -> Result<Step, StepError>
+        requires ready { IsTurnReady self.old worker }
+        requires busy { IsBusyWorker self.old worker }
+        ensures turn { IfOk result (λ step. (taken : Taken) × (taken.worker ≡ worker) × (taken.step ≡ step) × TakesTurn self.old taken self.new) }
+        ensures refused { IsOkUnless result StepError.OutOfMemory }
+        ensures unchanged { OnErr result (self.new ≡ self.old) }
+    {
+        let seat = &mut self.seats[usize::from(worker)];
+        let Some(mut working) = seat.working.take() else {
+            unreachable!()
+        };
+        let place = working.place;
+        let before = working.machine.answer();
+        let acted = self.shared.act(worker, &mut working.machine);
+        let after = working.machine.answer();
+        seat.working = working.unless_ended();
+        let step = acted?;
+        if let Step::Moved(kind) = step {
+            self.ledger.note(place, kind, before, after);
+        }
+        Ok(step)
+    }
+
+    // Takes up the next operation of the worker's lane, and its first step.
+    fn begin(&mut self, worker: u8, place: u32) -> Result<Step, StepError>
+        requires ready { IsTurnReady self.old worker }
+        requires idle { slice_get self.old.seats worker ≡ Some (idle_seat (Some place)) }
+        ensures turn { IfOk result (λ step. (taken : Taken) × (taken.worker ≡ worker) × (taken.step ≡ step) × TakesTurn self.old taken self.new) }
+        ensures refused { IsOkUnless result StepError.OutOfMemory }
+        ensures unchanged { OnErr result (self.new ≡ self.old) }
+    {
+        let op = self.batch.ops()[place as usize];
+        let mut machine = Machine::new(op, self.shared.fan());
+        let step = self.shared.act(worker, &mut machine)?;
+        if let Step::Moved(kind) = step {
+            self.ledger.note(place, kind, None, machine.answer());
+            let next = self.following[place as usize];
+            self.seats[usize::from(worker)] = Seat {
+                working: Some(Working { place, machine }),
+                next,
+            };
+        }
+        Ok(step)
+    }
+
+    /// Whether every operation has ended: each worker is idle, with its lane at its end.
+    pub(crate) fn ended(&self) -> bool
+        requires { length self.now.seats ≡ self.now.assignment.workers }
+        ensures { IsTrue result ↔ HasEnded self.now }
+    {
+        for seat in &self.seats {
+            if seat.working.is_some() || seat.next.is_some() {
+                return false;
+            }
+        }
+        true
+    }
+
+    /// Whether the worker has no operation under way.
+    pub(crate) fn is_idle(&self, worker: u8) -> bool
+        requires { worker < length self.now.seats }
+        ensures { IsTrue result ↔ IsIdleWorker self.now worker }
+    {
+        self.seats[usize::from(worker)].working.is_none()
+    }
+
+    /// Whether the worker's next step would be a wait. An operation that no step has taken yet doesn't wait.
+    pub(crate) fn waits(&self, worker: u8) -> bool
+        requires { worker < length self.now.seats }
+        ensures { IsTrue result ↔ WouldWait self.now worker }
+    {
+        match &self.seats[usize::from(worker)].working {
+            Some(working) => self.shared.waits(&working.machine),
+            None => false,
+        }
+    }
+
+    // Whether the worker's next turn would be a step.
+    fn would_move(&self, worker: u8) -> bool
+        requires { worker < length self.now.seats }
+        ensures { IsTrue result ↔ WouldMove self.now worker }
+    {
+        let seat = &self.seats[usize::from(worker)];
+        let at_end = seat.working.is_none() && seat.next.is_none();
+        !at_end && !self.waits(worker)
+    }
+
+    /// The smallest worker whose next turn would be a step.
+    pub(crate) fn pick(&self) -> Option<u8>
+        requires { length self.now.seats ≡ self.now.assignment.workers }
+        ensures none { IsNone result → (worker : ℕ) → worker < self.now.assignment.workers → ¬ WouldMove self.now worker }
+        ensures first { IfSome result (λ worker. IsFirstMover self.now worker) }
+    {
+        for worker in 0..self.workers() {
+            if self.would_move(worker) {
+                return Some(worker);
+            }
+        }
+        None
+    }
+
+    /// How many workers there are, those without an operation included.
+    pub(crate) fn workers(&self) -> u8
+        ensures { result ≡ self.now.assignment.workers }
+    {
+        self.lanes.workers()
+    }
+
+    /// The answers so far.
+    pub(crate) fn answers(&self) -> &[Option<Answer>]
+        ensures { result.now ≡ self.now.answers }
+    {
+        &self.ledger.answers
+    }
+
+    /// The places of the operations that have decided, in the order of their deciding steps.
+    pub(crate) fn order(&self) -> &[u32]
+        ensures { result.now ≡ self.now.order }
+    {
+        &self.ledger.order
+    }
+
+    /// How many pages each operation has read.
+    pub(crate) fn reads(&self) -> &[u64]
+        ensures { result.now ≡ self.now.reads }
+    {
+        &self.ledger.reads
+    }
+
+    /// How many steps each operation has taken.
+    pub(crate) fn moves(&self) -> &[u64]
+        ensures { result.now ≡ self.now.moves }
+    {
+        &self.ledger.moves
+    }
+
+    /// The tree, at the run's end.
+    pub(crate) fn into_store(self) -> Store
+        ensures { result ≡ self.shared.store }
+    {
+        self.shared.store
+    }
+}

@@ -1,0 +1,242 @@
+//! The world of a schedule: a run over a tree, and the worker of each turn so far.
+ghost use Rattle.std.specs.Prelude.{◌≡◌, ◌≤◌, ◌<◌, ◌↔◌, ◌⊎◌, ℕ, length, Some, Ok, IfOk, IfErr, IfSome, IsNone, OnErr, OnOk, IsErrOf, IsOk, IsOkUnless, All, IsTrue};
+ghost use Rattle.blink_batch.specs.Cut.{IsLawfulCut};
+ghost use Rattle.blink_store.specs.Store.{PlainStore};
+ghost use Rattle.blink_steps.specs.Counts.{has_moved, moves_in, page_reads_in};
+ghost use Rattle.blink_steps.specs.Headline.{IsOneThread, IsReachedThroughout};
+ghost use Rattle.blink_steps.specs.Pick.{GoesOnPicked, IsFirstMover, IsIdleWorker, WouldMove, WouldWait, steps_left};
+ghost use Rattle.blink_steps.specs.Promises.{KeepsItsPromises};
+ghost use Rattle.blink_steps.specs.World.{HasEnded, IsReplay, IsReplayRefusal, IsStart, IsStepRefusal, IsTooLarge, IsWorldOf, TakesStep, with_turn};
+
+use crate::error::StepError;
+use crate::run::Run;
+use crate::step::Step;
+use blink_batch::{Answer, Batch, Lanes};
+use blink_page::MAX_PAGE;
+use blink_rest::Rest;
+use std::alloc::Global;
+use std::marker::Model;
+
+/// How many page numbers an insertion takes at most: one for each level that it splits, and one for a new root.
+pub const NUMBERS_OF_INSERTION: u64 = 22;
+
+/// A batch's run over a tree at rest, up to some moment: one turn for each number of its schedule.
+///
+/// Its type keeps that it is the world of its own schedule, over the tree, the batch and the lanes that it began with: so
+/// what is promised of every schedule can be said of any `World`.
+#[derive(Debug, Drop)]
+pub struct World {
+    run: Run,
+    schedule: Vec<u8>,
+}
+
+impl Model for World {
+    ghost use Rattle.blink_steps.specs.World.{PlainWorld, IsWorld};
+
+    ghost Value = { PlainWorld };
+
+    ghost view = { λ world. record { run = world.run; schedule = world.schedule.items } };
+
+    ghost invariant = { λ world. IsWorld (record { run = world.run; schedule = world.schedule.items }) };
+}
+
+impl World {
+    /// The first moment of a run: nothing is latched, every worker is idle, and nothing is decided. The lanes need be no
+    /// lawful cut. A refusal gives up what was handed in.
+    ///
+    /// The refusal `TooLarge` comes before memory is asked for; then no later step wants for page numbers.
+    pub fn start(alloc: Global, rest: Rest, batch: Batch, lanes: Lanes) -> Result<World, StepError>
+        requires a_lane_each { length lanes.lanes ≡ length batch }
+        ensures start { IfOk result (λ world. IsStart rest batch lanes world) }
+        ensures promised { IfOk result (λ world. (of : IsWorldOf rest world) → KeepsItsPromises rest world of) }
+        ensures too_large { IsErrOf result StepError.TooLarge ↔ IsTooLarge rest batch }
+        ensures refused { IfErr result (λ refusal. (refusal ≡ StepError.TooLarge) ⊎ (refusal ≡ StepError.OutOfMemory)) }
+    {
+        let pages = u64::from(rest.store().pages());
+        let _words = batch.ops();
+        let _allowed = lanes.lanes();
+        if 1 + pages + NUMBERS_OF_INSERTION * batch.inserts() as u64 > u64::from(MAX_PAGE) + 1 {
+            return Err(StepError::TooLarge);
+        }
+        match Run::new(alloc, rest.into_store(), batch, lanes) {
+            Ok(run) => Ok(World {
+                run,
+                schedule: Vec::new(alloc),
+            }),
+            Err(_) => Err(StepError::OutOfMemory),
+        }
+    }
+
+    /// Gives a worker one turn. It takes one step of its operation, where it is idle of the next in its lane; or it waits;
+    /// or its lane is at its end. The schedule tells every turn. A refusal changes nothing.
+    pub fn step(&mut self, worker: u8) -> Result<Step, StepError>
+        ensures step { IfOk result (λ step. TakesStep self.old worker step self.new) }
+        ensures same_start { IfOk result (λ step. (start : PlainStore) → IsWorldOf start self.old → IsWorldOf start self.new) }
+        ensures promised { (start : PlainStore) (of : IsWorldOf start self.new) → KeepsItsPromises start self.new of }
+        ensures would_move { WouldMove self.old.run worker → IfOk result (λ step. IsTrue (has_moved step)) }
+        ensures would_wait { WouldWait self.old.run worker → IfOk result (λ step. step ≡ Step.Waited) }
+        ensures waited { result ≡ Ok Step.Waited → self.new ≡ with_turn self.old worker }
+        ensures idle { result ≡ Ok Step.Idle → self.new ≡ with_turn self.old worker }
+        ensures no_worker { IsErrOf result (StepError.NoWorker worker) ↔ (self.old.run.assignment.workers ≤ worker) }
+        ensures worker { OnOk result (worker < self.old.run.assignment.workers) }
+        ensures refused { IfErr result (IsStepRefusal self.old.run.assignment.workers worker) }
+        ensures unchanged { OnErr result (self.new ≡ self.old) }
+    {
+        if worker >= self.run.workers() {
+            return Err(StepError::NoWorker(worker));
+        }
+        if self.schedule.reserve(1).is_err() {
+            return Err(StepError::OutOfMemory);
+        }
+        let step = self.run.turn(worker)?;
+        self.schedule.push_reserved(worker);
+        Ok(step)
+    }
+
+    /// The answers so far: at each operation's place in the batch the answer that it has, from its deciding step on. They
+    /// are those of the operations one after another, on a plain map of the entries at the start, in the order of
+    /// [`World::order`]; and where the lanes are a lawful cut, once all operations have ended, those of the batch's own order.
+    pub fn answers(&self) -> &[Option<Answer>]
+        ensures answers { result.now ≡ self.now.run.answers }
+        ensures one_each { length result.now ≡ length self.now.run.ops }
+        ensures promised { (start : PlainStore) (of : IsWorldOf start self.now) → KeepsItsPromises start self.now of }
+        ensures one_thread { (start : PlainStore) → IsWorldOf start self.now → IsLawfulCut self.now.run.ops self.now.run.assignment.workers self.now.run.assignment.lanes → HasEnded self.now.run → IsOneThread start self.now }
+    {
+        self.run.answers()
+    }
+
+    /// The operations that have decided, by their places in the batch, in the order of their deciding steps: the leaf read
+    /// that answers a find, the read under the latch of an update that changes nothing, and the write of the leaf of one
+    /// that changes something (in a split, of the old leaf).
+    pub fn order(&self) -> &[u32]
+        ensures order { result.now ≡ self.now.run.order }
+        ensures promised { (start : PlainStore) (of : IsWorldOf start self.now) → KeepsItsPromises start self.now of }
+    {
+        self.run.order()
+    }
+
+    /// The worker of each turn so far, waits and idle turns with them.
+    pub fn schedule(&self) -> &[u8]
+        ensures { result.now ≡ self.now.schedule }
+    {
+        &self.schedule
+    }
+
+    /// Whether all operations have ended: then each has its answer, and the tree is at rest.
+    pub fn ended(&self) -> bool
+        ensures ended { IsTrue result ↔ HasEnded self.now.run }
+        ensures promised { (start : PlainStore) (of : IsWorldOf start self.now) → KeepsItsPromises start self.now of }
+    {
+        self.run.ended()
+    }
+
+    /// How many pages the operation at this place of the batch has read, those under latches with them.
+    pub fn reads_of(&self, op: u32) -> u64
+        requires { op < length self.now.run.ops }
+        ensures { (start : PlainStore) (of : IsWorldOf start self.now) → result ≡ page_reads_in of.history op }
+    {
+        self.run.reads()[op as usize]
+    }
+
+    /// How many steps the operation at this place of the batch has taken. Waits are not counted.
+    pub fn moves_of(&self, op: u32) -> u64
+        requires { op < length self.now.run.ops }
+        ensures { (start : PlainStore) (of : IsWorldOf start self.now) → result ≡ moves_in of.history op }
+    {
+        self.run.moves()[op as usize]
+    }
+
+    /// Whether the worker has no operation under way, one that is begun and not ended. At its next turn it takes up the next of
+    /// its lane, if there is one.
+    pub fn is_idle(&self, worker: u8) -> bool
+        requires { worker < self.now.run.assignment.workers }
+        ensures { IsTrue result ↔ IsIdleWorker self.now.run worker }
+    {
+        self.run.is_idle(worker)
+    }
+
+    /// Whether the worker's next turn would be a wait: for a latch that another worker holds, or for a level that isn't there
+    /// yet.
+    pub fn waits(&self, worker: u8) -> bool
+        requires { worker < self.now.run.assignment.workers }
+        ensures { IsTrue result ↔ WouldWait self.now.run worker }
+    {
+        self.run.waits(worker)
+    }
+
+    /// The smallest worker whose next turn would be a step. While operations are left there is one.
+    pub fn pick(&self) -> Option<u8>
+        ensures none { IsNone result ↔ HasEnded self.now.run }
+        ensures first { IfSome result (λ worker. IsFirstMover self.now.run worker) }
+    {
+        self.run.pick()
+    }
+
+    /// Gives the picked worker a turn, and again, until none is picked: then all operations have ended.
+    ///
+    /// After a refusal the turns so far stand, and it may be called again.
+    pub fn finish(&mut self) -> Result<(), StepError>
+        ensures ended { IfOk result (λ _. HasEnded self.new.run) }
+        ensures picked { GoesOnPicked self.old self.new }
+        ensures same_start { (start : PlainStore) → IsWorldOf start self.old → IsWorldOf start self.new }
+        ensures same_ops { self.new.run.ops ≡ self.old.run.ops }
+        ensures same_assignment { self.new.run.assignment ≡ self.old.run.assignment }
+        ensures promised { (start : PlainStore) (of : IsWorldOf start self.new) → KeepsItsPromises start self.new of }
+        ensures refused { IsOkUnless result StepError.OutOfMemory }
+    {
+        while let Some(worker) = self.pick() {
+            self.advance(worker)?;
+        }
+        Ok(())
+    }
+
+    // A turn of the picked worker. It is a step, so that fewer are left.
+    fn advance(&mut self, worker: u8) -> Result<(), StepError>
+        requires { IsFirstMover self.old.run worker }
+        ensures turn { IfOk result (λ _. (step : Step) × TakesStep self.old worker step self.new) }
+        ensures nearer { IfOk result (λ _. steps_left self.new.run < steps_left self.old.run) }
+        ensures refused { IsOkUnless result StepError.OutOfMemory }
+        ensures unchanged { OnErr result (self.new ≡ self.old) }
+    {
+        let _schedule = &self.schedule;
+        self.step(worker)?;
+        Ok(())
+    }
+
+    /// The tree, once all operations have ended. It takes no memory.
+    pub fn into_rest(self) -> Rest
+        requires { HasEnded self.run }
+        ensures tree { result ≡ self.run.shared.store }
+        ensures promised { (start : PlainStore) (of : IsWorldOf start self) → KeepsItsPromises start self of }
+    {
+        Rest::of(self.run.into_store())
+    }
+}
+
+/// The world of a schedule: the first moment, and then one turn for each number. The first refusal is the answer.
+///
+/// Where the lanes are a lawful cut and all operations have ended, the answers are those of one thread that runs the batch in
+/// its own order on the plain list of the tree's entries, place by place, and the tree's entries are that list's. And at every
+/// moment on the way each key then present is reached from the root.
+pub fn replay(
+    alloc: Global,
+    rest: Rest,
+    batch: Batch,
+    lanes: Lanes,
+    schedule: &[u8],
+) -> Result<World, StepError>
+    requires a_lane_each { length lanes.lanes ≡ length batch }
+    ensures world { IfOk result (λ world. IsReplay rest batch lanes schedule.now world) }
+    ensures promised { IfOk result (λ world. (of : IsWorldOf rest world) → KeepsItsPromises rest world of) }
+    ensures one_thread { IfOk result (λ world. IsLawfulCut batch lanes.workers lanes.lanes → HasEnded world.run → IsOneThread rest world) }
+    ensures reached_throughout { IfOk result (λ world. (of : IsWorldOf rest world) → IsReachedThroughout rest world of) }
+    ensures too_large { IsErrOf result StepError.TooLarge ↔ IsTooLarge rest batch }
+    ensures workers { IsOk result → All (λ worker. worker < lanes.workers) schedule.now }
+    ensures refused { IfErr result (IsReplayRefusal rest batch lanes.workers schedule.now) }
+{
+    let mut world = World::start(alloc, rest, batch, lanes)?;
+    for &worker in schedule {
+        world.step(worker)?;
+    }
+    Ok(world)
+}
