@@ -67,9 +67,13 @@ module _ (fan : ℕ) (pages : Pages) where
     root_for level root (leftmost ∷ left ∷ prime) (cells ∷ []) chains one is_root = absurd chains.1
     root_for level root (leftmost ∷ left ∷ prime) (cells ∷ upper ∷ above) chains one is_root = root_for (level + 1) root (left ∷ prime) (upper ∷ above) chains.1 one is_root
 
+    -- and it belongs to the page with the number, which is of a lower level than another page
+    abbrev pub HasLowerPageFor : ℕ → ℕ → Type 0
+    HasLowerPageFor n upper_level = (p : PlainPage) × (pages n ≡ Some p) × IsKeyOf p key × (p.level < upper_level)
+
     -- and to the child for it of a page that it belongs to
     child_of : (level n child : ℕ) (p : PlainPage) (prime : List ℕ) (levels : List (List Cell)) → AreChains fan pages level prime levels → EachNames levels
-        → pages n ≡ Some p → IsKeyOf p key → child_for key p.entries ≡ Some child → level < p.level → IsAmong n (flat_map numbers_of levels) → HasPageFor child
+        → pages n ≡ Some p → IsKeyOf p key → child_for key p.entries ≡ Some child → level < p.level → IsAmong n (flat_map numbers_of levels) → HasLowerPageFor child p.level
     child_of level n child p [] [] chains named there belongs is_child above among = absurd among
     child_of level n child p [] (cells ∷ levels) chains named there belongs is_child above among = absurd chains
     child_of level n child p (leftmost ∷ prime) [] chains named there belongs is_child above among = absurd chains
@@ -92,7 +96,8 @@ module _ (fan : ℕ) (pages : Pages) where
                   let low = chain_spans fan level leftmost pages cells chains.0 key in_range in
                   let found = chain_child fan level key pages leftmost left upper cells it.0 low.0 chains.0 chains.1.0 named.0 it.3 (subst P it.2 belongs) low.1 low.2 in
                   let number : low.0.number ≡ child = cc (found, is_child, ap (λ (q : PlainPage). child_for key q.entries) it.2) in
-                  (low.0.page, cc (ap pages number, stands_there pages cells low.0 chains.0.pages_there low.1), low.2)
+                  let low_level = (stands_of fan level None (Some leftmost) cells (Some GREATEST_KEY) None low.0 chains.0.in_line low.1).has_level in
+                  (low.0.page, cc (ap pages number, stands_there pages cells low.0 chains.0.pages_there low.1), low.2, omega arith)
             ]
           ]
         ]
@@ -116,6 +121,12 @@ module _ (fan : ℕ) (pages : Pages) where
         (chain_child fan level key pages leftmost left upper cells it.0 c chains.0 chains.1.0 named.0 it.1 it.2 stands belongs)
 
     module _ (prime : List ℕ) (levels : List (List Cell)) (root : ℕ) (at_rest : AreLevels fan prime pages levels) (is_root : IsRoot prime root) where
+      -- a search at rest that goes down from a page that the key belongs to comes to one of a lower level
+      pub child_lower : (n child : ℕ) (p : PlainPage) → pages n ≡ Some p → IsKeyOf p key → 0 < p.level → child_for key p.entries ≡ Some child → HasLowerPageFor child p.level
+      child_lower n child p there belongs inner is_child =
+          child_of 0 n child p prime levels at_rest.chains at_rest.named there belongs is_child inner
+          (among_from_Contains (flat_map numbers_of levels) n (at_rest.no_other_page n p there))
+
       -- whatever is reached is a page that the key belongs to, so a search at rest never moves right
       pub reached_for : (n : ℕ) → Reaches pages root key n → HasPageFor n
       reached_for n at_root = root_for 0 root prime levels at_rest.chains at_rest.one_root is_root
@@ -127,5 +138,5 @@ module _ (fan : ℕ) (pages : Pages) where
           let it = reached_for number before in
           let same : it.0 ≡ page = cc (it.1, there) in
           let P : PlainPage → Type 0 = λ q. IsKeyOf q key in
-          child_of 0 number child page prime levels at_rest.chains at_rest.named there (subst P same it.2) is_child inner
-          (among_from_Contains (flat_map numbers_of levels) number (at_rest.no_other_page number page there))
+          let below_it = child_lower number child page there (subst P same it.2) inner is_child in
+          (below_it.0, below_it.1, below_it.2)

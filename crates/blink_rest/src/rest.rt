@@ -41,6 +41,15 @@ impl Rest {
         }
     }
 
+    /// The same tree once more: each page has the number that it has here.
+    pub fn copy(&self, alloc: Global) -> Result<Rest, StoreError>
+        ensures tree { IfOk result (λ rest. rest ≡ self.now) }
+        ensures refused { IsOkUnless result StoreError.OutOfMemory }
+    {
+        let store = self.store.copy(alloc)?;
+        Ok(Rest::of(store))
+    }
+
     /// The tree of a store that is at rest. It takes no memory.
     pub fn of(store: Store) -> Rest
         requires { IsStoreAtRest store }

@@ -24,6 +24,17 @@ fn a_new_store_is_at_rest(rt: HostRuntime) -> Result<(), Fail> {
     Ok(())
 }
 
+#[test]
+fn a_copy_is_the_same_tree(rt: HostRuntime) -> Result<(), Fail> {
+    let rest = Rest::empty(rt.alloc(), 7)?;
+    let copy = rest.copy(rt.alloc())?;
+    let store = copy.store();
+    assert_eq!(rt; (store.fan(), store.pages()), (7, 1));
+    assert_eq!(rt; store.prime().leftmost.as_slice(), [1].as_slice());
+    assert_eq!(rt; *store.read(1), Page::leaf());
+    Ok(())
+}
+
 // A leaf with these keys, each with the value ten times as great.
 fn leaf_of(rt: &impl Abort, keys: &[u64]) -> Page {
     let mut page = Page::leaf();

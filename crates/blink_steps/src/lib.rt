@@ -6,6 +6,8 @@ mod error;
 mod ledger;
 mod links;
 mod machine;
+#[cfg(test)]
+mod pick_tests;
 mod remembered;
 mod run;
 mod seat;

@@ -49,6 +49,24 @@ impl Store {
         }
     }
 
+    /// The same store once more: the same fan, the same prime block, and each page under its number.
+    pub fn copy(&self, alloc: Global) -> Result<Store, StoreError>
+        ensures store { IfOk result (λ store. store ≡ self.now) }
+        ensures refused { IsOkUnless result StoreError.OutOfMemory }
+    {
+        let Ok(mut pages) = Vec::with_capacity(alloc, self.pages.len()) else {
+            return Err(StoreError::OutOfMemory);
+        };
+        for page in &self.pages {
+            pages.push_reserved(page.copy());
+        }
+        Ok(Store {
+            fan: self.fan,
+            prime: self.prime.copy(),
+            pages,
+        })
+    }
+
     /// Page `n`.
     pub fn read(&self, n: u32) -> &Page
         requires { HasPage self.now n }

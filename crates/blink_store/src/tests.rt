@@ -49,6 +49,25 @@ fn a_split_page_is_written_in_two(rt: HostRuntime) -> Result<(), Fail> {
 }
 
 #[test]
+fn a_copy_has_the_same_pages(rt: HostRuntime) -> Result<(), Fail> {
+    let mut store = Store::new(rt.alloc(), 5)?;
+    let root = Page::root(1, 3, 1, 2);
+    assert_eq!(rt; store.add(Page::leaf())?, 2);
+    assert_eq!(rt; store.add(root)?, 3);
+    let mut prime = store.prime().copy();
+    prime.grow(3);
+    store.set_prime(prime);
+
+    let copy = store.copy(rt.alloc())?;
+    assert_eq!(rt; (copy.fan(), copy.pages()), (5, 3));
+    assert_eq!(rt; *copy.prime(), *store.prime());
+    for number in 1..4 {
+        assert_eq!(rt; *copy.read(number), *store.read(number));
+    }
+    Ok(())
+}
+
+#[test]
 fn the_numbers_run_out(rt: HostRuntime) -> Result<(), Fail> {
     let mut store = Store::new(rt.alloc(), 4)?;
     for _ in 1..MAX_PAGE {

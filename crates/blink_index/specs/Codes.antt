@@ -1,0 +1,13 @@
+-- The number of each refusal, and the numbers that are no fan.
+use Rattle.std.specs.Prelude.{ℕ, ◌<◌, ◌⊎◌}
+use Rattle.blink_page.specs.declared.limits.TheConstants.{MIN_FAN, MAX_FAN}
+use Rattle.blink_index.specs.declared.error.IndexError.{IndexError}
+use Rattle.blink_index.specs.declared.error.IndexError.TheVariants.{BadFan, OutOfMemory}
+
+abbrev pub code_of : IndexError → ℕ
+code_of BadFan = 40
+code_of OutOfMemory = 41
+
+-- no tree allows its pages so many entries
+abbrev pub IsBadFan : ℕ → Type 0
+IsBadFan fan = (fan < MIN_FAN) ⊎ (MAX_FAN < fan)

@@ -1,0 +1,40 @@
+-- The text of a tree at rest: a line for each page, the top level first, and each level from the left.
+use Rattle.std.specs.Prelude.{◌≡◌, ℕ, Option, Some, None, List, [], ◌∷◌, ◌++◌, codes}
+use Rattle.std.specs.List.{flat_map}
+use Rattle.std.specs.Fmt.{decimal}
+use Rattle.blink_rest.specs.Chain.{Cell}
+use Rattle.blink_rest.specs.Rest.{AreLevels}
+use Rattle.blink_store.specs.Store.{PlainStore, page_of}
+
+-- a number, or a dash where there is none
+abbrev pub words_of : Option ℕ → List ℕ
+words_of None = codes "-"
+words_of (Some number) = decimal number
+
+-- an entry, after the space before it
+abbrev pub entry_text : ℕ × ℕ → List ℕ
+entry_text entry = codes " " ++ (decimal entry.0 ++ (codes ":" ++ decimal entry.1))
+
+-- a page: its level, its number, its floor, its high key and its right link, with a space between two of them
+abbrev pub page_text : Cell → List ℕ
+page_text c =
+    decimal c.page.level ++ (codes " " ++ (decimal c.number ++ (codes " " ++ (words_of c.page.floor ++ (codes " " ++ (decimal c.page.high ++ (codes " " ++ words_of c.page.right)))))))
+
+-- the line of a page: that, its entries and a line feed
+abbrev pub line_of : Cell → List ℕ
+line_of c = page_text c ++ (flat_map entry_text c.page.entries ++ codes "\n")
+
+-- the lines of a level
+abbrev pub level_text : List Cell → List ℕ
+level_text cells = flat_map line_of cells
+
+-- the lines of levels: those of the first after those of the levels above it
+abbrev pub text_of : List (List Cell) → List ℕ
+text_of [] = []
+text_of (cells ∷ above) = text_of above ++ level_text cells
+
+-- these are the lines of the levels of the store's tree
+pub record IsTextOf (store : PlainStore) (text : List ℕ) : Type 0 where
+  pub levels : List (List Cell)
+  pub are_levels : AreLevels store.fan store.prime (page_of store) levels
+  pub is_text : text ≡ text_of levels

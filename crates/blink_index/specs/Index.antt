@@ -1,0 +1,30 @@
+-- What an index keeps: the levels of its tree, its tree's entries, and these as a plain map.
+use Rattle.std.specs.Prelude.{ℕ, zero, suc, Option, Some, None, List, [], ◌∷◌, length, map, slice_get}
+use Rattle.blink_batch.specs.declared.Entry.{Entry}
+use Rattle.blink_batch.specs.PlainMap.{entry}
+use Rattle.blink_rest.specs.Chain.{Cell, Pages}
+use Rattle.blink_rest.specs.Level.{entries_along}
+use Rattle.blink_store.specs.Store.{PlainStore, page_of}
+
+-- the pages from a link on, each the right link of the one before, and at most so many
+abbrev pub cells_from : Pages → ℕ → Option ℕ → List Cell
+cells_from pages zero link = []
+cells_from pages (suc most) None = []
+cells_from pages (suc most) (Some number) =
+    elim (pages number) [ None ↦ [] | Some page ↦ record { number = number; page = page } ∷ cells_from pages most page.right ]
+
+-- the pages of a store from a link on
+abbrev pub cells_of : PlainStore → Option ℕ → List Cell
+cells_of store link = cells_from (page_of store) (length store.pages) link
+
+-- the pages of a level, from the left
+abbrev pub level_of : PlainStore → ℕ → List Cell
+level_of store level = cells_of store (slice_get store.prime level)
+
+-- pairs of a key and a pointer as the entries of a plain map
+abbrev pub entries_from : List (ℕ × ℕ) → List Entry
+entries_from pairs = map (λ (pair : ℕ × ℕ). entry pair.0 pair.1) pairs
+
+-- the plain map of a store: the entries of its leaves, from the left
+abbrev pub map_of : PlainStore → List Entry
+map_of store = entries_from (entries_along (level_of store 0))

@@ -1,0 +1,34 @@
+-- Which entries a scan brings: those of its leaf that are left, then those of the leaves from its link on, up to a key.
+use Rattle.std.specs.Prelude.{ℕ, ◌≤◌, nat_le, if◌then◌else◌, ◌&&◌, Bool, Option, List, [], ◌∷◌, length}
+use Rattle.std.specs.Iterator.{YieldsFirst}
+use Rattle.std.specs.Iterator.Runs.{YieldsInOrder}
+use Rattle.blink_batch.specs.declared.Entry.{Entry}
+use Rattle.blink_batch.specs.PlainMap.{entry}
+use Rattle.blink_rest.specs.Chain.{Cell}
+use Rattle.blink_rest.specs.Level.{entries_along}
+use Rattle.blink_rest.specs.Walk.{IsTail}
+use Rattle.blink_store.specs.Store.{PlainStore, page_of}
+use Rattle.blink_index.specs.Index.{cells_of}
+
+-- the entry's key is from the one number to the other
+abbrev pub is_within : ℕ → ℕ → Entry → Bool
+is_within lo hi e = nat_le lo e.key && nat_le e.key hi
+
+-- the link leads to the last pages of a level, or nowhere
+pub record IsLinkOf (store : PlainStore) (link : Option ℕ) : Type 0 where
+  pub cells : List Cell
+  pub tail : IsTail store.fan (page_of store) link cells
+  pub few : length cells ≤ length store.pages
+
+-- the entries of the pages from a link on
+abbrev pub entries_after : PlainStore → Option ℕ → List (ℕ × ℕ)
+entries_after store link = entries_along (cells_of store link)
+
+-- entries before the first whose key is greater
+abbrev pub entries_to : ℕ → List (ℕ × ℕ) → List Entry
+entries_to hi [] = []
+entries_to hi ((key, pointer) ∷ rest) = if nat_le key hi then entry key pointer ∷ entries_to hi rest else []
+
+-- what is run over a scan is given the entries that it still brings, in order
+abbrev pub BringsInOrder : Type 0
+BringsInOrder = YieldsInOrder (YieldsFirst {A = Entry} (λ rest. rest)) (λ rest. rest)

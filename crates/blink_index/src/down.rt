@@ -1,0 +1,23 @@
+//! The way down to a leaf.
+ghost use Rattle.blink_rest.specs.Rest.{IsStoreAtRest};
+ghost use Rattle.blink_index.specs.Leaf.{IsLeafFor};
+
+use blink_page::{Page, Way};
+use blink_store::Store;
+
+/// The leaf that a key belongs to. It takes no memory, and reads one page a level: at rest no search moves right.
+pub(crate) fn leaf_for(store: &Store, key: u64) -> &Page
+    requires { IsStoreAtRest store.now }
+    ensures { IsLeafFor store.now key result.now }
+{
+    let leftmost = &store.prime().leftmost;
+    let mut number = leftmost[leftmost.len() - 1];
+    'way: loop {
+        let page = store.read(number);
+        match page.way(key) {
+            Way::Right(next) => number = next,
+            Way::Down(child) => number = child,
+            Way::Here => return page,
+        }
+    }
+}

@@ -1,0 +1,28 @@
+//! Why an index is refused.
+ghost use Rattle.std.specs.Prelude.{◌≡◌};
+ghost use Rattle.blink_index.specs.Codes.{code_of};
+
+use thiserror::Error;
+
+/// Why an index can't be made.
+#[derive(Clone, Copy, Debug, PartialEq, Eq, Error)]
+pub enum IndexError {
+    /// The number of entries that a page may have isn't from 4 to 16.
+    #[error("bad fan")]
+    BadFan,
+    /// Memory was refused.
+    #[error("out of memory")]
+    OutOfMemory,
+}
+
+impl IndexError {
+    /// The number of the refusal, the same in every release.
+    pub fn code(&self) -> u8
+        ensures { result ≡ code_of self.now }
+    {
+        match self {
+            IndexError::BadFan => 40,
+            IndexError::OutOfMemory => 41,
+        }
+    }
+}

@@ -1,0 +1,142 @@
+//! A tree at rest, as a map that can be read.
+ghost use Rattle.std.specs.Prelude.{◌≡◌, ℕ, ◌↔◌, List, [], filter, length, string_bytes, IfOk, IsErrOf, IsOkUnless};
+ghost use Rattle.blink_batch.specs.PlainMap.{pointer_of};
+ghost use Rattle.blink_page.specs.Entries.{value_at};
+ghost use Rattle.blink_page.specs.Limits.{IsPageNumber};
+ghost use Rattle.blink_rest.specs.Entries.{AreEntries};
+ghost use Rattle.blink_rest.specs.Rest.{IsStoreAtRest};
+ghost use Rattle.blink_store.specs.Store.{page_of, new_store};
+ghost use Rattle.blink_steps.specs.Promises.{AreAtStart};
+ghost use Rattle.blink_index.specs.Codes.{IsBadFan};
+ghost use Rattle.blink_index.specs.Dump.{IsTextOf};
+ghost use Rattle.blink_index.specs.Index.{map_of};
+ghost use Rattle.blink_index.specs.Scan.{is_within, BringsInOrder};
+
+use crate::down::leaf_for;
+use crate::dump::tree_text;
+use crate::error::IndexError;
+use crate::scan::Scan;
+use blink_batch::Entry;
+use blink_page::{MAX_FAN, MIN_FAN};
+use blink_rest::Rest;
+use blink_store::Store;
+use std::alloc::{AllocError, Global};
+use std::marker::Model;
+
+/// A map from keys to record pointers, kept in a B-link tree at rest.
+#[derive(Debug, Drop)]
+pub struct Index {
+    rest: Rest,
+}
+
+impl Model for Index {
+    ghost use Rattle.blink_store.specs.Store.{PlainStore};
+
+    ghost Value = { PlainStore };
+
+    ghost view = { λ index. index.rest };
+}
+
+impl Index {
+    /// An index without an entry, whose pages will have at most `fan` entries each.
+    ///
+    /// `BadFan` is told of every `fan` outside 4 to 16, before memory is asked for.
+    pub fn new(alloc: Global, fan: u8) -> Result<Index, IndexError>
+        ensures index { IfOk result (λ index. index ≡ new_store fan) }
+        ensures empty { IfOk result (λ index. map_of index ≡ []) }
+        ensures bad_fan { IsErrOf result IndexError.BadFan ↔ IsBadFan fan }
+    {
+        if fan < MIN_FAN || usize::from(fan) > MAX_FAN {
+            return Err(IndexError::BadFan);
+        }
+        match Rest::empty(alloc, fan) {
+            Ok(rest) => Ok(Index { rest }),
+            Err(_) => Err(IndexError::OutOfMemory),
+        }
+    }
+
+    /// The index that a tree at rest keeps. It takes no memory.
+    pub fn from_rest(rest: Rest) -> Index
+        ensures { result ≡ rest }
+    {
+        Index { rest }
+    }
+
+    /// The tree, to be read.
+    pub fn rest(&self) -> &Rest
+        ensures tree { result.now ≡ self.now }
+        ensures map { AreAtStart self.now (map_of self.now) }
+    {
+        let _store = self.store();
+        &self.rest
+    }
+
+    /// The tree, for the next batch to run over. It takes no memory.
+    pub fn into_rest(self) -> Rest
+        ensures { result ≡ self }
+    {
+        self.rest
+    }
+
+    /// How many pages the tree has, from 1 on. The prime block isn't counted.
+    pub fn page_count(&self) -> u32
+        ensures count { result ≡ length self.now.pages }
+        ensures in_range { IsPageNumber result }
+    {
+        self.store().pages()
+    }
+
+    /// The same index once more: each page has the number that it has here.
+    pub fn copy(&self, alloc: Global) -> Result<Index, IndexError>
+        ensures index { IfOk result (λ index. index ≡ self.now) }
+        ensures refused { IsOkUnless result IndexError.OutOfMemory }
+    {
+        match self.rest.copy(alloc) {
+            Ok(rest) => Ok(Index { rest }),
+            Err(_) => Err(IndexError::OutOfMemory),
+        }
+    }
+
+    /// The record pointer kept under the key. It takes no memory, and reads one page a level.
+    pub fn find(&self, key: u64) -> Option<u64>
+        ensures pointer { result ≡ pointer_of (map_of self.now) key }
+        ensures entry { (entries : List (ℕ × ℕ)) → AreEntries self.now.fan self.now.prime (page_of self.now) entries → result ≡ value_at key entries }
+    {
+        leaf_for(self.store(), key).look(key)
+    }
+
+    /// The entries with `lo` at most their key and their key at most `hi`, in ascending order; none where `lo > hi`. It
+    /// takes no memory: it reads one page a level on its way down, and then each leaf from `lo`'s to the end once.
+    pub fn scan(&self, lo: u64, hi: u64) -> Scan<'_>
+        ensures entries { result ≡ filter (is_within lo hi) (map_of self.now) }
+        ensures map { AreAtStart self.now (map_of self.now) }
+        ensures runs { BringsInOrder }
+    {
+        Scan::new(self.store(), lo, hi)
+    }
+
+    /// All entries, in ascending order.
+    pub fn entries(&self, alloc: Global) -> Result<Vec<Entry>, AllocError>
+        ensures map { IfOk result (λ entries. entries.items ≡ map_of self.now) }
+        ensures kept { IfOk result (λ entries. AreAtStart self.now entries.items) }
+    {
+        self.scan(0, u64::MAX).collect(alloc)
+    }
+
+    /// The tree as text: one line a page, the top level first, and each level from the left. A line has the page's level,
+    /// number, floor, high key and right link, and then each entry as `key:value`, with single spaces between them and a
+    /// line feed at the end; a floor or a link that isn't there is `-`.
+    pub fn dump(&self, alloc: Global) -> Result<String, AllocError>
+        ensures { IfOk result (λ text. IsTextOf self.now (string_bytes text)) }
+    {
+        tree_text(alloc, self.store())
+    }
+
+    // The store of the tree.
+    fn store(&self) -> &Store
+        ensures store { result.now ≡ self.now }
+        ensures at_rest { IsStoreAtRest self.now }
+    {
+        self.rest.store()
+    }
+}

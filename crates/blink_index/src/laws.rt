@@ -1,0 +1,12 @@
+//! Laws of the definitions, each on a function that does nothing.
+ghost use Rattle.blink_index.specs.Laws.{MapIsKept, NoOtherMapIsKept};
+
+/// The plain map that an index is seen as is what its tree keeps.
+pub fn the_map_is_kept()
+    ensures { MapIsKept }
+{}
+
+/// Its tree keeps no other map.
+pub fn no_other_map_is_kept()
+    ensures { NoOtherMapIsKept }
+{}

@@ -1,0 +1,20 @@
+//! The index at rest: what a program holds between batches, to be read without a batch.
+//!
+//! Contracts see an index as its store, the record `PlainStore`, for a layer above that needs its pages. `map_of` of it is
+//! the plain map that it keeps, a list of entries in ascending order of their keys, for all who ask what is kept: the law
+//! `the_map_is_kept` ties the two.
+#![tactic(auto)]
+
+mod down;
+mod dump;
+mod error;
+mod index;
+mod laws;
+mod scan;
+#[cfg(test)]
+mod tests;
+
+pub use error::IndexError;
+pub use index::Index;
+pub use laws::{no_other_map_is_kept, the_map_is_kept};
+pub use scan::Scan;

@@ -1,0 +1,108 @@
+//! The entries of an index in the order of their keys.
+ghost use Rattle.std.specs.Prelude.{◌≡◌, ◌<◌, [], ◌++◌, drop, filter, length, IfNone, IfSome};
+ghost use Rattle.std.specs.Iterator.{YieldsFirst, item_count};
+ghost use Rattle.blink_page.specs.Place.{place_of};
+ghost use Rattle.blink_rest.specs.Rest.{IsStoreAtRest};
+ghost use Rattle.blink_index.specs.Index.{map_of};
+ghost use Rattle.blink_index.specs.Scan.{IsLinkOf, entries_after, is_within};
+
+use crate::down::leaf_for;
+use blink_batch::Entry;
+use blink_page::Page;
+use blink_store::Store;
+use std::marker::Model;
+
+/// The entries of an index whose keys are from one number to another, in ascending order.
+///
+/// It takes no memory: it walks the leaves along their right links, over those without an entry, and ends by itself.
+#[derive(Drop)]
+pub struct Scan<'a> {
+    store: &'a Store,
+    // What is left of the leaf where the scan stands.
+    entries: &'a [(u64, u64)],
+    // The leaf after it.
+    link: Option<u32>,
+    hi: u64,
+}
+
+impl<'a> Model for Scan<'a> {
+    ghost use Rattle.std.specs.Prelude.{List};
+    ghost use Rattle.blink_batch.specs.declared.entry.Entry.{Entry};
+
+    ghost Value = { List Entry };
+
+    ghost use Rattle.blink_index.specs.ScanView.{to_come, IsLinked};
+
+    ghost view = { to_come };
+
+    ghost invariant = { IsLinked };
+}
+
+impl<'a> Scan<'a> {
+    /// The entries of a tree at rest with `lo` at most their key, and their key at most `hi`.
+    pub(crate) fn new(store: &'a Store, lo: u64, hi: u64) -> Scan<'a>
+        requires { IsStoreAtRest store.now }
+        ensures { result ≡ filter (is_within lo hi) (map_of store.now) }
+    {
+        let leaf = leaf_for(store, lo);
+        Scan {
+            store,
+            entries: not_below(&leaf.items, lo),
+            link: leaf.right,
+            hi,
+        }
+    }
+}
+
+impl<'a> Iterator for Scan<'a> {
+    type Item = Entry;
+
+    ghost next_gives = { YieldsFirst (λ entries. entries) };
+
+    ghost remaining = { item_count (λ entries. entries) };
+
+    fn next(&mut self) -> Option<Entry> {
+        if self.entries.is_empty() {
+            let leaf = next_leaf(self.store, self.link)?;
+            self.entries = &leaf.items;
+            self.link = leaf.right;
+        }
+        let (&(key, pointer), rest) = self.entries.split_first()?;
+        if key > self.hi {
+            return None;
+        }
+        self.entries = rest;
+        Some(Entry { key, pointer })
+    }
+}
+
+// The entries from the first on whose key is at least `lo`.
+fn not_below(entries: &[(u64, u64)], lo: u64) -> &[(u64, u64)]
+    ensures { result.now ≡ drop (place_of lo entries.now) entries.now }
+{
+    for (i, &(key, _)) in entries.iter().enumerate() {
+        if lo <= key {
+            return &entries[i..];
+        }
+    }
+    &entries[entries.len()..]
+}
+
+// The first page from a link on that has an entry.
+fn next_leaf(store: &Store, from: Option<u32>) -> Option<&Page>
+    requires { IsLinkOf store.now from }
+    ensures entries { IfSome result (λ leaf. entries_after store.now from ≡ leaf.now.entries ++ entries_after store.now leaf.now.right) }
+    ensures link { IfSome result (λ leaf. IsLinkOf store.now leaf.now.right) }
+    ensures some { IfSome result (λ leaf. 0 < length leaf.now.entries) }
+    ensures end { IfNone result (entries_after store.now from ≡ []) }
+{
+    let mut link = from;
+    while let Some(number) = link {
+        let leaf = store.read(number);
+        if !leaf.items.is_empty() {
+            return Some(leaf);
+        }
+        link = leaf.right;
+    }
+    None
+}
