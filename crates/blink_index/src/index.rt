@@ -24,6 +24,9 @@ use std::alloc::{AllocError, Global};
 use std::marker::Model;
 
 /// A map from keys to record pointers, kept in a B-link tree at rest.
+///
+/// Contracts see it as its store: `map_of` of that is the plain map, for who asks what is kept, and its fan, its prime
+/// block and its pages are for a layer above that runs batches or shows pages.
 #[derive(Debug, Drop)]
 pub struct Index {
     rest: Rest,
@@ -106,7 +109,8 @@ impl Index {
     }
 
     /// The entries with `lo` at most their key and their key at most `hi`, in ascending order; none where `lo > hi`. It
-    /// takes no memory: it reads one page a level on its way down, and then each leaf from `lo`'s to the end once.
+    /// takes no memory: it reads one page a level on its way down, and then, as entries are asked for, each leaf on its way
+    /// once, up to the first key above `hi`.
     pub fn scan(&self, lo: u64, hi: u64) -> Scan<'_>
         ensures entries { result ≡ filter (is_within lo hi) (map_of self.now) }
         ensures map { AreAtStart self.now (map_of self.now) }
@@ -115,7 +119,7 @@ impl Index {
         Scan::new(self.store(), lo, hi)
     }
 
-    /// All entries, in ascending order.
+    /// All entries, in ascending order: the plain map that the tree keeps.
     pub fn entries(&self, alloc: Global) -> Result<Vec<Entry>, AllocError>
         ensures map { IfOk result (λ entries. entries.items ≡ map_of self.now) }
         ensures kept { IfOk result (λ entries. AreAtStart self.now entries.items) }
