@@ -133,7 +133,8 @@ impl World {
     /// How many pages the operation at this place of the batch has read, those under latches with them.
     pub fn reads_of(&self, op: u32) -> u64
         requires { op < length self.now.run.ops }
-        ensures { (start : PlainStore) (of : IsWorldOf start self.now) → result ≡ page_reads_in of.history op }
+        ensures count { (start : PlainStore) (of : IsWorldOf start self.now) → result ≡ page_reads_in of.history op }
+        ensures promised { (start : PlainStore) (of : IsWorldOf start self.now) → KeepsItsPromises start self.now of }
     {
         self.run.reads()[op as usize]
     }
@@ -141,7 +142,8 @@ impl World {
     /// How many steps the operation at this place of the batch has taken. Waits are not counted.
     pub fn moves_of(&self, op: u32) -> u64
         requires { op < length self.now.run.ops }
-        ensures { (start : PlainStore) (of : IsWorldOf start self.now) → result ≡ moves_in of.history op }
+        ensures count { (start : PlainStore) (of : IsWorldOf start self.now) → result ≡ moves_in of.history op }
+        ensures promised { (start : PlainStore) (of : IsWorldOf start self.now) → KeepsItsPromises start self.now of }
     {
         self.run.moves()[op as usize]
     }

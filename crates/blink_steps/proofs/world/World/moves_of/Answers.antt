@@ -1,7 +1,7 @@
 use Rattle.std.proofs.Common.{◌<◌, ℕ, List, length, get_or, ap, sym, subst, ◌∙◌, arith}
 use Rattle.std.proofs.lemmas.Option.{get_or_from_slice_get}
 use Rattle.blink_steps.specs.World.{PlainWorld}
-use Rattle.blink_steps.proofs.WorldPromises.{counted, shaped}
+use Rattle.blink_steps.proofs.WorldPromises.{counted, promises, shaped}
 use Rattle.blink_steps.proofs.world.World.moves_of.Goals as goal
 
 pub bounds-moves-op : goal.bounds-moves-op
@@ -10,7 +10,10 @@ bounds-moves-op c =
     let within = subst (λ (world : PlainWorld). c.args.op < length world.run.ops) (sym c.self.view_is) c.requires in
     omega (arith, lists.a_move_count_each, ap (λ (xs : List ℕ). length xs) c.moves.ensures)
 
-pub returns : goal.returns
-returns c start of =
+pub returns-clause-count : goal.returns-clause-count
+returns-clause-count c start of =
     ap (λ (xs : List ℕ). get_or xs c.args.op 0) (c.moves.ensures ∙ ap (λ (world : PlainWorld). world.run.moves) c.self.view_is)
     ∙ get_or_from_slice_get c.args.self.now.run.moves c.args.op _ 0 ((counted start c.args.self.now of).moves c.args.op c.requires)
+
+pub returns-clause-promised : goal.returns-clause-promised
+returns-clause-promised c start of = promises start _ of
