@@ -6,8 +6,6 @@ mod error;
 mod ledger;
 mod links;
 mod machine;
-#[cfg(test)]
-mod pick_tests;
 mod remembered;
 mod run;
 mod seat;
