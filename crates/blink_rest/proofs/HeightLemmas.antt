@@ -10,7 +10,7 @@ use Rattle.blink_rest.specs.Rest.{AreChains, EachNames, TopHasOne, AreLevels}
 use Rattle.blink_rest.proofs.WholeLemmas.{AreNumbered, levels_at_most}
 
 -- two to the power of n
-abbrev two_to : ℕ → ℕ
+abbrev pub two_to : ℕ → ℕ
 two_to zero = 1
 two_to (suc n) = two_to n + two_to n
 
@@ -21,7 +21,7 @@ two_to_rises (suc n) zero below = absurd (omega arith)
 two_to_rises (suc n) (suc m) below = omega (arith, two_to_rises n m (omega arith))
 
 -- the pages of an inner level have at least two entries each
-two_each : (fan level : ℕ) (floor link : Option ℕ) (cells : List Cell) (last_floor last_link : Option ℕ) → 0 < level
+pub two_each : (fan level : ℕ) (floor link : Option ℕ) (cells : List Cell) (last_floor last_link : Option ℕ) → 0 < level
     → InLine fan level floor link cells last_floor last_link → length cells + length cells ≤ length (entries_along cells)
 two_each fan level floor link [] last_floor last_link inner line = omega arith
 two_each fan level floor link (c ∷ cells) last_floor last_link inner line =

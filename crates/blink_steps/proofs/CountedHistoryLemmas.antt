@@ -138,17 +138,22 @@ counted_of_turn jobs_are_on_levels levels_are_few history taken old new entries 
 counted_of_turn jobs_are_on_levels levels_are_few history taken old new entries sound counted (TakesTurn.idles idle idled same) =
     counted_of_rest history taken old new counted same (rw idled refl) (rw idled refl) (rw idled refl) (rw idled refl)
 
+-- at the opening no operation is under way
+pub none_under_way : (start : PlainStore) (ops : List Op) (assignment : Assignment) (run : PlainRun) → IsOpeningRun start ops assignment run
+    → (worker : ℕ) (seat : Seat) (working : Working) → slice_get run.seats worker ≡ Some seat → seat.working ≡ Some working → ⊥
+none_under_way start ops assignment run begins worker seat working is_seat is_working =
+    let seated : worker < length run.seats = slice_get_within run.seats worker seat is_seat in
+    let seats : length run.seats ≡ assignment.workers = begins.a_seat_each in
+    let idle = begins.all_idle worker (omega arith) in
+    let same : Some seat ≡ Some (idle_seat (next_place assignment.lanes worker 0)) = sym is_seat ∙ idle in
+    let same_seat : seat ≡ idle_seat (next_place assignment.lanes worker 0) = cc in
+    let none : seat.working ≡ None = ap (λ (seat : Seat). seat.working) same_seat in
+    cc
+
 -- they hold at the opening, where no operation is under way
 counted_at_opening : (start : PlainStore) (ops : List Op) (assignment : Assignment) (run : PlainRun) → IsOpeningRun start ops assignment run → IsCounted [] run
 counted_at_opening start ops assignment run begins = record {
-  under_way = λ worker seat working is_seat is_working.
-      let seated : worker < length run.seats = slice_get_within run.seats worker seat is_seat in
-      let seats : length run.seats ≡ assignment.workers = begins.a_seat_each in
-      let idle = begins.all_idle worker (omega arith) in
-      let same : Some seat ≡ Some (idle_seat (next_place assignment.lanes worker 0)) = sym is_seat ∙ idle in
-      let same_seat : seat ≡ idle_seat (next_place assignment.lanes worker 0) = cc in
-      let none : seat.working ≡ None = ap (λ (seat : Seat). seat.working) same_seat in
-      absurd (cc);
+  under_way = λ worker seat working is_seat is_working. absurd (none_under_way start ops assignment run begins worker seat working is_seat is_working);
   to_come = λ worker soon later seat is_seat is_next after own. refl;
   everywhere = λ place. record { numbers = omega arith; page_writes = omega arith; prime_writes = omega arith };
   inserts = λ place some. absurd (omega arith);

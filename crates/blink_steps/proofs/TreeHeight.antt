@@ -1,5 +1,5 @@
 -- Few levels: each has at least twice as many pages as the one above, so a tree has at most 20.
-use Rattle.std.proofs.Common.{◌≡◌, ℕ, ◌+◌, ◌<◌, ◌≤◌, zero, suc, Option, Some, None, List, [], ◌∷◌, length, inl, inr, refl, ap, arith, length-append}
+use Rattle.std.proofs.Common.{◌≡◌, ℕ, ◌+◌, ◌<◌, ◌≤◌, zero, suc, Option, Some, None, List, [], ◌∷◌, length, inl, inr, refl, ap, arith}
 use Rattle.std.proofs.lemmas.Bool.{cases_lt}
 use Rattle.std.proofs.lemmas.List.{length-map}
 use Rattle.blink_page.specs.Limits.{IsPageNumber}
@@ -11,20 +11,11 @@ use Rattle.blink_rest.specs.Chain.{Cell, Pages, AreAmong, InLine, IsChain, Stand
 use Rattle.blink_rest.specs.Level.{entries_along, numbers_of}
 use Rattle.blink_rest.proofs.CountLemmas.{AreWithin, at_most_n}
 use Rattle.blink_rest.proofs.DifferLemmas.{chain_differs}
+use Rattle.blink_rest.proofs.HeightLemmas.{two_each, two_to}
 use Rattle.blink_rest.proofs.LevelLemmas.{chain_rising}
 use Rattle.blink_steps.specs.Tree.{Levels, Refers, IsTree}
 use Rattle.blink_steps.proofs.TreeStatements.{FewLevels}
 use Rattle.blink_steps.proofs.TreeReading.{some_stand, high_key_past, named_below, leftmost_begins}
-
--- the pages of an inner level have at least two entries each
-two_each : (fan level : ℕ) (floor link : Option ℕ) (cells : List Cell) (last_floor last_link : Option ℕ) → 0 < level
-    → InLine fan level floor link cells last_floor last_link → length cells + length cells ≤ length (entries_along cells)
-two_each fan level floor link [] last_floor last_link inner line = omega arith
-two_each fan level floor link (c ∷ cells) last_floor last_link inner line =
-    let same_level = line.2 in
-    let two = (line.3.inner (omega arith)).two_at_least in
-    let more = two_each fan level (Some c.page.high) c.page.right cells last_floor last_link inner line.4 in
-    omega (arith, length-append c.page.entries (entries_along cells))
 
 module _ (fan level leftmost : ℕ) (pages : Pages) (lower : List Cell) (chain : IsChain fan pages level leftmost lower) where
   -- separators that rise from a floor of a chain, and are high keys there, are no more than its pages from that floor on
@@ -45,11 +36,6 @@ module _ (fan level leftmost : ℕ) (pages : Pages) (lower : List Cell) (chain :
 cells_within : (pages : Pages) (cells : List Cell) → AreAmong pages cells → ((number : ℕ) (page : PlainPage) → pages number ≡ Some page → IsPageNumber number) → AreWithin MAX_PAGE (numbers_of cells)
 cells_within pages [] among within = tt
 cells_within pages (c ∷ cells) among within = let it = within c.number c.page among.0 in (it.0, it.1, cells_within pages cells among.1 within)
-
--- two to the power of n
-abbrev two_to : ℕ → ℕ
-two_to zero = 1
-two_to (suc n) = two_to n + two_to n
 
 module _ (fan : ℕ) (prime : List ℕ) (pages : Pages) (levels : Levels) (tree : IsTree fan prime pages levels) where
   -- a level has at least twice as many pages as the one above

@@ -1,5 +1,5 @@
 -- Along a history every operation's way is short.
-use Rattle.std.proofs.Common.{◌≡◌, ℕ, ◌<◌, ◌∙◌, false, Option, Some, None, List, [], ◌∷◌, length, slice_get, refl, ap, sym, subst, inl, inr, arith}
+use Rattle.std.proofs.Common.{◌≡◌, ℕ, ◌<◌, ◌∙◌, false, Option, Some, List, [], ◌∷◌, length, slice_get, refl, ap, sym, subst, inl, inr, arith}
 use Rattle.std.specs.Prelude.{slice_set}
 use Rattle.std.proofs.lemmas.Bool.{cases_eq}
 use Rattle.std.proofs.lemmas.Option.{get_or_from_slice_get, slice_get_within}
@@ -8,7 +8,6 @@ use Rattle.blink_batch.specs.declared.Op.{Op}
 use Rattle.blink_batch.specs.declared.Op.TheVariants.{Find}
 use Rattle.blink_batch.specs.Batch.{FitsWords}
 use Rattle.blink_batch.specs.Cut.{Assignment}
-use Rattle.blink_batch.specs.Order.{next_place}
 use Rattle.blink_batch.specs.PlainMap.{IsAscending}
 use Rattle.blink_batch.proofs.NextPlaceLemmas.{next_place_is}
 use Rattle.blink_rest.specs.Entries.{AreEntries}
@@ -26,7 +25,7 @@ use Rattle.blink_steps.specs.Machine.{PlainMachine}
 use Rattle.blink_steps.specs.Moment.{goes_on, IsItsOperation}
 use Rattle.blink_steps.specs.Run.{PlainRun, Taken, TakesTurn, Follows, IsOpeningRun, IsNextOf, after_move, seat_after, idle_seat, busy_seat, moment_of}
 use Rattle.blink_steps.specs.SoundRun.{IsSoundRun, IsIdle, pairs_of}
-use Rattle.blink_steps.proofs.CountedHistoryLemmas.{IsSoundAndCounted, counted_along, other_lane, own_of_working}
+use Rattle.blink_steps.proofs.CountedHistoryLemmas.{IsSoundAndCounted, counted_along, none_under_way, other_lane, own_of_working}
 use Rattle.blink_steps.proofs.CountedRun.{IsCounted, IsKnown, next_is_known}
 use Rattle.blink_steps.proofs.CountedTurnLemmas.{working_after}
 use Rattle.blink_steps.proofs.FindReadLemmas.{find_reads_on_way}
@@ -150,14 +149,7 @@ walked_of_turn laws history taken old new entries sound counted walked (TakesTur
 -- they are short at the opening, where no operation is under way
 walked_at_opening : (start : PlainStore) (ops : List Op) (assignment : Assignment) (run : PlainRun) → IsOpeningRun start ops assignment run → IsWalked [] run
 walked_at_opening start ops assignment run begins = record {
-  under_way = λ worker seat working is_seat is_working.
-      let seated : worker < length run.seats = slice_get_within run.seats worker seat is_seat in
-      let seats : length run.seats ≡ assignment.workers = begins.a_seat_each in
-      let idle = begins.all_idle worker (omega arith) in
-      let same : Some seat ≡ Some (idle_seat (next_place assignment.lanes worker 0)) = sym is_seat ∙ idle in
-      let same_seat : seat ≡ idle_seat (next_place assignment.lanes worker 0) = cc in
-      let none : seat.working ≡ None = ap (λ (seat : Seat). seat.working) same_seat in
-      absurd (cc);
+  under_way = λ worker seat working is_seat is_working. absurd (none_under_way start ops assignment run begins worker seat working is_seat is_working);
   everywhere = λ place. record {
     reads_differ = tt;
     reads_there = tt;
