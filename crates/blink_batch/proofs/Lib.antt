@@ -11,3 +11,4 @@ pub mod SearchLemmas
 pub mod NextPlaceLemmas
 pub mod LaneLemmas
 pub mod SplitLemmas
+pub mod LastPlaceLemmas

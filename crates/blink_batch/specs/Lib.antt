@@ -2,6 +2,7 @@ pub mod Batch
 pub mod Cell
 pub mod Codes
 pub mod Cut
+pub mod LastPlaces
 pub mod Number
 pub mod Operation
 pub mod Order

@@ -1,5 +1,6 @@
 //! A batch cut among workers.
 ghost use Rattle.std.specs.Prelude.{◌≡◌, ◌<◌, ◌≤◌, ◌%◌, ◌↔◌, ◌⊎◌, EachIndex, length, map, IfErr, IfOk, MatchOption, IsOk, IsOkUnless, IsTrue, Err};
+ghost use Rattle.blink_batch.specs.declared.batch.TheConstants.{BATCH_LIMIT};
 ghost use Rattle.blink_batch.specs.declared.cut.CutError.TheVariants.{BadWorkers, OutOfMemory};
 ghost use Rattle.blink_batch.specs.declared.cut.TheConstants.{WORKER_LIMIT};
 ghost use Rattle.blink_batch.specs.Operation.{key_of};
@@ -8,6 +9,7 @@ ghost use Rattle.blink_batch.specs.Cut.{AreLanes, Assignment, IsCutFault, IsFirs
 
 use crate::batch::Batch;
 use crate::lanes::Lanes;
+use crate::last_places::LastPlaces;
 use crate::operation::Op;
 use std::alloc::Global;
 use std::marker::Model;
@@ -88,10 +90,13 @@ impl Cut {
         Ok(Cut { workers, lanes })
     }
 
-    /// The cut that gives operation i of the batch to worker `lanes[i]`. It takes no memory. A refusal gives the lanes
-    /// up: those of [`Lanes::new`] come first and in its order, and then `SplitKey`, which tells the first operation
-    /// whose key had an earlier operation in another lane. Each operation is compared with all earlier ones: at most
-    /// n * (n - 1) / 2 comparisons of keys for n operations.
+    /// The cut that gives operation i of the batch to worker `lanes[i]`. A refusal gives the lanes up: those of
+    /// [`Lanes::new`] come first and in its order, and then `SplitKey`, which tells the first operation whose key had an
+    /// earlier operation in another lane.
+    ///
+    /// It takes no memory from the heap, and a table of 32 KiB on the stack. The work grows with the batch, unless many
+    /// keys fall into one bucket of the table: then there are at worst n * (n - 1) / 2 comparisons of keys for n
+    /// operations.
     pub fn from_lanes(batch: &Batch, workers: u8, lanes: Vec<u8>) -> Result<Cut, CutError>
         ensures workers { IfOk result (λ cut. cut.workers ≡ workers) }
         ensures lanes { IfOk result (λ cut. cut.lanes ≡ lanes.items) }
@@ -113,8 +118,11 @@ impl Cut {
     }
 
     /// Whether it is a lawful cut of this batch, which need not be the one that it was made for: it has as many lanes
-    /// as the batch has operations, and no key of the batch is in two lanes. It takes no memory, and at most
-    /// n * (n - 1) / 2 comparisons of keys for n operations.
+    /// as the batch has operations, and no key of the batch is in two lanes.
+    ///
+    /// It takes no memory from the heap, and a table of 32 KiB on the stack. The work grows with the batch, unless many
+    /// keys fall into one bucket of the table: then there are at worst n * (n - 1) / 2 comparisons of keys for n
+    /// operations.
     pub fn is_for(&self, batch: &Batch) -> bool
         ensures { IsTrue result ↔ IsLawfulCut batch.now self.now.workers self.now.lanes }
     {
@@ -150,28 +158,17 @@ impl Cut {
 
 // The first operation whose key had an earlier operation in another lane.
 fn first_split_key(ops: &[Op], lanes: &[u8]) -> Option<usize>
-    requires { length lanes.now ≡ length ops.now }
+    requires lengths { length lanes.now ≡ length ops.now }
+    requires limit { length ops.now ≤ BATCH_LIMIT }
     ensures { MatchOption result (EachIndex ops.now (λ place. ¬ IsSplitKey ops.now lanes.now place)) (IsFirstSplitKey ops.now lanes.now) }
 {
+    let mut places = LastPlaces::new();
     for place in 0..ops.len() {
-        if is_split_key(ops, lanes, place) {
-            return Some(place);
+        // No place so far is split, so all earlier operations on the key are in the lane of the last one.
+        match places.last_on_key(ops, place) {
+            Some(earlier) if lanes[earlier] != lanes[place] => return Some(place),
+            _ => places.note(ops, place),
         }
     }
     None
-}
-
-// Whether the key of the operation at this place had an earlier operation in another lane.
-fn is_split_key(ops: &[Op], lanes: &[u8], place: usize) -> bool
-    requires lengths { length lanes.now ≡ length ops.now }
-    requires place { place < length ops.now }
-    ensures { IsTrue result ↔ IsSplitKey ops.now lanes.now place }
-{
-    let key = ops[place].key();
-    for earlier in 0..place {
-        if ops[earlier].key() == key && lanes[earlier] != lanes[place] {
-            return true;
-        }
-    }
-    false
 }

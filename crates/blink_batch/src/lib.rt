@@ -7,6 +7,7 @@ mod cut;
 mod entry;
 mod error;
 mod lanes;
+mod last_places;
 mod number;
 mod operation;
 mod plain;

@@ -202,6 +202,25 @@ fn the_first_split_key_is_told(rt: HostRuntime) -> Result<(), Fail> {
     Ok(())
 }
 
+// Two operations on each of 2,047 keys, most of which share a bucket, and then two more on the first key.
+#[test]
+fn split_keys_are_told_in_a_full_batch(rt: HostRuntime) -> Result<(), Fail> {
+    let mut ops = Vec::new(rt.alloc());
+    let mut lanes = Vec::new(rt.alloc());
+    for n in 0..4095 {
+        ops.push(Op::Find(n % 2047 * 4181))?;
+        lanes.push((n % 2047 % 2) as u8)?;
+    }
+    ops.push(Op::Find(0))?;
+    let batch = Batch::new(ops)?;
+    for (last, refusal) in [(0, None), (1, Some(CutError::SplitKey(4095)))] {
+        let mut given = lanes.clone()?;
+        given.push(last)?;
+        assert_eq!(rt; Cut::from_lanes(&batch, 2, given).err(), refusal, "{last}");
+    }
+    Ok(())
+}
+
 #[test]
 fn cuts_are_for_batches(rt: HostRuntime) -> Result<(), Fail> {
     let batch = Batch::new([Op::Insert(5, 50), Op::Find(6)].to_vec(rt.alloc())?)?;

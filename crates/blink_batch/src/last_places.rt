@@ -1,0 +1,77 @@
+//! The last operation so far on each key, kept without memory from the heap.
+ghost use Rattle.std.specs.Prelude.{◌≡◌, ◌+◌, ◌<◌, ◌≤◌, List, length};
+ghost use Rattle.blink_batch.specs.declared.batch.TheConstants.{BATCH_LIMIT};
+ghost use Rattle.blink_batch.specs.declared.last_places.TheConstants.{BUCKETS};
+ghost use Rattle.blink_batch.specs.declared.operation.Op.{Op};
+ghost use Rattle.blink_batch.specs.Cut.{key_at};
+ghost use Rattle.blink_batch.specs.LastPlaces.{AreLastPlaces, IsLastBefore, IsOnKey, bucket_of};
+
+use crate::batch::BATCH_LIMIT;
+use crate::operation::Op;
+
+// 2 ^ 12, as many as a full batch has operations, so that few keys share a bucket.
+const BUCKETS: usize = 4096;
+
+/// For each key so far, the place of its last operation: a table of fixed size, so that nothing is asked of the heap.
+/// Each bucket has its places as a chain, the last first.
+#[derive(Drop)]
+pub(crate) struct LastPlaces {
+    // For each bucket, the last place so far whose key falls into it.
+    lasts: [Option<u16>; BUCKETS],
+    // For each place so far, the one before it in its bucket.
+    earlier: [Option<u16>; BATCH_LIMIT],
+}
+
+impl LastPlaces {
+    /// The table before the first place.
+    pub(crate) fn new() -> LastPlaces
+        ensures { (ops : List Op) → AreLastPlaces ops 0 result }
+    {
+        LastPlaces {
+            lasts: [None; BUCKETS],
+            earlier: [None; BATCH_LIMIT],
+        }
+    }
+
+    /// The last earlier place whose operation is on the key of the operation at this one, by a walk through the places of
+    /// the key's bucket.
+    pub(crate) fn last_on_key(&self, ops: &[Op], place: usize) -> Option<usize>
+        requires place { place < length ops.now }
+        requires limit { length ops.now ≤ BATCH_LIMIT }
+        requires table { AreLastPlaces ops.now place self.now }
+        ensures { IsLastBefore (IsOnKey ops.now (key_at ops.now place)) place result }
+    {
+        let key = ops[place].key();
+        let mut next = self.lasts[bucket(key)];
+        while let Some(candidate) = next {
+            let candidate = usize::from(candidate);
+            if ops[candidate].key() == key {
+                return Some(candidate);
+            }
+            next = self.earlier[candidate];
+        }
+        None
+    }
+
+    /// Takes this place, the first that isn't in the table yet, into it.
+    pub(crate) fn note(&mut self, ops: &[Op], place: usize)
+        requires place { place < length ops.now }
+        requires limit { length ops.now ≤ BATCH_LIMIT }
+        requires table { AreLastPlaces ops.now place self.old }
+        ensures { AreLastPlaces ops.now (place + 1) self.new }
+    {
+        let bucket = bucket(ops[place].key());
+        self.earlier[place] = self.lasts[bucket];
+        self.lasts[bucket] = Some(place as u16);
+    }
+}
+
+// The bucket of a key: the upper bits of its product with 2 ^ 64 over the golden ratio (Fibonacci hashing), so that keys
+// at equal distances don't crowd into few buckets.
+#[tactic(auto, unfolding(crate::specs::LastPlaces::bucket_of))]
+fn bucket(key: u64) -> usize
+    ensures value { result ≡ bucket_of key }
+    ensures below { result < BUCKETS }
+{
+    (key.wrapping_mul(0x9E37_79B9_7F4A_7C15) >> 52) as usize
+}
