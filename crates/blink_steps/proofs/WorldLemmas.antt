@@ -149,7 +149,7 @@ module _ (laws : RunLaws) where
     promises_with =
         let sound = sound_now in
         record {
-          tree = record { levels = sound.sound.0; lawful = sound.sound.1.lawful; placed = sound.sound.1.placed };
+          tree = record { levels = sound.sound.0; lawful = sound.sound.1.lawful; latches = sound.sound.1.latches; placed = sound.sound.1.placed };
           one_latch = laws.one_latch_each world.run;
           writes_its_own = writes_after start world.run.ops world.run.assignment of.opening world.run of.history entries of.may_begin at_start of.is_opening of.follows;
           decided = λ others others_at_start. (sound_after start world.run.ops world.run.assignment of.opening world.run of.history others of.may_begin others_at_start of.is_opening of.follows).decided;

@@ -16,19 +16,22 @@ use Rattle.blink_store.specs.Store.{PlainStore, page_of}
 use Rattle.blink_steps.specs.Bounds.{IsShort}
 use Rattle.blink_steps.specs.Counts.{IsBounded}
 use Rattle.blink_steps.specs.Moment.{Moment}
-use Rattle.blink_steps.specs.Placed.{IsPlaced}
 use Rattle.blink_steps.specs.Machine.{PlainMachine}
+use Rattle.blink_steps.specs.Owned.{LatchesAreHeld}
+use Rattle.blink_steps.specs.Placed.{IsPlaced}
 use Rattle.blink_steps.specs.Run.{PlainRun, moment_of}
 use Rattle.blink_steps.specs.Sound.{IsLawfulTree}
 use Rattle.blink_steps.specs.SoundRun.{IsDecided, pairs_of}
 use Rattle.blink_steps.specs.Tree.{Levels}
 use Rattle.blink_steps.specs.World.{PlainWorld, IsWorldOf, HasEnded, OnEachTurn, WritesItsOwn}
 
--- a lawful tree with debts, and each operation where its state says it is: so a page in no chain has the content that its
--- operation gives it
+-- a lawful tree with debts; each worker holds the latch that its operation's state says, and no other, so that whoever makes
+-- the top level grow holds that of its leftmost page; and each operation is where its state says, so that a page in no chain
+-- has the content that its operation gives it
 pub record IsTreeWithDebts (moment : Moment) : Type 0 where
   pub levels : Levels
   pub lawful : IsLawfulTree moment levels
+  pub latches : LatchesAreHeld moment
   pub placed : (worker : ℕ) (m : PlainMachine) → moment.machines worker ≡ Some m → IsPlaced moment levels m
 
 -- a search for the key from the root comes to a leaf that keeps this pointer under it
