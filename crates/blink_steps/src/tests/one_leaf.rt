@@ -30,7 +30,9 @@ fn an_insertion_takes_six_steps(rt: HostRuntime) -> Result<(), Fail> {
 fn a_second_worker_waits_for_the_latch(rt: HostRuntime) -> Result<(), Fail> {
     let rest = Rest::empty(rt.alloc(), 4)?;
     let ops = [Op::Insert(1, 1), Op::Insert(2, 2)];
-    let mut world = world_of(rt.alloc(), rest, &ops, 2, &[0, 1], &[0, 0, 0, 1, 1])?;
+    let mut world = world_of(rt.alloc(), rest, &ops, 2, &[0, 1], &[])?;
+    takes(&rt, &mut world, 0, &[ReadPrime, ReadPage(1), Latch(1)]);
+    takes(&rt, &mut world, 1, &[ReadPrime, ReadPage(1)]);
     assert_eq!(rt; world.step(1), Ok(Step::Waited));
     assert_eq!(rt; world.schedule(), [0, 0, 0, 1, 1, 1].as_slice());
     assert_eq!(rt; world.answers(), [None, None].as_slice());

@@ -5,11 +5,28 @@ use crate::tests::{after, full_leaf, has_entries, takes, world_of};
 use blink_batch::{Answer, Op};
 use blink_page::GREATEST_KEY;
 use blink_rest::Rest;
+use std::process::Abort;
 use std::test::Fail;
+
+// The full leaf with 5 inserted: its halves are pages 1 and 2, and their root is page 3.
+fn has_halves(rt: &impl Abort, rest: &Rest) {
+    let store = rest.store();
+    assert_eq!(rt; store.pages(), 3);
+    assert_eq!(rt; store.prime().leftmost.as_slice(), [1, 3].as_slice());
+    let left = store.read(1);
+    has_entries(rt, left, &[(1, 10), (2, 20), (3, 30)]);
+    assert_eq!(rt; (left.floor, left.high, left.right), (None, 3, Some(2)));
+    let right = store.read(2);
+    has_entries(rt, right, &[(4, 40), (5, 50)]);
+    let ends = (right.floor, right.high, right.right);
+    assert_eq!(rt; ends, (Some(3), GREATEST_KEY, None));
+    has_entries(rt, store.read(3), &[(3, 1), (GREATEST_KEY, 2)]);
+}
 
 #[test]
 fn a_full_leaf_splits_and_the_root_grows(rt: HostRuntime) -> Result<(), Fail> {
     let rest = full_leaf(rt.alloc())?;
+    assert_eq!(rt; rest.store().pages(), 1);
     let mut world = world_of(rt.alloc(), rest, &[Op::Insert(5, 50)], 1, &[0], &[])?;
     let steps = [
         ReadPrime,
@@ -25,23 +42,7 @@ fn a_full_leaf_splits_and_the_root_grows(rt: HostRuntime) -> Result<(), Fail> {
     ];
     takes(&rt, &mut world, 0, &steps);
     assert!(rt; world.ended());
-    Ok(())
-}
-
-#[test]
-fn the_halves_of_a_full_leaf(rt: HostRuntime) -> Result<(), Fail> {
-    let rest = after(rt.alloc(), full_leaf(rt.alloc())?, &[Op::Insert(5, 50)])?;
-    let store = rest.store();
-    assert_eq!(rt; store.pages(), 3);
-    assert_eq!(rt; store.prime().leftmost.as_slice(), [1, 3].as_slice());
-    let left = store.read(1);
-    has_entries(&rt, left, &[(1, 10), (2, 20), (3, 30)]);
-    assert_eq!(rt; (left.floor, left.high, left.right), (None, 3, Some(2)));
-    let right = store.read(2);
-    has_entries(&rt, right, &[(4, 40), (5, 50)]);
-    let ends = (right.floor, right.high, right.right);
-    assert_eq!(rt; ends, (Some(3), GREATEST_KEY, None));
-    has_entries(&rt, store.read(3), &[(3, 1), (GREATEST_KEY, 2)]);
+    has_halves(&rt, &world.into_rest());
     Ok(())
 }
 
@@ -70,7 +71,16 @@ fn postings_overtake_each_other(rt: HostRuntime) -> Result<(), Fail> {
         Op::Insert(8, 80),
     ];
     let rest = full_leaf(rt.alloc())?;
-    let mut world = world_of(rt.alloc(), rest, &ops, 2, &[0, 1, 1, 1], &[0; 6])?;
+    let mut world = world_of(rt.alloc(), rest, &ops, 2, &[0, 1, 1, 1], &[])?;
+    let to_old_page = [
+        ReadPrime,
+        ReadPage(1),
+        Latch(1),
+        ReadPage(1),
+        WritePage(2),
+        WritePage(1),
+    ];
+    takes(&rt, &mut world, 0, &to_old_page);
     let into_second = [
         ReadPrime,
         ReadPage(1),
