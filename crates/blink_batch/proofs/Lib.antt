@@ -4,9 +4,11 @@ pub mod FieldLemmas
 pub mod NumberLemmas
 pub mod OrderLemmas
 pub mod PlaceLemmas
+pub mod RangeLemmas
 pub mod ReadLemmas
 pub mod RecordLemmas
 pub mod RunLemmas
+pub mod ScriptLemmas
 pub mod SearchLemmas
 pub mod NextPlaceLemmas
 pub mod LaneLemmas

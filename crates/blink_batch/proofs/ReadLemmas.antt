@@ -1,5 +1,5 @@
 -- What a reader of a script has read so far, and what it finds next.
-use Rattle.std.proofs.Common.{◌≡◌, ◌≤◌, ◌++◌, ◌∷◌, [], ℕ, List, length, map, Bool, true, false, Option, Some, Result, Ok, refl, sym, ap, ◌∙◌, append_assoc, inl}
+use Rattle.std.proofs.Common.{◌≡◌, ◌≤◌, ◌++◌, ◌∷◌, [], ℕ, List, length, map, Bool, true, false, Option, Some, Ok, Err, refl, sym, ap, ◌∙◌, append_assoc, inl}
 use Rattle.csv.specs.Reading.{Reached, Ready, ReadRecord, default_config, source_of, strip_bom}
 use Rattle.csv.specs.declared.parser.State.TheVariants as st
 use Rattle.csv.specs.declared.reader.Reader.{Reader}
@@ -9,11 +9,12 @@ use Rattle.std.proofs.lemmas.List.{map-append}
 use Rattle.csv.proofs.ReadFacts.{rows-more, rows-end}
 use Rattle.blink_batch.specs.declared.operation.Op.{Op}
 use Rattle.blink_batch.specs.declared.batch.TheConstants.{BATCH_LIMIT}
-use Rattle.blink_batch.specs.declared.error.RecordError.{RecordError}
 use Rattle.blink_batch.specs.declared.error.ScriptError.{ScriptError}
 use Rattle.blink_batch.specs.Record.{operation_of}
-use Rattle.blink_batch.specs.Script.{HasParts, IsRefused, RefusedAfter, parts_of, records_of}
+use Rattle.blink_batch.specs.Script.{records_of, script_of}
+use Rattle.blink_batch.specs.ScriptLaw.{RefusedAfter, parts_of}
 use Rattle.blink_batch.proofs.RecordLemmas.{reached_all, reached_front}
+use Rattle.blink_batch.proofs.ScriptLemmas.{as_read, script_from_parts, script_from_refusal}
 
 -- the reader reads records by csv's defaults, of any length, and the next read is of one record
 pub record IsSetUp {R : Type 0} (reader : Reader R) : Type 0 where
@@ -21,10 +22,6 @@ pub record IsSetUp {R : Type 0} (reader : Reader R) : Type 0 where
   pub ready : Ready reader
   pub config : reader.config ≡ default_config
   pub flexible : reader.flexible ≡ true
-
--- an operation as the meaning of a record
-abbrev as_read : Op → Result Op RecordError
-as_read op = Ok op
 
 -- of the text, the reader has read records that mean these operations, and has these bytes left
 pub record HasRead {R : Type 0} (rem : R → Option (List ℕ)) (reader : Reader R) (text : List ℕ) (ops : List Op) : Type 0 where
@@ -70,11 +67,11 @@ module _ {R : Type 0} (rem : R → Option (List ℕ)) where
           }
 
       -- the record that is read is the first that is refused
-      pub refused_here : (error : ScriptError) → length ops ≤ BATCH_LIMIT → ReadRecord rem a b true fields → RefusedAfter ops (operation_of fields) error → IsRefused (records_of text) error
+      pub refused_here : (error : ScriptError) → length ops ≤ BATCH_LIMIT → ReadRecord rem a b true fields → RefusedAfter ops (operation_of fields) error → script_of (records_of text) ≡ Err error
       refused_here error few read refused =
           let more = rows-more rem a b fields default_config st.StartRecord (strip_bom text) so_far.left so_far.rows set_up.config so_far.source so_far.reached read in
           let front = reached_front _ _ _ _ _ more.2 in
-          record {
+          script_from_refusal (records_of text) error (record {
             before = so_far.rows;
             row = fields;
             after = front.0;
@@ -82,15 +79,15 @@ module _ {R : Type 0} (rem : R → Option (List ℕ)) where
             ops = ops;
             operations_before = record { meanings = so_far.meanings; one_batch = few };
             refused = refused;
-          }
+          })
 
       -- where no record is left, all are operations
-      pub all_read : length ops ≤ BATCH_LIMIT → ReadRecord rem a b false fields → HasParts (records_of text) (parts_of ops)
+      pub all_read : length ops ≤ BATCH_LIMIT → ReadRecord rem a b false fields → script_of (records_of text) ≡ Ok (parts_of ops)
       all_read few read =
           let ended = rows-end rem a b fields default_config so_far.left set_up.config so_far.source read in
           let all = reached_all _ _ _ _ _ so_far.reached ended in
-          record {
+          script_from_parts (records_of text) (parts_of ops) (record {
             ops = ops;
             all_operations = record { meanings = rw all at so_far.meanings; one_batch = few };
             their_batch = refl;
-          }
+          })

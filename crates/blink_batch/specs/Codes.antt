@@ -12,6 +12,7 @@ code_of_cut_error cut.BadWorkers = 2
 code_of_cut_error cut.WrongLength = 3
 code_of_cut_error (cut.BadLane place) = 4
 code_of_cut_error (cut.SplitKey place) = 5
+code_of_cut_error cut.BadBounds = 6
 code_of_cut_error cut.OutOfMemory = 7
 
 abbrev pub code_of_record_error : RecordError → ℕ

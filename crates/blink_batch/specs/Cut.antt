@@ -2,7 +2,7 @@
 use Rattle.std.specs.Prelude.{ℕ, ◌≡◌, ◌≢◌, ◌<◌, ◌≤◌, ◌⊎◌, List, length, All, AllPairs, slice_index_or}
 use Rattle.std.specs.List.{zip}
 use Rattle.blink_batch.specs.declared.cut.CutError.{CutError}
-use Rattle.blink_batch.specs.declared.cut.CutError.TheVariants.{BadWorkers, WrongLength, BadLane, SplitKey, OutOfMemory}
+use Rattle.blink_batch.specs.declared.cut.CutError.TheVariants.{BadWorkers, WrongLength, BadLane, SplitKey, BadBounds, OutOfMemory}
 use Rattle.blink_batch.specs.declared.cut.TheConstants.{WORKER_LIMIT}
 use Rattle.blink_batch.specs.declared.operation.Op.{Op}
 use Rattle.blink_batch.specs.declared.operation.Op.TheVariants.{Find}
@@ -45,6 +45,7 @@ IsLanesFault ops workers lanes BadWorkers = (workers ≡ 0) ⊎ (WORKER_LIMIT < 
 IsLanesFault ops workers lanes WrongLength = MayWork workers × (length lanes ≢ length ops)
 IsLanesFault ops workers lanes (BadLane place) = MayWork workers × (length lanes ≡ length ops) × IsFirstBadLane workers lanes place
 IsLanesFault ops workers lanes (SplitKey place) = ⊥
+IsLanesFault ops workers lanes BadBounds = ⊥
 IsLanesFault ops workers lanes OutOfMemory = ⊥
 
 -- the key of the operation at a place
@@ -73,4 +74,5 @@ IsCutFault ops workers lanes BadWorkers = IsLanesFault ops workers lanes BadWork
 IsCutFault ops workers lanes WrongLength = IsLanesFault ops workers lanes WrongLength
 IsCutFault ops workers lanes (BadLane place) = IsLanesFault ops workers lanes (BadLane place)
 IsCutFault ops workers lanes (SplitKey place) = IsAssignment ops workers lanes × IsFirstSplitKey ops lanes place
+IsCutFault ops workers lanes BadBounds = ⊥
 IsCutFault ops workers lanes OutOfMemory = ⊥

@@ -7,7 +7,10 @@ pub mod Number
 pub mod Operation
 pub mod Order
 pub mod PlainMap
+pub mod Ranges
 pub mod Record
+pub mod Same
 pub mod Script
+pub mod ScriptLaw
 pub mod Search
 pub mod Text

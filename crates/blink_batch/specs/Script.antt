@@ -1,5 +1,5 @@
 -- The script that a list of records is: its parts, or its first refusal.
-use Rattle.std.specs.Prelude.{ℕ, ◌≡◌, ◌≤◌, ◌+◌, List, [], ◌∷◌, ◌++◌, length, map, Result, Ok, Err, ⊤}
+use Rattle.std.specs.Prelude.{ℕ, ◌≡◌, ◌+◌, List, [], ◌∷◌, Option, Some, Result, Ok, Err, ⊤, if◌then◌else◌, nat_lt}
 use Rattle.csv.specs.Reading.{default_config, records, strip_bom}
 use Rattle.csv.specs.declared.error.ErrorKind.{ErrorKind}
 use Rattle.csv.specs.declared.error.ErrorKind.TheVariants as kind
@@ -16,44 +16,44 @@ use Rattle.blink_batch.specs.Record.{operation_of}
 abbrev pub records_of : List ℕ → List (List (List ℕ))
 records_of text = records default_config (strip_bom text)
 
--- consecutive operations form one batch, and a batch isn't empty
-abbrev pub parts_of : List Op → List Part
-parts_of [] = []
-parts_of (op ∷ ops) = Batch (op ∷ ops) ∷ []
+-- an operation before the parts that follow it: the first of the batch that they begin with, or a batch of its own
+abbrev pub joined : Op → List Part → List Part
+joined op [] = Batch (op ∷ []) ∷ []
+joined op (Batch ops ∷ parts) = Batch (op ∷ ops) ∷ parts
 
--- the records mean these operations, one each, and they are few enough for a batch
-pub record AreOperations (rows : List (List (List ℕ))) (ops : List Op) : Type 0 where
-  pub meanings : map operation_of rows ≡ map Ok ops
-  pub one_batch : length ops ≤ BATCH_LIMIT
+-- an operation before a script, or before a refusal, which is then the refusal of both
+abbrev pub with_operation : Op → Result (List Part) ScriptError → Result (List Part) ScriptError
+with_operation op (Ok parts) = Ok (joined op parts)
+with_operation op (Err error) = Err error
 
--- a record is refused where it means no operation, or one more than a batch may have
-abbrev pub RefusedAfter : List Op → Result Op RecordError → ScriptError → Type 0
-RefusedAfter before (Err fault) error = error ≡ Row (length before + 1) fault
-RefusedAfter before (Ok op) error = (error ≡ TooMany (length before + 1)) × (length before ≡ BATCH_LIMIT)
+-- the script of a record's meaning and what follows, where its batch has so many operations before it
+abbrev pub script_by : ℕ → ℕ → Result Op RecordError → (ℕ → Result (List Part) ScriptError)
+    → Result (List Part) ScriptError
+script_by number before (Err fault) following = Err (Row number fault)
+script_by number before (Ok op) following =
+    if nat_lt before BATCH_LIMIT then with_operation op (following (before + 1)) else Err (TooMany number)
 
--- the script of some records: all of them are operations, and these are its parts
-pub record HasParts (rows : List (List (List ℕ))) (parts : List Part) : Type 0 where
-  pub ops : List Op
-  pub all_operations : AreOperations rows ops
-  pub their_batch : parts ≡ parts_of ops
+-- the script of records that are counted from a number on, where their batch has so many operations before them
+abbrev pub script_from : ℕ → ℕ → List (List (List ℕ)) → Result (List Part) ScriptError
+script_from number before [] = Ok []
+script_from number before (row ∷ rows) =
+    script_by number before (operation_of row) (λ taken. script_from (number + 1) taken rows)
 
--- the first refusal of some records: those before it are operations
-pub record IsRefused (rows : List (List (List ℕ))) (error : ScriptError) : Type 0 where
-  pub before : List (List (List ℕ))
-  pub row : List (List ℕ)
-  pub after : List (List (List ℕ))
-  pub in_order : rows ≡ before ++ row ∷ after
-  pub ops : List Op
-  pub operations_before : AreOperations before ops
-  pub refused : RefusedAfter ops (operation_of row) error
+-- the parts that records ask for, or their first refusal
+abbrev pub script_of : List (List (List ℕ)) → Result (List Part) ScriptError
+script_of rows = script_from 1 0 rows
 
--- what a refusal says of the records: nothing, where it is of the reader, of csv or of memory
-abbrev pub TellsRefusal : List (List (List ℕ)) → ScriptError → Type 0
-TellsRefusal rows (Row number fault) = IsRefused rows (Row number fault)
-TellsRefusal rows (TooMany number) = IsRefused rows (TooMany number)
-TellsRefusal rows (Csv number) = ⊤
-TellsRefusal rows Read = ⊤
-TellsRefusal rows OutOfMemory = ⊤
+-- the text to be read, where it is known, comes to these parts or this refusal
+abbrev pub ReadsAs : Option (List ℕ) → Result (List Part) ScriptError → Type 0
+ReadsAs to_read outcome = (text : List ℕ) → to_read ≡ Some text → script_of (records_of text) ≡ outcome
+
+-- what a refusal says of the text to be read: nothing, where it is of the reader, of csv or of memory
+abbrev pub TellsRefusal : Option (List ℕ) → ScriptError → Type 0
+TellsRefusal to_read (Row number fault) = ReadsAs to_read (Err (Row number fault))
+TellsRefusal to_read (TooMany number) = ReadsAs to_read (Err (TooMany number))
+TellsRefusal to_read (Csv number) = ⊤
+TellsRefusal to_read Read = ⊤
+TellsRefusal to_read OutOfMemory = ⊤
 
 -- every record can be read: its length and its bytes are never the cause of a refusal
 abbrev pub IsReadable : ScriptError → Type 0

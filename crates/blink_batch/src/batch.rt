@@ -96,3 +96,27 @@ impl Batch {
         self.inserts
     }
 }
+
+/// Batches are equal where their operations are, one by one. It takes no memory.
+impl PartialEq for Batch {
+    ghost use Rattle.std.specs.Prelude.{◌≡◌, ◌↔◌, IsTrue};
+    ghost use Rattle.std.specs.Cmp.{partial_equiv_from_equiv};
+    ghost use Rattle.blink_batch.specs.Same.{same_operations, same_operations_laws};
+
+    ghost eq = { same_operations };
+
+    ghost laws = { partial_equiv_from_equiv same_operations_laws };
+
+    fn eq(&self, other: &Batch) -> bool
+        ensures value { result ≡ same_operations self.now other.now }
+        ensures exact { IsTrue result ↔ (self.now ≡ other.now) }
+    {
+        self.ops == other.ops
+    }
+}
+
+impl Eq for Batch {
+    ghost use Rattle.blink_batch.specs.Same.{same_operations_laws};
+
+    ghost laws = { same_operations_laws };
+}

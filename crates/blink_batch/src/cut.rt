@@ -1,10 +1,12 @@
 //! A batch cut among workers.
-ghost use Rattle.std.specs.Prelude.{◌≡◌, ◌<◌, ◌≤◌, ◌%◌, ◌↔◌, ◌⊎◌, EachIndex, length, map, IfErr, IfOk, MatchOption, IsOk, IsOkUnless, IsTrue, Err};
+ghost use Rattle.std.specs.Prelude.{◌≡◌, ◌<◌, ◌≤◌, ◌+◌, ◌%◌, ◌↔◌, ◌⊎◌, EachIndex, length, map, IfErr, IfOk, MatchOption, IsOk, IsOkUnless, IsTrue, Err};
+ghost use Rattle.std.specs.List.Sorted.{IsStrictlyIncreasing};
 ghost use Rattle.blink_batch.specs.declared.batch.TheConstants.{BATCH_LIMIT};
-ghost use Rattle.blink_batch.specs.declared.cut.CutError.TheVariants.{BadWorkers, OutOfMemory};
+ghost use Rattle.blink_batch.specs.declared.cut.CutError.TheVariants.{BadBounds, BadWorkers, OutOfMemory};
 ghost use Rattle.blink_batch.specs.declared.cut.TheConstants.{WORKER_LIMIT};
 ghost use Rattle.blink_batch.specs.Operation.{key_of};
 ghost use Rattle.blink_batch.specs.Codes.{code_of_cut_error};
+ghost use Rattle.blink_batch.specs.Ranges.{AreBadBounds, MayBound, lane_in_ranges, lanes_by_ranges};
 ghost use Rattle.blink_batch.specs.Cut.{AreLanes, Assignment, IsCutFault, IsFirstSplitKey, IsLawfulCut, IsSplitKey, MayWork};
 
 use crate::batch::Batch;
@@ -33,6 +35,9 @@ pub enum CutError {
     /// This operation, counted from 0, is the first whose key had an earlier operation in another lane.
     #[error("operation {0}: split key")]
     SplitKey(u32),
+    /// The bounds of the ranges aren't strictly ascending.
+    #[error("bad bounds")]
+    BadBounds,
     /// Memory for the lanes was refused.
     #[error("out of memory")]
     OutOfMemory,
@@ -48,6 +53,7 @@ impl CutError {
             CutError::WrongLength => 3,
             CutError::BadLane(_) => 4,
             CutError::SplitKey(_) => 5,
+            CutError::BadBounds => 6,
             CutError::OutOfMemory => 7,
         }
     }
@@ -90,6 +96,35 @@ impl Cut {
         Ok(Cut { workers, lanes })
     }
 
+    /// The cut by ranges of keys, with one worker more than there are bounds: an operation's worker is the first i with
+    /// `key <= bounds[i]`, or else the last. Each key takes a search by halves in the bounds, of which there may be 63.
+    pub fn by_ranges(alloc: Global, batch: &Batch, bounds: &[u64]) -> Result<Cut, CutError>
+        ensures workers { IfOk result (λ cut. cut.workers ≡ length bounds.now + 1) }
+        ensures lanes { IfOk result (λ cut. cut.lanes ≡ lanes_by_ranges bounds.now batch.now) }
+        ensures lawful { IfOk result (λ cut. IsLawfulCut batch.now cut.workers cut.lanes) }
+        ensures memory { MayBound bounds.now → IsOkUnless result OutOfMemory }
+        ensures bad_workers { result ≡ Err BadWorkers ↔ (WORKER_LIMIT ≤ length bounds.now) }
+        ensures bad_bounds { result ≡ Err BadBounds ↔ AreBadBounds bounds.now }
+    {
+        if bounds.len() >= usize::from(WORKER_LIMIT) {
+            return Err(CutError::BadWorkers);
+        }
+        if !are_ascending(bounds) {
+            return Err(CutError::BadBounds);
+        }
+        let mut lanes = match Vec::with_capacity(alloc, batch.len()) {
+            Ok(lanes) => lanes,
+            Err(_) => return Err(CutError::OutOfMemory),
+        };
+        for op in batch.ops() {
+            lanes.push_reserved(lane_in_ranges(bounds, op.key()));
+        }
+        Ok(Cut {
+            workers: bounds.len() as u8 + 1,
+            lanes,
+        })
+    }
+
     /// The cut that gives operation i of the batch to worker `lanes[i]`. A refusal gives the lanes up: those of
     /// [`Lanes::new`] come first and in its order, and then `SplitKey`, which tells the first operation whose key had an
     /// earlier operation in another lane.
@@ -101,7 +136,8 @@ impl Cut {
         ensures workers { IfOk result (λ cut. cut.workers ≡ workers) }
         ensures lanes { IfOk result (λ cut. cut.lanes ≡ lanes.items) }
         ensures lawful { IfOk result (λ cut. IsLawfulCut batch.now cut.workers cut.lanes) }
-        ensures taken { IsOk result ↔ (MayWork workers × IsLawfulCut batch.now workers lanes.items) }
+        ensures taken { IsOk result
+            ↔ (MayWork workers × IsLawfulCut batch.now workers lanes.items) }
         ensures refused { IfErr result (IsCutFault batch.now workers lanes.items) }
     {
         let given = match Lanes::new(batch, workers, lanes) {
@@ -143,24 +179,43 @@ impl Cut {
 
     /// The worker of each operation, in the order of the batch.
     pub fn lanes(&self) -> &[u8]
-        ensures { result.now ≡ self.now.lanes }
+        ensures lanes { result.now ≡ self.now.lanes }
+        ensures workers { AreLanes self.now.workers self.now.lanes }
     {
         &self.lanes
     }
 
     /// The number of workers, those without an operation included.
     pub fn workers(&self) -> u8
-        ensures { result ≡ self.now.workers }
+        ensures workers { result ≡ self.now.workers }
+        ensures allowed { MayWork self.now.workers }
     {
         self.workers
     }
+}
+
+// Whether each bound is below the next.
+fn are_ascending(bounds: &[u64]) -> bool
+    ensures { IsTrue result ↔ IsStrictlyIncreasing bounds.now }
+{
+    bounds.is_sorted_by(|bound, next| *bound < *next)
+}
+
+// The lane of a key among ranges: the first whose bound isn't below the key, or the one behind the last bound.
+fn lane_in_ranges(bounds: &[u64], key: u64) -> u8
+    requires { MayBound bounds.now }
+    ensures { result ≡ lane_in_ranges bounds.now key }
+{
+    bounds.partition_point(|bound| *bound < key) as u8
 }
 
 // The first operation whose key had an earlier operation in another lane.
 fn first_split_key(ops: &[Op], lanes: &[u8]) -> Option<usize>
     requires lengths { length lanes.now ≡ length ops.now }
     requires limit { length ops.now ≤ BATCH_LIMIT }
-    ensures { MatchOption result (EachIndex ops.now (λ place. ¬ IsSplitKey ops.now lanes.now place)) (IsFirstSplitKey ops.now lanes.now) }
+    ensures { MatchOption result
+        (EachIndex ops.now (λ place. ¬ IsSplitKey ops.now lanes.now place))
+        (IsFirstSplitKey ops.now lanes.now) }
 {
     let mut places = LastPlaces::new();
     for place in 0..ops.len() {

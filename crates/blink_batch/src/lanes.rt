@@ -1,6 +1,6 @@
 //! Any assignment of a batch's operations to workers.
 ghost use Rattle.std.specs.Prelude.{◌≡◌, ◌↔◌, IfOk, IfErr, IsOk};
-ghost use Rattle.blink_batch.specs.Cut.{AreLanes, Assignment, IsAssignment, IsLanesFault};
+ghost use Rattle.blink_batch.specs.Cut.{AreLanes, Assignment, IsAssignment, IsLanesFault, MayWork};
 
 use crate::batch::Batch;
 use crate::cut::{CutError, WORKER_LIMIT};
@@ -55,8 +55,33 @@ impl Lanes {
 
     /// The number of workers, those without an operation included.
     pub fn workers(&self) -> u8
-        ensures { result ≡ self.now.workers }
+        ensures workers { result ≡ self.now.workers }
+        ensures allowed { MayWork self.now.workers }
     {
         self.workers
     }
+}
+
+/// Assignments are equal where the workers are as many and the lanes are the same, one by one. It takes no memory.
+impl PartialEq for Lanes {
+    ghost use Rattle.std.specs.Prelude.{◌≡◌, ◌↔◌, IsTrue};
+    ghost use Rattle.std.specs.Cmp.{partial_equiv_from_equiv};
+    ghost use Rattle.blink_batch.specs.Same.{same_assignment, same_assignment_laws};
+
+    ghost eq = { same_assignment };
+
+    ghost laws = { partial_equiv_from_equiv same_assignment_laws };
+
+    fn eq(&self, other: &Lanes) -> bool
+        ensures value { result ≡ same_assignment self.now other.now }
+        ensures exact { IsTrue result ↔ (self.now ≡ other.now) }
+    {
+        self.workers == other.workers && self.lanes == other.lanes
+    }
+}
+
+impl Eq for Lanes {
+    ghost use Rattle.blink_batch.specs.Same.{same_assignment_laws};
+
+    ghost laws = { same_assignment_laws };
 }

@@ -59,7 +59,8 @@ impl Plain {
     pub fn run(&mut self, alloc: Global, ops: &[Op]) -> Result<Vec<Answer>, AllocError>
         ensures answers { IfOk result (λ given. given.items ≡ answers self.old ops.now) }
         ensures map { OnOk result (self.new ≡ map_after_all self.old ops.now) }
-        ensures front { OnErr result ((done : ℕ) × (self.new ≡ map_after_all self.old (take done ops.now))) }
+        ensures front { OnErr result
+            ((done : ℕ) × (self.new ≡ map_after_all self.old (take done ops.now))) }
     {
         let mut given = Vec::with_capacity(alloc, ops.len())?;
         for op in ops {

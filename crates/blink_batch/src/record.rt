@@ -21,7 +21,8 @@ pub(crate) fn read_operation(row: &ByteRecord) -> Result<Op, RecordError>
 
 // The fields, if they are three.
 fn three_fields(row: &ByteRecord) -> Option<(&[u8], &[u8], &[u8])>
-    ensures { MatchOption result (length (fields_of row.now) ≢ 3) (λ fields. fields_of row.now ≡ fields.0.now ∷ fields.1.now ∷ fields.2.now ∷ []) }
+    ensures { MatchOption result (length (fields_of row.now) ≢ 3)
+        (λ fields. fields_of row.now ≡ fields.0.now ∷ fields.1.now ∷ fields.2.now ∷ []) }
 {
     if row.len() != 3 {
         return None;

@@ -1,9 +1,10 @@
 //! Reading scripts.
-ghost use Rattle.std.specs.Prelude.{◌≡◌, ◌≤◌, ℕ, List, length, Some, IfOk, IfErr, IsOkUnless};
+ghost use Rattle.std.specs.Prelude.{◌≡◌, ◌≤◌, length, Ok, IfOk, IfErr, IsOkUnless};
 ghost use Rattle.csv.specs.Reading.{error_kind};
 ghost use Rattle.blink_batch.specs.declared.batch.TheConstants.{BATCH_LIMIT};
 ghost use Rattle.blink_batch.specs.declared.error.ScriptError.TheVariants.{OutOfMemory};
-ghost use Rattle.blink_batch.specs.Script.{HasParts, TellsRefusal, IsReadable, parts_of, records_of, refusal_of};
+ghost use Rattle.blink_batch.specs.Script.{IsReadable, ReadsAs, TellsRefusal, refusal_of};
+ghost use Rattle.blink_batch.specs.ScriptLaw.{parts_of};
 
 use crate::batch::{BATCH_LIMIT, Batch};
 use crate::error::ScriptError;
@@ -31,10 +32,11 @@ pub struct Script {
 /// away. Records are counted from 1, and the first refusal in their order is the answer. A refusal leaves the reader
 /// somewhere behind the records that were read.
 ///
-/// What is said of the text read is said of a reader that tells its bytes. `Read` comes where the reader failed.
+/// What is said of the text read is said of a reader that tells its bytes. `Read` comes where the reader failed, and
+/// `OutOfMemory` where memory was refused, or where more records come than 64 bits count, whose parts have no room in it.
 pub fn read_script<R: Read + Drop>(alloc: Global, reader: R) -> Result<Script, ScriptError>
-    ensures script { IfOk result (λ script. (text : List ℕ) → R.remaining reader ≡ Some text → HasParts (records_of text) script.parts.items) }
-    ensures refusal { IfErr result (λ error. (text : List ℕ) → R.remaining reader ≡ Some text → TellsRefusal (records_of text) error) }
+    ensures script { IfOk result (λ script. ReadsAs (R.remaining reader) (Ok script.parts.items)) }
+    ensures refusal { IfErr result (TellsRefusal (R.remaining reader)) }
     ensures readable { IfErr result IsReadable }
 {
     let mut reader = ReaderBuilder::new()
@@ -46,7 +48,7 @@ pub fn read_script<R: Read + Drop>(alloc: Global, reader: R) -> Result<Script, S
     for number in 1..u64::MAX {
         match reader.read_byte_record(&mut row) {
             Ok(true) => {}
-            Ok(false) => break,
+            Ok(false) => return of_operations(alloc, ops),
             Err(error) => return Err(refusal(number, error)),
         }
         let op = match read_operation(&row) {
@@ -60,7 +62,8 @@ pub fn read_script<R: Read + Drop>(alloc: Global, reader: R) -> Result<Script, S
             return Err(ScriptError::OutOfMemory);
         }
     }
-    script_of(alloc, ops)
+    // The count has ended before the records, whose parts no memory has room for: so this never comes.
+    Err(ScriptError::OutOfMemory)
 }
 
 // The refusal of a record that csv could not give.
@@ -75,7 +78,7 @@ fn refusal(number: u64, error: csv::Error) -> ScriptError
 }
 
 // The script of these operations.
-fn script_of(alloc: Global, ops: Vec<Op>) -> Result<Script, ScriptError>
+fn of_operations(alloc: Global, ops: Vec<Op>) -> Result<Script, ScriptError>
     requires { length ops.items ≤ BATCH_LIMIT }
     ensures parts { IfOk result (λ script. script.parts.items ≡ parts_of ops.items) }
     ensures memory { IsOkUnless result OutOfMemory }

@@ -100,6 +100,36 @@ fn batches_have_a_limit(rt: HostRuntime) -> Result<(), Fail> {
 }
 
 #[test]
+fn batches_are_equal_by_their_operations(rt: HostRuntime) -> Result<(), Fail> {
+    let batch = Batch::new([Op::Insert(5, 50), Op::Find(6)].to_vec(rt.alloc())?)?;
+    let same = Batch::new([Op::Insert(5, 50), Op::Find(6)].to_vec(rt.alloc())?)?;
+    assert_eq!(rt; batch == same, true);
+    let others = [
+        [Op::Insert(5, 50), Op::Find(7)].as_slice(),
+        [Op::Insert(5, 51), Op::Find(6)].as_slice(),
+        [Op::Insert(5, 50), Op::Delete(6)].as_slice(),
+        [Op::Find(6), Op::Insert(5, 50)].as_slice(),
+        [Op::Insert(5, 50)].as_slice(),
+    ];
+    for ops in others {
+        let other = Batch::new(ops.to_vec(rt.alloc())?)?;
+        assert_eq!(rt; batch == other, false, "{ops:?}");
+    }
+    Ok(())
+}
+
+#[test]
+fn lanes_are_equal_with_their_workers(rt: HostRuntime) -> Result<(), Fail> {
+    let batch = Batch::new([Op::Insert(5, 50), Op::Find(6)].to_vec(rt.alloc())?)?;
+    let lanes = Lanes::new(&batch, 2, [0, 1].to_vec(rt.alloc())?)?;
+    for (workers, others, equal) in [(2, [0, 1], true), (3, [0, 1], false), (2, [1, 1], false)] {
+        let other = Lanes::new(&batch, workers, others.to_vec(rt.alloc())?)?;
+        assert_eq!(rt; lanes == other, equal, "{workers} {others:?}");
+    }
+    Ok(())
+}
+
+#[test]
 fn cuts_by_the_remainder_of_the_key(rt: HostRuntime) -> Result<(), Fail> {
     let batch = Batch::new([Op::Insert(5, 6), Op::Find(8), Op::Find(5)].to_vec(rt.alloc())?)?;
     let cut = Cut::by_residue(rt.alloc(), &batch, 3)?;
@@ -115,6 +145,44 @@ fn cuts_by_the_remainder_of_the_key(rt: HostRuntime) -> Result<(), Fail> {
         (CutError::BadWorkers.code(), CutError::OutOfMemory.code()),
         (2, 7)
     );
+    Ok(())
+}
+
+#[test]
+fn cuts_by_ranges_of_keys(rt: HostRuntime) -> Result<(), Fail> {
+    let batch = Batch::new([Op::Insert(9, 1), Op::Insert(10, 1)].to_vec(rt.alloc())?)?;
+    let cut = Cut::by_ranges(rt.alloc(), &batch, &[9])?;
+    assert_eq!(rt; cut.lanes(), [0, 1].as_slice());
+    assert_eq!(rt; cut.workers(), 2);
+    let ops = [Op::Find(0), Op::Delete(3), Op::Find(4), Op::Find(u64::MAX)];
+    let batch = Batch::new(ops.to_vec(rt.alloc())?)?;
+    let cases = [
+        ([].as_slice(), [0, 0, 0, 0]),
+        ([3].as_slice(), [0, 0, 1, 1]),
+        ([0, 3, 7].as_slice(), [0, 1, 2, 3]),
+        ([1, 2, u64::MAX].as_slice(), [0, 2, 2, 2]),
+    ];
+    for (bounds, lanes) in cases {
+        let cut = Cut::by_ranges(rt.alloc(), &batch, bounds)?;
+        assert_eq!(rt; cut.lanes(), lanes.as_slice(), "{bounds:?}");
+    }
+    let mut most = Vec::new(rt.alloc());
+    for bound in 0..63 {
+        most.push(bound)?;
+    }
+    let cut = Cut::by_ranges(rt.alloc(), &batch, &most)?;
+    assert_eq!(rt; cut.lanes(), [0, 3, 4, 63].as_slice());
+    assert_eq!(rt; cut.workers(), 64);
+    most.push(5)?;
+    let cases = [
+        ([9, 9].as_slice(), CutError::BadBounds),
+        ([2, 4, 3].as_slice(), CutError::BadBounds),
+        (most.as_slice(), CutError::BadWorkers),
+    ];
+    for (bounds, refusal) in cases {
+        let refused = Cut::by_ranges(rt.alloc(), &batch, bounds).err();
+        assert_eq!(rt; refused, Some(refusal), "{bounds:?}");
+    }
     Ok(())
 }
 
@@ -143,6 +211,7 @@ fn lanes_may_split_a_key(rt: HostRuntime) -> Result<(), Fail> {
         (CutError::WrongLength, 3, "wrong number of lanes"),
         (CutError::BadLane(1), 4, "operation 1: bad lane"),
         (CutError::SplitKey(1), 5, "operation 1: split key"),
+        (CutError::BadBounds, 6, "bad bounds"),
     ];
     for (error, code, text) in texts {
         assert_eq!(rt; error.code(), code, "{text}");

@@ -9,7 +9,7 @@ use Rattle.blink_store.proofs.StoreLemmas.{has_page}
 use Rattle.blink_rest.specs.Entries.{AreEntries}
 use Rattle.blink_rest.specs.Reach.{Reaches, IsRoot, at_root, down}
 use Rattle.blink_rest.specs.Rest.{IsStoreAtRest}
-use Rattle.blink_rest.proofs.LawLemmas.{search_ends_at_leaf, entries_are_one_list}
+use Rattle.blink_rest.proofs.LawLemmas.{search_ends_at_leaf, entries_exist_at_rest}
 use Rattle.blink_rest.proofs.LeafLemmas.{root_at_end}
 use Rattle.blink_rest.proofs.ReachLemmas.{reached_for, child_lower}
 use Rattle.blink_batch.specs.declared.Entry.{Entry}
@@ -85,6 +85,6 @@ module _ (store : PlainStore) (at_rest : IsStoreAtRest store) (key : ℕ) (in_ra
   -- and so is what its plain map keeps
   pub leaf_pointer : (leaf : PlainPage) → IsLeafFor store key leaf → pointer_of (map_of store) key ≡ value_at key leaf.entries
   leaf_pointer leaf is_for =
-      let found = entries_are_one_list store.fan store.prime (page_of store) at_rest in
+      let found = entries_exist_at_rest store.fan store.prime (page_of store) at_rest in
       ap (λ (entries : List Entry). pointer_of entries key) (map_of-entries store found.0 found.1)
       ∙ pointer_of-entries_from key found.0 ∙ leaf_value leaf found.0 is_for found.1

@@ -15,9 +15,8 @@ use Rattle.blink_rest.proofs.WalkLemmas.{cell}
 use Rattle.blink_rest.proofs.SameLemmas.{same_cell}
 use Rattle.blink_rest.proofs.ChainLemmas.{stands_split, stands_there, stands_of, floor_after, InLine-front, InLine-rest, AreAmong-rest}
 use Rattle.blink_rest.proofs.LevelLemmas.{line_rising, chain_spans}
-use Rattle.blink_rest.proofs.LawLemmas.{entries_ascend, entries_are_one_list, search_ends_at_leaf}
-use Rattle.blink_steps.specs.Promises.{AreAtStart}
-use Rattle.blink_steps.specs.SoundRun.{pairs_of}
+use Rattle.blink_rest.proofs.LawLemmas.{entries_ascend, entries_exist_at_rest, search_ends_at_leaf}
+use Rattle.blink_steps.specs.TreeMap.{IsMapOf, pairs_of}
 use Rattle.blink_index.specs.Index.{cells_of, entries_from, map_of}
 use Rattle.blink_index.specs.Leaf.{IsLeafFor}
 use Rattle.blink_index.specs.Scan.{IsLinkOf, entries_after, entries_to, is_within}
@@ -147,12 +146,12 @@ module _ (store : PlainStore) where
 
     -- its right link leads to the leaves after it
     pub leaf_link : IsLinkOf store leaf.right
-    leaf_link = let found = entries_are_one_list store.fan store.prime (page_of store) at_rest in (stands_at found.0 found.1).onward
+    leaf_link = let found = entries_exist_at_rest store.fan store.prime (page_of store) at_rest in (stands_at found.0 found.1).onward
 
     -- the entries of the map from lo to hi are its entries from lo's place on and those after it, up to hi
     pub scan_from_leaf : entries_to hi (drop (place_of lo leaf.entries) leaf.entries ++ entries_after store leaf.right) ≡ filter (is_within lo hi) (map_of store)
     scan_from_leaf =
-        let found = entries_are_one_list store.fan store.prime (page_of store) at_rest in
+        let found = entries_exist_at_rest store.fan store.prime (page_of store) at_rest in
         let at = stands_at found.0 found.1 in
         let most : lo ≤ leaf.high = is_for.belongs.1 in
         let whole : map_of store ≡ entries_from (at.front ++ (leaf.entries ++ entries_along at.after)) = map_of-entries store found.0 found.1 ∙ ap entries_from at.joined in
@@ -161,7 +160,7 @@ module _ (store : PlainStore) where
         ∙ ap (filter (is_within lo hi)) (sym whole)
 
   -- all of the map is from 0 to the greatest key
-  pub scan_of_all : AreAtStart store (map_of store) → filter (is_within 0 GREATEST_KEY) (map_of store) ≡ map_of store
+  pub scan_of_all : IsMapOf store (map_of store) → filter (is_within 0 GREATEST_KEY) (map_of store) ≡ map_of store
   scan_of_all kept =
       let pairs = pairs_of (map_of store) in
       let same : entries_from pairs ≡ map_of store = entries_from-pairs_of (map_of store) in

@@ -9,8 +9,8 @@ use Rattle.blink_page.specs.declared.limits.TheConstants.{GREATEST_KEY}
 use Rattle.blink_store.specs.Store.{PlainStore, page_of}
 use Rattle.blink_rest.specs.Entries.{AreEntries}
 use Rattle.blink_rest.specs.Level.{entries_along}
-use Rattle.blink_rest.proofs.LawLemmas.{entries_ascend, entries_are_one_list}
-use Rattle.blink_steps.specs.SoundRun.{pairs_of}
+use Rattle.blink_rest.proofs.LawLemmas.{entries_ascend, entries_exist_at_rest}
+use Rattle.blink_steps.specs.TreeMap.{pairs_of}
 use Rattle.blink_index.specs.Index.{entries_from, level_of, map_of, cells_of}
 use Rattle.blink_index.specs.Laws.{MapIsKept, NoOtherMapIsKept}
 use Rattle.blink_index.proofs.CellLemmas.{cells_of-chain}
@@ -54,7 +54,7 @@ no_other_map_is_kept store entries at_rest are = sym (map_of-entries store (pair
 
 pub the_map_is_kept : MapIsKept
 the_map_is_kept store at_rest =
-    let found = entries_are_one_list store.fan store.prime (page_of store) at_rest in
+    let found = entries_exist_at_rest store.fan store.prime (page_of store) at_rest in
     let rising = entries_ascend store.fan store.prime (page_of store) found.0 found.1 in
     let same = map_of-entries store found.0 found.1 in
     record {

@@ -1,10 +1,10 @@
 -- The text of a tree at rest: a line for each page, the top level first, and each level from the left.
-use Rattle.std.specs.Prelude.{◌≡◌, ℕ, Option, Some, None, List, [], ◌∷◌, ◌++◌, codes}
+use Rattle.std.specs.Prelude.{ℕ, Option, Some, None, List, [], ◌∷◌, ◌++◌, codes}
 use Rattle.std.specs.List.{flat_map}
 use Rattle.std.specs.Fmt.{decimal}
 use Rattle.blink_rest.specs.Chain.{Cell}
-use Rattle.blink_rest.specs.Rest.{AreLevels}
-use Rattle.blink_store.specs.Store.{PlainStore, page_of}
+use Rattle.blink_store.specs.Store.{PlainStore}
+use Rattle.blink_index.specs.Index.{levels_of}
 
 -- a number, or a dash where there is none
 abbrev pub words_of : Option ℕ → List ℕ
@@ -33,8 +33,6 @@ abbrev pub text_of : List (List Cell) → List ℕ
 text_of [] = []
 text_of (cells ∷ above) = text_of above ++ level_text cells
 
--- these are the lines of the levels of the store's tree
-pub record IsTextOf (store : PlainStore) (text : List ℕ) : Type 0 where
-  pub levels : List (List Cell)
-  pub are_levels : AreLevels store.fan store.prime (page_of store) levels
-  pub is_text : text ≡ text_of levels
+-- the lines of a store's levels
+abbrev pub text_of_store : PlainStore → List ℕ
+text_of_store store = text_of (levels_of store)

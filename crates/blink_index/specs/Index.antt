@@ -21,6 +21,10 @@ cells_of store link = cells_from (page_of store) (length store.pages) link
 abbrev pub level_of : PlainStore → ℕ → List Cell
 level_of store level = cells_of store (slice_get store.prime level)
 
+-- the levels that the prime block names, level 0 first
+abbrev pub levels_of : PlainStore → List (List Cell)
+levels_of store = map (λ leftmost. cells_of store (Some leftmost)) store.prime
+
 -- pairs of a key and a pointer as the entries of a plain map
 abbrev pub entries_from : List (ℕ × ℕ) → List Entry
 entries_from pairs = map (λ (pair : ℕ × ℕ). entry pair.0 pair.1) pairs

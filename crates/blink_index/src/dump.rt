@@ -4,7 +4,7 @@ ghost use Rattle.std.specs.List.{flat_map};
 ghost use Rattle.blink_rest.specs.Rest.{IsStoreAtRest};
 ghost use Rattle.blink_index.specs.Index.{cells_of};
 ghost use Rattle.blink_index.specs.Scan.{IsLinkOf};
-ghost use Rattle.blink_index.specs.Dump.{words_of, entry_text, page_text, line_of, level_text, IsTextOf};
+ghost use Rattle.blink_index.specs.Dump.{words_of, entry_text, page_text, line_of, level_text, text_of_store};
 
 use blink_page::Page;
 use blink_store::Store;
@@ -28,7 +28,8 @@ impl fmt::Display for Words {
 
 // Adds entries, with a space before each.
 fn push_entries(text: &mut String, entries: &[(u64, u64)]) -> Result<(), AllocError>
-    ensures { OnOk result (string_bytes text.new ≡ string_bytes text.old ++ flat_map entry_text entries.now) }
+    ensures { OnOk result
+        (string_bytes text.new ≡ string_bytes text.old ++ flat_map entry_text entries.now) }
 {
     for &(key, value) in entries {
         write!(text, " {key}:{value}")?;
@@ -38,7 +39,9 @@ fn push_entries(text: &mut String, entries: &[(u64, u64)]) -> Result<(), AllocEr
 
 // Adds what a line says of a page itself.
 fn push_page(text: &mut String, number: u32, page: &Page) -> Result<(), AllocError>
-    ensures { OnOk result (string_bytes text.new ≡ string_bytes text.old ++ page_text (record { number = number; page = page.now })) }
+    ensures { OnOk result
+        (string_bytes text.new
+        ≡ string_bytes text.old ++ page_text (record { number = number; page = page.now })) }
 {
     let level = page.level;
     let floor = Words(page.floor);
@@ -49,7 +52,9 @@ fn push_page(text: &mut String, number: u32, page: &Page) -> Result<(), AllocErr
 
 // Adds the line of a page.
 fn push_line(text: &mut String, number: u32, page: &Page) -> Result<(), AllocError>
-    ensures { OnOk result (string_bytes text.new ≡ string_bytes text.old ++ line_of (record { number = number; page = page.now })) }
+    ensures { OnOk result
+        (string_bytes text.new
+        ≡ string_bytes text.old ++ line_of (record { number = number; page = page.now })) }
 {
     push_page(text, number, page)?;
     push_entries(text, &page.items)?;
@@ -59,7 +64,9 @@ fn push_line(text: &mut String, number: u32, page: &Page) -> Result<(), AllocErr
 // Adds the lines of the pages from a link on.
 fn push_level(text: &mut String, store: &Store, leftmost: u32) -> Result<(), AllocError>
     requires { IsLinkOf store.now (Some leftmost) }
-    ensures { OnOk result (string_bytes text.new ≡ string_bytes text.old ++ level_text (cells_of store.now (Some leftmost))) }
+    ensures { OnOk result
+        (string_bytes text.new
+        ≡ string_bytes text.old ++ level_text (cells_of store.now (Some leftmost))) }
 {
     let mut link = Some(leftmost);
     while let Some(number) = link {
@@ -73,7 +80,7 @@ fn push_level(text: &mut String, store: &Store, leftmost: u32) -> Result<(), All
 /// The lines of a tree at rest, the top level first.
 pub(crate) fn tree_text(alloc: Global, store: &Store) -> Result<String, AllocError>
     requires { IsStoreAtRest store.now }
-    ensures { IfOk result (λ text. IsTextOf store.now (string_bytes text)) }
+    ensures { IfOk result (λ text. string_bytes text ≡ text_of_store store.now) }
 {
     let leftmost = &store.prime().leftmost;
     let mut text = String::new(alloc);

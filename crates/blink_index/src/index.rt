@@ -6,9 +6,9 @@ ghost use Rattle.blink_page.specs.Limits.{IsPageNumber};
 ghost use Rattle.blink_rest.specs.Entries.{AreEntries};
 ghost use Rattle.blink_rest.specs.Rest.{IsStoreAtRest};
 ghost use Rattle.blink_store.specs.Store.{page_of, new_store};
-ghost use Rattle.blink_steps.specs.Promises.{AreAtStart};
+ghost use Rattle.blink_steps.specs.TreeMap.{IsMapOf};
 ghost use Rattle.blink_index.specs.Codes.{IsBadFan};
-ghost use Rattle.blink_index.specs.Dump.{IsTextOf};
+ghost use Rattle.blink_index.specs.Dump.{text_of_store};
 ghost use Rattle.blink_index.specs.Index.{map_of};
 ghost use Rattle.blink_index.specs.Scan.{is_within, BringsInOrder};
 
@@ -68,7 +68,7 @@ impl Index {
     /// The tree, to be read.
     pub fn rest(&self) -> &Rest
         ensures tree { result.now ≡ self.now }
-        ensures map { AreAtStart self.now (map_of self.now) }
+        ensures map { IsMapOf self.now (map_of self.now) }
     {
         let _store = self.store();
         &self.rest
@@ -103,7 +103,9 @@ impl Index {
     /// The record pointer kept under the key. It takes no memory, and reads one page a level.
     pub fn find(&self, key: u64) -> Option<u64>
         ensures pointer { result ≡ pointer_of (map_of self.now) key }
-        ensures entry { (entries : List (ℕ × ℕ)) → AreEntries self.now.fan self.now.prime (page_of self.now) entries → result ≡ value_at key entries }
+        ensures entry { (entries : List (ℕ × ℕ))
+            → AreEntries self.now.fan self.now.prime (page_of self.now) entries
+            → result ≡ value_at key entries }
     {
         leaf_for(self.store(), key).look(key)
     }
@@ -113,7 +115,7 @@ impl Index {
     /// once, up to the first key above `hi`.
     pub fn scan(&self, lo: u64, hi: u64) -> Scan<'_>
         ensures entries { result ≡ filter (is_within lo hi) (map_of self.now) }
-        ensures map { AreAtStart self.now (map_of self.now) }
+        ensures map { IsMapOf self.now (map_of self.now) }
         ensures runs { BringsInOrder }
     {
         Scan::new(self.store(), lo, hi)
@@ -122,7 +124,7 @@ impl Index {
     /// All entries, in ascending order: the plain map that the tree keeps.
     pub fn entries(&self, alloc: Global) -> Result<Vec<Entry>, AllocError>
         ensures map { IfOk result (λ entries. entries.items ≡ map_of self.now) }
-        ensures kept { IfOk result (λ entries. AreAtStart self.now entries.items) }
+        ensures kept { IfOk result (λ entries. IsMapOf self.now entries.items) }
     {
         self.scan(0, u64::MAX).collect(alloc)
     }
@@ -131,7 +133,7 @@ impl Index {
     /// number, floor, high key and right link, and then each entry as `key:value`, with single spaces between them and a
     /// line feed at the end; a floor or a link that isn't there is `-`.
     pub fn dump(&self, alloc: Global) -> Result<String, AllocError>
-        ensures { IfOk result (λ text. IsTextOf self.now (string_bytes text)) }
+        ensures { IfOk result (λ text. string_bytes text ≡ text_of_store self.now) }
     {
         tree_text(alloc, self.store())
     }

@@ -16,5 +16,5 @@ mod tests;
 
 pub use error::IndexError;
 pub use index::Index;
-pub use laws::{no_other_map_is_kept, the_map_is_kept};
+pub use laws::{no_other_map_is_kept, the_map_is_kept, the_text_is_of_the_levels};
 pub use scan::Scan;

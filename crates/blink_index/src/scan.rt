@@ -91,7 +91,9 @@ fn not_below(entries: &[(u64, u64)], lo: u64) -> &[(u64, u64)]
 // The first page from a link on that has an entry.
 fn next_leaf(store: &Store, from: Option<u32>) -> Option<&Page>
     requires { IsLinkOf store.now from }
-    ensures entries { IfSome result (λ leaf. entries_after store.now from ≡ leaf.now.entries ++ entries_after store.now leaf.now.right) }
+    ensures entries { IfSome result
+        (λ leaf. entries_after store.now from
+        ≡ leaf.now.entries ++ entries_after store.now leaf.now.right) }
     ensures link { IfSome result (λ leaf. IsLinkOf store.now leaf.now.right) }
     ensures some { IfSome result (λ leaf. 0 < length leaf.now.entries) }
     ensures end { IfNone result (entries_after store.now from ≡ []) }

@@ -2,7 +2,9 @@
 use crate::{Index, IndexError};
 use blink_batch::{Batch, Entry, Lanes, Op};
 use blink_steps::World;
+use blink_store::Store;
 use std::alloc::Global;
+use std::process::Abort;
 use std::test::Fail;
 
 const EMPTY: &str = "0 1 - 18446744073709551615 -\n";
@@ -148,22 +150,47 @@ fn all_entries_are_given(rt: HostRuntime) -> Result<(), Fail> {
     Ok(())
 }
 
+// Compares two trees of fan 4 with three pages, of which the last is the root: the prime blocks and the pages.
+fn compare(rt: &impl Abort, store: &Store, other: &Store) {
+    assert_eq!(rt; (store.fan(), other.fan()), (4, 4));
+    assert_eq!(rt; *store.prime(), *other.prime());
+    assert_eq!(rt; store.prime().leftmost.as_slice(), [1, 3].as_slice());
+    assert!(rt; store.pages() == 3 && other.pages() == 3);
+    for number in 1..4 {
+        assert_eq!(rt; *store.read(number), *other.read(number));
+    }
+    assert!(rt; store.is_same(other));
+}
+
 #[test]
 fn a_copy_is_the_same(rt: HostRuntime) -> Result<(), Fail> {
-    let copy = five(rt.alloc())?.copy(rt.alloc())?;
+    let index = five(rt.alloc())?;
+    let copy = index.copy(rt.alloc())?;
     assert_eq!(rt; copy.dump(rt.alloc())?.as_str(), FIVE);
+    compare(&rt, copy.rest().store(), index.rest().store());
+
+    let index = two(rt.alloc())?;
+    let copy = index.copy(rt.alloc())?;
+    assert_eq!(rt; copy.dump(rt.alloc())?.as_str(), TWO);
+    compare(&rt, copy.rest().store(), index.rest().store());
+    Ok(())
+}
+
+#[test]
+fn a_copy_of_the_tree_is_the_same(rt: HostRuntime) -> Result<(), Fail> {
+    for index in [five(rt.alloc())?, two(rt.alloc())?] {
+        let rest = index.rest().copy(rt.alloc())?;
+        assert!(rt; rest.is_same(index.rest()));
+        compare(&rt, rest.store(), index.rest().store());
+    }
     Ok(())
 }
 
 #[test]
 fn a_copy_of_the_store_is_the_same(rt: HostRuntime) -> Result<(), Fail> {
-    let rest = five(rt.alloc())?.rest().copy(rt.alloc())?;
-    let store = rest.store().copy(rt.alloc())?;
-    assert_eq!(rt; store.fan(), rest.store().fan());
-    assert_eq!(rt; *store.prime(), *rest.store().prime());
-    assert!(rt; store.pages() == 3 && rest.store().pages() == 3);
-    for number in 1..4 {
-        assert_eq!(rt; *store.read(number), *rest.store().read(number));
+    for index in [five(rt.alloc())?, two(rt.alloc())?] {
+        let store = index.rest().store().copy(rt.alloc())?;
+        compare(&rt, &store, index.rest().store());
     }
     Ok(())
 }

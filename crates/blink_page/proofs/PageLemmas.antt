@@ -18,6 +18,7 @@ lawful_with_room fan other p lawful room = record {
   high_in_range = lawful.high_in_range;
   floor_below_high = lawful.floor_below_high;
   right_unless_last = lawful.right_unless_last;
+  right_is_number = lawful.right_is_number;
   at_most_fan = room;
   keys_rise = lawful.keys_rise;
   values_in_range = lawful.values_in_range;
@@ -36,6 +37,7 @@ module _ (fan : ℕ) (p : PlainPage) (lawful : IsLawfulPage fan p) where
     high_in_range = lawful.high_in_range;
     floor_below_high = lawful.floor_below_high;
     right_unless_last = lawful.right_unless_last;
+    right_is_number = lawful.right_is_number;
     at_most_fan = room;
     keys_rise = rises;
     values_in_range = within;
@@ -49,6 +51,7 @@ module _ (fan : ℕ) (p : PlainPage) (lawful : IsLawfulPage fan p) where
     high_in_range = lawful.high_in_range;
     floor_below_high = lawful.floor_below_high;
     right_unless_last = lawful.right_unless_last;
+    right_is_number = lawful.right_is_number;
     at_most_fan = room;
     keys_rise = covers_rising _ _ _ has.last_is_high;
     values_in_range = values_wider 1 MAX_PAGE 0 GREATEST_KEY entries (omega arith) (omega arith) has.children;

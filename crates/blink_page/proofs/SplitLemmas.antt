@@ -3,7 +3,7 @@ use Rattle.std.proofs.Common.{◌≡◌, ℕ, ◌+◌, ◌-◌, ◌<◌, ◌≤�
 use Rattle.std.proofs.lemmas.List.{length-take-le, take-append-drop}
 use Rattle.std.proofs.Math.Seq.{take-length}
 use Rattle.blink_page.specs.declared.limits.TheConstants.{MAX_PAGE, GREATEST_KEY}
-use Rattle.blink_page.specs.Limits.{IsFan}
+use Rattle.blink_page.specs.Limits.{IsFan, IsPageNumber}
 use Rattle.blink_page.specs.Rising.{IsRising, Covers, least_above, next_key}
 use Rattle.blink_page.specs.Entries.{ValuesWithin, last_key_or}
 use Rattle.blink_page.specs.Page.{PlainPage, IsLawfulPage, HasChildren, with_entries}
@@ -81,12 +81,13 @@ module _ (fan new : ℕ) (is_fan : IsFan fan) (p : PlainPage) (xs : List (ℕ ×
       }
 
   -- the page that keeps the front is lawful
-  pub lawful_lower : IsLawfulPage fan (lower_half fan new p xs)
-  lawful_lower = record {
+  pub lawful_lower : IsPageNumber new → IsLawfulPage fan (lower_half fan new p xs)
+  lawful_lower number = record {
     level_in_range = lawful.level_in_range;
     high_in_range = omega (arith, separator_below_high, lawful.high_in_range);
     floor_below_high = separator_above_floor;
     right_unless_last = (λ none. cc, λ last. absurd (omega (arith, separator_below_high, lawful.high_in_range)));
+    right_is_number = number;
     at_most_fan = omega (arith, length-lower_entries fan xs overfull);
     keys_rise = front_rises;
     values_in_range = values_front 0 GREATEST_KEY front back values;
@@ -100,6 +101,7 @@ module _ (fan new : ℕ) (is_fan : IsFan fan) (p : PlainPage) (xs : List (ℕ ×
     high_in_range = lawful.high_in_range;
     floor_below_high = omega (arith, separator_below_high);
     right_unless_last = lawful.right_unless_last;
+    right_is_number = lawful.right_is_number;
     at_most_fan = omega (arith, length-upper_entries fan xs overfull);
     keys_rise = back_rises;
     values_in_range = values_rest 0 GREATEST_KEY front back values;

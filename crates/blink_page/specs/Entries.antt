@@ -11,7 +11,7 @@ abbrev pub child_for : ℕ → List (ℕ × ℕ) → Option ℕ
 child_for key [] = None
 child_for key ((separator, child) ∷ rest) = if nat_le key separator then Some child else child_for key rest
 
--- the list with an entry added, before the first that has a greater key
+-- the list with an entry added, before the first whose key is at least as great
 abbrev pub added : ℕ × ℕ → List (ℕ × ℕ) → List (ℕ × ℕ)
 added (key, value) [] = (key, value) ∷ []
 added (key, value) ((k, v) ∷ rest) =

@@ -1,5 +1,6 @@
 -- A page of the tree as plain data, and what makes it lawful.
-use Rattle.std.specs.Prelude.{◌≡◌, ℕ, ◌+◌, ◌<◌, ◌≤◌, ◌↔◌, ◌==◌, if◌then◌else◌, Option, None, IsNone, List, [], ◌∷◌, length}
+use Rattle.std.specs.Prelude.{◌≡◌, ℕ, ◌+◌, ◌<◌, ◌≤◌, ◌↔◌, ◌==◌, if◌then◌else◌, Option, None, IsNone, IfSome, List, [], ◌∷◌, length}
+use Rattle.blink_page.specs.Limits.{IsPageNumber}
 use Rattle.blink_page.specs.Rising.{least_above, IsRising, Covers}
 use Rattle.blink_page.specs.Entries.{added, posted, ValuesWithin}
 use Rattle.blink_page.specs.declared.limits.TheConstants.{MAX_LEVEL, MAX_PAGE, GREATEST_KEY}
@@ -29,6 +30,7 @@ pub record IsLawfulPage (fan : ℕ) (p : PlainPage) : Type 0 where
   pub high_in_range : p.high ≤ GREATEST_KEY
   pub floor_below_high : least_above p.floor ≤ p.high
   pub right_unless_last : IsNone p.right ↔ (p.high ≡ GREATEST_KEY)
+  pub right_is_number : IfSome p.right IsPageNumber
   pub at_most_fan : length p.entries ≤ fan
   pub keys_rise : IsRising (least_above p.floor) p.entries (p.high + 1)
   pub values_in_range : ValuesWithin 0 GREATEST_KEY p.entries

@@ -9,10 +9,11 @@ pub const MAX_FAN: usize = 16;
 /// A full page with one entry more, which is then split.
 pub(crate) const OVERFULL: usize = MAX_FAN + 1;
 
-/// The level of the highest root.
+/// The highest level that a page may have. No tree gets there: there are too few page numbers for more than 20 levels, so
+/// the highest that exists is 19.
 pub const MAX_LEVEL: u8 = 20;
 
-/// How many levels a tree may have.
+/// How many levels a prime block has room for: those from 0 to `MAX_LEVEL`.
 pub const LEVELS: usize = 21;
 
 /// The greatest number of a page. Number 0 is the prime block's.

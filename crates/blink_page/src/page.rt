@@ -11,8 +11,9 @@ use std::marker::Model;
 /// A page of the tree: a leaf, of level 0, or an inner page.
 ///
 /// Its keys are those above `floor` and at most `high`. `floor` is `None` on the leftmost page of a level, and `high` is
-/// the greatest number on the last, which alone has no link to the `right`. A leaf's items are keys with their values, an
-/// inner page's are separators with the numbers of their children (Lehman and Yao 1981, the B-link tree).
+/// the greatest number on the last, which alone has no link to the `right`. A link is a page's number, from 1 to `MAX_PAGE`.
+/// A leaf's items are keys with their values, an inner page's are separators with the numbers of their children (Lehman and
+/// Yao 1981, the B-link tree).
 #[derive(Debug, Drop, PartialEq, Eq)]
 pub struct Page {
     pub level: u8,

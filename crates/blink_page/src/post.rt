@@ -33,7 +33,8 @@ impl Page {
         ensures full { OnFull result (length self.old.entries ≡ fan) }
         ensures room { OnDone result (length self.old.entries < fan) }
 
-        ensures done { OnDone result (self.new ≡ with_entries self.old (posted (separator, child) self.old.entries)) }
+        ensures done { OnDone result
+            (self.new ≡ with_entries self.old (posted (separator, child) self.old.entries)) }
         ensures unchanged { UnlessDone result (self.new ≡ self.old) }
     {
         if self.look(separator).is_some() {

@@ -7,20 +7,21 @@ use arrayvec::ArrayVec;
 use std::marker::Model;
 
 /// The prime block: the numbers of the leftmost pages, level 0 first (Lehman and Yao 1981). The last is the
-/// leftmost page of the top level.
+/// leftmost page of the top level. There is one at least, and each is from 1 to `MAX_PAGE`.
 #[derive(Debug, Drop, PartialEq, Eq)]
 pub struct Prime {
     pub leftmost: ArrayVec<u32, LEVELS>,
 }
 
 impl Model for Prime {
-    ghost use Rattle.std.specs.Prelude.{ℕ, ◌<◌, List, length};
+    ghost use Rattle.std.specs.Prelude.{ℕ, ◌<◌, List, length, All};
+    ghost use Rattle.blink_page.specs.Limits.{IsPageNumber};
 
     ghost Value = { List ℕ };
 
     ghost view = { λ prime. prime.leftmost.items };
 
-    ghost invariant = { λ prime. 0 < length prime.leftmost.items };
+    ghost invariant = { λ prime. (0 < length prime.leftmost.items) × All IsPageNumber prime.leftmost.items };
 
     ghost inverse = { λ leftmost. record { leftmost = record { items = leftmost } } };
 }

@@ -31,7 +31,8 @@ impl Page {
         ensures full { OnFull result (length self.old.entries ≡ fan) }
         ensures room { OnDone result (length self.old.entries < fan) }
 
-        ensures done { OnDone result (self.new ≡ with_entries self.old (added (key, value) self.old.entries)) }
+        ensures done { OnDone result
+            (self.new ≡ with_entries self.old (added (key, value) self.old.entries)) }
         ensures unchanged { UnlessDone result (self.new ≡ self.old) }
     {
         if let Some(found) = self.look(key) {

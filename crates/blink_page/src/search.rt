@@ -1,4 +1,4 @@
-//! Searches, which read a page under no latch.
+//! Searches within a page. A search of the tree reads pages under no latch, an update its own page under one.
 ghost use Rattle.std.specs.Prelude.{◌≡◌, ◌<◌, ◌≤◌, Some, length};
 ghost use Rattle.blink_page.specs.Entries.{value_at, child_for};
 ghost use Rattle.blink_page.specs.Place.{place_of};

@@ -4,7 +4,7 @@ ghost use Rattle.arrayvec.specs.ArrayVec.{array_vec_len};
 ghost use Rattle.blink_page.specs.Limits.{IsFan, IsPageNumber};
 ghost use Rattle.blink_page.specs.Entries.{value_at};
 ghost use Rattle.blink_page.specs.Page.{IsKeyOf, entries_with};
-ghost use Rattle.blink_page.specs.Split.{lower_half, upper_half, separator_of};
+ghost use Rattle.blink_page.specs.Split.{kept_count, lower_half, upper_half, separator_of};
 
 use crate::entries::{add, copied, post_among};
 use crate::limits::OVERFULL;
@@ -22,10 +22,14 @@ impl Page {
         requires absent { value_at key self.now.entries ≡ None }
         requires child { 0 < self.now.level → IsPageNumber value }
         requires new_number { IsPageNumber new }
-        ensures lower { result.0 ≡ lower_half fan new self.now (entries_with self.now (key, value)) }
+        ensures lower { result.0
+            ≡ lower_half fan new self.now (entries_with self.now (key, value)) }
         ensures upper { result.1 ≡ upper_half fan self.now (entries_with self.now (key, value)) }
         ensures separator { result.2 ≡ separator_of fan (entries_with self.now (key, value)) }
-        ensures whole { (result.0).entries ++ (result.1).entries ≡ entries_with self.now (key, value) }
+        ensures whole { (result.0).entries ++ (result.1).entries
+            ≡ entries_with self.now (key, value) }
+        ensures lower_count { length (result.0).entries ≡ kept_count fan }
+        ensures both_counts { length (result.0).entries + length (result.1).entries ≡ fan + 1 }
     {
         let whole = self.overfull_with(key, value);
         let kept = (usize::from(fan) + 2) / 2;

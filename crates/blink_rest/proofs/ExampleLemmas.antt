@@ -16,6 +16,7 @@ module _ (fan : ℕ) (room : 4 ≤ fan) where
     high_in_range = omega arith;
     floor_below_high = omega arith;
     right_unless_last = (λ none. absurd (cc), λ same. absurd (omega arith));
+    right_is_number = (omega arith, omega arith);
     at_most_fan = omega arith;
     keys_rise = search rules;
     values_in_range = search rules;
@@ -28,6 +29,7 @@ module _ (fan : ℕ) (room : 4 ≤ fan) where
     high_in_range = omega arith;
     floor_below_high = omega arith;
     right_unless_last = search rules;
+    right_is_number = tt;
     at_most_fan = omega arith;
     keys_rise = search rules;
     values_in_range = search rules;
@@ -40,6 +42,7 @@ module _ (fan : ℕ) (room : 4 ≤ fan) where
     high_in_range = omega arith;
     floor_below_high = omega arith;
     right_unless_last = search rules;
+    right_is_number = tt;
     at_most_fan = omega arith;
     keys_rise = search rules;
     values_in_range = search rules;

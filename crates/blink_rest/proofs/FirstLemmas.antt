@@ -14,6 +14,7 @@ lawful_empty_leaf fan = record {
   high_in_range = omega arith;
   floor_below_high = omega arith;
   right_unless_last = search rules;
+  right_is_number = tt;
   at_most_fan = omega arith;
   keys_rise = omega arith;
   values_in_range = tt;

@@ -6,10 +6,11 @@ use Rattle.blink_store.proofs.StoreLemmas.{has_page, page_there}
 use Rattle.blink_rest.specs.Chain.{Pages, Cell}
 use Rattle.blink_rest.specs.Example.{example_store}
 use Rattle.blink_rest.specs.Rest.{AreChains, IsStoreAtRest}
-use Rattle.blink_rest.specs.Laws.{EntriesAscend, EntriesAreOneList, SearchEndsAtLeaf, EachKeyIsReached, AtMostTwentyLevels, ExampleIsAtRest}
+use Rattle.blink_rest.specs.Laws.{EntriesAscend, EntriesAreOneList, EntriesExistAtRest, SearchEndsAtLeaf, EachKeyIsReached, EachPageRefersBelow, EachRightLinkLeads, AtMostTwentyLevels, ExampleIsAtRest}
 use Rattle.blink_rest.proofs.NumberLemmas.{IsAmong}
 use Rattle.blink_rest.proofs.SameLemmas.{same_entries}
 use Rattle.blink_rest.proofs.LeafLemmas.{entries_rise, key_in_range, ends_at_leaf, entries_there, root_there}
+use Rattle.blink_rest.proofs.ReferenceLemmas.{refers_below, right_leads}
 use Rattle.blink_rest.proofs.WholeLemmas.{AreNumbered}
 use Rattle.blink_rest.proofs.HeightLemmas.{at_most_20_levels}
 use Rattle.blink_rest.proofs.FirstLemmas.{first_at_rest}
@@ -19,9 +20,10 @@ pub entries_ascend : EntriesAscend
 entries_ascend fan prime pages entries are = entries_rise fan pages prime entries are
 
 pub entries_are_one_list : EntriesAreOneList
-entries_are_one_list fan prime pages at_rest =
-    let it = entries_there fan pages prime at_rest.0 at_rest.1 in
-    (it.0, it.1, λ others are. same_entries fan pages prime others it.0 are it.1)
+entries_are_one_list fan prime pages entries others are too = same_entries fan pages prime entries others are too
+
+pub entries_exist_at_rest : EntriesExistAtRest
+entries_exist_at_rest fan prime pages at_rest = entries_there fan pages prime at_rest.0 at_rest.1
 
 pub search_ends_at_leaf : SearchEndsAtLeaf
 search_ends_at_leaf fan prime pages entries key at_rest are in_range =
@@ -30,8 +32,25 @@ search_ends_at_leaf fan prime pages entries key at_rest are in_range =
 
 pub each_key_is_reached : EachKeyIsReached
 each_key_is_reached fan prime pages entries key value at_rest are found =
-    let ends = search_ends_at_leaf fan prime pages entries key at_rest are (key_in_range fan pages prime key value entries are found) in
-    (ends, sym ends.is_leaf_of.same_value ∙ found)
+    let ends = search_ends_at_leaf fan prime pages entries key at_rest are (key_in_range fan pages prime key value entries are found) in (
+      ends,
+      record {
+        root = ends.root;
+        is_root = ends.is_root;
+        number = ends.number;
+        leaf = ends.leaf;
+        there = ends.is_leaf_of.there;
+        is_leaf = ends.is_leaf_of.is_leaf;
+        reached = ends.reached;
+        has_entry = sym ends.is_leaf_of.same_value ∙ found;
+      },
+    )
+
+pub each_page_refers_below : EachPageRefersBelow
+each_page_refers_below fan prime pages number page at_rest there inner = refers_below fan pages prime at_rest.0 number page at_rest.1 there inner
+
+pub each_right_link_leads : EachRightLinkLeads
+each_right_link_leads fan prime pages number next page at_rest there right = right_leads fan pages prime at_rest.0 number next page at_rest.1 there right
 
 -- a prime block names as many levels as it has chains
 as_many_levels : (fan level : ℕ) (pages : Pages) (prime : List ℕ) (levels : List (List Cell)) → AreChains fan pages level prime levels → length prime ≡ length levels

@@ -11,6 +11,7 @@ pub mod LeafLemmas
 pub mod WholeLemmas
 pub mod ExampleLemmas
 pub mod HeightLemmas
+pub mod ReferenceLemmas
 pub mod LawLemmas
 pub mod WalkLemmas
 pub mod TailLemmas

@@ -1,8 +1,10 @@
 pub mod Chain
 pub mod Entries
 pub mod Level
+pub mod References
 pub mod Reach
 pub mod Rest
 pub mod Example
 pub mod Laws
 pub mod Walk
+pub mod Children

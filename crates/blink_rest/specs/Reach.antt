@@ -35,3 +35,14 @@ pub record EndsAtLeaf (prime : List ℕ) (pages : Pages) (entries : List (ℕ ×
   pub reached : Reaches pages root key number
   pub no_other_reached : (other : ℕ) (page : PlainPage) → Reaches pages root key other → pages other ≡ Some page → page.level ≡ 0 → other ≡ number
   pub no_other_belongs : (other : ℕ) (page : PlainPage) → pages other ≡ Some page → page.level ≡ 0 → IsKeyOf page key → other ≡ number
+
+-- a search for the key from the root comes to a leaf that keeps this pointer under it
+pub record IsReached (prime : List ℕ) (pages : Pages) (key pointer : ℕ) : Type 0 where
+  pub root : ℕ
+  pub is_root : IsRoot prime root
+  pub number : ℕ
+  pub leaf : PlainPage
+  pub there : pages number ≡ Some leaf
+  pub is_leaf : leaf.level ≡ 0
+  pub reached : Reaches pages root key number
+  pub has_entry : value_at key leaf.entries ≡ Some pointer

@@ -1,5 +1,5 @@
 //! A store whose tree is at rest.
-ghost use Rattle.std.specs.Prelude.{◌≡◌, ◌≤◌, length, IfOk, IsOkUnless};
+ghost use Rattle.std.specs.Prelude.{◌≡◌, ◌≤◌, ◌↔◌, IsTrue, length, IfOk, IsOkUnless};
 ghost use Rattle.blink_page.specs.Limits.{IsFan};
 ghost use Rattle.blink_store.specs.Store.{IsLawfulStore, new_store};
 ghost use Rattle.blink_rest.specs.Rest.{IsStoreAtRest};
@@ -48,6 +48,14 @@ impl Rest {
     {
         let store = self.store.copy(alloc)?;
         Ok(Rest::of(store))
+    }
+
+    /// Whether the two are the same tree: the same fan, the same prime block, and the same page under each number. It takes
+    /// no memory.
+    pub fn is_same(&self, other: &Rest) -> bool
+        ensures { IsTrue result ↔ self.now ≡ other.now }
+    {
+        self.store.is_same(&other.store)
     }
 
     /// The tree of a store that is at rest. It takes no memory.

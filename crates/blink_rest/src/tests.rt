@@ -28,6 +28,7 @@ fn a_new_store_is_at_rest(rt: HostRuntime) -> Result<(), Fail> {
 fn a_copy_is_the_same_tree(rt: HostRuntime) -> Result<(), Fail> {
     let rest = Rest::empty(rt.alloc(), 7)?;
     let copy = rest.copy(rt.alloc())?;
+    assert!(rt; copy.is_same(&rest));
     let store = copy.store();
     assert_eq!(rt; (store.fan(), store.pages()), (7, 1));
     assert_eq!(rt; store.prime().leftmost.as_slice(), [1].as_slice());
@@ -68,7 +69,7 @@ fn tree(rt: &impl Abort, alloc: Global, floor: bool, root: Page) -> Result<Store
         leaf_of(rt, [4, 5].as_slice())
     };
     let mut store = Store::new(alloc, 4)?;
-    assert!(rt; second.items.len() <= 4 && lower.items.len() <= 4 && root.items.len() <= 4);
+    assert!(rt; second.items.len() <= 4 && root.items.len() <= 4);
     assert_eq!(rt; store.add(second)?, 2);
     assert_eq!(rt; store.add(root)?, 3);
     let same = store.read(1).level == lower.level && store.read(1).floor == lower.floor;
@@ -98,6 +99,23 @@ fn a_tree_is_at_rest_once_its_root_is_named(rt: HostRuntime) -> Result<(), Fail>
     assert!(rt; store.fan() == 4);
     assert_eq!(rt; store.add(Page::leaf())?, 4);
     assert!(rt; !at_rest(&store));
+    Ok(())
+}
+
+#[test]
+fn a_tree_with_an_entry_is_another_tree(rt: HostRuntime) -> Result<(), Fail> {
+    let rest = Rest::empty(rt.alloc(), 4)?;
+    let mut store = Store::new(rt.alloc(), 4)?;
+    let same = store.read(1).level == 0 && store.read(1).floor.is_none();
+    assert!(rt; same);
+    let page = leaf_of(&rt, [1].as_slice());
+    assert!(rt; page.level == 0 && page.floor.is_none() && page.items.len() <= 4);
+    store.write(1, page);
+    let still = at_rest(&store);
+    assert!(rt; still);
+    let other = Rest::of(store);
+    assert!(rt; !other.is_same(&rest));
+    assert!(rt; other.is_same(&other));
     Ok(())
 }
 

@@ -21,7 +21,8 @@ fn is_in_line(store: &Store, number: u32, level: usize, floor: Option<u64>) -> b
 
 /// How many pages the chain of a level has, if it is one.
 pub(crate) fn chain_length(store: &Store, level: usize, leftmost: u32) -> Option<u32>
-    ensures { MatchOption result (HasNoChain store.now.fan (page_of store.now) level leftmost) (λ count. HasChain store.now.fan (page_of store.now) level leftmost count) }
+    ensures { MatchOption result (HasNoChain store.now.fan (page_of store.now) level leftmost)
+        (λ count. HasChain store.now.fan (page_of store.now) level leftmost count) }
 {
     let mut count = 0;
     let mut floor = None;
@@ -42,8 +43,10 @@ pub(crate) fn chain_length(store: &Store, level: usize, leftmost: u32) -> Option
 // after those that the entries name.
 fn named(store: &Store, entries: &[(u64, u64)], first: Option<u32>) -> Option<Option<u32>>
     requires { HasTail store.now.fan (page_of store.now) first }
-    ensures named { IfSome result (λ after. NamesFirst store.now.fan (page_of store.now) entries.now first after) }
-    ensures differs { IfNone result (NamesNone store.now.fan (page_of store.now) entries.now first) }
+    ensures named { IfSome result
+        (λ after. NamesFirst store.now.fan (page_of store.now) entries.now first after) }
+    ensures differs { IfNone result
+        (NamesNone store.now.fan (page_of store.now) entries.now first) }
 {
     let mut below = first;
     for &(separator, child) in entries {
@@ -81,7 +84,9 @@ fn names(store: &Store, upper: u32, lower: u32) -> bool
 /// How many pages the chain of a level has, if it is one and the chain above it names it.
 pub(crate) fn named_chain_length(store: &Store, level: usize, lower: u32, upper: u32) -> Option<u32>
     requires { HasSomeChain store.now.fan (page_of store.now) (level + 1) upper }
-    ensures { MatchOption result (HasNoNamedChain store.now.fan (page_of store.now) level lower upper) (λ count. HasNamedChain store.now.fan (page_of store.now) level lower upper count) }
+    ensures { MatchOption result
+        (HasNoNamedChain store.now.fan (page_of store.now) level lower upper)
+        (λ count. HasNamedChain store.now.fan (page_of store.now) level lower upper count) }
 {
     match chain_length(store, level, lower) {
         Some(count) if names(store, upper, lower) => Some(count),

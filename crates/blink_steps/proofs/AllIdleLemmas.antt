@@ -5,7 +5,7 @@ use Rattle.std.proofs.lemmas.Option.{slice_get_cases}
 use Rattle.blink_page.specs.Page.{PlainPage}
 use Rattle.blink_steps.specs.Moment.{Moment}
 use Rattle.blink_steps.specs.Sound.{IsSoundWith}
-use Rattle.blink_steps.specs.Tree.{Levels, IsInChain, IsDebt}
+use Rattle.blink_steps.specs.TreeWithDebts.{Levels, IsInChain, IsDebt}
 use Rattle.blink_steps.proofs.TreeStatements.{TreeLaws, IsQuiet}
 use Rattle.blink_steps.proofs.SoundStatements.{AllIdleIsAtRest}
 
@@ -16,7 +16,7 @@ leftmost_of prime level inside = elim (slice_get_cases prime level).1 [ inl ther
 module _ (moment : Moment) (levels : Levels) (sound : IsSoundWith moment levels) (idle : (worker : ℕ) → moment.machines worker ≡ None) where
   -- so no debt is left
   idle_owe_nothing : (level key : ℕ) → IsDebt levels level key → ⊥
-  idle_owe_nothing level key debt = let it = sound.lawful.debts.owed level key debt in cc (idle it.worker, it.under_way)
+  idle_owe_nothing level key debt = let it = sound.lawful.debts.owed level key debt in cc (idle it.worker, it.owes.0)
 
   -- every page is in a chain
   idle_have_no_pages : (number : ℕ) (page : PlainPage) → moment.pages number ≡ Some page → IsInChain levels number

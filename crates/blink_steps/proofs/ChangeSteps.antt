@@ -16,7 +16,7 @@ use Rattle.blink_steps.specs.Owned.{debt_of, debt_at, debt_of_job, loose_at, spl
 use Rattle.blink_steps.specs.Placed.{HasAnswer, IsPlaced}
 use Rattle.blink_steps.specs.Sound.{IsSound, IsSoundWith}
 use Rattle.blink_steps.specs.Table.{IsChange, gains, loses, decided_with}
-use Rattle.blink_steps.specs.Tree.{Levels, IsInChain}
+use Rattle.blink_steps.specs.TreeWithDebts.{Levels, IsInChain}
 use Rattle.blink_steps.proofs.TreeStatements.{TreeLaws, IsReplaced, InnerGains}
 use Rattle.blink_steps.proofs.TurnLemmas.{Turns}
 use Rattle.blink_steps.proofs.DebtLemmas.{KeysPass, above_gains, posted_gains}

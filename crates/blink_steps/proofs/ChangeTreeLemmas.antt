@@ -12,7 +12,7 @@ use Rattle.blink_steps.specs.Owned.{debt_of}
 use Rattle.blink_steps.specs.Placed.{IsPlaced}
 use Rattle.blink_steps.specs.Sound.{IsSoundWith}
 use Rattle.blink_steps.specs.Table.{Brings}
-use Rattle.blink_steps.specs.Tree.{Levels}
+use Rattle.blink_steps.specs.TreeWithDebts.{Levels}
 use Rattle.blink_steps.proofs.TreeStatements.{TreeLaws, LeafGains, LeafLoses, InnerGains}
 use Rattle.blink_steps.proofs.GainLemmas.{entries_with-leaf, entries_with-inner, gain_replaces, loss_replaces, pointer_fits}
 use Rattle.blink_steps.proofs.OwnPageLemmas.{WritesOwn}
@@ -55,7 +55,7 @@ module _ (laws : TreeLaws) (old new : Moment) (levels : Levels) (sound : IsSound
       let same_entry : entry_of m ≡ (debt.separator, debt.page) = rw job refl in
       let on : target m ≡ debt.separator = rw job refl in
       let is : changed ≡ with_entries work.cell.page (entries_with work.cell.page (debt.separator, debt.page)) = rw same (rw same_entry at is_changed) in
-      let owed = sound.lawful.debts.is_debt worker m debt own.here owes in
+      let owed = sound.lawful.debts.is_debt worker m debt (own.here, owes) in
       let is_number : IsPageNumber debt.page = job_is_number laws old levels sound m worker debt own.here owes in
       let belongs : IsKeyOf work.cell.page debt.separator = rw on at work.belongs in
       let none : value_at debt.separator work.cell.page.entries ≡ None = rw same (rw on at absent) in

@@ -20,7 +20,8 @@ use Rattle.blink_steps.specs.Acts.{Acts}
 use Rattle.blink_steps.specs.Counts.{takes_number, writes_new_page, numbers_in, moves_in}
 use Rattle.blink_steps.specs.Moment.{goes_on}
 use Rattle.blink_steps.specs.Run.{PlainRun, Taken, TakesTurn, Follows, IsOpeningRun, after_move, seat_after, idle_seat}
-use Rattle.blink_steps.specs.SoundRun.{IsSoundRun, IsSoundSeat, pairs_of}
+use Rattle.blink_steps.specs.SoundRun.{IsSoundRun, IsSoundSeat}
+use Rattle.blink_steps.specs.TreeMap.{pairs_of}
 use Rattle.blink_steps.proofs.Allowances.{IsWithin, KeepsWithin}
 use Rattle.blink_steps.proofs.CountedRun.{IsLimited, IsInsertAt, IsCounted, IsKnown, next_is_known}
 use Rattle.blink_steps.proofs.CountedTurnLemmas.{is_moving_turn, is_write_turn, is_prime_turn, own_numbers, own_within, other_within, own_limited, other_limited, takes_as_insert, working_after, next_after}

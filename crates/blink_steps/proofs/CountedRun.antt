@@ -19,7 +19,7 @@ use Rattle.blink_steps.specs.Owned.{latch_of, debt_of}
 use Rattle.blink_steps.specs.Placed.{PlacedAt}
 use Rattle.blink_steps.specs.Run.{PlainRun, Taken, IsNextOf, moment_of, machine_of_seat, busy_seat, idle_seat}
 use Rattle.blink_steps.specs.SoundRun.{IsSoundRun, IsBusy, IsIdle}
-use Rattle.blink_steps.specs.Tree.{Levels}
+use Rattle.blink_steps.specs.TreeWithDebts.{Levels}
 use Rattle.blink_steps.proofs.Allowances.{IsWithin, OwesAsInsert, IsFitToCount}
 use Rattle.blink_steps.proofs.SoundStatements.{LevelsAreFew, JobsAreOnLevels}
 use Rattle.blink_steps.proofs.TurnCountLemmas.{numbers_in-few, moves_of-few}

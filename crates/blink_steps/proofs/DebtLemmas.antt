@@ -6,7 +6,8 @@ use Rattle.blink_page.proofs.LookLemmas.{none_unless_some}
 use Rattle.blink_page.specs.declared.limits.TheConstants.{GREATEST_KEY}
 use Rattle.blink_rest.specs.Level.{entries_along}
 use Rattle.blink_steps.specs.declared.machine.Debt.{Debt}
-use Rattle.blink_steps.specs.Tree.{Levels, IsHighKey, IsDebt, BeginsAt}
+use Rattle.blink_steps.specs.TreeWithDebts.{Levels, IsDebt}
+use Rattle.blink_rest.specs.References.{IsHighKey, BeginsAt}
 use Rattle.blink_steps.proofs.TreeStatements.{GainsSeparator}
 use Rattle.blink_steps.proofs.PassLemmas.{Owes, DebtsPass}
 

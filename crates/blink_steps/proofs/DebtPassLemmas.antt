@@ -5,8 +5,9 @@ use Rattle.blink_steps.specs.declared.machine.Debt.{Debt}
 use Rattle.blink_steps.specs.declared.machine.State.TheVariants.{Start, Ended}
 use Rattle.blink_steps.specs.Machine.{PlainMachine}
 use Rattle.blink_steps.specs.Moment.{Moment}
-use Rattle.blink_steps.specs.Owned.{debt_of, debt_at, IsOwed, DebtsAreOwed}
-use Rattle.blink_steps.specs.Tree.{Levels, IsDebt, BeginsAt}
+use Rattle.blink_steps.specs.Owned.{debt_of, debt_at}
+use Rattle.blink_steps.specs.TreeWithDebts.{IsOwed, DebtsAreOwed, Levels, IsDebt}
+use Rattle.blink_rest.specs.References.{BeginsAt}
 use Rattle.blink_steps.proofs.TreeStatements.{Grows}
 use Rattle.blink_steps.proofs.GrowLemmas.{BeginsAt-grows}
 use Rattle.blink_steps.proofs.PassLemmas.{Owes, DebtsPass}
@@ -23,9 +24,8 @@ module _ (old new : Moment) (worker : ℕ) (m after : PlainMachine) (turn : Turn
   owed_by_it level separator it = record {
     worker = worker;
     m = after;
-    under_way = has_under_way old.machines new.machines worker m after turn debt_of it.debt (λ (ends : after.state ≡ Ended). ap (debt_at after.job) ends) it.owes;
     debt = it.debt;
-    owes = it.owes;
+    owes = (has_under_way old.machines new.machines worker m after turn debt_of it.debt (λ (ends : after.state ≡ Ended). ap (debt_at after.job) ends) it.owes, it.owes);
     same_level = it.same_level;
     same_separator = it.same_separator;
   }
@@ -35,16 +35,15 @@ module _ (old new : Moment) (worker : ℕ) (m after : PlainMachine) (turn : Turn
   owed_now level separator debt owed = elim (cases_eq owed.worker worker) [
     | inl same ↦ owed_by_it level separator (pass.paid level separator debt (record {
       debt = owed.debt;
-      owes = had_by old.machines new.machines worker m after turn debt_of owed.debt owed.worker owed.m same owed.under_way owed.owes;
+      owes = had_by old.machines new.machines worker m after turn debt_of owed.debt owed.worker owed.m same owed.owes.0 owed.owes.1;
       same_level = owed.same_level;
       same_separator = owed.same_separator;
     }))
     | inr differs ↦ record {
       worker = owed.worker;
       m = owed.m;
-      under_way = is_other old.machines new.machines worker m after turn owed.worker owed.m differs owed.under_way;
       debt = owed.debt;
-      owes = owed.owes;
+      owes = (is_other old.machines new.machines worker m after turn owed.worker owed.m differs owed.owes.0, owed.owes.1);
       same_level = owed.same_level;
       same_separator = owed.same_separator;
     }
@@ -54,9 +53,9 @@ module _ (old new : Moment) (worker : ℕ) (m after : PlainMachine) (turn : Turn
   debt_stays : (other : ℕ) (n : PlainMachine) (debt : Debt) → other ≢ worker → old.machines other ≡ Some n → debt_of n ≡ Some debt
       → IsDebt grown debt.level debt.separator × BeginsAt (grown debt.level) debt.page (Some debt.separator)
   debt_stays other n debt differs here owes =
-      let was = debts.is_debt other n debt here owes in (
+      let was = debts.is_debt other n debt (here, owes) in (
         pass.stays debt.level debt.separator was.0
-            (λ (it : Owes (debt_of m) debt.level debt.separator). differs (debts.by_one other worker n m debt it.debt here (had_debt it.debt it.owes) owes it.owes (sym it.same_level) (sym it.same_separator))),
+            (λ (it : Owes (debt_of m) debt.level debt.separator). differs (debts.by_one other worker n m debt it.debt (here, owes) (had_debt it.debt it.owes, it.owes) (sym it.same_level) (sym it.same_separator))),
         BeginsAt-grows levels grown grows debt.level debt.page (Some debt.separator) was.1,
       )
 
@@ -64,9 +63,9 @@ module _ (old new : Moment) (worker : ℕ) (m after : PlainMachine) (turn : Turn
   owed_by_no_other : (other : ℕ) (n : PlainMachine) (debt owing : Debt) → other ≢ worker → old.machines other ≡ Some n → debt_of after ≡ Some debt
       → debt_of n ≡ Some owing → debt.level ≡ owing.level → debt.separator ≡ owing.separator → ⊥
   owed_by_no_other other n debt owing differs here owes other_owes same_level same_separator = elim (pass.taken debt owes) [
-    | inl it ↦ differs (debts.by_one other worker n m owing it.debt here (had_debt it.debt it.owes) other_owes it.owes (sym (it.same_level ∙ same_level)) (sym (it.same_separator ∙ same_separator)))
+    | inl it ↦ differs (debts.by_one other worker n m owing it.debt (here, other_owes) (had_debt it.debt it.owes, it.owes) (sym (it.same_level ∙ same_level)) (sym (it.same_separator ∙ same_separator)))
     | inr none ↦ none (subst (λ (level : ℕ). IsDebt levels level debt.separator) (sym same_level)
-        (subst (λ (separator : ℕ). IsDebt levels owing.level separator) (sym same_separator) (debts.is_debt other n owing here other_owes).0))
+        (subst (λ (separator : ℕ). IsDebt levels owing.level separator) (sym same_separator) (debts.is_debt other n owing (here, other_owes)).0))
   ]
 
   -- so each debt is owed by one
@@ -81,8 +80,8 @@ module _ (old new : Moment) (worker : ℕ) (m after : PlainMachine) (turn : Turn
     | inr differs ↦ elim (cases_eq other worker) [
       | inl same ↦ absurd (owed_by_no_other one n owing debt differs (was_other old.machines new.machines worker m after turn one n differs here)
           (has_by old.machines new.machines worker m after turn debt_of owing other k same there other_owes) owes (sym same_level) (sym same_separator))
-      | inr also ↦ debts.by_one one other n k debt owing (was_other old.machines new.machines worker m after turn one n differs here)
-          (was_other old.machines new.machines worker m after turn other k also there) owes other_owes same_level same_separator
+      | inr also ↦ debts.by_one one other n k debt owing (was_other old.machines new.machines worker m after turn one n differs here, owes)
+          (was_other old.machines new.machines worker m after turn other k also there, other_owes) same_level same_separator
     ]
   ]
 
@@ -93,9 +92,9 @@ module _ (old new : Moment) (worker : ℕ) (m after : PlainMachine) (turn : Turn
       | inl it ↦ owed_by_it level separator it
       | inr was ↦ owed_now level separator debt (debts.owed level separator was)
     ];
-    is_debt = λ other n debt here owes. elim (cases_eq other worker) [
-      | inl same ↦ pass.is_debt debt (has_by old.machines new.machines worker m after turn debt_of debt other n same here owes)
-      | inr differs ↦ debt_stays other n debt differs (was_other old.machines new.machines worker m after turn other n differs here) owes
+    is_debt = λ other n debt owes. elim (cases_eq other worker) [
+      | inl same ↦ pass.is_debt debt (has_by old.machines new.machines worker m after turn debt_of debt other n same owes.0 owes.1)
+      | inr differs ↦ debt_stays other n debt differs (was_other old.machines new.machines worker m after turn other n differs owes.0) owes.1
     ];
-    by_one = owed_by_one;
+    by_one = λ one other n k debt owing owes also. owed_by_one one other n k debt owing owes.0 also.0 owes.1 also.1;
   }

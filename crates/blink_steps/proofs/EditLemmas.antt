@@ -8,7 +8,9 @@ use Rattle.blink_rest.specs.Chain.{Cell, Pages, StandsIn, AreAmong, InLine, IsCh
 use Rattle.blink_rest.specs.Level.{entries_along}
 use Rattle.blink_rest.proofs.ChainLemmas.{AreAmong-append, InLine-append}
 use Rattle.blink_steps.specs.Moment.{WritesOne}
-use Rattle.blink_steps.specs.Tree.{Levels, IsTree, Refers, BeginsAt, IsHighKey}
+use Rattle.blink_steps.specs.Tree.{IsTree}
+use Rattle.blink_steps.specs.TreeWithDebts.{Levels}
+use Rattle.blink_rest.specs.References.{Refers, BeginsAt, IsHighKey}
 use Rattle.blink_steps.proofs.StandLemmas.{Stands, own_stands, stands_append, stands_first, stands_last, level_named, elsewhere_differs, before_differs, rest_differs, before_stands, rest_stands, stands_cases}
 
 -- the levels with other cells in one of them
@@ -148,7 +150,7 @@ module _ (fan : ℕ) (prime : List ℕ) (pages : Pages) (levels : Levels) (level
       -- each other level is as before
       other_chain_stays : (other leftmost : ℕ) → other ≢ level → slice_get prime other ≡ Some leftmost → IsChain fan after other leftmost (levels other)
       other_chain_stays other leftmost apart first =
-          let chain = tree.named other leftmost first in
+          let chain = tree.chains.named other leftmost first in
           record {
             pages_there = among_kept pages after c.number page (levels other) writes
                 (λ d stands. elsewhere_differs fan prime pages levels tree level other c d stood stands apart) chain.pages_there;
@@ -158,15 +160,17 @@ module _ (fan : ℕ) (prime : List ℕ) (pages : Pages) (levels : Levels) (level
       -- the tree stays a tree, if what the level says of the one below is so
       pub tree_stays : ((below : ℕ) → below + 1 ≡ level → Refers (levels below) None (entries_along (cells_after here middle))) → IsTree fan prime after (levels_after here middle)
       tree_stays refers_below = record {
-        some_level = tree.some_level;
-        named = λ other leftmost first. elim (cases_eq other level) [
-          | inl same ↦ rw (same, levels_after-same here middle) (chain_stays page writes leftmost (subst (λ (n : ℕ). slice_get prime n ≡ Some leftmost) same first))
-          | inr apart ↦ rw (levels_after-other here middle other apart) (other_chain_stays other leftmost apart first)
-        ];
-        unnamed = λ other past. elim (cases_eq other level) [
-          | inl same ↦ (let inside = level_named fan prime pages levels tree level c stood in absurd (omega arith))
-          | inr apart ↦ levels_after-other here middle other apart ∙ tree.unnamed other past
-        ];
+        chains = record {
+          some_level = tree.chains.some_level;
+          named = λ other leftmost first. elim (cases_eq other level) [
+            | inl same ↦ rw (same, levels_after-same here middle) (chain_stays page writes leftmost (subst (λ (n : ℕ). slice_get prime n ≡ Some leftmost) same first))
+            | inr apart ↦ rw (levels_after-other here middle other apart) (other_chain_stays other leftmost apart first)
+          ];
+          unnamed = λ other past. elim (cases_eq other level) [
+            | inl same ↦ (let inside = level_named fan prime pages levels tree level c stood in absurd (omega arith))
+            | inr apart ↦ levels_after-other here middle other apart ∙ tree.chains.unnamed other past
+          ];
+        };
         refers = λ lower. elim (cases_eq lower level) [
           | inl same ↦ (
               let upper : lower + 1 ≢ level = omega arith in

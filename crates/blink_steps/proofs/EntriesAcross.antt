@@ -8,7 +8,7 @@ use Rattle.blink_page.proofs.LevelLemmas.{added-append_front, added-append_rest,
 use Rattle.blink_rest.specs.Chain.{Cell, Pages}
 use Rattle.blink_rest.specs.Level.{entries_along}
 use Rattle.blink_rest.proofs.LevelLemmas.{line_rising}
-use Rattle.blink_steps.specs.Tree.{Levels}
+use Rattle.blink_steps.specs.TreeWithDebts.{Levels}
 use Rattle.blink_steps.proofs.StandLemmas.{Stands, entries_along-append}
 use Rattle.blink_steps.proofs.EditLemmas.{cells_after, cells_after-is}
 

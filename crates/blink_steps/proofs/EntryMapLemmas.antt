@@ -6,7 +6,7 @@ use Rattle.blink_batch.specs.declared.Entry.{Entry}
 use Rattle.blink_batch.specs.PlainMap.{entry, IsAscending, pointer_of}
 use Rattle.blink_batch.specs.PlainMap as map
 use Rattle.blink_page.specs.Entries.{value_at, added, removed}
-use Rattle.blink_steps.specs.SoundRun.{pairs_of}
+use Rattle.blink_steps.specs.TreeMap.{pairs_of}
 
 -- a key has in the tree what the map keeps under it
 pub value_at-pairs_of : (key : ℕ) (entries : List Entry) → value_at key (pairs_of entries) ≡ pointer_of entries key

@@ -16,7 +16,7 @@ use Rattle.blink_steps.specs.Machine.{PlainMachine, need_at}
 use Rattle.blink_steps.specs.Moment.{Moment}
 use Rattle.blink_steps.specs.Owned.{debt_at, debt_of_job}
 use Rattle.blink_steps.specs.Placed.{MayChange, IsPlaced}
-use Rattle.blink_steps.specs.Tree.{Levels}
+use Rattle.blink_steps.specs.TreeWithDebts.{Levels}
 use Rattle.blink_steps.proofs.Allowances.{IsFitToCount}
 use Rattle.blink_steps.proofs.MoveLemmas.{placed_at}
 use Rattle.blink_steps.proofs.TurnCountLemmas.{one_if}

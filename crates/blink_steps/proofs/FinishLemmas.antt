@@ -24,7 +24,7 @@ use Rattle.blink_steps.specs.Machine.{PlainMachine, need_at}
 use Rattle.blink_steps.specs.Pick.{GoesOnPicked, IsFirstMover, WouldMove, WouldWait, steps_at_most, steps_left}
 use Rattle.blink_steps.specs.Run.{PlainRun, Taken, TakesTurn, Follows, IsNextOf, IsOpeningRun, busy_seat, idle_seat}
 use Rattle.blink_steps.specs.Table.{SeesPrime, WaitsForLevel}
-use Rattle.blink_steps.specs.World.{PlainWorld, IsWorldOf, MayBegin, TakesStep}
+use Rattle.blink_steps.specs.World.{PlainWorld, IsWorldOf, MayBegin, SameBatch, TakesStep}
 use Rattle.blink_steps.proofs.PickLemmas.{idle_never_waits, only_next}
 use Rattle.blink_steps.proofs.RunLemmas.{waits_unchanged}
 use Rattle.blink_steps.proofs.WorldLemmas.{goes_further, same_batch}
@@ -169,6 +169,9 @@ same_batch_along start run (taken ∷ history) follows =
     let last = same_batch follows.0 run taken follows.2 in
     let before = same_batch_along start follows.0 history follows.1 in
     (last.0 ∙ before.0, last.1 ∙ before.1)
+
+pub same_batch_then : (old new : PlainWorld) → GoesOnPicked old new → SameBatch old.run new.run
+same_batch_then old new goes = let same = same_batch_along old.run new.run goes.turns goes.follows in record { same_ops = same.0; same_assignment = same.1 }
 
 -- and lead to a world of the same start
 pub world_goes_on : (start : PlainStore) (old new : PlainWorld) → GoesOnPicked old new → IsWorldOf start old → IsWorldOf start new

@@ -7,12 +7,14 @@ use Rattle.blink_steps.proofs.EditLemmas.{among_kept}
 -- a page written at a free number leaves the tree as it is
 pub free_write_keeps : FreeWriteKeeps
 free_write_keeps fan prime pages after levels number page tree free writes = record {
-  some_level = tree.some_level;
-  named = λ level leftmost first. let chain = tree.named level leftmost first in record {
-    pages_there = among_kept pages after number page (levels level) writes
-        (λ d stands same. cc (standing_there fan prime pages levels tree level d stands, free, ap pages same)) chain.pages_there;
-    in_line = chain.in_line;
+  chains = record {
+    some_level = tree.chains.some_level;
+    named = λ level leftmost first. let chain = tree.chains.named level leftmost first in record {
+      pages_there = among_kept pages after number page (levels level) writes
+          (λ d stands same. cc (standing_there fan prime pages levels tree level d stands, free, ap pages same)) chain.pages_there;
+      in_line = chain.in_line;
+    };
+    unnamed = tree.chains.unnamed;
   };
-  unnamed = tree.unnamed;
   refers = tree.refers;
 }

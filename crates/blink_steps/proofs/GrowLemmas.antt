@@ -3,7 +3,8 @@ use Rattle.std.proofs.Common.{ℕ, ◌+◌, ◌≤◌, Option, List, [], ◌∷�
 use Rattle.blink_page.specs.Rising.{least_above}
 use Rattle.blink_steps.specs.Machine.{PlainMachine, level_of}
 use Rattle.blink_steps.specs.Placed.{AreRemembered, StandsAt, IsAtWork}
-use Rattle.blink_steps.specs.Tree.{Levels, BeginsAt, IsInChain}
+use Rattle.blink_steps.specs.TreeWithDebts.{Levels, IsInChain}
+use Rattle.blink_rest.specs.References.{BeginsAt}
 use Rattle.blink_steps.proofs.TreeStatements.{Grows}
 
 -- remembered pages that begin at or before a place begin at or before each later one

@@ -6,7 +6,9 @@ use Rattle.blink_page.specs.declared.limits.TheConstants.{GREATEST_KEY}
 use Rattle.blink_store.proofs.ListLemmas.{slice_get-push_same, slice_get-push_other}
 use Rattle.blink_rest.specs.Chain.{Cell, Pages, InLine, IsChain}
 use Rattle.blink_rest.specs.Level.{entries_along}
-use Rattle.blink_steps.specs.Tree.{Levels, IsTree, Refers, BeginsAt, IsHighKey}
+use Rattle.blink_steps.specs.Tree.{IsTree}
+use Rattle.blink_steps.specs.TreeWithDebts.{Levels}
+use Rattle.blink_rest.specs.References.{Refers, BeginsAt, IsHighKey}
 use Rattle.blink_steps.proofs.TreeStatements.{FewLevels, GrowthKeeps, IsToGrow, RootGrows}
 use Rattle.blink_steps.proofs.StandLemmas.{standing_there}
 use Rattle.blink_steps.proofs.EditLemmas.{with_level, with_level-same, with_level-other}
@@ -56,6 +58,7 @@ module _ (fan : ℕ) (prime : List ℕ) (pages : Pages) (levels : Levels) (level
         high_in_range = omega arith;
         floor_below_high = omega arith;
         right_unless_last = (λ none. refl, λ last. refl);
+        right_is_number = tt;
         at_most_fan = omega (arith, grows.fan_in_range.0);
         keys_rise = (omega arith, (omega arith, omega arith));
         values_in_range = (omega arith, omega arith, (omega arith, omega arith, tt));
@@ -68,7 +71,7 @@ module _ (fan : ℕ) (prime : List ℕ) (pages : Pages) (levels : Levels) (level
 
   -- the page that it is over is the leftmost of its level
   chain_below : IsChain fan pages level c.number (levels level)
-  chain_below = tree.named level c.number grows.is_top.leftmost
+  chain_below = tree.chains.named level c.number grows.is_top.leftmost
 
   -- the new root leads to the pages of the level below
   root_refers : Refers (levels level) None (entries_along top)
@@ -87,7 +90,7 @@ module _ (fan : ℕ) (prime : List ℕ) (pages : Pages) (levels : Levels) (level
 
   -- the level was not named
   none_above : levels (level + 1) ≡ []
-  none_above = let size = grows.is_top.top in tree.unnamed (level + 1) (omega arith)
+  none_above = let size = grows.is_top.top in tree.chains.unnamed (level + 1) (omega arith)
 
   -- the levels with the new one
   levels_grown : Levels
@@ -109,23 +112,25 @@ module _ (fan : ℕ) (prime : List ℕ) (pages : Pages) (levels : Levels) (level
       let size = grows.is_top.top in
       let longer : length (prime ++ root ∷ []) ≡ length prime + 1 = length-append prime (root ∷ []) in
       record {
-        some_level = omega arith;
-        named = λ other leftmost first. elim (cases_eq other (level + 1)) [
-          | inl same ↦ (
-              let last : other ≡ length prime = omega arith in
-              let is_root : root ≡ leftmost = cc (slice_get-push_same prime root, ap (slice_get (prime ++ root ∷ [])) last, first) in
-              rw (← is_root, same, grown_top) root_chain)
-          | inr apart ↦ (
-              let before : other ≢ length prime = omega arith in
-              rw (grown_other other apart) (tree.named other leftmost (sym (slice_get-push_other prime other root before) ∙ first)))
-        ];
-        unnamed = λ other past. (let apart : other ≢ level + 1 = omega arith in grown_other other apart ∙ tree.unnamed other (omega arith));
+        chains = record {
+          some_level = omega arith;
+          named = λ other leftmost first. elim (cases_eq other (level + 1)) [
+            | inl same ↦ (
+                let last : other ≡ length prime = omega arith in
+                let is_root : root ≡ leftmost = cc (slice_get-push_same prime root, ap (slice_get (prime ++ root ∷ [])) last, first) in
+                rw (← is_root, same, grown_top) root_chain)
+            | inr apart ↦ (
+                let before : other ≢ length prime = omega arith in
+                rw (grown_other other apart) (tree.chains.named other leftmost (sym (slice_get-push_other prime other root before) ∙ first)))
+          ];
+          unnamed = λ other past. (let apart : other ≢ level + 1 = omega arith in grown_other other apart ∙ tree.chains.unnamed other (omega arith));
+        };
         refers = λ lower. elim (cases_eq lower level) [
           | inl same ↦ (let apart : level ≢ level + 1 = omega arith in rw (same, grown_top, grown_other level apart) root_refers)
           | inr far ↦ (
               let apart : lower + 1 ≢ level + 1 = omega arith in
               rw (grown_other (lower + 1) apart) (elim (cases_eq lower (level + 1)) [
-                | inl above ↦ (let none = tree.unnamed (lower + 1) (omega arith) in rw (none) tt)
+                | inl above ↦ (let none = tree.chains.unnamed (lower + 1) (omega arith) in rw (none) tt)
                 | inr away ↦ rw (grown_other lower away) (tree.refers lower)
               ]))
         ];

@@ -16,7 +16,7 @@ use Rattle.blink_steps.specs.Owned.{debt_of, debt_at, debt_of_job, loose_at, spl
 use Rattle.blink_steps.specs.Placed.{HasHalved, HasAnswer, AnsweredInJob, IsPlaced}
 use Rattle.blink_steps.specs.Sound.{IsSound, IsSoundWith}
 use Rattle.blink_steps.specs.Table.{decided_with}
-use Rattle.blink_steps.specs.Tree.{Levels}
+use Rattle.blink_steps.specs.TreeWithDebts.{Levels}
 use Rattle.blink_steps.proofs.TreeStatements.{TreeLaws, IsSplitIn, GainsSeparator}
 use Rattle.blink_steps.proofs.TurnLemmas.{Turns}
 use Rattle.blink_steps.proofs.PassLemmas.{Owes}

@@ -21,7 +21,7 @@ pub target-parent : (m : PlainMachine) (debt : Debt) → m.job ≡ Parent debt �
 target-parent m debt job = ap (key_of_job m.op) job
 
 -- a posting brings its entry
-brings_parent : (op : Op) (debt : Debt) → Brings op (Parent debt)
+pub brings_parent : (op : Op) (debt : Debt) → Brings op (Parent debt)
 brings_parent (Find key) debt = tt
 brings_parent (Insert key pointer) debt = tt
 brings_parent (Delete key) debt = tt

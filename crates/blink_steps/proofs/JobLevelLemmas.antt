@@ -11,14 +11,14 @@ use Rattle.blink_steps.specs.Moment.{Moment}
 use Rattle.blink_steps.specs.Owned.{latch_at}
 use Rattle.blink_steps.specs.Placed.{PlacedAt, IsAtWork, HasSplit}
 use Rattle.blink_steps.specs.Sound.{IsSoundWith}
-use Rattle.blink_steps.specs.Tree.{Levels}
+use Rattle.blink_steps.specs.TreeWithDebts.{Levels}
 use Rattle.blink_steps.proofs.SoundStatements.{JobsAreOnLevels}
 
 -- a level with a page is named
 level_is_named : (moment : Moment) (levels : Levels) → IsSoundWith moment levels → (level : ℕ) (c : Cell) → StandsIn c (levels level) → level < length moment.prime
 level_is_named moment levels sound level c stands = elim (cases_lt level (length moment.prime)) [
   | inl named ↦ named
-  | inr unnamed ↦ absurd (subst (StandsIn c) (sound.lawful.tree.unnamed level unnamed) stands)
+  | inr unnamed ↦ absurd (subst (StandsIn c) (sound.lawful.tree.chains.unnamed level unnamed) stands)
 ]
 
 -- so is that of an operation at work on a page

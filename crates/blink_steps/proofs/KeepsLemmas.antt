@@ -12,8 +12,10 @@ use Rattle.blink_rest.specs.Level.{entries_along}
 use Rattle.blink_rest.proofs.SameLemmas.{same_entries}
 use Rattle.blink_steps.specs.Machine.{PlainMachine}
 use Rattle.blink_steps.specs.Moment.{Moment, Leaves}
-use Rattle.blink_steps.specs.SoundRun.{Keeps, pairs_of}
-use Rattle.blink_steps.specs.Tree.{Levels, IsTree}
+use Rattle.blink_steps.specs.Decided.{Keeps}
+use Rattle.blink_steps.specs.TreeMap.{pairs_of}
+use Rattle.blink_steps.specs.Tree.{IsTree}
+use Rattle.blink_steps.specs.TreeWithDebts.{Levels}
 use Rattle.blink_steps.proofs.AllIdleLemmas.{leftmost_of}
 use Rattle.blink_steps.proofs.EntryMapLemmas.{value_at-pairs_of}
 use Rattle.blink_steps.proofs.SoundStatements.{Decides}
@@ -23,8 +25,8 @@ module _ (fan : ℕ) (prime : List ℕ) (pages : Pages) (levels : Levels) (tree 
   -- the entries of a tree are those along its level 0
   pub are_entries : AreEntries fan prime pages (entries_along (levels 0))
   are_entries =
-      let leftmost = leftmost_of prime 0 tree.some_level in
-      record { leftmost = leftmost.0; is_first = leftmost.1; leaves = levels 0; chain = tree.named 0 leftmost.0 leftmost.1; joined = refl }
+      let leftmost = leftmost_of prime 0 tree.chains.some_level in
+      record { leftmost = leftmost.0; is_first = leftmost.1; leaves = levels 0; chain = tree.chains.named 0 leftmost.0 leftmost.1; joined = refl }
 
   -- and no others
   pub entries_are : (xs : List (ℕ × ℕ)) → AreEntries fan prime pages xs → xs ≡ entries_along (levels 0)

@@ -10,7 +10,7 @@ use Rattle.blink_steps.specs.Owned.{latch_of, latch_at, debt_of, debt_at, debt_o
 use Rattle.blink_steps.specs.Placed.{AreRemembered, PlacedForNext, HasAnswer, IsPlaced}
 use Rattle.blink_steps.specs.Sound.{IsSoundWith}
 use Rattle.blink_steps.specs.Table.{sets_out, leaves_for}
-use Rattle.blink_steps.specs.Tree.{Levels}
+use Rattle.blink_steps.specs.TreeWithDebts.{Levels}
 use Rattle.blink_steps.proofs.TurnLemmas.{Turns}
 use Rattle.blink_steps.proofs.PassLemmas.{gets_latch, lets_go}
 use Rattle.blink_steps.proofs.QuietLemmas.{WritesNothing, split_same, quiet_is_sound}

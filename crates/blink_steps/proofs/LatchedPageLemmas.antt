@@ -20,7 +20,8 @@ use Rattle.blink_steps.specs.Owned.{debt_of, debt_of_job}
 use Rattle.blink_steps.specs.Placed.{IsAtWork, HasRead}
 use Rattle.blink_steps.specs.Sound.{IsSoundWith}
 use Rattle.blink_steps.specs.Table.{IsChange, IsFullFor, overfull}
-use Rattle.blink_steps.specs.Tree.{Levels, BeginsBelow}
+use Rattle.blink_steps.specs.Tree.{BeginsBelow}
+use Rattle.blink_steps.specs.TreeWithDebts.{Levels}
 use Rattle.blink_steps.proofs.TreeStatements.{TreeLaws, IsOfLevel, Replaces}
 
 -- a page with its number
@@ -62,7 +63,7 @@ module _ (laws : TreeLaws) (moment : Moment) (levels : Levels) (sound : IsSoundW
       number_above = λ above. absurd (omega arith);
     }
     value_fits_at (Parent debt) is =
-        let begins = (sound.lawful.debts.is_debt worker m debt under (owes ∙ ap debt_of_job is)).1 in
+        let begins = (sound.lawful.debts.is_debt worker m debt (under, owes ∙ ap debt_of_job is)).1 in
         let number : IsPageNumber debt.page = subst IsPageNumber begins.same_number (has_number debt.level begins.cell begins.stands) in
         let below = number.1 in
         record { in_range = omega arith; number_above = λ above. number }
@@ -117,10 +118,10 @@ module _ (laws : TreeLaws) (moment : Moment) (levels : Levels) (sound : IsSoundW
         overfull_by_one = let fan : m.fan ≡ moment.fan = (sound.placed worker m under).same_fan in let is_full = full.full in let more = length-overfull in omega arith
 
         -- the lower half of a full page that is split is lawful
-        pub lower_half_lawful : (new : ℕ) → IsLawfulPage moment.fan (lower_half m.fan new page (overfull m page))
-        lower_half_lawful new =
+        pub lower_half_lawful : (new : ℕ) → IsPageNumber new → IsLawfulPage moment.fan (lower_half m.fan new page (overfull m page))
+        lower_half_lawful new is_number =
             subst (λ fan. IsLawfulPage moment.fan (lower_half fan new page (overfull m page))) (sym (sound.placed worker m under).same_fan)
-            (lawful_lower moment.fan new sound.fan_in_range page (overfull m page) overfull_by_one (overfull_lawful full.absent))
+            (lawful_lower moment.fan new sound.fan_in_range page (overfull m page) overfull_by_one (overfull_lawful full.absent) is_number)
 
         -- the upper too
         pub upper_half_lawful : IsLawfulPage moment.fan (upper_half m.fan page (overfull m page))

@@ -95,10 +95,14 @@ pub mod TurnSumLemmas
 pub mod ShortLaws
 pub mod RunPromises
 pub mod RunLaws
+pub mod DebtTreeLemmas
+pub mod HeadlineLemmas
 pub mod StartEntries
 pub mod WorldLemmas
 pub mod WorldPromises
-pub mod HeadlineLemmas
 pub mod PickLemmas
 pub mod MoverLemmas
 pub mod FinishLemmas
+pub mod StepActs
+pub mod ReadResults
+pub mod ReadsSucceed

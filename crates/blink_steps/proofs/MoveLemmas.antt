@@ -12,7 +12,7 @@ use Rattle.blink_steps.specs.Moment.{Moment, IsItsOperation, under_way, taken_on
 use Rattle.blink_steps.specs.Placed.{StandsAt, IsAtWork, HasRead, HasHalved, HasSplit, PlacedForNext, PlacedAt, IsPlaced}
 use Rattle.blink_steps.specs.Sound.{IsSoundWith}
 use Rattle.blink_steps.specs.Table.{IsChange, IsFullFor, gains, loses}
-use Rattle.blink_steps.specs.Tree.{Levels}
+use Rattle.blink_steps.specs.TreeWithDebts.{Levels}
 
 module _ (moment : Moment) (levels : Levels) (m : PlainMachine) (s : State) where
   -- where it stands

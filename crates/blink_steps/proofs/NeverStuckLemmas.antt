@@ -12,7 +12,7 @@ use Rattle.blink_steps.specs.Owned.{latch_at, split_at, debt_of, debt_at}
 use Rattle.blink_steps.specs.Placed.{PlacedAt}
 use Rattle.blink_steps.specs.Sound.{IsSoundWith}
 use Rattle.blink_steps.specs.Table.{WaitsForLevel}
-use Rattle.blink_steps.specs.Tree.{Levels}
+use Rattle.blink_steps.specs.TreeWithDebts.{Levels}
 use Rattle.blink_steps.proofs.TreeStatements.{TreeLaws}
 use Rattle.blink_steps.proofs.SoundStatements.{IsWaiting, SomeoneMoves, NeverStuck}
 use Rattle.blink_steps.proofs.PlacedLemmas.{at_state}
@@ -59,7 +59,7 @@ module _ (laws : TreeLaws) (moment : Moment) (levels : Levels) (sound : IsSoundW
   -- a level that is not there is the one above the top, and its debt is owed because the top has been split
   top_grows : (debt : Debt) → debt_of m ≡ Some debt → length moment.prime ≤ debt.level + 1 → SomeoneMoves moment
   top_grows debt owes missing =
-      let is_debt = (sound.lawful.debts.is_debt worker m debt under owes).0 in
+      let is_debt = (sound.lawful.debts.is_debt worker m debt (under, owes)).0 in
       let named = laws.levels_are_named moment.fan moment.prime moment.pages levels debt.level is_debt.is_high_key.cell sound.lawful.tree is_debt.is_high_key.stands in
       let leftmost = leftmost_of moment.prime debt.level named in
       let two = laws.top_debt_has_two moment.fan moment.prime moment.pages levels debt.level debt.separator sound.lawful.tree is_debt in

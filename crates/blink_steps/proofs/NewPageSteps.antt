@@ -13,7 +13,7 @@ use Rattle.blink_steps.specs.Owned.{latch_of, latch_at, debt_of, debt_at, loose_
 use Rattle.blink_steps.specs.Placed.{IsPlaced}
 use Rattle.blink_steps.specs.Sound.{IsSoundWith}
 use Rattle.blink_steps.specs.Table.{overfull, debt_of_split, page_out, page_out_at}
-use Rattle.blink_steps.specs.Tree.{Levels, IsInChain}
+use Rattle.blink_steps.specs.TreeWithDebts.{Levels, IsInChain}
 use Rattle.blink_steps.proofs.TreeStatements.{TreeLaws}
 use Rattle.blink_steps.proofs.GrowLemmas.{grows_same}
 use Rattle.blink_steps.proofs.SurviveLemmas.{LeavesAlone, IsPlaced-stays}

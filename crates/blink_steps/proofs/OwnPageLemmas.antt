@@ -12,7 +12,7 @@ use Rattle.blink_steps.specs.Moment.{Moment, WritesOne}
 use Rattle.blink_steps.specs.Owned.{latch_of, debt_of, loose_of, split_of}
 use Rattle.blink_steps.specs.Placed.{HasAnswer, IsPlaced}
 use Rattle.blink_steps.specs.Sound.{IsSoundWith}
-use Rattle.blink_steps.specs.Tree.{Levels, IsInChain}
+use Rattle.blink_steps.specs.TreeWithDebts.{Levels, IsInChain}
 use Rattle.blink_steps.proofs.TreeStatements.{TreeLaws, Grows, IsReplaced}
 use Rattle.blink_steps.proofs.GrowLemmas.{IsInChain-grows}
 use Rattle.blink_steps.proofs.SurviveLemmas.{LeavesAlone}

@@ -5,8 +5,8 @@ use Rattle.blink_page.specs.Page.{PlainPage}
 use Rattle.blink_steps.specs.declared.machine.State.TheVariants.{Start, Ended}
 use Rattle.blink_steps.specs.Machine.{PlainMachine}
 use Rattle.blink_steps.specs.Moment.{Moment}
-use Rattle.blink_steps.specs.Owned.{loose_of, loose_at, split_of, split_at, IsLoose, PagesArePlaced, IsSplitBy, TopIsGrowing}
-use Rattle.blink_steps.specs.Tree.{Levels, IsInChain}
+use Rattle.blink_steps.specs.Owned.{loose_of, loose_at, split_of, split_at}
+use Rattle.blink_steps.specs.TreeWithDebts.{IsLoose, PagesArePlaced, IsSplitBy, TopIsGrowing, Levels, IsInChain}
 use Rattle.blink_steps.proofs.TreeStatements.{Grows}
 use Rattle.blink_steps.proofs.GrowLemmas.{IsInChain-grows}
 use Rattle.blink_steps.proofs.PassLemmas.{LoosePasses, SplitPasses}

@@ -7,7 +7,8 @@ use Rattle.blink_steps.specs.Machine.{PlainMachine, target, level_of, level_read
 use Rattle.blink_steps.specs.Moment.{Moment}
 use Rattle.blink_steps.specs.Placed.{PlacedAt}
 use Rattle.blink_steps.specs.Sound.{IsSoundWith}
-use Rattle.blink_steps.specs.Tree.{Levels, BeginsBelow}
+use Rattle.blink_steps.specs.Tree.{BeginsBelow}
+use Rattle.blink_steps.specs.TreeWithDebts.{Levels}
 use Rattle.blink_steps.proofs.TreeStatements.{TreeLaws}
 use Rattle.blink_steps.proofs.SoundStatements.{ReadsWell, ReadsAreGood, LevelsAreFew}
 use Rattle.blink_steps.proofs.PlacedLemmas.{begun, its_own, at_state}

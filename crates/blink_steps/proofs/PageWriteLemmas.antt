@@ -1,21 +1,22 @@
 -- What an operation writes is lawful, in the place of a page whose latch it holds or as a new page.
-use Rattle.std.proofs.Common.{◌≡◌, ℕ, ◌+◌, ◌<◌, ◌≤◌, Option, Some, List, length, refl, sym, ap, subst, ◌∙◌, arith}
+use Rattle.std.proofs.Common.{◌≡◌, ℕ, ◌+◌, ◌<◌, ◌≤◌, Option, Some, List, length, refl, sym, ap, subst, ◌∙◌, arith, All}
+use Rattle.std.proofs.lemmas.List.Elements.{All-push}
 use Rattle.blink_page.specs.Limits.{IsFan, IsPageNumber}
 use Rattle.blink_page.specs.Page.{PlainPage, IsLawfulPage, root_over}
 use Rattle.blink_page.specs.declared.limits.TheConstants.{MAX_LEVEL, GREATEST_KEY}
 use Rattle.blink_steps.specs.declared.machine.Debt.{Debt}
 use Rattle.blink_steps.specs.declared.machine.Need.TheVariants.{WritePage, WriteNew}
 use Rattle.blink_steps.specs.declared.machine.State.{State}
-use Rattle.blink_steps.specs.declared.machine.State.TheVariants.{Change, SplitNew, SplitOld, Root}
+use Rattle.blink_steps.specs.declared.machine.State.TheVariants.{Change, SplitNew, SplitOld, Root, NewPrime}
 use Rattle.blink_steps.specs.Machine.{PlainMachine, need_at}
 use Rattle.blink_steps.specs.Moment.{Moment}
 use Rattle.blink_steps.specs.Owned.{debt_at, latch_at}
 use Rattle.blink_steps.specs.Placed.{PlacedAt, IsAtWork, HasRead, HasHalved, HasSplit, HasAsked}
 use Rattle.blink_steps.specs.Sound.{IsSoundWith}
-use Rattle.blink_steps.specs.Table.{IsChange, page_out, page_out_at}
-use Rattle.blink_steps.specs.Tree.{Levels, IsDebt}
+use Rattle.blink_steps.specs.Table.{IsChange, page_out, page_out_at, adds_root}
+use Rattle.blink_steps.specs.TreeWithDebts.{Levels, IsDebt}
 use Rattle.blink_steps.proofs.PlacedLemmas.{begun, its_own, at_state}
-use Rattle.blink_steps.proofs.SoundStatements.{WritesWell, WritesAreGood, NewPagesAreGood}
+use Rattle.blink_steps.proofs.SoundStatements.{WritesWell, WritesAreGood, NewPagesAreGood, PrimeWritesAreGood}
 use Rattle.blink_steps.proofs.TreeStatements.{TreeLaws}
 use Rattle.blink_steps.proofs.LatchedPageLemmas.{change_replaces, lower_half_lawful, upper_half_lawful, has_number}
 
@@ -32,6 +33,7 @@ root_lawful fan level separator left right is_fan in_range below left_number rig
       high_in_range = omega arith;
       floor_below_high = omega arith;
       right_unless_last = (λ none. refl, λ same. refl);
+      right_is_number = tt;
       at_most_fan = omega arith;
       keys_rise = (omega arith, (omega arith, omega arith));
       values_in_range = (omega arith, omega arith, (omega arith, omega arith, tt));
@@ -76,7 +78,7 @@ module _ (laws : TreeLaws) (moment : Moment) (levels : Levels) (sound : IsSoundW
       subst (IsWritten moment.fan halved.page) (sym halved.lower_half_of) (record {
         same_floor = refl;
         same_level = refl;
-        lawful = lower_half_lawful laws moment levels sound worker m under (ap (debt_at m.job) is) number halved.page at_work halved.read halved.full debt.page;
+        lawful = lower_half_lawful laws moment levels sound worker m under (ap (debt_at m.job) is) number halved.page at_work halved.read halved.full debt.page halved.new_number;
       })
 
   -- these are all the writes of a page in its place
@@ -103,7 +105,7 @@ module _ (laws : TreeLaws) (moment : Moment) (levels : Levels) (sound : IsSoundW
   new_page_at (SplitNew page before) number is placed needs =
       upper_half_lawful laws moment levels sound worker m under (ap (debt_at m.job) is) page before placed.0 placed.2 placed.3
   new_page_at (Root page debt prime) number is placed needs =
-      new_root_lawful page debt prime (sound.lawful.debts.is_debt worker m debt under (ap (debt_at m.job) is)).0 placed.1 placed.2
+      new_root_lawful page debt prime (sound.lawful.debts.is_debt worker m debt (under, ap (debt_at m.job) is)).0 placed.1 placed.2
   new_page_at other number is placed needs = absurd (cc)
 
 -- what an operation writes in a page's place is lawful and stands as the page did
@@ -117,3 +119,11 @@ pub new_pages_are_good : TreeLaws → NewPagesAreGood
 new_pages_are_good laws moment worker number m sound its needs in_range =
     let under = its_own moment sound.0 sound.1 worker m its (begun m (λ same_need. cc)) in
     new_page_at laws moment sound.0 sound.1 worker m under m.state number refl (at_state moment sound.0 sound.1 worker m m.state under refl) needs
+
+-- a prime block with a new root names page numbers only
+pub prime_writes_are_good : TreeLaws → PrimeWritesAreGood
+prime_writes_are_good laws moment worker m prime sound its needs (adds_root page debt root read here is) numbers =
+    let under = its_own moment sound.0 sound.1 worker m its (begun m (λ same_need. cc)) in
+    let placed = at_state moment sound.0 sound.1 worker m (NewPrime page debt root read) under here in
+    let before : All IsPageNumber read = subst (All IsPageNumber) (sym placed.2.same_prime) numbers in
+    subst (All IsPageNumber) (sym is) (All-push IsPageNumber read root before placed.3.root_number)

@@ -4,7 +4,8 @@ use Rattle.blink_page.specs.Page.{PlainPage}
 use Rattle.blink_rest.specs.Chain.{Pages}
 use Rattle.blink_steps.specs.declared.machine.Debt.{Debt}
 use Rattle.blink_steps.specs.Moment.{LatchPasses}
-use Rattle.blink_steps.specs.Tree.{Levels, IsDebt, BeginsAt, IsInChain}
+use Rattle.blink_steps.specs.TreeWithDebts.{Levels, IsDebt, IsInChain}
+use Rattle.blink_rest.specs.References.{BeginsAt}
 
 -- this is the debt of the level with the separator
 pub record Owes (owed : Option Debt) (level separator : ℕ) : Type 0 where

@@ -7,7 +7,7 @@ use Rattle.blink_steps.specs.Machine.{PlainMachine, need_at}
 use Rattle.blink_steps.specs.Moment.{Moment, IsItsOperation}
 use Rattle.blink_steps.specs.Placed.{IsPlaced, PlacedAt}
 use Rattle.blink_steps.specs.Sound.{IsSoundWith}
-use Rattle.blink_steps.specs.Tree.{Levels}
+use Rattle.blink_steps.specs.TreeWithDebts.{Levels}
 
 -- an operation that needs something else than one that begins has taken a step
 pub begun : (m : PlainMachine) → (need_at m.state ≡ need_at Start → ⊥) → m.state ≡ Start → ⊥

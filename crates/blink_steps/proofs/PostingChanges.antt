@@ -9,7 +9,9 @@ use Rattle.blink_page.proofs.LevelLemmas.{posted_there, others_there}
 use Rattle.blink_rest.specs.Chain.{Cell, Pages}
 use Rattle.blink_rest.specs.Level.{entries_along}
 use Rattle.blink_rest.proofs.LevelLemmas.{chain_covers}
-use Rattle.blink_steps.specs.Tree.{Levels, IsTree, Refers, BeginsAt, IsHighKey}
+use Rattle.blink_steps.specs.Tree.{IsTree}
+use Rattle.blink_steps.specs.TreeWithDebts.{Levels}
+use Rattle.blink_rest.specs.References.{Refers, BeginsAt, IsHighKey}
 use Rattle.blink_steps.proofs.TreeStatements.{GainsSeparator, PostingKeeps}
 use Rattle.blink_steps.proofs.StandLemmas.{Stands, stands_so}
 use Rattle.blink_steps.proofs.EditLemmas.{cells_after, levels_after, levels_after-same, levels_after-other}
@@ -42,7 +44,7 @@ module _ (fan : ℕ) (prime : List ℕ) (pages : Pages) (levels : Levels) (level
   -- and each level has the separators that it had, and this one the posted one
   pub gains_separator : GainsSeparator levels (levels_after here middle) level key
   gains_separator =
-      let covers = chain_covers fan (level + 1) here.leftmost pages (levels (level + 1)) (tree.named (level + 1) here.leftmost here.is_leftmost) (omega arith) in
+      let covers = chain_covers fan (level + 1) here.leftmost pages (levels (level + 1)) (tree.chains.named (level + 1) here.leftmost here.is_leftmost) (omega arith) in
       let greatest = here.lawful.high_in_range in
       let below = belongs.1 in
       record {

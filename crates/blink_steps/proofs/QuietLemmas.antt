@@ -6,7 +6,7 @@ use Rattle.blink_steps.specs.Moment.{Moment}
 use Rattle.blink_steps.specs.Owned.{latch_of, debt_of, loose_of, loose_at, split_of}
 use Rattle.blink_steps.specs.Placed.{IsPlaced}
 use Rattle.blink_steps.specs.Sound.{IsSoundWith}
-use Rattle.blink_steps.specs.Tree.{Levels}
+use Rattle.blink_steps.specs.TreeWithDebts.{Levels}
 use Rattle.blink_steps.proofs.GrowLemmas.{grows_same}
 use Rattle.blink_steps.proofs.SurviveLemmas.{LeavesAlone, IsPlaced-stays}
 use Rattle.blink_steps.proofs.TurnLemmas.{Turns, had_under_way}

@@ -15,9 +15,10 @@ use Rattle.blink_steps.specs.Machine.{PlainMachine, target, key_of_job, level_of
 use Rattle.blink_steps.specs.Moment.{Moment, IsItsOperation, Leaves}
 use Rattle.blink_steps.specs.Placed.{PlacedAt, AnsweredInJob}
 use Rattle.blink_steps.specs.Sound.{IsSoundWith}
-use Rattle.blink_steps.specs.SoundRun.{Keeps}
+use Rattle.blink_steps.specs.Decided.{Keeps}
 use Rattle.blink_steps.specs.Table.{SeesPrime, SeesPage, SeesOnItsWay, SeesUnderLatch}
-use Rattle.blink_steps.specs.Tree.{Levels, BeginsBelow}
+use Rattle.blink_steps.specs.Tree.{BeginsBelow}
+use Rattle.blink_steps.specs.TreeWithDebts.{Levels}
 use Rattle.blink_steps.proofs.KeepsLemmas.{pointer_in_leaf, keeps_left, decides_by, decides_nothing}
 use Rattle.blink_steps.proofs.PlacedLemmas.{its_own, at_state}
 use Rattle.blink_steps.proofs.SoundStatements.{Decides}

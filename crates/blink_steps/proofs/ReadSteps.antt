@@ -14,7 +14,8 @@ use Rattle.blink_steps.specs.Owned.{latch_of, latch_at, debt_of, debt_at, debt_o
 use Rattle.blink_steps.specs.Placed.{MayChange, StandsAt, HasSplit, IsPlaced}
 use Rattle.blink_steps.specs.Sound.{IsSoundWith}
 use Rattle.blink_steps.specs.Table.{IsTopLeftmost, SeesPrime, begins, asks_of_root, asks_of_other, finds_leftmost, SeesOnItsWay, goes_right, goes_down, find_answers, insertion_wants, deletion_wants, SeesUnderLatch, is_above_high_key, insertion_finds_key, deletion_finds_none, posting_finds_separator, is_to_change, is_to_split, SeesPage, on_its_way, under_latch}
-use Rattle.blink_steps.specs.Tree.{Levels, IsDebt, BeginsAt}
+use Rattle.blink_steps.specs.TreeWithDebts.{Levels, IsDebt}
+use Rattle.blink_rest.specs.References.{BeginsAt}
 use Rattle.blink_steps.proofs.TreeStatements.{TreeLaws}
 use Rattle.blink_steps.proofs.PassLemmas.{SplitPasses}
 use Rattle.blink_steps.proofs.QuietLemmas.{split_same}

@@ -5,7 +5,9 @@ use Rattle.blink_page.specs.Page.{PlainPage}
 use Rattle.blink_rest.specs.Chain.{Cell, Pages, StandsIn}
 use Rattle.blink_rest.specs.Level.{entries_along}
 use Rattle.blink_steps.specs.Moment.{WritesOne}
-use Rattle.blink_steps.specs.Tree.{Levels, IsTree, Refers, IsHighKey, IsInChain}
+use Rattle.blink_steps.specs.Tree.{IsTree}
+use Rattle.blink_steps.specs.TreeWithDebts.{Levels, IsInChain}
+use Rattle.blink_rest.specs.References.{Refers, IsHighKey}
 use Rattle.blink_steps.proofs.TreeStatements.{Grows, Replaces, IsReplaced}
 use Rattle.blink_steps.proofs.StandLemmas.{Stands, own_stands}
 use Rattle.blink_steps.proofs.EditLemmas.{TakesPlace, cells_after, cells_after-is, levels_after, levels_after-same, levels_after-other, middle_stands, after_cases, high_keys_stay, begins_stay, tree_stays, each_stays}

@@ -16,7 +16,7 @@ use Rattle.blink_steps.specs.Owned.{latch_of, latch_at, debt_of, debt_at, loose_
 use Rattle.blink_steps.specs.Placed.{HasSplit, HasAsked, HasRoot, HasAnswer, IsPlaced}
 use Rattle.blink_steps.specs.Sound.{IsSound, IsSoundWith}
 use Rattle.blink_steps.specs.Table.{IsTopLeftmost}
-use Rattle.blink_steps.specs.Tree.{Levels}
+use Rattle.blink_steps.specs.TreeWithDebts.{Levels}
 use Rattle.blink_steps.proofs.TreeStatements.{TreeLaws, Grows, IsToGrow, RootGrows}
 use Rattle.blink_steps.proofs.SurviveLemmas.{LeavesAlone}
 use Rattle.blink_steps.proofs.TurnLemmas.{Turns}
@@ -51,7 +51,7 @@ module _ (laws : TreeLaws) (old new : Moment) (levels : Levels) (sound : IsSound
     -- the growth is one as a tree takes it
     pub is_to_grow : IsToGrow old.fan old.prime old.pages levels debt.level split.cell debt.page root
     is_to_grow =
-        let owed = sound.lawful.debts.is_debt worker m debt writes.here owes in
+        let owed = sound.lawful.debts.is_debt worker m debt (writes.here, owes) in
         record {
           fan_in_range = sound.fan_in_range;
           numbers_in_range = sound.numbers_in_range;

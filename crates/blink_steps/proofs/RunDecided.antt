@@ -15,7 +15,8 @@ use Rattle.blink_batch.proofs.LaneLemmas.{part_of_first-own}
 use Rattle.blink_batch.proofs.PlaceLemmas.{answers-push, length-answers, length-operations_at, map_after_all-push, operations_at-push, part_of-push_other, part_of-push_own, slice_get-set_other, slice_get-set_same, zip-push}
 use Rattle.blink_steps.specs.Run.{PlainRun, moment_of}
 use Rattle.blink_steps.specs.Ledger.{decides_now}
-use Rattle.blink_steps.specs.SoundRun.{AnswersSoFar, IsDecided, Keeps, is_answered}
+use Rattle.blink_steps.specs.SoundRun.{is_answered}
+use Rattle.blink_steps.specs.Decided.{AnswersSoFar, IsDecided, Keeps}
 
 -- ---- lists
 
@@ -74,7 +75,6 @@ module _ (entries : List Entry) (old new : PlainRun) (decided : IsDecided entrie
     places_of_batch = rw (same_ops, same_order) decided.places_of_batch;
     answered = rw (same_ops, same_order, same_answers) decided.answered;
     undecided = rw (same_ops, same_order, same_answers) decided.undecided;
-    room = rw (same_order, same_answers) decided.room;
     kept = rw (same_ops, same_order) kept;
   }
 
@@ -96,17 +96,28 @@ module _ (entries : List Entry) (old new : PlainRun) (decided : IsDecided entrie
     decided_more more_order more_answers =
         let inside : place < length old.answers = slice_get_within old.answers place None undecided in
         let within : place < length old.ops = slice_get_within old.ops place op there in
-        let count : count_by is_answered (set old.answers place (Some answer)) ≡ count_by is_answered old.answers + 1 = one_more_answered old.answers place answer undecided in
-        let long : length (old.order ++ place ∷ []) ≡ length old.order + 1 = length-append old.order (place ∷ []) in
-        let room : count_by is_answered old.answers ≡ length old.order = decided.room in
-        let full : count_by is_answered (set old.answers place (Some answer)) ≡ length (old.order ++ place ∷ []) = omega arith in
         record {
           places_of_batch = rw (same_ops, more_order) (All-push (λ n. n < length old.ops) old.order place decided.places_of_batch within);
           answered = rw (same_ops, more_order, more_answers) (AnswersSoFar-push entries old.ops old.order old.answers place op answer decided.places_of_batch decided.answered there fresh inside is_answer);
           undecided = rw (same_ops, more_order, more_answers) undecided_more;
-          room = rw (more_order, more_answers) full;
           kept = rw (same_ops, more_order) kept_more;
         }
+
+-- ---- as many as are answered
+
+-- a step that doesn't decide leaves as many decided as answered
+pub as_many_stay : (old new : PlainRun) → count_by is_answered old.answers ≡ length old.order → new.order ≡ old.order → new.answers ≡ old.answers
+    → count_by is_answered new.answers ≡ length new.order
+as_many_stay old new as_many same_order same_answers = rw (same_order, same_answers) as_many
+
+-- and a deciding step has one more of both
+pub as_many_more : (old new : PlainRun) (place : ℕ) (answer : Answer) → count_by is_answered old.answers ≡ length old.order → slice_get old.answers place ≡ Some None
+    → new.order ≡ old.order ++ place ∷ [] → new.answers ≡ set old.answers place (Some answer) → count_by is_answered new.answers ≡ length new.order
+as_many_more old new place answer as_many undecided more_order more_answers =
+    let count : count_by is_answered (set old.answers place (Some answer)) ≡ count_by is_answered old.answers + 1 = one_more_answered old.answers place answer undecided in
+    let long : length (old.order ++ place ∷ []) ≡ length old.order + 1 = length-append old.order (place ∷ []) in
+    let both : count_by is_answered (set old.answers place (Some answer)) ≡ length (old.order ++ place ∷ []) = omega arith in
+    rw (more_order, more_answers) both
 
 -- ---- a worker's part
 

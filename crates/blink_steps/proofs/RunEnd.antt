@@ -17,9 +17,10 @@ use Rattle.blink_store.proofs.HolderLemmas.{one_page_each}
 use Rattle.blink_steps.specs.declared.seat.Seat.{Seat}
 use Rattle.blink_steps.specs.declared.seat.Working.{Working}
 use Rattle.blink_steps.specs.Run.{PlainRun, idle_seat, machine_of_seat, moment_of}
-use Rattle.blink_steps.specs.SoundRun.{AnswersSoFar, HasDecided, IsIdle, IsSoundRun, IsSoundSeat, decided_below}
+use Rattle.blink_steps.specs.SoundRun.{HasDecided, IsIdle, IsSoundRun, IsSoundSeat, decided_below}
+use Rattle.blink_steps.specs.Decided.{AnswersSoFar}
 use Rattle.blink_steps.proofs.ApartLemmas.{Apart, Apart-filter, Apart-places_from, Apart-take, contains_or_not, filter-take, holds_at_passing, holds_of_both, holds_of_filter, one_index}
-use Rattle.blink_steps.proofs.RunStatements.{EachIsDecidedOnce, EndedRunIsWhole, FrontsAreDecided, HasAnswerAt, HasEnded, MomentLaws, OneLatchEach}
+use Rattle.blink_steps.proofs.RunStatements.{EachHasItsTurn, EachIsDecidedOnce, EndedRunIsWhole, FrontsAreDecided, HasAnswerAt, HasEnded, MomentLaws, OneLatchEach}
 
 -- ---- fronts
 
@@ -112,6 +113,33 @@ each_is_decided_once entries run sound = record {
   ];
 }
 
+-- ---- whole lanes
+
+-- where a worker's part of an order is its lane, each place of the lane is in the order
+lane_decided : (lanes order : List ℕ) (worker place : ℕ) → part_of lanes worker order ≡ lane_of lanes worker → place < length lanes → slice_get lanes place ≡ Some worker
+    → Contains order place
+lane_decided lanes order worker place whole within lane = elim (contains_or_not order place) [
+  | inl inside ↦ inside
+  | inr outside ↦
+      let passes : is_worker worker (slice_get lanes place) ≡ true = ap (is_worker worker) lane ∙ eq-eqb worker worker refl in
+      let P : ℕ → Type 0 = λ n. n ≢ place in
+      let long : length (places_from 0 lanes) ≡ length lanes = length-places_from 0 lanes in
+      let here : slice_get (places_from 0 lanes) place ≡ Some place = slice_get-get_or (places_from 0 lanes) place 0 (omega arith) ∙ ap Some (get_or-places_from 0 lanes place 0 within ∙ omega arith) in
+      let none : AllByRecursion P order = recursion_from_All P order (λ k d low same. outside (subst (Contains order) same (Contains-get_or order k d low))) in
+      let none_of_lane : AllByRecursion P (lane_of lanes worker) = subst (AllByRecursion P) whole (holds_of_filter P (λ n. is_worker worker (slice_get lanes n)) order none) in
+      absurd (holds_at_passing P (λ n. is_worker worker (slice_get lanes n)) (places_from 0 lanes) place place none_of_lane here passes refl)
+]
+
+-- a worker at its lane's end has decided all of it
+pub each_has_its_turn : EachHasItsTurn
+each_has_its_turn entries run worker sound undecided at_end =
+    let lanes : List ℕ = run.assignment.lanes in
+    let idle : IsIdle run worker None = sound.seats worker (idle_seat None) at_end in
+    let whole : part_of lanes worker run.order ≡ lane_of lanes worker = idle.decided ∙ part_of-no_next_place lanes worker idle.from (sym idle.next_of_lane) in
+    let within : undecided.place < length lanes = slice_get_within lanes undecided.place worker undecided.of_lane in
+    let answered = (each_is_decided_once entries run sound).has_answer undecided.place (lane_decided lanes run.order worker undecided.place whole within undecided.of_lane) in
+    absurd (cc (answered.1, undecided.undecided))
+
 -- ---- the end
 
 module _ (entries : List Entry) (run : PlainRun) (sound : IsSoundRun entries run) (ended : HasEnded run) where
@@ -129,19 +157,9 @@ module _ (entries : List Entry) (run : PlainRun) (sound : IsSoundRun entries run
 
   -- each place is decided
   pub each_decided : (place : ℕ) → place < length run.assignment.lanes → Contains run.order place
-  each_decided place within = elim (contains_or_not run.order place) [
-    | inl inside ↦ inside
-    | inr outside ↦
-        let lanes : List ℕ = run.assignment.lanes in
-        let worker : ℕ = get_or lanes place 0 in
-        let passes : is_worker worker (slice_get lanes place) ≡ true = ap (is_worker worker) (slice_get-get_or lanes place 0 within) ∙ eq-eqb worker worker refl in
-        let P : ℕ → Type 0 = λ n. n ≢ place in
-        let long : length (places_from 0 lanes) ≡ length lanes = length-places_from 0 lanes in
-        let here : slice_get (places_from 0 lanes) place ≡ Some place = slice_get-get_or (places_from 0 lanes) place 0 (omega arith) ∙ ap Some (get_or-places_from 0 lanes place 0 within ∙ omega arith) in
-        let none : AllByRecursion P run.order = recursion_from_All P run.order (λ k d low same. outside (subst (Contains run.order) same (Contains-get_or run.order k d low))) in
-        let none_of_lane : AllByRecursion P (lane_of lanes worker) = subst (AllByRecursion P) (each_lane worker) (holds_of_filter P (λ n. is_worker worker (slice_get lanes n)) run.order none) in
-        absurd (holds_at_passing P (λ n. is_worker worker (slice_get lanes n)) (places_from 0 lanes) place place none_of_lane here passes refl)
-  ]
+  each_decided place within =
+      let worker : ℕ = get_or run.assignment.lanes place 0 in
+      lane_decided run.assignment.lanes run.order worker place (each_lane worker) within (slice_get-get_or run.assignment.lanes place 0 within)
 
   -- no worker has an operation
   all_idle : (worker : ℕ) → machine_of_seat (slice_get run.seats worker) ≡ None

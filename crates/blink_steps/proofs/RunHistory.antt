@@ -2,7 +2,8 @@
 use Rattle.std.proofs.Common.{◌≡◌, ℕ, zero, suc, ◌<◌, List, [], ◌∷◌, length, map, Option, Some, refl, sym, subst, arith}
 use Rattle.std.specs.List.{slice_get}
 use Rattle.blink_batch.specs.declared.Answer.{Answer}
-use Rattle.blink_steps.specs.SoundRun.{AnswersSoFar, IsSoundRun}
+use Rattle.blink_steps.specs.SoundRun.{IsSoundRun}
+use Rattle.blink_steps.specs.Decided.{AnswersSoFar}
 use Rattle.blink_steps.proofs.RunEnd.{each_decided, each_is_decided_once}
 use Rattle.blink_steps.proofs.RunStatements.{EndedRunIsAnswered, HasAnswerAt, HistoryKeepsSoundRun, MomentLaws}
 use Rattle.blink_steps.proofs.RunTurns.{turn_keeps_sound_run}

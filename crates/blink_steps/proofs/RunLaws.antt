@@ -5,12 +5,12 @@ use Rattle.blink_steps.proofs.SoundLemmas.{opening_is_sound, step_keeps_sound}
 use Rattle.blink_steps.proofs.StepDecideLemmas.{step_decides}
 use Rattle.blink_steps.proofs.AllIdleLemmas.{all_idle_is_at_rest}
 use Rattle.blink_steps.proofs.PageReadLemmas.{reads_are_good, levels_are_few}
-use Rattle.blink_steps.proofs.PageWriteLemmas.{writes_are_good, new_pages_are_good}
+use Rattle.blink_steps.proofs.PageWriteLemmas.{writes_are_good, new_pages_are_good, prime_writes_are_good}
 use Rattle.blink_steps.proofs.JobLevelLemmas.{jobs_are_on_levels}
 use Rattle.blink_steps.proofs.RunTurns.{turn_keeps_sound_run}
 use Rattle.blink_steps.proofs.RunOpening.{opening_run_is_sound}
 use Rattle.blink_steps.proofs.RunReady.{turn_is_ready}
-use Rattle.blink_steps.proofs.RunEnd.{fronts_are_decided, each_is_decided_once, ended_run_is_whole, one_latch_each}
+use Rattle.blink_steps.proofs.RunEnd.{fronts_are_decided, each_has_its_turn, each_is_decided_once, ended_run_is_whole, one_latch_each}
 use Rattle.blink_steps.proofs.RunHistory.{ended_run_is_answered}
 use Rattle.blink_steps.proofs.BoundedLemmas.{history_is_bounded, number_is_left}
 use Rattle.blink_steps.proofs.KeptCountLemmas.{counts_are_kept}
@@ -26,6 +26,7 @@ moment_laws = record {
   reads_are_good = reads_are_good tree_laws;
   writes_are_good = writes_are_good tree_laws;
   new_pages_are_good = new_pages_are_good tree_laws;
+  prime_writes_are_good = prime_writes_are_good tree_laws;
   levels_are_few = levels_are_few tree_laws;
 }
 
@@ -40,6 +41,7 @@ run_laws = record {
   one_latch_each = one_latch_each;
   each_is_decided_once = each_is_decided_once;
   fronts_are_decided = fronts_are_decided;
+  each_has_its_turn = each_has_its_turn;
   ended_run_is_whole = ended_run_is_whole moment_laws;
   ended_run_is_answered = ended_run_is_answered;
   writes_are_own = writes_are_own moment_laws;

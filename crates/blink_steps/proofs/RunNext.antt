@@ -1,5 +1,5 @@
 -- The operation of a worker's turn: it is one that a step of the moment may take, and has what is so of a busy worker's.
-use Rattle.std.proofs.Common.{◌≡◌, ℕ, ◌+◌, ◌⊎◌, Option, Some, None, List, set, refl, ap, sym, ◌∙◌, subst, inl, inr}
+use Rattle.std.proofs.Common.{◌≡◌, ◌≢◌, ℕ, ◌+◌, ◌⊎◌, Option, Some, None, List, set, refl, ap, sym, ◌∙◌, subst, inl, inr}
 use Rattle.std.proofs.lemmas.Option.{slice_get_within}
 use Rattle.std.specs.List.{slice_get}
 use Rattle.blink_batch.specs.declared.entry.Entry.{Entry}
@@ -12,7 +12,10 @@ use Rattle.blink_steps.specs.declared.seat.Seat.{Seat}
 use Rattle.blink_steps.specs.declared.step.Kind.{Kind}
 use Rattle.blink_steps.specs.declared.step.Step.{Step}
 use Rattle.blink_steps.specs.declared.step.Step.TheVariants.{Moved, Waited, Idle}
-use Rattle.blink_steps.specs.Acts.{PlainShared, Acts}
+use Rattle.blink_steps.specs.Acts.{PlainShared, Acts, ActsOn}
+use Rattle.blink_steps.specs.declared.machine.Need.{Need}
+use Rattle.blink_steps.specs.declared.machine.Need.TheVariants.{WriteNew}
+use Rattle.blink_steps.specs.Laws.{TakesNextNumber, TurnsAreSteps}
 use Rattle.blink_steps.specs.Machine.{PlainMachine, fresh}
 use Rattle.blink_steps.specs.Moment.{IsItsOperation, under_way as is_under_way, taken_on as is_taken_on, IsWorkersNow, Steps, goes_on}
 use Rattle.blink_steps.specs.Run.{PlainRun, IsNextOf, under_way, taken_on, Taken, TakesTurn, moves, waits, idles, after_move, busy_seat, idle_seat, machine_of_seat, moment_of, seat_after}
@@ -82,6 +85,25 @@ turn_is_step old taken new (waits next is_next step acts is) =
           (subst (λ (run : PlainRun). Steps (moment_of old) taken.worker taken.before Waited taken.after (moment_of run)) (sym is) waited);
     })
 turn_is_step old taken new (idles seat step is) = inr (step, is)
+
+-- a new page gets the number after the last
+next_number : (old : PlainRun) (taken : Taken) (new : PlainRun) → TakesTurn old taken new → taken.step ≢ Idle → TakesNextNumber old.shared.store taken.before taken.step
+next_number old taken new (moves next kind is_next step acts is) not_idle needs =
+    let written : ActsOn WriteNew old.shared taken.worker taken.before (Moved kind) taken.after new.shared =
+    subst (λ (need : Need). ActsOn need old.shared taken.worker taken.before (Moved kind) taken.after new.shared) needs acts in
+    step ∙ ap Moved written.0
+next_number old taken new (waits next is_next step acts is) not_idle needs =
+    let written : ActsOn WriteNew old.shared taken.worker taken.before Waited taken.after old.shared =
+    subst (λ (need : Need). ActsOn need old.shared taken.worker taken.before Waited taken.after old.shared) needs acts in
+    absurd written
+next_number old taken new (idles seat step is) not_idle needs = absurd (not_idle step)
+
+-- so a turn that moves or waits is a step of the moment, with that number
+pub turns_are_steps : TurnsAreSteps
+turns_are_steps old new taken turn not_idle = elim (turn_is_step old taken new turn) [
+  | inl step ↦ record { its = step.its; steps = step.steps; next_number = next_number old taken new turn not_idle }
+  | inr passed ↦ absurd (not_idle passed.0)
+]
 
 -- ---- what is so of it
 

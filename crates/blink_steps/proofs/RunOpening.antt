@@ -19,7 +19,9 @@ use Rattle.blink_rest.specs.Rest.{IsStoreAtRest}
 use Rattle.blink_store.specs.Store.{PlainStore, IsLawfulStore, page_of}
 use Rattle.blink_steps.specs.declared.seat.Seat.{Seat}
 use Rattle.blink_steps.specs.Run.{PlainRun, IsOpeningRun, idle_seat, machine_of_seat, moment_of}
-use Rattle.blink_steps.specs.SoundRun.{IsDecided, IsIdle, IsShaped, IsSoundRun, IsSoundSeat, Keeps, is_answered, pairs_of}
+use Rattle.blink_steps.specs.SoundRun.{IsIdle, IsShaped, IsSoundRun, IsSoundSeat, is_answered}
+use Rattle.blink_steps.specs.Decided.{IsDecided, Keeps}
+use Rattle.blink_steps.specs.TreeMap.{pairs_of}
 use Rattle.blink_steps.proofs.RunStatements.{MayBegin, MomentLaws, OpeningRunIsSound}
 use Rattle.blink_steps.proofs.SoundStatements.{IsOpening}
 
@@ -86,7 +88,6 @@ module _ (start : PlainStore) (ops : List Op) (assignment : Assignment) (run : P
     places_of_batch = rw opening.none_decided (All-nil (λ place. place < length run.ops));
     answered = rw opening.none_decided (All-nil (λ (answered : ℕ × Answer). slice_get run.answers answered.0 ≡ Some (Some answered.1)));
     undecided = λ place within outside. rw opening.none_answered (replicate_at (length ops) place None (let same = ap length opening.same_ops in omega arith));
-    room = rw (opening.none_answered, opening.none_decided) (none_counted (length ops));
     kept = rw opening.none_decided keeps;
   }
 
@@ -110,6 +111,7 @@ module _ (start : PlainStore) (ops : List Op) (assignment : Assignment) (run : P
     shaped = shaped;
     ascending = ascending;
     decided = decided;
+    as_many_decided = rw (opening.none_answered, opening.none_decided) (none_counted (length ops));
     seats = seats;
   }
 

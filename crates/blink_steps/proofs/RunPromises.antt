@@ -15,7 +15,7 @@ use Rattle.blink_steps.specs.Machine.{PlainMachine}
 use Rattle.blink_steps.specs.Moment.{Moment, IsItsOperation, Steps, reads_prime, waits_for_level, reads_page, latches, waits_for_latch, writes_new, writes_page, writes_prime, unlatches}
 use Rattle.blink_steps.specs.Run.{moment_of}
 use Rattle.blink_steps.specs.Sound.{IsSound}
-use Rattle.blink_steps.specs.SoundRun.{pairs_of}
+use Rattle.blink_steps.specs.TreeMap.{pairs_of}
 use Rattle.blink_steps.proofs.EntryMapLemmas.{value_at-pairs_of}
 use Rattle.blink_steps.proofs.KeepsLemmas.{pointer_in_leaf}
 use Rattle.blink_steps.proofs.RunNext.{turn_is_step, next_is_busy}

@@ -17,9 +17,6 @@ use Rattle.blink_steps.specs.Moment.{IsItsOperation, under_way, taken_on}
 use Rattle.blink_steps.specs.Owned.{latch_at}
 use Rattle.blink_steps.specs.Run.{PlainRun, IsNextOf, moment_of}
 use Rattle.blink_steps.specs.SoundRun.{IsSoundRun}
-use Rattle.blink_page.specs.Limits.{IsPageNumber}
-use Rattle.blink_steps.specs.Table.{IsTopLeftmost}
-use Rattle.blink_steps.proofs.TreeReading.{cells_are_of_level, leftmost_begins}
 use Rattle.blink_steps.proofs.RunNext.{next_has_seat, next_is_busy, next_is_its}
 use Rattle.blink_steps.proofs.RunStatements.{MomentLaws, TurnIsReady}
 
@@ -113,18 +110,9 @@ module _ (laws : MomentLaws) (entries : List Entry) (run : PlainRun) (worker pla
   holds_its number needs (under_way has) = sound.sound.1.latches.by_state worker number m has (leaving_holds m.state number needs)
   holds_its number needs (taken_on op none is) = let start : m.state ≡ Start = ap (λ (x : PlainMachine). x.state) is in absurd (cc)
 
-  -- the leftmost page of the top level has a page number
-  top_is_number : (level page : ℕ) → IsTopLeftmost run.shared.store.prime level page → IsPageNumber page
-  top_is_number level page top =
-      let moment = moment_of run in
-      let tree = sound.sound.1.lawful.tree in
-      let begins = leftmost_begins moment.fan moment.prime moment.pages sound.sound.0 level page tree top.leftmost in
-      let of_level = cells_are_of_level moment.fan moment.prime moment.pages sound.sound.0 level begins.cell tree begins.stands in
-      subst IsPageNumber begins.same_number (sound.sound.1.numbers_in_range begins.cell.number begins.cell.page of_level.there)
-
   -- for each need
   ready_on : (need : Need) → need_at m.state ≡ need → IsReadyOn need run.shared worker m
-  ready_on ReadPrime needs = (let few = laws.levels_are_few (moment_of run) sound.sound in omega arith, top_is_number)
+  ready_on ReadPrime needs = let few = laws.levels_are_few (moment_of run) sound.sound in omega arith
   ready_on (ReadPage number) needs =
       let reads = laws.reads_are_good (moment_of run) worker m number sound.sound its needs in
       record { exists = has_page run.shared.store number reads.page reads.there; page = reads.page; there = reads.there; has_level = reads.has_level; floor_below = reads.floor_below }

@@ -1,10 +1,10 @@
 -- What the lemmas about runs say.
-use Rattle.std.proofs.Common.{◌≡◌, ℕ, ◌<◌, ◌≤◌, Option, Some, None, List, length, slice_get, take}
+use Rattle.std.proofs.Common.{◌≡◌, ℕ, ◌<◌, ◌≤◌, Option, Some, None, List, length, slice_get}
 use Rattle.blink_batch.specs.declared.Entry.{Entry}
 use Rattle.blink_batch.specs.declared.Op.{Op}
 use Rattle.blink_batch.specs.Cut.{Assignment}
 use Rattle.blink_batch.specs.Operation.{map_after_all}
-use Rattle.blink_batch.specs.Order.{operations_at, part_of, lane_of}
+use Rattle.blink_batch.specs.Order.{operations_at}
 use Rattle.blink_batch.specs.PlainMap.{IsAscending, pointer_of}
 use Rattle.blink_page.specs.declared.limits.TheConstants.{MAX_PAGE}
 use Rattle.blink_rest.specs.Entries.{AreEntries}
@@ -13,14 +13,14 @@ use Rattle.blink_steps.specs.Bounds.{IsShort}
 use Rattle.blink_steps.specs.Counts.{IsBounded, page_reads_in, moves_in}
 use Rattle.blink_steps.specs.Machine.{PlainMachine, NeedsNew}
 use Rattle.blink_steps.specs.Run.{PlainRun, Taken, TakesTurn, Follows, IsOpeningRun, IsNextOf}
-use Rattle.blink_steps.specs.SoundRun.{IsSoundRun, pairs_of}
+use Rattle.blink_steps.specs.SoundRun.{IsSoundRun}
+use Rattle.blink_steps.specs.TreeMap.{pairs_of}
 use Rattle.blink_steps.specs.Acts.{IsReady}
-use Rattle.blink_store.specs.Latches.{holder_of}
-pub use Rattle.blink_steps.specs.Promises.{HasAnswerAt, EachOnce, IsWholeRun, IsAnsweredInOrder}
-use Rattle.blink_steps.specs.Promises.{IsReached}
-pub use Rattle.blink_steps.specs.World.{MayBegin, HasEnded}
+pub use Rattle.blink_steps.specs.Promises.{HasAnswerAt, EachOnce, IsFrontOfLane, HasUndecided, HoldOneLatchEach, IsWholeRun, IsAnsweredInOrder}
+use Rattle.blink_rest.specs.Reach.{IsReached}
+pub use Rattle.blink_steps.specs.World.{MayBegin, HasEnded, IsAtLanesEnd}
 use Rattle.blink_steps.specs.World.{WritesItsOwn}
-use Rattle.blink_steps.proofs.SoundStatements.{OpeningIsSound, StepKeepsSound, StepDecides, AllIdleIsAtRest, ReadsAreGood, WritesAreGood, NewPagesAreGood, LevelsAreFew}
+use Rattle.blink_steps.proofs.SoundStatements.{OpeningIsSound, StepKeepsSound, StepDecides, AllIdleIsAtRest, ReadsAreGood, WritesAreGood, NewPagesAreGood, PrimeWritesAreGood, LevelsAreFew}
 
 -- the lemmas about moments that those about runs rest on
 pub record MomentLaws : Type 0 where
@@ -31,6 +31,7 @@ pub record MomentLaws : Type 0 where
   pub reads_are_good : ReadsAreGood
   pub writes_are_good : WritesAreGood
   pub new_pages_are_good : NewPagesAreGood
+  pub prime_writes_are_good : PrimeWritesAreGood
   pub levels_are_few : LevelsAreFew
 
 abbrev pub OpeningRunIsSound : Type 0
@@ -72,8 +73,7 @@ CountsAreKept = (start : PlainStore) (ops : List Op) (assignment : Assignment) (
 
 -- a worker holds one latch at most
 abbrev pub OneLatchEach : Type 0
-OneLatchEach = (run : PlainRun) (worker first second : ℕ) → holder_of run.shared.latches first ≡ Some worker → holder_of run.shared.latches second ≡ Some worker
-    → first ≡ second
+OneLatchEach = (run : PlainRun) → HoldOneLatchEach run.shared.latches
 
 -- an operation stands in the order once at most
 abbrev pub EachIsDecidedOnce : Type 0
@@ -82,7 +82,11 @@ EachIsDecidedOnce = (entries : List Entry) (run : PlainRun) → IsSoundRun entri
 -- what is decided of a worker's lane is its beginning, in the lane's order
 abbrev pub FrontsAreDecided : Type 0
 FrontsAreDecided = (entries : List Entry) (run : PlainRun) (worker : ℕ) → IsSoundRun entries run
-    → (count : ℕ) × (part_of run.assignment.lanes worker run.order ≡ take count (lane_of run.assignment.lanes worker))
+    → IsFrontOfLane run worker
+
+-- a worker whose lane has an operation that isn't decided isn't at its lane's end
+abbrev pub EachHasItsTurn : Type 0
+EachHasItsTurn = (entries : List Entry) (run : PlainRun) (worker : ℕ) → IsSoundRun entries run → HasUndecided run worker → ¬ IsAtLanesEnd run worker
 
 -- once all operations have ended, all are decided and the tree is at rest
 abbrev pub EndedRunIsWhole : Type 0
@@ -126,6 +130,7 @@ pub record RunLaws : Type 0 where
   pub one_latch_each : OneLatchEach
   pub each_is_decided_once : EachIsDecidedOnce
   pub fronts_are_decided : FrontsAreDecided
+  pub each_has_its_turn : EachHasItsTurn
   pub ended_run_is_whole : EndedRunIsWhole
   pub ended_run_is_answered : EndedRunIsAnswered
   pub writes_are_own : WritesAreOwn

@@ -28,6 +28,7 @@ module _ (old new : PlainStore) (lawful : IsLawfulStore old) (page : PlainPage) 
       record {
         fan_in_range = rw (writes.same_fan) lawful.fan_in_range;
         some_level = rw (writes.same_prime) lawful.some_level;
+        prime_numbers = rw (writes.same_prime) lawful.prime_numbers;
         lawful_pages = rw (writes.same_fan) (All-same (IsLawfulPage old.fan) new.pages (old.pages ++ page ∷ []) added (All-push (IsLawfulPage old.fan) old.pages page lawful.lawful_pages good));
         count_in_range = rw long range;
       }
@@ -42,6 +43,7 @@ module _ (old new : PlainStore) (lawful : IsLawfulStore old) (page : PlainPage) 
       record {
         fan_in_range = rw (writes.same_fan) lawful.fan_in_range;
         some_level = rw (writes.same_prime) lawful.some_level;
+        prime_numbers = rw (writes.same_prime) lawful.prime_numbers;
         lawful_pages = rw (writes.same_fan) (All-same (IsLawfulPage old.fan) new.pages (set old.pages n page) written (All-set (IsLawfulPage old.fan) old.pages n page good lawful.lawful_pages));
         count_in_range = rw long lawful.count_in_range;
       }
@@ -71,9 +73,11 @@ module _ (laws : MomentLaws) (old new : PlainShared) (machines : ℕ → Option 
       lawful_with_page old.store new.store lawful (page_out m 0) good.lawful number good.before good.there acts.2
   lawful_at_need WritePrime needs acts =
       let prime = prime_out_some m new.store.prime acts.2 in
+      let numbers = laws.prime_writes_are_good (moment_with old machines) worker m new.store.prime sound its needs acts.2 lawful.prime_numbers in
       let changed : IsLawfulStore (record old.store { prime = new.store.prime }) = record {
         fan_in_range = lawful.fan_in_range;
         some_level = prime;
+        prime_numbers = numbers;
         lawful_pages = lawful.lawful_pages;
         count_in_range = lawful.count_in_range;
       } in

@@ -1,5 +1,5 @@
 -- Every turn of a worker leaves a sound run sound.
-use Rattle.std.proofs.Common.{◌≡◌, ◌≢◌, ℕ, ◌+◌, ◌⊎◌, Bool, true, false, Option, Some, None, IsSome, List, [], ◌∷◌, ◌++◌, length, set, if◌then◌else◌, refl, ap, sym, ◌∙◌, subst, inl, inr}
+use Rattle.std.proofs.Common.{◌≡◌, ◌≢◌, ℕ, ◌+◌, ◌⊎◌, Bool, true, false, Option, Some, None, IsSome, List, [], ◌∷◌, ◌++◌, length, count_by, set, if◌then◌else◌, refl, ap, sym, ◌∙◌, subst, inl, inr}
 use Rattle.std.proofs.lemmas.Bool.{cases_eq}
 use Rattle.std.proofs.lemmas.List.{length-set}
 use Rattle.std.proofs.lemmas.Option.{get_or_from_slice_get, slice_get_within}
@@ -24,8 +24,9 @@ use Rattle.blink_steps.specs.Machine.{PlainMachine}
 use Rattle.blink_steps.specs.Moment.{Steps, goes_on}
 use Rattle.blink_steps.specs.Run.{PlainRun, IsNextOf, moves, waits, idles, after_move, moment_of, seat_after}
 use Rattle.blink_steps.specs.Ledger.{one_more_at}
-use Rattle.blink_steps.specs.SoundRun.{HasDecided, IsBusy, IsDecided, IsIdle, IsShaped, IsSoundRun, IsSoundSeat, decided_below}
-use Rattle.blink_steps.proofs.RunDecided.{decided_more, decided_stays, decides_from_none, decides_not_same, part_decided-other, part_decided-own, set_same}
+use Rattle.blink_steps.specs.SoundRun.{HasDecided, IsBusy, IsIdle, IsShaped, IsSoundRun, IsSoundSeat, decided_below, is_answered}
+use Rattle.blink_steps.specs.Decided.{IsDecided}
+use Rattle.blink_steps.proofs.RunDecided.{as_many_more, as_many_stay, decided_more, decided_stays, decides_from_none, decides_not_same, part_decided-other, part_decided-own, set_same}
 use Rattle.blink_steps.proofs.RunNext.{machines_of, move_is_step, next_has_seat, next_is_busy, next_is_its}
 use Rattle.blink_steps.proofs.RunStatements.{MomentLaws, TurnKeepsSoundRun}
 use Rattle.blink_steps.proofs.RunStore.{move_keeps_lawful}
@@ -61,6 +62,7 @@ long_as_before false counts place = refl
 -- what is decided after a move, and the workers' parts of it
 record Outcome (entries : List Entry) (old new : PlainRun) (worker place : ℕ) (after : PlainMachine) : Type 0 where
   decided : IsDecided entries new
+  as_many : count_by is_answered new.answers ≡ length new.order
   own : HasDecided new worker (decided_below place after.answer)
   others : (number : ℕ) → number ≢ worker → part_of new.assignment.lanes number new.order ≡ part_of new.assignment.lanes number old.order
 
@@ -96,6 +98,7 @@ module _ (laws : MomentLaws) (entries : List Entry) (old : PlainRun) (worker pla
       let not_yet = fresh_from_part old.assignment.lanes worker old.order place busy.own before in
       record {
         decided = decided_more entries old moved sound.decided refl place m.op _ busy.same_op none not_yet refl kept more_order more_answers;
+        as_many = as_many_more old moved place _ sound.as_many_decided none more_order more_answers;
         own = subst (λ (a : Option Answer). HasDecided moved worker (decided_below place a)) (sym is)
             (ap (part_of old.assignment.lanes worker) more_order ∙ part_decided-own old.assignment.lanes worker old.order place busy.own before);
         others = λ number differs. ap (part_of old.assignment.lanes number) more_order ∙ part_decided-other old.assignment.lanes worker old.order place busy.own number differs;
@@ -105,6 +108,7 @@ module _ (laws : MomentLaws) (entries : List Entry) (old : PlainRun) (worker pla
       let same_answers : moved.answers ≡ old.answers = set_same old.answers place after.answer (busy.same_answer ∙ ap Some (sym same)) in
       record {
         decided = decided_stays entries old moved sound.decided refl place kept same_order same_answers;
+        as_many = as_many_stay old moved sound.as_many_decided same_order same_answers;
         own = ap (part_of old.assignment.lanes worker) same_order ∙ subst (λ (a : Option Answer). HasDecided old worker (decided_below place a)) (sym same) busy.decided;
         others = λ number differs. ap (part_of old.assignment.lanes number) same_order;
       }
@@ -193,6 +197,7 @@ module _ (laws : MomentLaws) (entries : List Entry) (old : PlainRun) (worker pla
     shaped = shaped;
     ascending = sound.ascending;
     decided = outcome.decided;
+    as_many_decided = outcome.as_many;
     seats = seats_sound;
   }
 

@@ -11,7 +11,8 @@ use Rattle.blink_steps.specs.Owned.{latch_of, latch_at, debt_of, debt_at}
 use Rattle.blink_steps.specs.Placed.{IsPlaced}
 use Rattle.blink_steps.specs.Sound.{IsSound, IsSoundWith}
 use Rattle.blink_steps.specs.Table.{page_out, page_out_at, done_at, adds_root}
-use Rattle.blink_steps.specs.Tree.{Levels, IsDebt, BeginsAt}
+use Rattle.blink_steps.specs.TreeWithDebts.{Levels, IsDebt}
+use Rattle.blink_rest.specs.References.{BeginsAt}
 use Rattle.blink_steps.proofs.TreeStatements.{TreeLaws}
 use Rattle.blink_steps.proofs.SoundStatements.{OpeningIsSound, StepKeepsSound}
 use Rattle.blink_steps.proofs.TurnLemmas.{Turns, turns, had_under_way}
@@ -39,8 +40,8 @@ opening_is_sound laws moment opening =
           tree = it.1;
           debts = record {
             owed = λ level separator debt. absurd (it.2.no_debt level separator debt);
-            is_debt = λ worker m debt here owes. absurd (let idle : moment.machines worker ≡ None = opening.all_idle worker in cc);
-            by_one = λ worker other m n debt owing here there owes also level separator. absurd (let idle : moment.machines worker ≡ None = opening.all_idle worker in cc);
+            is_debt = λ worker m debt owes. absurd (cc (opening.all_idle worker, owes.0));
+            by_one = λ worker other m n debt owing owes also level separator. absurd (cc (opening.all_idle worker, owes.0));
           };
           pages_placed = record {
             placed = λ number page there. inl (it.2.all_in_chains number page there);
@@ -62,7 +63,7 @@ module _ (laws : TreeLaws) (old new : Moment) (levels : Levels) (sound : IsSound
   -- what it owes is a debt
   its_debt : (debt : Debt) → debt_of m ≡ Some debt → IsDebt levels debt.level debt.separator × BeginsAt (levels debt.level) debt.page (Some debt.separator)
   its_debt debt owes = sound.lawful.debts.is_debt worker m debt
-      (had_under_way old.machines new.machines worker m after turn debt_of debt (λ (starts : m.state ≡ Start). ap (debt_at m.job) starts) owes) owes
+      (had_under_way old.machines new.machines worker m after turn debt_of debt (λ (starts : m.state ≡ Start). ap (debt_at m.job) starts) owes, owes)
 
   -- one that holds a latch is under way
   holds_latch : (number : ℕ) → latch_of m ≡ Some number → old.machines worker ≡ Some m

@@ -1,5 +1,5 @@
 -- What the lemmas about moments say.
-use Rattle.std.proofs.Common.{◌≡◌, ◌≢◌, ℕ, ◌<◌, ◌≤◌, Some, None, List, length}
+use Rattle.std.proofs.Common.{◌≡◌, ◌≢◌, ℕ, ◌<◌, ◌≤◌, Some, None, List, length, All}
 use Rattle.blink_batch.specs.declared.Entry.{Entry}
 use Rattle.blink_batch.specs.Batch.{FitsWords}
 use Rattle.blink_batch.specs.Operation.{answer_of, map_after}
@@ -11,12 +11,12 @@ use Rattle.blink_rest.specs.Rest.{IsAtRest}
 use Rattle.blink_steps.specs.declared.machine.Next.{Next}
 use Rattle.blink_steps.specs.declared.machine.State.TheVariants.{Leave}
 use Rattle.blink_steps.specs.declared.step.Step.{Step}
-use Rattle.blink_steps.specs.Machine.{PlainMachine, NeedsPage, NeedsLatch, NeedsWrite, NeedsNew, level_of, level_read, target}
+use Rattle.blink_steps.specs.Machine.{PlainMachine, NeedsPage, NeedsLatch, NeedsWrite, NeedsNew, NeedsPrimeWrite, level_of, level_read, target}
 use Rattle.blink_steps.specs.Moment.{Moment, IsItsOperation, Steps}
 use Rattle.blink_steps.specs.Owned.{latch_of}
 use Rattle.blink_steps.specs.Sound.{IsSound}
-use Rattle.blink_steps.specs.SoundRun.{Keeps}
-use Rattle.blink_steps.specs.Table.{WaitsForLevel, page_out}
+use Rattle.blink_steps.specs.Decided.{Keeps}
+use Rattle.blink_steps.specs.Table.{PrimeOut, WaitsForLevel, page_out}
 
 -- a tree at rest, with no latch held and every worker idle
 pub record IsOpening (moment : Moment) : Type 0 where
@@ -93,6 +93,11 @@ WritesAreGood = (moment : Moment) (worker : ℕ) (m : PlainMachine) (number : �
 abbrev pub NewPagesAreGood : Type 0
 NewPagesAreGood = (moment : Moment) (worker number : ℕ) (m : PlainMachine) → IsSound moment → IsItsOperation moment worker m → NeedsNew m → IsPageNumber number
     → IsLawfulPage moment.fan (page_out m number)
+
+-- a prime block that an operation writes names page numbers only
+abbrev pub PrimeWritesAreGood : Type 0
+PrimeWritesAreGood = (moment : Moment) (worker : ℕ) (m : PlainMachine) (prime : List ℕ) → IsSound moment → IsItsOperation moment worker m → NeedsPrimeWrite m
+    → PrimeOut m prime → All IsPageNumber moment.prime → All IsPageNumber prime
 
 -- fewer than 21 levels are named
 abbrev pub LevelsAreFew : Type 0

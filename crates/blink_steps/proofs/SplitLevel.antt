@@ -10,7 +10,9 @@ use Rattle.blink_page.proofs.SplitLemmas.{lower-append-upper, separator_above_fl
 use Rattle.blink_rest.specs.Chain.{Cell, Pages, StandsIn}
 use Rattle.blink_rest.specs.Level.{entries_along}
 use Rattle.blink_rest.proofs.ChainLemmas.{stands_of}
-use Rattle.blink_steps.specs.Tree.{Levels, IsTree, Refers, IsHighKey, IsInChain}
+use Rattle.blink_steps.specs.Tree.{IsTree}
+use Rattle.blink_steps.specs.TreeWithDebts.{Levels, IsInChain}
+use Rattle.blink_rest.specs.References.{Refers, IsHighKey}
 use Rattle.blink_steps.proofs.TreeStatements.{IsToSplit, IsSplitIn}
 use Rattle.blink_steps.proofs.StandLemmas.{Stands, stands_cases}
 use Rattle.blink_steps.proofs.EditLemmas.{TakesPlace, cells_after, levels_after, levels_after-other, tree_stays, each_stays}
@@ -78,7 +80,7 @@ module _ (fan : ℕ) (prime : List ℕ) (pages after : Pages) (levels : Levels) 
       refl,
       refl,
       here.has_level,
-      lawful_lower fan number split.fan_in_range c.page overfull one_too_many lawful_overfull,
+      lawful_lower fan number split.fan_in_range c.page overfull one_too_many lawful_overfull split.new_number,
       (refl, refl, here.has_level, lawful_upper fan number split.fan_in_range c.page overfull one_too_many lawful_overfull, (refl, refl)),
     );
     begins = record { cell = lower_cell; stands = inl refl; same_number = refl; same_floor = refl };

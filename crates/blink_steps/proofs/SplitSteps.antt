@@ -16,7 +16,8 @@ use Rattle.blink_steps.specs.Owned.{debt_of, loose_of, split_of}
 use Rattle.blink_steps.specs.Placed.{HasAnswer, IsPlaced}
 use Rattle.blink_steps.specs.Sound.{IsSoundWith}
 use Rattle.blink_steps.specs.Table.{Brings}
-use Rattle.blink_steps.specs.Tree.{Levels, IsDebt, IsHighKey, BeginsAt, IsInChain}
+use Rattle.blink_steps.specs.TreeWithDebts.{Levels, IsDebt, IsInChain}
+use Rattle.blink_rest.specs.References.{IsHighKey, BeginsAt}
 use Rattle.blink_steps.proofs.TreeStatements.{TreeLaws, IsSplitIn}
 use Rattle.blink_steps.proofs.GrowLemmas.{remembered_before, AreRemembered-grows}
 use Rattle.blink_steps.proofs.TurnLemmas.{Turns}

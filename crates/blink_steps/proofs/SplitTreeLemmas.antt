@@ -11,7 +11,7 @@ use Rattle.blink_steps.specs.Moment.{Moment}
 use Rattle.blink_steps.specs.Owned.{debt_of, debt_at, debt_of_job, loose_at}
 use Rattle.blink_steps.specs.Placed.{HasHalved, IsPlaced}
 use Rattle.blink_steps.specs.Sound.{IsSoundWith}
-use Rattle.blink_steps.specs.Tree.{Levels}
+use Rattle.blink_steps.specs.TreeWithDebts.{Levels}
 use Rattle.blink_steps.proofs.TreeStatements.{TreeLaws, IsToSplit, LeafSplits, InnerSplits, LeadsBelow}
 use Rattle.blink_steps.proofs.GainLemmas.{pointer_fits}
 use Rattle.blink_steps.proofs.OwnPageLemmas.{WritesOwn}
@@ -51,7 +51,7 @@ module _ (laws : TreeLaws) (old new : Moment) (levels : Levels) (sound : IsSound
   -- an inner page is split
   pub inner_splits : (paid : Debt) → m.job ≡ Parent paid → InnerSplits old.fan old.prime new.pages levels paid.level work.cell (entry_of m) debt.page
   inner_splits paid job =
-      let owed = sound.lawful.debts.is_debt worker m paid own.here (posting_owes paid job) in
+      let owed = sound.lawful.debts.is_debt worker m paid (own.here, posting_owes paid job) in
       let is_number = job_is_number laws old levels sound m worker paid own.here (posting_owes paid job) in
       let leads : LeadsBelow levels paid.level (entry_of m) = rw job (record { is_high_key = owed.0.is_high_key; begins = owed.1 }) in
       laws.inner_split_keeps old.fan old.prime old.pages new.pages levels paid.level work.cell (entry_of m) debt.page sound.lawful.tree

@@ -8,7 +8,8 @@ use Rattle.blink_page.specs.declared.limits.TheConstants.{GREATEST_KEY}
 use Rattle.blink_rest.specs.Chain.{Cell, Pages, StandsIn, AreAmong, InLine, IsChain}
 use Rattle.blink_rest.specs.Level.{entries_along}
 use Rattle.blink_rest.proofs.ChainLemmas.{stands_split, stands_middle, floor_after, AreAmong-front, AreAmong-rest, InLine-front, InLine-rest, stands_there, stands_of}
-use Rattle.blink_steps.specs.Tree.{Levels, IsTree}
+use Rattle.blink_steps.specs.Tree.{IsTree}
+use Rattle.blink_steps.specs.TreeWithDebts.{Levels}
 
 -- what stands in two lists joined stands in one of them
 pub stands_append : (d : Cell) (xs ys : List Cell) → StandsIn d (xs ++ ys) → StandsIn d xs ⊎ StandsIn d ys
@@ -53,7 +54,7 @@ module _ (fan : ℕ) (prime : List ℕ) (pages : Pages) (levels : Levels) (tree 
   pub level_named : (level : ℕ) (c : Cell) → StandsIn c (levels level) → level < length prime
   level_named level c stands = elim (cases_lt level (length prime)) [
     | inl inside ↦ inside
-    | inr past ↦ absurd (subst (StandsIn c) (tree.unnamed level past) stands)
+    | inr past ↦ absurd (subst (StandsIn c) (tree.chains.unnamed level past) stands)
   ]
 
   -- a page of a chain stands between others
@@ -84,7 +85,7 @@ module _ (fan : ℕ) (prime : List ℕ) (pages : Pages) (levels : Levels) (tree 
   stands_so level c stands =
       let first = slice_get-get_or prime level 0 (level_named level c stands) in
       let it = stands_split c (levels level) stands in
-      stands_in_chain level _ c it.0 it.1 (levels level) first refl it.2 (subst (IsChain fan pages level _) it.2 (tree.named level _ first))
+      stands_in_chain level _ c it.0 it.1 (levels level) first refl it.2 (subst (IsChain fan pages level _) it.2 (tree.chains.named level _ first))
 
   -- it is in the page map
   pub standing_there : (level : ℕ) (c : Cell) → StandsIn c (levels level) → pages c.number ≡ Some c.page

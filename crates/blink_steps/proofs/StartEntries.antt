@@ -7,10 +7,9 @@ use Rattle.blink_page.specs.Rising.{IsRising}
 use Rattle.blink_page.specs.declared.limits.TheConstants.{GREATEST_KEY}
 use Rattle.blink_rest.specs.Entries.{AreEntries}
 use Rattle.blink_rest.specs.Rest.{IsStoreAtRest}
-use Rattle.blink_rest.proofs.LawLemmas.{entries_ascend, entries_are_one_list}
+use Rattle.blink_rest.proofs.LawLemmas.{entries_ascend, entries_exist_at_rest}
 use Rattle.blink_store.specs.Store.{PlainStore, page_of}
-use Rattle.blink_steps.specs.Promises.{AreAtStart}
-use Rattle.blink_steps.specs.SoundRun.{pairs_of}
+use Rattle.blink_steps.specs.TreeMap.{IsMapOf, pairs_of}
 
 -- pairs as the entries of a map
 abbrev entries_from : List (ℕ × ℕ) → List Entry
@@ -32,9 +31,9 @@ ascending_from from [] to rising = tt
 ascending_from from (pair ∷ pairs) to rising = (all_above pair.0 (pair.0 + 1) pairs to (omega arith) rising.1, ascending_from (pair.0 + 1) pairs to rising.1)
 
 -- a tree at rest keeps a plain map
-pub entries_at_start : (start : PlainStore) → IsStoreAtRest start → (entries : List Entry) × AreAtStart start entries
+pub entries_at_start : (start : PlainStore) → IsStoreAtRest start → (entries : List Entry) × IsMapOf start entries
 entries_at_start start at_rest =
-    let found = entries_are_one_list start.fan start.prime (page_of start) at_rest in
+    let found = entries_exist_at_rest start.fan start.prime (page_of start) at_rest in
     let rising = entries_ascend start.fan start.prime (page_of start) found.0 found.1 in (
       entries_from found.0,
       record {

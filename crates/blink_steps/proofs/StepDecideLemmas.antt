@@ -16,9 +16,11 @@ use Rattle.blink_steps.specs.Moment.{Moment, Steps, WritesOne}
 use Rattle.blink_steps.specs.Owned.{debt_at, loose_at}
 use Rattle.blink_steps.specs.Placed.{PlacedAt}
 use Rattle.blink_steps.specs.Sound.{IsSoundWith}
-use Rattle.blink_steps.specs.SoundRun.{Keeps, pairs_of}
+use Rattle.blink_steps.specs.Decided.{Keeps}
+use Rattle.blink_steps.specs.TreeMap.{pairs_of}
 use Rattle.blink_steps.specs.Table.{PrimeOut, IsTopLeftmost, done, done_at, page_out, page_out_at, sets_out}
-use Rattle.blink_steps.specs.Tree.{Levels, BeginsAt}
+use Rattle.blink_steps.specs.TreeWithDebts.{Levels}
+use Rattle.blink_rest.specs.References.{BeginsAt}
 use Rattle.blink_steps.proofs.KeepsLemmas.{entries_are, keeps_entries, keeps_by, keeps_left, decides_nothing}
 use Rattle.blink_steps.proofs.PlacedLemmas.{begun, its_own, at_state}
 use Rattle.blink_steps.proofs.ReadDecideLemmas.{prime_read_decides, page_read_decides}
@@ -47,7 +49,7 @@ module _ (laws : TreeLaws) (old : Moment) (levels : Levels) (sound : IsSoundWith
       let placed = at_state old levels sound worker m (NewPrime page debt root read) under is in
       let split = placed.1 in
       let asked = placed.2 in
-      let owed = sound.lawful.debts.is_debt worker m debt under (ap (debt_at m.job) is) in
+      let owed = sound.lawful.debts.is_debt worker m debt (under, ap (debt_at m.job) is) in
       let number : page ≡ split.cell.number = sym split.same_number in
       let high : debt.separator ≡ split.cell.page.high = sym split.ends_at in
       let to_grow : IsToGrow old.fan old.prime old.pages levels debt.level split.cell debt.page root = record {

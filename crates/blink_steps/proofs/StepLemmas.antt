@@ -10,7 +10,8 @@ use Rattle.blink_steps.specs.Moment.{Moment}
 use Rattle.blink_steps.specs.Owned.{latch_of, debt_of, debt_at, loose_of, loose_at, split_of}
 use Rattle.blink_steps.specs.Placed.{PlacedAt, IsPlaced}
 use Rattle.blink_steps.specs.Sound.{IsSoundWith}
-use Rattle.blink_steps.specs.Tree.{Levels, IsTree}
+use Rattle.blink_steps.specs.Tree.{IsTree}
+use Rattle.blink_steps.specs.TreeWithDebts.{Levels}
 use Rattle.blink_steps.proofs.TreeStatements.{Grows}
 use Rattle.blink_steps.proofs.SurviveLemmas.{LeavesAlone, IsPlaced-stays}
 use Rattle.blink_steps.proofs.TurnLemmas.{Turns, had_under_way}
@@ -67,7 +68,7 @@ module _ (old new : Moment) (levels : Levels) (worker : ℕ) (m after : PlainMac
     made = λ level separator debt. inr debt;
     paid = λ level separator debt it. record { debt = it.debt; owes = same ∙ it.owes; same_level = it.same_level; same_separator = it.same_separator };
     is_debt = λ debt owes. let was : debt_of m ≡ Some debt = sym same ∙ owes in
-        sound.lawful.debts.is_debt worker m debt (had_under_way old.machines new.machines worker m after turn debt_of debt (λ (starts : m.state ≡ Start). ap (λ (s : State). debt_at m.job s) starts) was) was;
+        sound.lawful.debts.is_debt worker m debt (had_under_way old.machines new.machines worker m after turn debt_of debt (λ (starts : m.state ≡ Start). ap (λ (s : State). debt_at m.job s) starts) was, was);
     stays = λ level separator debt other. debt;
     taken = λ debt owes. inl (record { debt = debt; owes = sym same ∙ owes; same_level = refl; same_separator = refl });
   }

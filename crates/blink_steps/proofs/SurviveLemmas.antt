@@ -11,7 +11,7 @@ use Rattle.blink_steps.specs.Machine.{PlainMachine}
 use Rattle.blink_steps.specs.Moment.{Moment}
 use Rattle.blink_steps.specs.Owned.{latch_at, loose_at, latch_of, loose_of}
 use Rattle.blink_steps.specs.Placed.{HasRead, HasSplit, HasAsked, PlacedForNext, PlacedAt, IsPlaced}
-use Rattle.blink_steps.specs.Tree.{Levels}
+use Rattle.blink_steps.specs.TreeWithDebts.{Levels}
 use Rattle.blink_steps.proofs.TreeStatements.{Grows}
 use Rattle.blink_steps.proofs.GrowLemmas.{AreRemembered-grows, StandsAt-grows, IsAtWork-grows}
 

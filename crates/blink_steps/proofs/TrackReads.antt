@@ -13,7 +13,7 @@ use Rattle.blink_steps.specs.Moment.{Moment}
 use Rattle.blink_steps.specs.Placed.{IsPlaced}
 use Rattle.blink_steps.specs.Sound.{IsSoundWith}
 use Rattle.blink_steps.specs.Table.{SeesPrime, SeesPage, SeesOnItsWay, SeesUnderLatch}
-use Rattle.blink_steps.specs.Tree.{Levels}
+use Rattle.blink_steps.specs.TreeWithDebts.{Levels}
 use Rattle.blink_steps.proofs.Allowances.{IsFitToCount}
 use Rattle.blink_steps.proofs.MetPages.{ArePagesWith, IsNotAbove, pages_wider}
 use Rattle.blink_steps.proofs.MoveLemmas.{placed_at}

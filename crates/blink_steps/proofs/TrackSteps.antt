@@ -17,7 +17,7 @@ use Rattle.blink_steps.specs.Placed.{IsPlaced, AreRemembered}
 use Rattle.blink_steps.specs.Run.{moment_with}
 use Rattle.blink_steps.specs.Sound.{IsSoundWith}
 use Rattle.blink_steps.specs.Table.{decided_with, sets_out, done_at}
-use Rattle.blink_steps.specs.Tree.{Levels}
+use Rattle.blink_steps.specs.TreeWithDebts.{Levels}
 use Rattle.blink_steps.proofs.Allowances.{IsFitToCount}
 use Rattle.blink_steps.proofs.MetPages.{IsNotAbove, pages_wider}
 use Rattle.blink_steps.proofs.MoveLemmas.{placed_at, its_place}
@@ -38,7 +38,7 @@ module _ (laws : TreeLaws) (moment : Moment) (levels : Levels) (sound : IsSoundW
   posts_within : (page : ℕ) (debt : Debt) → m.state ≡ Leave page (Post debt) → debt.level + 1 ≤ 20
   posts_within page debt is_state =
       let under : moment.machines worker ≡ Some m = its_own moment levels sound worker m its (λ start. let both : Start ≡ Leave page (Post debt) = sym start ∙ is_state in cc) in
-      let owed = sound.lawful.debts.is_debt worker m debt under (ap (debt_at m.job) is_state) in
+      let owed = sound.lawful.debts.is_debt worker m debt (under, ap (debt_at m.job) is_state) in
       let named : debt.level < length moment.prime =
       laws.levels_are_named moment.fan moment.prime moment.pages levels debt.level owed.0.is_high_key.cell sound.lawful.tree owed.0.is_high_key.stands in
       let few : length moment.prime ≤ 20 = laws.few_levels moment.fan moment.prime moment.pages levels sound.lawful.tree sound.numbers_in_range in

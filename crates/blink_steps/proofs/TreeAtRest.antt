@@ -11,7 +11,9 @@ use Rattle.blink_rest.specs.Level.{Names, entries_along, high_keys, numbers_of}
 use Rattle.blink_rest.specs.Rest.{AreChains, AreLevels, EachNames, TopHasOne}
 use Rattle.blink_rest.proofs.NumberLemmas.{IsAmong, among_append, among_from_Contains}
 use Rattle.blink_rest.proofs.DifferLemmas.{standing}
-use Rattle.blink_steps.specs.Tree.{Levels, Refers, IsTree, IsDebt, IsInChain}
+use Rattle.blink_steps.specs.Tree.{IsTree}
+use Rattle.blink_steps.specs.TreeWithDebts.{Levels, IsDebt, IsInChain}
+use Rattle.blink_rest.specs.References.{Refers}
 use Rattle.blink_steps.proofs.TreeStatements.{RestIsQuiet}
 use Rattle.blink_steps.proofs.TreeReading.{below_count, top_debt_has_two}
 
@@ -106,9 +108,11 @@ module _ (fan : ℕ) (prime : List ℕ) (pages : Pages) (all : List (List Cell))
   rest_is_tree =
       let many = as_many_levels fan pages 0 prime all at_rest.chains in
       record {
-        some_level = some;
-        named = λ level leftmost there. chain_at fan pages 0 level level leftmost prime all at_rest.chains (omega arith) there;
-        unnamed = λ level past. none_past level all (omega arith);
+        chains = record {
+          some_level = some;
+          named = λ level leftmost there. chain_at fan pages 0 level level leftmost prime all at_rest.chains (omega arith) there;
+          unnamed = λ level past. none_past level all (omega arith);
+        };
         refers = λ level. elim (cases_lt (level + 1) (length prime)) [
           | inr past ↦ subst (λ (cells : List Cell). Refers (level_at all level) None (entries_along cells)) (sym (none_past (level + 1) all (omega arith))) tt
           | inl inside ↦ (let names = names_at level all at_rest.named (omega arith) in

@@ -8,7 +8,7 @@ use Rattle.blink_page.specs.declared.limits.TheConstants.{GREATEST_KEY}
 use Rattle.blink_page.proofs.RisingLemmas.{covers_next}
 use Rattle.blink_rest.specs.Chain.{Cell, InLine, StandsIn}
 use Rattle.blink_rest.specs.Level.{entries_along}
-use Rattle.blink_steps.specs.Tree.{Refers, IsHighKey}
+use Rattle.blink_rest.specs.References.{Refers, IsHighKey}
 use Rattle.blink_steps.proofs.TreeStatements.{ChildrenBegin, SeparatorsAreHighKeys}
 use Rattle.blink_steps.proofs.TreeReading.{named_standing, cells_are_of_level}
 

@@ -13,7 +13,9 @@ use Rattle.blink_rest.proofs.CountLemmas.{AreWithin, at_most_n}
 use Rattle.blink_rest.proofs.DifferLemmas.{chain_differs}
 use Rattle.blink_rest.proofs.HeightLemmas.{two_each, two_to}
 use Rattle.blink_rest.proofs.LevelLemmas.{chain_rising}
-use Rattle.blink_steps.specs.Tree.{Levels, Refers, IsTree}
+use Rattle.blink_steps.specs.Tree.{IsTree}
+use Rattle.blink_steps.specs.TreeWithDebts.{Levels}
+use Rattle.blink_rest.specs.References.{Refers}
 use Rattle.blink_steps.proofs.TreeStatements.{FewLevels}
 use Rattle.blink_steps.proofs.TreeReading.{some_stand, high_key_past, named_below, leftmost_begins}
 
@@ -60,7 +62,7 @@ module _ (fan : ℕ) (prime : List ℕ) (pages : Pages) (levels : Levels) (tree 
 -- 21 levels would have more leaves than there are page numbers
 pub few_levels : FewLevels
 few_levels fan prime pages levels tree within =
-    let some = tree.some_level in
+    let some = tree.chains.some_level in
     let low = named_below fan prime pages levels tree 0 (omega arith) in
     let most = at_most_n MAX_PAGE (numbers_of (levels 0)) (chain_differs fan pages 0 low.leftmost (levels 0) low.chain) (cells_within pages (levels 0) low.chain.pages_there within) in
     elim (cases_lt 20 (length prime)) [

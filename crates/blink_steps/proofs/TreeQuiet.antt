@@ -15,7 +15,9 @@ use Rattle.blink_rest.specs.Rest.{AreChains, EachNames, TopHasOne}
 use Rattle.blink_rest.proofs.NumberLemmas.{Contains-from_among}
 use Rattle.blink_rest.proofs.DifferLemmas.{stands_among}
 use Rattle.blink_rest.proofs.LevelLemmas.{chain_covers}
-use Rattle.blink_steps.specs.Tree.{Levels, Refers, IsHighKey, IsTree}
+use Rattle.blink_steps.specs.Tree.{IsTree}
+use Rattle.blink_steps.specs.TreeWithDebts.{Levels}
+use Rattle.blink_rest.specs.References.{Refers, IsHighKey}
 use Rattle.blink_steps.proofs.TreeStatements.{IsQuiet, QuietIsRest}
 use Rattle.blink_steps.proofs.TreeReading.{some_stand, same_floor_same, high_key_past, named_below, below_count, leftmost_begins}
 
@@ -102,7 +104,7 @@ module _ (fan : ℕ) (prime : List ℕ) (pages : Pages) (levels : Levels) (tree 
   -- they are chains
   pub listed_chains : AreChains fan pages 0 prime listed
   listed_chains = chains_from fan pages levels 0 prime (λ n leftmost there. let here : n ≡ 0 + n = omega arith in
-      subst (λ (m : ℕ). IsChain fan pages m leftmost (levels m)) here (tree.named n leftmost there))
+      subst (λ (m : ℕ). IsChain fan pages m leftmost (levels m)) here (tree.chains.named n leftmost there))
 
   module _ (quiet : IsQuiet prime pages levels) where
     -- without debts each level names the one below
@@ -130,7 +132,7 @@ module _ (fan : ℕ) (prime : List ℕ) (pages : Pages) (levels : Levels) (tree 
 -- the list of the levels shows a quiet tree at rest
 pub quiet_is_rest : QuietIsRest
 quiet_is_rest fan prime pages levels tree quiet =
-    let some = tree.some_level in (
+    let some = tree.chains.some_level in (
       listed fan prime pages levels tree,
       record {
         chains = listed_chains fan prime pages levels tree;

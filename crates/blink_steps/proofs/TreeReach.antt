@@ -12,7 +12,8 @@ use Rattle.blink_rest.specs.Reach.{IsRoot, Reaches, at_root, to_right, down}
 use Rattle.blink_rest.proofs.ChainLemmas.{stands_of}
 use Rattle.blink_rest.proofs.LeafLemmas.{root_at_end}
 use Rattle.blink_rest.proofs.LevelLemmas.{chain_spans}
-use Rattle.blink_steps.specs.Tree.{Levels, IsTree, BeginsBelow}
+use Rattle.blink_steps.specs.Tree.{IsTree, BeginsBelow}
+use Rattle.blink_steps.specs.TreeWithDebts.{Levels}
 use Rattle.blink_steps.proofs.TreeStatements.{KeysAreReached}
 use Rattle.blink_steps.proofs.TreeReading.{named_below, named_standing, cells_are_of_level, leftmost_begins}
 use Rattle.blink_steps.proofs.TreeChildren.{children_begin}
@@ -93,7 +94,7 @@ module _ (fan : ℕ) (prime : List ℕ) (pages : Pages) (levels : Levels) (tree 
 -- a search for a key reaches the leaf that it belongs to
 pub keys_are_reached : KeysAreReached
 keys_are_reached fan prime pages levels key tree in_range =
-    let some = tree.some_level in
+    let some = tree.chains.some_level in
     let top = named_below fan prime pages levels tree (length prime - 1) (omega arith) in
     let is_root = root_at_end prime top.leftmost top.is_there in
     let low = named_below fan prime pages levels tree 0 (omega arith) in

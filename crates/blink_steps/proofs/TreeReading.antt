@@ -11,7 +11,9 @@ use Rattle.blink_rest.proofs.ChainLemmas.{stands_there, stands_of}
 use Rattle.blink_rest.proofs.LevelLemmas.{chain_spans_once, chain_value}
 use Rattle.blink_rest.proofs.ReachLemmas.{only_page}
 use Rattle.blink_rest.proofs.SameLemmas.{same_cell}
-use Rattle.blink_steps.specs.Tree.{Levels, BeginsAt, IsHighKey, IsTree}
+use Rattle.blink_steps.specs.Tree.{IsTree}
+use Rattle.blink_steps.specs.TreeWithDebts.{Levels}
+use Rattle.blink_rest.specs.References.{BeginsAt, IsHighKey}
 use Rattle.blink_steps.proofs.TreeStatements.{CellsAreOfLevel, NumbersDiffer, LevelsAreNamed, LeftmostBegins, OnlyIsLeftmost, RightBegins, LevelKeeps, TopDebtHasTwo}
 
 -- where a cell stands there is one
@@ -87,12 +89,12 @@ module _ (fan : ℕ) (prime : List ℕ) (pages : Pages) (levels : Levels) (tree 
   pub named_below : (level : ℕ) → level < length prime → IsNamed fan prime pages level (levels level)
   named_below level inside =
       let there = slice_get-get_or prime level 0 inside in
-      record { leftmost = get_or prime level 0; is_there = there; chain = tree.named level (get_or prime level 0) there }
+      record { leftmost = get_or prime level 0; is_there = there; chain = tree.chains.named level (get_or prime level 0) there }
 
   -- a level with pages is below that number
   pub below_count : (level : ℕ) (c : Cell) → StandsIn c (levels level) → level < length prime
   below_count level c stands =
-      elim (cases_lt level (length prime)) [ inl inside ↦ inside | inr beyond ↦ absurd (subst (StandsIn c) (tree.unnamed level beyond) stands) ]
+      elim (cases_lt level (length prime)) [ inl inside ↦ inside | inr beyond ↦ absurd (subst (StandsIn c) (tree.chains.unnamed level beyond) stands) ]
 
   -- so it is named
   pub named_standing : (level : ℕ) (c : Cell) → StandsIn c (levels level) → IsNamed fan prime pages level (levels level)
@@ -119,13 +121,13 @@ levels_are_named fan prime pages levels level c tree stands = below_count fan pr
 
 -- the leftmost page of a level has no floor
 pub leftmost_begins : LeftmostBegins
-leftmost_begins fan prime pages levels level leftmost tree there = chain_begins fan level leftmost pages (levels level) (tree.named level leftmost there)
+leftmost_begins fan prime pages levels level leftmost tree there = chain_begins fan level leftmost pages (levels level) (tree.chains.named level leftmost there)
 
 -- the only page of a level is its leftmost
 pub only_is_leftmost : OnlyIsLeftmost
 only_is_leftmost fan prime pages levels level leftmost c tree there stands few =
     let some = some_stand c (levels level) stands in
-    only_page fan pages level leftmost (levels level) (tree.named level leftmost there) (omega arith) c stands
+    only_page fan pages level leftmost (levels level) (tree.chains.named level leftmost there) (omega arith) c stands
 
 -- the right link of a page leads to the page that begins where it ends
 pub right_begins : RightBegins

@@ -12,7 +12,9 @@ use Rattle.blink_rest.specs.Reach.{IsRoot, Reaches}
 use Rattle.blink_rest.specs.Rest.{IsAtRest}
 use Rattle.blink_steps.specs.Moment.{WritesOne}
 use Rattle.blink_steps.specs.Table.{IsTopLeftmost}
-use Rattle.blink_steps.specs.Tree.{Levels, IsTree, BeginsAt, BeginsBelow, IsHighKey, IsInChain, IsDebt}
+use Rattle.blink_steps.specs.Tree.{IsTree, BeginsBelow}
+use Rattle.blink_steps.specs.TreeWithDebts.{Levels, IsInChain, IsDebt}
+use Rattle.blink_rest.specs.References.{BeginsAt, IsHighKey}
 
 -- What a tree says to one who reads it.
 

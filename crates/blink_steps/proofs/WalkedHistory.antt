@@ -24,7 +24,8 @@ use Rattle.blink_steps.specs.Kinds.{is_page_read}
 use Rattle.blink_steps.specs.Machine.{PlainMachine}
 use Rattle.blink_steps.specs.Moment.{goes_on, IsItsOperation}
 use Rattle.blink_steps.specs.Run.{PlainRun, Taken, TakesTurn, Follows, IsOpeningRun, IsNextOf, after_move, seat_after, idle_seat, busy_seat, moment_of}
-use Rattle.blink_steps.specs.SoundRun.{IsSoundRun, IsIdle, pairs_of}
+use Rattle.blink_steps.specs.SoundRun.{IsSoundRun, IsIdle}
+use Rattle.blink_steps.specs.TreeMap.{pairs_of}
 use Rattle.blink_steps.proofs.CountedHistoryLemmas.{IsSoundAndCounted, counted_along, none_under_way, other_lane, own_of_working}
 use Rattle.blink_steps.proofs.CountedRun.{IsCounted, IsKnown, next_is_known}
 use Rattle.blink_steps.proofs.CountedTurnLemmas.{working_after}

@@ -10,7 +10,8 @@ use Rattle.blink_steps.specs.Machine.{PlainMachine, target}
 use Rattle.blink_steps.specs.Moment.{Moment}
 use Rattle.blink_steps.specs.Placed.{AreRemembered, StandsAt}
 use Rattle.blink_steps.specs.Sound.{IsSoundWith}
-use Rattle.blink_steps.specs.Tree.{Levels, BeginsBelow}
+use Rattle.blink_steps.specs.Tree.{BeginsBelow}
+use Rattle.blink_steps.specs.TreeWithDebts.{Levels}
 use Rattle.blink_steps.proofs.TreeStatements.{TreeLaws}
 use Rattle.blink_steps.proofs.GrowLemmas.{remembered_before}
 

@@ -10,7 +10,7 @@ use Rattle.blink_steps.specs.Moment.{Moment}
 use Rattle.blink_steps.specs.Owned.{debt_of}
 use Rattle.blink_steps.specs.Placed.{AreRemembered, IsAtWork, HasRead}
 use Rattle.blink_steps.specs.Sound.{IsSoundWith}
-use Rattle.blink_steps.specs.Tree.{Levels}
+use Rattle.blink_steps.specs.TreeWithDebts.{Levels}
 use Rattle.blink_steps.proofs.TreeStatements.{TreeLaws, IsOfLevel}
 use Rattle.blink_steps.proofs.NewPageSteps.{chained_is_there}
 use Rattle.blink_steps.proofs.WayLemmas.{page_of_cell}
@@ -45,6 +45,6 @@ module _ (laws : TreeLaws) (old : Moment) (levels : Levels) (sound : IsSoundWith
   -- a job's page is a page of the level below
   pub job_is_number : (worker : ℕ) (debt : Debt) → old.machines worker ≡ Some m → debt_of m ≡ Some debt → IsPageNumber debt.page
   job_is_number worker debt here owes =
-      let begins = (sound.lawful.debts.is_debt worker m debt here owes).1 in
+      let begins = (sound.lawful.debts.is_debt worker m debt (here, owes)).1 in
       let there = chained_is_there laws old levels debt.page sound (record { level = debt.level; cell = begins.cell; stands = begins.stands; same_number = begins.same_number }) in
       sound.numbers_in_range debt.page there.0 there.1

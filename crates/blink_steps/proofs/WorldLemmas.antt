@@ -14,11 +14,18 @@ use Rattle.blink_steps.specs.declared.error.StepError.TheVariants.{OutOfMemory, 
 use Rattle.blink_steps.specs.declared.step.Step.{Step}
 use Rattle.blink_steps.specs.Counts.{page_reads_in, moves_in}
 use Rattle.blink_steps.specs.Machine.{PlainMachine}
-use Rattle.blink_steps.specs.Promises.{AreAtStart, KeepsItsPromises}
-use Rattle.blink_steps.specs.Run.{PlainRun, Taken, TakesTurn, Follows, IsOpeningRun, IsNextOf, idle_seat, busy_seat}
+use Rattle.blink_steps.specs.Decided.{map_now}
+use Rattle.blink_steps.specs.Headline.{ReachesPresent}
+use Rattle.blink_steps.specs.Promises.{KeepsItsPromises}
+use Rattle.blink_steps.specs.TreeMap.{IsMapOf}
+use Rattle.blink_steps.specs.Run.{PlainRun, Taken, TakesTurn, Follows, IsOpeningRun, IsNextOf, idle_seat, busy_seat, moment_of}
 use Rattle.blink_steps.specs.SoundRun.{is_answered, IsShaped, IsSoundRun, IsTurnReady}
-use Rattle.blink_steps.specs.World.{PlainWorld, IsFirstStranger, IsReplay, IsReplayRefusal, IsStepRefusal, IsWorldOf, MayBegin, TakesStep, OnEachTurn, WritesItsOwn}
+use Rattle.blink_steps.specs.World.{PlainWorld, IsFirstStranger, IsReplay, IsReplayRefusal, IsStepRefusal, IsWorldOf, MayBegin, TakesStep, HasTurnMore, SameBatch, OnEachTurn, AfterEachTurn, WritesItsOwn}
+use Rattle.blink_batch.specs.Order.{operations_at}
+use Rattle.blink_batch.proofs.CellLemmas.{IsAscending-map_after_all}
 use Rattle.blink_batch.proofs.NextPlaceLemmas.{next_place_is}
+use Rattle.blink_steps.proofs.DebtTreeLemmas.{sound_has_debts}
+use Rattle.blink_steps.proofs.HeadlineLemmas.{one_thread}
 use Rattle.blink_steps.proofs.RunStatements.{CountsAreOf, RunLaws}
 
 -- a turn leaves the batch and its lanes
@@ -26,6 +33,10 @@ pub same_batch : (old new : PlainRun) (taken : Taken) → TakesTurn old taken ne
 same_batch old new taken (TakesTurn.moves next kind is_next step acts same) = (ap (λ (r : PlainRun). r.ops) same, ap (λ (r : PlainRun). r.assignment) same)
 same_batch old new taken (TakesTurn.waits next is_next step acts same) = (ap (λ (r : PlainRun). r.ops) same, ap (λ (r : PlainRun). r.assignment) same)
 same_batch old new taken (TakesTurn.idles seat step same) = (ap (λ (r : PlainRun). r.ops) same, ap (λ (r : PlainRun). r.assignment) same)
+
+-- in one word
+pub same_batch_after : (old new : PlainRun) (taken : Taken) → TakesTurn old taken new → SameBatch old new
+same_batch_after old new taken turn = let same = same_batch old new taken turn in record { same_ops = same.0; same_assignment = same.1 }
 
 -- a run that begins is the world of the empty schedule
 pub begins : (start : PlainStore) (ops : List Op) (assignment : Assignment) (run : PlainRun) → MayBegin start ops assignment → IsOpeningRun start ops assignment run
@@ -51,6 +62,20 @@ goes_further start old new worker step world takes =
       follows = (old.run, world.follows, takes.turn);
       same_schedule = takes.told ∙ ap (λ (xs : List ℕ). xs ++ worker ∷ []) world.same_schedule ∙ ap (λ (n : ℕ). reverse (map (λ (taken : Taken). taken.worker) world.history) ++ n ∷ []) (sym takes.same_worker) ∙ sym (reverse-append (takes.taken.worker ∷ []) (map (λ (taken : Taken). taken.worker) world.history));
     }
+
+-- its history is the old one with the turn in front
+pub has_turn_more : (start : PlainStore) (old new : PlainWorld) (worker : ℕ) (step : Step) (of : IsWorldOf start old) → TakesStep old worker step new
+    → HasTurnMore start old of worker step new
+unfolding goes_further
+has_turn_more start old new worker step of takes = record {
+  taken = takes.taken;
+  same_worker = takes.same_worker;
+  same_step = takes.same_step;
+  turn = takes.turn;
+  now = goes_further start old new worker step of takes;
+  same_opening = refl;
+  one_more = refl;
+}
 
 -- the world of a front of a schedule, and after one number more
 pub replays_further : (start : PlainStore) (ops : List Op) (assignment : Assignment) (schedule : List ℕ) (old new : PlainWorld) (worker : ℕ) (step : Step)
@@ -115,26 +140,36 @@ fewer_given (given ∷ answers) (suc place) missing = omega (arith, fewer_given 
 module _ (laws : RunLaws) where
   -- every moment of a run is sound
   pub sound_after : (start : PlainStore) (ops : List Op) (assignment : Assignment) (opening run : PlainRun) (history : List Taken) (entries : List Entry)
-      → MayBegin start ops assignment → AreAtStart start entries → IsOpeningRun start ops assignment opening → Follows opening history run → IsSoundRun entries run
-  sound_after start ops assignment opening run [] entries may_begin at_start is_opening follows =
-      subst (IsSoundRun entries) (sym follows) (laws.opening_run_is_sound start ops assignment opening entries may_begin at_start.ascending at_start.kept is_opening)
-  sound_after start ops assignment opening run (taken ∷ history) entries may_begin at_start is_opening follows =
-      laws.turn_keeps_sound_run entries follows.0 run taken (sound_after start ops assignment opening follows.0 history entries may_begin at_start is_opening follows.1) follows.2
+      → MayBegin start ops assignment → IsMapOf start entries → IsOpeningRun start ops assignment opening → Follows opening history run → IsSoundRun entries run
+  sound_after start ops assignment opening run [] entries may_begin is_map is_opening follows =
+      subst (IsSoundRun entries) (sym follows) (laws.opening_run_is_sound start ops assignment opening entries may_begin is_map.ascending is_map.kept is_opening)
+  sound_after start ops assignment opening run (taken ∷ history) entries may_begin is_map is_opening follows =
+      laws.turn_keeps_sound_run entries follows.0 run taken (sound_after start ops assignment opening follows.0 history entries may_begin is_map is_opening follows.1) follows.2
 
   -- each write of it is the writer's own
   writes_after : (start : PlainStore) (ops : List Op) (assignment : Assignment) (opening run : PlainRun) (history : List Taken) (entries : List Entry)
-      → MayBegin start ops assignment → AreAtStart start entries → IsOpeningRun start ops assignment opening → (follows : Follows opening history run)
+      → MayBegin start ops assignment → IsMapOf start entries → IsOpeningRun start ops assignment opening → (follows : Follows opening history run)
       → OnEachTurn WritesItsOwn opening history run follows
-  writes_after start ops assignment opening run [] entries may_begin at_start is_opening follows = tt
-  writes_after start ops assignment opening run (taken ∷ history) entries may_begin at_start is_opening follows = (
-    laws.writes_are_own entries follows.0 run taken (sound_after start ops assignment opening follows.0 history entries may_begin at_start is_opening follows.1) follows.2,
-    writes_after start ops assignment opening follows.0 history entries may_begin at_start is_opening follows.1,
+  writes_after start ops assignment opening run [] entries may_begin is_map is_opening follows = tt
+  writes_after start ops assignment opening run (taken ∷ history) entries may_begin is_map is_opening follows = (
+    laws.writes_are_own entries follows.0 run taken (sound_after start ops assignment opening follows.0 history entries may_begin is_map is_opening follows.1) follows.2,
+    writes_after start ops assignment opening follows.0 history entries may_begin is_map is_opening follows.1,
   )
 
-  module _ (start : PlainStore) (world : PlainWorld) (of : IsWorldOf start world) (entries : List Entry) (at_start : AreAtStart start entries) where
+  -- after each turn of it each key present is reached
+  reached_after : (start : PlainStore) (ops : List Op) (assignment : Assignment) (opening run : PlainRun) (history : List Taken) (entries : List Entry)
+      → MayBegin start ops assignment → IsMapOf start entries → IsOpeningRun start ops assignment opening → (follows : Follows opening history run)
+      → AfterEachTurn (ReachesPresent entries) opening history run follows
+  reached_after start ops assignment opening run [] entries may_begin is_map is_opening follows = tt
+  reached_after start ops assignment opening run (taken ∷ history) entries may_begin is_map is_opening follows = (
+    λ key pointer. laws.present_is_reached entries run key pointer (sound_after start ops assignment opening run (taken ∷ history) entries may_begin is_map is_opening follows),
+    reached_after start ops assignment opening follows.0 history entries may_begin is_map is_opening follows.1,
+  )
+
+  module _ (start : PlainStore) (world : PlainWorld) (of : IsWorldOf start world) (entries : List Entry) (is_map : IsMapOf start entries) where
     -- the moment of its run is sound
     pub sound_now : IsSoundRun entries world.run
-    sound_now = sound_after start world.run.ops world.run.assignment of.opening world.run of.history entries of.may_begin at_start of.is_opening of.follows
+    sound_now = sound_after start world.run.ops world.run.assignment of.opening world.run of.history entries of.may_begin is_map of.is_opening of.follows
 
     -- the lists of its run have their lengths
     pub shaped_with : IsShaped world.run
@@ -144,22 +179,36 @@ module _ (laws : RunLaws) where
     pub counts_with : CountsAreOf of.history world.run
     counts_with = laws.counts_are_kept start world.run.ops world.run.assignment of.opening world.run of.history of.is_opening of.follows
 
+    -- whatever map the tree kept at the start
+    sound_with : (others : List Entry) → IsMapOf start others → IsSoundRun others world.run
+    sound_with others are = sound_after start world.run.ops world.run.assignment of.opening world.run of.history others of.may_begin are of.is_opening of.follows
+
     -- what is promised of a world, from the entries at its start
     pub promises_with : KeepsItsPromises start world of
     promises_with =
         let sound = sound_now in
+        let ops : List Op = world.run.ops in
+        let assignment : Assignment = world.run.assignment in
         record {
-          tree = record { levels = sound.sound.0; lawful = sound.sound.1.lawful; latches = sound.sound.1.latches; placed = sound.sound.1.placed };
+          tree = sound_has_debts (moment_of world.run) sound.sound;
+          has_map = (map_now entries world.run, record { ascending = IsAscending-map_after_all entries (operations_at ops world.run.order) is_map.ascending; kept = sound.decided.kept });
           one_latch = laws.one_latch_each world.run;
-          writes_its_own = writes_after start world.run.ops world.run.assignment of.opening world.run of.history entries of.may_begin at_start of.is_opening of.follows;
-          decided = λ others others_at_start. (sound_after start world.run.ops world.run.assignment of.opening world.run of.history others of.may_begin others_at_start of.is_opening of.follows).decided;
-          reached = λ others key pointer others_at_start. laws.present_is_reached others world.run key pointer (sound_after start world.run.ops world.run.assignment of.opening world.run of.history others of.may_begin others_at_start of.is_opening of.follows);
+          writes_its_own = writes_after start ops assignment of.opening world.run of.history entries of.may_begin is_map of.is_opening of.follows;
+          decided = λ others are. (sound_with others are).decided;
+          reached = λ others are key pointer. laws.present_is_reached others world.run key pointer (sound_with others are);
+          reached_throughout = record {
+            at_first = λ others are key pointer. laws.present_is_reached others of.opening key pointer
+                (laws.opening_run_is_sound start ops assignment of.opening others of.may_begin are.ascending are.kept of.is_opening);
+            after_each = λ others are. reached_after start ops assignment of.opening world.run of.history others of.may_begin are of.is_opening of.follows;
+          };
           once = laws.each_is_decided_once entries world.run sound;
           lanes_in_order = λ worker. laws.fronts_are_decided entries world.run worker sound;
-          bounded = laws.history_is_bounded start world.run.ops world.run.assignment of.opening world.run of.history entries of.may_begin at_start.ascending at_start.kept of.is_opening of.follows;
-          short = laws.history_is_short start world.run.ops world.run.assignment of.opening world.run of.history entries of.may_begin at_start.ascending at_start.kept of.is_opening of.follows;
+          each_has_its_turn = λ worker. laws.each_has_its_turn entries world.run worker sound;
+          bounded = laws.history_is_bounded start ops assignment of.opening world.run of.history entries of.may_begin is_map.ascending is_map.kept of.is_opening of.follows;
+          short = laws.history_is_short start ops assignment of.opening world.run of.history entries of.may_begin is_map.ascending is_map.kept of.is_opening of.follows;
           ended = laws.ended_run_is_whole entries world.run sound;
-          ended_in_order = λ others others_at_start. laws.ended_run_is_answered others world.run (sound_after start world.run.ops world.run.assignment of.opening world.run of.history others of.may_begin others_at_start of.is_opening of.follows);
+          ended_in_order = λ others are. laws.ended_run_is_answered others world.run (sound_with others are);
+          one_thread = one_thread laws start world.run sound_with entries is_map;
         }
 
     -- an idle worker's next place is one of the batch
@@ -191,11 +240,11 @@ module _ (laws : RunLaws) where
           seated = omega (arith, shaped.a_seat_each);
           next_of_batch = λ place seat. next_within worker place seat;
           step_ready = λ place m next is_next. laws.turn_is_ready entries world.run worker place m next sound_now is_next
-              (laws.number_is_left start world.run.ops world.run.assignment of.opening world.run of.history entries worker place m next of.may_begin at_start.ascending at_start.kept of.is_opening of.follows is_next);
+              (laws.number_is_left start world.run.ops world.run.assignment of.opening world.run of.history entries worker place m next of.may_begin is_map.ascending is_map.kept of.is_opening of.follows is_next);
           place_of_batch = λ place m next is_next. let within = place_within worker place m next is_next in omega (arith, shaped.an_answer_each);
           room = λ place m next is_next unanswered.
               let fewer = fewer_given world.run.answers place (laws.next_is_unanswered entries world.run worker place m next sound_now is_next unanswered) in
-              omega (arith, sound_now.decided.room);
+              omega (arith, sound_now.as_many_decided);
           countable = λ place m next is_next.
               let within = place_within worker place m next is_next in (
                 count_within world.run.reads place (page_reads_in of.history place) (counts.reads place within) (counts.few_reads place) short,

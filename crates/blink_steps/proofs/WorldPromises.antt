@@ -1,5 +1,8 @@
 -- What is promised of every world, and that every worker's turn can be taken.
-use Rattle.std.proofs.Common.{ℕ, ◌+◌, ◌<◌, ◌^◌, List, Option, length}
+use Rattle.std.proofs.Common.{ℕ, ◌+◌, ◌<◌, ◌^◌, List, Option, length, sym, subst}
+use Rattle.blink_batch.specs.declared.Op.{Op}
+use Rattle.blink_batch.specs.Cut.{Assignment, IsLawfulCut}
+use Rattle.blink_steps.specs.Headline.{IsOneThread}
 use Rattle.blink_batch.specs.declared.Entry.{Entry}
 use Rattle.blink_store.specs.Store.{PlainStore}
 use Rattle.blink_steps.specs.Bounds.{IsShort}
@@ -7,7 +10,7 @@ use Rattle.blink_steps.specs.Machine.{PlainMachine}
 use Rattle.blink_steps.specs.Promises.{KeepsItsPromises}
 use Rattle.blink_steps.specs.Run.{IsNextOf}
 use Rattle.blink_steps.specs.SoundRun.{IsShaped, IsSoundRun, IsTurnReady}
-use Rattle.blink_steps.specs.World.{PlainWorld, IsWorldOf, IsWorld}
+use Rattle.blink_steps.specs.World.{PlainWorld, IsWorldOf, IsWorld, IsReplay, HasEnded}
 use Rattle.blink_steps.proofs.RunLaws.{run_laws}
 use Rattle.blink_steps.proofs.RunStatements.{CountsAreOf}
 use Rattle.blink_steps.proofs.StartEntries.{entries_at_start}
@@ -43,3 +46,11 @@ short start world of =
 pub place_of_next : (world : PlainWorld) → IsWorld world → (worker place : ℕ) (m : PlainMachine) (next : Option ℕ) → IsNextOf world.run worker place m next → place < length world.run.ops
 place_of_next world is worker place m next is_next =
     let found = entries_at_start is.0 is.1.may_begin.at_rest in place_within run_laws is.0 world is.1 found.0 found.1 worker place m next is_next
+
+-- a replayed world has the batch and the lanes that it was given
+pub replayed_one_thread : (start : PlainStore) (ops : List Op) (assignment : Assignment) (schedule : List ℕ) (world : PlainWorld) → IsReplay start ops assignment schedule world
+    → IsLawfulCut ops assignment.workers assignment.lanes → HasEnded world.run → IsOneThread start world.run
+replayed_one_thread start ops assignment schedule world is lawful =
+    (promises start world is.is_world).one_thread
+    (subst (λ (xs : List Op). IsLawfulCut xs world.run.assignment.workers world.run.assignment.lanes) (sym is.same_ops)
+    (subst (λ (a : Assignment). IsLawfulCut ops a.workers a.lanes) (sym is.same_assignment) lawful))

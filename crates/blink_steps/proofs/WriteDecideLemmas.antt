@@ -19,9 +19,10 @@ use Rattle.blink_steps.specs.Moment.{Moment, WritesOne}
 use Rattle.blink_steps.specs.Owned.{debt_of, debt_of_job, loose_of}
 use Rattle.blink_steps.specs.Placed.{IsAtWork, HasRead, HasHalved, AnsweredInJob}
 use Rattle.blink_steps.specs.Sound.{IsSoundWith}
-use Rattle.blink_steps.specs.SoundRun.{Keeps, pairs_of}
+use Rattle.blink_steps.specs.Decided.{Keeps}
+use Rattle.blink_steps.specs.TreeMap.{pairs_of}
 use Rattle.blink_steps.specs.Table.{Brings, IsChange, decided_with}
-use Rattle.blink_steps.specs.Tree.{Levels}
+use Rattle.blink_steps.specs.TreeWithDebts.{Levels}
 use Rattle.blink_steps.proofs.EntryMapLemmas.{added-pairs_of, removed-pairs_of}
 use Rattle.blink_steps.proofs.KeepsLemmas.{entries_are, pointer_in_leaf, keeps_by, decides_by, decides_nothing}
 use Rattle.blink_steps.proofs.ReadDecideLemmas.{target_on_leaf, unanswered_on_leaf}

@@ -15,7 +15,8 @@ use Rattle.blink_steps.specs.Owned.{debt_of, debt_of_job, loose_of}
 use Rattle.blink_steps.specs.Placed.{IsAtWork, HasRead, HasHalved}
 use Rattle.blink_steps.specs.Sound.{IsSoundWith}
 use Rattle.blink_steps.specs.Table.{IsChange, overfull}
-use Rattle.blink_steps.specs.Tree.{Levels, BeginsAt, IsHighKey}
+use Rattle.blink_steps.specs.TreeWithDebts.{Levels}
+use Rattle.blink_rest.specs.References.{BeginsAt, IsHighKey}
 use Rattle.blink_steps.proofs.KeepsLemmas.{keeps_entries}
 use Rattle.blink_steps.proofs.TreeStatements.{TreeLaws, LeadsBelow, IsToSplit}
 use Rattle.blink_steps.proofs.LatchedPageLemmas.{cell_of, value_fits, read_stands, read_of_level, change_replaces}
@@ -41,7 +42,7 @@ module _ (laws : TreeLaws) (moment : Moment) (levels : Levels) (sound : IsSoundW
   -- what a posting brings leads to a page of the level below
   pub posting_leads : (debt : Debt) → m.job ≡ Parent debt → LeadsBelow levels debt.level (entry_of m)
   posting_leads debt job =
-      let owed = sound.lawful.debts.is_debt worker m debt under (owes ∙ ap debt_of_job job) in
+      let owed = sound.lawful.debts.is_debt worker m debt (under, owes ∙ ap debt_of_job job) in
       let key : debt.separator ≡ target m = sym (ap (key_of_job m.op) job) in
       let value : debt.page ≡ value_of_job m.op m.job = sym (ap (value_of_job m.op) job) in
       record {

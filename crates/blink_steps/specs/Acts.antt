@@ -14,7 +14,7 @@ use Rattle.blink_steps.specs.declared.step.Step.{Step}
 use Rattle.blink_steps.specs.declared.step.Step.TheVariants.{Moved, Waited, Idle}
 use Rattle.blink_steps.specs.Kinds.{read_page, read_prime, latch, unlatch, write_page, write_prime}
 use Rattle.blink_steps.specs.Machine.{PlainMachine, need_at, level_read, target}
-use Rattle.blink_steps.specs.Table.{SeesPrime, WaitsForLevel, SeesPage, IsTopLeftmost, page_out, done, PrimeOut}
+use Rattle.blink_steps.specs.Table.{SeesPrime, WaitsForLevel, SeesPage, page_out, done, PrimeOut}
 
 -- the store, and the page whose latch each worker holds
 pub record PlainShared : Type 0 where
@@ -77,7 +77,7 @@ pub record MayRead (store : PlainStore) (number : ℕ) (m : PlainMachine) : Type
 
 -- what a step needs of the store and the latches, for each need
 abbrev pub IsReadyOn : Need → PlainShared → ℕ → PlainMachine → Type 0
-IsReadyOn ReadPrime shared worker m = (length shared.store.prime < LEVELS) × ((level page : ℕ) → IsTopLeftmost shared.store.prime level page → IsPageNumber page)
+IsReadyOn ReadPrime shared worker m = length shared.store.prime < LEVELS
 IsReadyOn (ReadPage number) shared worker m = MayRead shared.store number m
 IsReadyOn (Latch number) shared worker m = (worker < WORKERS) × HoldsNone shared.latches worker
 IsReadyOn WriteNew shared worker m =

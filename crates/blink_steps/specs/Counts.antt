@@ -1,5 +1,5 @@
 -- How often the operations of a history took new page numbers, wrote pages and the prime block, read pages, and moved.
-use Rattle.std.specs.Prelude.{ℕ, ◌+◌, ◌*◌, ◌≤◌, ◌==◌, nat_lt, ◌&&◌, Bool, true, false, List, length, count_by}
+use Rattle.std.specs.Prelude.{◌≡◌, ℕ, ◌+◌, ◌*◌, ◌≤◌, ◌==◌, nat_lt, ◌&&◌, Bool, true, false, List, length, count_by}
 use Rattle.std.specs.List.{zip}
 use Rattle.blink_batch.specs.declared.Op.{Op}
 use Rattle.blink_batch.specs.Batch.{is_insert}
@@ -36,6 +36,12 @@ moved_by of_kind Idle = false
 
 abbrev pub has_moved : Step → Bool
 has_moved step = moved_by (λ kind. true) step
+
+abbrev pub HasMoved : Step → Type 0
+HasMoved step = has_moved step ≡ true
+
+abbrev pub HasWaited : Step → Type 0
+HasWaited step = step ≡ Waited
 
 -- how many turns of the operation at a place, of such a kind, there are in a history
 abbrev pub turns_of : ℕ → (Taken → Bool) → List Taken → ℕ

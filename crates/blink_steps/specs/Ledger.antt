@@ -1,5 +1,5 @@
 -- What is decided in a run, and how far each operation has come.
-use Rattle.std.specs.Prelude.{ℕ, ◌+◌, Bool, true, false, if◌then◌else◌, Option, Some, None, List, [], ◌∷◌, ◌++◌, slice_set, slice_index_or}
+use Rattle.std.specs.Prelude.{ℕ, ◌+◌, Bool, true, false, if◌then◌else◌, Option, Some, None, List, [], ◌∷◌, ◌++◌, replicate, slice_set, slice_index_or}
 use Rattle.blink_batch.specs.declared.Answer.{Answer}
 use Rattle.blink_steps.specs.declared.step.Kind.{Kind}
 use Rattle.blink_steps.specs.Kinds.{is_page_read}
@@ -12,6 +12,10 @@ pub record PlainLedger : Type 0 where
   -- of each operation, how many pages it has read, and how many steps it has taken
   pub reads : List ℕ
   pub moves : List ℕ
+
+-- the ledger of so many operations before any step
+abbrev pub empty_ledger : ℕ → PlainLedger
+empty_ledger places = record { answers = replicate places None; order = []; reads = replicate places 0; moves = replicate places 0 }
 
 -- the operation has its answer since this step
 abbrev pub decides_now : Option Answer → Option Answer → Bool

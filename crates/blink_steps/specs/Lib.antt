@@ -2,8 +2,9 @@ pub mod Machine
 pub mod Table
 pub mod Needs
 pub mod Moment
-pub mod Tree
 pub mod Owned
+pub mod TreeWithDebts
+pub mod Tree
 pub mod Placed
 pub mod Kept
 pub mod MachineView
@@ -16,10 +17,13 @@ pub mod Links
 pub mod Run
 pub mod Seats
 pub mod RunView
+pub mod TreeMap
+pub mod Decided
 pub mod SoundRun
 pub mod Counts
 pub mod Bounds
 pub mod World
-pub mod Promises
 pub mod Headline
+pub mod Promises
 pub mod Pick
+pub mod Laws

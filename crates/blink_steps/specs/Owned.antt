@@ -1,6 +1,5 @@
 -- What an operation has for itself: a latch, a debt, a new page that is in no chain yet, and a top level that it splits.
-use Rattle.std.specs.Prelude.{◌≡◌, ℕ, ◌+◌, ◌≤◌, ◌⊎◌, Option, Some, None, length, slice_get}
-use Rattle.blink_page.specs.Page.{PlainPage}
+use Rattle.std.specs.Prelude.{◌≡◌, ℕ, Option, Some, None}
 use Rattle.blink_steps.specs.declared.machine.Debt.{Debt}
 use Rattle.blink_steps.specs.declared.machine.Job.{Job}
 use Rattle.blink_steps.specs.declared.machine.Job.TheVariants.{Leaf, Parent}
@@ -10,7 +9,6 @@ use Rattle.blink_steps.specs.declared.machine.State.{State}
 use Rattle.blink_steps.specs.declared.machine.State.TheVariants.{Start, Going, Want, Held, Change, SplitNew, SplitOld, AskPrime, Root, NewPrime, Leave, Posting, Ended}
 use Rattle.blink_steps.specs.Machine.{PlainMachine}
 use Rattle.blink_steps.specs.Moment.{Moment}
-use Rattle.blink_steps.specs.Tree.{Levels, IsDebt, BeginsAt, IsInChain}
 
 -- the page whose latch it holds
 abbrev pub latch_at : State → Option ℕ
@@ -97,50 +95,6 @@ split_at Ended = None
 
 abbrev pub split_of : PlainMachine → Option ℕ
 split_of m = split_at m.state
-
--- an operation owes a debt of the level with this separator
-pub record IsOwed (moment : Moment) (level separator : ℕ) : Type 0 where
-  pub worker : ℕ
-  pub m : PlainMachine
-  pub under_way : moment.machines worker ≡ Some m
-  pub debt : Debt
-  pub owes : debt_of m ≡ Some debt
-  pub same_level : debt.level ≡ level
-  pub same_separator : debt.separator ≡ separator
-
--- each debt is owed by exactly one operation, together with the page that it leads to; and operations owe nothing else
-pub record DebtsAreOwed (moment : Moment) (levels : Levels) : Type 0 where
-  pub owed : (level separator : ℕ) → IsDebt levels level separator → IsOwed moment level separator
-  pub is_debt : (worker : ℕ) (m : PlainMachine) (debt : Debt) → moment.machines worker ≡ Some m → debt_of m ≡ Some debt
-      → IsDebt levels debt.level debt.separator × BeginsAt (levels debt.level) debt.page (Some debt.separator)
-  pub by_one : (worker other : ℕ) (m n : PlainMachine) (debt owing : Debt) → moment.machines worker ≡ Some m → moment.machines other ≡ Some n
-      → debt_of m ≡ Some debt → debt_of n ≡ Some owing → debt.level ≡ owing.level → debt.separator ≡ owing.separator → worker ≡ other
-
--- an operation has written the page of this number, which is in no chain yet
-pub record IsLoose (moment : Moment) (number : ℕ) : Type 0 where
-  pub worker : ℕ
-  pub m : PlainMachine
-  pub under_way : moment.machines worker ≡ Some m
-  pub loose : loose_of m ≡ Some number
-
--- each page is in a chain or is the new page of one operation, and of one alone
-pub record PagesArePlaced (moment : Moment) (levels : Levels) : Type 0 where
-  pub placed : (number : ℕ) (page : PlainPage) → moment.pages number ≡ Some page → IsInChain levels number ⊎ IsLoose moment number
-  pub in_no_chain : (worker number : ℕ) (m : PlainMachine) → moment.machines worker ≡ Some m → loose_of m ≡ Some number → ¬ IsInChain levels number
-  pub of_one : (worker other number : ℕ) (m n : PlainMachine) → moment.machines worker ≡ Some m → moment.machines other ≡ Some n
-      → loose_of m ≡ Some number → loose_of n ≡ Some number → worker ≡ other
-
--- an operation has split the page, and has asked no prime block since, or is making a new root
-pub record IsSplitBy (moment : Moment) (page : ℕ) : Type 0 where
-  pub worker : ℕ
-  pub m : PlainMachine
-  pub under_way : moment.machines worker ≡ Some m
-  pub split : split_of m ≡ Some page
-
--- where the top level has more than one page, its leftmost page is split by an operation that still has its latch
-abbrev pub TopIsGrowing : Moment → Levels → Type 0
-TopIsGrowing moment levels = (level leftmost : ℕ) → length moment.prime ≡ level + 1 → slice_get moment.prime level ≡ Some leftmost
-    → 2 ≤ length (levels level) → IsSplitBy moment leftmost
 
 -- a worker holds the latches that its operation's state says, and no others
 pub record LatchesAreHeld (moment : Moment) : Type 0 where

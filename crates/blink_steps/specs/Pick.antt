@@ -1,11 +1,11 @@
 -- Which workers are idle, which wait, whose turn is picked, and a run that goes on by picked turns alone.
-use Rattle.std.specs.Prelude.{◌≡◌, ◌≢◌, ℕ, ◌+◌, ◌-◌, ◌*◌, ◌<◌, Option, None, Some, List, ◌++◌, length, map, reverse, slice_get, sum}
+use Rattle.std.specs.Prelude.{◌≡◌, ℕ, ◌+◌, ◌-◌, ◌*◌, ◌<◌, Option, Some, List, ◌++◌, length, map, reverse, slice_get, sum}
 use Rattle.blink_page.specs.declared.limits.TheConstants.{MAX_PAGE}
 use Rattle.blink_steps.specs.declared.step.Step.TheVariants.{Waited}
 use Rattle.blink_steps.specs.Acts.{Acts}
 use Rattle.blink_steps.specs.Machine.{PlainMachine}
 use Rattle.blink_steps.specs.Run.{PlainRun, Taken, Follows, IsNextOf, idle_seat}
-use Rattle.blink_steps.specs.World.{PlainWorld, OnEachTurn}
+use Rattle.blink_steps.specs.World.{PlainWorld, IsAtLanesEnd, OnEachTurn}
 
 -- the worker has no operation that is begun and not ended
 pub record IsIdleWorker (run : PlainRun) (worker : ℕ) : Type 0 where
@@ -23,7 +23,7 @@ pub record WouldWait (run : PlainRun) (worker : ℕ) : Type 0 where
 -- the worker's next turn would be a step: it neither waits nor has its lane at its end
 pub record WouldMove (run : PlainRun) (worker : ℕ) : Type 0 where
   pub not_waiting : ¬ WouldWait run worker
-  pub not_at_end : slice_get run.seats worker ≢ Some (idle_seat None)
+  pub not_at_end : ¬ IsAtLanesEnd run worker
 
 -- the worker would move, and none of a smaller number would
 pub record IsFirstMover (run : PlainRun) (worker : ℕ) : Type 0 where

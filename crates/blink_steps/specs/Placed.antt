@@ -19,7 +19,8 @@ use Rattle.blink_steps.specs.declared.machine.State.TheVariants.{Start, Going, W
 use Rattle.blink_steps.specs.Machine.{PlainMachine, target, level_of}
 use Rattle.blink_steps.specs.Moment.{Moment}
 use Rattle.blink_steps.specs.Table.{Brings, IsChange, IsFullFor, IsTopLeftmost, overfull, debt_of_split}
-use Rattle.blink_steps.specs.Tree.{Levels, BeginsBelow}
+use Rattle.blink_steps.specs.Tree.{BeginsBelow}
+use Rattle.blink_steps.specs.TreeWithDebts.{Levels}
 
 -- the remembered pages, one a level from this one up: each is in its level's chain, and their floors do not rise from a
 -- level to the next; none begins above `least`

@@ -103,6 +103,10 @@ pub data TakesTurn (old : PlainRun) (taken : Taken) (new : PlainRun) : Type 0 wh
       → Acts old.shared taken.worker taken.before Waited taken.after old.shared → new ≡ old → TakesTurn old taken new
   idles : slice_get old.seats taken.worker ≡ Some (idle_seat None) → taken.step ≡ Idle → new ≡ old → TakesTurn old taken new
 
+-- the worker takes a turn, of which this becomes
+abbrev pub TakesSomeTurn : PlainRun → ℕ → Step → PlainRun → Type 0
+TakesSomeTurn old worker step new = (taken : Taken) × (taken.worker ≡ worker) × (taken.step ≡ step) × TakesTurn old taken new
+
 -- turns taken one after another, the last first, lead from one moment of a run to another
 abbrev pub Follows : PlainRun → List Taken → PlainRun → Type 0
 Follows start [] run = run ≡ start

@@ -4,11 +4,12 @@ use Rattle.blink_page.specs.Limits.{IsFan, IsPageNumber}
 use Rattle.blink_page.specs.Page.{PlainPage}
 use Rattle.blink_steps.specs.Machine.{PlainMachine}
 use Rattle.blink_steps.specs.Moment.{Moment}
-use Rattle.blink_steps.specs.Owned.{DebtsAreOwed, PagesArePlaced, TopIsGrowing, LatchesAreHeld}
+use Rattle.blink_steps.specs.Owned.{LatchesAreHeld}
+use Rattle.blink_steps.specs.TreeWithDebts.{DebtsAreOwed, PagesArePlaced, TopIsGrowing, Levels}
 use Rattle.blink_steps.specs.Placed.{IsPlaced}
-use Rattle.blink_steps.specs.Tree.{Levels, IsTree}
+use Rattle.blink_steps.specs.Tree.{IsTree}
 
--- a lawful tree with debts
+-- what is so of the tree, of which with what is so of each operation follows that it is a lawful tree with debts
 pub record IsLawfulTree (moment : Moment) (levels : Levels) : Type 0 where
   pub tree : IsTree moment.fan moment.prime moment.pages levels
   pub debts : DebtsAreOwed moment levels

@@ -1,37 +1,22 @@
 -- What is so at every moment of a run.
-use Rattle.std.specs.Prelude.{◌≡◌, ◌≢◌, ℕ, ◌+◌, ◌<◌, Bool, true, false, Option, Some, None, List, length, map, All, Contains, count_by, slice_get, slice_index_or, take, ◌^◌}
-use Rattle.std.specs.List.{zip}
+use Rattle.std.specs.Prelude.{◌≡◌, ◌≢◌, ℕ, ◌+◌, ◌<◌, Bool, true, false, Option, Some, None, List, length, All, count_by, slice_get, slice_index_or, take, ◌^◌}
 use Rattle.blink_batch.specs.declared.Answer.{Answer}
 use Rattle.blink_batch.specs.declared.Entry.{Entry}
-use Rattle.blink_batch.specs.declared.Op.{Op}
 use Rattle.blink_batch.specs.Batch.{FitsWords}
 use Rattle.blink_batch.specs.Cut.{AreLanes}
-use Rattle.blink_batch.specs.Operation.{answers, map_after_all}
-use Rattle.blink_batch.specs.Order.{operations_at, part_of, places_from, next_place}
+use Rattle.blink_batch.specs.Order.{part_of, places_from, next_place}
 use Rattle.blink_batch.specs.PlainMap.{IsAscending}
-use Rattle.blink_rest.specs.Entries.{AreEntries}
 use Rattle.blink_store.specs.Store.{IsLawfulStore}
 use Rattle.blink_steps.specs.declared.machine.State.TheVariants.{Ended}
 use Rattle.blink_steps.specs.declared.seat.Seat.{Seat}
 use Rattle.blink_steps.specs.declared.seat.Working.{Working}
 use Rattle.blink_steps.specs.Acts.{IsReady}
+use Rattle.blink_steps.specs.Decided.{IsDecided}
 use Rattle.blink_steps.specs.Machine.{PlainMachine}
-use Rattle.blink_steps.specs.Moment.{Moment}
 use Rattle.blink_steps.specs.Run.{PlainRun, IsNextOf, idle_seat, moment_of}
 use Rattle.blink_steps.specs.Sound.{IsSound}
 
--- the entries of a plain map as a tree keeps them
-abbrev pub pairs_of : List Entry → List (ℕ × ℕ)
-pairs_of entries = map (λ (e : Entry). (e.key, e.pointer)) entries
-
--- the tree keeps the entries of this map
-abbrev pub Keeps : Moment → List Entry → Type 0
-Keeps moment entries = AreEntries moment.fan moment.prime moment.pages (pairs_of entries)
-
--- the answers so far are those of a run in the given order on a map, each at its operation's place
-abbrev pub AnswersSoFar : List Entry → List Op → List ℕ → List (Option Answer) → Type 0
-AnswersSoFar entries ops order given = All (λ decided. slice_get given decided.0 ≡ Some (Some decided.1)) (zip order (answers entries (operations_at ops order)))
-
+-- the operation has its answer
 abbrev pub is_answered : Option Answer → Bool
 is_answered None = false
 is_answered (Some answer) = true
@@ -75,19 +60,12 @@ pub record IsShaped (run : PlainRun) : Type 0 where
   pub a_read_count_each : length run.reads ≡ length run.ops
   pub a_move_count_each : length run.moves ≡ length run.ops
 
--- what is decided is the run of the operations on the entries at the start, in the order of their deciding steps
-pub record IsDecided (entries : List Entry) (run : PlainRun) : Type 0 where
-  pub places_of_batch : All (λ place. place < length run.ops) run.order
-  pub answered : AnswersSoFar entries run.ops run.order run.answers
-  pub undecided : (place : ℕ) → place < length run.ops → ¬ Contains run.order place → slice_get run.answers place ≡ Some None
-  pub room : count_by is_answered run.answers ≡ length run.order
-  pub kept : Keeps (moment_of run) (map_after_all entries (operations_at run.ops run.order))
-
 pub record IsSoundRun (entries : List Entry) (run : PlainRun) : Type 0 where
   pub sound : IsSound (moment_of run)
   pub shaped : IsShaped run
   pub ascending : IsAscending entries
   pub decided : IsDecided entries run
+  pub as_many_decided : count_by is_answered run.answers ≡ length run.order
   pub seats : (worker : ℕ) (seat : Seat) → slice_get run.seats worker ≡ Some seat → IsSoundSeat run worker seat.working seat.next
 
 -- a worker's turn can be taken

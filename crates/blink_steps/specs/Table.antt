@@ -137,6 +137,10 @@ leaves_for m Finish = at_state m Ended
 leaves_for m (MoveRight page) = at_state m (Want page)
 leaves_for m (Post debt) = sets_out m debt m.remembered
 
+-- the operation between the two writes of a split: the upper half has this number, and the lower one is to be written
+abbrev pub halved : PlainMachine → ℕ → PlainPage → ℕ → PlainMachine
+halved m page before new = at_state m (SplitOld page (lower_half m.fan new before (overfull m before)) (debt_of_split m before new))
+
 -- the operation after a latch that was got, a write or an unlatch; `new` is the number of a new page
 abbrev pub done_at : PlainMachine → State → ℕ → PlainMachine
 done_at m Start new = m
@@ -144,7 +148,7 @@ done_at m (Going page level) new = m
 done_at m (Want page) new = at_state m (Held page)
 done_at m (Held page) new = m
 done_at m (Change page changed kept) new = decided_with m m.job (Leave page Finish) kept
-done_at m (SplitNew page before) new = at_state m (SplitOld page (lower_half m.fan new before (overfull m before)) (debt_of_split m before new))
+done_at m (SplitNew page before) new = halved m page before new
 done_at m (SplitOld page lower debt) new = decided_with m m.job (AskPrime page debt) None
 done_at m (AskPrime page debt) new = m
 done_at m (Root page debt prime) new = at_state m (NewPrime page debt new prime)

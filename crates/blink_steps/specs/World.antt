@@ -64,6 +64,33 @@ pub record TakesStep (old : PlainWorld) (worker : ℕ) (step : Step) (new : Plai
   pub turn : TakesTurn old.run taken new.run
   pub told : new.schedule ≡ old.schedule ++ worker ∷ []
 
+-- the world has one turn more: its history is the old one with this turn in front
+pub record HasTurnMore (start : PlainStore) (old : PlainWorld) (of : IsWorldOf start old) (worker : ℕ) (step : Step) (new : PlainWorld) : Type 0 where
+  pub taken : Taken
+  pub same_worker : taken.worker ≡ worker
+  pub same_step : taken.step ≡ step
+  pub turn : TakesTurn old.run taken new.run
+  pub now : IsWorldOf start new
+  pub same_opening : now.opening ≡ of.opening
+  pub one_more : now.history ≡ taken ∷ of.history
+
+-- it goes on by such a turn, over whatever tree it began
+abbrev pub GoesOnBy : PlainWorld → ℕ → Step → PlainWorld → Type 0
+GoesOnBy old worker step new = (start : PlainStore) (of : IsWorldOf start old) → HasTurnMore start old of worker step new
+
+-- it goes on over whatever tree it began
+abbrev pub KeepsItsStart : PlainWorld → PlainWorld → Type 0
+KeepsItsStart old new = (start : PlainStore) → IsWorldOf start old → IsWorldOf start new
+
+-- the fact of its history, over whatever tree it began
+abbrev pub InItsHistory : PlainWorld → (List Taken → Type 0) → Type 0
+InItsHistory world fact = (start : PlainStore) (of : IsWorldOf start world) → fact of.history
+
+-- the batch and its lanes are as before
+pub record SameBatch (old new : PlainRun) : Type 0 where
+  pub same_ops : new.ops ≡ old.ops
+  pub same_assignment : new.assignment ≡ old.assignment
+
 -- only the schedule is another
 abbrev pub with_turn : PlainWorld → ℕ → PlainWorld
 with_turn world worker = record world { schedule = world.schedule ++ worker ∷ [] }
@@ -80,14 +107,22 @@ pub record IsFirstStranger (workers : ℕ) (schedule : List ℕ) (stranger : ℕ
   pub no_worker : workers ≤ stranger
   pub workers_before : All (λ worker. worker < workers) front
 
--- every operation has ended: each worker is idle, with its lane at its end
+-- the worker is idle, with its lane at its end
+abbrev pub IsAtLanesEnd : PlainRun → ℕ → Type 0
+IsAtLanesEnd run worker = slice_get run.seats worker ≡ Some (idle_seat None)
+
+-- every operation has ended: each worker is at its lane's end
 abbrev pub HasEnded : PlainRun → Type 0
-HasEnded run = (worker : ℕ) → worker < run.assignment.workers → slice_get run.seats worker ≡ Some (idle_seat None)
+HasEnded run = (worker : ℕ) → worker < run.assignment.workers → IsAtLanesEnd run worker
 
 -- what is so of each turn of a history
 abbrev pub OnEachTurn : (PlainRun → Taken → PlainRun → Type 0) → (start : PlainRun) (history : List Taken) (run : PlainRun) → Follows start history run → Type 0
 OnEachTurn fact start [] run follows = ⊤
 OnEachTurn fact start (taken ∷ history) run follows = fact follows.0 taken run × OnEachTurn fact start history follows.0 follows.1
+
+-- what is so of the run after each turn of a history
+abbrev pub AfterEachTurn : (PlainRun → Type 0) → (start : PlainRun) (history : List Taken) (run : PlainRun) → Follows start history run → Type 0
+AfterEachTurn fact start history run follows = OnEachTurn (λ (before : PlainRun) (taken : Taken) (after : PlainRun). fact after) start history run follows
 
 -- a page is written only by the worker that holds its latch, or at a number that no page has
 abbrev pub WritesItsOwn : PlainRun → Taken → PlainRun → Type 0

@@ -1,6 +1,6 @@
 //! What is decided in a run, and how far each operation has come.
-ghost use Rattle.std.specs.Prelude.{◌≡◌, ◌<◌, true, None, [], replicate, length, slice_index_or, IfOk};
-ghost use Rattle.blink_steps.specs.Ledger.{decides_now, noted};
+ghost use Rattle.std.specs.Prelude.{◌≡◌, ◌<◌, true, length, slice_index_or, IfOk};
+ghost use Rattle.blink_steps.specs.Ledger.{decides_now, empty_ledger, noted};
 
 use crate::step::Kind;
 use blink_batch::Answer;
@@ -32,7 +32,7 @@ impl Model for Ledger {
 impl Ledger {
     /// The ledger of so many operations before any step.
     pub(crate) fn new(alloc: Global, places: usize) -> Result<Ledger, AllocError>
-        ensures { IfOk result (λ ledger. ledger ≡ record { answers = replicate places None; order = []; reads = replicate places 0; moves = replicate places 0 }) }
+        ensures { IfOk result (λ ledger. ledger ≡ empty_ledger places) }
     {
         Ok(Ledger {
             answers: vec![in alloc; None; places]?,
@@ -51,7 +51,8 @@ impl Ledger {
         after: Option<Answer>,
     )
         requires place { place < length self.old.answers }
-        requires room { decides_now before after ≡ true → length self.old.order < length self.old.answers }
+        requires room { decides_now before after ≡ true
+            → length self.old.order < length self.old.answers }
         requires reads { slice_index_or self.old.reads place 0 < u64.MAX }
         requires moves { slice_index_or self.old.moves place 0 < u64.MAX }
         ensures { self.new ≡ noted self.old place kind before after }

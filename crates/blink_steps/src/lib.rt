@@ -3,6 +3,7 @@
 #![tactic(auto)]
 
 mod error;
+mod laws;
 mod ledger;
 mod links;
 mod machine;
@@ -16,5 +17,6 @@ mod tests;
 mod world;
 
 pub use error::StepError;
+pub use laws::{reads_have_one_result, reads_have_results, turns_are_steps};
 pub use step::{Kind, Step};
-pub use world::{NUMBERS_OF_INSERTION, World, replay};
+pub use world::{NUMBERS_OF_INSERTION, World, is_too_large, replay};

@@ -40,7 +40,9 @@ impl Remembered {
 
     /// Forgets the page of the lowest level, to go there.
     pub(crate) fn pop(&mut self) -> Option<u32>
-        ensures { MatchOption result ((self.old ≡ []) × (self.new ≡ [])) (λ page. self.old ≡ page ∷ self.new) }
+        ensures { MatchOption result
+            ((self.old ≡ []) × (self.new ≡ []))
+            (λ page. self.old ≡ page ∷ self.new) }
     {
         self.pages.pop()
     }

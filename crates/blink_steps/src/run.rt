@@ -1,7 +1,7 @@
 //! A batch's run over a tree, turn by turn.
 ghost use Rattle.std.specs.Prelude.{◌≡◌, ◌↔◌, ◌+◌, ◌<◌, ℕ, Some, length, slice_get, IsTrue, IsNone, IfOk, IfSome, OnErr, IsOkUnless};
 ghost use Rattle.blink_steps.specs.Pick.{IsFirstMover, IsIdleWorker, WouldMove, WouldWait};
-ghost use Rattle.blink_steps.specs.Run.{Taken, TakesTurn, IsOpeningRun, idle_seat};
+ghost use Rattle.blink_steps.specs.Run.{TakesSomeTurn, IsOpeningRun, idle_seat};
 ghost use Rattle.blink_steps.specs.Seats.{IsBusyWorker};
 ghost use Rattle.blink_steps.specs.SoundRun.{IsTurnReady};
 ghost use Rattle.blink_steps.specs.World.{HasEnded};
@@ -81,7 +81,7 @@ impl Run {
     /// lane's end, nothing. A refusal of memory changes nothing.
     pub(crate) fn turn(&mut self, worker: u8) -> Result<Step, StepError>
         requires { IsTurnReady self.old worker }
-        ensures turn { IfOk result (λ step. (taken : Taken) × (taken.worker ≡ worker) × (taken.step ≡ step) × TakesTurn self.old taken self.new) }
+        ensures turn { IfOk result (λ step. TakesSomeTurn self.old worker step self.new) }
         ensures refused { IsOkUnless result StepError.OutOfMemory }
         ensures unchanged { OnErr result (self.new ≡ self.old) }
     {
@@ -99,7 +99,7 @@ impl Run {
     fn go_on(&mut self, worker: u8) -> Result<Step, StepError>
         requires ready { IsTurnReady self.old worker }
         requires busy { IsBusyWorker self.old worker }
-        ensures turn { IfOk result (λ step. (taken : Taken) × (taken.worker ≡ worker) × (taken.step ≡ step) × TakesTurn self.old taken self.new) }
+        ensures turn { IfOk result (λ step. TakesSomeTurn self.old worker step self.new) }
         ensures refused { IsOkUnless result StepError.OutOfMemory }
         ensures unchanged { OnErr result (self.new ≡ self.old) }
     {
@@ -123,7 +123,7 @@ impl Run {
     fn begin(&mut self, worker: u8, place: u32) -> Result<Step, StepError>
         requires ready { IsTurnReady self.old worker }
         requires idle { slice_get self.old.seats worker ≡ Some (idle_seat (Some place)) }
-        ensures turn { IfOk result (λ step. (taken : Taken) × (taken.worker ≡ worker) × (taken.step ≡ step) × TakesTurn self.old taken self.new) }
+        ensures turn { IfOk result (λ step. TakesSomeTurn self.old worker step self.new) }
         ensures refused { IsOkUnless result StepError.OutOfMemory }
         ensures unchanged { OnErr result (self.new ≡ self.old) }
     {
@@ -186,7 +186,8 @@ impl Run {
     /// The smallest worker whose next turn would be a step.
     pub(crate) fn pick(&self) -> Option<u8>
         requires { length self.now.seats ≡ self.now.assignment.workers }
-        ensures none { IsNone result → (worker : ℕ) → worker < self.now.assignment.workers → ¬ WouldMove self.now worker }
+        ensures none { IsNone result
+            → (worker : ℕ) → worker < self.now.assignment.workers → ¬ WouldMove self.now worker }
         ensures first { IfSome result (λ worker. IsFirstMover self.now worker) }
     {
         for worker in 0..self.workers() {

@@ -40,7 +40,8 @@ impl Shared {
     /// Does what the worker's operation needs next, or waits. A refusal of memory changes nothing.
     pub(crate) fn act(&mut self, worker: u8, machine: &mut Machine) -> Result<Step, StepError>
         requires { IsReady self.old worker machine.old }
-        ensures step { IfOk result (λ step. Acts self.old worker machine.old step machine.new self.new) }
+        ensures step { IfOk result
+            (λ step. Acts self.old worker machine.old step machine.new self.new) }
         ensures refused { IsOkUnless result StepError.OutOfMemory }
         ensures machine_unchanged { OnErr result (machine.new ≡ machine.old) }
         ensures unchanged { OnErr result (self.new ≡ self.old) }
@@ -91,7 +92,8 @@ impl Shared {
 
     /// Whether the operation's next step would be a wait, whichever worker's it is.
     pub(crate) fn waits(&self, machine: &Machine) -> bool
-        ensures { (worker : ℕ) → (IsTrue result ↔ Acts self.now worker machine.now Step.Waited machine.now self.now) }
+        ensures { (worker : ℕ)
+            → (IsTrue result ↔ Acts self.now worker machine.now Step.Waited machine.now self.now) }
     {
         match machine.need() {
             Need::ReadPrime => machine.waits_for_level(self.store.prime()),
@@ -106,7 +108,8 @@ impl Shared {
         requires room { length self.old.store.pages < MAX_PAGE }
         requires at_most_fan { length (page_out machine.now (length self.old.store.pages + 1)).entries ≤ self.old.store.fan }
         ensures number { IfOk result (λ number. number ≡ length self.old.store.pages + 1) }
-        ensures written { IfOk result (λ number. WritesPage self.old.store self.new.store number (page_out machine.now number)) }
+        ensures written { IfOk result
+            (λ number. WritesPage self.old.store self.new.store number (page_out machine.now number)) }
         ensures count { IfOk result (λ number. length self.new.store.pages ≡ number) }
         ensures latches { self.new.latches ≡ self.old.latches }
         ensures refused { IsOkUnless result StepError.OutOfMemory }

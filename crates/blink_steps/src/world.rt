@@ -1,12 +1,10 @@
 //! The world of a schedule: a run over a tree, and the worker of each turn so far.
-ghost use Rattle.std.specs.Prelude.{◌≡◌, ◌≤◌, ◌<◌, ◌↔◌, ◌⊎◌, ℕ, length, Some, Ok, IfOk, IfErr, IfSome, IsNone, OnErr, OnOk, IsErrOf, IsOk, IsOkUnless, All, IsTrue};
-ghost use Rattle.blink_batch.specs.Cut.{IsLawfulCut};
-ghost use Rattle.blink_store.specs.Store.{PlainStore};
-ghost use Rattle.blink_steps.specs.Counts.{has_moved, moves_in, page_reads_in};
-ghost use Rattle.blink_steps.specs.Headline.{IsOneThread, IsReachedThroughout};
+ghost use Rattle.std.specs.Prelude.{◌≡◌, ◌≤◌, ◌<◌, ◌↔◌, ◌⊎◌, length, Ok, IfOk, IfErr, IfSome, IsNone, OnErr, OnOk, IsErrOf, IsOk, IsOkUnless, All, IsTrue};
+ghost use Rattle.blink_steps.specs.Counts.{HasMoved, HasWaited, moves_in, page_reads_in};
+ghost use Rattle.blink_steps.specs.Headline.{EndsAsOneThread};
 ghost use Rattle.blink_steps.specs.Pick.{GoesOnPicked, IsFirstMover, IsIdleWorker, WouldMove, WouldWait, steps_left};
-ghost use Rattle.blink_steps.specs.Promises.{KeepsItsPromises};
-ghost use Rattle.blink_steps.specs.World.{HasEnded, IsReplay, IsReplayRefusal, IsStart, IsStepRefusal, IsTooLarge, IsWorldOf, TakesStep, with_turn};
+ghost use Rattle.blink_steps.specs.Promises.{IsPromised};
+ghost use Rattle.blink_steps.specs.World.{GoesOnBy, HasEnded, InItsHistory, IsReplay, IsReplayRefusal, IsStart, IsStepRefusal, IsTooLarge, KeepsItsStart, SameBatch, TakesStep, with_turn};
 
 use crate::error::StepError;
 use crate::run::Run;
@@ -17,7 +15,8 @@ use blink_rest::Rest;
 use std::alloc::Global;
 use std::marker::Model;
 
-/// How many page numbers an insertion takes at most: one for each level that it splits, and one for a new root.
+/// A bound on the page numbers that an insertion takes: one for each page that it splits, and one for a new root. Where 20 levels
+/// are named these are 21; the promise is 22.
 pub const NUMBERS_OF_INSERTION: u64 = 22;
 
 /// A batch's run over a tree at rest, up to some moment: one turn for each number of its schedule.
@@ -48,14 +47,15 @@ impl World {
     pub fn start(alloc: Global, rest: Rest, batch: Batch, lanes: Lanes) -> Result<World, StepError>
         requires a_lane_each { length lanes.lanes ≡ length batch }
         ensures start { IfOk result (λ world. IsStart rest batch lanes world) }
-        ensures promised { IfOk result (λ world. (of : IsWorldOf rest world) → KeepsItsPromises rest world of) }
+        ensures promised { IfOk result IsPromised }
         ensures too_large { IsErrOf result StepError.TooLarge ↔ IsTooLarge rest batch }
-        ensures refused { IfErr result (λ refusal. (refusal ≡ StepError.TooLarge) ⊎ (refusal ≡ StepError.OutOfMemory)) }
+        ensures refused { IfErr result
+            (λ refusal. (refusal ≡ StepError.TooLarge) ⊎ (refusal ≡ StepError.OutOfMemory)) }
     {
-        let pages = u64::from(rest.store().pages());
+        let _tree = rest.store();
         let _words = batch.ops();
         let _allowed = lanes.lanes();
-        if 1 + pages + NUMBERS_OF_INSERTION * batch.inserts() as u64 > u64::from(MAX_PAGE) + 1 {
+        if is_too_large(&rest, &batch) {
             return Err(StepError::TooLarge);
         }
         match Run::new(alloc, rest.into_store(), batch, lanes) {
@@ -71,13 +71,15 @@ impl World {
     /// or its lane is at its end. The schedule tells every turn. A refusal changes nothing.
     pub fn step(&mut self, worker: u8) -> Result<Step, StepError>
         ensures step { IfOk result (λ step. TakesStep self.old worker step self.new) }
-        ensures same_start { IfOk result (λ step. (start : PlainStore) → IsWorldOf start self.old → IsWorldOf start self.new) }
-        ensures promised { (start : PlainStore) (of : IsWorldOf start self.new) → KeepsItsPromises start self.new of }
-        ensures would_move { WouldMove self.old.run worker → IfOk result (λ step. IsTrue (has_moved step)) }
-        ensures would_wait { WouldWait self.old.run worker → IfOk result (λ step. step ≡ Step.Waited) }
+        ensures goes_on { IfOk result (λ step. GoesOnBy self.old worker step self.new) }
+        ensures same_batch { SameBatch self.old.run self.new.run }
+        ensures promised { IsPromised self.new }
+        ensures would_move { WouldMove self.old.run worker → IfOk result HasMoved }
+        ensures would_wait { WouldWait self.old.run worker → IfOk result HasWaited }
         ensures waited { result ≡ Ok Step.Waited → self.new ≡ with_turn self.old worker }
         ensures idle { result ≡ Ok Step.Idle → self.new ≡ with_turn self.old worker }
-        ensures no_worker { IsErrOf result (StepError.NoWorker worker) ↔ (self.old.run.assignment.workers ≤ worker) }
+        ensures no_worker { IsErrOf result (StepError.NoWorker worker)
+            ↔ (self.old.run.assignment.workers ≤ worker) }
         ensures worker { OnOk result (worker < self.old.run.assignment.workers) }
         ensures refused { IfErr result (IsStepRefusal self.old.run.assignment.workers worker) }
         ensures unchanged { OnErr result (self.new ≡ self.old) }
@@ -99,8 +101,7 @@ impl World {
     pub fn answers(&self) -> &[Option<Answer>]
         ensures answers { result.now ≡ self.now.run.answers }
         ensures one_each { length result.now ≡ length self.now.run.ops }
-        ensures promised { (start : PlainStore) (of : IsWorldOf start self.now) → KeepsItsPromises start self.now of }
-        ensures one_thread { (start : PlainStore) → IsWorldOf start self.now → IsLawfulCut self.now.run.ops self.now.run.assignment.workers self.now.run.assignment.lanes → HasEnded self.now.run → IsOneThread start self.now }
+        ensures promised { IsPromised self.now }
     {
         self.run.answers()
     }
@@ -110,7 +111,7 @@ impl World {
     /// that changes something (in a split, of the old leaf).
     pub fn order(&self) -> &[u32]
         ensures order { result.now ≡ self.now.run.order }
-        ensures promised { (start : PlainStore) (of : IsWorldOf start self.now) → KeepsItsPromises start self.now of }
+        ensures promised { IsPromised self.now }
     {
         self.run.order()
     }
@@ -125,7 +126,7 @@ impl World {
     /// Whether all operations have ended: then each has its answer, and the tree is at rest.
     pub fn ended(&self) -> bool
         ensures ended { IsTrue result ↔ HasEnded self.now.run }
-        ensures promised { (start : PlainStore) (of : IsWorldOf start self.now) → KeepsItsPromises start self.now of }
+        ensures promised { IsPromised self.now }
     {
         self.run.ended()
     }
@@ -133,8 +134,8 @@ impl World {
     /// How many pages the operation at this place of the batch has read, those under latches with them.
     pub fn reads_of(&self, op: u32) -> u64
         requires { op < length self.now.run.ops }
-        ensures count { (start : PlainStore) (of : IsWorldOf start self.now) → result ≡ page_reads_in of.history op }
-        ensures promised { (start : PlainStore) (of : IsWorldOf start self.now) → KeepsItsPromises start self.now of }
+        ensures count { InItsHistory self.now (λ history. result ≡ page_reads_in history op) }
+        ensures promised { IsPromised self.now }
     {
         self.run.reads()[op as usize]
     }
@@ -142,8 +143,8 @@ impl World {
     /// How many steps the operation at this place of the batch has taken. Waits are not counted.
     pub fn moves_of(&self, op: u32) -> u64
         requires { op < length self.now.run.ops }
-        ensures count { (start : PlainStore) (of : IsWorldOf start self.now) → result ≡ moves_in of.history op }
-        ensures promised { (start : PlainStore) (of : IsWorldOf start self.now) → KeepsItsPromises start self.now of }
+        ensures count { InItsHistory self.now (λ history. result ≡ moves_in history op) }
+        ensures promised { IsPromised self.now }
     {
         self.run.moves()[op as usize]
     }
@@ -180,10 +181,9 @@ impl World {
     pub fn finish(&mut self) -> Result<(), StepError>
         ensures ended { IfOk result (λ _. HasEnded self.new.run) }
         ensures picked { GoesOnPicked self.old self.new }
-        ensures same_start { (start : PlainStore) → IsWorldOf start self.old → IsWorldOf start self.new }
-        ensures same_ops { self.new.run.ops ≡ self.old.run.ops }
-        ensures same_assignment { self.new.run.assignment ≡ self.old.run.assignment }
-        ensures promised { (start : PlainStore) (of : IsWorldOf start self.new) → KeepsItsPromises start self.new of }
+        ensures same_start { KeepsItsStart self.old self.new }
+        ensures same_batch { SameBatch self.old.run self.new.run }
+        ensures promised { IsPromised self.new }
         ensures refused { IsOkUnless result StepError.OutOfMemory }
     {
         while let Some(worker) = self.pick() {
@@ -209,10 +209,20 @@ impl World {
     pub fn into_rest(self) -> Rest
         requires { HasEnded self.run }
         ensures tree { result ≡ self.run.shared.store }
-        ensures promised { (start : PlainStore) (of : IsWorldOf start self) → KeepsItsPromises start self of }
+        ensures promised { IsPromised self }
     {
         Rest::of(self.run.into_store())
     }
+}
+
+/// Whether a run of the batch over this tree is too large: its insertions might need more page numbers than there are. It takes no
+/// memory.
+pub fn is_too_large(rest: &Rest, batch: &Batch) -> bool
+    ensures { IsTrue result ↔ IsTooLarge rest.now batch.now }
+{
+    let pages = u64::from(rest.store().pages());
+    let _few = batch.ops();
+    1 + pages + NUMBERS_OF_INSERTION * batch.inserts() as u64 > u64::from(MAX_PAGE) + 1
 }
 
 /// The world of a schedule: the first moment, and then one turn for each number. The first refusal is the answer.
@@ -229,9 +239,8 @@ pub fn replay(
 ) -> Result<World, StepError>
     requires a_lane_each { length lanes.lanes ≡ length batch }
     ensures world { IfOk result (λ world. IsReplay rest batch lanes schedule.now world) }
-    ensures promised { IfOk result (λ world. (of : IsWorldOf rest world) → KeepsItsPromises rest world of) }
-    ensures one_thread { IfOk result (λ world. IsLawfulCut batch lanes.workers lanes.lanes → HasEnded world.run → IsOneThread rest world) }
-    ensures reached_throughout { IfOk result (λ world. (of : IsWorldOf rest world) → IsReachedThroughout rest world of) }
+    ensures promised { IfOk result IsPromised }
+    ensures one_thread { IfOk result (EndsAsOneThread rest batch lanes) }
     ensures too_large { IsErrOf result StepError.TooLarge ↔ IsTooLarge rest batch }
     ensures workers { IsOk result → All (λ worker. worker < lanes.workers) schedule.now }
     ensures refused { IfErr result (IsReplayRefusal rest batch lanes.workers schedule.now) }

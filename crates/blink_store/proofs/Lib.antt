@@ -2,3 +2,4 @@ pub mod ListLemmas
 pub mod StoreLemmas
 pub mod HolderLemmas
 pub mod LatchLemmas
+pub mod EqualityLemmas

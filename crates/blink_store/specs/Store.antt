@@ -18,10 +18,12 @@ page_of store (suc n) = slice_get store.pages n
 abbrev pub HasPage : PlainStore → ℕ → Type 0
 HasPage store n = (1 ≤ n) × (n ≤ length store.pages)
 
--- what a store keeps: some level is named, each page is within the fan, and each has a number
+-- what a store keeps: some level is named, by a page number as every level, each page is within the fan, and each has a
+-- number
 pub record IsLawfulStore (store : PlainStore) : Type 0 where
   pub fan_in_range : IsFan store.fan
   pub some_level : 0 < length store.prime
+  pub prime_numbers : All IsPageNumber store.prime
   pub lawful_pages : All (IsLawfulPage store.fan) store.pages
   pub count_in_range : IsPageNumber (length store.pages)
 

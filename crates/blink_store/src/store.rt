@@ -1,5 +1,5 @@
 //! The pages of a tree by number, and its prime block.
-ghost use Rattle.std.specs.Prelude.{◌≡◌, ◌+◌, ◌<◌, ◌≤◌, ◌↔◌, Some, length, IfOk, OnErr, IsErrOf, IsOkUnless};
+ghost use Rattle.std.specs.Prelude.{◌≡◌, ◌+◌, ◌<◌, ◌≤◌, ◌↔◌, IsTrue, Some, length, All, IfOk, OnErr, IsErrOf, IsOkUnless};
 ghost use Rattle.std.specs.Option.{ForSome};
 ghost use Rattle.blink_page.specs.Limits.{IsFan, IsPageNumber};
 ghost use Rattle.blink_page.specs.Page.{IsLawfulPage};
@@ -67,6 +67,17 @@ impl Store {
         })
     }
 
+    /// Whether the two are the same store: the same fan, the same prime block, and the same page under each number. It takes
+    /// no memory.
+    pub fn is_same(&self, other: &Store) -> bool
+        ensures { IsTrue result ↔ self.now ≡ other.now }
+    {
+        if self.fan != other.fan || self.prime != other.prime {
+            return false;
+        }
+        self.pages == other.pages
+    }
+
     /// Page `n`.
     pub fn read(&self, n: u32) -> &Page
         requires { HasPage self.now n }
@@ -79,7 +90,8 @@ impl Store {
     /// Puts a page in the place of page `n`. It takes no memory.
     pub fn write(&mut self, n: u32, page: Page)
         requires exists { HasPage self.old n }
-        requires same_floor_and_level { ForSome (page_of self.old n) (λ old. SameFloorAndLevel old page) }
+        requires same_floor_and_level { ForSome (page_of self.old n)
+            (λ old. SameFloorAndLevel old page) }
         requires at_most_fan { length page.entries ≤ self.old.fan }
         ensures written { WritesPage self.old self.new n page }
         ensures count { length self.new.pages ≡ length self.old.pages }
@@ -93,6 +105,7 @@ impl Store {
     pub fn prime(&self) -> &Prime
         ensures prime { result.now ≡ self.now.prime }
         ensures some_level { 0 < length self.now.prime }
+        ensures page_numbers { All IsPageNumber self.now.prime }
     {
         &self.prime
     }

@@ -29,7 +29,6 @@ fn a_split_page_is_written_in_two(rt: HostRuntime) -> Result<(), Fail> {
     assert!(rt; page.look(5).is_none());
     let (lower, upper, _separator) = page.split_with(4, 5, 50, 2);
 
-    assert!(rt; upper.items.len() <= 4 && lower.items.len() <= 4);
     assert_eq!(rt; store.add(upper.copy())?, 2);
     assert_eq!(rt; *store.read(2), upper);
     assert_eq!(rt; *store.read(1), Page::leaf());
@@ -59,11 +58,32 @@ fn a_copy_has_the_same_pages(rt: HostRuntime) -> Result<(), Fail> {
     store.set_prime(prime);
 
     let copy = store.copy(rt.alloc())?;
+    assert!(rt; copy.is_same(&store));
     assert_eq!(rt; (copy.fan(), copy.pages()), (5, 3));
     assert_eq!(rt; *copy.prime(), *store.prime());
     for number in 1..4 {
         assert_eq!(rt; *copy.read(number), *store.read(number));
     }
+    Ok(())
+}
+
+#[test]
+fn stores_that_differ_are_told_apart(rt: HostRuntime) -> Result<(), Fail> {
+    let mut store = Store::new(rt.alloc(), 4)?;
+    assert!(rt; !store.is_same(&Store::new(rt.alloc(), 5)?));
+
+    let mut other = store.copy(rt.alloc())?;
+    let mut prime = other.prime().copy();
+    prime.grow(1);
+    other.set_prime(prime);
+    assert!(rt; !store.is_same(&other));
+    other.set_prime(store.prime().copy());
+    assert!(rt; store.is_same(&other));
+
+    assert_eq!(rt; store.add(Page::leaf())?, 2);
+    assert!(rt; !store.is_same(&other));
+    assert_eq!(rt; other.add(Page::root(1, 3, 1, 2))?, 2);
+    assert!(rt; !store.is_same(&other));
     Ok(())
 }
 

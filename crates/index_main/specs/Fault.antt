@@ -1,8 +1,8 @@
 -- What a refusal of a served script tells of what was read, and what it leaves of what was written.
-use Rattle.std.specs.Prelude.{ℕ, ◌≡◌, ◌<◌, List, Option, Some, count_by, ⊤}
+use Rattle.std.specs.Prelude.{ℕ, ◌≡◌, ◌<◌, List, [], ◌∷◌, Option, Some, Ok, count_by, ⊤}
 use Rattle.std.specs.Io.KnownBytes.{Keeps}
 use Rattle.blink_batch.specs.Batch.{is_insert}
-use Rattle.blink_batch.specs.Script.{HasParts, IsReadable, TellsRefusal, parts_of, records_of}
+use Rattle.blink_batch.specs.Script.{IsReadable, TellsRefusal, records_of, script_of}
 use Rattle.blink_batch.specs.declared.Op.{Op}
 use Rattle.blink_batch.specs.declared.Part.{Part}
 use Rattle.blink_batch.specs.declared.Part.TheVariants.{Batch}
@@ -15,7 +15,7 @@ use Rattle.index_main.specs.declared.serve.LeafServeError.TheVariants.{Script, R
 -- the records are one batch of more insertions than the leaf has entries
 pub record IsTooFull (records : List (List (List ℕ))) : Type 0 where
   pub ops : List Op
-  pub one_batch : HasParts records (parts_of ops)
+  pub one_batch : script_of records ≡ Ok (Batch ops ∷ [])
   pub too_many : LEAF_LIMIT < count_by is_insert ops
 
 -- a batch that isn't run has too many insertions, or memory was refused
@@ -25,7 +25,7 @@ TellsLeafFault to_read leaf.OutOfMemory = ⊤
 
 -- a refusal of the script is the reader's own, and a run that is refused is of the first batch
 abbrev pub TellsFault : Option (List ℕ) → LeafServeError → Type 0
-TellsFault to_read (Script error) = IsReadable error × ((read : List ℕ) → to_read ≡ Some read → TellsRefusal (records_of read) error)
+TellsFault to_read (Script error) = IsReadable error × TellsRefusal to_read error
 TellsFault to_read (Run number error) = TellsLeafFault to_read error × ((read : List ℕ) → to_read ≡ Some read → number ≡ 1)
 TellsFault to_read Output = ⊤
 TellsFault to_read OutOfMemory = ⊤

@@ -54,7 +54,8 @@ impl LineError {
 pub fn read_line(alloc: Global, words: &[&str]) -> Result<Line, LineError>
     ensures asked { IfOk result (λ line. Asks (texts words.now) line) }
     ensures allowed { IfOk result HasAllowedWorkers }
-    ensures refused { IfErr result (λ error. (line : _) → Asks (texts words.now) line → error ≡ LineError.OutOfMemory) }
+    ensures refused { IfErr result
+        (λ error. (line : _) → Asks (texts words.now) line → error ≡ LineError.OutOfMemory) }
     ensures bad_value { IfErr result (λ error. IsTaken (texts words.now) → IsBadValue error) }
 {
     let matches = match matches_of(alloc, words) {
@@ -70,8 +71,10 @@ pub fn read_line(alloc: Global, words: &[&str]) -> Result<Line, LineError>
 // What `clap` finds in the words.
 fn matches_of<'a>(alloc: Global, words: &'a [&'a str]) -> Result<ArgMatches<'a>, clap::Error>
     ensures taken { IfOk result (λ _. IsTaken (texts words.entry.now)) }
-    ensures matches { IfOk result (λ matches. subcommand_rows_of matches ≡ subcommand_of blink (texts words.entry.now)) }
-    ensures memory { IfErr result (λ error. IsTaken (texts words.entry.now) → kind_of error ≡ ErrorKind.OutOfMemory) }
+    ensures matches { IfOk result
+        (λ matches. subcommand_rows_of matches ≡ subcommand_of blink (texts words.entry.now)) }
+    ensures memory { IfErr result
+        (λ error. IsTaken (texts words.entry.now) → kind_of error ≡ ErrorKind.OutOfMemory) }
 {
     let command = command(alloc)?;
     command.try_get_matches_from(words)

@@ -55,8 +55,10 @@ pub fn serve_leaf<R: Read, W: Write>(
 ) -> Result<(), LeafServeError>
     requires { (1 ≤ workers) × (workers ≤ WORKER_LIMIT) }
     ensures fault { IfErr result (TellsFault (R.remaining reader.old)) }
-    ensures wrote_nothing { IfErr result (λ error. WroteNothing error (W.contents writer.old) (W.contents writer.new)) }
-    ensures served { OnOk result (Serves (R.remaining reader.old) (W.contents writer.old) (W.contents writer.new)) }
+    ensures wrote_nothing { IfErr result
+        (λ error. WroteNothing error (W.contents writer.old) (W.contents writer.new)) }
+    ensures served { OnOk result
+        (Serves (R.remaining reader.old) (W.contents writer.old) (W.contents writer.new)) }
 {
     let script = match read_script(alloc, reader) {
         Ok(script) => script,
@@ -102,7 +104,8 @@ fn write_answers<W: Write>(
     answers: &[Answer],
 ) -> Result<(), LeafServeError>
     ensures fault { IfErr result IsWriteFault }
-    ensures written { OnOk result (Appends (W.contents writer.old) (W.contents writer.new) (text_of answers.now)) }
+    ensures written { OnOk result
+        (Appends (W.contents writer.old) (W.contents writer.new) (text_of answers.now)) }
 {
     let text = match text_of(alloc, answers) {
         Ok(text) => text,

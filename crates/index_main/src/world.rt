@@ -117,7 +117,9 @@ impl World {
     fn read_again(&mut self, op: Op, worker: usize, place: usize) -> Result<Kind, AllocError>
         requires worker { worker < length self.old.workers }
         requires place { place < length self.old.answers }
-        ensures { IfOk result (λ kind. HeldTurn (changes self.old.entries op) op self.old worker place (Some kind) self.new) }
+        ensures { IfOk result
+            (λ kind. HeldTurn (changes self.old.entries op) op self.old worker place
+            (Some kind) self.new) }
     {
         let kept = match self.leaf.apply(Op::Find(op.key()))? {
             Answer::Found(pointer) => Some(pointer),
@@ -178,7 +180,8 @@ impl World {
     pub fn round(&mut self, ops: &[Op], lanes: &[u8]) -> Result<bool, AllocError>
         requires sound { IsSound ops.now lanes.now self.old }
         ensures sound { OnOk result (IsSound ops.now lanes.now self.new) }
-        ensures nearer { result ≡ Ok true → steps_left ops.now self.new < steps_left ops.now self.old }
+        ensures nearer { result ≡ Ok true
+            → steps_left ops.now self.new < steps_left ops.now self.old }
         ensures ended { result ≡ Ok false → NobodyMoves ops.now lanes.now self.new }
     {
         let mut moved = false;
@@ -193,7 +196,8 @@ impl World {
 
 // The answer of an operation that changes nothing where the leaf keeps this under its key; none of one that does.
 fn unchanging_answer(op: Op, kept: Option<u64>) -> Option<Answer>
-    ensures { MatchOption result (changes_at op kept ≡ true) (λ answer. (changes_at op kept ≡ false) × (answer ≡ answer_at op kept)) }
+    ensures { MatchOption result (changes_at op kept ≡ true)
+        (λ answer. (changes_at op kept ≡ false) × (answer ≡ answer_at op kept)) }
 {
     match (op, kept) {
         (Op::Find(_), Some(pointer)) => Some(Answer::Found(pointer)),

@@ -1,9 +1,8 @@
 //! Where an operation is after a step of which it learns no more than that it is done.
 ghost use Rattle.std.specs.Prelude.{◌≡◌};
 ghost use Rattle.blink_page.specs.Limits.{IsPageNumber};
-ghost use Rattle.blink_page.specs.Split.{lower_half};
-ghost use Rattle.blink_steps.specs.Machine.{NeedsNew, at_state};
-ghost use Rattle.blink_steps.specs.Table.{done, decided_with, leaves_for, sets_out, overfull, debt_of_split};
+ghost use Rattle.blink_steps.specs.Machine.{NeedsNew};
+ghost use Rattle.blink_steps.specs.Table.{done, decided_with, leaves_for, sets_out, halved};
 ghost use Rattle.blink_steps.specs.Kept.{KeptAt, KeptForNext, IsPostable, IsToSplit};
 ghost use Rattle.blink_steps.specs.Needs.{NeedsNoRead};
 
@@ -47,7 +46,7 @@ impl Machine {
     fn halve(&mut self, page: u32, before: &Page, new: u32)
         requires to_split { IsToSplit self.old before.now }
         requires new_number { IsPageNumber new }
-        ensures { self.new ≡ at_state self.old (State.SplitOld page (lower_half self.old.fan new before.now (overfull self.old before.now)) (debt_of_split self.old before.now new)) }
+        ensures { self.new ≡ halved self.old page before.now new }
     {
         let (lower, _, separator) = self.split(before, new);
         let debt = Debt {

@@ -2,10 +2,9 @@
 ghost use Rattle.std.specs.Prelude.{◌≡◌, ◌↔◌, ℕ, ◌<◌, ◌≤◌, ◌+◌, length, IsTrue};
 ghost use Rattle.std.specs.Bool.{OnTrue, OnFalse};
 ghost use Rattle.blink_page.specs.declared.limits.TheConstants.{LEVELS};
-ghost use Rattle.blink_page.specs.Limits.{IsPageNumber};
 ghost use Rattle.blink_page.specs.Rising.{least_above};
 ghost use Rattle.blink_steps.specs.Machine.{NeedsPrime, NeedsPage, level_of, level_read, target};
-ghost use Rattle.blink_steps.specs.Table.{SeesPrime, WaitsForLevel, SeesPage, SeesOnItsWay, SeesUnderLatch, IsTopLeftmost};
+ghost use Rattle.blink_steps.specs.Table.{SeesPrime, WaitsForLevel, SeesPage, SeesOnItsWay, SeesUnderLatch};
 ghost use Rattle.blink_steps.specs.Needs.{NeedsSomePage};
 
 use super::{Debt, Job, Machine, Next, State, answer_with};
@@ -19,7 +18,6 @@ impl Machine {
     pub(crate) fn saw_prime(&mut self, prime: &Prime) -> bool
         requires needs { NeedsPrime self.old }
         requires few_levels { length prime.now < LEVELS }
-        requires top_number { (level page : ℕ) → IsTopLeftmost prime.now level page → IsPageNumber page }
         ensures moved { OnTrue result (SeesPrime self.old prime.now self.new) }
         ensures waits { OnFalse result (WaitsForLevel self.old prime.now) }
         ensures unchanged { OnFalse result (self.new ≡ self.old) }
@@ -47,7 +45,6 @@ impl Machine {
     fn ask(&mut self, page: u32, debt: Debt, prime: &Prime)
         requires state { self.old.state ≡ State.AskPrime page debt }
         requires few_levels { length prime.now < LEVELS }
-        requires top_number { (level page : ℕ) → IsTopLeftmost prime.now level page → IsPageNumber page }
         ensures { SeesPrime self.old prime.now self.new }
     {
         let level = usize::from(debt.level);
@@ -93,7 +90,8 @@ impl Machine {
         requires level { page.now.level ≡ level_read self.old }
         requires below { least_above page.now.floor ≤ target self.old }
         requires at_most_fan { length page.now.entries ≤ self.old.fan }
-        ensures { (number : ℕ) → NeedsPage self.old number → SeesPage self.old number page.now self.new }
+        ensures { (number : ℕ) → NeedsPage self.old number
+            → SeesPage self.old number page.now self.new }
     {
         match self.state {
             State::Going(number, level) => self.read_on_its_way(number, level, page),

@@ -49,8 +49,10 @@ impl Machine {
     pub(super) fn split(&self, before: &Page, new: u32) -> (Page, Page, u64)
         requires to_split { IsToSplit self.now before.now }
         requires new_number { IsPageNumber new }
-        ensures lower { result.0 ≡ lower_half self.now.fan new before.now (overfull self.now before.now) }
-        ensures upper { result.1 ≡ upper_half self.now.fan before.now (overfull self.now before.now) }
+        ensures lower { result.0
+            ≡ lower_half self.now.fan new before.now (overfull self.now before.now) }
+        ensures upper { result.1
+            ≡ upper_half self.now.fan before.now (overfull self.now before.now) }
         ensures separator { result.2 ≡ (debt_of_split self.now before.now new).separator }
         ensures parts_keys { result.2 < GREATEST_KEY }
     {

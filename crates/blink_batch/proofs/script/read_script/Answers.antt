@@ -1,13 +1,13 @@
-use Rattle.std.proofs.Common.{◌≡◌, ◌∙◌, ◌++◌, ◌∷◌, [], ℕ, List, Some, length, length-append, refl, sym, ap, inr, arith, true, rules}
+use Rattle.std.proofs.Common.{◌≡◌, ◌∙◌, ◌++◌, ◌∷◌, [], ℕ, List, Some, Ok, length, length-append, refl, sym, ap, inr, arith, true, rules}
 use Rattle.std.proofs.lemmas.Result.{IfOk-weaker, MatchResult-weaker}
 use Rattle.csv.specs.Reading.{with_flexible}
 use Rattle.csv.specs.Records.{fields_of}
 use Rattle.blink_batch.specs.declared.batch.TheConstants.{BATCH_LIMIT}
 use Rattle.blink_batch.specs.declared.error.ScriptError.TheVariants.{Row, TooMany}
-use Rattle.blink_batch.specs.Script.{HasParts, records_of, parts_of}
+use Rattle.blink_batch.specs.Script.{records_of, script_of}
+use Rattle.blink_batch.specs.ScriptLaw.{parts_of}
 use Rattle.blink_batch.proofs.ReadLemmas.{begins, stays_set_up, reads_more, refused_here, all_read}
 use Rattle.blink_batch.proofs.script.read_script.Goals as goal
-use Rattle.blink_batch.proofs.script.read_script.Goals.{else-loop-number-test, then-loop-number-test+in-Ok-false}
 
 -- nothing is read yet
 pub loop-number-init : goal.loop-number-init
@@ -61,20 +61,16 @@ loop-number-preserved g c =
           c.loop-number.ops.items (so_far.has_read text known) c.in-Ok.op read means);
     }
 
--- every record is read: the loop ends before its count, since a batch does
-pub returns-clause-script : goal.returns-clause-script
-returns-clause-script g c =
+-- every record is read
+pub returns-in-Ok-false-clause-script : goal.returns-in-Ok-false-clause-script
+returns-in-Ok-false-clause-script g c =
     let so_far = c.loop-number.invariant in
-    let whole : (text : List ℕ) → g.R.Read.remaining c.args.reader ≡ Some text → HasParts (records_of text) (parts_of c.loop-number.ops.items) = λ text known.
-    elim c.loop-number-test.branch [
-      | else-loop-number-test w ↦ absurd (omega (arith, so_far.counted, so_far.one_batch, w.loop-number-test.false))
-      | then-loop-number-test+in-Ok-false w ↦
-          let read = rw w.in-Ok-false.field-0-test at (w.in-Ok-false.ensures.reads so_far.set_up.no_trim so_far.set_up.ready) in
-          all_read g.R.Read.remaining c.loop-number.reader w.read_byte_record.new.self (fields_of w.read_byte_record.new.row) so_far.set_up text
-          c.loop-number.ops.items (so_far.has_read text known) so_far.one_batch read
-    ] in
-    IfOk-weaker c.script_of.result _ _ (λ made its_parts text known. rw its_parts (whole text known)) c.script_of.ensures.parts
+    let read = rw c.in-Ok-false.field-0-test at (c.in-Ok-false.ensures.reads so_far.set_up.no_trim so_far.set_up.ready) in
+    let whole : (text : List ℕ) → g.R.Read.remaining c.args.reader ≡ Some text → script_of (records_of text) ≡ Ok (parts_of c.loop-number.ops.items) = λ text known.
+    all_read g.R.Read.remaining c.loop-number.reader c.read_byte_record.new.self (fields_of c.read_byte_record.new.row) so_far.set_up text
+    c.loop-number.ops.items (so_far.has_read text known) so_far.one_batch read in
+    IfOk-weaker c.of_operations.result _ _ (λ made its_parts text known. rw its_parts (whole text known)) c.of_operations.ensures.parts
 
 -- only memory is refused now
-pub returns-clause-refusal : goal.returns-clause-refusal
-returns-clause-refusal g c = MatchResult-weaker c.script_of.result c.script_of.ensures.memory (λ made here. here) (λ error only text known. rw only tt)
+pub returns-in-Ok-false-clause-refusal : goal.returns-in-Ok-false-clause-refusal
+returns-in-Ok-false-clause-refusal g c = MatchResult-weaker c.of_operations.result c.of_operations.ensures.memory (λ made here. here) (λ error only. rw only tt)

@@ -4,8 +4,7 @@ use Rattle.std.proofs.lemmas.Result.{err_from_is_err_and}
 use Rattle.blink_batch.specs.Cut.{Assignment}
 use Rattle.blink_steps.specs.World.{IsReplay, IsReplayRefusal, IsStepRefusal}
 use Rattle.blink_steps.proofs.WorldLemmas.{replay_refusal, replays_further, workers_more}
-use Rattle.blink_steps.proofs.WorldPromises.{promises}
-use Rattle.blink_steps.proofs.HeadlineLemmas.{replayed_one_thread, reached_throughout}
+use Rattle.blink_steps.proofs.WorldPromises.{promises, replayed_one_thread}
 use Rattle.blink_steps.proofs.world.replay.Goals as goal
 
 -- who took a step is a worker
@@ -23,16 +22,13 @@ loop-worker-preserved c = (
 )
 
 pub returns-clause-promised : goal.returns-clause-promised
-returns-clause-promised c of = promises c.args.rest _ of
+returns-clause-promised c start of = promises start _ of
 
 pub returns-clause-one_thread : goal.returns-clause-one_thread
 returns-clause-one_thread c =
     let all : take c.loop-worker.worker-index c.args.schedule.now ≡ c.args.schedule.now = take_all c.loop-worker.worker-index c.args.schedule.now (omega arith) in
     let is = subst (λ (front : List ℕ). IsReplay c.args.rest c.args.batch c.args.lanes front c.loop-worker.world) all c.loop-worker.invariant.0 in
     replayed_one_thread c.args.rest c.args.batch c.args.lanes c.args.schedule.now c.loop-worker.world is
-
-pub returns-clause-reached_throughout : goal.returns-clause-reached_throughout
-returns-clause-reached_throughout c of = reached_throughout c.args.rest _ of
 
 pub returns-clause-workers : goal.returns-clause-workers
 returns-clause-workers c =

@@ -2,7 +2,7 @@ use Rattle.std.proofs.Common.{◌≡◌, ◌∙◌, sym, subst}
 use Rattle.std.proofs.lemmas.Iterator.{items_from_collect}
 use Rattle.std.proofs.lemmas.Iterator.Consumers.{YieldsList-from_first}
 use Rattle.std.proofs.lemmas.Result.{IfOk-weaker}
-use Rattle.blink_steps.specs.Promises.{AreAtStart}
+use Rattle.blink_steps.specs.TreeMap.{IsMapOf}
 use Rattle.blink_index.specs.Index.{map_of}
 use Rattle.blink_index.proofs.LinkLemmas.{scan_of_all}
 use Rattle.blink_index.proofs.index.Index.entries.Goals as goal
@@ -15,5 +15,5 @@ returns-clause-map c =
 -- what was collected is the map, which is kept
 pub returns-clause-kept : goal.returns-clause-kept
 returns-clause-kept c =
-    IfOk-weaker c.collect.result (λ entries. entries.items ≡ map_of c.args.self.now) (λ entries. AreAtStart c.args.self.now entries.items)
-    (λ entries same. subst (AreAtStart c.args.self.now) (sym same) c.scan.ensures.map) (returns-clause-map c)
+    IfOk-weaker c.collect.result (λ entries. entries.items ≡ map_of c.args.self.now) (λ entries. IsMapOf c.args.self.now entries.items)
+    (λ entries same. subst (IsMapOf c.args.self.now) (sym same) c.scan.ensures.map) (returns-clause-map c)

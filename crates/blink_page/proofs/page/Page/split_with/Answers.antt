@@ -4,7 +4,7 @@ use Rattle.blink_page.specs.Page.{PlainPage, IsLawfulPage, with_entries, entries
 use Rattle.blink_page.specs.PageView.{plain}
 use Rattle.blink_page.specs.Split.{kept_count, lower_entries, upper_entries, lower_half, upper_half}
 use Rattle.blink_page.proofs.PageLemmas.{lawful_entries_with, lawful_with_room, lawful_for_greater}
-use Rattle.blink_page.proofs.SplitLemmas.{separator_of-get_or, take-drop_all, lower-append-upper, lower_half-of, upper_half-of, lawful_lower, lawful_upper}
+use Rattle.blink_page.proofs.SplitLemmas.{length-lower_entries, length-upper_entries, separator_of-get_or, take-drop_all, lower-append-upper, lower_half-of, upper_half-of, lawful_lower, lawful_upper}
 use Rattle.blink_page.proofs.page.Page.split_with.Goals as goal
 
 -- the entries with one more
@@ -49,9 +49,17 @@ returns-clause-upper c =
 pub returns-clause-whole : goal.returns-clause-whole
 returns-clause-whole c = rw (stays c, goes c) (lower-append-upper c.args.fan (whole c))
 
+pub returns-clause-lower_count : goal.returns-clause-lower_count
+returns-clause-lower_count c = rw (stays c) (length-lower_entries c.args.fan (whole c) (overfull c))
+
+pub returns-clause-both_counts : goal.returns-clause-both_counts
+returns-clause-both_counts c =
+    rw (stays c, goes c)
+    (omega (arith, length-lower_entries c.args.fan (whole c) (overfull c), length-upper_entries c.args.fan (whole c) (overfull c), c.requires.fan.0))
+
 pub invariant_of-lower : goal.invariant_of-lower
 invariant_of-lower c =
-    let half = lawful_lower c.args.fan c.args.new c.requires.fan c.args.self.now (whole c) (overfull c) (whole_lawful c) in
+    let half = lawful_lower c.args.fan c.args.new c.requires.fan c.args.self.now (whole c) (overfull c) (whole_lawful c) c.requires.new_number in
     subst (IsLawfulPage MAX_FAN) (sym (returns-clause-lower c)) (lawful_for_greater c.args.fan MAX_FAN _ c.requires.fan.1 half)
 
 pub invariant_of-upper : goal.invariant_of-upper

@@ -23,7 +23,7 @@ pub loop-worker-preserved : goal.loop-worker-preserved
 loop-worker-preserved c =
     let kept = c.loop-worker.invariant in
     let worker = c.loop-worker.worker in
-    let workers : c.from-workers.result ≡ c.args.lanes.workers = c.from-workers.ensures ∙ c.workers.ensures in
+    let workers : c.from-workers.result ≡ c.args.lanes.workers = c.from-workers.ensures ∙ c.workers.ensures.workers in
     let allowed : c.args.lanes.workers ≤ WORKER_LIMIT = subst (λ (a : Assignment). a.workers ≤ WORKER_LIMIT) c.lanes.view_is c.lanes.invariant.allowed.1 in
     let a_worker : worker < WORKER_LIMIT = omega arith in
     let firsts : AreFirsts c.args.lanes.lanes c.in_ok-following.firsts 0 = subst (λ (lanes : List ℕ). AreFirsts lanes c.in_ok-following.firsts 0) c.lanes-2.ensures.lanes c.in_ok-following.ensures.firsts in
@@ -38,7 +38,7 @@ loop-worker-preserved c =
 a_seat_each : (c : In_ok-new) → length c.loop-worker.seats.items ≡ c.args.lanes.workers
 a_seat_each c =
     let kept = c.loop-worker.invariant.a_seat_each in
-    let workers : c.from-workers.result ≡ c.args.lanes.workers = c.from-workers.ensures ∙ c.workers.ensures in
+    let workers : c.from-workers.result ≡ c.args.lanes.workers = c.from-workers.ensures ∙ c.workers.ensures.workers in
     omega arith
 
 all_idle : (c : In_ok-new) → AreIdle c.args.lanes.lanes c.loop-worker.seats.items (length c.loop-worker.seats.items)

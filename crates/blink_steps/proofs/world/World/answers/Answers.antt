@@ -2,7 +2,6 @@ use Rattle.std.proofs.Common.{◌≡◌, Option, List, length, ap, subst, ◌∙
 use Rattle.blink_batch.specs.declared.Answer.{Answer}
 use Rattle.blink_steps.specs.World.{PlainWorld}
 use Rattle.blink_steps.proofs.WorldPromises.{promises, shaped}
-use Rattle.blink_steps.proofs.HeadlineLemmas.{one_thread}
 use Rattle.blink_steps.proofs.world.World.answers.Goals as goal
 
 pub returns-clause-one_each : goal.returns-clause-one_each
@@ -14,6 +13,3 @@ returns-clause-one_each c =
 
 pub returns-clause-promised : goal.returns-clause-promised
 returns-clause-promised c start of = promises start _ of
-
-pub returns-clause-one_thread : goal.returns-clause-one_thread
-returns-clause-one_thread c start of = one_thread start _ of

@@ -1,7 +1,7 @@
 use Rattle.std.proofs.Common.{sym, subst}
 use Rattle.blink_steps.specs.Pick.{GoesOnPicked}
 use Rattle.blink_steps.specs.World.{PlainWorld}
-use Rattle.blink_steps.proofs.FinishLemmas.{picked_further, same_batch_along, world_goes_on}
+use Rattle.blink_steps.proofs.FinishLemmas.{picked_further, same_batch_then, world_goes_on}
 use Rattle.blink_steps.proofs.WorldPromises.{promises}
 use Rattle.blink_steps.proofs.world.World.finish.Goals as goal
 use Rattle.blink_steps.proofs.world.World.finish.Goals.{In_err-advance}
@@ -18,15 +18,8 @@ refused c = subst (λ (world : PlainWorld). GoesOnPicked c.args.self.now world) 
 pub returns-in_err-advance-clause-same_start : goal.returns-in_err-advance-clause-same_start
 returns-in_err-advance-clause-same_start c start of = world_goes_on start _ _ (refused (goal.at.returns-in_err-advance-clause-same_start c).In_err-advance) of
 
-pub returns-in_err-advance-clause-same_ops : goal.returns-in_err-advance-clause-same_ops
-returns-in_err-advance-clause-same_ops c =
-    let goes = refused (goal.at.returns-in_err-advance-clause-same_ops c).In_err-advance in
-    (same_batch_along _ _ goes.turns goes.follows).0
-
-pub returns-in_err-advance-clause-same_assignment : goal.returns-in_err-advance-clause-same_assignment
-returns-in_err-advance-clause-same_assignment c =
-    let goes = refused (goal.at.returns-in_err-advance-clause-same_assignment c).In_err-advance in
-    (same_batch_along _ _ goes.turns goes.follows).1
+pub returns-in_err-advance-clause-same_batch : goal.returns-in_err-advance-clause-same_batch
+returns-in_err-advance-clause-same_batch c = same_batch_then _ _ (refused (goal.at.returns-in_err-advance-clause-same_batch c).In_err-advance)
 
 pub returns-in_err-advance-clause-promised : goal.returns-in_err-advance-clause-promised
 returns-in_err-advance-clause-promised c start of = promises start _ of
@@ -34,11 +27,8 @@ returns-in_err-advance-clause-promised c start of = promises start _ of
 pub returns-clause-same_start : goal.returns-clause-same_start
 returns-clause-same_start c start of = world_goes_on start _ _ c.loop-worker.invariant of
 
-pub returns-clause-same_ops : goal.returns-clause-same_ops
-returns-clause-same_ops c = (same_batch_along _ _ c.loop-worker.invariant.turns c.loop-worker.invariant.follows).0
-
-pub returns-clause-same_assignment : goal.returns-clause-same_assignment
-returns-clause-same_assignment c = (same_batch_along _ _ c.loop-worker.invariant.turns c.loop-worker.invariant.follows).1
+pub returns-clause-same_batch : goal.returns-clause-same_batch
+returns-clause-same_batch c = same_batch_then _ _ c.loop-worker.invariant
 
 pub returns-clause-promised : goal.returns-clause-promised
 returns-clause-promised c start of = promises start _ of

@@ -1,5 +1,7 @@
-use Rattle.std.proofs.Common.{ℕ, List, [], length, ap, sym, subst, arith}
-use Rattle.blink_store.specs.Store.{PlainStore}
+use Rattle.std.proofs.Common.{◌≡◌, ℕ, ◌+◌, ◌*◌, true, List, [], length, count_by, inl, inr, sym, subst, arith}
+use Rattle.std.proofs.lemmas.Bool.{cases_lt}
+use Rattle.blink_batch.specs.Batch.{is_insert}
+use Rattle.blink_page.specs.declared.limits.TheConstants.{MAX_PAGE}
 use Rattle.blink_steps.specs.World.{IsWorldOf, MayBegin}
 use Rattle.blink_steps.proofs.WorldLemmas.{begins}
 use Rattle.blink_steps.proofs.WorldPromises.{promises}
@@ -7,12 +9,15 @@ use Rattle.blink_steps.proofs.world.World.start.Goals as goal
 
 may_begin : (c : goal.After-new-in-Ok) → MayBegin c.args.rest c.args.batch c.args.lanes
 may_begin c = record {
-  lawful_store = c.store.ensures.lawful;
-  at_rest = c.store.ensures.at_rest;
+  lawful_store = c.store-tree.ensures.lawful;
+  at_rest = c.store-tree.ensures.at_rest;
   words = c.ops-words.ensures.words;
   lanes = c.lanes-allowed.ensures.workers;
   a_lane_each = c.requires.a_lane_each;
-  numbers_suffice = omega (arith, c.if-pages-inserts.false, c.inserts.ensures, c.pages.ensures.count, c.from-pages.ensures, ap (λ (s : PlainStore). length s.pages) c.store.ensures.store);
+  numbers_suffice = elim (cases_lt MAX_PAGE (length c.args.rest.pages + 22 * count_by is_insert c.args.batch)) [
+    | inl above ↦ (let too_large : c.is_too_large.result ≡ true = c.is_too_large.ensures.1 (omega arith) in let not = c.if-is_too_large.false in absurd (cc))
+    | inr fits ↦ fits
+  ];
 }
 
 is_world : (c : goal.After-new-in-Ok) → IsWorldOf c.args.rest (record { run = c.in-Ok.run'; schedule = [] })
@@ -22,4 +27,4 @@ pub invariant_of-result : goal.invariant_of-result
 invariant_of-result c = (c.args.rest, subst (λ (xs : List ℕ). IsWorldOf c.args.rest (record { run = c.in-Ok.run'; schedule = xs })) (sym c.new-in-Ok.ensures.items) (is_world c))
 
 pub returns-in-Ok-clause-promised : goal.returns-in-Ok-clause-promised
-returns-in-Ok-clause-promised c of = promises c.args.rest _ of
+returns-in-Ok-clause-promised c start of = promises start _ of

@@ -1,7 +1,7 @@
 use Rattle.std.proofs.Common.{◌++◌, ℕ, List, [], ◌∷◌, ap, subst, ◌∙◌, arith}
 use Rattle.blink_steps.specs.World.{PlainWorld, TakesStep}
 use Rattle.blink_steps.proofs.FinishLemmas.{would_move_moves, would_wait_waits}
-use Rattle.blink_steps.proofs.WorldLemmas.{goes_further}
+use Rattle.blink_steps.proofs.WorldLemmas.{goes_further, has_turn_more, same_batch_after}
 use Rattle.blink_steps.proofs.WorldPromises.{promises, ready}
 use Rattle.blink_steps.proofs.world.World.step.Goals as goal
 
@@ -35,8 +35,11 @@ invariant_of-self-2 c = (c.self.invariant.0, goes_further c.self.invariant.0 _ _
 pub returns-clause-step : goal.returns-clause-step
 returns-clause-step c = subst (λ (world : PlainWorld). TakesStep world c.args.worker c.in_ok-step.step (record { run = c.turn.new.self; schedule = c.push_reserved.new.self.items })) c.self.view_is (taken c)
 
-pub returns-clause-same_start : goal.returns-clause-same_start
-returns-clause-same_start c start of = goes_further start c.args.self.now _ c.args.worker c.in_ok-step.step of (returns-clause-step c)
+pub returns-clause-goes_on : goal.returns-clause-goes_on
+returns-clause-goes_on c start of = has_turn_more start c.args.self.now _ c.args.worker c.in_ok-step.step of (returns-clause-step c)
+
+pub returns-clause-same_batch : goal.returns-clause-same_batch
+returns-clause-same_batch c = let takes = returns-clause-step c in same_batch_after c.args.self.now.run _ takes.taken takes.turn
 
 pub returns-clause-promised : goal.returns-clause-promised
 returns-clause-promised c start of = promises start _ of

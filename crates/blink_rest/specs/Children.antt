@@ -1,0 +1,19 @@
+-- Where the children of an inner page of a tree at rest are.
+use Rattle.std.specs.Prelude.{◌≡◌, ℕ, ◌+◌, Option, Some, List, slice_get}
+use Rattle.blink_page.specs.Page.{PlainPage}
+use Rattle.blink_rest.specs.Chain.{Cell, IsChain, Pages}
+use Rattle.blink_rest.specs.References.{BeginsAt, Refers}
+use Rattle.blink_rest.specs.Walk.{IsInLine}
+
+-- the page refers to the chain of the level just below it: each child is there, and its floor is the separator before its
+-- own, or the page's floor for the first
+pub record RefersBelow (fan : ℕ) (prime : List ℕ) (pages : Pages) (page : PlainPage) : Type 0 where
+  pub level : ℕ
+  pub just_below : level + 1 ≡ page.level
+  pub leftmost : ℕ
+  pub is_named : slice_get prime level ≡ Some leftmost
+  pub below : List Cell
+  pub chain : IsChain fan pages level leftmost below
+  pub refers : Refers below page.floor page.entries
+  -- what begins there is the number of a page of the tree, with that level and that floor
+  pub each_exists : (child : ℕ) (floor : Option ℕ) → BeginsAt below child floor → IsInLine pages child level floor

@@ -1,0 +1,9 @@
+use Rattle.blink_steps.proofs.RunNext.{turns_are_steps}
+use Rattle.blink_steps.proofs.StepActs.{steps_are_turns}
+use Rattle.blink_steps.proofs.laws.turns_are_steps.Goals as goal
+
+pub returns-clause-turns : goal.returns-clause-turns
+returns-clause-turns c = turns_are_steps
+
+pub returns-clause-steps : goal.returns-clause-steps
+returns-clause-steps c = steps_are_turns

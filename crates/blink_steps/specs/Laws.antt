@@ -1,0 +1,77 @@
+-- Laws of turns and of reads, whatever the run.
+use Rattle.std.specs.Prelude.{◌≡◌, ◌≢◌, ℕ, ◌+◌, ◌⊎◌, Option, Some, List, length}
+use Rattle.blink_page.specs.Page.{PlainPage}
+use Rattle.blink_store.specs.Store.{PlainStore}
+use Rattle.blink_steps.specs.declared.step.Step.{Step}
+use Rattle.blink_steps.specs.declared.step.Step.TheVariants.{Moved, Idle}
+use Rattle.blink_steps.specs.Kinds.{write_page}
+use Rattle.blink_steps.specs.Machine.{PlainMachine, NeedsPrime, NeedsPage, NeedsNew}
+use Rattle.blink_steps.specs.Moment.{Moment, IsItsOperation, Steps}
+use Rattle.blink_steps.specs.Run.{PlainRun, Taken, TakesTurn, IsNextOf, moment_of}
+use Rattle.blink_steps.specs.Sound.{IsSound}
+use Rattle.blink_steps.specs.Table.{SeesPrime, WaitsForLevel, SeesPage, IsChange}
+use Rattle.blink_steps.specs.World.{PlainWorld, IsWorld}
+
+-- ---- turns and steps
+
+-- a new page gets the number after the last
+abbrev pub TakesNextNumber : PlainStore → PlainMachine → Step → Type 0
+TakesNextNumber store m step = NeedsNew m → step ≡ Moved (write_page (length store.pages + 1))
+
+-- the turn is an atomic step of the worker's operation, between the moments before and after it
+pub record IsStepOfMoments (old : PlainRun) (taken : Taken) (new : PlainRun) : Type 0 where
+  pub its : IsItsOperation (moment_of old) taken.worker taken.before
+  pub steps : Steps (moment_of old) taken.worker taken.before taken.step taken.after (moment_of new)
+  pub next_number : TakesNextNumber old.shared.store taken.before taken.step
+
+-- each turn that moves or waits is such a step
+abbrev pub TurnsAreSteps : Type 0
+TurnsAreSteps = (old new : PlainRun) (taken : Taken) → TakesTurn old taken new → taken.step ≢ Idle → IsStepOfMoments old taken new
+
+-- the turn that takes a step of an operation of this place
+abbrev pub turn_of : ℕ → ℕ → PlainMachine → Step → PlainMachine → Taken
+turn_of worker place m step after = record { worker = worker; step = step; place = place; before = m; after = after }
+
+-- a turn that leads to this moment
+pub record HasTurnTo (old : PlainRun) (taken : Taken) (then : Moment) : Type 0 where
+  pub new : PlainRun
+  pub turn : TakesTurn old taken new
+  pub same_moment : moment_of new ≡ then
+
+-- and each such step of a world's operation, with that number for a new page, is a turn
+abbrev pub StepsAreTurns : Type 0
+StepsAreTurns = (world : PlainWorld) (worker place : ℕ) (m after : PlainMachine) (next : Option ℕ) (step : Step) (then : Moment) → IsWorld world
+    → IsNextOf world.run worker place m next → Steps (moment_of world.run) worker m step after then
+    → TakesNextNumber world.run.shared.store m step → HasTurnTo world.run (turn_of worker place m step after) then
+
+-- ---- what is read
+
+-- what an operation makes of the prime block is determined by what it reads
+abbrev pub OneResultOfPrime : Type 0
+OneResultOfPrime = (m after other : PlainMachine) (prime : List ℕ) → SeesPrime m prime after → SeesPrime m prime other → after ≡ other
+
+-- likewise of a page
+abbrev pub OneResultOfPage : Type 0
+OneResultOfPage = (m after other : PlainMachine) (number : ℕ) (page : PlainPage) → SeesPage m number page after → SeesPage m number page other → after ≡ other
+
+-- and so is the change that it makes
+abbrev pub OneChange : Type 0
+OneChange = (m : PlainMachine) (page changed also : PlainPage) (kept and : Option ℕ) → IsChange m page changed kept → IsChange m page also and
+    → (changed ≡ also) × (kept ≡ and)
+
+-- what an operation makes of the page of this number
+pub record HasResultOfPage (moment : Moment) (m : PlainMachine) (number : ℕ) : Type 0 where
+  pub page : PlainPage
+  pub there : moment.pages number ≡ Some page
+  pub after : PlainMachine
+  pub sees : SeesPage m number page after
+
+-- in a sound moment an operation that needs to read a page makes something of it
+abbrev pub PageReadsHaveResults : Type 0
+PageReadsHaveResults = (moment : Moment) (worker number : ℕ) (m : PlainMachine) → IsSound moment → IsItsOperation moment worker m → NeedsPage m number
+    → HasResultOfPage moment m number
+
+-- and one that needs to read the prime block waits, or makes something of it
+abbrev pub PrimeReadsHaveResults : Type 0
+PrimeReadsHaveResults = (moment : Moment) (worker : ℕ) (m : PlainMachine) → IsSound moment → IsItsOperation moment worker m → NeedsPrime m
+    → WaitsForLevel m moment.prime ⊎ ((after : PlainMachine) × SeesPrime m moment.prime after)
