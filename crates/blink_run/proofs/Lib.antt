@@ -1,0 +1,2 @@
+pub mod BookLemmas
+pub mod RunLemmas

@@ -1,0 +1,10 @@
+use Rattle.std.proofs.Common.{true, ap}
+use Rattle.blink_steps.specs.Counts.{has_moved}
+use Rattle.blink_run.proofs.BookLemmas.{moves_book, stays_book}
+use Rattle.blink_run.proofs.book.Book.turn.Goals as goal
+
+pub invariant_of-self : goal.invariant_of-self
+invariant_of-self c = moves_book _ c.step.new.self c.args.worker _ c.self.invariant c.in-Ok-Moved.ensures.goes_on c.in-Ok-Moved.ensures.same_batch (ap has_moved c.in-Ok-Moved.field-0-is) c.self.inside.stopped
+
+pub invariant_of-self-in-Err : goal.invariant_of-self-in-Err
+invariant_of-self-in-Err c = stays_book _ c.step.new.self c.self.invariant c.in-Err.ensures.unchanged true

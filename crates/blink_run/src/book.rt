@@ -1,0 +1,215 @@
+//! The book of a run, which its workers take turns to write.
+ghost use Rattle.std.specs.Prelude.{◌≡◌, ◌↔◌, All, IfOk, IfErr, IsTrue, IsErrOf, IsSome, Some, map, slice_get};
+ghost use Rattle.blink_batch.specs.Cut.{IsLawfulCut};
+ghost use Rattle.std.specs.Bool.{OnFalse};
+ghost use Rattle.blink_steps.specs.World.{IsAtLanesEnd, IsTooLarge};
+ghost use Rattle.blink_run.specs.Book.{HasEndedOp, IsBookRefusal, IsNewBook, IsRunOf, IsSettleRefusal, TurnsPage, stopped_book};
+ghost use Rattle.blink_run.specs.Run.{IsSettled};
+
+use crate::error::RunError;
+use blink_batch::{Answer, Batch, Cut, Lanes};
+use blink_rest::Rest;
+use blink_steps::{Kind, Step, StepError, World, is_too_large};
+use std::alloc::{AllocError, Global};
+use std::marker::Model;
+
+/// What became of a worker's turn at the book.
+#[derive(Clone, Copy, Debug, PartialEq, Eq)]
+pub(crate) enum Turn {
+    /// It took this step of its operation, which has ended with it or hasn't.
+    Took(Kind, bool),
+    /// Its operation had ended before.
+    Over,
+    /// Its step would have been a wait, and it took none.
+    Waits,
+    /// The run is stopped.
+    Stopped,
+}
+
+/// A run's start, its batch and lanes, and the world of its schedule so far.
+///
+/// Its type keeps that the world is the one that the schedule leads to from that start, and that each turn of it moved: so
+/// waiting takes no memory, and the schedule is no longer than a run's steps.
+#[derive(Debug, Drop)]
+pub(crate) struct Book {
+    start: Rest,
+    batch: Batch,
+    lanes: Lanes,
+    world: World,
+    stopped: bool,
+}
+
+impl Model for Book {
+    ghost use Rattle.blink_run.specs.Book.{PlainBook, IsBook};
+
+    ghost Value = { PlainBook };
+
+    ghost view = { λ book. record { start = book.start; ops = book.batch; assignment = book.lanes; world = book.world; stopped = book.stopped } };
+
+    ghost invariant = { λ book. IsBook (record { start = book.start; ops = book.batch; assignment = book.lanes; world = book.world; stopped = book.stopped }) };
+}
+
+impl Book {
+    /// The book of a run of a batch over a tree, before its first step. Tree, batch and lanes are copied.
+    ///
+    /// The refusal `TooLarge` comes before memory is asked for.
+    pub(crate) fn new(
+        alloc: Global,
+        start: &Rest,
+        batch: &Batch,
+        cut: &Cut,
+    ) -> Result<Book, RunError>
+        requires { IsLawfulCut batch.now cut.now.workers cut.now.lanes }
+        ensures new { IfOk result (IsNewBook start.now batch.now cut.now) }
+        ensures too_large { IsErrOf result RunError.TooLarge ↔ IsTooLarge start.now batch.now }
+        ensures refused { IfErr result IsBookRefusal }
+    {
+        if is_too_large(start, batch) {
+            return Err(RunError::TooLarge);
+        }
+        match Book::copied(alloc, start, batch, cut) {
+            Ok(book) => Ok(book),
+            Err(_) => Err(RunError::OutOfMemory),
+        }
+    }
+
+    // The book, where its insertions find page numbers.
+    fn copied(alloc: Global, start: &Rest, batch: &Batch, cut: &Cut) -> Result<Book, StepError>
+        requires cut { IsLawfulCut batch.now cut.now.workers cut.now.lanes }
+        requires not_too_large { ¬ IsTooLarge start.now batch.now }
+        ensures { IfOk result (IsNewBook start.now batch.now cut.now) }
+    {
+        let Ok(tree) = start.copy(alloc) else {
+            return Err(StepError::OutOfMemory);
+        };
+        let Ok(start) = start.copy(alloc) else {
+            return Err(StepError::OutOfMemory);
+        };
+        let (Ok(run), Ok(run_lanes)) = (copy_of(alloc, batch), lanes_of(alloc, batch, cut)) else {
+            return Err(StepError::OutOfMemory);
+        };
+        let (Ok(batch), Ok(lanes)) = (copy_of(alloc, batch), lanes_of(alloc, batch, cut)) else {
+            return Err(StepError::OutOfMemory);
+        };
+        let world = World::start(alloc, tree, run, run_lanes)?;
+        Ok(Book {
+            start,
+            batch,
+            lanes,
+            world,
+            stopped: false,
+        })
+    }
+
+    /// A turn of a worker, for the operation at this place of its lane: one step, unless that would be a wait, or the
+    /// operation has ended. Where memory is refused the run is stopped; a worker with another's operation is told to stop.
+    pub(crate) fn turn(&mut self, worker: u8, op: u32) -> Turn
+        ensures { TurnsPage self.old worker op result self.new }
+    {
+        if self.stopped || !self.is_of(worker, op) {
+            return Turn::Stopped;
+        }
+        if self.has_ended(worker, op) {
+            return Turn::Over;
+        }
+        if self.world.waits(worker) {
+            return Turn::Waits;
+        }
+        match self.world.step(worker) {
+            Ok(Step::Moved(kind)) => Turn::Took(kind, self.world.is_idle(worker)),
+            Ok(Step::Waited | Step::Idle) => unreachable!(),
+            Err(_) => {
+                self.stopped = true;
+                Turn::Stopped
+            }
+        }
+    }
+
+    // Whether the operation is one of the worker's.
+    fn is_of(&self, worker: u8, op: u32) -> bool
+        ensures { IsTrue result ↔ slice_get self.now.assignment.lanes op ≡ Some worker }
+    {
+        self.lanes.lanes().get(op as usize) == Some(&worker)
+    }
+
+    // Whether the worker's operation has ended: it has its answer, and the worker has none under way.
+    fn has_ended(&self, worker: u8, op: u32) -> bool
+        requires { slice_get self.now.assignment.lanes op ≡ Some worker }
+        ensures ended { IsTrue result ↔ HasEndedOp self.now.world.run worker op }
+        ensures has_more { OnFalse result (¬ IsAtLanesEnd self.now.world.run worker) }
+    {
+        self.world.answers()[op as usize].is_some() && self.world.is_idle(worker)
+    }
+
+    /// Stops the run: each worker stops at its next turn.
+    pub(crate) fn stop(&mut self)
+        ensures { self.new ≡ stopped_book self.old }
+    {
+        self.stopped = true;
+    }
+
+    /// What the run has come to: its tree and its answers, place by place. The book must be that of this run, at its end.
+    pub(crate) fn settle(
+        self,
+        alloc: Global,
+        start: &Rest,
+        batch: &Batch,
+        cut: &Cut,
+    ) -> Result<(Rest, Vec<Answer>), RunError>
+        requires { IsLawfulCut batch.now cut.now.workers cut.now.lanes }
+        ensures settled { IfOk result
+            (λ done. IsSettled start.now batch.now cut.now done.0 done.1.items) }
+        ensures refused { IfErr result IsSettleRefusal }
+    {
+        if self.stopped {
+            return Err(RunError::OutOfMemory);
+        }
+        if !self.is_run_of(start, batch, cut) || !self.world.ended() {
+            return Err(RunError::Foreign);
+        }
+        let Ok(answers) = all_of(alloc, self.world.answers()) else {
+            return Err(RunError::OutOfMemory);
+        };
+        Ok((self.world.into_rest(), answers))
+    }
+
+    // Whether it began with this tree, this batch and these lanes.
+    fn is_run_of(&self, start: &Rest, batch: &Batch, cut: &Cut) -> bool
+        ensures { IsTrue result ↔ IsRunOf self.now start.now batch.now cut.now }
+    {
+        self.start.is_same(start)
+            && self.batch == *batch
+            && self.lanes.workers() == cut.workers()
+            && self.lanes.lanes() == cut.lanes()
+    }
+}
+
+// The same batch once more.
+fn copy_of(alloc: Global, batch: &Batch) -> Result<Batch, AllocError>
+    ensures { IfOk result (λ copy. copy ≡ batch.now) }
+{
+    Ok(Batch::new(batch.ops().to_vec(alloc)?).unwrap())
+}
+
+// The lanes of a cut, for a run that takes any.
+fn lanes_of(alloc: Global, batch: &Batch, cut: &Cut) -> Result<Lanes, AllocError>
+    requires { IsLawfulCut batch.now cut.now.workers cut.now.lanes }
+    ensures { IfOk result (λ lanes. lanes ≡ cut.now) }
+{
+    let lanes = cut.lanes().to_vec(alloc)?;
+    Ok(Lanes::new(batch, cut.workers(), lanes).unwrap())
+}
+
+// All answers, where each place has one.
+fn all_of(alloc: Global, given: &[Option<Answer>]) -> Result<Vec<Answer>, AllocError>
+    requires { All (λ answer. IsSome answer) given.now }
+    ensures { IfOk result (λ answers. given.now ≡ map Some answers.items) }
+{
+    let mut answers = Vec::with_capacity(alloc, given.len())?;
+    for answer in given {
+        if let Some(answer) = answer {
+            answers.push_reserved(*answer);
+        }
+    }
+    Ok(answers)
+}

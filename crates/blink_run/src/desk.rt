@@ -1,0 +1,95 @@
+//! The desk at which workers take turns at the book, each in a thread of its own.
+
+use crate::book::{Book, Turn};
+use crate::gate::Gate;
+use blink_steps::Kind;
+use std::sync::{Condvar, Mutex, Wait};
+use std::thread;
+
+/// How often a waiting worker looks at the book again before it sleeps until the book has changed.
+const LOOKS: usize = 16;
+
+/// A book that one worker at a time writes: each step is taken under its lock.
+#[derive(Drop)]
+pub(crate) struct Desk {
+    book: Mutex<Book>,
+    // Told where a worker has let a latch go, has written the prime block, or has found the run stopped: nothing else is
+    // waited for.
+    changed: Condvar,
+}
+
+impl Desk {
+    /// A desk for this book.
+    pub(crate) fn new(book: Book) -> Desk {
+        Desk {
+            book: Mutex::new(book),
+            changed: Condvar::new(),
+        }
+    }
+
+    /// Runs a worker's lane, one operation after another, to its end or until the run is stopped. The gate is called between
+    /// operations, when the worker has neither the lock nor a latch.
+    pub(crate) fn run_lane<R: Wait, G: Gate>(&self, rt: &R, gate: &G, worker: u8, lanes: &[u8]) {
+        for (op, &lane) in (0..u32::MAX).zip(lanes) {
+            if lane == worker {
+                gate.before(worker, op);
+                if !self.run_operation(rt, worker, op) {
+                    return;
+                }
+                gate.after(worker, op);
+            }
+        }
+    }
+
+    // Takes the operation's turns until it has ended, or else the run is stopped.
+    fn run_operation<R: Wait>(&self, rt: &R, worker: u8, op: u32) -> bool {
+        for _ in rt.forever() {
+            match self.turn(rt, worker, op) {
+                Turn::Took(_, false) | Turn::Waits => {}
+                Turn::Took(_, true) | Turn::Over => return true,
+                Turn::Stopped => return false,
+            }
+        }
+        unreachable!()
+    }
+
+    // The worker's next turn that is no wait. After some looks it sleeps until the book has changed.
+    fn turn<R: Wait>(&self, rt: &R, worker: u8, op: u32) -> Turn {
+        for _ in 0..LOOKS {
+            let turn = self.book.lock(rt).turn(worker, op);
+            if turn != Turn::Waits {
+                return self.told(turn);
+            }
+            thread::yield_now();
+        }
+        let mut book = self.book.lock(rt);
+        for _ in rt.forever() {
+            let turn = book.turn(worker, op);
+            if turn != Turn::Waits {
+                drop(book);
+                return self.told(turn);
+            }
+            book = self.changed.wait(rt, book);
+        }
+        unreachable!()
+    }
+
+    // Wakes who may have waited for what this turn has done.
+    fn told(&self, turn: Turn) -> Turn {
+        if let Turn::Took(Kind::Unlatch(_) | Kind::WritePrime, _) | Turn::Stopped = turn {
+            self.changed.notify_all();
+        }
+        turn
+    }
+
+    /// Stops the run.
+    pub(crate) fn stop<R: Wait>(&self, rt: &R) {
+        self.book.lock(rt).stop();
+        self.changed.notify_all();
+    }
+
+    /// The book, when all workers have left.
+    pub(crate) fn into_book(self) -> Book {
+        self.book.into_inner()
+    }
+}

@@ -1,0 +1,21 @@
+//! What is told of each operation's beginning and end.
+
+/// A gate that each operation passes twice: before its first step, and after it ended. The worker that calls it holds no lock
+/// and no latch, so a gate may take its time, and other workers go on meanwhile.
+pub trait Gate {
+    /// The worker is about to begin the operation at this place of the batch.
+    fn before(&self, worker: u8, op: u32);
+
+    /// The operation at this place of the batch has ended.
+    fn after(&self, worker: u8, op: u32);
+}
+
+/// The gate that is always open: it does nothing.
+#[derive(Clone, Copy, Debug, PartialEq, Eq)]
+pub struct Open;
+
+impl Gate for Open {
+    fn before(&self, _worker: u8, _op: u32) {}
+
+    fn after(&self, _worker: u8, _op: u32) {}
+}

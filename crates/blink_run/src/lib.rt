@@ -1,0 +1,18 @@
+//! Threads round the step machine: a batch runs on an index, each worker's lane in a thread of its own.
+//!
+//! The driver `Locked` takes every step under one lock. What is under it is a book, which keeps by its type that it is the
+//! run of a schedule in which every turn moved; the runner compares the book with what it gave to it, and so knows what the
+//! threads have done.
+#![tactic(auto)]
+
+mod book;
+mod desk;
+mod error;
+mod gate;
+mod run;
+#[cfg(test)]
+mod tests;
+
+pub use error::RunError;
+pub use gate::{Gate, Open};
+pub use run::{Driver, run_batch};
