@@ -3,11 +3,14 @@
 use crate::book::{Book, Turn};
 use crate::gate::Gate;
 use blink_steps::Kind;
-use std::sync::{Condvar, Mutex, Wait};
+use std::sync::{Condvar, Mutex, MutexGuard, Wait};
 use std::thread;
 
 /// How often a waiting worker looks at the book again before it sleeps until the book has changed.
 const LOOKS: usize = 16;
+
+/// How often a worker tries the lock, and yields, before it sleeps until it has it.
+const TRIES: usize = 20;
 
 /// A book that one worker at a time writes: each step is taken under its lock.
 #[derive(Drop)]
@@ -56,13 +59,13 @@ impl Desk {
     // The worker's next turn that is no wait. After some looks it sleeps until the book has changed.
     fn turn<R: Wait>(&self, rt: &R, worker: u8, op: u32) -> Turn {
         for _ in 0..LOOKS {
-            let turn = self.book.lock(rt).turn(worker, op);
+            let turn = self.enter(rt).turn(worker, op);
             if turn != Turn::Waits {
                 return self.told(turn);
             }
             thread::yield_now();
         }
-        let mut book = self.book.lock(rt);
+        let mut book = self.enter(rt);
         for _ in rt.forever() {
             let turn = book.turn(worker, op);
             if turn != Turn::Waits {
@@ -72,6 +75,17 @@ impl Desk {
             book = self.changed.wait(rt, book);
         }
         unreachable!()
+    }
+
+    // The book, under its lock. A worker that sleeps for each step's lock is mostly asleep: steps are short.
+    fn enter<R: Wait>(&self, rt: &R) -> MutexGuard<'_, Book> {
+        for _ in 0..TRIES {
+            if let Some(book) = self.book.try_lock() {
+                return book;
+            }
+            thread::yield_now();
+        }
+        self.book.lock(rt)
     }
 
     // Wakes who may have waited for what this turn has done.
@@ -84,7 +98,7 @@ impl Desk {
 
     /// Stops the run.
     pub(crate) fn stop<R: Wait>(&self, rt: &R) {
-        self.book.lock(rt).stop();
+        self.enter(rt).stop();
         self.changed.notify_all();
     }
 
