@@ -1,6 +1,8 @@
 pub mod CellLemmas
 pub mod CutLemmas
 pub mod FieldLemmas
+pub mod GroupLemmas
+pub mod LawLemmas
 pub mod NumberLemmas
 pub mod OrderLemmas
 pub mod PlaceLemmas

@@ -6,6 +6,7 @@ pub mod LastPlaces
 pub mod Number
 pub mod Operation
 pub mod Order
+pub mod Parts
 pub mod PlainMap
 pub mod Ranges
 pub mod Record

@@ -1,10 +1,12 @@
--- What one record of a script means: an operation, or why it is refused.
+-- What one record of a script means: an operation or a scan, or why it is refused.
 use Rattle.std.specs.Prelude.{ℕ, List, [], ◌∷◌, Option, Some, None, Result, Ok, Err, if◌then◌else◌, codes}
 use Rattle.std.specs.Str.{bytes_eq}
 use Rattle.blink_batch.specs.declared.operation.Op.{Op}
 use Rattle.blink_batch.specs.declared.operation.Op.TheVariants.{Find, Insert, Delete}
 use Rattle.blink_batch.specs.declared.error.RecordError.{RecordError}
 use Rattle.blink_batch.specs.declared.error.RecordError.TheVariants.{BadShape, UnknownOperation, BadNumber}
+use Rattle.blink_batch.specs.declared.record.Request.{Request}
+use Rattle.blink_batch.specs.declared.record.Request.TheVariants.{Operation, Scan}
 use Rattle.blink_batch.specs.Number.{number_of}
 
 -- the key of an operation that has nothing else: an empty third field, and then a number as the second
@@ -14,28 +16,39 @@ key_alone [] (Some key) = Ok key
 key_alone [] None = Err BadNumber
 
 -- the operation on that key
-abbrev pub on_key_alone : (ℕ → Op) → Result ℕ RecordError → Result Op RecordError
-on_key_alone operation (Ok key) = Ok (operation key)
+abbrev pub on_key_alone : (ℕ → Op) → Result ℕ RecordError → Result Request RecordError
+on_key_alone operation (Ok key) = Ok (Operation (operation key))
 on_key_alone operation (Err error) = Err error
 
--- an insertion has two numbers
-abbrev pub insert_of : Option ℕ → Option ℕ → Result Op RecordError
-insert_of (Some key) (Some pointer) = Ok (Insert key pointer)
-insert_of (Some key) None = Err BadNumber
-insert_of None pointer = Err BadNumber
+-- two numbers, the second field's and the third's
+abbrev pub two_numbers : Option ℕ → Option ℕ → Result (ℕ × ℕ) RecordError
+two_numbers (Some one) (Some other) = Ok (one, other)
+two_numbers (Some one) None = Err BadNumber
+two_numbers None other = Err BadNumber
 
--- the operation of a word and its two fields
-abbrev pub named : List ℕ → List ℕ → List ℕ → Result Op RecordError
+-- the insertion of a key and its pointer
+abbrev pub insert_of : Result (ℕ × ℕ) RecordError → Result Request RecordError
+insert_of (Ok numbers) = Ok (Operation (Insert numbers.0 numbers.1))
+insert_of (Err error) = Err error
+
+-- the scan from the one bound to the other
+abbrev pub scan_of : Result (ℕ × ℕ) RecordError → Result Request RecordError
+scan_of (Ok numbers) = Ok (Scan numbers.0 numbers.1)
+scan_of (Err error) = Err error
+
+-- the request of a word and its two fields
+abbrev pub named : List ℕ → List ℕ → List ℕ → Result Request RecordError
 named word second third =
-    if bytes_eq word (codes "insert") then insert_of (number_of second) (number_of third)
+    if bytes_eq word (codes "insert") then insert_of (two_numbers (number_of second) (number_of third))
     else if bytes_eq word (codes "find") then on_key_alone Find (key_alone third (number_of second))
     else if bytes_eq word (codes "delete") then on_key_alone Delete (key_alone third (number_of second))
+    else if bytes_eq word (codes "scan") then scan_of (two_numbers (number_of second) (number_of third))
     else Err UnknownOperation
 
 -- a record has three fields
-abbrev pub operation_of : List (List ℕ) → Result Op RecordError
-operation_of [] = Err BadShape
-operation_of (word ∷ []) = Err BadShape
-operation_of (word ∷ second ∷ []) = Err BadShape
-operation_of (word ∷ second ∷ third ∷ []) = named word second third
-operation_of (word ∷ second ∷ third ∷ fourth ∷ rest) = Err BadShape
+abbrev pub request_of : List (List ℕ) → Result Request RecordError
+request_of [] = Err BadShape
+request_of (word ∷ []) = Err BadShape
+request_of (word ∷ second ∷ []) = Err BadShape
+request_of (word ∷ second ∷ third ∷ []) = named word second third
+request_of (word ∷ second ∷ third ∷ fourth ∷ rest) = Err BadShape

@@ -9,8 +9,10 @@ use Rattle.blink_batch.specs.declared.error.ScriptError.{ScriptError}
 use Rattle.blink_batch.specs.declared.error.ScriptError.TheVariants.{Row, TooMany, Csv, Read, OutOfMemory}
 use Rattle.blink_batch.specs.declared.operation.Op.{Op}
 use Rattle.blink_batch.specs.declared.script.Part.{Part}
-use Rattle.blink_batch.specs.declared.script.Part.TheVariants.{Batch}
-use Rattle.blink_batch.specs.Record.{operation_of}
+use Rattle.blink_batch.specs.declared.script.Part.TheVariants.{Batch, Scan}
+use Rattle.blink_batch.specs.declared.record.Request.{Request}
+use Rattle.blink_batch.specs.declared.record.Request.TheVariants as request
+use Rattle.blink_batch.specs.Record.{request_of}
 
 -- the records that csv gives of a text, each a list of its fields
 abbrev pub records_of : List ℕ → List (List (List ℕ))
@@ -20,24 +22,31 @@ records_of text = records default_config (strip_bom text)
 abbrev pub joined : Op → List Part → List Part
 joined op [] = Batch (op ∷ []) ∷ []
 joined op (Batch ops ∷ parts) = Batch (op ∷ ops) ∷ parts
+joined op (Scan lo hi ∷ parts) = Batch (op ∷ []) ∷ Scan lo hi ∷ parts
 
 -- an operation before a script, or before a refusal, which is then the refusal of both
 abbrev pub with_operation : Op → Result (List Part) ScriptError → Result (List Part) ScriptError
 with_operation op (Ok parts) = Ok (joined op parts)
 with_operation op (Err error) = Err error
 
--- the script of a record's meaning and what follows, where its batch has so many operations before it
-abbrev pub script_by : ℕ → ℕ → Result Op RecordError → (ℕ → Result (List Part) ScriptError)
+-- a scan before a script, a part of its own, or before a refusal
+abbrev pub with_scan : ℕ → ℕ → Result (List Part) ScriptError → Result (List Part) ScriptError
+with_scan lo hi (Ok parts) = Ok (Scan lo hi ∷ parts)
+with_scan lo hi (Err error) = Err error
+
+-- the script of a record's meaning and what follows, where the batch so far has so many operations: a scan ends it
+abbrev pub script_by : ℕ → ℕ → Result Request RecordError → (ℕ → Result (List Part) ScriptError)
     → Result (List Part) ScriptError
 script_by number before (Err fault) following = Err (Row number fault)
-script_by number before (Ok op) following =
+script_by number before (Ok (request.Operation op)) following =
     if nat_lt before BATCH_LIMIT then with_operation op (following (before + 1)) else Err (TooMany number)
+script_by number before (Ok (request.Scan lo hi)) following = with_scan lo hi (following 0)
 
--- the script of records that are counted from a number on, where their batch has so many operations before them
+-- the script of records that are counted from a number on, where the batch so far has so many operations
 abbrev pub script_from : ℕ → ℕ → List (List (List ℕ)) → Result (List Part) ScriptError
 script_from number before [] = Ok []
 script_from number before (row ∷ rows) =
-    script_by number before (operation_of row) (λ taken. script_from (number + 1) taken rows)
+    script_by number before (request_of row) (λ taken. script_from (number + 1) taken rows)
 
 -- the parts that records ask for, or their first refusal
 abbrev pub script_of : List (List (List ℕ)) → Result (List Part) ScriptError

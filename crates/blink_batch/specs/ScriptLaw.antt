@@ -1,48 +1,61 @@
--- What the script of some records is, told without a count or a recursion: all records are operations of one batch, or
--- there is a first that is refused.
-use Rattle.std.specs.Prelude.{ℕ, ◌≡◌, ◌≤◌, ◌+◌, ◌↔◌, List, [], ◌∷◌, ◌++◌, length, map, Result, Ok, Err}
+-- What the script of some records is, told without a count or a recursion over them: the parts ask for what the records
+-- ask for, or there is a first record that is refused.
+use Rattle.std.specs.Prelude.{ℕ, ◌≡◌, ◌≢◌, ◌≤◌, ◌+◌, ◌↔◌, List, [], ◌∷◌, ◌++◌, length, map, Result, Ok, Err}
+use Rattle.std.specs.List.{flat_map}
 use Rattle.blink_batch.specs.declared.batch.TheConstants.{BATCH_LIMIT}
 use Rattle.blink_batch.specs.declared.error.RecordError.{RecordError}
 use Rattle.blink_batch.specs.declared.error.ScriptError.{ScriptError}
 use Rattle.blink_batch.specs.declared.error.ScriptError.TheVariants.{Row, TooMany}
 use Rattle.blink_batch.specs.declared.operation.Op.{Op}
+use Rattle.blink_batch.specs.declared.record.Request.{Request}
+use Rattle.blink_batch.specs.declared.record.Request.TheVariants as request
 use Rattle.blink_batch.specs.declared.script.Part.{Part}
-use Rattle.blink_batch.specs.declared.script.Part.TheVariants.{Batch}
-use Rattle.blink_batch.specs.Record.{operation_of}
+use Rattle.blink_batch.specs.declared.script.Part.TheVariants.{Batch, Scan}
+use Rattle.blink_batch.specs.Record.{request_of}
 use Rattle.blink_batch.specs.Script.{script_of}
 
--- consecutive operations form one batch, and a batch isn't empty
-abbrev pub parts_of : List Op → List Part
-parts_of [] = []
-parts_of (op ∷ ops) = Batch (op ∷ ops) ∷ []
+-- what a part asks for, one request a record
+abbrev pub requests_in : Part → List Request
+requests_in (Batch ops) = map request.Operation ops
+requests_in (Scan lo hi) = request.Scan lo hi ∷ []
 
--- the records mean these operations, one each, and they are few enough for a batch
-pub record AreOperations (rows : List (List (List ℕ))) (ops : List Op) : Type 0 where
-  pub meanings : map operation_of rows ≡ map Ok ops
-  pub one_batch : length ops ≤ BATCH_LIMIT
+-- batches aren't empty and within the limit, and what is consecutive is one batch
+pub record AreGrouped (parts : List Part) : Type 0 where
+  pub none_empty : (before after : List Part) → parts ≢ before ++ Batch [] ∷ after
+  pub within_limit : (before after : List Part) (ops : List Op)
+      → parts ≡ before ++ Batch ops ∷ after → length ops ≤ BATCH_LIMIT
+  pub no_neighbours : (before after : List Part) (ops others : List Op)
+      → parts ≢ before ++ Batch ops ∷ Batch others ∷ after
 
--- a record is refused where it means no operation, or one more than a batch may have
-abbrev pub RefusedAfter : List Op → Result Op RecordError → ScriptError → Type 0
-RefusedAfter before (Err fault) error = error ≡ Row (length before + 1) fault
-RefusedAfter before (Ok op) error = (error ≡ TooMany (length before + 1)) × (length before ≡ BATCH_LIMIT)
-
--- the script of some records: all of them are operations, and these are its parts
+-- the script of some records: they mean what the parts ask for, in that order
 pub record HasParts (rows : List (List (List ℕ))) (parts : List Part) : Type 0 where
-  pub ops : List Op
-  pub all_operations : AreOperations rows ops
-  pub their_batch : parts ≡ parts_of ops
+  pub meanings : map request_of rows ≡ map Ok (flat_map requests_in parts)
+  pub grouped : AreGrouped parts
 
--- the first refusal of some records: those before it are operations
+-- the last part is a batch that has no room for one operation more
+pub record EndsInFullBatch (parts : List Part) : Type 0 where
+  pub earlier : List Part
+  pub ops : List Op
+  pub last : parts ≡ earlier ++ Batch ops ∷ []
+  pub full : length ops ≡ BATCH_LIMIT
+
+-- the record of this number, behind these parts, is refused where it means nothing, or one operation too many
+abbrev pub RefusedAfter : ℕ → List Part → Result Request RecordError → ScriptError → Type 0
+RefusedAfter number parts (Err fault) error = error ≡ Row number fault
+RefusedAfter number parts (Ok (request.Operation op)) error = (error ≡ TooMany number) × EndsInFullBatch parts
+RefusedAfter number parts (Ok (request.Scan lo hi)) error = ⊥
+
+-- the first refusal of some records: those before it have parts
 pub record IsRefused (rows : List (List (List ℕ))) (error : ScriptError) : Type 0 where
   pub before : List (List (List ℕ))
   pub row : List (List ℕ)
   pub after : List (List (List ℕ))
   pub in_order : rows ≡ before ++ row ∷ after
-  pub ops : List Op
-  pub operations_before : AreOperations before ops
-  pub refused : RefusedAfter ops (operation_of row) error
+  pub parts : List Part
+  pub parts_before : HasParts before parts
+  pub refused : RefusedAfter (length before + 1) parts (request_of row) error
 
--- records are a script exactly where all of them are operations of one batch
+-- records are a script exactly where these are their parts
 abbrev pub ScriptsHaveTheirParts : Type 0
 ScriptsHaveTheirParts = (rows : List (List (List ℕ))) (parts : List Part)
     → (script_of rows ≡ Ok parts) ↔ HasParts rows parts

@@ -2,16 +2,25 @@
 ghost use Rattle.std.specs.Prelude.{◌≡◌, ◌≢◌, [], ◌∷◌, length, MatchOption};
 ghost use Rattle.csv.specs.Records.{fields_of};
 ghost use Rattle.blink_batch.specs.Number.{number_of};
-ghost use Rattle.blink_batch.specs.Record.{insert_of, key_alone, named, operation_of};
+ghost use Rattle.blink_batch.specs.Record.{key_alone, named, request_of, two_numbers};
 
 use crate::error::RecordError;
 use crate::number::read_number;
 use crate::operation::Op;
 use csv::ByteRecord;
 
-// The operation that a record means.
-pub(crate) fn read_operation(row: &ByteRecord) -> Result<Op, RecordError>
-    ensures { result ≡ operation_of (fields_of row.now) }
+/// What one record asks for.
+#[derive(Clone, Copy)]
+pub(crate) enum Request {
+    /// An operation of a batch.
+    Operation(Op),
+    /// The entries with keys from the first number to the second.
+    Scan(u64, u64),
+}
+
+/// What a record asks for.
+pub(crate) fn read_request(row: &ByteRecord) -> Result<Request, RecordError>
+    ensures { result ≡ request_of (fields_of row.now) }
 {
     match three_fields(row) {
         Some((word, second, third)) => named(word, second, third),
@@ -30,16 +39,20 @@ fn three_fields(row: &ByteRecord) -> Option<(&[u8], &[u8], &[u8])>
     Some((row.get(0)?, row.get(1)?, row.get(2)?))
 }
 
-// The operation that a word and the two fields after it mean.
-fn named(word: &[u8], second: &[u8], third: &[u8]) -> Result<Op, RecordError>
+// What a word and the two fields after it ask for.
+fn named(word: &[u8], second: &[u8], third: &[u8]) -> Result<Request, RecordError>
     ensures { result ≡ named word.now second.now third.now }
 {
     if word == b"insert".as_slice() {
-        insertion(second, third)
+        two_numbers(second, third).map(|(key, pointer)| Request::Operation(Op::Insert(
+            key, pointer,
+        )))
     } else if word == b"find".as_slice() {
-        key_alone(second, third).map(Op::Find)
+        key_alone(second, third).map(|key| Request::Operation(Op::Find(key)))
     } else if word == b"delete".as_slice() {
-        key_alone(second, third).map(Op::Delete)
+        key_alone(second, third).map(|key| Request::Operation(Op::Delete(key)))
+    } else if word == b"scan".as_slice() {
+        two_numbers(second, third).map(|(lo, hi)| Request::Scan(lo, hi))
     } else {
         Err(RecordError::UnknownOperation)
     }
@@ -55,11 +68,12 @@ fn key_alone(second: &[u8], third: &[u8]) -> Result<u64, RecordError>
     read_number(second).ok_or(RecordError::BadNumber)
 }
 
-fn insertion(second: &[u8], third: &[u8]) -> Result<Op, RecordError>
-    ensures { result ≡ insert_of (number_of second.now) (number_of third.now) }
+// The two numbers of an insertion, or of a scan.
+fn two_numbers(second: &[u8], third: &[u8]) -> Result<(u64, u64), RecordError>
+    ensures { result ≡ two_numbers (number_of second.now) (number_of third.now) }
 {
     match (read_number(second), read_number(third)) {
-        (Some(key), Some(pointer)) => Ok(Op::Insert(key, pointer)),
+        (Some(one), Some(other)) => Ok((one, other)),
         _ => Err(RecordError::BadNumber),
     }
 }

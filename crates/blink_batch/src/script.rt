@@ -1,15 +1,12 @@
 //! Reading scripts.
-ghost use Rattle.std.specs.Prelude.{◌≡◌, ◌≤◌, length, Ok, IfOk, IfErr, IsOkUnless};
+ghost use Rattle.std.specs.Prelude.{◌≡◌, Ok, IfOk, IfErr};
 ghost use Rattle.csv.specs.Reading.{error_kind};
-ghost use Rattle.blink_batch.specs.declared.batch.TheConstants.{BATCH_LIMIT};
-ghost use Rattle.blink_batch.specs.declared.error.ScriptError.TheVariants.{OutOfMemory};
 ghost use Rattle.blink_batch.specs.Script.{IsReadable, ReadsAs, TellsRefusal, refusal_of};
-ghost use Rattle.blink_batch.specs.ScriptLaw.{parts_of};
 
-use crate::batch::{BATCH_LIMIT, Batch};
+use crate::batch::Batch;
 use crate::error::ScriptError;
-use crate::operation::Op;
-use crate::record::read_operation;
+use crate::parts::Parts;
+use crate::record::read_request;
 use csv::{ByteRecord, ErrorKind, ReaderBuilder};
 use std::alloc::Global;
 use std::io::Read;
@@ -19,6 +16,8 @@ use std::io::Read;
 pub enum Part {
     /// Consecutive operations, at least one.
     Batch(Batch),
+    /// A scan: the entries with keys from the first number to the second. There are none where the second is less.
+    Scan(u64, u64),
 }
 
 /// What a text of comma-separated records asks for, part after part.
@@ -29,8 +28,9 @@ pub struct Script {
 
 /// Reads a script: records of three fields as the crate `csv` reads them by default, but without a header row and
 /// of any length. `insert,k,p` keeps the pointer p under the key k, `find,k,` looks k up, and `delete,k,` takes k
-/// away. Records are counted from 1, and the first refusal in their order is the answer. A refusal leaves the reader
-/// somewhere behind the records that were read.
+/// away. Consecutive ones form a batch, and `scan,lo,hi`, which asks for the entries with keys from lo to hi, ends it.
+/// Records are counted from 1, scans among them, and the first refusal in their order is the answer. A refusal leaves
+/// the reader somewhere behind the records that were read.
 ///
 /// What is said of the text read is said of a reader that tells its bytes. `Read` comes where the reader failed, and
 /// `OutOfMemory` where memory was refused, or where more records come than 64 bits count, whose parts have no room in it.
@@ -44,22 +44,20 @@ pub fn read_script<R: Read + Drop>(alloc: Global, reader: R) -> Result<Script, S
         .flexible(true)
         .from_reader(alloc, reader);
     let mut row = ByteRecord::new(alloc);
-    let mut ops = Vec::new(alloc);
+    let mut parts = Parts::new(alloc);
     for number in 1..u64::MAX {
         match reader.read_byte_record(&mut row) {
             Ok(true) => {}
-            Ok(false) => return of_operations(alloc, ops),
+            Ok(false) => return parts.into_script(),
             Err(error) => return Err(refusal(number, error)),
         }
-        let op = match read_operation(&row) {
-            Ok(op) => op,
+        let request = match read_request(&row) {
+            Ok(request) => request,
             Err(error) => return Err(ScriptError::Row(number, error)),
         };
-        if ops.len() == BATCH_LIMIT {
-            return Err(ScriptError::TooMany(number));
-        }
-        if ops.push(op).is_err() {
-            return Err(ScriptError::OutOfMemory);
+        match parts.take(number, request) {
+            Ok(()) => {}
+            Err(error) => return Err(error),
         }
     }
     // The count has ended before the records, whose parts no memory has room for: so this never comes.
@@ -74,22 +72,5 @@ fn refusal(number: u64, error: csv::Error) -> ScriptError
         ErrorKind::Io(_) => ScriptError::Read,
         ErrorKind::OutOfMemory => ScriptError::OutOfMemory,
         _ => ScriptError::Csv(number),
-    }
-}
-
-// The script of these operations.
-fn of_operations(alloc: Global, ops: Vec<Op>) -> Result<Script, ScriptError>
-    requires { length ops.items ≤ BATCH_LIMIT }
-    ensures parts { IfOk result (λ script. script.parts.items ≡ parts_of ops.items) }
-    ensures memory { IsOkUnless result OutOfMemory }
-{
-    let mut parts = Vec::new(alloc);
-    if ops.is_empty() {
-        return Ok(Script { parts });
-    }
-    let batch = Batch::new(ops).unwrap();
-    match parts.push(Part::Batch(batch)) {
-        Ok(()) => Ok(Script { parts }),
-        Err(_) => Err(ScriptError::OutOfMemory),
     }
 }

@@ -331,11 +331,25 @@ fn numbers_are_spelled_in_one_way(rt: HostRuntime) {
     }
 }
 
+// The operations of a part that is a batch.
+fn batch_of(part: &Part) -> &[Op] {
+    match part {
+        Part::Batch(batch) => batch.ops(),
+        Part::Scan(_, _) => &[],
+    }
+}
+
+// The bounds of a part that is a scan.
+fn scan_of(part: &Part) -> Option<(u64, u64)> {
+    match part {
+        Part::Batch(_) => None,
+        Part::Scan(lo, hi) => Some((*lo, *hi)),
+    }
+}
+
 fn operations<'a>(rt: &impl Abort, script: &'a Script) -> &'a [Op] {
     assert_eq!(rt; script.parts.len(), 1);
-    match &script.parts[0] {
-        Part::Batch(batch) => batch.ops(),
-    }
+    batch_of(&script.parts[0])
 }
 
 #[test]
@@ -366,6 +380,27 @@ fn scripts_are_read_record_by_record(rt: HostRuntime) -> Result<(), Fail> {
 }
 
 #[test]
+fn scans_stand_between_batches(rt: HostRuntime) -> Result<(), Fail> {
+    let text = b"insert,5,50\nscan,9,1\nscan,0,9\ninsert,6,60\n".as_slice();
+    let script = read_script(rt.alloc(), text)?;
+    assert_eq!(rt; script.parts.len(), 4);
+    assert_eq!(rt; batch_of(&script.parts[0]), [Op::Insert(5, 50)].as_slice());
+    assert_eq!(rt; scan_of(&script.parts[1]), Some((9, 1)));
+    assert_eq!(rt; scan_of(&script.parts[2]), Some((0, 9)));
+    assert_eq!(rt; batch_of(&script.parts[3]), [Op::Insert(6, 60)].as_slice());
+    let text = b"scan,0,18446744073709551615\nfind,7,\nfind,8,\nscan,5,5".as_slice();
+    let script = read_script(rt.alloc(), text)?;
+    assert_eq!(rt; script.parts.len(), 3);
+    assert_eq!(rt; scan_of(&script.parts[0]), Some((0, u64::MAX)));
+    assert_eq!(rt;
+        batch_of(&script.parts[1]),
+        [Op::Find(7), Op::Find(8)].as_slice()
+    );
+    assert_eq!(rt; scan_of(&script.parts[2]), Some((5, 5)));
+    Ok(())
+}
+
+#[test]
 fn the_first_refusal_is_the_answer(rt: HostRuntime) -> Result<(), Fail> {
     let cases = [
         (
@@ -385,7 +420,7 @@ fn the_first_refusal_is_the_answer(rt: HostRuntime) -> Result<(), Fail> {
             ScriptError::Row(1, RecordError::UnknownOperation),
         ),
         (
-            b"scan,1,2",
+            b"scans,1,2",
             ScriptError::Row(1, RecordError::UnknownOperation),
         ),
         (b"delete,1,2", ScriptError::Row(1, RecordError::BadShape)),
@@ -394,9 +429,18 @@ fn the_first_refusal_is_the_answer(rt: HostRuntime) -> Result<(), Fail> {
         (b"delete,1", ScriptError::Row(1, RecordError::BadShape)),
         (b"put,1", ScriptError::Row(1, RecordError::BadShape)),
         (b"find,1,,", ScriptError::Row(1, RecordError::BadShape)),
+        (b"scan,05,1", ScriptError::Row(1, RecordError::BadNumber)),
+        (b"scan,1,", ScriptError::Row(1, RecordError::BadNumber)),
+        (b"scan,1", ScriptError::Row(1, RecordError::BadShape)),
+        (b"scan,1,2,3", ScriptError::Row(1, RecordError::BadShape)),
+        (b"scan,x,y", ScriptError::Row(1, RecordError::BadNumber)),
         (
             b"find,1,\nput,1,1\nfind,5",
             ScriptError::Row(2, RecordError::UnknownOperation),
+        ),
+        (
+            b"find,1,\nscan,0,9\nfind,2,\nfind,3,\nscan,4,4\nscan,5,5\nfind,6,\nfind,7,\nfind,8,\nscan,9,x",
+            ScriptError::Row(10, RecordError::BadNumber),
         ),
     ];
     for (text, refusal) in cases {
@@ -437,6 +481,25 @@ fn one_operation_too_many_is_told_after_its_own_checks(rt: HostRuntime) -> Resul
             "{last}"
         );
     }
+    Ok(())
+}
+
+#[test]
+fn a_scan_makes_room_for_another_batch(rt: HostRuntime) -> Result<(), Fail> {
+    let mut text = long_script(rt.alloc(), 4096, "scan,3,8\n")?;
+    for _ in 0..4096 {
+        text.push_str("find,2,\n")?;
+    }
+    let script = read_script(rt.alloc(), text.as_bytes())?;
+    assert_eq!(rt; script.parts.len(), 3);
+    assert_eq!(rt; batch_of(&script.parts[0]).len(), 4096);
+    assert_eq!(rt; scan_of(&script.parts[1]), Some((3, 8)));
+    assert_eq!(rt; batch_of(&script.parts[2]).len(), 4096);
+    text.push_str("find,1,\n")?;
+    assert_eq!(rt;
+        read_script(rt.alloc(), text.as_bytes()).err(),
+        Some(ScriptError::TooMany(8194))
+    );
     Ok(())
 }
 

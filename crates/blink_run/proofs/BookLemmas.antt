@@ -1,5 +1,5 @@
 -- How a book begins and goes on, and what it shows at its end.
-use Rattle.std.proofs.Common.{◌≡◌, ℕ, ◌<◌, Bool, true, false, Option, Some, None, IsSome, is_some, List, [], length, map, reverse, get_or, All, refl, ap, sym, ◌∙◌, subst, arith}
+use Rattle.std.proofs.Common.{◌≡◌, ℕ, ◌<◌, Bool, true, false, Option, Some, None, IsSome, is_some, List, [], ◌∷◌, length, map, reverse, get_or, All, refl, ap, sym, ◌∙◌, subst, arith}
 use Rattle.std.specs.Prelude.{slice_get}
 use Rattle.std.proofs.lemmas.List.{length-map, length-reverse}
 use Rattle.std.proofs.lemmas.List.Elements.{All-cons}
@@ -19,13 +19,21 @@ use Rattle.blink_run.specs.Run.{IsSettled}
 
 -- ---- the book's beginning
 
--- a world without a turn has moved at each
-none_moved : (start : PlainStore) (world : PlainWorld) (of : IsWorldOf start world) → world.schedule ≡ [] → AllMoved of.history
-none_moved start world of none k default within =
+-- a world whose schedule tells no turn has none
+pub no_turn_yet : (start : PlainStore) (world : PlainWorld) (of : IsWorldOf start world) → world.schedule ≡ [] → of.history ≡ []
+no_turn_yet start world of none =
     let workers : List ℕ = map (λ (taken : Taken). taken.worker) of.history in
     let long : length (reverse workers) ≡ length of.history = length-reverse workers ∙ length-map of.history (λ (taken : Taken). taken.worker) in
     let empty : length (reverse workers) ≡ 0 = ap (λ (xs : List ℕ). length xs) (sym of.same_schedule ∙ none) in
-    absurd (omega arith)
+    none_where_short of.history (omega arith)
+  where
+    none_where_short : (history : List Taken) → length history ≡ 0 → history ≡ []
+    none_where_short [] short = refl
+    none_where_short (taken ∷ history) short = absurd (omega arith)
+
+-- so it has moved at each
+none_moved : (start : PlainStore) (world : PlainWorld) (of : IsWorldOf start world) → world.schedule ≡ [] → AllMoved of.history
+none_moved start world of none = subst AllMoved (sym (no_turn_yet start world of none)) (λ k default within. absurd (omega arith))
 
 -- a world that begins is a book's
 pub begins_book : (start : PlainStore) (ops : List Op) (assignment : Assignment) (world : PlainWorld) → IsStart start ops assignment world

@@ -1,3 +1,9 @@
 pub mod Codes
 pub mod Book
 pub mod Run
+pub mod Settings
+pub mod Text
+pub mod Trace
+pub mod Replay
+pub mod Served
+pub mod ServedReplay

@@ -200,8 +200,8 @@ fn lanes_of(alloc: Global, batch: &Batch, cut: &Cut) -> Result<Lanes, AllocError
     Ok(Lanes::new(batch, cut.workers(), lanes).unwrap())
 }
 
-// All answers, where each place has one.
-fn all_of(alloc: Global, given: &[Option<Answer>]) -> Result<Vec<Answer>, AllocError>
+/// All answers, where each place has one.
+pub(crate) fn all_of(alloc: Global, given: &[Option<Answer>]) -> Result<Vec<Answer>, AllocError>
     requires { All (λ answer. IsSome answer) given.now }
     ensures { IfOk result (λ answers. given.now ≡ map Some answers.items) }
 {

@@ -9,10 +9,18 @@ mod book;
 mod desk;
 mod error;
 mod gate;
+mod replay;
 mod run;
+mod script;
+mod settings;
 #[cfg(test)]
 mod tests;
+mod text;
+mod trace;
 
-pub use error::RunError;
+pub use error::{RunError, ServeError};
 pub use gate::{Gate, Open};
+pub use replay::serve_replay;
 pub use run::{Driver, run_batch};
+pub use script::serve;
+pub use settings::{CutKind, Settings, SettingsError};

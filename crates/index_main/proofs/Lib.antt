@@ -1,7 +1,3 @@
-pub mod LeafEnd
-pub mod LeafKept
-pub mod LeafMoves
-pub mod LeafOpening
-pub mod LeafSteps
-pub mod LeafRound
-pub mod FaultLemmas
+pub mod ListLemmas
+pub mod ScheduleLemmas
+pub mod FlushLemmas

@@ -1,7 +1,5 @@
 pub mod Codes
-pub mod Fault
-pub mod LeafSound
-pub mod LeafTurn
-pub mod LeafWorld
+pub mod End
 pub mod Line
-pub mod Served
+pub mod Value
+pub mod Program

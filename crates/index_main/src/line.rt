@@ -1,28 +1,30 @@
 //! What the command line asks for.
-ghost use Rattle.std.specs.Prelude.{◌≡◌, false, option_map, option_and_then, IfOk, IfErr};
-ghost use Rattle.clap.specs.Words.{app_of, found_of, kind_of, rows_of, rule_of, subcommand_of, subcommand_rows_of};
+ghost use Rattle.std.specs.Prelude.{◌≡◌, List, ℕ, codes, option_map, IfOk, IfErr, IfSome, MatchOption};
 ghost use Rattle.clap.specs.Walk.{texts};
-ghost use Rattle.clap.specs.declared.builder.command.Command.TheViews.{out-Command};
+ghost use Rattle.clap.specs.Words.{first_of, found_of, kind_of, rows_of, subcommand_rows_of};
+ghost use Rattle.blink_run.specs.Settings.{IsAllowed, PlainSettings};
 ghost use Rattle.index_main.specs.Codes.{code_of_line_error};
-ghost use Rattle.index_main.specs.Line.{Asks, HasAllowedWorkers, IsBadValue, IsTaken, blink, line_of, run, workers_of, workers_option};
+ghost use Rattle.index_main.specs.Line.{Asks, AsksToReplay, AsksToRun, HasAllowedSizes, HasSizes, IsBadValue, IsTaken, Means, SubcommandMeans, value};
 
-use blink_batch::{WORKER_LIMIT, read_number};
+use crate::command::matches_of;
+use crate::value::{cut_of, driver_of, fan_of, schedule_of, workers_of};
+use blink_run::{CutKind, Driver, Settings};
+use clap::ArgMatches;
 use clap::error::ErrorKind;
-use clap::{Arg, ArgMatches, Command};
 use std::alloc::{AllocError, Global};
 use thiserror::Error;
 
 #[cfg(test)]
 mod tests;
 
-/// The number of workers where the command line gives none.
-pub const DEFAULT_WORKERS: u8 = 4;
-
 /// What the command line asks for.
 #[derive(Debug, PartialEq, Eq, Drop)]
 pub enum Line {
-    /// The script on standard input is to be run by this many workers, 1 to [`WORKER_LIMIT`].
-    Run(u8),
+    /// The script on standard input is to be run by threads.
+    Run(Settings),
+    /// The script on standard input is to be run step by step, in the order of this schedule: the numbers of workers,
+    /// each from 0 to 63. Some may be no worker of the settings.
+    Replay(Settings, Vec<u8>),
 }
 
 /// Why a command line asks for nothing.
@@ -49,11 +51,13 @@ impl LineError {
     }
 }
 
-/// What the words of a command line ask for, the program's name first: `blink run [--workers N]`, as `clap` reads it.
-/// N is spelled as numbers in scripts are, and is 1 to [`WORKER_LIMIT`]; without the option it is [`DEFAULT_WORKERS`].
+/// What the words of a command line ask for, the program's name first, as `clap` reads them:
+/// `blink run [--workers N] [--fan F] [--cut residue|ranges] [--driver locked]` or
+/// `blink replay [--workers N] [--fan F] [--schedule S]`. Numbers are spelled as in scripts. A replay cuts by remainders
+/// and takes its steps under one lock.
 pub fn read_line(alloc: Global, words: &[&str]) -> Result<Line, LineError>
-    ensures asked { IfOk result (λ line. Asks (texts words.now) line) }
-    ensures allowed { IfOk result HasAllowedWorkers }
+    ensures asked { IfOk result (Asks (texts words.now)) }
+    ensures allowed { IfOk result HasAllowedSizes }
     ensures refused { IfErr result
         (λ error. (line : _) → Asks (texts words.now) line → error ≡ LineError.OutOfMemory) }
     ensures bad_value { IfErr result (λ error. IsTaken (texts words.now) → IsBadValue error) }
@@ -62,50 +66,11 @@ pub fn read_line(alloc: Global, words: &[&str]) -> Result<Line, LineError>
         Ok(matches) => matches,
         Err(error) => return Err(refusal(alloc, &error)),
     };
-    match asked(&matches) {
-        Some(line) => Ok(line),
-        None => Err(bad_value(alloc)),
+    match asked(alloc, &matches) {
+        Ok(Some(line)) => Ok(line),
+        Ok(None) => Err(bad_value(alloc)),
+        Err(_) => Err(LineError::OutOfMemory),
     }
-}
-
-// What `clap` finds in the words.
-fn matches_of<'a>(alloc: Global, words: &'a [&'a str]) -> Result<ArgMatches<'a>, clap::Error>
-    ensures taken { IfOk result (λ _. IsTaken (texts words.entry.now)) }
-    ensures matches { IfOk result
-        (λ matches. subcommand_rows_of matches ≡ subcommand_of blink (texts words.entry.now)) }
-    ensures memory { IfErr result
-        (λ error. IsTaken (texts words.entry.now) → kind_of error ≡ ErrorKind.OutOfMemory) }
-{
-    let command = command(alloc)?;
-    command.try_get_matches_from(words)
-}
-
-fn command<'a>(alloc: Global) -> Result<Command<'a>, AllocError>
-    ensures { IfOk result (λ command. app_of command ≡ blink) }
-{
-    Command::new(alloc, "blink")
-        .about("Runs scripts of index operations")
-        .subcommand_required(true)
-        .subcommand(run_command(alloc)?)
-}
-
-fn run_command<'a>(alloc: Global) -> Result<Command<'a>, AllocError>
-    ensures app { IfOk result (λ command. app_of command ≡ run) }
-    ensures local { IfOk result (λ command. (out-Command command).has_globals ≡ false) }
-{
-    Command::new(alloc, "run")
-        .about("Runs the script on standard input and prints its answers")
-        .arg(workers_option(alloc))
-}
-
-fn workers_option<'a>(alloc: Global) -> Arg<'a>
-    ensures rule { rule_of result ≡ workers_option }
-    ensures local { result.global ≡ false }
-{
-    Arg::new(alloc, "workers")
-        .long("workers")
-        .value_name("N")
-        .help("How many workers share the work, 1 to 64 (4 where this is left out)")
 }
 
 // The refusal of words that `clap` doesn't take.
@@ -132,32 +97,75 @@ fn bad_value(alloc: Global) -> LineError
 }
 
 // What the subcommand asks for, if its values are allowed.
-fn asked(matches: &ArgMatches<'_>) -> Option<Line>
-    ensures { result ≡ option_and_then line_of (subcommand_rows_of matches.now) }
+fn asked(alloc: Global, matches: &ArgMatches<'_>) -> Result<Option<Line>, AllocError>
+    ensures meant { IfOk result (λ meant. MatchOption meant
+        ((line : _) → ¬ SubcommandMeans (subcommand_rows_of matches.now) line)
+        (SubcommandMeans (subcommand_rows_of matches.now))) }
+    ensures allowed { IfOk result (λ meant. IfSome meant HasAllowedSizes) }
 {
-    let (name, found) = matches.subcommand()?;
-    named(name, found)
+    match matches.subcommand() {
+        Some((name, found)) => named(alloc, name, found),
+        None => Ok(None),
+    }
 }
 
-fn named(name: &str, found: &ArgMatches<'_>) -> Option<Line>
-    ensures { result ≡ line_of (name.now, rows_of (found_of found.now)) }
+fn named(alloc: Global, name: &str, found: &ArgMatches<'_>) -> Result<Option<Line>, AllocError>
+    ensures meant { IfOk result (λ meant. MatchOption meant
+        ((line : _) → ¬ Means name.now (rows_of (found_of found.now)) line)
+        (Means name.now (rows_of (found_of found.now)))) }
+    ensures allowed { IfOk result (λ meant. IfSome meant HasAllowedSizes) }
 {
     if name == "run" {
-        workers_of(found.get_str("workers")).map(Line::Run)
+        Ok(run_of(found).map(Line::Run))
+    } else if name == "replay" {
+        replay_of(alloc, found)
     } else {
-        None
+        Ok(None)
     }
 }
 
-// The number of workers that the option's value spells, if it is allowed.
-fn workers_of(value: Option<&str>) -> Option<u8>
-    ensures { result ≡ workers_of (option_map (λ text. text.now) value.entry) }
+// The settings of a run with these options.
+fn run_of(found: &ArgMatches<'_>) -> Option<Settings>
+    ensures meant { MatchOption result
+        ((settings : _) → ¬ AsksToRun (rows_of (found_of found.now)) settings)
+        (AsksToRun (rows_of (found_of found.now))) }
+    ensures allowed { IfSome result (λ settings. IsAllowed settings.workers settings.fan) }
 {
-    let Some(text) = value else {
-        return Some(DEFAULT_WORKERS);
+    let cut = cut_of(value(found, "cut")?)?;
+    let driver = driver_of(value(found, "driver")?)?;
+    settings_of(found, cut, driver)
+}
+
+// What a replay with these options asks for.
+fn replay_of(alloc: Global, found: &ArgMatches<'_>) -> Result<Option<Line>, AllocError>
+    ensures meant { IfOk result (λ meant. MatchOption meant
+        ((line : _) → ¬ Means (codes "replay") (rows_of (found_of found.now)) line)
+        (Means (codes "replay") (rows_of (found_of found.now)))) }
+    ensures allowed { IfOk result (λ meant. IfSome meant HasAllowedSizes) }
+{
+    let Some(settings) = settings_of(found, CutKind::Residue, Driver::Locked) else {
+        return Ok(None);
     };
-    match read_number(text.as_bytes()) {
-        Some(workers) if workers > 0 && workers <= u64::from(WORKER_LIMIT) => Some(workers as u8),
-        _ => None,
-    }
+    let schedule = schedule_of(alloc, value(found, "schedule").unwrap_or(""))?;
+    Ok(schedule.map(|schedule| Line::Replay(settings, schedule)))
+}
+
+// The settings with the sizes that the options spell.
+fn settings_of(found: &ArgMatches<'_>, cut: CutKind, driver: Driver) -> Option<Settings>
+    ensures sizes { MatchOption result
+        ((settings : _) → ¬ HasSizes (rows_of (found_of found.now)) settings)
+        (HasSizes (rows_of (found_of found.now))) }
+    ensures rest { IfSome result (λ settings. (settings.cut ≡ cut) × (settings.driver ≡ driver)) }
+    ensures allowed { IfSome result (λ settings. IsAllowed settings.workers settings.fan) }
+{
+    let workers = workers_of(value(found, "workers")?)?;
+    let fan = fan_of(value(found, "fan")?)?;
+    Settings::new(workers, fan, cut, driver).ok()
+}
+
+// The value of an option, as it is given or else by default.
+fn value<'a>(found: &ArgMatches<'a>, name: &str) -> Option<&'a str>
+    ensures { option_map (λ text. text.now) result ≡ value (rows_of (found_of found.now)) name.now }
+{
+    found.get_str(name)
 }

@@ -1,4 +1,5 @@
 use super::{Line, LineError, read_line};
+use blink_run::{CutKind, Driver, Settings};
 use std::alloc::Global;
 use std::test::Fail;
 
@@ -11,124 +12,240 @@ fn refused(alloc: Global, words: &[&str]) -> Result<String, Fail> {
     }
 }
 
+fn locked(workers: u8, fan: u8, cut: CutKind) -> Result<Settings, Fail> {
+    Ok(Settings::new(workers, fan, cut, Driver::Locked)?)
+}
+
+// Whether this value of an option is refused as a bad one.
+fn is_bad_value(alloc: Global, subcommand: &str, option: &str, value: &str) -> Result<bool, Fail> {
+    let text = refused(alloc, &["blink", subcommand, option, value])?;
+    Ok(text.as_str() == "usage: bad value")
+}
+
 #[test]
-fn four_workers_where_none_are_given(rt: HostRuntime) -> Result<(), Fail> {
-    assert!(rt; read_line(rt.alloc(), &["blink", "run"])? == Line::Run(4));
+fn defaults(rt: HostRuntime) -> Result<(), Fail> {
+    let settings = locked(4, 16, CutKind::Residue)?;
+    assert!(rt; read_line(rt.alloc(), &["blink", "run"])? == Line::Run(settings));
+    let replay = Line::Replay(settings, Vec::new(rt.alloc()));
+    assert!(rt; read_line(rt.alloc(), &["blink", "replay"])? == replay);
     Ok(())
 }
 
 #[test]
-fn workers_as_given(rt: HostRuntime) -> Result<(), Fail> {
-    for (value, workers) in [("1", 1), ("2", 2), ("63", 63), ("64", 64)] {
-        let words = ["blink", "run", "--workers", value];
+fn runs(rt: HostRuntime) -> Result<(), Fail> {
+    let cases = [
+        ("--workers", "1", 1, 16, CutKind::Residue),
+        ("--workers", "64", 64, 16, CutKind::Residue),
+        ("--fan", "4", 4, 4, CutKind::Residue),
+        ("--fan", "16", 4, 16, CutKind::Residue),
+        ("--cut", "residue", 4, 16, CutKind::Residue),
+        ("--cut", "ranges", 4, 16, CutKind::Ranges),
+        ("--driver", "locked", 4, 16, CutKind::Residue),
+    ];
+    for (option, value, workers, fan, cut) in cases {
+        let line = read_line(rt.alloc(), &["blink", "run", option, value])?;
         assert!(rt;
-            read_line(rt.alloc(), &words)? == Line::Run(workers),
-            "{value}"
+            line == Line::Run(locked(workers, fan, cut)?),
+            "{option} {value}"
         );
     }
-    assert!(rt; read_line(rt.alloc(), &["blink", "run", "--workers=64"])? == Line::Run(64));
+    let words = [
+        "blink",
+        "run",
+        "--cut=ranges",
+        "--fan=5",
+        "--driver=locked",
+        "--workers=10",
+    ];
+    let settings = locked(10, 5, CutKind::Ranges)?;
+    assert!(rt; read_line(rt.alloc(), &words)? == Line::Run(settings));
+    Ok(())
+}
+
+#[test]
+fn replays(rt: HostRuntime) -> Result<(), Fail> {
+    let cases = [
+        ("", [].as_slice()),
+        ("0", [0].as_slice()),
+        ("63", [63].as_slice()),
+        ("1,0", [1, 0].as_slice()),
+        ("0,1,0,1,1,10,63", [0, 1, 0, 1, 1, 10, 63].as_slice()),
+    ];
+    for (text, schedule) in cases {
+        let words = [
+            "blink",
+            "replay",
+            "--workers",
+            "2",
+            "--schedule",
+            text,
+            "--fan",
+            "4",
+        ];
+        let replay = Line::Replay(
+            locked(2, 4, CutKind::Residue)?,
+            schedule.to_vec(rt.alloc())?,
+        );
+        assert!(rt; read_line(rt.alloc(), &words)? == replay, "{text}");
+    }
     Ok(())
 }
 
 #[test]
 fn values_that_are_refused(rt: HostRuntime) -> Result<(), Fail> {
-    for value in [
+    let workers = [
         "0",
         "65",
+        "05",
         "260",
         "18446744073709551620",
-        "04",
         "+4",
         " 4",
         "4.0",
         "",
         "x",
-    ] {
-        let text = refused(rt.alloc(), &["blink", "run", "--workers", value])?;
-        assert!(rt; text.as_str() == "usage: bad value", "{value}: {text}");
+    ];
+    let schedules = [
+        ",", "1,", ",1", "1,,2", " 1", "1, 2", "64", "0,64", "01", "256", "1;2", "x",
+    ];
+    let cases = [
+        ("run", "--workers", workers.as_slice()),
+        ("run", "--fan", ["0", "3", "17", "04", "260", ""].as_slice()),
+        (
+            "run",
+            "--cut",
+            ["x", "Residue", "range", "residue|ranges", "0", ""].as_slice(),
+        ),
+        (
+            "run",
+            "--driver",
+            ["x", "live", "Locked", "lock", "0", ""].as_slice(),
+        ),
+        ("replay", "--workers", ["0", "65", "05", ""].as_slice()),
+        ("replay", "--fan", ["3", "17", "04", ""].as_slice()),
+        ("replay", "--schedule", schedules.as_slice()),
+    ];
+    for (subcommand, option, values) in cases {
+        for value in values {
+            let is_bad = is_bad_value(rt.alloc(), subcommand, option, value)?;
+            assert!(rt; is_bad, "{subcommand} {option} {value}");
+        }
     }
-    let text = refused(rt.alloc(), &["blink", "run", "--workers="])?;
-    assert!(rt; text.as_str() == "usage: bad value", "{text}");
     Ok(())
 }
 
+// The text of the refusal of words that `clap` doesn't take, but for its last paragraph.
+fn refused_by_clap(alloc: Global, words: &[&str]) -> Result<String, Fail> {
+    let text = refused(alloc, words)?;
+    match text
+        .as_str()
+        .strip_suffix("\nFor more information, try '--help'.\n")
+    {
+        Some(start) => Ok(String::from_str(alloc, start)?),
+        None => Err(Fail::from("another last paragraph")),
+    }
+}
+
 #[test]
-fn a_subcommand_is_wanted(rt: HostRuntime) -> Result<(), Fail> {
-    let text = refused(rt.alloc(), &["blink"])?;
-    let expected = "error: 'blink' requires a subcommand but one was not provided
-  [subcommands: run, help]
+fn subcommands_that_clap_refuses(rt: HostRuntime) -> Result<(), Fail> {
+    let none = "error: 'blink' requires a subcommand but one was not provided
+  [subcommands: run, replay, help]
 
 Usage: blink <COMMAND>
-
-For more information, try '--help'.
 ";
-    assert!(rt; text.as_str() == expected, "{text}");
-    Ok(())
-}
-
-#[test]
-fn another_subcommand(rt: HostRuntime) -> Result<(), Fail> {
-    let text = refused(rt.alloc(), &["blink", "replay"])?;
-    let expected = "error: unrecognized subcommand 'replay'
+    let other = "error: unrecognized subcommand 'dump'
 
 Usage: blink <COMMAND>
-
-For more information, try '--help'.
 ";
-    assert!(rt; text.as_str() == expected, "{text}");
+    let text = refused_by_clap(rt.alloc(), &["blink"])?;
+    assert_eq!(rt; text.as_str(), none);
+    let text = refused_by_clap(rt.alloc(), &["blink", "dump"])?;
+    assert_eq!(rt; text.as_str(), other);
     Ok(())
 }
 
 #[test]
-fn words_that_run_does_not_take(rt: HostRuntime) -> Result<(), Fail> {
-    let text = refused(rt.alloc(), &["blink", "run", "surplus"])?;
-    let expected = "error: unexpected argument 'surplus' found
-
-Usage: blink run [OPTIONS]
-
-For more information, try '--help'.
-";
-    assert!(rt; text.as_str() == expected, "{text}");
-    let text = refused(rt.alloc(), &["blink", "run", "--workers"])?;
-    let expected = "error: a value is required for '--workers <N>' but none was supplied
-
-For more information, try '--help'.
-";
-    assert!(rt; text.as_str() == expected, "{text}");
+fn words_that_are_no_options(rt: HostRuntime) -> Result<(), Fail> {
+    let cases = [
+        ("run", "surplus"),
+        ("run", "--schedule"),
+        ("run", "--worker"),
+        ("replay", "--cut"),
+        ("replay", "--driver"),
+    ];
+    for (subcommand, word) in cases {
+        let text = refused_by_clap(rt.alloc(), &["blink", subcommand, word])?;
+        let start = format!(in rt.alloc(); "error: unexpected argument '{word}' found\n")?;
+        assert!(rt; text.as_str().starts_with(start.as_str()), "{text}");
+    }
     Ok(())
 }
 
 #[test]
-fn an_option_that_is_given_twice(rt: HostRuntime) -> Result<(), Fail> {
-    let text = refused(
-        rt.alloc(),
-        &["blink", "run", "--workers", "1", "--workers", "2"],
-    )?;
-    let expected = "error: the argument '--workers <N>' cannot be used multiple times
+fn options_that_clap_refuses(rt: HostRuntime) -> Result<(), Fail> {
+    let text = refused_by_clap(rt.alloc(), &["blink", "run", "--workers"])?;
+    let no_value = "error: a value is required for '--workers <N>' but none was supplied\n";
+    assert_eq!(rt; text.as_str(), no_value);
+    let words = ["blink", "run", "--workers", "1", "--workers", "2"];
+    let twice = "error: the argument '--workers <N>' cannot be used multiple times
 
 Usage: blink run [OPTIONS]
-
-For more information, try '--help'.
 ";
-    assert!(rt; text.as_str() == expected, "{text}");
+    assert_eq!(rt; refused_by_clap(rt.alloc(), &words)?.as_str(), twice);
     Ok(())
 }
 
 #[test]
 fn help_is_a_refusal_too(rt: HostRuntime) -> Result<(), Fail> {
     let text = refused(rt.alloc(), &["blink", "--help"])?;
-    let expected = "Runs scripts of index operations
+    let expected = "Runs scripts of index operations on a B-link tree
 
 Usage: blink <COMMAND>
 
 Commands:
-  run   Runs the script on standard input and prints its answers
-  help  Print this message or the help of the given subcommand(s)
+  run     Runs the script on standard input by threads and prints its answers
+  replay  Runs the script on standard input turn by turn, as a schedule says
+  help    Print this message or the help of the given subcommand(s)
 
 Options:
   -h, --help  Print help
 ";
-    assert!(rt; text.as_str() == expected, "{text}");
+    assert_eq!(rt; text.as_str(), expected);
+    Ok(())
+}
+
+#[test]
+fn help_of_run(rt: HostRuntime) -> Result<(), Fail> {
+    let text = refused(rt.alloc(), &["blink", "run", "--help"])?;
+    let expected = "Runs the script on standard input by threads and prints its answers
+
+Usage: blink run [OPTIONS]
+
+Options:
+      --workers <N>           How many workers share the work, 1 to 64 [default: 4]
+      --fan <F>               How many entries a page has at most, 4 to 16 [default: 16]
+      --cut <residue|ranges>  How keys go to workers: by their remainders (residue) or by equal ranges (ranges) [default: residue]
+      --driver <locked>       How workers share the tree: each step under one lock (locked) [default: locked]
+  -h, --help                  Print help
+";
+    assert_eq!(rt; text.as_str(), expected);
+    Ok(())
+}
+
+#[test]
+fn help_of_replay(rt: HostRuntime) -> Result<(), Fail> {
+    let text = refused(rt.alloc(), &["blink", "replay", "--help"])?;
+    let expected = "Runs the script on standard input turn by turn, as a schedule says
+
+Usage: blink replay [OPTIONS]
+
+Options:
+      --workers <N>   How many workers share the work, 1 to 64 [default: 4]
+      --fan <F>       How many entries a page has at most, 4 to 16 [default: 16]
+      --schedule <S>  Which worker takes each turn: numbers from 0 to 63, separated by single commas [default: none]
+  -h, --help          Print help
+";
+    assert_eq!(rt; text.as_str(), expected);
     Ok(())
 }
 

@@ -1,12 +1,12 @@
-use Rattle.std.proofs.Common.{◌≡◌, ◌∙◌, ◌++◌, ◌∷◌, [], ℕ, List, Some, Ok, length, length-append, refl, sym, ap, inr, arith, true, rules}
+use Rattle.std.proofs.Common.{◌≡◌, ◌∙◌, ℕ, List, Some, Ok, refl, sym, ap, inl, inr, true}
 use Rattle.std.proofs.lemmas.Result.{IfOk-weaker, MatchResult-weaker}
 use Rattle.csv.specs.Reading.{with_flexible}
 use Rattle.csv.specs.Records.{fields_of}
-use Rattle.blink_batch.specs.declared.batch.TheConstants.{BATCH_LIMIT}
-use Rattle.blink_batch.specs.declared.error.ScriptError.TheVariants.{Row, TooMany}
+use Rattle.blink_batch.specs.declared.error.ScriptError.TheVariants.{OutOfMemory, TooMany}
+use Rattle.blink_batch.specs.Parts.{IsOneTooMany, all_parts}
 use Rattle.blink_batch.specs.Script.{records_of, script_of}
-use Rattle.blink_batch.specs.ScriptLaw.{parts_of}
 use Rattle.blink_batch.proofs.ReadLemmas.{begins, stays_set_up, reads_more, refused_here, all_read}
+use Rattle.blink_batch.proofs.ScriptLemmas.{cases_too_many}
 use Rattle.blink_batch.proofs.script.read_script.Goals as goal
 
 -- nothing is read yet
@@ -21,44 +21,46 @@ loop-number-init g c =
         config = rw built at made.config ∙ c.new.ensures.config;
         flexible = rw built at made.flexible;
       };
-      counted = rw c.new-ops.ensures.items refl;
-      one_batch = rw c.new-ops.ensures.items (omega arith);
-      has_read = λ text known. rw c.new-ops.ensures.items (begins g.R.Read.remaining c.args.reader c.from_reader-reader.result text made.state made.source known);
+      has_read = λ text known. rw c.new-parts.ensures (begins g.R.Read.remaining c.args.reader c.from_reader-reader.result text made.state made.source known);
     }
 
--- the record that is read means no operation
-pub returns-in-Err-read_operation-clause-refusal : goal.returns-in-Err-read_operation-clause-refusal
-returns-in-Err-read_operation-clause-refusal g c = λ text known.
+-- the record that is read means nothing
+pub returns-in-Err-read_request-clause-refusal : goal.returns-in-Err-read_request-clause-refusal
+returns-in-Err-read_request-clause-refusal g c = λ text known.
     let so_far = c.loop-number.invariant in
     let read = rw c.in-Ok-true.field-0-test at (c.in-Ok-true.ensures.reads so_far.set_up.no_trim so_far.set_up.ready) in
-    let means = sym c.read_operation.ensures ∙ c.in-Err-read_operation.is in
-    refused_here g.R.Read.remaining c.loop-number.reader c.read_byte_record.new.self (fields_of c.read_byte_record.new.row) so_far.set_up text c.loop-number.ops.items
-    (so_far.has_read text known) _ so_far.one_batch read (rw means (ap (λ n. Row n c.in-Err-read_operation.error) (sym so_far.counted)))
+    let means = sym c.read_request.ensures ∙ c.in-Err-read_request.is in
+    refused_here g.R.Read.remaining c.loop-number.reader c.read_byte_record.new.self (fields_of c.read_byte_record.new.row) so_far.set_up text c.loop-number.number c.loop-number.parts
+    (so_far.has_read text known) _ _ read means refl
 
--- the record that is read is one operation too many
-pub returns-then-len-eq-BATCH_LIMIT-clause-refusal : goal.returns-then-len-eq-BATCH_LIMIT-clause-refusal
-returns-then-len-eq-BATCH_LIMIT-clause-refusal g c = λ text known.
+-- the record that is read is one operation too many, or memory is refused
+pub returns-in-Err-take-clause-refusal : goal.returns-in-Err-take-clause-refusal
+returns-in-Err-take-clause-refusal g c =
     let so_far = c.loop-number.invariant in
     let read = rw c.in-Ok-true.field-0-test at (c.in-Ok-true.ensures.reads so_far.set_up.no_trim so_far.set_up.ready) in
-    let means = sym c.read_operation.ensures ∙ c.in-Ok.is in
-    let full : length c.loop-number.ops.items ≡ BATCH_LIMIT = omega (arith, c.len.ensures, c.if-len-eq-BATCH_LIMIT.true) in
-    refused_here g.R.Read.remaining c.loop-number.reader c.read_byte_record.new.self (fields_of c.read_byte_record.new.row) so_far.set_up text c.loop-number.ops.items
-    (so_far.has_read text known) _ so_far.one_batch read (rw means (ap TooMany (sym so_far.counted), full))
+    let means = sym c.read_request.ensures ∙ c.in-Ok.is in
+    elim (cases_too_many c.loop-number.parts c.in-Ok.request) [
+      | inl full ↦
+          let told : c.in-Err-take.error ≡ TooMany c.loop-number.number = cc (c.in-Err-take.is, c.take.ensures.too_many.1 full) in
+          rw told (λ text known. refused_here g.R.Read.remaining c.loop-number.reader c.read_byte_record.new.self (fields_of c.read_byte_record.new.row) so_far.set_up text
+          c.loop-number.number c.loop-number.parts (so_far.has_read text known) _ _ read means (refl, full))
+      | inr room ↦
+          let told : c.in-Err-take.error ≡ OutOfMemory = rw c.in-Err-take.is at (c.take.ensures.memory room) in
+          rw told tt
+    ]
 
--- one operation more is read
+-- one record more is read
 pub loop-number-preserved : goal.loop-number-preserved
 loop-number-preserved g c =
     let so_far = c.loop-number.invariant in
     let read = rw c.in-Ok-true.field-0-test at (c.in-Ok-true.ensures.reads so_far.set_up.no_trim so_far.set_up.ready) in
-    let means = sym c.read_operation.ensures ∙ c.in-Ok.is in
-    let items : c.push.new.self.items ≡ c.loop-number.ops.items ++ c.in-Ok.op ∷ [] = search rules in
+    let means = sym c.read_request.ensures ∙ c.in-Ok.is in
+    let few : ¬ IsOneTooMany c.loop-number.parts c.in-Ok.request = λ full. cc (c.in-Ok-take.is, c.take.ensures.too_many.1 full) in
     record {
       set_up = stays_set_up g.R.Read.remaining c.loop-number.reader c.read_byte_record.new.self (fields_of c.read_byte_record.new.row) so_far.set_up true read
           (c.in-Ok-true.ensures.ready so_far.set_up.no_trim) c.in-Ok-true.ensures.flexible;
-      counted = rw items (omega (arith, length-append c.loop-number.ops.items (c.in-Ok.op ∷ []), so_far.counted));
-      one_batch = rw items (omega (arith, length-append c.loop-number.ops.items (c.in-Ok.op ∷ []), so_far.one_batch, c.len.ensures, c.if-len-eq-BATCH_LIMIT.false));
-      has_read = λ text known. rw items (reads_more g.R.Read.remaining c.loop-number.reader c.read_byte_record.new.self (fields_of c.read_byte_record.new.row) so_far.set_up text
-          c.loop-number.ops.items (so_far.has_read text known) c.in-Ok.op read means);
+      has_read = λ text known. rw (rw c.in-Ok-take.is at c.take.ensures.taken) (reads_more g.R.Read.remaining c.loop-number.reader c.read_byte_record.new.self
+          (fields_of c.read_byte_record.new.row) so_far.set_up text c.loop-number.number c.loop-number.parts (so_far.has_read text known) c.in-Ok.request read means few);
     }
 
 -- every record is read
@@ -66,11 +68,11 @@ pub returns-in-Ok-false-clause-script : goal.returns-in-Ok-false-clause-script
 returns-in-Ok-false-clause-script g c =
     let so_far = c.loop-number.invariant in
     let read = rw c.in-Ok-false.field-0-test at (c.in-Ok-false.ensures.reads so_far.set_up.no_trim so_far.set_up.ready) in
-    let whole : (text : List ℕ) → g.R.Read.remaining c.args.reader ≡ Some text → script_of (records_of text) ≡ Ok (parts_of c.loop-number.ops.items) = λ text known.
-    all_read g.R.Read.remaining c.loop-number.reader c.read_byte_record.new.self (fields_of c.read_byte_record.new.row) so_far.set_up text
-    c.loop-number.ops.items (so_far.has_read text known) so_far.one_batch read in
-    IfOk-weaker c.of_operations.result _ _ (λ made its_parts text known. rw its_parts (whole text known)) c.of_operations.ensures.parts
+    let whole : (text : List ℕ) → g.R.Read.remaining c.args.reader ≡ Some text → script_of (records_of text) ≡ Ok (all_parts c.loop-number.parts) = λ text known.
+    all_read g.R.Read.remaining c.loop-number.reader c.read_byte_record.new.self (fields_of c.read_byte_record.new.row) so_far.set_up text c.loop-number.number c.loop-number.parts
+    (so_far.has_read text known) read in
+    IfOk-weaker c.into_script.result _ _ (λ made its_parts text known. rw its_parts (whole text known)) c.into_script.ensures.parts
 
 -- only memory is refused now
 pub returns-in-Ok-false-clause-refusal : goal.returns-in-Ok-false-clause-refusal
-returns-in-Ok-false-clause-refusal g c = MatchResult-weaker c.of_operations.result c.of_operations.ensures.memory (λ made here. here) (λ error only. rw only tt)
+returns-in-Ok-false-clause-refusal g c = MatchResult-weaker c.into_script.result c.into_script.ensures.memory (λ made here. here) (λ error only. rw only tt)

@@ -1,0 +1,8 @@
+use Rattle.std.proofs.Common.{take}
+use Rattle.blink_index.specs.Index.{map_of}
+use Rattle.blink_run.proofs.ServeLemmas.{HasServed}
+use Rattle.blink_run.proofs.script.serve_parts.Given as goal
+
+-- the parts so far are served
+abbrev pub invariant-loop-part : goal.invariant-loop-part
+invariant-loop-part g l = HasServed (map_of l.initial.index) (take l.part-index l.parts) (g.W.Write.contents l.initial.writer) (g.W.Write.contents l.writer) (map_of l.index) l.batches

@@ -1,0 +1,57 @@
+-- A batch's replay: the turns of a schedule, of which there is a trace, and then picked turns to the end.
+use Rattle.std.specs.Prelude.{◌≡◌, ◌⊎◌, ℕ, List, ◌++◌}
+use Rattle.blink_batch.specs.declared.Op.{Op}
+use Rattle.blink_batch.specs.Cut.{Assignment}
+use Rattle.blink_store.specs.Store.{PlainStore}
+use Rattle.blink_steps.specs.Pick.{GoesOnPicked}
+use Rattle.blink_steps.specs.Run.{Taken}
+use Rattle.blink_steps.specs.World.{PlainWorld, IsReplay, IsWorldOf, HasEnded, IsTooLarge, SameBatch}
+use Rattle.blink_steps.specs.declared.StepError.TheVariants as step
+use Rattle.blink_run.specs.declared.error.ServeError.{ServeError}
+use Rattle.blink_run.specs.declared.error.ServeError.TheVariants.{Step, OutOfMemory}
+use Rattle.blink_run.specs.Settings.{lanes_by_residue}
+use Rattle.blink_run.specs.Trace.{trace_of}
+
+-- the worker of each operation is the remainder of its key
+abbrev pub by_residue : ℕ → List Op → Assignment
+by_residue workers ops = record { workers = workers; lanes = lanes_by_residue workers ops }
+
+-- a batch runs over a tree: a turn for each number of the schedule, which the trace tells, and then picked turns until all
+-- operations have ended, which it doesn't tell
+pub record RunsBatch (workers : ℕ) (schedule : List ℕ) (before : PlainStore) (ops : List Op) (after : PlainStore) (trace : List ℕ) : Type 0 where
+  pub world : PlainWorld
+  pub replay : IsReplay before ops (by_residue workers ops) schedule world
+  pub traced : trace ≡ trace_of replay.is_world.history
+  pub finished : PlainWorld
+  pub picked : GoesOnPicked world finished
+  pub ended : HasEnded finished.run
+  pub same_tree : finished.run.shared.store ≡ after
+
+-- the world has these turns more, over the tree that it began
+pub record HasTurnsMore (start : PlainStore) (old : PlainWorld) (of : IsWorldOf start old) (new : PlainWorld) (trace : List ℕ) : Type 0 where
+  pub turns : List Taken
+  pub now : IsWorldOf start new
+  pub more : now.history ≡ turns ++ of.history
+  pub traced : trace ≡ trace_of turns
+
+-- a world goes on by a turn for each number of the schedule, and the trace tells them
+pub record IsTraced (old : PlainWorld) (schedule : List ℕ) (new : PlainWorld) (trace : List ℕ) : Type 0 where
+  pub told : new.schedule ≡ old.schedule ++ schedule
+  pub same_batch : SameBatch old.run new.run
+  pub goes_on : (start : PlainStore) (of : IsWorldOf start old) → HasTurnsMore start old of new trace
+
+-- the trace is told behind what was told before
+abbrev pub TellsSteps : PlainWorld → List ℕ → PlainWorld → List ℕ → List ℕ → Type 0
+TellsSteps old schedule new before after = (trace : List ℕ) × IsTraced old schedule new trace × (after ≡ before ++ trace)
+
+-- memory is refused, to a step or to the trace
+abbrev pub IsRefusedMemory : ServeError → Type 0
+IsRefusedMemory error = (error ≡ Step step.OutOfMemory) ⊎ (error ≡ OutOfMemory)
+
+-- a batch runs over a tree, and the trace of its schedule's turns is told behind what was told before
+abbrev pub TellsBatch : ℕ → List ℕ → PlainStore → List Op → List ℕ → List ℕ → PlainStore → Type 0
+TellsBatch workers schedule before ops old new after = (trace : List ℕ) × RunsBatch workers schedule before ops after trace × (new ≡ old ++ trace)
+
+-- why a batch isn't run to its end: it is too large for this tree, or memory was refused
+abbrev pub IsReplayFault : PlainStore → List Op → ServeError → Type 0
+IsReplayFault before ops error = ((error ≡ Step step.TooLarge) × IsTooLarge before ops) ⊎ IsRefusedMemory error

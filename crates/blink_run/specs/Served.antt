@@ -1,0 +1,137 @@
+-- What is written of what is read: the text of a script's parts, one after another, by one thread on one plain map.
+use Rattle.std.specs.Prelude.{ℕ, ◌≡◌, ◌+◌, ◌⊎◌, List, [], ◌∷◌, ◌++◌, Option, Some, Ok, Bool, true, false, count_by, filter, ⊤}
+use Rattle.std.specs.Io.KnownBytes.{Appends, Keeps}
+use Rattle.blink_batch.specs.declared.Entry.{Entry}
+use Rattle.blink_batch.specs.declared.Op.{Op}
+use Rattle.blink_batch.specs.declared.Part.{Part}
+use Rattle.blink_batch.specs.declared.Part.TheVariants.{Batch, Scan}
+use Rattle.blink_batch.specs.Operation.{answers, map_after_all}
+use Rattle.blink_batch.specs.Script.{IsReadable, TellsRefusal, records_of, script_of}
+use Rattle.blink_batch.specs.Text.{text_of}
+use Rattle.blink_index.specs.Scan.{is_within}
+use Rattle.blink_run.specs.Text.{scan_text}
+use Rattle.blink_run.specs.declared.error.RunError.{RunError}
+use Rattle.blink_run.specs.declared.error.ServeError.{ServeError}
+use Rattle.blink_run.specs.declared.error.ServeError.TheVariants as serve
+
+-- ---- the text of parts
+
+-- a line for each answer of a batch, or for each entry that a scan shows
+abbrev pub part_text : List Entry → Part → List ℕ
+part_text map (Batch ops) = text_of (answers map ops)
+part_text map (Scan lo hi) = scan_text (filter (is_within lo hi) map)
+
+-- the map after a part: a scan changes nothing
+abbrev pub part_after : List Entry → Part → List Entry
+part_after map (Batch ops) = map_after_all map ops
+part_after map (Scan lo hi) = map
+
+-- the texts of parts, each on the map that those before it leave
+abbrev pub script_text : List Entry → List Part → List ℕ
+script_text map [] = []
+script_text map (part ∷ parts) = part_text map part ++ script_text (part_after map part) parts
+
+abbrev pub map_after_parts : List Entry → List Part → List Entry
+map_after_parts map [] = map
+map_after_parts map (part ∷ parts) = map_after_parts (part_after map part) parts
+
+-- ---- what is written
+
+-- the text of some records, where they are a script: that of its parts, on an empty map
+pub record IsTextOf (records : List (List (List ℕ))) (text : List ℕ) : Type 0 where
+  pub parts : List Part
+  pub a_script : script_of records ≡ Ok parts
+  pub its_text : text ≡ script_text [] parts
+
+-- where the bytes to be read and those written before are known, a text of what is read is written behind the others
+abbrev pub WritesText : (List (List (List ℕ)) → List ℕ → Type 0) → Option (List ℕ) → Option (List ℕ) → Option (List ℕ) → Type 0
+WritesText is_text to_read before after = (read written : List ℕ) → to_read ≡ Some read → before ≡ Some written
+    → (text : List ℕ) × is_text (records_of read) text × (after ≡ Some (written ++ text))
+
+-- all of a script's text is
+abbrev pub Serves : Option (List ℕ) → Option (List ℕ) → Option (List ℕ) → Type 0
+Serves to_read before after = WritesText IsTextOf to_read before after
+
+-- ---- what a refusal leaves
+
+abbrev pub is_batch : Part → Bool
+is_batch (Batch ops) = true
+is_batch (Scan lo hi) = false
+
+-- the text of a script's first parts, where some come after them
+pub record IsTextBefore (records : List (List (List ℕ))) (front rest : List Part) (text : List ℕ) : Type 0 where
+  pub a_script : script_of records ≡ Ok (front ++ rest)
+  pub its_text : text ≡ script_text [] front
+
+-- the text of the parts before a batch of this number, counted from 1
+pub record IsTextBeforeBatch (number : ℕ) (records : List (List (List ℕ))) (text : List ℕ) : Type 0 where
+  pub front : List Part
+  pub ops : List Op
+  pub rest : List Part
+  pub its_number : number ≡ count_by is_batch front + 1
+  pub before : IsTextBefore records front (Batch ops ∷ rest) text
+
+-- the text of some first parts
+abbrev pub IsTextOfFront : List (List (List ℕ)) → List ℕ → Type 0
+IsTextOfFront records text = (front : List Part) × (rest : List Part) × IsTextBefore records front rest text
+
+-- a refusal of the script is the reader's own, and no step is refused by itself
+abbrev pub TellsFault : Option (List ℕ) → ServeError → Type 0
+TellsFault to_read (serve.Script error) = IsReadable error × TellsRefusal to_read error
+TellsFault to_read (serve.Run number error) = ⊤
+TellsFault to_read (serve.Step error) = ⊥
+TellsFault to_read serve.Output = ⊤
+TellsFault to_read serve.OutOfMemory = ⊤
+
+-- after a refusal of the script nothing was written, and after one of a run or of memory exactly the lines of the parts before;
+-- where the writer failed nothing is said
+abbrev pub LeavesLines : Option (List ℕ) → ServeError → Option (List ℕ) → Option (List ℕ) → Type 0
+LeavesLines to_read (serve.Script error) before after = Keeps before after
+LeavesLines to_read (serve.Run number error) before after = WritesText (IsTextBeforeBatch number) to_read before after
+LeavesLines to_read (serve.Step error) before after = ⊥
+LeavesLines to_read serve.Output before after = ⊤
+LeavesLines to_read serve.OutOfMemory before after = WritesText IsTextOfFront to_read before after
+
+-- ---- parts one after another, on the way
+
+-- why a part isn't served: its batch, of this number, isn't run, or the writer failed, or memory was refused
+abbrev pub IsPartFault : Part → ℕ → ServeError → Type 0
+IsPartFault part number (serve.Script error) = ⊥
+IsPartFault part number (serve.Run told error) = (told ≡ number) × (is_batch part ≡ true)
+IsPartFault part number (serve.Step error) = ⊥
+IsPartFault part number serve.Output = ⊤
+IsPartFault part number serve.OutOfMemory = ⊤
+
+-- why a batch of this number isn't run
+abbrev pub IsBatchFault : ℕ → ServeError → Type 0
+IsBatchFault number error = ((fault : RunError) × (error ≡ serve.Run number fault)) ⊎ (error ≡ serve.OutOfMemory)
+
+-- what it leaves as it was, unless the writer failed
+abbrev pub KeepsUnlessOutput : ServeError → Option (List ℕ) → Option (List ℕ) → Type 0
+KeepsUnlessOutput (serve.Script error) before after = Keeps before after
+KeepsUnlessOutput (serve.Run number error) before after = Keeps before after
+KeepsUnlessOutput (serve.Step error) before after = Keeps before after
+KeepsUnlessOutput serve.Output before after = ⊤
+KeepsUnlessOutput serve.OutOfMemory before after = Keeps before after
+
+-- the lines of the parts before others are written
+pub record WroteBefore (map : List Entry) (parts front rest : List Part) (before after : Option (List ℕ)) : Type 0 where
+  pub in_order : parts ≡ front ++ rest
+  pub written : Appends before after (script_text map front)
+
+-- the lines of the parts before a batch of this number
+pub record WroteBeforeBatch (number : ℕ) (map : List Entry) (parts : List Part) (before after : Option (List ℕ)) : Type 0 where
+  pub front : List Part
+  pub ops : List Op
+  pub rest : List Part
+  pub its_number : number ≡ count_by is_batch front + 1
+  pub wrote : WroteBefore map parts front (Batch ops ∷ rest) before after
+
+-- where some of the parts aren't served
+abbrev pub LeavesFront : List Entry → List Part → ServeError → Option (List ℕ) → Option (List ℕ) → Type 0
+LeavesFront map parts (serve.Script error) before after = ⊥
+LeavesFront map parts (serve.Run number error) before after = WroteBeforeBatch number map parts before after
+LeavesFront map parts (serve.Step error) before after = ⊥
+LeavesFront map parts serve.Output before after = ⊤
+LeavesFront map parts serve.OutOfMemory before after =
+    (front : List Part) × (rest : List Part) × WroteBefore map parts front rest before after

@@ -1,0 +1,79 @@
+-- What a replay of a script writes: the trace of its last batch, the text of its parts, and the pages that it ends with.
+use Rattle.std.specs.Prelude.{ℕ, ◌≡◌, ◌⊎◌, ◌==◌, List, [], ◌∷◌, ◌++◌, Option, Ok, if◌then◌else◌, count_by, ⊤}
+use Rattle.std.specs.Io.KnownBytes.{Keeps}
+use Rattle.blink_batch.specs.declared.Part.{Part}
+use Rattle.blink_batch.specs.declared.Part.TheVariants.{Batch, Scan}
+use Rattle.blink_batch.specs.Script.{IsReadable, TellsRefusal, script_of}
+use Rattle.blink_index.specs.Dump.{text_of_store}
+use Rattle.blink_store.specs.Store.{PlainStore, new_store}
+use Rattle.blink_steps.specs.declared.StepError.TheVariants as step
+use Rattle.blink_steps.specs.World.{IsFirstStranger}
+use Rattle.blink_run.specs.Replay.{IsRefusedMemory, RunsBatch, TellsBatch}
+use Rattle.blink_run.specs.Served.{WritesText, is_batch, script_text}
+use Rattle.blink_run.specs.declared.error.ServeError.{ServeError}
+use Rattle.blink_run.specs.declared.error.ServeError.TheVariants as serve
+
+-- what a batch takes of the schedule, where so many batches come after it: the last takes it whole, and those before take none
+abbrev pub taken_where : ℕ → List ℕ → List ℕ
+taken_where left schedule = if left == 0 then schedule else []
+
+-- parts run one after another, from one tree to another, and these are the traces of their batches
+abbrev pub RunsParts : ℕ → List ℕ → PlainStore → List Part → PlainStore → List ℕ → Type 0
+RunsParts workers schedule before [] after trace = (after ≡ before) × (trace ≡ [])
+RunsParts workers schedule before (Scan lo hi ∷ rest) after trace = RunsParts workers schedule before rest after trace
+RunsParts workers schedule before (Batch ops ∷ rest) after trace = (between : PlainStore) × (first : List ℕ) × (others : List ℕ)
+    × RunsBatch workers (taken_where (count_by is_batch rest) schedule) before ops between first
+    × RunsParts workers schedule between rest after others × (trace ≡ first ++ others)
+
+-- the text of a replay of some records, where they are a script: trace, text and pages
+pub record IsReplayText (workers fan : ℕ) (schedule : List ℕ) (records : List (List (List ℕ))) (text : List ℕ) : Type 0 where
+  pub parts : List Part
+  pub a_script : script_of records ≡ Ok parts
+  pub after : PlainStore
+  pub trace : List ℕ
+  pub runs : RunsParts workers schedule (new_store fan) parts after trace
+  pub its_text : text ≡ trace ++ (script_text [] parts ++ text_of_store after)
+
+-- it is written behind what was written before
+abbrev pub Replays : ℕ → ℕ → List ℕ → Option (List ℕ) → Option (List ℕ) → Option (List ℕ) → Type 0
+Replays workers fan schedule to_read before after = WritesText (IsReplayText workers fan schedule) to_read before after
+
+-- why a script isn't replayed where each number of the schedule is a worker: it is no script; a batch is too large for its tree;
+-- the writer failed, or memory was refused
+abbrev pub TellsWorkersFault : Option (List ℕ) → ServeError → Type 0
+TellsWorkersFault to_read (serve.Script error) = IsReadable error × TellsRefusal to_read error
+TellsWorkersFault to_read (serve.Run number error) = ⊥
+TellsWorkersFault to_read (serve.Step (step.NoWorker worker)) = ⊥
+TellsWorkersFault to_read (serve.Step step.TooLarge) = ⊤
+TellsWorkersFault to_read (serve.Step step.OutOfMemory) = ⊤
+TellsWorkersFault to_read serve.Output = ⊤
+TellsWorkersFault to_read serve.OutOfMemory = ⊤
+
+-- why it isn't replayed: a number of the schedule is no worker, the first such, or one of those
+abbrev pub TellsReplayFault : ℕ → List ℕ → Option (List ℕ) → ServeError → Type 0
+TellsReplayFault workers schedule to_read error =
+    ((worker : ℕ) × (error ≡ serve.Step (step.NoWorker worker)) × IsFirstStranger workers schedule worker) ⊎ TellsWorkersFault to_read error
+
+-- nothing was written, unless the writer failed
+abbrev pub WroteNothing : ServeError → Option (List ℕ) → Option (List ℕ) → Type 0
+WroteNothing (serve.Script error) before after = Keeps before after
+WroteNothing (serve.Run number error) before after = Keeps before after
+WroteNothing (serve.Step error) before after = Keeps before after
+WroteNothing serve.Output before after = ⊤
+WroteNothing serve.OutOfMemory before after = Keeps before after
+
+-- ---- parts one after another, on the way
+
+-- the trace of a part's batch is told behind what was told before; a scan changes nothing
+abbrev pub TellsPart : ℕ → List ℕ → PlainStore → Part → List ℕ → List ℕ → PlainStore → Type 0
+TellsPart workers schedule before (Batch ops) old new after = TellsBatch workers schedule before ops old new after
+TellsPart workers schedule before (Scan lo hi) old new after = (after ≡ before) × (new ≡ old)
+
+-- the traces of parts likewise
+abbrev pub TellsParts : ℕ → List ℕ → PlainStore → List Part → List ℕ → List ℕ → PlainStore → Type 0
+TellsParts workers schedule before parts old new after =
+    (trace : List ℕ) × RunsParts workers schedule before parts after trace × (new ≡ old ++ trace)
+
+-- why parts aren't run to their end: a batch is too large for its tree, or memory was refused
+abbrev pub IsPartsFault : ServeError → Type 0
+IsPartsFault error = (error ≡ serve.Step step.TooLarge) ⊎ IsRefusedMemory error

@@ -1,0 +1,35 @@
+-- How a script is run, and whose worker each key is.
+use Rattle.std.specs.Prelude.{ℕ, ◌-◌, ◌*◌, ◌/◌, ◌%◌, ◌^◌, List, map}
+use Rattle.std.specs.List.{range_with_len}
+use Rattle.blink_batch.specs.declared.Op.{Op}
+use Rattle.blink_batch.specs.Cut.{MayWork}
+use Rattle.blink_batch.specs.Operation.{key_of}
+use Rattle.blink_batch.specs.Ranges.{lanes_by_ranges}
+use Rattle.blink_index.specs.Codes.{IsBadFan}
+use Rattle.blink_run.specs.declared.run.Driver.{Driver}
+use Rattle.blink_run.specs.declared.settings.CutKind.{CutKind}
+use Rattle.blink_run.specs.declared.settings.CutKind.TheVariants.{Residue, Ranges}
+
+-- the workers, the greatest number of entries in a page, how batches are cut, and how the tree is shared
+pub record PlainSettings : Type 0 where
+  pub workers : ℕ
+  pub fan : ℕ
+  pub cut : CutKind
+  pub driver : Driver
+
+-- as many workers as a run may have, and a fan that a tree may have
+abbrev pub IsAllowed : ℕ → ℕ → Type 0
+IsAllowed workers fan = MayWork workers × ¬ IsBadFan fan
+
+-- the worker of a key is its remainder
+abbrev pub lanes_by_residue : ℕ → List Op → List ℕ
+lanes_by_residue workers ops = map (λ op. key_of op % workers) ops
+
+-- the greatest keys of as many ranges as workers, without the last: each a multiple of the same width
+abbrev pub even_bounds : ℕ → List ℕ
+even_bounds workers = map (λ number. number * ((2 ^ 64 - 1) / workers)) (range_with_len 1 (workers - 1))
+
+-- the worker of each operation
+abbrev pub lanes_by : CutKind → ℕ → List Op → List ℕ
+lanes_by Residue workers ops = lanes_by_residue workers ops
+lanes_by Ranges workers ops = lanes_by_ranges (even_bounds workers) ops

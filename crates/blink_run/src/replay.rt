@@ -1,0 +1,244 @@
+//! A script served by a replay, without threads.
+ghost use Rattle.std.specs.Prelude.{◌≡◌, ◌<◌, ◌++◌, ◌↔◌, All, Err, IfOk, IfErr, OnOk, MatchOption, count_by, string_bytes};
+ghost use Rattle.std.specs.Io.KnownBytes.{Appends};
+ghost use Rattle.blink_batch.specs.Cut.{IsLawfulCut, MayWork};
+ghost use Rattle.blink_batch.specs.Operation.{answers, map_after_all};
+ghost use Rattle.blink_batch.specs.Text.{text_of};
+ghost use Rattle.blink_index.specs.Index.{map_of};
+ghost use Rattle.blink_steps.specs.World.{IsFirstStranger};
+ghost use Rattle.blink_run.specs.Replay.{IsReplayFault, TellsBatch, by_residue};
+ghost use Rattle.blink_run.specs.Served.{is_batch, part_after, part_text, script_text};
+ghost use Rattle.blink_run.specs.ServedReplay.{IsPartsFault, Replays, TellsPart, TellsParts, TellsReplayFault, TellsWorkersFault, WroteNothing, taken_where};
+
+use crate::book::all_of;
+use crate::error::ServeError;
+use crate::script::{batches_with, new_index, write_text};
+use crate::settings::Settings;
+use crate::text::{push_answers, push_scan};
+use crate::trace::trace_steps;
+use blink_batch::{Batch, Cut, Lanes, Part, read_script};
+use blink_index::{Index, no_other_map_is_kept, the_map_is_kept};
+use blink_steps::{StepError, World};
+use std::alloc::{AllocError, Global};
+use std::io::{Read, Write};
+
+#[cfg(test)]
+mod tests;
+
+/// Reads a whole script and runs its parts one after another on one new index, without threads: each batch is cut by the
+/// remainders of the keys, whatever the settings say, and no driver is used. The script's last batch takes a turn for each
+/// number of the schedule, and is then finished, as [`World::finish`] does it; the batches before it are finished at once.
+///
+/// When all turns are taken the trace is written, a line for each number of the schedule; then the text that
+/// [`serve`](crate::serve) writes; then the pages that the index ends with, as `Index::dump` tells them. A schedule with a
+/// number that isn't below the workers is refused before anything is read. After every error but `Output` nothing was
+/// written.
+pub fn serve_replay<R: Read, W: Write>(
+    alloc: Global,
+    reader: &mut R,
+    writer: &mut W,
+    settings: &Settings,
+    schedule: &[u8],
+) -> Result<(), ServeError>
+    ensures replayed { OnOk result (Replays settings.now.workers settings.now.fan schedule.now
+        (R.remaining reader.old) (W.contents writer.old) (W.contents writer.new)) }
+    ensures fault { IfErr result
+        (TellsReplayFault settings.now.workers schedule.now (R.remaining reader.old)) }
+    ensures no_worker { (worker : _) → (result ≡ Err (ServeError.Step (StepError.NoWorker worker)))
+        ↔ IsFirstStranger settings.now.workers schedule.now worker }
+    ensures unread { (worker : _) → IsFirstStranger settings.now.workers schedule.now worker
+        → reader.new ≡ reader.old }
+    ensures wrote_nothing { IfErr result
+        (λ error. WroteNothing error (W.contents writer.old) (W.contents writer.new)) }
+{
+    match first_of_no_worker(schedule, settings.workers()) {
+        Some(worker) => Err(ServeError::Step(StepError::NoWorker(worker))),
+        None => replay_script(alloc, reader, writer, settings, schedule),
+    }
+}
+
+// Serves it, where each number of the schedule is a worker.
+fn replay_script<R: Read, W: Write>(
+    alloc: Global,
+    reader: &mut R,
+    writer: &mut W,
+    settings: &Settings,
+    schedule: &[u8],
+) -> Result<(), ServeError>
+    requires { All (λ worker. worker < settings.now.workers) schedule.now }
+    ensures replayed { OnOk result (Replays settings.now.workers settings.now.fan schedule.now
+        (R.remaining reader.old) (W.contents writer.old) (W.contents writer.new)) }
+    ensures fault { IfErr result (TellsWorkersFault (R.remaining reader.old)) }
+    ensures wrote_nothing { IfErr result
+        (λ error. WroteNothing error (W.contents writer.old) (W.contents writer.new)) }
+{
+    let script = read_script(alloc, reader)?;
+    let index = new_index(alloc, settings)?;
+    let mut told = Told {
+        trace: String::new(alloc),
+        text: String::new(alloc),
+    };
+    let index = replay_parts(
+        alloc,
+        index,
+        script.parts,
+        settings.workers(),
+        schedule,
+        &mut told,
+    )?;
+    let pages = index.dump(alloc)?;
+    write_replay(writer, &told.trace, &told.text, &pages)
+}
+
+// Writes what a replay tells, and flushes.
+fn write_replay<W: Write>(
+    writer: &mut W,
+    trace: &str,
+    text: &str,
+    pages: &str,
+) -> Result<(), ServeError>
+    ensures written { OnOk result (Appends (W.contents writer.old) (W.contents writer.new)
+        (trace.now ++ (text.now ++ pages.now))) }
+    ensures output { IfErr result (λ error. error ≡ ServeError.Output) }
+{
+    write_text(writer, trace)?;
+    write_text(writer, text)?;
+    write_text(writer, pages)?;
+    match writer.flush() {
+        Ok(()) => Ok(()),
+        Err(_) => Err(ServeError::Output),
+    }
+}
+
+// The first number of a schedule that isn't below the workers.
+fn first_of_no_worker(schedule: &[u8], workers: u8) -> Option<u8>
+    ensures { MatchOption result (All (λ worker. worker < workers) schedule.now)
+        (IsFirstStranger workers schedule.now) }
+{
+    for &worker in schedule {
+        if worker >= workers {
+            return Some(worker);
+        }
+    }
+    None
+}
+
+// Runs parts one after another. The last batch among them takes the schedule.
+fn replay_parts(
+    alloc: Global,
+    index: Index,
+    parts: Vec<Part>,
+    workers: u8,
+    schedule: &[u8],
+    told: &mut Told,
+) -> Result<Index, ServeError>
+    requires allowed { MayWork workers }
+    requires workers { All (λ worker. worker < workers) schedule.now }
+    ensures told { IfOk result (TellsParts workers schedule.now index parts.items
+        (string_bytes told.old.trace) (string_bytes told.new.trace)) }
+    ensures text { IfOk result (λ _. string_bytes told.new.text
+        ≡ string_bytes told.old.text ++ script_text (map_of index) parts.items) }
+    ensures refused { IfErr result IsPartsFault }
+{
+    let mut index = index;
+    let mut left = batches_among(&parts);
+    for part in parts {
+        left -= batches_with(&part, 0);
+        let taken = taken_where(left, schedule);
+        index = replay_part(alloc, index, part, workers, taken, told)?;
+    }
+    Ok(index)
+}
+
+// The turns that a batch takes where so many batches come after it: those of the schedule, if it is the last.
+fn taken_where(left: u64, schedule: &[u8]) -> &[u8]
+    ensures { result.now ≡ taken_where left schedule.now }
+{
+    if left == 0 { schedule } else { &[] }
+}
+
+// How many of the parts are batches.
+fn batches_among(parts: &[Part]) -> u64
+    ensures { result ≡ count_by is_batch parts.now }
+{
+    let mut batches = 0u64;
+    for part in parts {
+        batches = batches_with(part, batches);
+    }
+    batches
+}
+
+// Runs a part; where it is a batch it takes the schedule.
+fn replay_part(
+    alloc: Global,
+    index: Index,
+    part: Part,
+    workers: u8,
+    schedule: &[u8],
+    told: &mut Told,
+) -> Result<Index, ServeError>
+    requires allowed { MayWork workers }
+    requires workers { All (λ worker. worker < workers) schedule.now }
+    ensures told { IfOk result (TellsPart workers schedule.now index part
+        (string_bytes told.old.trace) (string_bytes told.new.trace)) }
+    ensures text { IfOk result (λ _. string_bytes told.new.text
+        ≡ string_bytes told.old.text ++ part_text (map_of index) part) }
+    ensures map { IfOk result (λ after. map_of after ≡ part_after (map_of index) part) }
+    ensures refused { IfErr result IsPartsFault }
+{
+    match part {
+        Part::Batch(batch) => replay_batch(alloc, index, batch, workers, schedule, told),
+        Part::Scan(lo, hi) => {
+            push_scan(&mut told.text, index.scan(lo, hi))?;
+            Ok(index)
+        }
+    }
+}
+
+// Runs a batch, cut by residue, over an index: a turn for each number of the schedule, with a line of the trace for each, and then
+// picked turns to the end. A line for each answer is added to the text.
+fn replay_batch(
+    alloc: Global,
+    index: Index,
+    batch: Batch,
+    workers: u8,
+    schedule: &[u8],
+    told: &mut Told,
+) -> Result<Index, ServeError>
+    requires allowed { MayWork workers }
+    requires workers { All (λ worker. worker < workers) schedule.now }
+    ensures told { IfOk result
+        (TellsBatch workers schedule.now index batch (string_bytes told.old.trace) (string_bytes told.new.trace)) }
+    ensures text { IfOk result (λ _. string_bytes told.new.text
+        ≡ string_bytes told.old.text ++ text_of (answers (map_of index) batch)) }
+    ensures map { IfOk result (λ after. map_of after ≡ map_after_all (map_of index) batch) }
+    ensures refused { IfErr result (IsReplayFault index batch) }
+{
+    let lanes = lanes_by_residue(alloc, &batch, workers)?;
+    let mut world = World::start(alloc, index.into_rest(), batch, lanes)?;
+    trace_steps(&mut world, schedule, &mut told.trace)?;
+    world.finish()?;
+    push_answers(&mut told.text, &all_of(alloc, world.answers())?)?;
+    the_map_is_kept();
+    no_other_map_is_kept();
+    Ok(Index::from_rest(world.into_rest()))
+}
+
+// The lane of each operation, by the remainder of its key.
+fn lanes_by_residue(alloc: Global, batch: &Batch, workers: u8) -> Result<Lanes, AllocError>
+    requires { MayWork workers }
+    ensures lanes { IfOk result (λ lanes. lanes ≡ by_residue workers batch.now) }
+    ensures lawful { IfOk result (λ lanes. IsLawfulCut batch.now lanes.workers lanes.lanes) }
+{
+    match Cut::by_residue(alloc, batch, workers) {
+        Ok(cut) => Ok(cut.into_lanes()),
+        Err(_) => Err(AllocError),
+    }
+}
+
+/// What a replay tells: the trace of the schedule's turns, and the text of the parts.
+#[derive(Debug, Drop)]
+struct Told {
+    trace: String,
+    text: String,
+}

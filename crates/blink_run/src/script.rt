@@ -1,0 +1,172 @@
+//! A script served: from its text to its output.
+ghost use Rattle.std.specs.Prelude.{◌≡◌, ◌+◌, ◌<◌, ◌^◌, [], ◌∷◌, count_by, filter, IfErr, IfOk, OnOk, string_bytes};
+ghost use Rattle.std.specs.Io.KnownBytes.{Appends};
+ghost use Rattle.blink_batch.specs.Operation.{answers, map_after_all};
+ghost use Rattle.blink_batch.specs.Text.{text_of};
+ghost use Rattle.blink_index.specs.Index.{map_of};
+ghost use Rattle.blink_index.specs.Scan.{is_within};
+ghost use Rattle.blink_store.specs.Store.{new_store};
+ghost use Rattle.blink_run.specs.Text.{scan_text};
+ghost use Rattle.blink_run.specs.Served.{IsBatchFault, IsPartFault, KeepsUnlessOutput, LeavesFront, LeavesLines, Serves, TellsFault, is_batch, part_after, part_text, script_text};
+
+use crate::error::ServeError;
+use crate::gate::Gate;
+use crate::run::run_batch;
+use crate::settings::Settings;
+use crate::text::{push_answers, push_scan};
+use blink_batch::{Batch, Part, read_script};
+use blink_index::Index;
+use std::alloc::{AllocError, Global};
+use std::io::{Read, Write};
+use std::sync::Wait;
+use std::thread::Threads;
+
+#[cfg(test)]
+mod tests;
+
+/// Reads a whole script, runs its parts one after another on one new index, and writes what they answer: a line for each
+/// operation, in the order of its batch, and for a scan a line for each entry that it shows, in ascending order, and then
+/// their number. Each batch is run by the workers of the settings, in threads of their own.
+///
+/// Each part's lines are handed to the writer before the next part begins, and the writer is flushed at the end: after
+/// an error too, unless nothing was written. A flush that fails is answered as `Output`, whatever came before it.
+pub fn serve<T: Threads + Wait + Sync, R: Read, W: Write, G: Gate + Sync>(
+    rt: &T,
+    alloc: Global,
+    reader: &mut R,
+    writer: &mut W,
+    settings: &Settings,
+    gate: &G,
+) -> Result<(), ServeError>
+    ensures served { OnOk result
+        (Serves (R.remaining reader.old) (W.contents writer.old) (W.contents writer.new)) }
+    ensures fault { IfErr result (TellsFault (R.remaining reader.old)) }
+    ensures left { IfErr result (λ error.
+        LeavesLines (R.remaining reader.old) error (W.contents writer.old) (W.contents writer.new)) }
+{
+    let script = read_script(alloc, reader)?;
+    let mut index = new_index(alloc, settings)?;
+    let outcome = serve_parts(rt, alloc, &script.parts, &mut index, writer, settings, gate);
+    match writer.flush() {
+        Ok(()) => outcome,
+        Err(_) => Err(ServeError::Output),
+    }
+}
+
+/// The index that a script is run on: a new one.
+pub(crate) fn new_index(alloc: Global, settings: &Settings) -> Result<Index, AllocError>
+    ensures index { IfOk result (λ index. index ≡ new_store settings.now.fan) }
+    ensures empty { IfOk result (λ index. map_of index ≡ []) }
+{
+    match Index::new(alloc, settings.fan()) {
+        Ok(index) => Ok(index),
+        Err(_) => Err(AllocError),
+    }
+}
+
+// Serves the parts of a script, one after another.
+fn serve_parts<T: Threads + Wait + Sync, W: Write, G: Gate + Sync>(
+    rt: &T,
+    alloc: Global,
+    parts: &[Part],
+    index: &mut Index,
+    writer: &mut W,
+    settings: &Settings,
+    gate: &G,
+) -> Result<(), ServeError>
+    ensures served { OnOk result (Appends (W.contents writer.old) (W.contents writer.new)
+        (script_text (map_of index.old) parts.now)) }
+    ensures left { IfErr result (λ error. LeavesFront (map_of index.old) parts.now error
+        (W.contents writer.old) (W.contents writer.new)) }
+{
+    let mut batches = 0u64;
+    for part in parts {
+        batches = batches_with(part, batches);
+        serve_part(rt, alloc, part, batches, index, writer, settings, gate)?;
+    }
+    Ok(())
+}
+
+/// How many batches there are with this part, where there are so many before it.
+pub(crate) fn batches_with(part: &Part, before: u64) -> u64
+    requires { before + 1 < 2 ^ 64 }
+    ensures { result ≡ before + count_by is_batch (part.now ∷ []) }
+{
+    match part {
+        Part::Batch(_) => before + 1,
+        Part::Scan(..) => before,
+    }
+}
+
+// Serves one part, where it is a batch the one of this number.
+fn serve_part<T: Threads + Wait + Sync, W: Write, G: Gate + Sync>(
+    rt: &T,
+    alloc: Global,
+    part: &Part,
+    number: u64,
+    index: &mut Index,
+    writer: &mut W,
+    settings: &Settings,
+    gate: &G,
+) -> Result<(), ServeError>
+    ensures served { OnOk result (Appends (W.contents writer.old) (W.contents writer.new)
+        (part_text (map_of index.old) part.now)) }
+    ensures map { OnOk result (map_of index.new ≡ part_after (map_of index.old) part.now) }
+    ensures fault { IfErr result (IsPartFault part.now number) }
+    ensures kept { IfErr result (λ error.
+        KeepsUnlessOutput error (W.contents writer.old) (W.contents writer.new)) }
+{
+    let text = match part {
+        Part::Batch(batch) => batch_text(rt, alloc, batch, number, index, settings, gate)?,
+        Part::Scan(lo, hi) => scan_text(alloc, index, *lo, *hi)?,
+    };
+    write_text(writer, &text)
+}
+
+// Runs a batch of this number, and gives the lines of its answers.
+fn batch_text<T: Threads + Wait + Sync, G: Gate + Sync>(
+    rt: &T,
+    alloc: Global,
+    batch: &Batch,
+    number: u64,
+    index: &mut Index,
+    settings: &Settings,
+    gate: &G,
+) -> Result<String, ServeError>
+    ensures text { IfOk result
+        (λ text. string_bytes text ≡ text_of (answers (map_of index.old) batch.now)) }
+    ensures map { IfOk result
+        (λ _. map_of index.new ≡ map_after_all (map_of index.old) batch.now) }
+    ensures fault { IfErr result (IsBatchFault number) }
+{
+    let cut = settings.cut_batch(alloc, batch)?;
+    let answers = match run_batch(rt, alloc, index, batch, &cut, settings.driver(), gate) {
+        Ok(answers) => answers,
+        Err(error) => return Err(ServeError::Run(number, error)),
+    };
+    let mut text = String::new(alloc);
+    push_answers(&mut text, &answers)?;
+    Ok(text)
+}
+
+// The lines of a scan.
+fn scan_text(alloc: Global, index: &Index, lo: u64, hi: u64) -> Result<String, AllocError>
+    ensures { IfOk result
+        (λ text. string_bytes text ≡ scan_text (filter (is_within lo hi) (map_of index.now))) }
+{
+    let mut text = String::new(alloc);
+    push_scan(&mut text, index.scan(lo, hi))?;
+    Ok(text)
+}
+
+/// Writes the whole text.
+pub(crate) fn write_text<W: Write>(writer: &mut W, text: &str) -> Result<(), ServeError>
+    ensures written { OnOk result
+        (Appends (W.contents writer.old) (W.contents writer.new) text.now) }
+    ensures output { IfErr result (λ error. error ≡ ServeError.Output) }
+{
+    match writer.write_all(text.as_bytes()) {
+        Ok(()) => Ok(()),
+        Err(_) => Err(ServeError::Output),
+    }
+}

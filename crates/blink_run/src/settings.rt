@@ -1,0 +1,173 @@
+//! How a script is run.
+ghost use Rattle.std.specs.Prelude.{◌≡◌, ◌+◌, ◌<◌, ◌↔◌, IfOk, IfErr, IsOkUnless, IsErrOf, IsOk, length};
+ghost use Rattle.blink_batch.specs.Cut.{IsLawfulCut, MayWork};
+ghost use Rattle.blink_batch.specs.Ranges.{lanes_by_ranges};
+ghost use Rattle.blink_index.specs.Codes.{IsBadFan};
+ghost use Rattle.blink_run.specs.Codes.{code_of_settings_error};
+ghost use Rattle.blink_run.specs.Settings.{IsAllowed, even_bounds, lanes_by};
+
+use crate::run::Driver;
+use blink_batch::{Batch, Cut, WORKER_LIMIT};
+use blink_page::{MAX_FAN, MIN_FAN};
+use std::alloc::{AllocError, Global};
+use std::marker::Model;
+use thiserror::Error;
+
+#[cfg(test)]
+mod tests;
+
+/// How each batch of a script is cut among workers.
+#[derive(Clone, Copy, Debug, PartialEq, Eq)]
+pub enum CutKind {
+    /// By the remainders of the keys: a key's worker is `key % workers`.
+    Residue,
+    /// By ranges of keys. The greatest key of range i, counted from 1, is `i * (MAX / workers)`, where MAX is the greatest
+    /// key; the last range goes up to MAX.
+    Ranges,
+}
+
+/// Why settings are refused.
+#[derive(Clone, Copy, Debug, PartialEq, Eq, Error)]
+pub enum SettingsError {
+    /// The workers aren't 1 to 64.
+    #[error("bad number of workers")]
+    BadWorkers,
+    /// The number of entries that a page may have isn't from 4 to 16.
+    #[error("bad fan")]
+    BadFan,
+}
+
+impl SettingsError {
+    /// The number of the refusal, the same in every release.
+    pub fn code(&self) -> u8
+        ensures { result ≡ code_of_settings_error self.now }
+    {
+        match self {
+            SettingsError::BadWorkers => 2,
+            SettingsError::BadFan => 40,
+        }
+    }
+}
+
+/// How a script is run: by how many workers, over pages of how many entries, how its batches are cut, and how the workers
+/// share the tree.
+#[derive(Clone, Copy, Debug, PartialEq, Eq)]
+pub struct Settings {
+    workers: u8,
+    fan: u8,
+    cut: CutKind,
+    driver: Driver,
+}
+
+impl Model for Settings {
+    ghost use Rattle.blink_run.specs.Settings.{PlainSettings, IsAllowed};
+
+    ghost Value = { PlainSettings };
+
+    ghost view = { λ s. record { workers = s.workers; fan = s.fan; cut = s.cut; driver = s.driver } };
+
+    ghost invariant = { λ s. IsAllowed s.workers s.fan };
+
+    ghost inverse = { λ p. record { workers = p.workers; fan = p.fan; cut = p.cut; driver = p.driver } };
+}
+
+impl Settings {
+    /// Settings for 1 to 64 workers and a new index whose pages have at most `fan` entries, 4 to 16. It takes no memory.
+    /// `BadWorkers` is told before `BadFan`.
+    pub fn new(
+        workers: u8,
+        fan: u8,
+        cut: CutKind,
+        driver: Driver,
+    ) -> Result<Settings, SettingsError>
+        ensures settings { IfOk result (λ s.
+            s ≡ record { workers = workers; fan = fan; cut = cut; driver = driver }) }
+        ensures taken { IsOk result ↔ IsAllowed workers fan }
+        ensures bad_workers { IsErrOf result SettingsError.BadWorkers ↔ ¬ MayWork workers }
+        ensures bad_fan { IsErrOf result SettingsError.BadFan ↔ (MayWork workers × IsBadFan fan) }
+    {
+        if workers == 0 || workers > WORKER_LIMIT {
+            return Err(SettingsError::BadWorkers);
+        }
+        if fan < MIN_FAN || usize::from(fan) > MAX_FAN {
+            return Err(SettingsError::BadFan);
+        }
+        Ok(Settings {
+            workers,
+            fan,
+            cut,
+            driver,
+        })
+    }
+
+    /// The number of workers.
+    pub fn workers(&self) -> u8
+        ensures workers { result ≡ self.now.workers }
+        ensures allowed { MayWork self.now.workers }
+    {
+        self.workers
+    }
+
+    /// The greatest number of entries in a page of the new index.
+    pub fn fan(&self) -> u8
+        ensures fan { result ≡ self.now.fan }
+        ensures allowed { ¬ IsBadFan self.now.fan }
+    {
+        self.fan
+    }
+
+    /// How the workers share the tree.
+    pub fn driver(&self) -> Driver
+        ensures { result ≡ self.now.driver }
+    {
+        self.driver
+    }
+
+    /// How batches are cut among the workers.
+    pub fn cut(&self) -> CutKind
+        ensures { result ≡ self.now.cut }
+    {
+        self.cut
+    }
+
+    // The cut of a batch among the workers.
+    pub(crate) fn cut_batch(&self, alloc: Global, batch: &Batch) -> Result<Cut, AllocError>
+        ensures workers { IfOk result (λ cut. cut.workers ≡ self.now.workers) }
+        ensures lanes { IfOk result
+            (λ cut. cut.lanes ≡ lanes_by self.now.cut self.now.workers batch.now) }
+        ensures lawful { IfOk result (λ cut. IsLawfulCut batch.now cut.workers cut.lanes) }
+    {
+        match self.cut {
+            CutKind::Residue => {
+                Cut::by_residue(alloc, batch, self.workers).map_err(|_| AllocError)
+            }
+            CutKind::Ranges => by_even_ranges(alloc, batch, self.workers),
+        }
+    }
+}
+
+// The cut of a batch by as many ranges of keys as workers.
+fn by_even_ranges(alloc: Global, batch: &Batch, workers: u8) -> Result<Cut, AllocError>
+    requires { MayWork workers }
+    ensures workers { IfOk result (λ cut. cut.workers ≡ workers) }
+    ensures lanes { IfOk result
+        (λ cut. cut.lanes ≡ lanes_by_ranges (even_bounds workers) batch.now) }
+    ensures lawful { IfOk result (λ cut. IsLawfulCut batch.now cut.workers cut.lanes) }
+{
+    let bounds = even_bounds(alloc, workers)?;
+    Cut::by_ranges(alloc, batch, &bounds).map_err(|_| AllocError)
+}
+
+// The greatest keys of all ranges but the last, where the keys are cut into as many ranges as workers.
+fn even_bounds(alloc: Global, workers: u8) -> Result<Vec<u64>, AllocError>
+    requires { MayWork workers }
+    ensures bounds { IfOk result (λ bounds. bounds.items ≡ even_bounds workers) }
+    ensures count { IfOk result (λ bounds. length bounds.items + 1 ≡ workers) }
+{
+    let width = u64::MAX / u64::from(workers);
+    let mut bounds = Vec::with_capacity(alloc, usize::from(workers))?;
+    for number in 1..u64::from(workers) {
+        bounds.push_reserved(number * width);
+    }
+    Ok(bounds)
+}

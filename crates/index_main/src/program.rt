@@ -1,0 +1,59 @@
+//! What the command line asks for, carried out.
+ghost use Rattle.std.specs.Prelude.{◌≡◌, [], IfErr, OnOk};
+ghost use Rattle.std.specs.Io.Buffered.{writer_buffer, writer_inner};
+ghost use Rattle.index_main.specs.Program.{HasLeft, Leaves, Writes};
+
+use crate::line::Line;
+use blink_run::{Open, ServeError, serve, serve_replay};
+use std::alloc::Global;
+use std::io::{BufWriter, Read, Write};
+use std::sync::Wait;
+use std::thread::Threads;
+
+#[cfg(test)]
+mod tests;
+
+/// Carries a command line out: reads the script and writes what it answers, or what its replay tells.
+///
+/// Whatever the end is, nothing is left in the buffer but where the writer failed: then the answer is `Output`.
+pub fn carry_out<T: Threads + Wait + Sync, R: Read, W: Write + Drop>(
+    rt: &T,
+    alloc: Global,
+    line: &Line,
+    reader: &mut R,
+    output: &mut BufWriter<W>,
+) -> Result<(), ServeError>
+    requires { writer_buffer output.old ≡ [] }
+    ensures written { OnOk result (Writes line.now (R.remaining reader.old)
+        (W.contents (writer_inner output.old)) (W.contents (writer_inner output.new))) }
+    ensures left { IfErr result (λ error. Leaves line.now (R.remaining reader.old) error
+        (W.contents (writer_inner output.old)) (W.contents (writer_inner output.new))) }
+    ensures emptied { HasLeft result (writer_buffer output.new) }
+{
+    let outcome = served(rt, alloc, line, reader, output);
+    match output.flush() {
+        Ok(()) => outcome,
+        Err(_) => Err(ServeError::Output),
+    }
+}
+
+// Serves the script as the command line asks.
+fn served<T: Threads + Wait + Sync, R: Read, W: Write>(
+    rt: &T,
+    alloc: Global,
+    line: &Line,
+    reader: &mut R,
+    writer: &mut W,
+) -> Result<(), ServeError>
+    ensures written { OnOk result (Writes line.now (R.remaining reader.old)
+        (W.contents writer.old) (W.contents writer.new)) }
+    ensures left { IfErr result (λ error. Leaves line.now (R.remaining reader.old) error
+        (W.contents writer.old) (W.contents writer.new)) }
+{
+    match line {
+        Line::Run(settings) => serve(rt, alloc, reader, writer, settings, &Open),
+        Line::Replay(settings, schedule) => {
+            serve_replay(alloc, reader, writer, settings, schedule)
+        }
+    }
+}
