@@ -106,7 +106,8 @@ impl Shared {
     fn add(&mut self, machine: &Machine) -> Result<u32, StepError>
         requires needs { NeedsNew machine.now }
         requires room { length self.old.store.pages < MAX_PAGE }
-        requires at_most_fan { length (page_out machine.now (length self.old.store.pages + 1)).entries ≤ self.old.store.fan }
+        requires at_most_fan { length (page_out machine.now (length self.old.store.pages + 1)).entries
+            ≤ self.old.store.fan }
         ensures number { IfOk result (λ number. number ≡ length self.old.store.pages + 1) }
         ensures written { IfOk result
             (λ number. WritesPage self.old.store self.new.store number (page_out machine.now number)) }

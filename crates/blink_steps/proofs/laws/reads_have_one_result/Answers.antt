@@ -1,4 +1,4 @@
-use Rattle.blink_steps.proofs.ReadResults.{one_change, one_result_of_page, one_result_of_prime}
+use Rattle.blink_steps.proofs.operation.ReadResults.{one_change, one_result_of_page, one_result_of_prime}
 use Rattle.blink_steps.proofs.laws.reads_have_one_result.Goals as goal
 
 pub returns-clause-of_prime : goal.returns-clause-of_prime

@@ -1,4 +1,4 @@
-use Rattle.blink_steps.proofs.ReadsSucceed.{page_reads_have_results, prime_reads_have_results}
+use Rattle.blink_steps.proofs.moment.ReadsSucceed.{page_reads_have_results, prime_reads_have_results}
 use Rattle.blink_steps.proofs.laws.reads_have_results.Goals as goal
 
 pub returns-clause-of_page : goal.returns-clause-of_page

@@ -3,8 +3,8 @@ use Rattle.std.proofs.lemmas.List.{take_all, take_more}
 use Rattle.std.proofs.lemmas.Result.{err_from_is_err_and}
 use Rattle.blink_batch.specs.Cut.{Assignment}
 use Rattle.blink_steps.specs.World.{IsReplay, IsReplayRefusal, IsStepRefusal}
-use Rattle.blink_steps.proofs.WorldLemmas.{replay_refusal, replays_further, workers_more}
-use Rattle.blink_steps.proofs.WorldPromises.{promises, replayed_one_thread}
+use Rattle.blink_steps.proofs.worlds.WorldLemmas.{replay_refusal, replays_further, workers_more}
+use Rattle.blink_steps.proofs.worlds.WorldPromises.{promises, replayed_one_thread}
 use Rattle.blink_steps.proofs.world.replay.Goals as goal
 
 -- who took a step is a worker

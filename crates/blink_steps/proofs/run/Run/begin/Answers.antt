@@ -4,7 +4,7 @@ use Rattle.std.specs.List.{slice_get}
 use Rattle.blink_batch.proofs.NextPlaceLemmas.{next_place_is}
 use Rattle.blink_batch.specs.declared.operation.Op.TheVariants.{Find}
 use Rattle.blink_batch.specs.Order.{next_place}
-use Rattle.blink_steps.proofs.RunLemmas.{goes_on-begun, IsLinked-with_seat, turn_moves}
+use Rattle.blink_steps.proofs.runs.RunLemmas.{goes_on-begun, IsLinked-with_seat, turn_moves}
 use Rattle.blink_steps.specs.declared.seat.Seat.{Seat}
 use Rattle.blink_steps.specs.Machine.{fresh}
 use Rattle.blink_steps.specs.Run.{IsNextOf, idle_seat}

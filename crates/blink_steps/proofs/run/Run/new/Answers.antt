@@ -2,7 +2,7 @@ use Rattle.std.proofs.Common.{◌≡◌, ℕ, ◌+◌, ◌<◌, ◌≤◌, List,
 use Rattle.std.proofs.lemmas.List.{length_push}
 use Rattle.blink_batch.specs.Cut.{Assignment}
 use Rattle.blink_batch.specs.declared.cut.TheConstants.{WORKER_LIMIT}
-use Rattle.blink_steps.proofs.RunLemmas.{AreIdle, AreIdle-more, AreOfLanes-idle}
+use Rattle.blink_steps.proofs.runs.RunLemmas.{AreIdle, AreIdle-more, AreOfLanes-idle}
 use Rattle.blink_steps.specs.Ledger.{PlainLedger}
 use Rattle.blink_steps.specs.Links.{AreLinks, AreFirsts}
 use Rattle.blink_steps.specs.Seats.{AreOfLanes}

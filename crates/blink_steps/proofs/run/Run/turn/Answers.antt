@@ -1,7 +1,7 @@
 use Rattle.std.proofs.Common.{◌≡◌, ℕ, Option, Some, None, true, false, refl, sym, ap, ◌∙◌}
 use Rattle.std.specs.List.{slice_get}
 use Rattle.std.specs.Option.{is_some}
-use Rattle.blink_steps.proofs.RunLemmas.{seat_found, seat_with, turn_idles}
+use Rattle.blink_steps.proofs.runs.RunLemmas.{seat_found, seat_with, turn_idles}
 use Rattle.blink_steps.specs.declared.seat.Working.{Working}
 use Rattle.blink_steps.specs.Run.{idle_seat}
 use Rattle.blink_steps.specs.RunView.{plain}

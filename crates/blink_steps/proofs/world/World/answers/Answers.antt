@@ -1,7 +1,7 @@
 use Rattle.std.proofs.Common.{◌≡◌, Option, List, length, ap, subst, ◌∙◌}
 use Rattle.blink_batch.specs.declared.Answer.{Answer}
 use Rattle.blink_steps.specs.World.{PlainWorld}
-use Rattle.blink_steps.proofs.WorldPromises.{promises, shaped}
+use Rattle.blink_steps.proofs.worlds.WorldPromises.{promises, shaped}
 use Rattle.blink_steps.proofs.world.World.answers.Goals as goal
 
 pub returns-clause-one_each : goal.returns-clause-one_each

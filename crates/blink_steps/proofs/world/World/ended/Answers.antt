@@ -1,4 +1,4 @@
-use Rattle.blink_steps.proofs.WorldPromises.{promises, shaped}
+use Rattle.blink_steps.proofs.worlds.WorldPromises.{promises, shaped}
 use Rattle.blink_steps.proofs.world.World.ended.Goals as goal
 
 pub ended-requires : goal.ended-requires

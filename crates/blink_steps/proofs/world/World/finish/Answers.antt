@@ -1,8 +1,8 @@
 use Rattle.std.proofs.Common.{sym, subst}
 use Rattle.blink_steps.specs.Pick.{GoesOnPicked}
 use Rattle.blink_steps.specs.World.{PlainWorld}
-use Rattle.blink_steps.proofs.FinishLemmas.{picked_further, same_batch_then, world_goes_on}
-use Rattle.blink_steps.proofs.WorldPromises.{promises}
+use Rattle.blink_steps.proofs.worlds.FinishLemmas.{picked_further, same_batch_then, world_goes_on}
+use Rattle.blink_steps.proofs.worlds.WorldPromises.{promises}
 use Rattle.blink_steps.proofs.world.World.finish.Goals as goal
 use Rattle.blink_steps.proofs.world.World.finish.Goals.{In_err-advance}
 

@@ -1,7 +1,7 @@
 use Rattle.std.proofs.Common.{sym, subst}
 use Rattle.blink_rest.specs.Rest.{IsStoreAtRest}
 use Rattle.blink_steps.specs.World.{PlainWorld, HasEnded}
-use Rattle.blink_steps.proofs.WorldPromises.{promises}
+use Rattle.blink_steps.proofs.worlds.WorldPromises.{promises}
 use Rattle.blink_steps.proofs.world.World.into_rest.Goals as goal
 
 pub of-requires : goal.of-requires

@@ -1,6 +1,6 @@
 use Rattle.std.proofs.Common.{◌<◌, sym, subst, arith}
 use Rattle.blink_steps.specs.World.{PlainWorld}
-use Rattle.blink_steps.proofs.WorldPromises.{shaped}
+use Rattle.blink_steps.proofs.worlds.WorldPromises.{shaped}
 use Rattle.blink_steps.proofs.world.World.is_idle.Goals as goal
 
 pub is_idle-requires : goal.is_idle-requires

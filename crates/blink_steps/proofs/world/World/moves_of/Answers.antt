@@ -1,7 +1,7 @@
 use Rattle.std.proofs.Common.{◌<◌, ℕ, List, length, get_or, ap, sym, subst, ◌∙◌, arith}
 use Rattle.std.proofs.lemmas.Option.{get_or_from_slice_get}
 use Rattle.blink_steps.specs.World.{PlainWorld}
-use Rattle.blink_steps.proofs.WorldPromises.{counted, promises, shaped}
+use Rattle.blink_steps.proofs.worlds.WorldPromises.{counted, promises, shaped}
 use Rattle.blink_steps.proofs.world.World.moves_of.Goals as goal
 
 pub bounds-moves-op : goal.bounds-moves-op

@@ -1,4 +1,4 @@
-use Rattle.blink_steps.proofs.WorldPromises.{promises}
+use Rattle.blink_steps.proofs.worlds.WorldPromises.{promises}
 use Rattle.blink_steps.proofs.world.World.order.Goals as goal
 
 pub returns-clause-promised : goal.returns-clause-promised

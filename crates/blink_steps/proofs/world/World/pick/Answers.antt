@@ -1,5 +1,5 @@
-use Rattle.blink_steps.proofs.MoverLemmas.{ended_picks_none, nobody_moves}
-use Rattle.blink_steps.proofs.WorldPromises.{shaped, sound}
+use Rattle.blink_steps.proofs.worlds.MoverLemmas.{ended_picks_none, nobody_moves}
+use Rattle.blink_steps.proofs.worlds.WorldPromises.{shaped, sound}
 use Rattle.blink_steps.proofs.world.World.pick.Goals as goal
 
 pub pick-requires : goal.pick-requires

@@ -3,8 +3,8 @@ use Rattle.std.proofs.lemmas.Bool.{cases_lt}
 use Rattle.blink_batch.specs.Batch.{is_insert}
 use Rattle.blink_page.specs.declared.limits.TheConstants.{MAX_PAGE}
 use Rattle.blink_steps.specs.World.{IsWorldOf, MayBegin}
-use Rattle.blink_steps.proofs.WorldLemmas.{begins}
-use Rattle.blink_steps.proofs.WorldPromises.{promises}
+use Rattle.blink_steps.proofs.worlds.WorldLemmas.{begins}
+use Rattle.blink_steps.proofs.worlds.WorldPromises.{promises}
 use Rattle.blink_steps.proofs.world.World.start.Goals as goal
 
 may_begin : (c : goal.After-new-in-Ok) → MayBegin c.args.rest c.args.batch c.args.lanes

@@ -1,8 +1,8 @@
 use Rattle.std.proofs.Common.{◌++◌, ℕ, List, [], ◌∷◌, ap, subst, ◌∙◌, arith}
 use Rattle.blink_steps.specs.World.{PlainWorld, TakesStep}
-use Rattle.blink_steps.proofs.FinishLemmas.{would_move_moves, would_wait_waits}
-use Rattle.blink_steps.proofs.WorldLemmas.{goes_further, has_turn_more, same_batch_after}
-use Rattle.blink_steps.proofs.WorldPromises.{promises, ready}
+use Rattle.blink_steps.proofs.worlds.FinishLemmas.{would_move_moves, would_wait_waits}
+use Rattle.blink_steps.proofs.worlds.WorldLemmas.{goes_further, has_turn_more, same_batch_after}
+use Rattle.blink_steps.proofs.worlds.WorldPromises.{promises, ready}
 use Rattle.blink_steps.proofs.world.World.step.Goals as goal
 
 pub returns-then-worker-workers-clause-promised : goal.returns-then-worker-workers-clause-promised

@@ -1,6 +1,6 @@
 use Rattle.std.proofs.Common.{◌<◌, sym, subst, arith}
 use Rattle.blink_steps.specs.World.{PlainWorld}
-use Rattle.blink_steps.proofs.WorldPromises.{shaped}
+use Rattle.blink_steps.proofs.worlds.WorldPromises.{shaped}
 use Rattle.blink_steps.proofs.world.World.waits.Goals as goal
 
 pub waits-requires : goal.waits-requires

@@ -1,0 +1,14 @@
+pub mod JobLemmas
+pub mod JobLevelLemmas
+pub mod NeedLemmas
+pub mod WorkLemmas
+pub mod WayLemmas
+pub mod MoveLemmas
+pub mod OwnPageLemmas
+pub mod LatchedPageLemmas
+pub mod PageReadLemmas
+pub mod PageWriteLemmas
+pub mod ChangeTreeLemmas
+pub mod SplitTreeLemmas
+pub mod StepKeeps
+pub mod ReadResults

@@ -1,0 +1,15 @@
+pub mod RunStatements
+pub mod LinkLemmas
+pub mod RunLemmas
+pub mod ActSteps
+pub mod StepActs
+pub mod RunOpening
+pub mod RunStore
+pub mod RunNext
+pub mod RunDecided
+pub mod RunTurns
+pub mod RunReady
+pub mod RunHistory
+pub mod RunEnd
+pub mod RunPromises
+pub mod RunLaws

@@ -1,0 +1,46 @@
+-- A page that gains or loses an entry stands as it did.
+use Rattle.std.proofs.Common.{◌≡◌, ℕ, ◌+◌, ◌^◌, ◌<◌, ◌≤◌, eqb, None, length, refl, arith}
+use Rattle.std.proofs.lemmas.Bool.Decides.{nat_tests}
+use Rattle.blink_batch.specs.declared.Op.{Op}
+use Rattle.blink_batch.specs.declared.Op.TheVariants.{Find, Insert, Delete}
+use Rattle.blink_batch.specs.Batch.{FitsWords}
+use Rattle.blink_page.specs.Entries.{value_at, added, removed, posted}
+use Rattle.blink_page.specs.Limits.{IsPageNumber}
+use Rattle.blink_page.specs.Page.{PlainPage, IsLawfulPage, IsKeyOf, entries_with, with_entries}
+use Rattle.blink_page.specs.declared.limits.TheConstants.{GREATEST_KEY}
+use Rattle.blink_page.proofs.EntryLemmas.{in_each_case}
+use Rattle.blink_page.proofs.PageLemmas.{lawful_with_room, lawful_removed, lawful_entries_with, length-entries_with}
+use Rattle.blink_steps.specs.Machine.{pointer_with}
+use Rattle.blink_steps.specs.Table.{Brings}
+use Rattle.blink_steps.specs.declared.machine.Job.TheVariants.{Leaf}
+use Rattle.blink_steps.proofs.tree.TreeStatements.{Replaces}
+
+-- in a leaf an entry is added
+pub entries_with-leaf : (p : PlainPage) (entry : ℕ × ℕ) → p.level ≡ 0 → entries_with p entry ≡ added entry p.entries
+entries_with-leaf p entry leaf = in_each_case (λ entries. entries ≡ added entry p.entries) (eqb p.level 0) _ _ (λ yes_case. refl) (λ no_case. absurd (grind (arith, nat_tests)))
+
+-- in an inner page it is posted
+pub entries_with-inner : (p : PlainPage) (entry : ℕ × ℕ) → 0 < p.level → entries_with p entry ≡ posted entry p.entries
+entries_with-inner p entry inner = in_each_case (λ entries. entries ≡ posted entry p.entries) (eqb p.level 0) _ _ (λ yes_case. absurd (grind (arith, nat_tests))) (λ no_case. refl)
+
+-- with room for one more
+pub gain_replaces : (fan key value : ℕ) (p : PlainPage) → IsLawfulPage fan p → IsKeyOf p key → value_at key p.entries ≡ None → length p.entries < fan → value ≤ GREATEST_KEY
+    → (0 < p.level → IsPageNumber value) → Replaces fan p (with_entries p (entries_with p (key, value)))
+gain_replaces fan key value p lawful belongs absent room fits is_number = record {
+  lawful = lawful_with_room (fan + 1) fan (with_entries p (entries_with p (key, value))) (lawful_entries_with fan p lawful key value belongs absent fits is_number)
+      (omega (arith, length-entries_with fan p lawful key value belongs));
+  same_level = refl;
+  same_floor = refl;
+  same_high = refl;
+  same_right = refl;
+}
+
+-- with one less
+pub loss_replaces : (fan key : ℕ) (p : PlainPage) → IsLawfulPage fan p → p.level ≡ 0 → Replaces fan p (with_entries p (removed key p.entries))
+loss_replaces fan key p lawful leaf = record { lawful = lawful_removed fan p lawful key leaf; same_level = refl; same_floor = refl; same_high = refl; same_right = refl }
+
+-- the pointer that an operation brings fits
+pub pointer_fits : (op : Op) → FitsWords op → Brings op Leaf → pointer_with op ≤ GREATEST_KEY
+pointer_fits (Find key) words brings = absurd brings
+pointer_fits (Insert key pointer) words brings = let below : pointer < 2 ^ 64 = words.1 in omega arith
+pointer_fits (Delete key) words brings = absurd brings

@@ -1,0 +1,38 @@
+-- The laws of trees, each proved.
+use Rattle.blink_steps.proofs.tree.TreeStatements.{TreeLaws}
+use Rattle.blink_steps.proofs.tree.TreeReading.{cells_are_of_level, numbers_differ, levels_are_named, leftmost_begins, only_is_leftmost, right_begins, level_keeps, top_debt_has_two}
+use Rattle.blink_steps.proofs.tree.TreeChildren.{separators_are_high_keys, children_begin}
+use Rattle.blink_steps.proofs.tree.TreeReach.{keys_are_reached}
+use Rattle.blink_steps.proofs.tree.TreeAtRest.{rest_is_quiet}
+use Rattle.blink_steps.proofs.tree.TreeQuiet.{quiet_is_rest}
+use Rattle.blink_steps.proofs.tree.TreeHeight.{few_levels}
+use Rattle.blink_steps.proofs.tree.FreeLemmas.{free_write_keeps}
+use Rattle.blink_steps.proofs.tree.LeafChanges.{leaf_gain_keeps, leaf_loss_keeps}
+use Rattle.blink_steps.proofs.tree.PostingChanges.{posting_keeps}
+use Rattle.blink_steps.proofs.tree.SplitChanges.{leaf_split_keeps, inner_split_keeps}
+use Rattle.blink_steps.proofs.tree.GrowthChanges.{growth_keeps}
+
+pub tree_laws : TreeLaws
+tree_laws = record {
+  cells_are_of_level = cells_are_of_level;
+  numbers_differ = numbers_differ;
+  levels_are_named = levels_are_named;
+  leftmost_begins = leftmost_begins;
+  only_is_leftmost = only_is_leftmost;
+  right_begins = right_begins;
+  children_begin = children_begin;
+  level_keeps = level_keeps;
+  separators_are_high_keys = separators_are_high_keys;
+  top_debt_has_two = top_debt_has_two;
+  few_levels = few_levels;
+  keys_are_reached = keys_are_reached;
+  rest_is_quiet = rest_is_quiet;
+  quiet_is_rest = quiet_is_rest;
+  free_write_keeps = free_write_keeps;
+  leaf_gain_keeps = leaf_gain_keeps;
+  leaf_loss_keeps = leaf_loss_keeps;
+  posting_keeps = posting_keeps;
+  leaf_split_keeps = leaf_split_keeps;
+  inner_split_keeps = inner_split_keeps;
+  growth_keeps = growth_keeps few_levels;
+}

@@ -1,0 +1,10 @@
+pub mod StartEntries
+pub mod AllIdleLemmas
+pub mod DebtTreeLemmas
+pub mod NeverStuckLemmas
+pub mod PickLemmas
+pub mod WorldLemmas
+pub mod HeadlineLemmas
+pub mod WorldPromises
+pub mod MoverLemmas
+pub mod FinishLemmas
