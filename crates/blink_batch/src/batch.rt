@@ -71,6 +71,7 @@ impl Batch {
         ensures words { All FitsWords self.now }
         ensures limit { length self.now ≤ BATCH_LIMIT }
     {
+        // Read for the proof: a batch keeps what its type says.
         let _inserts = self.inserts;
         &self.ops
     }

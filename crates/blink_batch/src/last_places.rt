@@ -9,8 +9,8 @@ ghost use Rattle.blink_batch.specs.LastPlaces.{AreLastPlaces, IsLastBefore, IsOn
 use crate::batch::BATCH_LIMIT;
 use crate::operation::Op;
 
-// 2 ^ 12, as many as a full batch has operations, so that few keys share a bucket.
-const BUCKETS: usize = 4096;
+// As many as a full batch has operations, so that few keys share a bucket.
+const BUCKETS: usize = BATCH_LIMIT;
 
 /// For each key so far, the place of its last operation: a table of fixed size, so that nothing is asked of the heap.
 /// Each bucket has its places as a chain, the last first.
@@ -67,7 +67,7 @@ impl LastPlaces {
 }
 
 // The bucket of a key: the upper bits of its product with 2 ^ 64 over the golden ratio (Fibonacci hashing), so that keys
-// at equal distances don't crowd into few buckets.
+// at equal distances don't crowd into few buckets. These are 12 bits, so that every bucket of theirs is to be in the table.
 #[tactic(auto, unfolding(crate::specs::LastPlaces::bucket_of))]
 fn bucket(key: u64) -> usize
     ensures value { result ≡ bucket_of key }

@@ -1,6 +1,6 @@
-pub mod CellLemmas
-pub mod MapLemmas
-pub mod DownLemmas
-pub mod ScanLemmas
-pub mod LinkLemmas
-pub mod DumpLemmas
+pub mod PagesAlongLinks
+pub mod MapOfStore
+pub mod WayDown
+pub mod StretchOfScan
+pub mod WhereLinksLead
+pub mod LevelsAsLines

@@ -70,6 +70,7 @@ impl Index {
         ensures tree { result.now ≡ self.now }
         ensures map { IsMapOf self.now (map_of self.now) }
     {
+        // Called for the proof: a tree at rest has its entries as a map.
         let _store = self.store();
         &self.rest
     }

@@ -1,8 +1,9 @@
-pub mod RisingLemmas
-pub mod EntryLemmas
-pub mod LookLemmas
-pub mod LevelLemmas
-pub mod PlaceLemmas
-pub mod PageLemmas
-pub mod SplitLemmas
-pub mod PostingLemmas
+pub mod RisingKeys
+pub mod ChangedEntries
+pub mod LookUps
+pub mod EntriesOfPagesInARow
+pub mod WhereSearchesEnd
+pub mod LawfulPages
+pub mod HalvesOfSplit
+pub mod TwoPostings
+pub mod Offered

@@ -31,6 +31,7 @@ fn a_full_leaf_splits(rt: HostRuntime) -> Result<(), Fail> {
     );
     assert!(rt; page.look(5).is_none());
     let (lower, upper, separator) = page.split_with(4, 5, 50, 2);
+    assert!(rt; page.lower_with(4, 5, 50, 2) == lower && page.upper_with(4, 5, 50) == upper);
     assert_eq!(rt; separator, 3);
     assert_eq!(rt;
         lower.items.as_slice(),

@@ -12,6 +12,10 @@ pub record Cell : Type 0 where
   pub number : ℕ
   pub page : PlainPage
 
+-- the page with its number
+abbrev pub cell : ℕ → PlainPage → Cell
+cell number page = record { number = number; page = page }
+
 -- the cell is one of them
 abbrev pub StandsIn : Cell → List Cell → Type 0
 StandsIn c [] = ⊥
@@ -29,6 +33,16 @@ InLine fan level floor link [] last_floor last_link = (floor ≡ last_floor) × 
 InLine fan level floor link (c ∷ cells) last_floor last_link =
     (link ≡ Some c.number) × (c.page.floor ≡ floor) × (c.page.level ≡ level) × IsLawfulPage fan c.page
     × InLine fan level (Some c.page.high) c.page.right cells last_floor last_link
+
+-- the floor of the page that follows some cells: the high key of the last, or `floor` where there is none
+abbrev pub floor_after : Option ℕ → List Cell → Option ℕ
+floor_after floor [] = floor
+floor_after floor (c ∷ cells) = floor_after (Some c.page.high) cells
+
+-- the link to it: the right link of the last, or `link` where there is none
+abbrev pub link_after : Option ℕ → List Cell → Option ℕ
+link_after link [] = link
+link_after link (c ∷ cells) = link_after c.page.right cells
 
 -- the chain of a level: it begins at the leftmost page, which has no floor, and ends at a page whose high key is the
 -- greatest number, and which has no right link

@@ -3,7 +3,7 @@ use Rattle.std.specs.Prelude.{◌≡◌, ℕ, ◌+◌, ◌<◌, ◌≤◌, Some,
 use Rattle.blink_page.specs.Entries.{value_at}
 use Rattle.blink_page.specs.Page.{PlainPage}
 use Rattle.blink_page.specs.Rising.{IsRising}
-use Rattle.blink_page.specs.declared.limits.TheConstants.{GREATEST_KEY, MIN_FAN}
+use Rattle.blink_page.specs.declared.limits.TheConstants.{GREATEST_KEY, LEVELS, MIN_FAN}
 use Rattle.blink_store.specs.Store.{PlainStore, IsLawfulStore, page_of}
 use Rattle.blink_rest.specs.Chain.{Pages}
 use Rattle.blink_rest.specs.Children.{RefersBelow}
@@ -49,9 +49,9 @@ abbrev pub EachRightLinkLeads : Type 0
 EachRightLinkLeads = (fan : ℕ) (prime : List ℕ) (pages : Pages) (number next : ℕ) (page : PlainPage) → IsAtRest fan prime pages
     → pages number ≡ Some page → page.right ≡ Some next → IsInLine pages next page.level (Some page.high)
 
--- a store at rest has at most 20 levels
-abbrev pub AtMostTwentyLevels : Type 0
-AtMostTwentyLevels = (store : PlainStore) → IsLawfulStore store → IsStoreAtRest store → length store.prime ≤ 20
+-- in a store at rest the prime block has room for one level more
+abbrev pub LevelsAreFew : Type 0
+LevelsAreFew = (store : PlainStore) → IsLawfulStore store → IsStoreAtRest store → length store.prime < LEVELS
 
 -- the example is at rest, and keeps the entries of its two leaves
 abbrev pub ExampleIsAtRest : Type 0

@@ -20,3 +20,8 @@ pub record IsHighKey (cells : List Cell) (key : ℕ) : Type 0 where
 abbrev pub Refers : List Cell → Option ℕ → List (ℕ × ℕ) → Type 0
 Refers lower floor [] = ⊤
 Refers lower floor ((separator, child) ∷ rest) = IsHighKey lower separator × BeginsAt lower child floor × Refers lower (Some separator) rest
+
+-- the floor of the child that follows some entries: the last separator, or `floor` where there is none
+abbrev pub separator_after : Option ℕ → List (ℕ × ℕ) → Option ℕ
+separator_after floor [] = floor
+separator_after floor ((separator, child) ∷ rest) = separator_after (Some separator) rest

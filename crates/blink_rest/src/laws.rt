@@ -1,5 +1,5 @@
 //! Laws of the definitions, each on a function that does nothing.
-ghost use Rattle.blink_rest.specs.Laws.{EntriesAscend, EntriesAreOneList, EntriesExistAtRest, SearchEndsAtLeaf, EachKeyIsReached, EachPageRefersBelow, EachRightLinkLeads, AtMostTwentyLevels, ExampleIsAtRest};
+ghost use Rattle.blink_rest.specs.Laws.{EntriesAscend, EntriesAreOneList, EntriesExistAtRest, SearchEndsAtLeaf, EachKeyIsReached, EachPageRefersBelow, EachRightLinkLeads, LevelsAreFew, ExampleIsAtRest};
 
 /// The keys of a tree stand in its leaves in ascending order, none twice.
 pub fn entries_ascend()
@@ -37,8 +37,8 @@ pub fn each_right_link_leads()
 {}
 
 /// A store has too few page numbers for more levels: each has at least twice as many pages as the one above.
-pub fn at_most_twenty_levels()
-    ensures { AtMostTwentyLevels }
+pub fn levels_are_few()
+    ensures { LevelsAreFew }
 {}
 
 /// A tree of three pages is at rest, so the definition can be met by more than one leaf.

@@ -1,6 +1,7 @@
 //! A store whose tree is at rest.
-ghost use Rattle.std.specs.Prelude.{◌≡◌, ◌≤◌, ◌↔◌, IsTrue, length, IfOk, IsOkUnless};
+ghost use Rattle.std.specs.Prelude.{◌≡◌, ◌<◌, ◌↔◌, IsTrue, length, IfOk, IsOkUnless};
 ghost use Rattle.blink_page.specs.Limits.{IsFan};
+ghost use Rattle.blink_page.specs.declared.limits.TheConstants.{LEVELS};
 ghost use Rattle.blink_store.specs.Store.{IsLawfulStore, new_store};
 ghost use Rattle.blink_rest.specs.Rest.{IsStoreAtRest};
 
@@ -70,9 +71,10 @@ impl Rest {
     pub fn store(&self) -> &Store
         ensures store { result.now ≡ self.now }
         ensures at_rest { IsStoreAtRest self.now }
-        ensures few_levels { length self.now.prime ≤ 20 }
+        ensures few_levels { length self.now.prime < LEVELS }
         ensures lawful { IsLawfulStore self.now }
     {
+        // Called for the proof: a store has at most so many pages.
         let _count = self.store.pages();
         &self.store
     }

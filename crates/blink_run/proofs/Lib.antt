@@ -1,8 +1,8 @@
-pub mod BookLemmas
-pub mod RunLemmas
-pub mod TraceLemmas
-pub mod TextLemmas
-pub mod ReplayLemmas
-pub mod ServeLemmas
-pub mod PartsLemmas
-pub mod ScheduleLemmas
+pub mod BooksGoOn
+pub mod RunAtItsEnd
+pub mod TraceOfTurns
+pub mod LinesOfEntries
+pub mod ReplayOfBatch
+pub mod PartsAreServed
+pub mod ReplayOfParts
+pub mod FirstThatIsNoWorker

@@ -28,10 +28,10 @@ AllMoved history = All (λ (taken : Taken). HasMoved taken.step) history
 
 -- the book's world is that of its schedule, over its tree, its batch and its lanes, and each turn of the schedule moved
 pub record IsBook (book : PlainBook) : Type 0 where
-  pub of : IsWorldOf book.start book.world
+  pub is_world : IsWorldOf book.start book.world
   pub same_ops : book.world.run.ops ≡ book.ops
   pub same_assignment : book.world.run.assignment ≡ book.assignment
-  pub all_moved : AllMoved of.history
+  pub all_moved : AllMoved is_world.history
 
 -- the book of the same run, where it has come to another world
 abbrev pub with_world : PlainBook → PlainWorld → PlainBook
@@ -43,7 +43,7 @@ stopped_book book = record book { stopped = true }
 
 -- the operation has its answer, and its worker none under way
 abbrev pub HasEndedOp : PlainRun → ℕ → ℕ → Type 0
-HasEndedOp run worker op = HasAnswerAt run.answers op × IsIdleWorker run worker
+HasEndedOp run worker op = HasAnswerAt run.ledger.answers op × IsIdleWorker run worker
 
 -- what becomes of the book at a worker's turn for its operation: one step more, and whether the operation has ended with it; or,
 -- where it had ended before, would wait or is stopped, no step

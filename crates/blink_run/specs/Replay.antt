@@ -28,17 +28,17 @@ pub record RunsBatch (workers : ℕ) (schedule : List ℕ) (before : PlainStore)
   pub same_tree : finished.run.shared.store ≡ after
 
 -- the world has these turns more, over the tree that it began
-pub record HasTurnsMore (start : PlainStore) (old : PlainWorld) (of : IsWorldOf start old) (new : PlainWorld) (trace : List ℕ) : Type 0 where
+pub record HasTurnsMore (start : PlainStore) (old : PlainWorld) (is_world : IsWorldOf start old) (new : PlainWorld) (trace : List ℕ) : Type 0 where
   pub turns : List Taken
   pub now : IsWorldOf start new
-  pub more : now.history ≡ turns ++ of.history
+  pub more : now.history ≡ turns ++ is_world.history
   pub traced : trace ≡ trace_of turns
 
 -- a world goes on by a turn for each number of the schedule, and the trace tells them
 pub record IsTraced (old : PlainWorld) (schedule : List ℕ) (new : PlainWorld) (trace : List ℕ) : Type 0 where
   pub told : new.schedule ≡ old.schedule ++ schedule
   pub same_batch : SameBatch old.run new.run
-  pub goes_on : (start : PlainStore) (of : IsWorldOf start old) → HasTurnsMore start old of new trace
+  pub goes_on : (start : PlainStore) (is_world : IsWorldOf start old) → HasTurnsMore start old is_world new trace
 
 -- the trace is told behind what was told before
 abbrev pub TellsSteps : PlainWorld → List ℕ → PlainWorld → List ℕ → List ℕ → Type 0

@@ -21,6 +21,6 @@ pub record IsReplayed (before : PlainStore) (ops : List Op) (assignment : Assign
 -- these are its answers, place by place; they and the entries are those of one thread, and the tree is at rest
 pub record IsSettled (before : PlainStore) (ops : List Op) (assignment : Assignment) (after : PlainStore) (given : List Answer) : Type 0 where
   pub replayed : IsReplayed before ops assignment after
-  pub same_answers : replayed.world.run.answers ≡ map Some given
+  pub same_answers : replayed.world.run.ledger.answers ≡ map Some given
   pub one_thread : IsOneThread before replayed.world.run
   pub at_rest : IsStoreAtRest after

@@ -7,7 +7,7 @@ use Rattle.blink_batch.specs.Script.{IsReadable, TellsRefusal, script_of}
 use Rattle.blink_index.specs.Dump.{text_of_store}
 use Rattle.blink_store.specs.Store.{PlainStore, new_store}
 use Rattle.blink_steps.specs.declared.StepError.TheVariants as step
-use Rattle.blink_steps.specs.World.{IsFirstStranger}
+use Rattle.blink_steps.specs.World.{IsFirstNoWorker}
 use Rattle.blink_run.specs.Replay.{IsRefusedMemory, RunsBatch, TellsBatch}
 use Rattle.blink_run.specs.Served.{WritesText, is_batch, script_text}
 use Rattle.blink_run.specs.declared.error.ServeError.{ServeError}
@@ -52,7 +52,7 @@ TellsWorkersFault to_read serve.OutOfMemory = ⊤
 -- why it isn't replayed: a number of the schedule is no worker, the first such, or one of those
 abbrev pub TellsReplayFault : ℕ → List ℕ → Option (List ℕ) → ServeError → Type 0
 TellsReplayFault workers schedule to_read error =
-    ((worker : ℕ) × (error ≡ serve.Step (step.NoWorker worker)) × IsFirstStranger workers schedule worker) ⊎ TellsWorkersFault to_read error
+    ((worker : ℕ) × (error ≡ serve.Step (step.NoWorker worker)) × IsFirstNoWorker workers schedule worker) ⊎ TellsWorkersFault to_read error
 
 -- nothing was written, unless the writer failed
 abbrev pub WroteNothing : ServeError → Option (List ℕ) → Option (List ℕ) → Type 0

@@ -5,7 +5,7 @@ ghost use Rattle.blink_batch.specs.Cut.{IsLawfulCut, MayWork};
 ghost use Rattle.blink_batch.specs.Operation.{answers, map_after_all};
 ghost use Rattle.blink_batch.specs.Text.{text_of};
 ghost use Rattle.blink_index.specs.Index.{map_of};
-ghost use Rattle.blink_steps.specs.World.{IsFirstStranger};
+ghost use Rattle.blink_steps.specs.World.{IsFirstNoWorker};
 ghost use Rattle.blink_run.specs.Replay.{IsReplayFault, TellsBatch, by_residue};
 ghost use Rattle.blink_run.specs.Served.{is_batch, part_after, part_text, script_text};
 ghost use Rattle.blink_run.specs.ServedReplay.{IsPartsFault, Replays, TellsPart, TellsParts, TellsReplayFault, TellsWorkersFault, WroteNothing, taken_where};
@@ -45,8 +45,8 @@ pub fn serve_replay<R: Read, W: Write>(
     ensures fault { IfErr result
         (TellsReplayFault settings.now.workers schedule.now (R.remaining reader.old)) }
     ensures no_worker { (worker : _) → (result ≡ Err (ServeError.Step (StepError.NoWorker worker)))
-        ↔ IsFirstStranger settings.now.workers schedule.now worker }
-    ensures unread { (worker : _) → IsFirstStranger settings.now.workers schedule.now worker
+        ↔ IsFirstNoWorker settings.now.workers schedule.now worker }
+    ensures unread { (worker : _) → IsFirstNoWorker settings.now.workers schedule.now worker
         → reader.new ≡ reader.old }
     ensures wrote_nothing { IfErr result
         (λ error. WroteNothing error (W.contents writer.old) (W.contents writer.new)) }
@@ -113,7 +113,7 @@ fn write_replay<W: Write>(
 // The first number of a schedule that isn't below the workers.
 fn first_of_no_worker(schedule: &[u8], workers: u8) -> Option<u8>
     ensures { MatchOption result (All (λ worker. worker < workers) schedule.now)
-        (IsFirstStranger workers schedule.now) }
+        (IsFirstNoWorker workers schedule.now) }
 {
     for &worker in schedule {
         if worker >= workers {

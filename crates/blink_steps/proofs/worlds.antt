@@ -1,10 +1,8 @@
-pub mod StartEntries
-pub mod AllIdleLemmas
-pub mod DebtTreeLemmas
-pub mod NeverStuckLemmas
-pub mod PickLemmas
-pub mod WorldLemmas
-pub mod HeadlineLemmas
+pub mod EntriesAtStart
+pub mod NeverStuck
+pub mod WorkersBySeat
+pub mod WorldsGoFurther
+pub mod OneThread
 pub mod WorldPromises
-pub mod MoverLemmas
-pub mod FinishLemmas
+pub mod SomeoneWouldMove
+pub mod WorldsGoOn

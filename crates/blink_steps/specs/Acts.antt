@@ -76,16 +76,16 @@ pub record MayRead (store : PlainStore) (number : ℕ) (m : PlainMachine) : Type
   pub floor_below : least_above page.floor ≤ target m
 
 -- what a step needs of the store and the latches, for each need
-abbrev pub IsReadyOn : Need → PlainShared → ℕ → PlainMachine → Type 0
-IsReadyOn ReadPrime shared worker m = length shared.store.prime < LEVELS
-IsReadyOn (ReadPage number) shared worker m = MayRead shared.store number m
-IsReadyOn (Latch number) shared worker m = (worker < WORKERS) × HoldsNone shared.latches worker
-IsReadyOn WriteNew shared worker m =
+abbrev pub CanActOn : Need → PlainShared → ℕ → PlainMachine → Type 0
+CanActOn ReadPrime shared worker m = length shared.store.prime < LEVELS
+CanActOn (ReadPage number) shared worker m = MayRead shared.store number m
+CanActOn (Latch number) shared worker m = (worker < WORKERS) × HoldsNone shared.latches worker
+CanActOn WriteNew shared worker m =
     (length shared.store.pages < MAX_PAGE) × (length (page_out m (length shared.store.pages + 1)).entries ≤ shared.store.fan)
-IsReadyOn (WritePage number) shared worker m = MayReplace shared.store number (page_out m 0)
-IsReadyOn WritePrime shared worker m = Unit {0}
-IsReadyOn (Unlatch number) shared worker m = holder_of shared.latches number ≡ Some worker
-IsReadyOn End shared worker m = ⊥
+CanActOn (WritePage number) shared worker m = MayReplace shared.store number (page_out m 0)
+CanActOn WritePrime shared worker m = Unit {0}
+CanActOn (Unlatch number) shared worker m = holder_of shared.latches number ≡ Some worker
+CanActOn End shared worker m = ⊥
 
-abbrev pub IsReady : PlainShared → ℕ → PlainMachine → Type 0
-IsReady shared worker m = (m.fan ≡ shared.store.fan) × IsReadyOn (need_at m.state) shared worker m
+abbrev pub CanAct : PlainShared → ℕ → PlainMachine → Type 0
+CanAct shared worker m = (m.fan ≡ shared.store.fan) × CanActOn (need_at m.state) shared worker m

@@ -1,71 +1,15 @@
--- How long an operation's way is: it reads no page twice on its way down and latches none twice, so that its steps are
--- bounded by the number of pages.
-use Rattle.std.specs.Prelude.{◌≡◌, ◌≢◌, ℕ, ◌+◌, ◌*◌, ◌≤◌, ◌==◌, ◌&&◌, if◌then◌else◌, Option, Some, None, List, length, count_by, slice_get, AllPairs}
-use Rattle.std.specs.List.{filter_map}
-use Rattle.blink_batch.specs.declared.Op.TheVariants.{Find}
-use Rattle.blink_batch.specs.Batch.{is_insert}
+-- What no operation of a history and no run goes beyond: page numbers, writes, and levels.
+use Rattle.std.specs.Prelude.{ℕ, ◌+◌, ◌*◌, ◌<◌, ◌≤◌, List, length}
+use Rattle.blink_page.specs.declared.limits.TheConstants.{LEVELS}
 use Rattle.blink_store.specs.Store.{PlainStore}
-use Rattle.blink_steps.specs.declared.machine.State.{State}
-use Rattle.blink_steps.specs.declared.machine.State.TheVariants.{Start, Going, Want, Held, Change, SplitNew, SplitOld, AskPrime, Root, NewPrime, Leave, Posting, Ended}
-use Rattle.blink_steps.specs.Counts.{has_moved, moves_in, page_reads_in}
+use Rattle.blink_steps.specs.declared.world.TheConstants.{NUMBERS_OF_INSERTION, WRITES_OF_INSERTION}
+use Rattle.blink_steps.specs.Counts.{begun_inserts, numbers_in, page_writes_in, prime_writes_in}
 use Rattle.blink_steps.specs.Run.{PlainRun, Taken}
 
--- the page that is read at a state on the way down
-abbrev pub page_on_way : State → Option ℕ
-page_on_way Start = None
-page_on_way (Going page level) = Some page
-page_on_way (Want page) = None
-page_on_way (Held page) = None
-page_on_way (Change page changed kept) = None
-page_on_way (SplitNew page before) = None
-page_on_way (SplitOld page lower debt) = None
-page_on_way (AskPrime page debt) = None
-page_on_way (Root page debt prime) = None
-page_on_way (NewPrime page debt root prime) = None
-page_on_way (Leave page next) = None
-page_on_way Posting = None
-page_on_way Ended = None
-
--- the page that is latched at a state
-abbrev pub page_to_latch : State → Option ℕ
-page_to_latch Start = None
-page_to_latch (Going page level) = None
-page_to_latch (Want page) = Some page
-page_to_latch (Held page) = None
-page_to_latch (Change page changed kept) = None
-page_to_latch (SplitNew page before) = None
-page_to_latch (SplitOld page lower debt) = None
-page_to_latch (AskPrime page debt) = None
-page_to_latch (Root page debt prime) = None
-page_to_latch (NewPrime page debt root prime) = None
-page_to_latch (Leave page next) = None
-page_to_latch Posting = None
-page_to_latch Ended = None
-
--- of the turns of the operation at a place that moved, the pages of those at such a state
-abbrev pub pages_of_turns : (State → Option ℕ) → List Taken → ℕ → List ℕ
-pages_of_turns page_at history place =
-    filter_map (λ (taken : Taken). if taken.place == place && has_moved taken.step then page_at taken.before.state else None) history
-
--- the pages that it has read on its way down
-abbrev pub read_on_way : List Taken → ℕ → List ℕ
-read_on_way history place = pages_of_turns page_on_way history place
-
--- the pages that it has latched
-abbrev pub latched_by : List Taken → ℕ → List ℕ
-latched_by history place = pages_of_turns page_to_latch history place
-
--- no two of them are the same
-abbrev pub AreDifferent : List ℕ → Type 0
-AreDifferent pages = AllPairs (λ (page other : ℕ). page ≢ other) pages
-
--- how many turns moved, of all operations
-abbrev pub all_moves : List Taken → ℕ
-all_moves history = count_by (λ (taken : Taken). has_moved taken.step) history
-
-pub record IsShort (start : PlainStore) (history : List Taken) (run : PlainRun) : Type 0 where
-  pub reads_no_page_twice : (place : ℕ) → AreDifferent (read_on_way history place)
-  pub latches_no_page_twice : (place : ℕ) → AreDifferent (latched_by history place)
-  pub reads_of_find : (place key : ℕ) → slice_get run.ops place ≡ Some (Find key) → page_reads_in history place ≤ length run.shared.store.pages
-  pub moves : (place : ℕ) → moves_in history place ≤ 4 * length run.shared.store.pages + 90
-  pub moves_in_all : all_moves history ≤ length run.ops * (4 * (length start.pages + 22 * count_by is_insert run.ops) + 90)
+-- no operation takes more page numbers, or writes more pages or more often the prime block, than this
+pub record IsBounded (start : PlainStore) (history : List Taken) (run : PlainRun) : Type 0 where
+  pub numbers : (place : ℕ) → numbers_in history place ≤ NUMBERS_OF_INSERTION
+  pub page_writes : (place : ℕ) → page_writes_in history place ≤ WRITES_OF_INSERTION
+  pub prime_writes : (place : ℕ) → prime_writes_in history place ≤ 1
+  pub pages : length run.shared.store.pages ≤ length start.pages + NUMBERS_OF_INSERTION * begun_inserts run.ops run.ledger.moves
+  pub levels : length run.shared.store.prime < LEVELS

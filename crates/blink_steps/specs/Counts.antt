@@ -1,32 +1,21 @@
 -- How often the operations of a history took new page numbers, wrote pages and the prime block, read pages, and moved.
-use Rattle.std.specs.Prelude.{◌≡◌, ℕ, ◌+◌, ◌*◌, ◌≤◌, ◌==◌, nat_lt, ◌&&◌, Bool, true, false, List, length, count_by}
+use Rattle.std.specs.Prelude.{◌≡◌, ℕ, ◌==◌, nat_lt, ◌&&◌, Bool, true, false, List, count_by}
 use Rattle.std.specs.List.{zip}
 use Rattle.blink_batch.specs.declared.Op.{Op}
 use Rattle.blink_batch.specs.Batch.{is_insert}
-use Rattle.blink_store.specs.Store.{PlainStore}
 use Rattle.blink_steps.specs.declared.machine.State.{State}
-use Rattle.blink_steps.specs.declared.machine.State.TheVariants.{Start, Going, Want, Held, Change, SplitNew, SplitOld, AskPrime, Root, NewPrime, Leave, Posting, Ended}
+use Rattle.blink_steps.specs.declared.machine.State.TheVariants.{SplitNew, Root}
 use Rattle.blink_steps.specs.declared.step.Kind.{Kind}
 use Rattle.blink_steps.specs.declared.step.Step.{Step}
 use Rattle.blink_steps.specs.declared.step.Step.TheVariants.{Moved, Waited, Idle}
 use Rattle.blink_steps.specs.Kinds.{is_page_read, is_page_write, is_prime_write}
-use Rattle.blink_steps.specs.Run.{PlainRun, Taken}
+use Rattle.blink_steps.specs.Run.{Taken}
 
 -- a state whose step writes a new page
 abbrev pub writes_new_page : State → Bool
-writes_new_page Start = false
-writes_new_page (Going page level) = false
-writes_new_page (Want page) = false
-writes_new_page (Held page) = false
-writes_new_page (Change page changed kept) = false
 writes_new_page (SplitNew page before) = true
-writes_new_page (SplitOld page lower debt) = false
-writes_new_page (AskPrime page debt) = false
 writes_new_page (Root page debt prime) = true
-writes_new_page (NewPrime page debt root prime) = false
-writes_new_page (Leave page next) = false
-writes_new_page Posting = false
-writes_new_page Ended = false
+writes_new_page state = false
 
 -- the turn moved, by a step of this kind
 abbrev pub moved_by : (Kind → Bool) → Step → Bool
@@ -73,11 +62,3 @@ moves_in history place = turns_of place (λ (taken : Taken). has_moved taken.ste
 -- the insertions that have taken a step
 abbrev pub begun_inserts : List Op → List ℕ → ℕ
 begun_inserts ops moves = count_by (λ (begun : Op × ℕ). is_insert begun.0 && nat_lt 0 begun.1) (zip ops moves)
-
--- no operation takes more page numbers, or writes more pages or more often the prime block, than this
-pub record IsBounded (start : PlainStore) (history : List Taken) (run : PlainRun) : Type 0 where
-  pub numbers : (place : ℕ) → numbers_in history place ≤ 22
-  pub page_writes : (place : ℕ) → page_writes_in history place ≤ 43
-  pub prime_writes : (place : ℕ) → prime_writes_in history place ≤ 1
-  pub pages : length run.shared.store.pages ≤ length start.pages + 22 * begun_inserts run.ops run.moves
-  pub levels : length run.shared.store.prime ≤ 20

@@ -16,7 +16,7 @@ use Rattle.blink_steps.specs.World.{PlainWorld, IsWorldOf, HasEnded, AfterEachTu
 -- the plain list of the entries at the start
 pub record IsOneThread (start : PlainStore) (run : PlainRun) : Type 0 where
   pub same_answers : (entries : List Entry) → IsMapOf start entries
-      → run.answers ≡ map Some (answers entries run.ops)
+      → run.ledger.answers ≡ map Some (answers entries run.ops)
   pub same_entries : (entries : List Entry) → IsMapOf start entries
       → IsMapOf run.shared.store (map_after_all entries run.ops)
 
@@ -32,7 +32,7 @@ ReachesPresent entries run = (key pointer : ℕ) → pointer_of (map_now entries
 
 -- it is so at the first moment, and after each turn
 pub record IsReachedThroughout (start : PlainStore) (world : PlainWorld)
-    (of : IsWorldOf start world) : Type 0 where
-  pub at_first : (entries : List Entry) → IsMapOf start entries → ReachesPresent entries of.opening
+    (is_world : IsWorldOf start world) : Type 0 where
+  pub at_first : (entries : List Entry) → IsMapOf start entries → ReachesPresent entries is_world.opening
   pub after_each : (entries : List Entry) → IsMapOf start entries
-      → AfterEachTurn (ReachesPresent entries) of.opening of.history world.run of.follows
+      → AfterEachTurn (ReachesPresent entries) is_world.opening is_world.history world.run is_world.follows

@@ -24,24 +24,12 @@ write_prime = WritePrime
 -- what a step is about
 abbrev pub is_page_read : Kind → Bool
 is_page_read (ReadPage page) = true
-is_page_read ReadPrime = false
-is_page_read (Latch page) = false
-is_page_read (Unlatch page) = false
-is_page_read (WritePage page) = false
-is_page_read WritePrime = false
+is_page_read kind = false
 
 abbrev pub is_page_write : Kind → Bool
-is_page_write (ReadPage page) = false
-is_page_write ReadPrime = false
-is_page_write (Latch page) = false
-is_page_write (Unlatch page) = false
 is_page_write (WritePage page) = true
-is_page_write WritePrime = false
+is_page_write kind = false
 
 abbrev pub is_prime_write : Kind → Bool
-is_prime_write (ReadPage page) = false
-is_prime_write ReadPrime = false
-is_prime_write (Latch page) = false
-is_prime_write (Unlatch page) = false
-is_prime_write (WritePage page) = false
 is_prime_write WritePrime = true
+is_prime_write kind = false

@@ -1,15 +1,14 @@
 -- Laws of turns and of reads, whatever the run.
-use Rattle.std.specs.Prelude.{◌≡◌, ◌≢◌, ℕ, ◌+◌, ◌⊎◌, Option, Some, List, length}
+use Rattle.std.specs.Prelude.{◌≡◌, ◌≢◌, ℕ, ◌+◌, Option, List, length}
 use Rattle.blink_page.specs.Page.{PlainPage}
 use Rattle.blink_store.specs.Store.{PlainStore}
 use Rattle.blink_steps.specs.declared.step.Step.{Step}
 use Rattle.blink_steps.specs.declared.step.Step.TheVariants.{Moved, Idle}
 use Rattle.blink_steps.specs.Kinds.{write_page}
-use Rattle.blink_steps.specs.Machine.{PlainMachine, NeedsPrime, NeedsPage, NeedsNew}
+use Rattle.blink_steps.specs.Machine.{PlainMachine, NeedsNew}
 use Rattle.blink_steps.specs.Moment.{Moment, IsItsOperation, Steps}
 use Rattle.blink_steps.specs.Run.{PlainRun, Taken, TakesTurn, IsNextOf, moment_of}
-use Rattle.blink_steps.specs.Sound.{IsSound}
-use Rattle.blink_steps.specs.Table.{SeesPrime, WaitsForLevel, SeesPage, IsChange}
+use Rattle.blink_steps.specs.Table.{SeesPrime, SeesPage, IsChange}
 use Rattle.blink_steps.specs.World.{PlainWorld, IsWorld}
 
 -- ---- turns and steps
@@ -58,20 +57,3 @@ OneResultOfPage = (m after other : PlainMachine) (number : ℕ) (page : PlainPag
 abbrev pub OneChange : Type 0
 OneChange = (m : PlainMachine) (page changed also : PlainPage) (kept and : Option ℕ) → IsChange m page changed kept → IsChange m page also and
     → (changed ≡ also) × (kept ≡ and)
-
--- what an operation makes of the page of this number
-pub record HasResultOfPage (moment : Moment) (m : PlainMachine) (number : ℕ) : Type 0 where
-  pub page : PlainPage
-  pub there : moment.pages number ≡ Some page
-  pub after : PlainMachine
-  pub sees : SeesPage m number page after
-
--- in a sound moment an operation that needs to read a page makes something of it
-abbrev pub PageReadsHaveResults : Type 0
-PageReadsHaveResults = (moment : Moment) (worker number : ℕ) (m : PlainMachine) → IsSound moment → IsItsOperation moment worker m → NeedsPage m number
-    → HasResultOfPage moment m number
-
--- and one that needs to read the prime block waits, or makes something of it
-abbrev pub PrimeReadsHaveResults : Type 0
-PrimeReadsHaveResults = (moment : Moment) (worker : ℕ) (m : PlainMachine) → IsSound moment → IsItsOperation moment worker m → NeedsPrime m
-    → WaitsForLevel m moment.prime ⊎ ((after : PlainMachine) × SeesPrime m moment.prime after)

@@ -9,6 +9,9 @@ pub mod Placed
 pub mod Kept
 pub mod MachineView
 pub mod Sound
+pub mod InOrder
+pub mod Places
+pub mod Finds
 pub mod Codes
 pub mod Kinds
 pub mod Acts
@@ -22,8 +25,11 @@ pub mod Decided
 pub mod SoundRun
 pub mod Counts
 pub mod Bounds
+pub mod Ways
 pub mod World
 pub mod Headline
 pub mod Promises
 pub mod Pick
+pub mod Allowance
+pub mod StepLaw
 pub mod Laws

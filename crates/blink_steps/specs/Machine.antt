@@ -100,19 +100,8 @@ NeedsUnlatch m page = need_at m.state ≡ Unlatch page
 
 -- the level of the page that it reads next
 abbrev pub level_read_at : State → Job → ℕ
-level_read_at Start job = level_of job
 level_read_at (Going page level) job = level
-level_read_at (Want page) job = level_of job
-level_read_at (Held page) job = level_of job
-level_read_at (Change page changed kept) job = level_of job
-level_read_at (SplitNew page before) job = level_of job
-level_read_at (SplitOld page lower debt) job = level_of job
-level_read_at (AskPrime page debt) job = level_of job
-level_read_at (Root page debt prime) job = level_of job
-level_read_at (NewPrime page debt root prime) job = level_of job
-level_read_at (Leave page next) job = level_of job
-level_read_at Posting job = level_of job
-level_read_at Ended job = level_of job
+level_read_at state job = level_of job
 
 abbrev pub level_read : PlainMachine → ℕ
 level_read m = level_read_at m.state m.job

@@ -5,7 +5,7 @@ use Rattle.blink_page.specs.Limits.{IsPageNumber}
 use Rattle.blink_page.specs.Page.{PlainPage}
 use Rattle.blink_rest.specs.Chain.{Pages}
 use Rattle.blink_steps.specs.declared.machine.State.{State}
-use Rattle.blink_steps.specs.declared.machine.State.TheVariants.{Start, Going, Want, Held, Change, SplitNew, SplitOld, AskPrime, Root, NewPrime, Leave, Posting, Ended}
+use Rattle.blink_steps.specs.declared.machine.State.TheVariants.{Ended}
 use Rattle.blink_steps.specs.declared.step.Kind.TheVariants.{ReadPage, ReadPrime, Latch, Unlatch, WritePage, WritePrime}
 use Rattle.blink_steps.specs.declared.step.Step.{Step}
 use Rattle.blink_steps.specs.declared.step.Step.TheVariants.{Moved, Waited}
@@ -33,19 +33,8 @@ pub record LatchPasses (old new : ℕ → Option ℕ) (page : ℕ) (holder : Opt
 
 -- an operation that goes on; of one that has ended nothing is left
 abbrev pub goes_on : PlainMachine → State → Option PlainMachine
-goes_on m Start = Some m
-goes_on m (Going page level) = Some m
-goes_on m (Want page) = Some m
-goes_on m (Held page) = Some m
-goes_on m (Change page changed kept) = Some m
-goes_on m (SplitNew page before) = Some m
-goes_on m (SplitOld page lower debt) = Some m
-goes_on m (AskPrime page debt) = Some m
-goes_on m (Root page debt prime) = Some m
-goes_on m (NewPrime page debt root prime) = Some m
-goes_on m (Leave page next) = Some m
-goes_on m Posting = Some m
 goes_on m Ended = None
+goes_on m state = Some m
 
 -- the worker's operation is now this one, and the others' are as before
 pub record IsWorkersNow (old new : ℕ → Option PlainMachine) (worker : ℕ) (m : PlainMachine) : Type 0 where

@@ -6,15 +6,12 @@ use Rattle.blink_steps.specs.declared.machine.Job.TheVariants.{Leaf, Parent}
 use Rattle.blink_steps.specs.declared.machine.Next.{Next}
 use Rattle.blink_steps.specs.declared.machine.Next.TheVariants.{Finish, MoveRight, Post}
 use Rattle.blink_steps.specs.declared.machine.State.{State}
-use Rattle.blink_steps.specs.declared.machine.State.TheVariants.{Start, Going, Want, Held, Change, SplitNew, SplitOld, AskPrime, Root, NewPrime, Leave, Posting, Ended}
+use Rattle.blink_steps.specs.declared.machine.State.TheVariants.{Start, Going, Held, Change, SplitNew, SplitOld, AskPrime, Root, NewPrime, Leave, Ended}
 use Rattle.blink_steps.specs.Machine.{PlainMachine}
 use Rattle.blink_steps.specs.Moment.{Moment}
 
 -- the page whose latch it holds
 abbrev pub latch_at : State → Option ℕ
-latch_at Start = None
-latch_at (Going page level) = None
-latch_at (Want page) = None
 latch_at (Held page) = Some page
 latch_at (Change page changed kept) = Some page
 latch_at (SplitNew page before) = Some page
@@ -23,8 +20,7 @@ latch_at (AskPrime page debt) = Some page
 latch_at (Root page debt prime) = Some page
 latch_at (NewPrime page debt root prime) = Some page
 latch_at (Leave page next) = Some page
-latch_at Posting = None
-latch_at Ended = None
+latch_at state = None
 
 abbrev pub latch_of : PlainMachine → Option ℕ
 latch_of m = latch_at m.state
@@ -43,55 +39,31 @@ debt_of_next job (Post debt) = Some debt
 abbrev pub debt_at : Job → State → Option Debt
 debt_at job Start = None
 debt_at job (Going page level) = None
-debt_at job (Want page) = debt_of_job job
-debt_at job (Held page) = debt_of_job job
-debt_at job (Change page changed kept) = debt_of_job job
-debt_at job (SplitNew page before) = debt_of_job job
-debt_at job (SplitOld page lower debt) = debt_of_job job
 debt_at job (AskPrime page debt) = Some debt
 debt_at job (Root page debt prime) = Some debt
 debt_at job (NewPrime page debt root prime) = Some debt
 debt_at job (Leave page next) = debt_of_next job next
-debt_at job Posting = debt_of_job job
 debt_at job Ended = None
+debt_at job state = debt_of_job job
 
 abbrev pub debt_of : PlainMachine → Option Debt
 debt_of m = debt_at m.job m.state
 
 -- the page that it has written and that no other page links to or names yet
 abbrev pub loose_at : State → Option ℕ
-loose_at Start = None
-loose_at (Going page level) = None
-loose_at (Want page) = None
-loose_at (Held page) = None
-loose_at (Change page changed kept) = None
-loose_at (SplitNew page before) = None
 loose_at (SplitOld page lower debt) = Some debt.page
-loose_at (AskPrime page debt) = None
-loose_at (Root page debt prime) = None
 loose_at (NewPrime page debt root prime) = Some root
-loose_at (Leave page next) = None
-loose_at Posting = None
-loose_at Ended = None
+loose_at state = None
 
 abbrev pub loose_of : PlainMachine → Option ℕ
 loose_of m = loose_at m.state
 
 -- the page that it has split and whose latch it keeps until it has asked whether that was the root, or has made a new one
 abbrev pub split_at : State → Option ℕ
-split_at Start = None
-split_at (Going page level) = None
-split_at (Want page) = None
-split_at (Held page) = None
-split_at (Change page changed kept) = None
-split_at (SplitNew page before) = None
-split_at (SplitOld page lower debt) = None
 split_at (AskPrime page debt) = Some page
 split_at (Root page debt prime) = Some page
 split_at (NewPrime page debt root prime) = Some page
-split_at (Leave page next) = None
-split_at Posting = None
-split_at Ended = None
+split_at state = None
 
 abbrev pub split_of : PlainMachine → Option ℕ
 split_of m = split_at m.state

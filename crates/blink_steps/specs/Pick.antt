@@ -1,10 +1,11 @@
 -- Which workers are idle, which wait, whose turn is picked, and a run that goes on by picked turns alone.
-use Rattle.std.specs.Prelude.{◌≡◌, ℕ, ◌+◌, ◌-◌, ◌*◌, ◌<◌, Option, Some, List, ◌++◌, length, map, reverse, slice_get, sum}
+use Rattle.std.specs.Prelude.{◌≡◌, ℕ, ◌-◌, ◌*◌, ◌<◌, Option, Some, List, ◌++◌, length, map, reverse, slice_get, sum}
 use Rattle.blink_page.specs.declared.limits.TheConstants.{MAX_PAGE}
 use Rattle.blink_steps.specs.declared.step.Step.TheVariants.{Waited}
 use Rattle.blink_steps.specs.Acts.{Acts}
 use Rattle.blink_steps.specs.Machine.{PlainMachine}
 use Rattle.blink_steps.specs.Run.{PlainRun, Taken, Follows, IsNextOf, idle_seat}
+use Rattle.blink_steps.specs.Ways.{steps_at_most_with}
 use Rattle.blink_steps.specs.World.{PlainWorld, IsAtLanesEnd, OnEachTurn}
 
 -- the worker has no operation that is begun and not ended
@@ -41,8 +42,8 @@ pub record GoesOnPicked (old new : PlainWorld) : Type 0 where
 
 -- a run's operations take no more steps than this together, however many pages there are
 abbrev pub steps_at_most : PlainRun → ℕ
-steps_at_most run = length run.ops * (4 * MAX_PAGE + 90)
+steps_at_most run = length run.ops * steps_at_most_with MAX_PAGE
 
 -- so no more than these are left
 abbrev pub steps_left : PlainRun → ℕ
-steps_left run = steps_at_most run - sum run.moves
+steps_left run = steps_at_most run - sum run.ledger.moves

@@ -2,7 +2,6 @@
 use Rattle.std.specs.Prelude.{◌≡◌, ℕ, ◌+◌, Option, Some, None, IsSome, List, [], ◌∷◌, ⊤}
 use Rattle.blink_batch.specs.declared.Answer.{Answer}
 use Rattle.blink_batch.specs.declared.Op.{Op}
-use Rattle.blink_batch.specs.declared.Op.TheVariants.{Find, Insert, Delete}
 use Rattle.blink_batch.specs.Batch.{FitsWords}
 use Rattle.blink_page.specs.Limits.{IsPageNumber}
 use Rattle.blink_page.specs.Page.{PlainPage, IsKeyOf, root_over}
@@ -18,7 +17,7 @@ use Rattle.blink_steps.specs.declared.machine.State.{State}
 use Rattle.blink_steps.specs.declared.machine.State.TheVariants.{Start, Going, Want, Held, Change, SplitNew, SplitOld, AskPrime, Root, NewPrime, Leave, Posting, Ended}
 use Rattle.blink_steps.specs.Machine.{PlainMachine, target, level_of}
 use Rattle.blink_steps.specs.Moment.{Moment}
-use Rattle.blink_steps.specs.Table.{Brings, IsChange, IsFullFor, IsTopLeftmost, overfull, debt_of_split}
+use Rattle.blink_steps.specs.Table.{Brings, IsUpdate, IsChange, IsFullFor, IsTopLeftmost, overfull, debt_of_split}
 use Rattle.blink_steps.specs.Tree.{BeginsBelow}
 use Rattle.blink_steps.specs.TreeWithDebts.{Levels}
 
@@ -37,9 +36,7 @@ pub record StandsAt (levels : Levels) (m : PlainMachine) (level page : ℕ) : Ty
 
 -- the operation may change pages: a find doesn't
 abbrev pub MayChange : Op → Job → Type 0
-MayChange (Find key) Leaf = ⊥
-MayChange (Insert key pointer) Leaf = Unit {0}
-MayChange (Delete key) Leaf = Unit {0}
+MayChange op Leaf = IsUpdate op
 MayChange op (Parent debt) = Unit {0}
 
 -- it has latched the page, or wants to: the page is one from which it can go on to the right

@@ -7,8 +7,8 @@ use Rattle.blink_batch.specs.Order.{part_of, lane_of, AnswersInOrder, IsWholeOrd
 use Rattle.blink_rest.specs.Rest.{IsStoreAtRest}
 use Rattle.blink_store.specs.Latches.{holder_of}
 use Rattle.blink_store.specs.Store.{PlainStore}
-use Rattle.blink_steps.specs.Bounds.{IsShort}
-use Rattle.blink_steps.specs.Counts.{IsBounded}
+use Rattle.blink_steps.specs.Ways.{IsShort}
+use Rattle.blink_steps.specs.Bounds.{IsBounded}
 use Rattle.blink_steps.specs.Decided.{IsDecided}
 use Rattle.blink_steps.specs.Headline.{IsOneThread, IsReachedThroughout, ReachesPresent}
 use Rattle.blink_steps.specs.Run.{PlainRun, moment_of}
@@ -27,57 +27,57 @@ HasAnswerAt given place = (answer : Answer) × (slice_get given place ≡ Some (
 
 -- no place is decided twice, and those that are decided are those with an answer
 pub record EachOnce (run : PlainRun) : Type 0 where
-  pub at_most_once : (first second place : ℕ) → slice_get run.order first ≡ Some place
-      → slice_get run.order second ≡ Some place → first ≡ second
-  pub has_answer : (place : ℕ) → Contains run.order place → HasAnswerAt run.answers place
-  pub is_decided : (place : ℕ) → HasAnswerAt run.answers place → Contains run.order place
+  pub at_most_once : (first second place : ℕ) → slice_get run.ledger.order first ≡ Some place
+      → slice_get run.ledger.order second ≡ Some place → first ≡ second
+  pub has_answer : (place : ℕ) → Contains run.ledger.order place → HasAnswerAt run.ledger.answers place
+  pub is_decided : (place : ℕ) → HasAnswerAt run.ledger.answers place → Contains run.ledger.order place
 
 -- what is decided of a worker's lane is its front, in the lane's order
 abbrev pub IsFrontOfLane : PlainRun → ℕ → Type 0
 IsFrontOfLane run worker =
     (count : ℕ)
-    × (part_of run.assignment.lanes worker run.order
+    × (part_of run.assignment.lanes worker run.ledger.order
     ≡ take count (lane_of run.assignment.lanes worker))
 
 -- the worker's lane has an operation that isn't decided
 pub record HasUndecided (run : PlainRun) (worker : ℕ) : Type 0 where
   pub place : ℕ
   pub of_lane : slice_get run.assignment.lanes place ≡ Some worker
-  pub undecided : slice_get run.answers place ≡ Some None
+  pub undecided : slice_get run.ledger.answers place ≡ Some None
 
 -- every operation has its answer and is decided in its lane's order, and the tree is at rest
 pub record IsWholeRun (run : PlainRun) : Type 0 where
-  pub all_answered : (place : ℕ) → place < length run.ops → HasAnswerAt run.answers place
-  pub whole_order : IsWholeOrder run.ops run.assignment.lanes run.order
+  pub all_answered : (place : ℕ) → place < length run.ops → HasAnswerAt run.ledger.answers place
+  pub whole_order : IsWholeOrder run.ops run.assignment.lanes run.ledger.order
   pub at_rest : IsStoreAtRest run.shared.store
 
 -- at the end the answers are those of the order, each at its operation's place
 pub record IsAnsweredInOrder (entries : List Entry) (run : PlainRun) : Type 0 where
   pub given : List Answer
-  pub all_given : run.answers ≡ map Some given
-  pub in_order : AnswersInOrder entries run.ops run.order given
+  pub all_given : run.ledger.answers ≡ map Some given
+  pub in_order : AnswersInOrder entries run.ops run.ledger.order given
 
 -- each key has one worker's operations
 abbrev pub IsLawfullyCut : PlainRun → Type 0
 IsLawfullyCut run = IsLawfulCut run.ops run.assignment.workers run.assignment.lanes
 
 pub record KeepsItsPromises (start : PlainStore) (world : PlainWorld)
-    (of : IsWorldOf start world) : Type 0 where
+    (is_world : IsWorldOf start world) : Type 0 where
   pub tree : IsTreeWithDebts (moment_of world.run)
   pub has_map : HasMap world.run.shared.store
   pub one_latch : HoldOneLatchEach world.run.shared.latches
-  pub writes_its_own : OnEachTurn WritesItsOwn of.opening of.history world.run of.follows
+  pub writes_its_own : OnEachTurn WritesItsOwn is_world.opening is_world.history world.run is_world.follows
   -- the operations decided so far answer as on a plain map, in the order of their deciding steps, and the tree keeps its entries
   pub decided : (entries : List Entry) → IsMapOf start entries → IsDecided entries world.run
   pub reached : (entries : List Entry) → IsMapOf start entries → ReachesPresent entries world.run
-  pub reached_throughout : IsReachedThroughout start world of
+  pub reached_throughout : IsReachedThroughout start world is_world
   pub once : EachOnce world.run
   pub lanes_in_order : (worker : ℕ) → IsFrontOfLane world.run worker
   -- an operation whose lane comes to it has its turn
   pub each_has_its_turn : (worker : ℕ) → HasUndecided world.run worker
       → ¬ IsAtLanesEnd world.run worker
-  pub bounded : IsBounded start of.history world.run
-  pub short : IsShort start of.history world.run
+  pub bounded : IsBounded start is_world.history world.run
+  pub short : IsShort start is_world.history world.run
   pub ended : HasEnded world.run → IsWholeRun world.run
   pub ended_in_order : (entries : List Entry) → IsMapOf start entries → HasEnded world.run
       → IsAnsweredInOrder entries world.run
@@ -86,5 +86,5 @@ pub record KeepsItsPromises (start : PlainStore) (world : PlainWorld)
 
 -- the promises, over whatever tree the world began
 abbrev pub IsPromised : PlainWorld → Type 0
-IsPromised world = (start : PlainStore) (of : IsWorldOf start world)
-    → KeepsItsPromises start world of
+IsPromised world = (start : PlainStore) (is_world : IsWorldOf start world)
+    → KeepsItsPromises start world is_world

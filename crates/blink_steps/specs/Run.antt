@@ -1,6 +1,5 @@
 -- A batch's run over a tree, as plain data: the tree, the workers, and what is decided; and one turn of a worker.
-use Rattle.std.specs.Prelude.{◌≡◌, ℕ, ◌+◌, ◌<◌, if◌then◌else◌, Option, Some, None, List, [], ◌∷◌, ◌++◌, length, replicate, slice_get, slice_set}
-use Rattle.blink_batch.specs.declared.Answer.{Answer}
+use Rattle.std.specs.Prelude.{◌≡◌, ℕ, ◌+◌, ◌<◌, Option, Some, None, List, [], ◌∷◌, length, slice_get, slice_set}
 use Rattle.blink_batch.specs.declared.Op.{Op}
 use Rattle.blink_batch.specs.Cut.{Assignment}
 use Rattle.blink_batch.specs.Order.{next_place}
@@ -12,8 +11,7 @@ use Rattle.blink_steps.specs.declared.step.Kind.{Kind}
 use Rattle.blink_steps.specs.declared.step.Step.{Step}
 use Rattle.blink_steps.specs.declared.step.Step.TheVariants.{Moved, Waited, Idle}
 use Rattle.blink_steps.specs.Acts.{PlainShared, Acts}
-use Rattle.blink_steps.specs.Kinds.{is_page_read}
-use Rattle.blink_steps.specs.Ledger.{decides_now, one_more_at}
+use Rattle.blink_steps.specs.Ledger.{PlainLedger, empty_ledger, noted}
 use Rattle.blink_steps.specs.Machine.{PlainMachine, fresh}
 use Rattle.blink_steps.specs.Moment.{Moment, goes_on}
 
@@ -23,13 +21,8 @@ pub record PlainRun : Type 0 where
   pub assignment : Assignment
   -- a seat for each worker
   pub seats : List Seat
-  -- the answer at each operation's place, once it is decided
-  pub answers : List (Option Answer)
-  -- the places of the operations in the order of their deciding steps
-  pub order : List ℕ
-  -- of each operation, how many pages it has read, and how many steps it has taken
-  pub reads : List ℕ
-  pub moves : List ℕ
+  -- what is decided, and how far each operation has come
+  pub ledger : PlainLedger
 
 -- a worker without an operation, and the place of its next one
 abbrev pub idle_seat : Option ℕ → Seat
@@ -71,10 +64,7 @@ abbrev pub after_move : PlainRun → ℕ → ℕ → Option ℕ → PlainMachine
 after_move old worker place next m kind after shared = record old {
   shared = shared;
   seats = slice_set old.seats worker (seat_after (goes_on after after.state) place next);
-  answers = slice_set old.answers place after.answer;
-  order = if decides_now m.answer after.answer then old.order ++ place ∷ [] else old.order;
-  reads = if is_page_read kind then one_more_at old.reads place else old.reads;
-  moves = one_more_at old.moves place;
+  ledger = noted old.ledger place kind m.answer after.answer;
 }
 
 -- the operation of a worker's step: the one under way, or, where it is idle, the next of its lane, which has taken no step;
@@ -120,7 +110,4 @@ pub record IsOpeningRun (start : PlainStore) (ops : List Op) (assignment : Assig
   pub same_assignment : run.assignment ≡ assignment
   pub a_seat_each : length run.seats ≡ assignment.workers
   pub all_idle : (worker : ℕ) → worker < assignment.workers → slice_get run.seats worker ≡ Some (idle_seat (next_place assignment.lanes worker 0))
-  pub none_answered : run.answers ≡ replicate (length ops) None
-  pub none_decided : run.order ≡ []
-  pub none_read : run.reads ≡ replicate (length ops) 0
-  pub none_moved : run.moves ≡ replicate (length ops) 0
+  pub nothing_noted : run.ledger ≡ empty_ledger (length ops)

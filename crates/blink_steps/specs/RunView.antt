@@ -12,10 +12,7 @@ plain run = record {
   ops = run.batch;
   assignment = run.lanes;
   seats = run.seats.items;
-  answers = run.ledger.answers;
-  order = run.ledger.order;
-  reads = run.ledger.reads;
-  moves = run.ledger.moves;
+  ledger = run.ledger;
 }
 
 -- each place has its link, to the next of its lane

@@ -11,7 +11,7 @@ working_after None place = None
 working_after (Some m) place = Some (record { place = place; machine = m })
 
 -- the worker has an operation under way
-pub record IsBusyWorker (run : PlainRun) (worker : ℕ) : Type 0 where
+pub record HasOperation (run : PlainRun) (worker : ℕ) : Type 0 where
   pub place : ℕ
   pub m : PlainMachine
   pub next : Option ℕ

@@ -5,22 +5,14 @@ use Rattle.blink_page.specs.Page.{PlainPage}
 use Rattle.blink_steps.specs.Machine.{PlainMachine}
 use Rattle.blink_steps.specs.Moment.{Moment}
 use Rattle.blink_steps.specs.Owned.{LatchesAreHeld}
-use Rattle.blink_steps.specs.TreeWithDebts.{DebtsAreOwed, PagesArePlaced, TopIsGrowing, Levels}
 use Rattle.blink_steps.specs.Placed.{IsPlaced}
-use Rattle.blink_steps.specs.Tree.{IsTree}
+use Rattle.blink_steps.specs.TreeWithDebts.{IsTreeWithDebtsOf, Levels}
 
--- what is so of the tree, of which with what is so of each operation follows that it is a lawful tree with debts
-pub record IsLawfulTree (moment : Moment) (levels : Levels) : Type 0 where
-  pub tree : IsTree moment.fan moment.prime moment.pages levels
-  pub debts : DebtsAreOwed moment levels
-  pub pages_placed : PagesArePlaced moment levels
-  pub top : TopIsGrowing moment levels
-
--- the same, with the latches and what is so of each operation
+-- a lawful tree with debts, the latches, and what is so of each operation
 pub record IsSoundWith (moment : Moment) (levels : Levels) : Type 0 where
   pub fan_in_range : IsFan moment.fan
   pub numbers_in_range : (number : ℕ) (page : PlainPage) → moment.pages number ≡ Some page → IsPageNumber number
-  pub lawful : IsLawfulTree moment levels
+  pub lawful : IsTreeWithDebtsOf moment levels
   pub latches : LatchesAreHeld moment
   pub placed : (worker : ℕ) (m : PlainMachine) → moment.machines worker ≡ Some m → IsPlaced moment levels m
 

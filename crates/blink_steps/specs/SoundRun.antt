@@ -10,7 +10,7 @@ use Rattle.blink_store.specs.Store.{IsLawfulStore}
 use Rattle.blink_steps.specs.declared.machine.State.TheVariants.{Ended}
 use Rattle.blink_steps.specs.declared.seat.Seat.{Seat}
 use Rattle.blink_steps.specs.declared.seat.Working.{Working}
-use Rattle.blink_steps.specs.Acts.{IsReady}
+use Rattle.blink_steps.specs.Acts.{CanAct}
 use Rattle.blink_steps.specs.Decided.{IsDecided}
 use Rattle.blink_steps.specs.Machine.{PlainMachine}
 use Rattle.blink_steps.specs.Run.{PlainRun, IsNextOf, idle_seat, moment_of}
@@ -28,26 +28,26 @@ decided_below place (Some answer) = place + 1
 
 -- a worker's part of the order is its lane up to a place
 abbrev pub HasDecided : PlainRun → ℕ → ℕ → Type 0
-HasDecided run worker place = part_of run.assignment.lanes worker run.order ≡ part_of run.assignment.lanes worker (take place (places_from 0 run.assignment.lanes))
+HasDecided run worker place = part_of run.assignment.lanes worker run.ledger.order ≡ part_of run.assignment.lanes worker (take place (places_from 0 run.assignment.lanes))
 
 -- a worker with an operation of its lane, which hasn't ended
-pub record IsBusy (run : PlainRun) (worker : ℕ) (working : Working) (next : Option ℕ) : Type 0 where
+pub record IsSoundWorking (run : PlainRun) (worker : ℕ) (working : Working) (next : Option ℕ) : Type 0 where
   pub own : slice_get run.assignment.lanes working.place ≡ Some worker
   pub goes_on : working.machine.state ≢ Ended
   pub same_op : slice_get run.ops working.place ≡ Some working.machine.op
-  pub same_answer : slice_get run.answers working.place ≡ Some working.machine.answer
+  pub same_answer : slice_get run.ledger.answers working.place ≡ Some working.machine.answer
   pub next_of_lane : next ≡ next_place run.assignment.lanes worker (working.place + 1)
   pub decided : HasDecided run worker (decided_below working.place working.machine.answer)
 
 -- an idle worker, who has decided its lane up to the next place
-pub record IsIdle (run : PlainRun) (worker : ℕ) (next : Option ℕ) : Type 0 where
+pub record IsSoundIdle (run : PlainRun) (worker : ℕ) (next : Option ℕ) : Type 0 where
   pub from : ℕ
   pub next_of_lane : next ≡ next_place run.assignment.lanes worker from
   pub decided : HasDecided run worker from
 
 abbrev pub IsSoundSeat : PlainRun → ℕ → Option Working → Option ℕ → Type 0
-IsSoundSeat run worker None next = IsIdle run worker next
-IsSoundSeat run worker (Some working) next = IsBusy run worker working next
+IsSoundSeat run worker None next = IsSoundIdle run worker next
+IsSoundSeat run worker (Some working) next = IsSoundWorking run worker working next
 
 -- the lists of a run have their lengths, and its operations and lanes are those of a batch
 pub record IsShaped (run : PlainRun) : Type 0 where
@@ -56,28 +56,28 @@ pub record IsShaped (run : PlainRun) : Type 0 where
   pub lanes : AreLanes run.assignment.workers run.assignment.lanes
   pub a_lane_each : length run.assignment.lanes ≡ length run.ops
   pub a_seat_each : length run.seats ≡ run.assignment.workers
-  pub an_answer_each : length run.answers ≡ length run.ops
-  pub a_read_count_each : length run.reads ≡ length run.ops
-  pub a_move_count_each : length run.moves ≡ length run.ops
+  pub an_answer_each : length run.ledger.answers ≡ length run.ops
+  pub a_read_count_each : length run.ledger.reads ≡ length run.ops
+  pub a_move_count_each : length run.ledger.moves ≡ length run.ops
 
 pub record IsSoundRun (entries : List Entry) (run : PlainRun) : Type 0 where
   pub sound : IsSound (moment_of run)
   pub shaped : IsShaped run
   pub ascending : IsAscending entries
   pub decided : IsDecided entries run
-  pub as_many_decided : count_by is_answered run.answers ≡ length run.order
+  pub as_many_decided : count_by is_answered run.ledger.answers ≡ length run.ledger.order
   pub seats : (worker : ℕ) (seat : Seat) → slice_get run.seats worker ≡ Some seat → IsSoundSeat run worker seat.working seat.next
 
--- a worker's turn can be taken
-abbrev pub IsReadyForTurn : PlainRun → ℕ → Type 0
-IsReadyForTurn run worker = (place : ℕ) (m : PlainMachine) (next : Option ℕ) → IsNextOf run worker place m next → IsReady run.shared worker m
+-- a worker's next operation can act
+abbrev pub NextCanAct : PlainRun → ℕ → Type 0
+NextCanAct run worker = (place : ℕ) (m : PlainMachine) (next : Option ℕ) → IsNextOf run worker place m next → CanAct run.shared worker m
 
 -- what a worker's turn finds: a seat, a place of the batch, a step that can be taken, and room to note it
-pub record IsTurnReady (run : PlainRun) (worker : ℕ) : Type 0 where
+pub record CanTakeTurn (run : PlainRun) (worker : ℕ) : Type 0 where
   pub seated : worker < length run.seats
   pub next_of_batch : (place : ℕ) → slice_get run.seats worker ≡ Some (idle_seat (Some place)) → place < length run.ops
-  pub step_ready : IsReadyForTurn run worker
-  pub place_of_batch : (place : ℕ) (m : PlainMachine) (next : Option ℕ) → IsNextOf run worker place m next → place < length run.answers
-  pub room : (place : ℕ) (m : PlainMachine) (next : Option ℕ) → IsNextOf run worker place m next → m.answer ≡ None → length run.order < length run.answers
+  pub can_act : NextCanAct run worker
+  pub place_of_batch : (place : ℕ) (m : PlainMachine) (next : Option ℕ) → IsNextOf run worker place m next → place < length run.ledger.answers
+  pub room : (place : ℕ) (m : PlainMachine) (next : Option ℕ) → IsNextOf run worker place m next → m.answer ≡ None → length run.ledger.order < length run.ledger.answers
   pub countable : (place : ℕ) (m : PlainMachine) (next : Option ℕ) → IsNextOf run worker place m next
-      → (slice_index_or run.reads place 0 + 1 < 2 ^ 64) × (slice_index_or run.moves place 0 + 1 < 2 ^ 64)
+      → (slice_index_or run.ledger.reads place 0 + 1 < 2 ^ 64) × (slice_index_or run.ledger.moves place 0 + 1 < 2 ^ 64)

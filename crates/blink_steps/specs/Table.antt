@@ -42,6 +42,11 @@ pub record WaitsForLevel (m : PlainMachine) (prime : List ℕ) : Type 0 where
   pub job : m.job ≡ Parent debt
   pub not_there : slice_get prime (debt.level + 1) ≡ None
 
+-- it is an insertion or a deletion
+abbrev pub IsUpdate : Op → Type 0
+IsUpdate (Find key) = ⊥
+IsUpdate op = Unit {0}
+
 -- it brings its entry into a page: an insertion does, and a posting
 abbrev pub Brings : Op → Job → Type 0
 Brings (Find key) Leaf = ⊥
@@ -70,9 +75,7 @@ pub data SeesOnItsWay (m : PlainMachine) (number : ℕ) (page : PlainPage) (afte
       → after ≡ record m { remembered = number ∷ m.remembered; state = Going child level } → SeesOnItsWay m number page after
   find_answers : (level key : ℕ) → m.state ≡ Going number level → Leads page (target m) Here → m.op ≡ Find key
       → after ≡ answered m Ended (answer_at (Find key) (value_at key page.entries)) → SeesOnItsWay m number page after
-  insertion_wants : (level key pointer : ℕ) → m.state ≡ Going number level → Leads page (target m) Here → m.op ≡ Insert key pointer
-      → after ≡ at_state m (Want number) → SeesOnItsWay m number page after
-  deletion_wants : (level key : ℕ) → m.state ≡ Going number level → Leads page (target m) Here → m.op ≡ Delete key
+  update_wants : (level : ℕ) → m.state ≡ Going number level → Leads page (target m) Here → IsUpdate m.op
       → after ≡ at_state m (Want number) → SeesOnItsWay m number page after
 
 -- a page is read under its latch: a row each
@@ -105,19 +108,11 @@ debt_of_split m page new = record { level = level_of m.job; separator = separato
 
 -- the page that the wanted write writes; `new` is the number of a new one
 abbrev pub page_out_at : PlainMachine → State → ℕ → PlainPage
-page_out_at m Start new = empty_leaf
-page_out_at m (Going page level) new = empty_leaf
-page_out_at m (Want page) new = empty_leaf
-page_out_at m (Held page) new = empty_leaf
 page_out_at m (Change page changed kept) new = changed
 page_out_at m (SplitNew page before) new = upper_half m.fan before (overfull m before)
 page_out_at m (SplitOld page lower debt) new = lower
-page_out_at m (AskPrime page debt) new = empty_leaf
 page_out_at m (Root page debt prime) new = root_over (debt.level + 1) debt.separator page debt.page
-page_out_at m (NewPrime page debt root prime) new = empty_leaf
-page_out_at m (Leave page next) new = empty_leaf
-page_out_at m Posting new = empty_leaf
-page_out_at m Ended new = empty_leaf
+page_out_at m state new = empty_leaf
 
 abbrev pub page_out : PlainMachine → ℕ → PlainPage
 page_out m new = page_out_at m m.state new
@@ -143,19 +138,14 @@ halved m page before new = at_state m (SplitOld page (lower_half m.fan new befor
 
 -- the operation after a latch that was got, a write or an unlatch; `new` is the number of a new page
 abbrev pub done_at : PlainMachine → State → ℕ → PlainMachine
-done_at m Start new = m
-done_at m (Going page level) new = m
 done_at m (Want page) new = at_state m (Held page)
-done_at m (Held page) new = m
 done_at m (Change page changed kept) new = decided_with m m.job (Leave page Finish) kept
 done_at m (SplitNew page before) new = halved m page before new
 done_at m (SplitOld page lower debt) new = decided_with m m.job (AskPrime page debt) None
-done_at m (AskPrime page debt) new = m
 done_at m (Root page debt prime) new = at_state m (NewPrime page debt new prime)
 done_at m (NewPrime page debt root prime) new = at_state m (Leave page Finish)
 done_at m (Leave page next) new = leaves_for m next
-done_at m Posting new = m
-done_at m Ended new = m
+done_at m state new = m
 
 abbrev pub done : PlainMachine → ℕ → PlainMachine
 done m new = done_at m m.state new

@@ -4,10 +4,15 @@ use Rattle.blink_batch.specs.declared.Entry.{Entry}
 use Rattle.blink_batch.specs.PlainMap.{IsAscending}
 use Rattle.blink_rest.specs.Entries.{AreEntries}
 use Rattle.blink_store.specs.Store.{PlainStore, page_of}
+use Rattle.blink_steps.specs.Moment.{Moment}
 
 -- the entries of a plain map as a tree keeps them
 abbrev pub pairs_of : List Entry → List (ℕ × ℕ)
 pairs_of entries = map (λ (e : Entry). (e.key, e.pointer)) entries
+
+-- the tree of a moment keeps the entries of this map
+abbrev pub Keeps : Moment → List Entry → Type 0
+Keeps moment entries = AreEntries moment.fan moment.prime moment.pages (pairs_of entries)
 
 -- the entries of the store's tree are this plain map
 pub record IsMapOf (store : PlainStore) (entries : List Entry) : Type 0 where

@@ -83,6 +83,11 @@ pub record NewPagesStandOutside (moment : Moment) (levels : Levels) : Type 0 whe
 abbrev pub EachRefers : Levels → Type 0
 EachRefers levels = (level : ℕ) → Refers (levels level) None (entries_along (levels (level + 1)))
 
+-- chains, of which each refers to the one below
+pub record IsTree (fan : ℕ) (prime : List ℕ) (pages : Pages) (levels : Levels) : Type 0 where
+  pub chains : LevelsAreChains fan prime pages levels
+  pub refers : EachRefers levels
+
 -- ---- debts
 
 -- the key is a debt of the level: a high key below the greatest, and no separator of the level above
@@ -137,10 +142,12 @@ pub record TopGrowsUnderLatch (moment : Moment) (levels : Levels) : Type 0 where
 
 -- ---- the whole
 
-pub record IsTreeWithDebts (moment : Moment) : Type 0 where
-  pub levels : Levels
-  pub chains : LevelsAreChains moment.fan moment.prime moment.pages levels
+-- these are the levels of a lawful tree with debts
+pub record IsTreeWithDebtsOf (moment : Moment) (levels : Levels) : Type 0 where
+  pub tree : IsTree moment.fan moment.prime moment.pages levels
   pub new_pages : NewPagesStandOutside moment levels
-  pub references : EachRefers levels
   pub debts : DebtsAreOwed moment levels
   pub top : TopGrowsUnderLatch moment levels
+
+abbrev pub IsTreeWithDebts : Moment → Type 0
+IsTreeWithDebts moment = (levels : Levels) × IsTreeWithDebtsOf moment levels

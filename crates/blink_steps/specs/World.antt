@@ -11,6 +11,7 @@ use Rattle.blink_steps.specs.declared.error.StepError.{StepError}
 use Rattle.blink_steps.specs.declared.error.StepError.TheVariants.{OutOfMemory, NoWorker, TooLarge}
 use Rattle.blink_steps.specs.declared.step.Step.{Step}
 use Rattle.blink_steps.specs.declared.step.Step.TheVariants.{Moved}
+use Rattle.blink_steps.specs.declared.world.TheConstants.{NUMBERS_OF_INSERTION}
 use Rattle.blink_steps.specs.Kinds.{write_page}
 use Rattle.blink_steps.specs.Run.{PlainRun, Taken, TakesTurn, Follows, IsOpeningRun, idle_seat}
 
@@ -21,7 +22,7 @@ pub record MayBegin (start : PlainStore) (ops : List Op) (assignment : Assignmen
   pub words : All FitsWords ops
   pub lanes : AreLanes assignment.workers assignment.lanes
   pub a_lane_each : length assignment.lanes ≡ length ops
-  pub numbers_suffice : length start.pages + 22 * count_by is_insert ops ≤ MAX_PAGE
+  pub numbers_suffice : length start.pages + NUMBERS_OF_INSERTION * count_by is_insert ops ≤ MAX_PAGE
 
 -- the schedule is the worker of each turn so far
 pub record PlainWorld : Type 0 where
@@ -65,18 +66,18 @@ pub record TakesStep (old : PlainWorld) (worker : ℕ) (step : Step) (new : Plai
   pub told : new.schedule ≡ old.schedule ++ worker ∷ []
 
 -- the world has one turn more: its history is the old one with this turn in front
-pub record HasTurnMore (start : PlainStore) (old : PlainWorld) (of : IsWorldOf start old) (worker : ℕ) (step : Step) (new : PlainWorld) : Type 0 where
+pub record HasTurnMore (start : PlainStore) (old : PlainWorld) (is_world : IsWorldOf start old) (worker : ℕ) (step : Step) (new : PlainWorld) : Type 0 where
   pub taken : Taken
   pub same_worker : taken.worker ≡ worker
   pub same_step : taken.step ≡ step
   pub turn : TakesTurn old.run taken new.run
   pub now : IsWorldOf start new
-  pub same_opening : now.opening ≡ of.opening
-  pub one_more : now.history ≡ taken ∷ of.history
+  pub same_opening : now.opening ≡ is_world.opening
+  pub one_more : now.history ≡ taken ∷ is_world.history
 
 -- it goes on by such a turn, over whatever tree it began
 abbrev pub GoesOnBy : PlainWorld → ℕ → Step → PlainWorld → Type 0
-GoesOnBy old worker step new = (start : PlainStore) (of : IsWorldOf start old) → HasTurnMore start old of worker step new
+GoesOnBy old worker step new = (start : PlainStore) (is_world : IsWorldOf start old) → HasTurnMore start old is_world worker step new
 
 -- it goes on over whatever tree it began
 abbrev pub KeepsItsStart : PlainWorld → PlainWorld → Type 0
@@ -84,7 +85,7 @@ KeepsItsStart old new = (start : PlainStore) → IsWorldOf start old → IsWorld
 
 -- the fact of its history, over whatever tree it began
 abbrev pub InItsHistory : PlainWorld → (List Taken → Type 0) → Type 0
-InItsHistory world fact = (start : PlainStore) (of : IsWorldOf start world) → fact of.history
+InItsHistory world fact = (start : PlainStore) (is_world : IsWorldOf start world) → fact is_world.history
 
 -- the batch and its lanes are as before
 pub record SameBatch (old new : PlainRun) : Type 0 where
@@ -97,14 +98,14 @@ with_turn world worker = record world { schedule = world.schedule ++ worker ∷ 
 
 -- a run can't begin where its insertions might need more page numbers than there are, the prime block's with them
 abbrev pub IsTooLarge : PlainStore → List Op → Type 0
-IsTooLarge start ops = MAX_PAGE + 1 < 1 + length start.pages + 22 * count_by is_insert ops
+IsTooLarge start ops = MAX_PAGE + 1 < 1 + length start.pages + NUMBERS_OF_INSERTION * count_by is_insert ops
 
 -- the first number of a schedule that is no worker's
-pub record IsFirstStranger (workers : ℕ) (schedule : List ℕ) (stranger : ℕ) : Type 0 where
+pub record IsFirstNoWorker (workers : ℕ) (schedule : List ℕ) (number : ℕ) : Type 0 where
   pub front : List ℕ
   pub rest : List ℕ
-  pub parts : schedule ≡ front ++ stranger ∷ rest
-  pub no_worker : workers ≤ stranger
+  pub parts : schedule ≡ front ++ number ∷ rest
+  pub no_worker : workers ≤ number
   pub workers_before : All (λ worker. worker < workers) front
 
 -- the worker is idle, with its lane at its end
@@ -132,11 +133,11 @@ WritesItsOwn before taken after = (number : ℕ) → taken.step ≡ Moved (write
 -- why a schedule isn't replayed: memory; its first number that is no worker's; or a batch that is too large
 abbrev pub IsReplayRefusal : PlainStore → List Op → ℕ → List ℕ → StepError → Type 0
 IsReplayRefusal start ops workers schedule OutOfMemory = ⊤
-IsReplayRefusal start ops workers schedule (NoWorker stranger) = IsFirstStranger workers schedule stranger
+IsReplayRefusal start ops workers schedule (NoWorker number) = IsFirstNoWorker workers schedule number
 IsReplayRefusal start ops workers schedule TooLarge = IsTooLarge start ops
 
 -- why a step isn't taken: memory, or no such worker
 abbrev pub IsStepRefusal : ℕ → ℕ → StepError → Type 0
 IsStepRefusal workers worker OutOfMemory = ⊤
-IsStepRefusal workers worker (NoWorker stranger) = (stranger ≡ worker) × (workers ≤ worker)
+IsStepRefusal workers worker (NoWorker number) = (number ≡ worker) × (workers ≤ worker)
 IsStepRefusal workers worker TooLarge = ⊥

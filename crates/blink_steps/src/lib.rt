@@ -17,6 +17,7 @@ mod tests;
 mod world;
 
 pub use error::StepError;
-pub use laws::{reads_have_one_result, reads_have_results, turns_are_steps};
+pub use laws::{reads_have_one_result, step_keeps, turns_are_steps};
+pub use machine::{Machine, Need};
 pub use step::{Kind, Step};
-pub use world::{NUMBERS_OF_INSERTION, World, is_too_large, replay};
+pub use world::{NUMBERS_OF_INSERTION, WRITES_OF_INSERTION, World, is_too_large, replay};

@@ -70,22 +70,34 @@ pub(crate) enum State {
     Ended,
 }
 
-/// What an operation needs next.
+/// The step that comes next of an operation.
 #[derive(Clone, Copy, Debug, PartialEq, Eq)]
-pub(crate) enum Need {
+pub enum Need {
+    /// The prime block is to be read and shown to `saw_prime`.
     ReadPrime,
+    /// The page of this number is to be read and shown to `saw_page`.
     ReadPage(u32),
+    /// This page's latch is to be got, or waited for.
     Latch(u32),
+    /// `page_out` is to be written as a new page, at a number that no page has.
     WriteNew,
+    /// `page_out` is to be written over the page of this number.
     WritePage(u32),
+    /// `prime_out` is to be written over the prime block.
     WritePrime,
+    /// This page's latch is to be let go.
     Unlatch(u32),
+    /// The operation has ended.
     End,
 }
 
-/// One operation on its way through a tree whose pages have at most `fan` entries.
+/// The state of one operation on its way through a tree whose pages have at most `fan` entries, over whatever memory keeps
+/// the pages: whoever runs it does the step that `need` tells, and then tells it, by `saw_prime` and `saw_page` after a read
+/// and by `done` after any other step. It takes no memory. That each step of it is one that a tree bears, whatever other
+/// operations do between, is the law `step_keeps`; the table of states is that of Lehman and Yao, with deletions and a prime
+/// block.
 #[derive(Debug, Drop)]
-pub(crate) struct Machine {
+pub struct Machine {
     fan: u8,
     op: Op,
     job: Job,
@@ -110,8 +122,8 @@ impl Model for Machine {
 }
 
 impl Machine {
-    /// The operation before its first step.
-    pub(crate) fn new(op: Op, fan: u8) -> Machine
+    /// The operation before the prime block read that begins it. `fan` is 4 to 16.
+    pub fn new(op: Op, fan: u8) -> Machine
         requires { IsFan fan }
         ensures { result ≡ fresh fan op }
     {
@@ -125,8 +137,8 @@ impl Machine {
         }
     }
 
-    /// What it needs next: whoever runs it does that, and then tells it.
-    pub(crate) fn need(&self) -> Need
+    /// The step that comes next.
+    pub fn need(&self) -> Need
         ensures { result ≡ need_at self.now.state }
     {
         match &self.state {
@@ -141,15 +153,15 @@ impl Machine {
         }
     }
 
-    /// What it answers, once it has decided.
-    pub(crate) fn answer(&self) -> Option<Answer>
+    /// What it answers: some answer from its deciding step on.
+    pub fn answer(&self) -> Option<Answer>
         ensures { result ≡ self.now.answer }
     {
         self.answer
     }
 
     /// Whether it has ended, so that nothing of it is left to do.
-    pub(crate) fn ended(&self) -> bool
+    pub fn ended(&self) -> bool
         ensures { IsTrue result ↔ self.now.state ≡ State.Ended }
     {
         matches!(self.state, State::Ended)

@@ -2,8 +2,8 @@
 ghost use Rattle.std.specs.Prelude.{◌≡◌, ◌↔◌, ◌+◌, ◌<◌, ℕ, Some, length, slice_get, IsTrue, IsNone, IfOk, IfSome, OnErr, IsOkUnless};
 ghost use Rattle.blink_steps.specs.Pick.{IsFirstMover, IsIdleWorker, WouldMove, WouldWait};
 ghost use Rattle.blink_steps.specs.Run.{TakesSomeTurn, IsOpeningRun, idle_seat};
-ghost use Rattle.blink_steps.specs.Seats.{IsBusyWorker};
-ghost use Rattle.blink_steps.specs.SoundRun.{IsTurnReady};
+ghost use Rattle.blink_steps.specs.Seats.{HasOperation};
+ghost use Rattle.blink_steps.specs.SoundRun.{CanTakeTurn};
 ghost use Rattle.blink_steps.specs.World.{HasEnded};
 
 use crate::error::StepError;
@@ -80,7 +80,7 @@ impl Run {
     /// One turn of a worker: a step of its operation, where it is idle of the next in its lane; or a wait; or, at the
     /// lane's end, nothing. A refusal of memory changes nothing.
     pub(crate) fn turn(&mut self, worker: u8) -> Result<Step, StepError>
-        requires { IsTurnReady self.old worker }
+        requires { CanTakeTurn self.old worker }
         ensures turn { IfOk result (λ step. TakesSomeTurn self.old worker step self.new) }
         ensures refused { IsOkUnless result StepError.OutOfMemory }
         ensures unchanged { OnErr result (self.new ≡ self.old) }
@@ -97,8 +97,8 @@ impl Run {
 
     // A step of the operation that the worker has under way.
     fn go_on(&mut self, worker: u8) -> Result<Step, StepError>
-        requires ready { IsTurnReady self.old worker }
-        requires busy { IsBusyWorker self.old worker }
+        requires ready { CanTakeTurn self.old worker }
+        requires busy { HasOperation self.old worker }
         ensures turn { IfOk result (λ step. TakesSomeTurn self.old worker step self.new) }
         ensures refused { IsOkUnless result StepError.OutOfMemory }
         ensures unchanged { OnErr result (self.new ≡ self.old) }
@@ -121,7 +121,7 @@ impl Run {
 
     // Takes up the next operation of the worker's lane, and its first step.
     fn begin(&mut self, worker: u8, place: u32) -> Result<Step, StepError>
-        requires ready { IsTurnReady self.old worker }
+        requires ready { CanTakeTurn self.old worker }
         requires idle { slice_get self.old.seats worker ≡ Some (idle_seat (Some place)) }
         ensures turn { IfOk result (λ step. TakesSomeTurn self.old worker step self.new) }
         ensures refused { IsOkUnless result StepError.OutOfMemory }
@@ -207,28 +207,28 @@ impl Run {
 
     /// The answers so far.
     pub(crate) fn answers(&self) -> &[Option<Answer>]
-        ensures { result.now ≡ self.now.answers }
+        ensures { result.now ≡ self.now.ledger.answers }
     {
         &self.ledger.answers
     }
 
     /// The places of the operations that have decided, in the order of their deciding steps.
     pub(crate) fn order(&self) -> &[u32]
-        ensures { result.now ≡ self.now.order }
+        ensures { result.now ≡ self.now.ledger.order }
     {
         &self.ledger.order
     }
 
     /// How many pages each operation has read.
     pub(crate) fn reads(&self) -> &[u64]
-        ensures { result.now ≡ self.now.reads }
+        ensures { result.now ≡ self.now.ledger.reads }
     {
         &self.ledger.reads
     }
 
     /// How many steps each operation has taken.
     pub(crate) fn moves(&self) -> &[u64]
-        ensures { result.now ≡ self.now.moves }
+        ensures { result.now ≡ self.now.ledger.moves }
     {
         &self.ledger.moves
     }

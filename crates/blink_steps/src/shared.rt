@@ -3,7 +3,7 @@ ghost use Rattle.std.specs.Prelude.{◌≡◌, ◌↔◌, ℕ, ◌+◌, ◌<◌,
 ghost use Rattle.blink_page.specs.declared.limits.TheConstants.{MAX_PAGE};
 ghost use Rattle.blink_page.specs.Limits.{IsFan};
 ghost use Rattle.blink_store.specs.Store.{WritesPage};
-ghost use Rattle.blink_steps.specs.Acts.{Acts, IsReady};
+ghost use Rattle.blink_steps.specs.Acts.{Acts, CanAct};
 ghost use Rattle.blink_steps.specs.Machine.{NeedsNew};
 ghost use Rattle.blink_steps.specs.Table.{page_out};
 
@@ -39,7 +39,7 @@ impl Shared {
 
     /// Does what the worker's operation needs next, or waits. A refusal of memory changes nothing.
     pub(crate) fn act(&mut self, worker: u8, machine: &mut Machine) -> Result<Step, StepError>
-        requires { IsReady self.old worker machine.old }
+        requires { CanAct self.old worker machine.old }
         ensures step { IfOk result
             (λ step. Acts self.old worker machine.old step machine.new self.new) }
         ensures refused { IsOkUnless result StepError.OutOfMemory }

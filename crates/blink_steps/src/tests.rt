@@ -1,6 +1,7 @@
 //! Examples, worked by hand. Their trees have at most 4 entries a page, where no other number is told.
 ghost use Rattle.std.specs.Prelude.{◌≡◌, IfOk};
 
+mod by_hand;
 mod one_leaf;
 mod picks;
 mod schedules;

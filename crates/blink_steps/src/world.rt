@@ -19,6 +19,9 @@ use std::marker::Model;
 /// are named these are 21; the promise is 22.
 pub const NUMBERS_OF_INSERTION: u64 = 22;
 
+/// A bound on how often an insertion writes a page: twice on each level that it comes to, and once for a new root.
+pub const WRITES_OF_INSERTION: u64 = 43;
+
 /// A batch's run over a tree at rest, up to some moment: one turn for each number of its schedule.
 ///
 /// Its type keeps that it is the world of its own schedule, over the tree, the batch and the lanes that it began with: so
@@ -99,7 +102,7 @@ impl World {
     /// are those of the operations one after another, on a plain map of the entries at the start, in the order of
     /// [`World::order`]; and where the lanes are a lawful cut, once all operations have ended, those of the batch's own order.
     pub fn answers(&self) -> &[Option<Answer>]
-        ensures answers { result.now ≡ self.now.run.answers }
+        ensures answers { result.now ≡ self.now.run.ledger.answers }
         ensures one_each { length result.now ≡ length self.now.run.ops }
         ensures promised { IsPromised self.now }
     {
@@ -110,7 +113,7 @@ impl World {
     /// that answers a find, the read under the latch of an update that changes nothing, and the write of the leaf of one
     /// that changes something (in a split, of the old leaf).
     pub fn order(&self) -> &[u32]
-        ensures order { result.now ≡ self.now.run.order }
+        ensures order { result.now ≡ self.now.run.ledger.order }
         ensures promised { IsPromised self.now }
     {
         self.run.order()

@@ -1,5 +1,6 @@
-pub mod ListLemmas
-pub mod StoreLemmas
-pub mod HolderLemmas
-pub mod LatchLemmas
-pub mod EqualityLemmas
+pub mod ChangedLists
+pub mod PagesByNumber
+pub mod HoldersOfPages
+pub mod ChangedHolders
+pub mod ComparedStores
+pub mod Offered

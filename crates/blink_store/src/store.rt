@@ -97,6 +97,7 @@ impl Store {
         ensures count { length self.new.pages ≡ length self.old.pages }
         ensures kept { KeepsFloorsAndLevels self.old self.new }
     {
+        // Read for the proof: a page is lawful.
         let _level = page.level;
         self.pages[n as usize - 1] = page;
     }
@@ -115,6 +116,7 @@ impl Store {
         ensures prime { self.new ≡ record self.old { prime = prime } }
         ensures kept { KeepsFloorsAndLevels self.old self.new }
     {
+        // Read for the proof: a prime block is lawful.
         let _leftmost = &prime.leftmost;
         self.prime = prime;
     }
@@ -152,6 +154,7 @@ impl Store {
         if count == MAX_PAGE {
             return Err(StoreError::OutOfPages);
         }
+        // Read for the proof: a page is lawful.
         let _level = page.level;
         match self.pages.push(page) {
             Ok(()) => Ok(count + 1),

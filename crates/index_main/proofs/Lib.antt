@@ -1,3 +1,3 @@
-pub mod ListLemmas
-pub mod ScheduleLemmas
-pub mod FlushLemmas
+pub mod OneMissing
+pub mod ScheduleFromParts
+pub mod WhatIsFlushed

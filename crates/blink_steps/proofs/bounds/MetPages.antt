@@ -5,9 +5,10 @@ use Rattle.std.proofs.lemmas.Option.{slice_get_within}
 use Rattle.blink_page.specs.Page.{PlainPage}
 use Rattle.blink_page.specs.Rising.{least_above}
 use Rattle.blink_rest.specs.Chain.{Pages}
-use Rattle.blink_rest.proofs.CountLemmas.{AreWithin, at_most_n}
-use Rattle.blink_rest.proofs.NumberLemmas.{AllDiffer, Avoids}
-use Rattle.blink_store.specs.Store.{PlainStore, page_of, SameFloorAndLevel}
+use Rattle.blink_store.specs.Store.{PlainStore, page_of}
+use Rattle.blink_steps.specs.Places.{KeepsPlaces}
+use Rattle.blink_rest.proofs.Offered.{at_most_n}
+use Rattle.blink_rest.specs.Numbers.{AllDiffer, AreWithin, Avoids}
 
 -- the page of this number has such a level and such a least key
 pub record IsPageWith (pages : Pages) (kind : ℕ → ℕ → Type 0) (number : ℕ) : Type 0 where
@@ -45,10 +46,6 @@ pub record ComesAfter (pages : Pages) (order : ℕ → ℕ → ℕ → ℕ → T
   pub page : PlainPage
   pub there : pages number ≡ Some page
   pub all_before : ArePagesWith pages (order page.level (least_above page.floor)) before
-
--- every page stays, with its level and its floor
-abbrev pub KeepsPlaces : Pages → Pages → Type 0
-KeepsPlaces old new = (number : ℕ) (page : PlainPage) → old number ≡ Some page → (after : PlainPage) × (new number ≡ Some after) × SameFloorAndLevel page after
 
 -- what is so of the pages by where they stand stays so
 pub pages_stay : (old new : Pages) → KeepsPlaces old new → (kind : ℕ → ℕ → Type 0) (numbers : List ℕ) → ArePagesWith old kind numbers → ArePagesWith new kind numbers

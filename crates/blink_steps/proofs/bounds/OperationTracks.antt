@@ -8,7 +8,8 @@ use Rattle.blink_steps.specs.declared.machine.Next.TheVariants.{Finish, MoveRigh
 use Rattle.blink_steps.specs.declared.machine.State.{State}
 use Rattle.blink_steps.specs.declared.machine.State.TheVariants.{Start, Going, Want, Held, Change, SplitNew, SplitOld, AskPrime, Root, NewPrime, Leave, Posting, Ended}
 use Rattle.blink_steps.specs.Machine.{PlainMachine, level_of}
-use Rattle.blink_steps.proofs.bounds.MetPages.{ArePagesWith, ComesAfter, IsPassed, IsBelow, IsUpTo, IsNotAbove, KeepsPlaces, pages_stay, after_stays}
+use Rattle.blink_steps.specs.Places.{KeepsPlaces}
+use Rattle.blink_steps.proofs.bounds.MetPages.{ArePagesWith, ComesAfter, IsPassed, IsBelow, IsUpTo, IsNotAbove, pages_stay, after_stays}
 
 -- on its way down the page that an operation reads next comes after those that it has read
 abbrev pub OnWayAt : Pages → State → List ℕ → Type 0

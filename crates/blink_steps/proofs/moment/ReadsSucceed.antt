@@ -1,11 +1,11 @@
--- In a sound moment an operation makes something of what it reads.
-use Rattle.std.proofs.Common.{◌≡◌, ℕ, ◌+◌, ◌-◌, ◌<◌, ◌≤◌, ◌⊎◌, zero, suc, Option, Some, None, IsSome, List, length, get_or, inl, inr, refl, ap, sym, ◌∙◌, subst, arith}
+-- In a sound moment exactly one machine comes of what an operation reads, or it waits for a level.
+use Rattle.std.proofs.Common.{◌≡◌, ℕ, ◌+◌, ◌-◌, ◌<◌, ◌≤◌, ◌⊎◌, zero, suc, Option, Some, None, List, length, get_or, inl, inr, refl, ap, sym, ◌∙◌, subst, arith}
 use Rattle.std.specs.Prelude.{slice_get}
 use Rattle.std.proofs.lemmas.Bool.{cases_lt, cases_eq}
 use Rattle.blink_batch.specs.Operation.{key_of}
 use Rattle.blink_steps.specs.Owned.{debt_of, debt_at, debt_of_job}
-use Rattle.blink_steps.proofs.operation.JobLemmas.{brings_parent}
-use Rattle.blink_steps.proofs.tree.PrimeLemmas.{is_top_leftmost, last_or-at_end, not_top_leftmost}
+use Rattle.blink_steps.proofs.operation.WhatJobsAreAbout.{brings_parent, some_value}
+use Rattle.blink_steps.proofs.tree.PrimeAsList.{is_top_leftmost, last_or-at_end, not_top_leftmost}
 use Rattle.blink_batch.specs.declared.Op.{Op}
 use Rattle.blink_batch.specs.declared.Op.TheVariants.{Find, Insert, Delete}
 use Rattle.blink_batch.specs.Batch.{FitsWords}
@@ -13,23 +13,24 @@ use Rattle.blink_page.specs.Entries.{child_for, value_at}
 use Rattle.blink_page.specs.Page.{PlainPage, IsLawfulPage}
 use Rattle.blink_page.specs.Rising.{least_above}
 use Rattle.blink_page.specs.declared.limits.TheConstants.{GREATEST_KEY}
-use Rattle.blink_page.proofs.LookLemmas.{child_for-covers}
+use Rattle.blink_page.proofs.Offered.{child_for-covers}
 use Rattle.blink_steps.specs.declared.machine.Debt.{Debt}
 use Rattle.blink_steps.specs.declared.machine.Job.{Job}
 use Rattle.blink_steps.specs.declared.machine.Job.TheVariants.{Leaf, Parent}
 use Rattle.blink_steps.specs.declared.machine.Need.TheVariants.{ReadPage, ReadPrime}
 use Rattle.blink_steps.specs.declared.machine.State.{State}
 use Rattle.blink_steps.specs.declared.machine.State.TheVariants.{Start, Going, Held, Posting, AskPrime}
-use Rattle.blink_steps.specs.Laws.{PageReadsHaveResults, PrimeReadsHaveResults}
-use Rattle.blink_steps.specs.Machine.{PlainMachine, target, level_read, level_read_at, need_at}
-use Rattle.blink_steps.specs.Moment.{Moment}
+use Rattle.blink_steps.specs.InOrder.{ReadsWell, ReadsPrimeWell}
+use Rattle.blink_steps.specs.Machine.{PlainMachine, NeedsPage, NeedsPrime, target, level_read, level_read_at, need_at}
+use Rattle.blink_steps.specs.Moment.{Moment, IsItsOperation}
 use Rattle.blink_steps.specs.Placed.{MayChange, PlacedAt}
-use Rattle.blink_steps.specs.Sound.{IsSoundWith}
-use Rattle.blink_steps.specs.Table.{SeesOnItsWay, goes_right, goes_down, find_answers, insertion_wants, deletion_wants, SeesUnderLatch, is_above_high_key, insertion_finds_key, deletion_finds_none, posting_finds_separator, is_to_change, is_to_split, IsChange, SeesPage, on_its_way, under_latch, Brings, WaitsForLevel, IsTopLeftmost, SeesPrime, finds_leftmost, begins, asks_of_root, asks_of_other}
+use Rattle.blink_steps.specs.Sound.{IsSound, IsSoundWith}
+use Rattle.blink_steps.specs.Table.{SeesOnItsWay, goes_right, goes_down, find_answers, SeesUnderLatch, is_above_high_key, insertion_finds_key, deletion_finds_none, posting_finds_separator, is_to_change, is_to_split, IsChange, SeesPage, on_its_way, under_latch, Brings, WaitsForLevel, IsTopLeftmost, SeesPrime, finds_leftmost, begins, asks_of_root, asks_of_other, update_wants}
 use Rattle.blink_steps.specs.TreeWithDebts.{Levels}
-use Rattle.blink_steps.proofs.operation.PageReadLemmas.{reads_are_good}
-use Rattle.blink_steps.proofs.moment.PlacedLemmas.{at_state, begun, its_own}
-use Rattle.blink_steps.proofs.tree.TreeLaws.{tree_laws}
+use Rattle.blink_steps.proofs.operation.ReadPagesAreThere.{reads_are_good}
+use Rattle.blink_steps.proofs.operation.OperationIsPlaced.{at_state, begun, its_own}
+use Rattle.blink_steps.proofs.operation.ReadResults.{one_result_of_page, one_result_of_prime}
+use Rattle.blink_steps.proofs.tree.TreeStatements.{TreeLaws}
 
 -- something made of a page on the way down
 abbrev MakesOnItsWay : PlainMachine → ℕ → PlainPage → Type 0
@@ -38,11 +39,6 @@ MakesOnItsWay m number page = (after : PlainMachine) × SeesOnItsWay m number pa
 -- and of one under its latch
 abbrev MakesUnderLatch : PlainMachine → ℕ → PlainPage → Type 0
 MakesUnderLatch m number page = (after : PlainMachine) × SeesUnderLatch m number page after
-
--- there is something in an option that isn't empty
-some_of : (o : Option ℕ) → IsSome o → (x : ℕ) × (o ≡ Some x)
-some_of None some = absurd (cc)
-some_of (Some x) some = (x, refl)
 
 -- a page whose high key is below the key has a right link
 links_right : (fan key : ℕ) (page : PlainPage) → IsLawfulPage fan page → key ≤ GREATEST_KEY → page.high < key → (link : Option ℕ) → page.right ≡ link → (next : ℕ) × (page.right ≡ Some next)
@@ -53,15 +49,14 @@ module _ (m : PlainMachine) (number : ℕ) (page : PlainPage) (lawful : IsLawful
   -- at a leaf
   at_leaf : (level : ℕ) → m.state ≡ Going number level → target m ≤ page.high → page.level ≡ 0 → (op : Op) → m.op ≡ op → MakesOnItsWay m number page
   at_leaf level at below leaf (Find key) op = (_, find_answers level key at (below, leaf) op refl)
-  at_leaf level at below leaf (Insert key pointer) op = (_, insertion_wants level key pointer at (below, leaf) op refl)
-  at_leaf level at below leaf (Delete key) op = (_, deletion_wants level key at (below, leaf) op refl)
+  at_leaf level at below leaf update op = (_, update_wants level at (below, leaf) (rw op tt) refl)
 
   -- at the key's place
   at_place : (level : ℕ) → m.state ≡ Going number level → page.level ≡ level → target m ≤ page.high → MakesOnItsWay m number page
   at_place zero at is below = at_leaf zero at below is m.op refl
   at_place (suc level) at is below =
       let inner = lawful.inner (omega arith) in
-      let child = some_of (child_for (target m) page.entries) (child_for-covers (target m) (least_above page.floor) (page.high + 1) page.entries inner.last_is_high floor_below (omega arith)) in
+      let child = some_value (child_for (target m) page.entries) (child_for-covers (target m) (least_above page.floor) (page.high + 1) page.entries inner.last_is_high floor_below (omega arith)) in
       let here : m.state ≡ Going number (level + 1) = at ∙ ap (Going number) (omega arith) in
       (_, goes_down level child.0 here (below, omega arith, child.1) refl)
 
@@ -137,15 +132,22 @@ module _ (moment : Moment) (levels : Levels) (sound : IsSoundWith moment levels)
       (made.0, under_latch (at ∙ ap Held same) made.1)
   result_at state number page at placed needs lawful has_level floor_below = absurd cc
 
--- a page that is to be read is there, and something is made of it
-pub page_reads_have_results : PageReadsHaveResults
-page_reads_have_results moment worker number m sound its needs =
+-- a page that is to be read is there, and exactly one machine comes of it
+pub page_is_read_well : TreeLaws → (moment : Moment) (worker number : ℕ) (m : PlainMachine) → IsSound moment → IsItsOperation moment worker m → NeedsPage m number
+    → ReadsWell moment m number
+page_is_read_well laws moment worker number m sound its needs =
     let under = its_own moment sound.0 sound.1 worker m its (begun m (λ same_need. cc)) in
-    let reads = reads_are_good tree_laws moment worker m number sound its needs in
+    let reads = reads_are_good laws moment worker m number sound its needs in
     let lawful : IsLawfulPage m.fan reads.page = subst (λ (fan : ℕ). IsLawfulPage fan reads.page) (sym (sound.1.placed worker m under).same_fan) reads.lawful in
     let made = result_at moment sound.0 sound.1 worker m under m.state number reads.page refl
     (at_state moment sound.0 sound.1 worker m m.state under refl) needs lawful reads.has_level reads.floor_below in
-    record { page = reads.page; there = reads.there; after = made.0; sees = made.1 }
+    record {
+      page = reads.page;
+      there = reads.there;
+      lawful = reads.lawful;
+      readable = record { has_level = reads.has_level; floor_below = reads.floor_below; at_most_fan = lawful.at_most_fan };
+      one_machine = record { after = made.0; sees = made.1; only = λ other sees. one_result_of_page m other made.0 number reads.page sees made.1 };
+    }
 
 -- something is made of the prime block, or the operation waits for a level
 abbrev MakesOfPrime : PlainMachine → List ℕ → Type 0
@@ -177,10 +179,28 @@ prime_at m prime some (AskPrime page debt) at needs posts = elim (top_or_not pri
 prime_at m prime some Posting at needs posts = let its = posts at in asks_for_level m prime its.0 at its.1 (slice_get prime (its.0.level + 1)) refl
 prime_at m prime some state at needs posts = absurd cc
 
--- the prime block is read with a result, or in vain
-pub prime_reads_have_results : PrimeReadsHaveResults
-prime_reads_have_results moment worker m sound its needs =
-    prime_at m moment.prime sound.1.lawful.tree.chains.some_level m.state refl needs (λ at.
+-- nothing is made of it where the operation waits
+waits_or_sees : (m : PlainMachine) (prime : List ℕ) (after : PlainMachine) → WaitsForLevel m prime → SeesPrime m prime after → ⊥
+waits_or_sees m prime after waits (begins top at last is) = let posting = waits.posting in cc
+waits_or_sees m prime after waits (asks_of_root page debt at top is) = let posting = waits.posting in cc
+waits_or_sees m prime after waits (asks_of_other page debt at other is) = let posting = waits.posting in cc
+waits_or_sees m prime after waits (finds_leftmost debt leftmost at job there is) =
+    let none = waits.not_there in
+    let posted = waits.job in
+    let same : debt ≡ waits.debt = cc in
+    let some : slice_get prime (waits.debt.level + 1) ≡ Some leftmost = ap (λ (d : Debt). slice_get prime (d.level + 1)) (sym same) ∙ there in
+    cc
+
+-- so it waits, or exactly one machine comes of it
+prime_well : (m : PlainMachine) (prime : List ℕ) → MakesOfPrime m prime → ReadsPrimeWell m prime
+prime_well m prime (inl waits) = ReadsPrimeWell.waits waits (λ after sees. waits_or_sees m prime after waits sees)
+prime_well m prime (inr made) = ReadsPrimeWell.goes_on made.0 made.1 (λ other sees. one_result_of_prime m other made.0 prime sees made.1)
+    (λ waits. waits_or_sees m prime made.0 waits made.1)
+
+-- the prime block is read so
+pub prime_is_read_well : (moment : Moment) (worker : ℕ) (m : PlainMachine) → IsSound moment → IsItsOperation moment worker m → NeedsPrime m → ReadsPrimeWell m moment.prime
+prime_is_read_well moment worker m sound its needs =
+    prime_well m moment.prime (prime_at m moment.prime sound.1.lawful.tree.chains.some_level m.state refl needs (λ at.
     let under = its_own moment sound.0 sound.1 worker m its (λ start. cc) in
     let placed = at_state moment sound.0 sound.1 worker m Posting under at in
-    (placed.2, placed.3))
+    (placed.2, placed.3)))

@@ -14,7 +14,7 @@ use Rattle.blink_steps.specs.declared.machine.Job.TheVariants.{Leaf, Parent}
 use Rattle.blink_steps.specs.declared.machine.State.TheVariants.{Going, Ended, Want, Change}
 use Rattle.blink_steps.specs.Laws.{OneChange, OneResultOfPage, OneResultOfPrime}
 use Rattle.blink_steps.specs.Machine.{PlainMachine, at_state, answered, target}
-use Rattle.blink_steps.specs.Table.{Brings, begins, asks_of_root, asks_of_other, finds_leftmost, IsTopLeftmost, IsChange, gains, loses, SeesOnItsWay, goes_right, goes_down, find_answers, insertion_wants, deletion_wants, SeesUnderLatch, is_above_high_key, insertion_finds_key, deletion_finds_none, posting_finds_separator, is_to_change, is_to_split, on_its_way, under_latch}
+use Rattle.blink_steps.specs.Table.{Brings, IsUpdate, begins, asks_of_root, asks_of_other, finds_leftmost, IsTopLeftmost, IsChange, gains, loses, SeesOnItsWay, goes_right, goes_down, find_answers, update_wants, SeesUnderLatch, is_above_high_key, insertion_finds_key, deletion_finds_none, posting_finds_separator, is_to_change, is_to_split, on_its_way, under_latch}
 
 -- ---- the prime block
 
@@ -63,8 +63,12 @@ one_way page key Here (Down child) leads leads_too = absurd (omega (arith, leads
 -- what it makes of a leaf
 abbrev made_here : PlainMachine → ℕ → PlainPage → Op → PlainMachine
 made_here m number page (Find key) = answered m Ended (answer_at (Find key) (value_at key page.entries))
-made_here m number page (Insert key pointer) = at_state m (Want number)
-made_here m number page (Delete key) = at_state m (Want number)
+made_here m number page op = at_state m (Want number)
+
+-- an update wants the leaf
+made_by_update : (m : PlainMachine) (number : ℕ) (page : PlainPage) (op : Op) → IsUpdate op → at_state m (Want number) ≡ made_here m number page op
+made_by_update m number page (Find key) is_update = absurd is_update
+made_by_update m number page op is_update = refl
 
 -- and of a page that leads on
 abbrev made_of : PlainMachine → ℕ → ℕ → PlainPage → Way → PlainMachine
@@ -86,8 +90,7 @@ is_made m number page after (goes_down level child at leads is) =
     let lower : level ≡ level + 1 - 1 = omega arith in
     record { way = Down child; level = level + 1; leads = leads; at = at; is = is ∙ ap (λ (n : ℕ). record m { remembered = number ∷ m.remembered; state = Going child n }) lower }
 is_made m number page after (find_answers level key at leads op is) = record { way = Here; level = level; leads = leads; at = at; is = is ∙ ap (made_here m number page) (sym op) }
-is_made m number page after (insertion_wants level key pointer at leads op is) = record { way = Here; level = level; leads = leads; at = at; is = is ∙ ap (made_here m number page) (sym op) }
-is_made m number page after (deletion_wants level key at leads op is) = record { way = Here; level = level; leads = leads; at = at; is = is ∙ ap (made_here m number page) (sym op) }
+is_made m number page after (update_wants level at leads is_update is) = record { way = Here; level = level; leads = leads; at = at; is = is ∙ made_by_update m number page m.op is_update }
 
 -- so it is one
 one_on_its_way : (m : PlainMachine) (number : ℕ) (page : PlainPage) (after other : PlainMachine) → SeesOnItsWay m number page after → SeesOnItsWay m number page other → after ≡ other

@@ -9,30 +9,18 @@ use Rattle.blink_batch.specs.PlainMap.{IsAscending, pointer_of}
 use Rattle.blink_page.specs.declared.limits.TheConstants.{MAX_PAGE}
 use Rattle.blink_rest.specs.Entries.{AreEntries}
 use Rattle.blink_store.specs.Store.{PlainStore, page_of}
-use Rattle.blink_steps.specs.Bounds.{IsShort}
-use Rattle.blink_steps.specs.Counts.{IsBounded, page_reads_in, moves_in}
+use Rattle.blink_steps.specs.Ways.{IsShort}
+use Rattle.blink_steps.specs.Bounds.{IsBounded}
+use Rattle.blink_steps.specs.Counts.{page_reads_in, moves_in}
 use Rattle.blink_steps.specs.Machine.{PlainMachine, NeedsNew}
 use Rattle.blink_steps.specs.Run.{PlainRun, Taken, TakesTurn, Follows, IsOpeningRun, IsNextOf}
 use Rattle.blink_steps.specs.SoundRun.{IsSoundRun}
 use Rattle.blink_steps.specs.TreeMap.{pairs_of}
-use Rattle.blink_steps.specs.Acts.{IsReady}
+use Rattle.blink_steps.specs.Acts.{CanAct}
 pub use Rattle.blink_steps.specs.Promises.{HasAnswerAt, EachOnce, IsFrontOfLane, HasUndecided, HoldOneLatchEach, IsWholeRun, IsAnsweredInOrder}
 use Rattle.blink_rest.specs.Reach.{IsReached}
 pub use Rattle.blink_steps.specs.World.{MayBegin, HasEnded, IsAtLanesEnd}
 use Rattle.blink_steps.specs.World.{WritesItsOwn}
-use Rattle.blink_steps.proofs.moment.SoundStatements.{OpeningIsSound, StepKeepsSound, StepDecides, AllIdleIsAtRest, ReadsAreGood, WritesAreGood, NewPagesAreGood, PrimeWritesAreGood, LevelsAreFew}
-
--- the lemmas about moments that those about runs rest on
-pub record MomentLaws : Type 0 where
-  pub opening_is_sound : OpeningIsSound
-  pub step_keeps_sound : StepKeepsSound
-  pub step_decides : StepDecides
-  pub all_idle_is_at_rest : AllIdleIsAtRest
-  pub reads_are_good : ReadsAreGood
-  pub writes_are_good : WritesAreGood
-  pub new_pages_are_good : NewPagesAreGood
-  pub prime_writes_are_good : PrimeWritesAreGood
-  pub levels_are_few : LevelsAreFew
 
 abbrev pub OpeningRunIsSound : Type 0
 OpeningRunIsSound = (start : PlainStore) (ops : List Op) (assignment : Assignment) (run : PlainRun) (entries : List Entry) → MayBegin start ops assignment
@@ -45,7 +33,7 @@ TurnKeepsSoundRun = (entries : List Entry) (old new : PlainRun) (taken : Taken) 
 -- a turn can be taken, if there is a number left for a new page
 abbrev pub TurnIsReady : Type 0
 TurnIsReady = (entries : List Entry) (run : PlainRun) (worker place : ℕ) (m : PlainMachine) (next : Option ℕ) → IsSoundRun entries run → IsNextOf run worker place m next
-    → (NeedsNew m → length run.shared.store.pages < MAX_PAGE) → IsReady run.shared worker m
+    → (NeedsNew m → length run.shared.store.pages < MAX_PAGE) → CanAct run.shared worker m
 
 -- along a history no operation takes more than its numbers and writes
 abbrev pub HistoryIsBounded : Type 0
@@ -62,8 +50,8 @@ NumberIsLeft = (start : PlainStore) (ops : List Op) (assignment : Assignment) (o
 
 -- the counts that a run keeps of an operation are those of its history, and none is more than the history's turns
 pub record CountsAreOf (history : List Taken) (run : PlainRun) : Type 0 where
-  pub reads : (place : ℕ) → place < length run.ops → slice_get run.reads place ≡ Some (page_reads_in history place)
-  pub moves : (place : ℕ) → place < length run.ops → slice_get run.moves place ≡ Some (moves_in history place)
+  pub reads : (place : ℕ) → place < length run.ops → slice_get run.ledger.reads place ≡ Some (page_reads_in history place)
+  pub moves : (place : ℕ) → place < length run.ops → slice_get run.ledger.moves place ≡ Some (moves_in history place)
   pub few_reads : (place : ℕ) → page_reads_in history place ≤ length history
   pub few_moves : (place : ℕ) → moves_in history place ≤ length history
 
@@ -106,12 +94,12 @@ WritesAreOwn = (entries : List Entry) (old new : PlainRun) (taken : Taken) → I
 -- an operation that has no answer yet has none at its place
 abbrev pub NextIsUnanswered : Type 0
 NextIsUnanswered = (entries : List Entry) (run : PlainRun) (worker place : ℕ) (m : PlainMachine) (next : Option ℕ) → IsSoundRun entries run → IsNextOf run worker place m next
-    → m.answer ≡ None → slice_get run.answers place ≡ Some None
+    → m.answer ≡ None → slice_get run.ledger.answers place ≡ Some None
 
 -- a key that is present is reached
 abbrev pub PresentIsReached : Type 0
 PresentIsReached = (entries : List Entry) (run : PlainRun) (key pointer : ℕ) → IsSoundRun entries run
-    → pointer_of (map_after_all entries (operations_at run.ops run.order)) key ≡ Some pointer → IsReached run.shared.store.prime (page_of run.shared.store) key pointer
+    → pointer_of (map_after_all entries (operations_at run.ops run.ledger.order)) key ≡ Some pointer → IsReached run.shared.store.prime (page_of run.shared.store) key pointer
 
 -- along a history each operation's way is short
 abbrev pub HistoryIsShort : Type 0

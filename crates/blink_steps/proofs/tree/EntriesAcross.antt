@@ -4,13 +4,13 @@ use Rattle.blink_page.specs.Entries.{added, removed, posted}
 use Rattle.blink_page.specs.Page.{IsKeyOf}
 use Rattle.blink_page.specs.Rising.{least_above, IsRising}
 use Rattle.blink_page.specs.declared.limits.TheConstants.{GREATEST_KEY}
-use Rattle.blink_page.proofs.LevelLemmas.{added-append_front, added-append_rest, removed-append_front, removed-append_rest, posted-append_front, posted-append_rest}
+use Rattle.blink_page.proofs.Offered.{added-append_front, added-append_rest, posted-append_front, posted-append_rest, removed-append_front, removed-append_rest}
 use Rattle.blink_rest.specs.Chain.{Cell, Pages}
 use Rattle.blink_rest.specs.Level.{entries_along}
-use Rattle.blink_rest.proofs.LevelLemmas.{line_rising}
+use Rattle.blink_rest.proofs.Offered.{entries_along-append, line_rising}
 use Rattle.blink_steps.specs.TreeWithDebts.{Levels}
-use Rattle.blink_steps.proofs.tree.StandLemmas.{Stands, entries_along-append}
-use Rattle.blink_steps.proofs.tree.EditLemmas.{cells_after, cells_after-is}
+use Rattle.blink_steps.proofs.tree.WherePagesStand.{Stands}
+use Rattle.blink_steps.proofs.tree.PageGivesWay.{cells_after, cells_after-is}
 
 module _ (fan : ℕ) (prime : List ℕ) (pages : Pages) (levels : Levels) (level : ℕ) (c : Cell) (here : Stands fan prime pages levels level c) where
   -- the entries of the pages before the page

@@ -3,22 +3,16 @@ use Rattle.std.proofs.Common.{◌≡◌, ◌≢◌, ℕ, ◌+◌, ◌≤◌, Opt
 use Rattle.std.proofs.lemmas.Bool.{cases_eq}
 use Rattle.blink_page.specs.Page.{PlainPage, IsLawfulPage, root_over}
 use Rattle.blink_page.specs.declared.limits.TheConstants.{GREATEST_KEY}
-use Rattle.blink_store.proofs.ListLemmas.{slice_get-push_same, slice_get-push_other}
+use Rattle.blink_store.proofs.Offered.{slice_get-push_other, slice_get-push_same}
 use Rattle.blink_rest.specs.Chain.{Cell, Pages, InLine, IsChain}
 use Rattle.blink_rest.specs.Level.{entries_along}
+use Rattle.blink_rest.proofs.Offered.{chain_begins}
 use Rattle.blink_steps.specs.Tree.{IsTree}
 use Rattle.blink_steps.specs.TreeWithDebts.{Levels}
-use Rattle.blink_rest.specs.References.{Refers, BeginsAt, IsHighKey}
-use Rattle.blink_steps.proofs.tree.TreeStatements.{FewLevels, GrowthKeeps, IsToGrow, RootGrows}
-use Rattle.blink_steps.proofs.tree.StandLemmas.{standing_there}
-use Rattle.blink_steps.proofs.tree.EditLemmas.{with_level, with_level-same, with_level-other}
-
--- the first page of a chain has the number that leads to it, and no floor
-chain_begins : (fan level leftmost : ℕ) (pages : Pages) (cells : List Cell) → IsChain fan pages level leftmost cells → BeginsAt cells leftmost None
-chain_begins fan level leftmost pages [] chain = absurd (cc (chain.in_line.1))
-chain_begins fan level leftmost pages (d ∷ cells) chain =
-    let number : d.number ≡ leftmost = cc (chain.in_line.0) in
-    record { cell = d; stands = inl refl; same_number = number; same_floor = chain.in_line.1 }
+use Rattle.blink_rest.specs.References.{Refers, IsHighKey}
+use Rattle.blink_steps.proofs.tree.TreeStatements.{FewLevels, GrowthKeeps, RootGrows, CanGrow}
+use Rattle.blink_steps.proofs.tree.WherePagesStand.{standing_there}
+use Rattle.blink_steps.proofs.tree.PageGivesWay.{with_level, with_level-same, with_level-other}
 
 -- the last page of a line with pages has the key where the line ends
 line_last : (fan level key : ℕ) (floor link : Option ℕ) (d : Cell) (cells : List Cell) → InLine fan level floor link (d ∷ cells) (Some key) None → IsHighKey (d ∷ cells) key
@@ -35,7 +29,7 @@ chain_ends fan level leftmost pages [] chain = absurd (cc (chain.in_line.1))
 chain_ends fan level leftmost pages (d ∷ cells) chain = line_last fan level GREATEST_KEY None (Some leftmost) d cells chain.in_line
 
 module _ (fan : ℕ) (prime : List ℕ) (pages : Pages) (levels : Levels) (level : ℕ) (c : Cell) (right root : ℕ) (tree : IsTree fan prime pages levels)
-    (grows : IsToGrow fan prime pages levels level c right root) (few : length prime ≤ 20) where
+    (grows : CanGrow fan prime pages levels level c right root) (few : length prime ≤ 20) where
   -- the new root
   abbrev new_root : PlainPage
   new_root = root_over (level + 1) c.page.high c.number right

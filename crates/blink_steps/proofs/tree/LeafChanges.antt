@@ -3,10 +3,10 @@ use Rattle.std.proofs.Common.{◌≢◌, ◌+◌, List, [], ◌∷◌, ap, ◌�
 use Rattle.blink_rest.specs.Chain.{Cell}
 use Rattle.blink_rest.specs.Level.{entries_along}
 use Rattle.blink_steps.proofs.tree.TreeStatements.{LeafGainKeeps, LeafLossKeeps}
-use Rattle.blink_steps.proofs.tree.StandLemmas.{stands_so}
-use Rattle.blink_steps.proofs.tree.EditLemmas.{levels_after, levels_after-same, levels_after-other}
+use Rattle.blink_steps.proofs.tree.WherePagesStand.{stands_so}
+use Rattle.blink_steps.proofs.tree.PageGivesWay.{levels_after, levels_after-same, levels_after-other}
 use Rattle.blink_steps.proofs.tree.EntriesAcross.{added_across, removed_across}
-use Rattle.blink_steps.proofs.tree.ReplaceLemmas.{is_replaced}
+use Rattle.blink_steps.proofs.tree.PageReplaced.{is_replaced}
 
 -- one more entry in a leaf is one more in its level
 pub leaf_gain_keeps : LeafGainKeeps

@@ -1,29 +1,28 @@
 -- A separator is posted to an inner page.
 use Rattle.std.proofs.Common.{◌≡◌, ◌≢◌, ℕ, ◌+◌, leb, Option, Some, None, is_some, List, [], ◌∷◌, inl, inr, ap, ◌∙◌, arith, append-nil}
-use Rattle.std.proofs.lemmas.Bool.{cases_eq}
+use Rattle.std.proofs.lemmas.Bool.{cases_eq, cond_both}
 use Rattle.blink_page.specs.Entries.{value_at, posted}
 use Rattle.blink_page.specs.Page.{IsKeyOf}
 use Rattle.blink_page.specs.declared.limits.TheConstants.{GREATEST_KEY}
-use Rattle.blink_page.proofs.EntryLemmas.{in_each_case}
-use Rattle.blink_page.proofs.LevelLemmas.{posted_there, others_there}
+use Rattle.blink_page.proofs.Offered.{others_there, posted_there}
 use Rattle.blink_rest.specs.Chain.{Cell, Pages}
 use Rattle.blink_rest.specs.Level.{entries_along}
-use Rattle.blink_rest.proofs.LevelLemmas.{chain_covers}
+use Rattle.blink_rest.proofs.Offered.{chain_covers}
 use Rattle.blink_steps.specs.Tree.{IsTree}
 use Rattle.blink_steps.specs.TreeWithDebts.{Levels}
 use Rattle.blink_rest.specs.References.{Refers, BeginsAt, IsHighKey}
 use Rattle.blink_steps.proofs.tree.TreeStatements.{GainsSeparator, PostingKeeps}
-use Rattle.blink_steps.proofs.tree.StandLemmas.{Stands, stands_so}
-use Rattle.blink_steps.proofs.tree.EditLemmas.{cells_after, levels_after, levels_after-same, levels_after-other}
+use Rattle.blink_steps.proofs.tree.WherePagesStand.{Stands, stands_so}
+use Rattle.blink_steps.proofs.tree.PageGivesWay.{cells_after, levels_after, levels_after-same, levels_after-other}
 use Rattle.blink_steps.proofs.tree.EntriesAcross.{posted_across}
-use Rattle.blink_steps.proofs.tree.ReplaceLemmas.{is_replaced}
+use Rattle.blink_steps.proofs.tree.PageReplaced.{is_replaced}
 
 -- a posted high key, with the page that begins there, leads below like the rest
 pub refers_posted : (lower : List Cell) (key child : ℕ) → IsHighKey lower key → BeginsAt lower child (Some key)
     → (floor : Option ℕ) (entries : List (ℕ × ℕ)) → Refers lower floor entries → Refers lower floor (posted (key, child) entries)
 refers_posted lower key child high begins floor [] refers = tt
 refers_posted lower key child high begins floor ((separator, old) ∷ rest) refers =
-    in_each_case (Refers lower floor) (leb key separator) _ _
+    cond_both (leb key separator) _ _ (Refers lower floor)
     (λ first. (high, refers.1, (refers.0, begins, refers.2)))
     (λ later. (refers.0, refers.1, refers_posted lower key child high begins (Some separator) rest refers.2))
 

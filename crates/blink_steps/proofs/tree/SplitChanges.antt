@@ -1,25 +1,16 @@
 -- A leaf is split, or an inner page.
-use Rattle.std.proofs.Common.{◌≡◌, ℕ, ◌+◌, ◌<◌, ap, ◌∙◌, arith}
-use Rattle.std.proofs.lemmas.Bool.Decides.{nat_tests}
-use Rattle.blink_page.specs.Entries.{added, posted}
+use Rattle.std.proofs.Common.{◌≡◌, ◌+◌, ◌<◌, ap, ◌∙◌, arith}
+use Rattle.blink_page.specs.Entries.{posted}
 use Rattle.blink_page.specs.Limits.{IsPageNumber}
-use Rattle.blink_page.specs.Page.{PlainPage, entries_with}
+use Rattle.blink_page.proofs.Offered.{entries_with-leaf, entries_with-inner}
 use Rattle.blink_rest.specs.Level.{entries_along}
 use Rattle.blink_steps.proofs.tree.TreeStatements.{LeafSplitKeeps}
 use Rattle.blink_steps.proofs.tree.TreeStatements.{InnerSplitKeeps}
-use Rattle.blink_steps.proofs.tree.StandLemmas.{stands_so}
-use Rattle.blink_steps.proofs.tree.EditLemmas.{levels_after-same}
+use Rattle.blink_steps.proofs.tree.WherePagesStand.{stands_so}
+use Rattle.blink_steps.proofs.tree.PageGivesWay.{levels_after-same}
 use Rattle.blink_steps.proofs.tree.EntriesAcross.{added_across}
 use Rattle.blink_steps.proofs.tree.PostingChanges.{posted_refers, gains_separator, leaves_same}
 use Rattle.blink_steps.proofs.tree.SplitLevel.{halves, levels_split, entries_of_halves, is_split}
-
--- one more entry in a leaf is one added
-entries_with-leaf : (p : PlainPage) (entry : ℕ × ℕ) → p.level ≡ 0 → entries_with p entry ≡ added entry p.entries
-entries_with-leaf p entry leaf = grind (arith, nat_tests)
-
--- in an inner page it is one posted
-entries_with-inner : (p : PlainPage) (entry : ℕ × ℕ) → 0 < p.level → entries_with p entry ≡ posted entry p.entries
-entries_with-inner p entry inner = grind (arith, nat_tests)
 
 -- a leaf that is split keeps its entries, and the new one
 pub leaf_split_keeps : LeafSplitKeeps

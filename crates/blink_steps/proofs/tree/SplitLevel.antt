@@ -5,36 +5,35 @@ use Rattle.blink_page.specs.Page.{PlainPage, IsLawfulPage, entries_with, with_en
 use Rattle.blink_page.specs.Rising.{least_above}
 use Rattle.blink_page.specs.Split.{lower_half, upper_half, separator_of}
 use Rattle.blink_page.specs.declared.limits.TheConstants.{GREATEST_KEY}
-use Rattle.blink_page.proofs.PageLemmas.{lawful_entries_with, length-entries_with}
-use Rattle.blink_page.proofs.SplitLemmas.{lower-append-upper, separator_above_floor, separator_below_high, lawful_lower, lawful_upper}
+use Rattle.blink_page.proofs.Offered.{lawful_entries_with, lawful_lower, lawful_upper, length-entries_with, lower-append-upper, separator_above_floor, separator_below_high}
 use Rattle.blink_rest.specs.Chain.{Cell, Pages, StandsIn}
 use Rattle.blink_rest.specs.Level.{entries_along}
-use Rattle.blink_rest.proofs.ChainLemmas.{stands_of}
+use Rattle.blink_rest.proofs.Offered.{stands_of}
 use Rattle.blink_steps.specs.Tree.{IsTree}
 use Rattle.blink_steps.specs.TreeWithDebts.{Levels, IsInChain}
 use Rattle.blink_rest.specs.References.{Refers, IsHighKey}
-use Rattle.blink_steps.proofs.tree.TreeStatements.{IsToSplit, IsSplitIn}
-use Rattle.blink_steps.proofs.tree.StandLemmas.{Stands, stands_cases}
-use Rattle.blink_steps.proofs.tree.EditLemmas.{TakesPlace, cells_after, levels_after, levels_after-other, tree_stays, each_stays}
-use Rattle.blink_steps.proofs.tree.ReplaceLemmas.{grows_after, high_keys_after, now_cases, now_stands, length_now}
+use Rattle.blink_steps.proofs.tree.TreeStatements.{CanBeSplit, IsSplitIn}
+use Rattle.blink_steps.proofs.tree.WherePagesStand.{Stands, stands_cases}
+use Rattle.blink_steps.proofs.tree.PageGivesWay.{TakesPlace, cells_after, levels_after, levels_after-other, tree_stays, each_stays}
+use Rattle.blink_steps.proofs.tree.PageReplaced.{grows_after, high_keys_after, now_cases, now_stands, length_now}
 
 module _ (fan : ℕ) (prime : List ℕ) (pages after : Pages) (levels : Levels) (level : ℕ) (c : Cell) (entry : ℕ × ℕ) (number : ℕ) (tree : IsTree fan prime pages levels)
-    (here : Stands fan prime pages levels level c) (split : IsToSplit fan pages after levels level c entry number) (leads : 0 < c.page.level → IsPageNumber entry.1) where
+    (here : Stands fan prime pages levels level c) (split : CanBeSplit fan pages after levels level c entry number) (leads : 0 < c.page.level → IsPageNumber entry.1) where
   -- the page's entries and the one that it gets
-  abbrev pub overfull : List (ℕ × ℕ)
-  overfull = entries_with c.page entry
+  abbrev pub all_entries : List (ℕ × ℕ)
+  all_entries = entries_with c.page entry
 
   -- what parts the halves
   abbrev pub separator : ℕ
-  separator = separator_of fan overfull
+  separator = separator_of fan all_entries
 
   -- the half that stays
   abbrev pub lower : PlainPage
-  lower = lower_half fan number c.page overfull
+  lower = lower_half fan number c.page all_entries
 
   -- the half that goes to the new page
   abbrev pub upper : PlainPage
-  upper = upper_half fan c.page overfull
+  upper = upper_half fan c.page all_entries
 
   -- the lower half has the page's number
   abbrev pub lower_cell : Cell
@@ -49,24 +48,24 @@ module _ (fan : ℕ) (prime : List ℕ) (pages after : Pages) (levels : Levels) 
   halves = lower_cell ∷ upper_cell ∷ []
 
   -- they are one more than the page has room for
-  one_too_many : length overfull ≡ fan + 1
+  one_too_many : length all_entries ≡ fan + 1
   one_too_many = length-entries_with fan c.page here.lawful entry.0 entry.1 split.belongs ∙ ap (λ (n : ℕ). n + 1) split.full
 
   -- a page with one entry's more room may have them
-  lawful_overfull : IsLawfulPage (fan + 1) (with_entries c.page overfull)
+  lawful_overfull : IsLawfulPage (fan + 1) (with_entries c.page all_entries)
   lawful_overfull = lawful_entries_with fan c.page here.lawful entry.0 entry.1 split.belongs split.absent split.value_in_range leads
 
   -- the separator is above the page's floor
   above_floor : least_above c.page.floor ≤ separator
-  above_floor = separator_above_floor fan number split.fan_in_range c.page overfull one_too_many lawful_overfull
+  above_floor = separator_above_floor fan number split.fan_in_range c.page all_entries one_too_many lawful_overfull
 
   -- and below its high key
   below_high : separator < c.page.high
-  below_high = separator_below_high fan number split.fan_in_range c.page overfull one_too_many lawful_overfull
+  below_high = separator_below_high fan number split.fan_in_range c.page all_entries one_too_many lawful_overfull
 
   -- the halves have the page's entries and the new one
-  pub entries_of_halves : entries_along halves ≡ overfull
-  entries_of_halves = ap (λ (es : List (ℕ × ℕ)). lower.entries ++ es) (append-nil upper.entries) ∙ lower-append-upper fan overfull
+  pub entries_of_halves : entries_along halves ≡ all_entries
+  entries_of_halves = ap (λ (es : List (ℕ × ℕ)). lower.entries ++ es) (append-nil upper.entries) ∙ lower-append-upper fan all_entries
 
   -- the new number is not the page's
   other_number : number ≢ c.number
@@ -80,8 +79,8 @@ module _ (fan : ℕ) (prime : List ℕ) (pages after : Pages) (levels : Levels) 
       refl,
       refl,
       here.has_level,
-      lawful_lower fan number split.fan_in_range c.page overfull one_too_many lawful_overfull split.new_number,
-      (refl, refl, here.has_level, lawful_upper fan number split.fan_in_range c.page overfull one_too_many lawful_overfull, (refl, refl)),
+      lawful_lower fan number split.fan_in_range c.page all_entries one_too_many lawful_overfull split.new_number,
+      (refl, refl, here.has_level, lawful_upper fan number split.fan_in_range c.page all_entries one_too_many lawful_overfull, (refl, refl)),
     );
     begins = record { cell = lower_cell; stands = inl refl; same_number = refl; same_floor = refl };
     ends = record { cell = upper_cell; stands = inr (inl refl); same_high = refl };

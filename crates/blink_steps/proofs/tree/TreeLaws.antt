@@ -1,12 +1,12 @@
 -- The laws of trees, each proved.
 use Rattle.blink_steps.proofs.tree.TreeStatements.{TreeLaws}
-use Rattle.blink_steps.proofs.tree.TreeReading.{cells_are_of_level, numbers_differ, levels_are_named, leftmost_begins, only_is_leftmost, right_begins, level_keeps, top_debt_has_two}
-use Rattle.blink_steps.proofs.tree.TreeChildren.{separators_are_high_keys, children_begin}
-use Rattle.blink_steps.proofs.tree.TreeReach.{keys_are_reached}
-use Rattle.blink_steps.proofs.tree.TreeAtRest.{rest_is_quiet}
-use Rattle.blink_steps.proofs.tree.TreeQuiet.{quiet_is_rest}
-use Rattle.blink_steps.proofs.tree.TreeHeight.{few_levels}
-use Rattle.blink_steps.proofs.tree.FreeLemmas.{free_write_keeps}
+use Rattle.blink_steps.proofs.tree.PagesOfLevels.{cells_are_of_level, numbers_differ, levels_are_named, leftmost_begins, only_is_leftmost, right_begins, level_keeps, top_debt_has_two}
+use Rattle.blink_steps.proofs.tree.ChildrenBegin.{separators_are_high_keys, children_begin}
+use Rattle.blink_steps.proofs.tree.KeysAreReached.{keys_are_reached}
+use Rattle.blink_steps.proofs.tree.RestIsQuiet.{rest_is_quiet}
+use Rattle.blink_steps.proofs.tree.QuietIsRest.{quiet_is_rest}
+use Rattle.blink_steps.proofs.tree.FewLevels.{few_levels}
+use Rattle.blink_steps.proofs.tree.FreeWriteKeepsTree.{free_write_keeps}
 use Rattle.blink_steps.proofs.tree.LeafChanges.{leaf_gain_keeps, leaf_loss_keeps}
 use Rattle.blink_steps.proofs.tree.PostingChanges.{posting_keeps}
 use Rattle.blink_steps.proofs.tree.SplitChanges.{leaf_split_keeps, inner_split_keeps}

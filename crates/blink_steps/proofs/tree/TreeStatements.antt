@@ -204,7 +204,7 @@ pub record IsSplitIn (fan : ℕ) (prime : List ℕ) (after : Pages) (levels new 
   pub others_same : (other : ℕ) → other ≢ level → new other ≡ levels other
 
 -- what a split begins with: a full page that its entry belongs to, and the upper half already written
-pub record IsToSplit (fan : ℕ) (pages after : Pages) (levels : Levels) (level : ℕ) (c : Cell) (entry : ℕ × ℕ) (number : ℕ) : Type 0 where
+pub record CanBeSplit (fan : ℕ) (pages after : Pages) (levels : Levels) (level : ℕ) (c : Cell) (entry : ℕ × ℕ) (number : ℕ) : Type 0 where
   pub fan_in_range : IsFan fan
   pub stands : StandsIn c (levels level)
   pub full : length c.page.entries ≡ fan
@@ -223,7 +223,7 @@ pub record LeafSplits (fan : ℕ) (prime : List ℕ) (after : Pages) (levels : L
 
 abbrev pub LeafSplitKeeps : Type 0
 LeafSplitKeeps = (fan : ℕ) (prime : List ℕ) (pages after : Pages) (levels : Levels) (c : Cell) (entry : ℕ × ℕ) (number : ℕ) → IsTree fan prime pages levels
-    → IsToSplit fan pages after levels 0 c entry number → LeafSplits fan prime after levels c entry number
+    → CanBeSplit fan pages after levels 0 c entry number → LeafSplits fan prime after levels c entry number
 
 pub record InnerSplits (fan : ℕ) (prime : List ℕ) (after : Pages) (levels : Levels) (level : ℕ) (c : Cell) (entry : ℕ × ℕ) (number : ℕ) : Type 0 where
   pub new : Levels
@@ -233,11 +233,11 @@ pub record InnerSplits (fan : ℕ) (prime : List ℕ) (after : Pages) (levels : 
 
 abbrev pub InnerSplitKeeps : Type 0
 InnerSplitKeeps = (fan : ℕ) (prime : List ℕ) (pages after : Pages) (levels : Levels) (level : ℕ) (c : Cell) (entry : ℕ × ℕ) (number : ℕ) → IsTree fan prime pages levels
-    → IsToSplit fan pages after levels (level + 1) c entry number → LeadsBelow levels level entry → IsPageNumber entry.1
+    → CanBeSplit fan pages after levels (level + 1) c entry number → LeadsBelow levels level entry → IsPageNumber entry.1
     → InnerSplits fan prime after levels level c entry number
 
 -- a new root is named over the two halves of the old one
-pub record IsToGrow (fan : ℕ) (prime : List ℕ) (pages : Pages) (levels : Levels) (level : ℕ) (c : Cell) (right root : ℕ) : Type 0 where
+pub record CanGrow (fan : ℕ) (prime : List ℕ) (pages : Pages) (levels : Levels) (level : ℕ) (c : Cell) (right root : ℕ) : Type 0 where
   pub fan_in_range : IsFan fan
   pub numbers_in_range : (number : ℕ) (page : PlainPage) → pages number ≡ Some page → IsPageNumber number
   pub is_top : IsTopLeftmost prime level c.number
@@ -256,7 +256,7 @@ pub record RootGrows (fan : ℕ) (prime : List ℕ) (pages : Pages) (levels : Le
 
 abbrev pub GrowthKeeps : Type 0
 GrowthKeeps = (fan : ℕ) (prime : List ℕ) (pages : Pages) (levels : Levels) (level : ℕ) (c : Cell) (right root : ℕ) → IsTree fan prime pages levels
-    → IsToGrow fan prime pages levels level c right root → RootGrows fan prime pages levels level c right root
+    → CanGrow fan prime pages levels level c right root → RootGrows fan prime pages levels level c right root
 
 -- all of them
 pub record TreeLaws : Type 0 where

@@ -5,42 +5,42 @@ use Rattle.blink_batch.specs.Cut.{Assignment, IsLawfulCut}
 use Rattle.blink_steps.specs.Headline.{IsOneThread}
 use Rattle.blink_batch.specs.declared.Entry.{Entry}
 use Rattle.blink_store.specs.Store.{PlainStore}
-use Rattle.blink_steps.specs.Bounds.{IsShort}
+use Rattle.blink_steps.specs.Ways.{IsShort}
 use Rattle.blink_steps.specs.Machine.{PlainMachine}
 use Rattle.blink_steps.specs.Promises.{KeepsItsPromises}
 use Rattle.blink_steps.specs.Run.{IsNextOf}
-use Rattle.blink_steps.specs.SoundRun.{IsShaped, IsSoundRun, IsTurnReady}
+use Rattle.blink_steps.specs.SoundRun.{IsShaped, IsSoundRun, CanTakeTurn}
 use Rattle.blink_steps.specs.World.{PlainWorld, IsWorldOf, IsWorld, IsReplay, HasEnded}
 use Rattle.blink_steps.proofs.runs.RunLaws.{run_laws}
 use Rattle.blink_steps.proofs.runs.RunStatements.{CountsAreOf}
-use Rattle.blink_steps.proofs.worlds.StartEntries.{entries_at_start}
-use Rattle.blink_steps.proofs.worlds.WorldLemmas.{counts_with, place_within, promises_with, shaped_with, sound_now, turn_ready}
+use Rattle.blink_steps.proofs.worlds.EntriesAtStart.{entries_at_start}
+use Rattle.blink_steps.proofs.worlds.WorldsGoFurther.{counts_with, place_within, promises_with, shaped_with, sound_now, turn_can_be_taken}
 
 -- what is promised of a world
-pub promises : (start : PlainStore) (world : PlainWorld) (of : IsWorldOf start world) → KeepsItsPromises start world of
-promises start world of = let found = entries_at_start start of.may_begin.at_rest in promises_with run_laws start world of found.0 found.1
+pub promises : (start : PlainStore) (world : PlainWorld) (is_world : IsWorldOf start world) → KeepsItsPromises start world is_world
+promises start world is_world = let found = entries_at_start start is_world.may_begin.at_rest in promises_with run_laws start world is_world found.0 found.1
 
 -- its lists have their lengths
 pub shaped : (world : PlainWorld) → IsWorld world → IsShaped world.run
 shaped world is = let found = entries_at_start is.0 is.1.may_begin.at_rest in shaped_with run_laws is.0 world is.1 found.0 found.1
 
 -- a worker's turn can be taken
-pub ready : (world : PlainWorld) → IsWorld world → (worker : ℕ) → worker < world.run.assignment.workers → length world.schedule + 1 < 2 ^ 64 → IsTurnReady world.run worker
-ready world is worker within short = let found = entries_at_start is.0 is.1.may_begin.at_rest in turn_ready run_laws is.0 world is.1 found.0 found.1 worker within short
+pub can_take_turn : (world : PlainWorld) → IsWorld world → (worker : ℕ) → worker < world.run.assignment.workers → length world.schedule + 1 < 2 ^ 64 → CanTakeTurn world.run worker
+can_take_turn world is worker within short = let found = entries_at_start is.0 is.1.may_begin.at_rest in turn_can_be_taken run_laws is.0 world is.1 found.0 found.1 worker within short
 
 -- the pages that an operation has read are counted, and so are its steps
-pub counted : (start : PlainStore) (world : PlainWorld) (of : IsWorldOf start world) → CountsAreOf of.history world.run
-counted start world of = let found = entries_at_start start of.may_begin.at_rest in counts_with run_laws start world of found.0 found.1
+pub counted : (start : PlainStore) (world : PlainWorld) (is_world : IsWorldOf start world) → CountsAreOf is_world.history world.run
+counted start world is_world = let found = entries_at_start start is_world.may_begin.at_rest in counts_with run_laws start world is_world found.0 found.1
 
 -- its run is sound, whatever map its tree kept at the start
 pub sound : (world : PlainWorld) → IsWorld world → (entries : List Entry) × IsSoundRun entries world.run
 sound world is = let found = entries_at_start is.0 is.1.may_begin.at_rest in (found.0, sound_now run_laws is.0 world is.1 found.0 found.1)
 
 -- the way of each of its operations is short
-pub short : (start : PlainStore) (world : PlainWorld) (of : IsWorldOf start world) → IsShort start of.history world.run
-short start world of =
-    let found = entries_at_start start of.may_begin.at_rest in
-    run_laws.history_is_short start world.run.ops world.run.assignment of.opening world.run of.history found.0 of.may_begin found.1.ascending found.1.kept of.is_opening of.follows
+pub short : (start : PlainStore) (world : PlainWorld) (is_world : IsWorldOf start world) → IsShort start is_world.history world.run
+short start world is_world =
+    let found = entries_at_start start is_world.may_begin.at_rest in
+    run_laws.history_is_short start world.run.ops world.run.assignment is_world.opening world.run is_world.history found.0 is_world.may_begin found.1.ascending found.1.kept is_world.is_opening is_world.follows
 
 -- the place of a worker's next operation is one of the batch
 pub place_of_next : (world : PlainWorld) → IsWorld world → (worker place : ℕ) (m : PlainMachine) (next : Option ℕ) → IsNextOf world.run worker place m next → place < length world.run.ops

@@ -11,9 +11,9 @@ use blink_page::Page;
 use std::mem;
 
 impl Machine {
-    /// It has got the latch, written the page or the prime block, or let the latch go. `new` is the number of the page,
-    /// where that was a new one.
-    pub(crate) fn done(&mut self, new: u32)
+    /// It has got the latch, written the page or the prime block, or let the latch go. `new` is the number of the page, from 1 to
+    /// 1,048,575, where that was a new one, and else 0.
+    pub fn done(&mut self, new: u32)
         requires needs { NeedsNoRead self.old }
         requires new_number { NeedsNew self.old → IsPageNumber new }
         ensures { self.new ≡ done self.old new }
@@ -48,10 +48,10 @@ impl Machine {
         requires new_number { IsPageNumber new }
         ensures { self.new ≡ halved self.old page before.now new }
     {
-        let (lower, _, separator) = self.split(before, new);
+        let lower = before.lower_with(self.fan, self.target(), self.value(), new);
         let debt = Debt {
             level: before.level,
-            separator,
+            separator: lower.high,
             page: new,
         };
         self.state = State::SplitOld(page, lower, debt);

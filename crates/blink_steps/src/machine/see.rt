@@ -13,9 +13,9 @@ use blink_batch::{Answer, Op};
 use blink_page::{Page, Post, Prime, Put, Way};
 
 impl Machine {
-    /// It has read the prime block. `false` says that it has to read it again, since the level to post to isn't there
-    /// yet.
-    pub(crate) fn saw_prime(&mut self, prime: &Prime) -> bool
+    /// It has read the prime block that it needs, which has fewer than 21 levels. `false` says that it waits: the level to
+    /// post to isn't there yet, so that it has to read the prime block again. Then it is as it was.
+    pub fn saw_prime(&mut self, prime: &Prime) -> bool
         requires needs { NeedsPrime self.old }
         requires few_levels { length prime.now < LEVELS }
         ensures moved { OnTrue result (SeesPrime self.old prime.now self.new) }
@@ -73,7 +73,7 @@ impl Machine {
     }
 
     /// Whether it would read the prime block in vain, since the level to post to isn't there yet.
-    pub(crate) fn waits_for_level(&self, prime: &Prime) -> bool
+    pub fn waits_for_level(&self, prime: &Prime) -> bool
         ensures { IsTrue result ↔ WaitsForLevel self.now prime.now }
     {
         match (&self.state, self.job) {
@@ -84,8 +84,9 @@ impl Machine {
         }
     }
 
-    /// It has read the page that it needs.
-    pub(crate) fn saw_page(&mut self, page: &Page)
+    /// It has read the page that it needs, which has the level that its state says, no floor or one below its key, and at most
+    /// `fan` entries; in a sound moment each page that it needs is such a page.
+    pub fn saw_page(&mut self, page: &Page)
         requires needs { NeedsSomePage self.old }
         requires level { page.now.level ≡ level_read self.old }
         requires below { least_above page.now.floor ≤ target self.old }

@@ -1,19 +1,17 @@
 //! What an operation writes.
-ghost use Rattle.std.specs.Prelude.{◌≡◌, ◌<◌};
-ghost use Rattle.blink_page.specs.declared.limits.TheConstants.{GREATEST_KEY};
+ghost use Rattle.std.specs.Prelude.{◌≡◌};
 ghost use Rattle.blink_page.specs.Limits.{IsPageNumber};
-ghost use Rattle.blink_page.specs.Split.{lower_half, upper_half};
 ghost use Rattle.blink_steps.specs.Machine.{NeedsNew, NeedsPrimeWrite};
-ghost use Rattle.blink_steps.specs.Table.{page_out, PrimeOut, overfull, debt_of_split};
-ghost use Rattle.blink_steps.specs.Kept.{IsToSplit};
+ghost use Rattle.blink_steps.specs.Table.{page_out, PrimeOut};
 ghost use Rattle.blink_steps.specs.Needs.{NeedsSomeWrite};
 
 use super::{Machine, State};
 use blink_page::{Page, Prime};
 
 impl Machine {
-    /// The page that it wants written. `new` is the number of the page, where that is a new one.
-    pub(crate) fn page_out(&self, new: u32) -> Page
+    /// The page that the wanted write writes. `new` is the number that the page gets, from 1 to 1,048,575, where it is a new one,
+    /// and else 0.
+    pub fn page_out(&self, new: u32) -> Page
         requires needs { NeedsSomeWrite self.now }
         requires new_number { NeedsNew self.now → IsPageNumber new }
         ensures { result ≡ page_out self.now new }
@@ -21,8 +19,7 @@ impl Machine {
         match &self.state {
             State::Change(_, changed, _) => changed.copy(),
             State::SplitNew(_, before) => {
-                let (_, upper, _) = self.split(before, new);
-                upper
+                before.upper_with(self.fan, self.target(), self.value())
             }
             State::SplitOld(_, lower, _) => lower.copy(),
             State::Root(page, debt, _) => {
@@ -32,8 +29,8 @@ impl Machine {
         }
     }
 
-    /// The prime block that it wants written.
-    pub(crate) fn prime_out(&self) -> Prime
+    /// The prime block that the wanted write writes: the one that it has read, with its new root added.
+    pub fn prime_out(&self) -> Prime
         requires { NeedsPrimeWrite self.now }
         ensures { PrimeOut self.now result }
     {
@@ -43,26 +40,5 @@ impl Machine {
         let mut prime = read.copy();
         prime.grow(*root);
         prime
-    }
-
-    // The two halves of a full page that gets its entry, and the separator between them.
-    pub(super) fn split(&self, before: &Page, new: u32) -> (Page, Page, u64)
-        requires to_split { IsToSplit self.now before.now }
-        requires new_number { IsPageNumber new }
-        ensures lower { result.0
-            ≡ lower_half self.now.fan new before.now (overfull self.now before.now) }
-        ensures upper { result.1
-            ≡ upper_half self.now.fan before.now (overfull self.now before.now) }
-        ensures separator { result.2 ≡ (debt_of_split self.now before.now new).separator }
-        ensures parts_keys { result.2 < GREATEST_KEY }
-    {
-        let (lower, upper, separator) = before.split_with(
-            self.fan,
-            self.target(),
-            self.value(),
-            new,
-        );
-        let _floor = upper.floor;
-        (lower, upper, separator)
     }
 }

@@ -96,7 +96,7 @@ fn an_empty_leaf_takes_a_key(rt: HostRuntime) -> Result<(), Fail> {
 }
 
 #[test]
-fn a_stranger_takes_no_turn(rt: HostRuntime) -> Result<(), Fail> {
+fn a_number_that_is_no_workers_takes_no_turn(rt: HostRuntime) -> Result<(), Fail> {
     let rest = Rest::empty(rt.alloc(), 4)?;
     let mut world = world_of(rt.alloc(), rest, &[Op::Find(7)], 1, &[0], &[])?;
     assert_eq!(rt; world.step(1), Err(StepError::NoWorker(1)));

@@ -56,13 +56,13 @@ fn a_key_of_two_workers_is_answered_in_the_order_of_deciding(rt: HostRuntime) ->
 }
 
 #[test]
-fn a_schedule_names_a_stranger(rt: HostRuntime) -> Result<(), Fail> {
+fn a_schedule_names_no_worker(rt: HostRuntime) -> Result<(), Fail> {
     let rest = Rest::empty(rt.alloc(), 4)?;
     let batch = Batch::new(vec![in rt.alloc(); Op::Find(7)]?)?;
     let lanes = Lanes::new(&batch, 1, vec![in rt.alloc(); 0]?)?;
     match replay(rt.alloc(), rest, batch, lanes, &[0, 3, 5]) {
         Err(refusal) => assert_eq!(rt; refusal, StepError::NoWorker(3)),
-        Ok(_) => panic!(rt; "a stranger took a turn"),
+        Ok(_) => panic!(rt; "a number that is no worker's took a turn"),
     }
     Ok(())
 }

@@ -1,6 +1,6 @@
 use Rattle.std.proofs.Common.{nat_lt, rules}
 use Rattle.std.proofs.lemmas.List.Sorted.{answers_always}
-use Rattle.blink_batch.proofs.RangeLemmas.{ascending_by_answer}
+use Rattle.blink_batch.proofs.LaneAmongRanges.{ascending_by_answer}
 use Rattle.blink_batch.proofs.cut.are_ascending.Goals as goal
 
 -- the closure answers whether a bound is below the next

@@ -1,6 +1,6 @@
 use Rattle.std.proofs.Common.{below_more, arith}
 use Rattle.blink_batch.specs.Cut.{IsSplitKey}
-use Rattle.blink_batch.proofs.LastPlaceLemmas.{unsplit_by_last}
+use Rattle.blink_batch.proofs.LastPlaces.{unsplit_by_last}
 use Rattle.blink_batch.proofs.cut.first_split_key.Goals.{in_default-via-in-Some+else-lanes-earlier, in_default-via-in_default}
 use Rattle.blink_batch.proofs.cut.first_split_key.Goals as goal
 

@@ -1,6 +1,6 @@
 use Rattle.std.proofs.Common.{nat_lt, rules}
 use Rattle.std.proofs.lemmas.List.Sorted.{IsPartitionPoint-from_clause}
-use Rattle.blink_batch.proofs.RangeLemmas.{lane_by_point, parted_by_key}
+use Rattle.blink_batch.proofs.LaneAmongRanges.{lane_by_point, parted_by_key}
 use Rattle.blink_batch.proofs.cut.lane_in_ranges.Goals as goal
 
 -- the bounds below the key end at its lane

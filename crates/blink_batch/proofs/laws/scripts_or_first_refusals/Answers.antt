@@ -1,4 +1,4 @@
-use Rattle.blink_batch.proofs.LawLemmas.{parts_from_script, refusal_from_script, script_from_parts, script_from_refusal}
+use Rattle.blink_batch.proofs.ScriptAsRelation.{parts_from_script, refusal_from_script, script_from_parts, script_from_refusal}
 use Rattle.blink_batch.proofs.laws.scripts_or_first_refusals.Goals as goal
 
 pub returns-clause-scripts : goal.returns-clause-scripts

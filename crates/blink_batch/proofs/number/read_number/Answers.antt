@@ -1,5 +1,5 @@
 use Rattle.std.proofs.Common.{sym}
-use Rattle.blink_batch.proofs.NumberLemmas.{IsUtf8-numeral, parsed_numeral}
+use Rattle.blink_batch.proofs.Numerals.{IsUtf8-numeral, parsed_numeral}
 use Rattle.blink_batch.proofs.number.read_number.Goals as goal
 
 -- a numeral is text, and is parsed

@@ -1,6 +1,6 @@
 use Rattle.std.proofs.Common.{◌≡◌, length, sym, arith}
 use Rattle.csv.specs.Records.{fields_of}
-use Rattle.blink_batch.proofs.FieldLemmas.{field_there, three}
+use Rattle.blink_batch.proofs.FieldsOfThree.{field_there, three}
 use Rattle.blink_batch.proofs.record.three_fields.Goals as goal
 
 -- a record of three fields has each of them

@@ -5,8 +5,8 @@ use Rattle.csv.specs.Records.{fields_of}
 use Rattle.blink_batch.specs.declared.error.ScriptError.TheVariants.{OutOfMemory, TooMany}
 use Rattle.blink_batch.specs.Parts.{IsOneTooMany, all_parts}
 use Rattle.blink_batch.specs.Script.{records_of, script_of}
-use Rattle.blink_batch.proofs.ReadLemmas.{begins, stays_set_up, reads_more, refused_here, all_read}
-use Rattle.blink_batch.proofs.ScriptLemmas.{cases_too_many}
+use Rattle.blink_batch.proofs.ScriptReadSoFar.{begins, stays_set_up, reads_more, refused_here, all_read}
+use Rattle.blink_batch.proofs.ScriptStillToRead.{cases_too_many}
 use Rattle.blink_batch.proofs.script.read_script.Goals as goal
 
 -- nothing is read yet

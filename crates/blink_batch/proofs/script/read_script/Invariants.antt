@@ -1,5 +1,5 @@
 use Rattle.std.proofs.Common.{◌≡◌, ℕ, List, Some}
-use Rattle.blink_batch.proofs.ReadLemmas.{IsSetUp, HasRead}
+use Rattle.blink_batch.proofs.ScriptReadSoFar.{IsSetUp, HasRead}
 use Rattle.blink_batch.proofs.script.read_script.Given as goal
 
 -- the reader stands before the record of this number, and what it has read is the parts so far

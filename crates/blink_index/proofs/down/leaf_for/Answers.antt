@@ -1,7 +1,7 @@
 use Rattle.std.proofs.Common.{◌≡◌, ◌-◌, ◌<◌, ◌≤◌, length, ap, ◌∙◌, arith}
 use Rattle.std.proofs.lemmas.Option.{slice_get-get_or}
 use Rattle.blink_page.specs.declared.limits.TheConstants.{GREATEST_KEY}
-use Rattle.blink_index.proofs.DownLemmas.{begins_at_root, page_on_the_way, goes_down, falls, leaf_on_the_way, never_right}
+use Rattle.blink_index.proofs.WayDown.{begins_at_root, page_on_the_way, goes_down, falls, leaf_on_the_way, never_right}
 use Rattle.blink_index.proofs.down.leaf_for.Goals as goal
 
 pub way-init : goal.way-init

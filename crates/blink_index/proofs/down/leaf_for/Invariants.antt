@@ -1,5 +1,5 @@
 use Rattle.blink_store.specs.Store.{page_of}
-use Rattle.blink_index.proofs.DownLemmas.{IsOnTheWay, level_at}
+use Rattle.blink_index.proofs.WayDown.{IsOnTheWay, level_at}
 use Rattle.blink_index.proofs.down.leaf_for.Given as goal
 
 -- the page is on the way to the key's leaf

@@ -1,10 +1,9 @@
 use Rattle.std.proofs.Common.{◌≡◌, ◌++◌, ℕ, List, string_bytes, append_assoc, ap, sym, ◌∙◌}
 use Rattle.blink_page.specs.Page.{PlainPage}
-use Rattle.blink_rest.specs.Chain.{Cell}
-use Rattle.blink_rest.proofs.WalkLemmas.{cell}
+use Rattle.blink_rest.specs.Chain.{Cell, cell}
 use Rattle.blink_index.specs.Dump.{line_of, level_text}
 use Rattle.blink_index.specs.Index.{cells_of}
-use Rattle.blink_index.proofs.LinkLemmas.{link_page, leads_on}
+use Rattle.blink_index.proofs.WhereLinksLead.{link_page, leads_on}
 use Rattle.blink_index.proofs.dump.push_level.Goals as goal
 
 pub read-page-requires : goal.read-page-requires

@@ -2,7 +2,7 @@ use Rattle.std.proofs.Common.{◌≡◌, ◌+◌, ◌-◌, ◌<◌, ◌++◌, �
 use Rattle.blink_index.specs.Dump.{level_text}
 use Rattle.blink_index.specs.Index.{cells_of}
 use Rattle.blink_index.specs.Scan.{IsLinkOf}
-use Rattle.blink_index.proofs.DumpLemmas.{IsTextDownTo, text_of_none, text_of_more, level_link}
+use Rattle.blink_index.proofs.LevelsAsLines.{IsTextDownTo, text_of_none, text_of_more, level_link}
 use Rattle.blink_index.proofs.dump.tree_text.Goals as goal
 use Rattle.blink_index.proofs.dump.tree_text.Goals.{After-deref}
 

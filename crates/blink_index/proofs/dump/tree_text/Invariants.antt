@@ -1,5 +1,5 @@
 use Rattle.std.proofs.Common.{◌≤◌, length, string_bytes}
-use Rattle.blink_index.proofs.DumpLemmas.{IsTextDownTo}
+use Rattle.blink_index.proofs.LevelsAsLines.{IsTextDownTo}
 use Rattle.blink_index.proofs.dump.tree_text.Given as goal
 
 -- the levels from this one up are written

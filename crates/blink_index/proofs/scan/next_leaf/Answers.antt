@@ -1,7 +1,7 @@
 use Rattle.std.proofs.Common.{◌≡◌, ◌++◌, ℕ, List, [], length, eqb-true, ap, sym, ◌∙◌}
 use Rattle.blink_page.specs.Page.{PlainPage}
 use Rattle.blink_index.specs.Scan.{entries_after}
-use Rattle.blink_index.proofs.LinkLemmas.{link_page, leads_on, empty_of}
+use Rattle.blink_index.proofs.WhereLinksLead.{link_page, leads_on, empty_of}
 use Rattle.blink_index.proofs.scan.next_leaf.Goals as goal
 
 pub read-leaf-requires : goal.read-leaf-requires

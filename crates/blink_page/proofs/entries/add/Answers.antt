@@ -1,4 +1,4 @@
-use Rattle.blink_page.proofs.PlaceLemmas.{added-place}
+use Rattle.blink_page.proofs.WhereSearchesEnd.{added-place}
 use Rattle.blink_page.proofs.entries.add.Goals as goal
 
 pub returns-clause-entries : goal.returns-clause-entries

@@ -1,8 +1,8 @@
 use Rattle.std.proofs.Common.{◌≡◌, length, set, get_or, length-set}
 use Rattle.std.specs.List.{refill}
 use Rattle.blink_page.specs.Place.{place_of}
-use Rattle.blink_page.proofs.EntryLemmas.{refill-all}
-use Rattle.blink_page.proofs.PlaceLemmas.{posted-place}
+use Rattle.blink_page.proofs.ChangedEntries.{refill-all}
+use Rattle.blink_page.proofs.WhereSearchesEnd.{posted-place}
 use Rattle.blink_page.proofs.entries.post_among.Goals as goal
 
 pub returns-clause-entries : goal.returns-clause-entries

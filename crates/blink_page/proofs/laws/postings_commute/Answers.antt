@@ -1,4 +1,4 @@
-use Rattle.blink_page.proofs.PostingLemmas.{postings_commute}
+use Rattle.blink_page.proofs.TwoPostings.{postings_commute}
 use Rattle.blink_page.proofs.laws.postings_commute.Goals as goal
 
 pub returns : goal.returns

@@ -1,6 +1,6 @@
 use Rattle.std.proofs.Common.{◌+◌, ◌≤◌, length}
 use Rattle.blink_store.specs.Store.{page_of}
-use Rattle.blink_rest.proofs.RestLemmas.{LevelsFrom}
+use Rattle.blink_rest.proofs.WalkDownLevels.{LevelsFrom}
 use Rattle.blink_rest.proofs.decide.at_rest.Given as goal
 
 -- the levels from this one on are as in a tree at rest

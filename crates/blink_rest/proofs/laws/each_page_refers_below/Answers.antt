@@ -1,4 +1,4 @@
-use Rattle.blink_rest.proofs.LawLemmas.{each_page_refers_below}
+use Rattle.blink_rest.proofs.EachLaw.{each_page_refers_below}
 use Rattle.blink_rest.proofs.laws.each_page_refers_below.Goals as goal
 
 pub returns : goal.returns

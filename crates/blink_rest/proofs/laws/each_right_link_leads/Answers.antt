@@ -1,4 +1,4 @@
-use Rattle.blink_rest.proofs.LawLemmas.{each_right_link_leads}
+use Rattle.blink_rest.proofs.EachLaw.{each_right_link_leads}
 use Rattle.blink_rest.proofs.laws.each_right_link_leads.Goals as goal
 
 pub returns : goal.returns

@@ -1,4 +1,4 @@
-use Rattle.blink_rest.proofs.LawLemmas.{entries_are_one_list}
+use Rattle.blink_rest.proofs.EachLaw.{entries_are_one_list}
 use Rattle.blink_rest.proofs.laws.entries_are_one_list.Goals as goal
 
 pub returns : goal.returns

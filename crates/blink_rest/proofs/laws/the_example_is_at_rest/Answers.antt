@@ -1,4 +1,4 @@
-use Rattle.blink_rest.proofs.LawLemmas.{the_example_is_at_rest}
+use Rattle.blink_rest.proofs.EachLaw.{the_example_is_at_rest}
 use Rattle.blink_rest.proofs.laws.the_example_is_at_rest.Goals as goal
 
 pub returns : goal.returns

@@ -1,6 +1,6 @@
 use Rattle.std.proofs.Common.{sym, subst}
 use Rattle.blink_rest.specs.Rest.{IsStoreAtRest}
-use Rattle.blink_rest.proofs.LawLemmas.{new_store_at_rest}
+use Rattle.blink_rest.proofs.EachLaw.{new_store_at_rest}
 use Rattle.blink_rest.proofs.tests.a_new_store_is_at_rest.Goals as goal
 
 pub of-rest-requires : goal.of-rest-requires

@@ -1,9 +1,9 @@
 use Rattle.std.proofs.Common.{◌≡◌, ◌+◌, ℕ, Option, Some, length, ap, sym, subst, ◌∙◌, arith}
 use Rattle.blink_page.specs.Page.{PlainPage}
 use Rattle.blink_store.specs.Store.{page_of}
-use Rattle.blink_store.proofs.StoreLemmas.{has_page}
+use Rattle.blink_store.proofs.Offered.{has_page}
 use Rattle.blink_rest.specs.Walk.{IsInLine}
-use Rattle.blink_rest.proofs.WalkLemmas.{Walked, walked_on, walked_whole, walked_out, walked_within, store_numbered}
+use Rattle.blink_rest.proofs.WalkAlongLevel.{Walked, walked_on, walked_whole, walked_out, walked_within, store_numbered}
 use Rattle.blink_rest.proofs.walk.chain_length.Goals as goal
 
 at_link : (c : goal.After-link-in-Some-1) → Walked c.args.store.now.fan (page_of c.args.store.now) c.args.level c.args.leftmost c.loop-link.floor (Some c.in-Some.number) c.loop-link.count

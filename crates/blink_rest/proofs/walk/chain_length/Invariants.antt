@@ -2,7 +2,7 @@ use Rattle.std.proofs.Common.{◌+◌, ◌-◌}
 use Rattle.blink_page.specs.Rising.{least_above}
 use Rattle.blink_page.specs.declared.limits.TheConstants.{GREATEST_KEY}
 use Rattle.blink_store.specs.Store.{page_of}
-use Rattle.blink_rest.proofs.WalkLemmas.{Walked}
+use Rattle.blink_rest.proofs.WalkAlongLevel.{Walked}
 use Rattle.blink_rest.proofs.walk.chain_length.Given as goal
 
 -- so many pages were met

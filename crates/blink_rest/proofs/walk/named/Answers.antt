@@ -1,9 +1,9 @@
 use Rattle.std.proofs.Common.{◌≡◌, ℕ, Option, take, ap, sym, subst, ◌∙◌, arith}
 use Rattle.blink_page.specs.Page.{PlainPage}
 use Rattle.blink_store.specs.Store.{page_of}
-use Rattle.blink_store.proofs.StoreLemmas.{has_page}
+use Rattle.blink_store.proofs.Offered.{has_page}
 use Rattle.blink_rest.specs.Walk.{NamesFirst}
-use Rattle.blink_rest.proofs.TailLemmas.{names_nothing, names_more, names_other, tail_there}
+use Rattle.blink_rest.proofs.ComparedLevels.{names_nothing, names_more, names_other, tail_there}
 use Rattle.blink_rest.proofs.walk.named.Goals.{then-separator-page-via-then-separator-page, then-separator-page-via-else-separator-page+then-child-from}
 use Rattle.blink_rest.proofs.walk.named.Goals as goal
 

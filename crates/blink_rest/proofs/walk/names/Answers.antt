@@ -1,9 +1,9 @@
 use Rattle.std.proofs.Common.{◌≡◌, ℕ, Option, Some, List, ap, subst, ◌∙◌}
 use Rattle.blink_page.specs.Page.{PlainPage}
 use Rattle.blink_store.specs.Store.{page_of}
-use Rattle.blink_store.proofs.StoreLemmas.{has_page}
+use Rattle.blink_store.proofs.Offered.{has_page}
 use Rattle.blink_rest.specs.Walk.{NamesFirst, NamesNone}
-use Rattle.blink_rest.proofs.TailLemmas.{Compared, compared_none, compared_more, compared_other, over, tail_there, fewer_left}
+use Rattle.blink_rest.proofs.ComparedLevels.{Compared, compared_none, compared_more, compared_other, over, tail_there, fewer_left}
 use Rattle.blink_rest.proofs.walk.names.Goals as goal
 
 at_link : (c : goal.After-above-in-Some-1) → Compared c.args.store.now.fan (page_of c.args.store.now) c.args.upper c.args.lower (Some c.in-Some.number) c.loop-above.below

@@ -1,5 +1,5 @@
 use Rattle.blink_store.specs.Store.{page_of}
-use Rattle.blink_rest.proofs.TailLemmas.{Compared, keys_left}
+use Rattle.blink_rest.proofs.ComparedLevels.{Compared, keys_left}
 use Rattle.blink_rest.proofs.walk.names.Given as goal
 
 -- the pages so far name the first below

@@ -3,8 +3,8 @@ use Rattle.std.specs.Vec.Iter.{into_iter_items}
 use Rattle.blink_batch.specs.declared.Part.{Part}
 use Rattle.blink_run.specs.Served.{is_batch}
 use Rattle.blink_run.specs.ServedReplay.{TellsPart, taken_where}
-use Rattle.blink_run.proofs.PartsLemmas.{IsToldWith, all_told, no_part, one_told}
-use Rattle.blink_run.proofs.ServeLemmas.{batches_left}
+use Rattle.blink_run.proofs.ReplayOfParts.{IsToldWith, all_told, no_part, one_told}
+use Rattle.blink_run.proofs.PartsAreServed.{batches_left}
 use Rattle.blink_run.proofs.replay.replay_parts.Goals as goal
 
 -- one part more is told

@@ -1,18 +1,18 @@
 use Rattle.std.proofs.Common.{◌≡◌, ◌<◌, ℕ, All, Result, Err, IfErr, ap, subst}
-use Rattle.blink_steps.specs.World.{IsFirstStranger}
+use Rattle.blink_steps.specs.World.{IsFirstNoWorker}
 use Rattle.blink_run.specs.ServedReplay.{TellsWorkersFault}
 use Rattle.blink_run.specs.declared.error.ServeError.{ServeError}
 use Rattle.blink_run.specs.declared.error.ServeError.TheVariants as serve
 use Rattle.blink_steps.specs.declared.StepError.TheVariants as step
-use Rattle.blink_run.proofs.ScheduleLemmas.{none_first, one_first}
+use Rattle.blink_run.proofs.FirstThatIsNoWorker.{none_first, one_first}
 use Rattle.blink_run.proofs.replay.serve_replay.Goals as goal
 
 -- the number that is told is the first that is no worker's
 pub returns-in-Some-clause-no_worker : goal.returns-in-Some-clause-no_worker
 returns-in-Some-clause-no_worker g c =
-    let first = subst (λ (workers : ℕ). IsFirstStranger workers c.args.schedule.now c.in-Some.worker) c.workers.ensures.workers c.in-Some.ensures in
+    let first = subst (λ (workers : ℕ). IsFirstNoWorker workers c.args.schedule.now c.in-Some.worker) c.workers.ensures.workers c.in-Some.ensures in
     λ worker. (
-      λ same. let told : c.in-Some.worker ≡ worker = cc in subst (λ (w : ℕ). IsFirstStranger c.args.settings.now.workers c.args.schedule.now w) told first,
+      λ same. let told : c.in-Some.worker ≡ worker = cc in subst (λ (w : ℕ). IsFirstNoWorker c.args.settings.now.workers c.args.schedule.now w) told first,
       λ other. ap (λ (w : ℕ). Err (serve.Step (step.NoWorker w))) (one_first c.args.settings.now.workers c.args.schedule.now c.in-Some.worker worker first other),
     )
 

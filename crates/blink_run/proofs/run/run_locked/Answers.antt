@@ -2,7 +2,7 @@ use Rattle.std.proofs.Common.{ap, ◌∙◌, subst}
 use Rattle.blink_index.specs.Index.{map_of}
 use Rattle.blink_store.specs.Store.{PlainStore}
 use Rattle.blink_run.specs.Run.{IsSettled}
-use Rattle.blink_run.proofs.RunLemmas.{one_thread_answers, one_thread_map, settled_done}
+use Rattle.blink_run.proofs.RunAtItsEnd.{one_thread_answers, one_thread_map, settled_done}
 use Rattle.blink_run.proofs.run.run_locked.Goals as goal
 
 pub returns-clause-answers : goal.returns-clause-answers

@@ -4,7 +4,7 @@ use Rattle.blink_batch.specs.declared.Entry.{Entry}
 use Rattle.blink_batch.specs.declared.Part.{Part}
 use Rattle.blink_run.specs.Served.{LeavesFront}
 use Rattle.blink_run.specs.declared.error.ServeError.TheVariants.{OutOfMemory}
-use Rattle.blink_run.proofs.ServeLemmas.{lines_left, none_written, untouched}
+use Rattle.blink_run.proofs.PartsAreServed.{lines_left, none_written, untouched}
 use Rattle.blink_run.proofs.script.serve.Goals as goal
 
 -- no index is made, and nothing is written

@@ -4,7 +4,7 @@ use Rattle.std.proofs.lemmas.Result.{err_from_is_err_and}
 use Rattle.blink_batch.specs.declared.Part.{Part}
 use Rattle.blink_index.specs.Index.{map_of}
 use Rattle.blink_run.specs.Served.{is_batch}
-use Rattle.blink_run.proofs.ServeLemmas.{HasServed, leaves_front, serves_more}
+use Rattle.blink_run.proofs.PartsAreServed.{HasServed, leaves_front, serves_more}
 use Rattle.blink_run.proofs.script.serve_parts.Goals as goal
 
 -- one part more is served

@@ -1,6 +1,6 @@
 use Rattle.std.proofs.Common.{take}
 use Rattle.blink_index.specs.Index.{map_of}
-use Rattle.blink_run.proofs.ServeLemmas.{HasServed}
+use Rattle.blink_run.proofs.PartsAreServed.{HasServed}
 use Rattle.blink_run.proofs.script.serve_parts.Given as goal
 
 -- the parts so far are served

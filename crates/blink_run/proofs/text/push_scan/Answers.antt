@@ -2,7 +2,7 @@ use Rattle.std.proofs.Common.{◌≡◌, ◌+◌, ◌∙◌, ◌++◌, ◌∷◌
 use Rattle.std.specs.List.{flat_map}
 use Rattle.blink_batch.specs.declared.Entry.{Entry}
 use Rattle.blink_run.specs.Text.{entry_line}
-use Rattle.blink_run.proofs.TextLemmas.{line_more, shown_few}
+use Rattle.blink_run.proofs.LinesOfEntries.{line_more, shown_few}
 use Rattle.blink_run.proofs.text.push_scan.Goals as goal
 
 -- the lines so far, and one more

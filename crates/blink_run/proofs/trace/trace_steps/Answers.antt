@@ -2,7 +2,7 @@ use Rattle.std.proofs.Common.{[], ◌∙◌, ◌++◌, List, ℕ, sym, ap, appen
 use Rattle.std.proofs.lemmas.List.{append-nil, take_more}
 use Rattle.blink_run.specs.Replay.{IsTraced}
 use Rattle.blink_run.specs.Trace.{turn_line}
-use Rattle.blink_run.proofs.TraceLemmas.{no_turn, one_turn}
+use Rattle.blink_run.proofs.TraceOfTurns.{no_turn, one_turn}
 use Rattle.blink_run.proofs.trace.trace_steps.Goals as goal
 
 -- no turn is taken yet

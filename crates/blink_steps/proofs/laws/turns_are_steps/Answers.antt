@@ -1,5 +1,5 @@
-use Rattle.blink_steps.proofs.runs.RunNext.{turns_are_steps}
-use Rattle.blink_steps.proofs.runs.StepActs.{steps_are_turns}
+use Rattle.blink_steps.proofs.runs.OperationOfTurn.{turns_are_steps}
+use Rattle.blink_steps.proofs.runs.StepsAreTurns.{steps_are_turns}
 use Rattle.blink_steps.proofs.laws.turns_are_steps.Goals as goal
 
 pub returns-clause-turns : goal.returns-clause-turns

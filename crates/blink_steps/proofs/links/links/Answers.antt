@@ -2,7 +2,7 @@ use Rattle.std.proofs.Common.{◌≡◌, ℕ, ◌+◌, ◌-◌, ◌<◌, length,
 use Rattle.std.proofs.lemmas.List.{length-set}
 use Rattle.std.proofs.lemmas.List.Elements.{All-get_or}
 use Rattle.blink_batch.specs.declared.cut.TheConstants.{WORKER_LIMIT}
-use Rattle.blink_steps.proofs.runs.LinkLemmas.{AreLinks-end, AreFirsts-end, AreLinks-more, AreFirsts-more}
+use Rattle.blink_steps.proofs.runs.LanesAsLinks.{AreLinks-end, AreFirsts-end, AreLinks-more, AreFirsts-more}
 use Rattle.blink_steps.proofs.links.links.Goals as goal
 
 pub loop-place-init : goal.loop-place-init

@@ -3,7 +3,7 @@ use Rattle.std.proofs.lemmas.List.{take_all, take_more}
 use Rattle.std.proofs.lemmas.Result.{err_from_is_err_and}
 use Rattle.blink_batch.specs.Cut.{Assignment}
 use Rattle.blink_steps.specs.World.{IsReplay, IsReplayRefusal, IsStepRefusal}
-use Rattle.blink_steps.proofs.worlds.WorldLemmas.{replay_refusal, replays_further, workers_more}
+use Rattle.blink_steps.proofs.worlds.WorldsGoFurther.{replay_refusal, replays_further, workers_more}
 use Rattle.blink_steps.proofs.worlds.WorldPromises.{promises, replayed_one_thread}
 use Rattle.blink_steps.proofs.world.replay.Goals as goal
 
@@ -22,7 +22,7 @@ loop-worker-preserved c = (
 )
 
 pub returns-clause-promised : goal.returns-clause-promised
-returns-clause-promised c start of = promises start _ of
+returns-clause-promised c start is_world = promises start _ is_world
 
 pub returns-clause-one_thread : goal.returns-clause-one_thread
 returns-clause-one_thread c =

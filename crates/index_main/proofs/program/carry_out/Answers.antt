@@ -3,7 +3,7 @@ use Rattle.std.proofs.lemmas.Result.{IfErr-weaker, IfOk-weaker}
 use Rattle.std.specs.Io.Buffered.{writer_contents, writer_inner}
 use Rattle.std.specs.Io.KnownBytes.{Keeps, append_known}
 use Rattle.index_main.specs.Program.{Leaves, Writes}
-use Rattle.index_main.proofs.FlushLemmas.{refusal_left, writes_left}
+use Rattle.index_main.proofs.WhatIsFlushed.{refusal_left, writes_left}
 use Rattle.index_main.proofs.program.carry_out.Goals as goal
 
 -- what is written has left

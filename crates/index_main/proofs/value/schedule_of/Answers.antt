@@ -1,6 +1,6 @@
 use Rattle.std.proofs.Common.{◌<◌, ◌∙◌, ap, length, rules}
 use Rattle.clap.specs.Walk.{texts}
-use Rattle.index_main.proofs.ScheduleLemmas.{from_parts}
+use Rattle.index_main.proofs.ScheduleFromParts.{from_parts}
 use Rattle.index_main.proofs.value.schedule_of.Goals as goal
 
 -- the parts are those between the commas

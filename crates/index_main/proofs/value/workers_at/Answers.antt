@@ -1,6 +1,6 @@
 use Rattle.std.proofs.Common.{◌∙◌, sym}
 use Rattle.index_main.specs.Value.{worker_of}
-use Rattle.index_main.proofs.ListLemmas.{one_missing}
+use Rattle.index_main.proofs.OneMissing.{one_missing}
 use Rattle.index_main.proofs.value.workers_at.Goals as goal
 
 -- a part that spells no worker leaves no schedule

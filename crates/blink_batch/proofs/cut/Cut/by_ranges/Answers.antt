@@ -1,8 +1,8 @@
 use Rattle.std.proofs.Common.{◌≡◌, arith}
 use Rattle.std.proofs.lemmas.Grind.{common_steps}
 use Rattle.blink_batch.specs.Ranges.{lane_in_ranges, lanes_by_ranges}
-use Rattle.blink_batch.proofs.CutLemmas.{lawful_by_key}
-use Rattle.blink_batch.proofs.RangeLemmas.{lane_in_range}
+use Rattle.blink_batch.proofs.CutsByKey.{lawful_by_key}
+use Rattle.blink_batch.proofs.LaneAmongRanges.{lane_in_range}
 use Rattle.blink_batch.proofs.cut.Cut.by_ranges.Goals as goal
 
 -- the lane is a function of the key

@@ -1,6 +1,6 @@
 use Rattle.std.proofs.Common.{EachIndex, refl, ap, ◌∙◌}
 use Rattle.blink_batch.specs.Cut.{IsFirstSplitKey, IsLawfulCut, IsSplitKey}
-use Rattle.blink_batch.proofs.SplitLemmas.{lawful_from_whole, whole_from_lawful}
+use Rattle.blink_batch.proofs.CutsSplitNoKey.{lawful_from_whole, whole_from_lawful}
 use Rattle.blink_batch.proofs.cut.Cut.from_lanes.Goals as goal
 use Rattle.blink_batch.proofs.cut.Cut.from_lanes.Goals.{In-None}
 

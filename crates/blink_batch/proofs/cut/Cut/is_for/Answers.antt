@@ -1,6 +1,6 @@
 use Rattle.std.proofs.Common.{◌≡◌, EachIndex, MatchOption, length, arith}
 use Rattle.blink_batch.specs.Cut.{IsFirstSplitKey, IsSplitKey}
-use Rattle.blink_batch.proofs.SplitLemmas.{lawful_exactly_whole}
+use Rattle.blink_batch.proofs.CutsSplitNoKey.{lawful_exactly_whole}
 use Rattle.blink_batch.proofs.cut.Cut.is_for.Goals as goal
 
 -- as many lanes as operations, and no split key

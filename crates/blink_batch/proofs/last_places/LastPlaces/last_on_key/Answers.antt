@@ -1,7 +1,7 @@
 use Rattle.std.proofs.Common.{◌<◌, ℕ, get_or, Option, None, Some, sym, subst, arith}
 use Rattle.blink_batch.specs.Cut.{key_at}
 use Rattle.blink_batch.specs.LastPlaces.{IsInBucket, IsLastBefore, bucket_of}
-use Rattle.blink_batch.proofs.LastPlaceLemmas.{places_left, places_left-fewer}
+use Rattle.blink_batch.proofs.LastPlaces.{places_left, places_left-fewer}
 use Rattle.blink_batch.proofs.last_places.LastPlaces.last_on_key.Goals as goal
 
 pub loop-next-smaller : goal.loop-next-smaller

@@ -1,4 +1,4 @@
-use Rattle.blink_batch.proofs.LastPlaceLemmas.{IsWalk, places_left}
+use Rattle.blink_batch.proofs.LastPlaces.{IsWalk, places_left}
 use Rattle.blink_batch.proofs.last_places.LastPlaces.last_on_key.Given as goal
 
 -- the places passed so far aren't on the key

@@ -1,7 +1,7 @@
 use Rattle.std.proofs.Common.{arith}
 use Rattle.blink_batch.specs.declared.last_places.TheConstants.{BUCKETS}
 use Rattle.blink_batch.specs.LastPlaces.{IsInBucket}
-use Rattle.blink_batch.proofs.LastPlaceLemmas.{IsLastBefore-first}
+use Rattle.blink_batch.proofs.LastPlaces.{IsLastBefore-first}
 use Rattle.blink_batch.proofs.last_places.LastPlaces.new.Goals as goal
 
 pub returns : goal.returns

@@ -1,7 +1,7 @@
 use Rattle.std.proofs.Common.{refl}
 use Rattle.blink_batch.specs.PlainMap.{IsAscending, entry}
-use Rattle.blink_batch.proofs.SearchLemmas.{kept_at_place, pointer_of-gap, insert-gap, remove-place}
-use Rattle.blink_batch.proofs.CellLemmas.{IsAscending-added, IsAscending-removed}
+use Rattle.blink_batch.proofs.SearchByHalves.{kept_at_place, pointer_of-gap, insert-gap, remove-place}
+use Rattle.blink_batch.proofs.RunsByKey.{IsAscending-added, IsAscending-removed}
 use Rattle.blink_batch.proofs.plain.Plain.apply.Goals as goal
 
 -- the key is there: the map keeps the pointer that is read

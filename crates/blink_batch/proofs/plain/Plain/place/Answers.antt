@@ -1,6 +1,6 @@
 use Rattle.std.proofs.Common.{rules}
 use Rattle.std.proofs.lemmas.List.Sorted.{answers_always}
-use Rattle.blink_batch.proofs.SearchLemmas.{searched}
+use Rattle.blink_batch.proofs.SearchByHalves.{searched}
 use Rattle.blink_batch.proofs.plain.Plain.place.Goals as goal
 
 -- the closure gives an entry's key, and the slice is the map

@@ -1,6 +1,6 @@
 use Rattle.std.proofs.Common.{sym, arith}
 use Rattle.blink_batch.specs.declared.operation.Op.TheVariants.{Find}
-use Rattle.blink_batch.proofs.RunLemmas.{answers-take_more, map_after_all-take_more}
+use Rattle.blink_batch.proofs.RunOfOneMore.{answers-take_more, map_after_all-take_more}
 use Rattle.blink_batch.proofs.plain.Plain.run.Goals as goal
 
 -- one operation more is carried out and answered

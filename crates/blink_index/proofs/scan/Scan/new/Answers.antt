@@ -3,7 +3,7 @@ use Rattle.blink_page.specs.Page.{PlainPage}
 use Rattle.blink_page.specs.Place.{place_of}
 use Rattle.blink_page.specs.declared.limits.TheConstants.{GREATEST_KEY}
 use Rattle.blink_index.specs.Scan.{IsLinkOf, entries_after, entries_to}
-use Rattle.blink_index.proofs.LinkLemmas.{leaf_link, scan_from_leaf}
+use Rattle.blink_index.proofs.WhereLinksLead.{leaf_link, scan_from_leaf}
 use Rattle.blink_index.proofs.scan.Scan.new.Goals as goal
 
 -- the leaf of `lo` has its place, and the leaves after it follow

@@ -2,8 +2,8 @@ use Rattle.std.proofs.Common.{◌≡◌, ap, subst, arith}
 use Rattle.blink_page.specs.declared.limits.TheConstants.{MAX_FAN}
 use Rattle.blink_page.specs.Page.{PlainPage, IsLawfulPage}
 use Rattle.blink_page.specs.Place.{place_of}
-use Rattle.blink_page.proofs.PlaceLemmas.{child_for-place}
-use Rattle.blink_page.proofs.PageLemmas.{place_inside, child_inside}
+use Rattle.blink_page.proofs.WhereSearchesEnd.{child_for-place}
+use Rattle.blink_page.proofs.LawfulPages.{place_inside, child_inside}
 use Rattle.blink_page.proofs.page.Page.child.Goals as goal
 
 pub bounds-deref-place : goal.bounds-deref-place

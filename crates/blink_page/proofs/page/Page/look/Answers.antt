@@ -1,6 +1,6 @@
 use Rattle.std.proofs.Common.{◌≡◌, ◌<◌, length, get_or, ap, sym, arith}
 use Rattle.blink_page.specs.Place.{place_of}
-use Rattle.blink_page.proofs.PlaceLemmas.{value_at-place, value_at-place_other, value_at-place_end}
+use Rattle.blink_page.proofs.WhereSearchesEnd.{value_at-place, value_at-place_other, value_at-place_end}
 use Rattle.blink_page.proofs.page.Page.look.Goals as goal
 
 pub returns-then-at-len : goal.returns-then-at-len

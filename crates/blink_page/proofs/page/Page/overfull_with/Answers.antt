@@ -1,7 +1,7 @@
 use Rattle.std.proofs.Common.{◌≡◌, ap, subst, arith}
 use Rattle.blink_page.specs.declared.limits.TheConstants.{MAX_FAN}
 use Rattle.blink_page.specs.Page.{PlainPage, IsLawfulPage}
-use Rattle.blink_page.proofs.PageLemmas.{place_inside}
+use Rattle.blink_page.proofs.LawfulPages.{place_inside}
 use Rattle.blink_page.proofs.page.Page.overfull_with.Goals as goal
 
 pub post_among-requires : goal.post_among-requires

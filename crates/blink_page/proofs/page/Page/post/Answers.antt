@@ -3,9 +3,9 @@ use Rattle.blink_page.specs.declared.limits.TheConstants.{MAX_FAN}
 use Rattle.blink_page.specs.Entries.{value_at, posted}
 use Rattle.blink_page.specs.Page.{PlainPage, IsLawfulPage, with_entries}
 use Rattle.blink_page.specs.PageView.{plain}
-use Rattle.blink_page.proofs.EntryLemmas.{length-posted}
-use Rattle.blink_page.proofs.LookLemmas.{none_unless_some}
-use Rattle.blink_page.proofs.PageLemmas.{lawful_posted, lawful_with_room, place_inside}
+use Rattle.blink_page.proofs.ChangedEntries.{length-posted}
+use Rattle.blink_page.proofs.LookUps.{none_unless_some}
+use Rattle.blink_page.proofs.LawfulPages.{lawful_posted, lawful_with_room, place_inside}
 use Rattle.blink_page.proofs.page.Page.post.Goals as goal
 
 pub post_among-requires : goal.post_among-requires

@@ -3,8 +3,8 @@ use Rattle.blink_page.specs.declared.limits.TheConstants.{MAX_FAN}
 use Rattle.blink_page.specs.Entries.{value_at, added}
 use Rattle.blink_page.specs.Page.{PlainPage, IsLawfulPage, with_entries}
 use Rattle.blink_page.specs.PageView.{plain}
-use Rattle.blink_page.proofs.EntryLemmas.{length-added}
-use Rattle.blink_page.proofs.PageLemmas.{lawful_added, lawful_with_room}
+use Rattle.blink_page.proofs.ChangedEntries.{length-added}
+use Rattle.blink_page.proofs.LawfulPages.{lawful_added, lawful_with_room}
 use Rattle.blink_page.proofs.page.Page.put.Goals as goal
 
 pub invariant_of-self : goal.invariant_of-self

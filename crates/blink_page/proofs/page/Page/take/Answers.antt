@@ -4,9 +4,9 @@ use Rattle.blink_page.specs.Entries.{value_at, removed}
 use Rattle.blink_page.specs.Page.{PlainPage, IsLawfulPage, with_entries}
 use Rattle.blink_page.specs.PageView.{plain}
 use Rattle.blink_page.specs.Place.{place_of}
-use Rattle.blink_page.proofs.EntryLemmas.{removed-absent}
-use Rattle.blink_page.proofs.PlaceLemmas.{place_found, removed-place}
-use Rattle.blink_page.proofs.PageLemmas.{lawful_removed}
+use Rattle.blink_page.proofs.ChangedEntries.{removed-absent}
+use Rattle.blink_page.proofs.WhereSearchesEnd.{place_found, removed-place}
+use Rattle.blink_page.proofs.LawfulPages.{lawful_removed}
 use Rattle.blink_page.proofs.page.Page.take.Goals as goal
 
 pub returns-in_default-clause-entries : goal.returns-in_default-clause-entries

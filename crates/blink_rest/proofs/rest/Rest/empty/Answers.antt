@@ -1,6 +1,6 @@
 use Rattle.std.proofs.Common.{sym, subst}
 use Rattle.blink_rest.specs.Rest.{IsStoreAtRest}
-use Rattle.blink_rest.proofs.LawLemmas.{new_store_at_rest}
+use Rattle.blink_rest.proofs.EachLaw.{new_store_at_rest}
 use Rattle.blink_rest.proofs.rest.Rest.empty.Goals as goal
 
 pub of-requires : goal.of-requires

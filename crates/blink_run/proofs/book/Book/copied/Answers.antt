@@ -3,7 +3,7 @@ use Rattle.blink_batch.specs.declared.Op.{Op}
 use Rattle.blink_batch.specs.Cut.{Assignment}
 use Rattle.blink_store.specs.Store.{PlainStore}
 use Rattle.blink_run.specs.Book.{IsBook}
-use Rattle.blink_run.proofs.BookLemmas.{begins_book}
+use Rattle.blink_run.proofs.BooksGoOn.{begins_book}
 use Rattle.blink_run.proofs.book.Book.copied.Goals as goal
 
 pub invariant_of-result : goal.invariant_of-result

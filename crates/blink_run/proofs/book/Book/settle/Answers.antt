@@ -1,12 +1,12 @@
 use Rattle.std.proofs.Common.{All, IsSome, List, Option, length, sym, ap, ◌∙◌, subst}
 use Rattle.blink_batch.specs.declared.Answer.{Answer}
 use Rattle.blink_run.specs.Book.{PlainBook, IsRunOf}
-use Rattle.blink_run.proofs.BookLemmas.{all_some, settled}
+use Rattle.blink_run.proofs.BooksGoOn.{all_some, settled}
 use Rattle.blink_run.proofs.book.Book.settle.Goals as goal
 
 pub all_of-requires : goal.all_of-requires
 all_of-requires c =
-    let kept = c.ended.ensures.promised c.self.inside.start c.self.invariant.of in
+    let kept = c.ended.ensures.promised c.self.inside.start c.self.invariant.is_world in
     let one_each = ap (λ (given : List (Option Answer)). length given) (sym c.answers.ensures.answers) ∙ c.answers.ensures.one_each in
     subst (λ (given : List (Option Answer)). All (λ (answer : Option Answer). IsSome answer) given) (sym c.answers.ensures.answers)
     (all_some c.self.inside.world.run one_each (kept.ended (c.ended.ensures.ended.0 c.if-not-ended.false)).all_answered)

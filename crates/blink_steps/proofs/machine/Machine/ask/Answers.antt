@@ -4,7 +4,7 @@ use Rattle.blink_steps.specs.declared.machine.State.TheVariants.{Root, Leave}
 use Rattle.blink_steps.specs.Machine.{PlainMachine, at_state}
 use Rattle.blink_steps.specs.MachineView.{plain}
 use Rattle.blink_steps.specs.Table.{IsTopLeftmost, asks_of_root, asks_of_other}
-use Rattle.blink_steps.proofs.tree.PrimeLemmas.{is_top_leftmost, not_top_leftmost}
+use Rattle.blink_steps.proofs.tree.PrimeAsList.{is_top_leftmost, not_top_leftmost}
 use Rattle.blink_steps.proofs.machine.Machine.ask.Goals as goal
 use Rattle.blink_steps.proofs.machine.Machine.ask.Goals.{else-len-level-via-then-len-level+else-deref-level, else-len-level-via-else-len-level}
 

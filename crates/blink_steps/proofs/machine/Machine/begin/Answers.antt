@@ -4,7 +4,7 @@ use Rattle.blink_steps.specs.declared.machine.State.TheVariants.{Going}
 use Rattle.blink_steps.specs.Machine.{PlainMachine}
 use Rattle.blink_steps.specs.MachineView.{plain}
 use Rattle.blink_steps.specs.Table.{begins}
-use Rattle.blink_steps.proofs.tree.PrimeLemmas.{last_or-at_end}
+use Rattle.blink_steps.proofs.tree.PrimeAsList.{last_or-at_end}
 use Rattle.blink_steps.proofs.machine.Machine.begin.Goals as goal
 
 pub returns : goal.returns

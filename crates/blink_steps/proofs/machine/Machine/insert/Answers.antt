@@ -5,7 +5,7 @@ use Rattle.blink_page.specs.Page.{PlainPage, with_entries}
 use Rattle.blink_steps.specs.declared.machine.State.TheVariants.{Change}
 use Rattle.blink_steps.specs.Machine.{PlainMachine, target, at_state}
 use Rattle.blink_steps.specs.Table.{is_to_change, insertion_finds_key}
-use Rattle.blink_steps.proofs.operation.JobLemmas.{target-leaf, insertion_changes}
+use Rattle.blink_steps.proofs.operation.WhatJobsAreAbout.{target-leaf, insertion_changes}
 use Rattle.blink_steps.proofs.machine.Machine.insert.Goals as goal
 
 pub returns-in-Done : goal.returns-in-Done

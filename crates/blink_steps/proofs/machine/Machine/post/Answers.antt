@@ -5,7 +5,7 @@ use Rattle.blink_steps.specs.declared.machine.Next.TheVariants.{Finish}
 use Rattle.blink_steps.specs.declared.machine.State.TheVariants.{Change, Leave}
 use Rattle.blink_steps.specs.Machine.{PlainMachine, target, at_state}
 use Rattle.blink_steps.specs.Table.{is_to_change, posting_finds_separator}
-use Rattle.blink_steps.proofs.operation.JobLemmas.{target-parent, some_value, posting_changes}
+use Rattle.blink_steps.proofs.operation.WhatJobsAreAbout.{target-parent, some_value, posting_changes}
 use Rattle.blink_steps.proofs.machine.Machine.post.Goals as goal
 
 pub returns-in-Done : goal.returns-in-Done

@@ -1,4 +1,4 @@
-use Rattle.std.proofs.Common.{◌≡◌, ◌+◌, ◌-◌, ap, sym, ◌∙◌, inl, inr, arith}
+use Rattle.std.proofs.Common.{◌≡◌, ◌+◌, ◌-◌, ap, sym, ◌∙◌, subst, inl, inr, arith}
 use Rattle.std.specs.Prelude.{List, ℕ, ◌∷◌}
 use Rattle.blink_batch.specs.declared.Op.TheVariants.{Find}
 use Rattle.blink_batch.specs.Operation.{answer_at}
@@ -7,7 +7,7 @@ use Rattle.blink_page.specs.declared.search.Way.TheVariants.{Right, Down, Here}
 use Rattle.blink_steps.specs.declared.machine.State.TheVariants.{Going, Want, Ended}
 use Rattle.blink_steps.specs.Machine.{PlainMachine, target, at_state, answered}
 use Rattle.blink_steps.specs.MachineView.{plain}
-use Rattle.blink_steps.specs.Table.{goes_right, goes_down, find_answers, insertion_wants, deletion_wants}
+use Rattle.blink_steps.specs.Table.{goes_right, goes_down, IsUpdate, find_answers, update_wants}
 use Rattle.blink_steps.proofs.machine.Machine.read_on_its_way.Goals as goal
 
 pub returns-in-Right : goal.returns-in-Right
@@ -37,6 +37,6 @@ returns-in-Insert c =
     let own : c.args.self.now.op ≡ c.self.inside.op = sym (ap (λ (m : PlainMachine). m.op) c.self.view_is) in
     let after = ap (λ (m : PlainMachine). at_state m (Want c.args.number)) c.self.view_is in
     elim c.in-Insert.is [
-      | inl w ↦ insertion_wants c.args.level w.0 w.1 c.requires.state leads (own ∙ w.2) after
-      | inr w ↦ deletion_wants c.args.level w.0 c.requires.state leads (own ∙ w.1) after
+      | inl w ↦ update_wants c.args.level c.requires.state leads (subst IsUpdate (sym (own ∙ w.2)) tt) after
+      | inr w ↦ update_wants c.args.level c.requires.state leads (subst IsUpdate (sym (own ∙ w.1)) tt) after
     ]

@@ -1,19 +1,19 @@
 use Rattle.std.proofs.Common.{◌≡◌, ℕ, ◌+◌, ◌<◌, ◌≤◌, length, get_or, set, Option, Some, refl, sym, ◌∙◌, arith}
 use Rattle.std.proofs.lemmas.Option.{slice_get-get_or, get_or_from_slice_get}
 use Rattle.std.specs.List.{slice_get}
-use Rattle.blink_batch.proofs.NextPlaceLemmas.{next_place_is}
+use Rattle.blink_batch.proofs.Offered.{next_place_is}
 use Rattle.blink_batch.specs.declared.operation.Op.TheVariants.{Find}
 use Rattle.blink_batch.specs.Order.{next_place}
-use Rattle.blink_steps.proofs.runs.RunLemmas.{goes_on-begun, IsLinked-with_seat, turn_moves}
+use Rattle.blink_steps.proofs.runs.TurnFromItsParts.{goes_on-begun, IsLinked-with_seat, turn_moves}
 use Rattle.blink_steps.specs.declared.seat.Seat.{Seat}
 use Rattle.blink_steps.specs.Machine.{fresh}
 use Rattle.blink_steps.specs.Run.{IsNextOf, idle_seat}
 use Rattle.blink_steps.specs.RunView.{plain}
-use Rattle.blink_steps.specs.SoundRun.{IsTurnReady}
+use Rattle.blink_steps.specs.SoundRun.{CanTakeTurn}
 use Rattle.blink_steps.proofs.run.Run.begin.Goals as goal
 use Rattle.blink_steps.proofs.run.Run.begin.Goals.{After-new-machine}
 
-ready_of : (c : After-new-machine) → IsTurnReady (plain c.self.inside) c.args.worker
+ready_of : (c : After-new-machine) → CanTakeTurn (plain c.self.inside) c.args.worker
 ready_of c = rw (← c.self.view_is) at c.requires.ready
 
 idle : (c : After-new-machine) → slice_get c.self.inside.seats.items c.args.worker ≡ Some (idle_seat (Some c.args.place))
@@ -33,7 +33,7 @@ pub act-requires : goal.act-requires
 act-requires c =
     let begun = (goal.at.act-requires c).After-new-machine in
     let next = next_place c.self.inside.lanes.lanes c.args.worker (c.args.place + 1) in
-    (ready_of begun).step_ready c.args.place c.new-machine.result next (next_of begun next refl)
+    (ready_of begun).can_act c.args.place c.new-machine.result next (next_of begun next refl)
 
 pub note-requires-clause-place : goal.note-requires-clause-place
 note-requires-clause-place c =

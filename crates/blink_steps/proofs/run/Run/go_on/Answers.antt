@@ -1,15 +1,15 @@
 use Rattle.std.proofs.Common.{◌≡◌, ℕ, set, Some, None, refl, sym, ap, ◌∙◌, arith}
 use Rattle.std.proofs.lemmas.Result.{err_from_is_err_and}
 use Rattle.std.specs.List.{slice_get}
-use Rattle.blink_steps.proofs.runs.RunLemmas.{decides_now-before, seat_found, seat_with, seats-same, working_kept, IsLinked-with_seat, turn_moves, turn_waits}
+use Rattle.blink_steps.proofs.runs.TurnFromItsParts.{decides_now-before, seat_found, seat_with, seats-same, working_kept, IsLinked-with_seat, turn_moves, turn_waits}
 use Rattle.blink_steps.specs.declared.seat.Seat.{Seat}
 use Rattle.blink_steps.specs.Run.{IsNextOf}
 use Rattle.blink_steps.specs.RunView.{plain}
-use Rattle.blink_steps.specs.SoundRun.{IsTurnReady}
+use Rattle.blink_steps.specs.SoundRun.{CanTakeTurn}
 use Rattle.blink_steps.proofs.run.Run.go_on.Goals as goal
 use Rattle.blink_steps.proofs.run.Run.go_on.Goals.{In-Some, After-unless_ended-seat}
 
-ready_of : (c : In-Some) → IsTurnReady (plain c.self.inside) c.args.worker
+ready_of : (c : In-Some) → CanTakeTurn (plain c.self.inside) c.args.worker
 ready_of c = rw (← c.self.view_is) at c.requires.ready
 
 found : (c : In-Some) → slice_get c.self.inside.seats.items c.args.worker ≡ Some c.index_mut-seat.result.now
@@ -24,7 +24,7 @@ next_of c =
 pub act-acted-requires : goal.act-acted-requires
 act-acted-requires c =
     let c = (goal.at.act-acted-requires c).In-Some in
-    (ready_of c).step_ready c.in-Some.working.place c.in-Some.working.machine c.index_mut-seat.result.now.next (next_of c)
+    (ready_of c).can_act c.in-Some.working.place c.in-Some.working.machine c.index_mut-seat.result.now.next (next_of c)
 
 pub note-requires-clause-place : goal.note-requires-clause-place
 note-requires-clause-place c =
@@ -78,7 +78,7 @@ kept c unchanged =
     let some = (goal.at.After-unless_ended-seat c).In-Some in
     let seat = c.index_mut-seat.result.now in
     let working = c.in-Some.working in
-    let ready = (ready_of some).step_ready working.place working.machine seat.next (next_of some) in
+    let ready = (ready_of some).can_act working.place working.machine seat.next (next_of some) in
     let left : c.unless_ended-seat.result ≡ Some working = working_kept c.self.inside.shared c.args.worker working c.act-acted.new.machine c.unless_ended-seat.result ready c.unless_ended-seat.ensures unchanged in
     let was : seat.working ≡ Some working = cc in
     rw (left, c.from.ensures, ← was) (seats-same c.self.inside.seats.items c.args.worker seat (found some))

@@ -1,6 +1,6 @@
 use Rattle.std.proofs.Common.{◌<◌, length, refl}
-use Rattle.blink_steps.proofs.worlds.PickLemmas.{idle_from}
-use Rattle.blink_steps.proofs.runs.RunLemmas.{seat_found}
+use Rattle.blink_steps.proofs.worlds.WorkersBySeat.{idle_from}
+use Rattle.blink_steps.proofs.runs.TurnFromItsParts.{seat_found}
 use Rattle.blink_steps.specs.RunView.{plain}
 use Rattle.blink_steps.proofs.run.Run.is_idle.Goals as goal
 

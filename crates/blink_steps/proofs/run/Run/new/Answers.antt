@@ -2,8 +2,7 @@ use Rattle.std.proofs.Common.{◌≡◌, ℕ, ◌+◌, ◌<◌, ◌≤◌, List,
 use Rattle.std.proofs.lemmas.List.{length_push}
 use Rattle.blink_batch.specs.Cut.{Assignment}
 use Rattle.blink_batch.specs.declared.cut.TheConstants.{WORKER_LIMIT}
-use Rattle.blink_steps.proofs.runs.RunLemmas.{AreIdle, AreIdle-more, AreOfLanes-idle}
-use Rattle.blink_steps.specs.Ledger.{PlainLedger}
+use Rattle.blink_steps.proofs.runs.TurnFromItsParts.{AreIdle, AreIdle-more, AreOfLanes-idle}
 use Rattle.blink_steps.specs.Links.{AreLinks, AreFirsts}
 use Rattle.blink_steps.specs.Seats.{AreOfLanes}
 use Rattle.blink_steps.proofs.run.Run.new.Goals as goal
@@ -65,8 +64,5 @@ returns c =
       same_assignment = c.lanes.view_is;
       a_seat_each = a_seat_each c;
       all_idle = idle;
-      none_answered = ap (λ (l : PlainLedger). l.answers) ledger;
-      none_decided = ap (λ (l : PlainLedger). l.order) ledger;
-      none_read = ap (λ (l : PlainLedger). l.reads) ledger;
-      none_moved = ap (λ (l : PlainLedger). l.moves) ledger;
+      nothing_noted = ledger;
     }

@@ -1,21 +1,21 @@
 use Rattle.std.proofs.Common.{◌≡◌, ℕ, Option, Some, None, true, false, refl, sym, ap, ◌∙◌}
 use Rattle.std.specs.List.{slice_get}
 use Rattle.std.specs.Option.{is_some}
-use Rattle.blink_steps.proofs.runs.RunLemmas.{seat_found, seat_with, turn_idles}
+use Rattle.blink_steps.proofs.runs.TurnFromItsParts.{seat_found, seat_with, turn_idles}
 use Rattle.blink_steps.specs.declared.seat.Working.{Working}
 use Rattle.blink_steps.specs.Run.{idle_seat}
 use Rattle.blink_steps.specs.RunView.{plain}
-use Rattle.blink_steps.specs.Seats.{IsBusyWorker}
-use Rattle.blink_steps.specs.SoundRun.{IsTurnReady}
+use Rattle.blink_steps.specs.Seats.{HasOperation}
+use Rattle.blink_steps.specs.SoundRun.{CanTakeTurn}
 use Rattle.blink_steps.proofs.run.Run.turn.Goals as goal
 use Rattle.blink_steps.proofs.run.Run.turn.Goals.{After-is_some}
 
 found : (c : After-is_some) → slice_get c.self.inside.seats.items c.args.worker ≡ Some c.index-seat.result.now
 found c =
-    let ready : IsTurnReady (plain c.self.inside) c.args.worker = rw (← c.self.view_is) at c.requires in
+    let ready : CanTakeTurn (plain c.self.inside) c.args.worker = rw (← c.self.view_is) at c.requires in
     seat_found c.self.inside.seats.items c.from.result c.args.worker c.index-seat.result.now c.from.ensures ready.seated c.index-seat.ensures
 
-busy : (c : After-is_some) (working : Option Working) → c.index-seat.result.now.working ≡ working → is_some working ≡ true → IsBusyWorker (plain c.self.inside) c.args.worker
+busy : (c : After-is_some) (working : Option Working) → c.index-seat.result.now.working ≡ working → is_some working ≡ true → HasOperation (plain c.self.inside) c.args.worker
 busy c None is some = absurd (cc)
 busy c (Some working) is some = record {
   place = working.place;

@@ -1,6 +1,6 @@
 use Rattle.std.proofs.Common.{◌≡◌, ◌<◌, length, slice_get, Some}
-use Rattle.blink_steps.proofs.worlds.PickLemmas.{waits_busy, idle_never_waits}
-use Rattle.blink_steps.proofs.runs.RunLemmas.{seat_found}
+use Rattle.blink_steps.proofs.worlds.WorkersBySeat.{waits_busy, idle_never_waits}
+use Rattle.blink_steps.proofs.runs.TurnFromItsParts.{seat_found}
 use Rattle.blink_steps.specs.RunView.{plain}
 use Rattle.blink_steps.proofs.run.Run.waits.Goals as goal
 use Rattle.blink_steps.proofs.run.Run.waits.Goals.{After-index}

@@ -1,6 +1,6 @@
 use Rattle.std.proofs.Common.{subst}
 use Rattle.blink_steps.specs.World.{IsWorld}
-use Rattle.blink_steps.proofs.worlds.FinishLemmas.{nearer}
+use Rattle.blink_steps.proofs.worlds.WorldsGoOn.{nearer}
 use Rattle.blink_steps.proofs.world.World.advance.Goals as goal
 
 pub returns-clause-nearer : goal.returns-clause-nearer

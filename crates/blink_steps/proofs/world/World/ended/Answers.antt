@@ -5,4 +5,4 @@ pub ended-requires : goal.ended-requires
 ended-requires c = (shaped (record { run = c.self.inside.run; schedule = c.self.inside.schedule.items }) c.self.invariant).a_seat_each
 
 pub returns-clause-promised : goal.returns-clause-promised
-returns-clause-promised c start of = promises start _ of
+returns-clause-promised c start is_world = promises start _ is_world

@@ -11,4 +11,4 @@ of-requires c =
     subst IsStoreAtRest (sym c.into_store.ensures) ((promises is.0 (record { run = c.self.inside.run; schedule = c.self.inside.schedule.items }) is.1).ended ended).at_rest
 
 pub returns-clause-promised : goal.returns-clause-promised
-returns-clause-promised c start of = promises start _ of
+returns-clause-promised c start is_world = promises start _ is_world

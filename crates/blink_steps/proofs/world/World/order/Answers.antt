@@ -2,4 +2,4 @@ use Rattle.blink_steps.proofs.worlds.WorldPromises.{promises}
 use Rattle.blink_steps.proofs.world.World.order.Goals as goal
 
 pub returns-clause-promised : goal.returns-clause-promised
-returns-clause-promised c start of = promises start _ of
+returns-clause-promised c start is_world = promises start _ is_world

@@ -1,4 +1,4 @@
-use Rattle.blink_steps.proofs.worlds.MoverLemmas.{ended_picks_none, nobody_moves}
+use Rattle.blink_steps.proofs.worlds.SomeoneWouldMove.{ended_picks_none, nobody_moves}
 use Rattle.blink_steps.proofs.worlds.WorldPromises.{shaped, sound}
 use Rattle.blink_steps.proofs.world.World.pick.Goals as goal
 

@@ -11,9 +11,9 @@ bounds-reads-op c =
     omega (arith, lists.a_read_count_each, ap (λ (xs : List ℕ). length xs) c.reads.ensures)
 
 pub returns-clause-count : goal.returns-clause-count
-returns-clause-count c start of =
-    ap (λ (xs : List ℕ). get_or xs c.args.op 0) (c.reads.ensures ∙ ap (λ (world : PlainWorld). world.run.reads) c.self.view_is)
-    ∙ get_or_from_slice_get c.args.self.now.run.reads c.args.op _ 0 ((counted start c.args.self.now of).reads c.args.op c.requires)
+returns-clause-count c start is_world =
+    ap (λ (xs : List ℕ). get_or xs c.args.op 0) (c.reads.ensures ∙ ap (λ (world : PlainWorld). world.run.ledger.reads) c.self.view_is)
+    ∙ get_or_from_slice_get c.args.self.now.run.ledger.reads c.args.op _ 0 ((counted start c.args.self.now is_world).reads c.args.op c.requires)
 
 pub returns-clause-promised : goal.returns-clause-promised
-returns-clause-promised c start of = promises start _ of
+returns-clause-promised c start is_world = promises start _ is_world

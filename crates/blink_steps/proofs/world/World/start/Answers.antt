@@ -3,7 +3,7 @@ use Rattle.std.proofs.lemmas.Bool.{cases_lt}
 use Rattle.blink_batch.specs.Batch.{is_insert}
 use Rattle.blink_page.specs.declared.limits.TheConstants.{MAX_PAGE}
 use Rattle.blink_steps.specs.World.{IsWorldOf, MayBegin}
-use Rattle.blink_steps.proofs.worlds.WorldLemmas.{begins}
+use Rattle.blink_steps.proofs.worlds.WorldsGoFurther.{begins}
 use Rattle.blink_steps.proofs.worlds.WorldPromises.{promises}
 use Rattle.blink_steps.proofs.world.World.start.Goals as goal
 
@@ -27,4 +27,4 @@ pub invariant_of-result : goal.invariant_of-result
 invariant_of-result c = (c.args.rest, subst (λ (xs : List ℕ). IsWorldOf c.args.rest (record { run = c.in-Ok.run'; schedule = xs })) (sym c.new-in-Ok.ensures.items) (is_world c))
 
 pub returns-in-Ok-clause-promised : goal.returns-in-Ok-clause-promised
-returns-in-Ok-clause-promised c start of = promises start _ of
+returns-in-Ok-clause-promised c start is_world = promises start _ is_world

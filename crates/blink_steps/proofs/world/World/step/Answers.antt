@@ -1,21 +1,21 @@
 use Rattle.std.proofs.Common.{◌++◌, ℕ, List, [], ◌∷◌, ap, subst, ◌∙◌, arith}
 use Rattle.blink_steps.specs.World.{PlainWorld, TakesStep}
-use Rattle.blink_steps.proofs.worlds.FinishLemmas.{would_move_moves, would_wait_waits}
-use Rattle.blink_steps.proofs.worlds.WorldLemmas.{goes_further, has_turn_more, same_batch_after}
-use Rattle.blink_steps.proofs.worlds.WorldPromises.{promises, ready}
+use Rattle.blink_steps.proofs.worlds.WorldsGoOn.{would_move_moves, would_wait_waits}
+use Rattle.blink_steps.proofs.worlds.WorldsGoFurther.{goes_further, has_turn_more, same_batch}
+use Rattle.blink_steps.proofs.worlds.WorldPromises.{promises, can_take_turn}
 use Rattle.blink_steps.proofs.world.World.step.Goals as goal
 
 pub returns-then-worker-workers-clause-promised : goal.returns-then-worker-workers-clause-promised
-returns-then-worker-workers-clause-promised c start of = promises start _ of
+returns-then-worker-workers-clause-promised c start is_world = promises start _ is_world
 
 pub returns-then-is_err-clause-promised : goal.returns-then-is_err-clause-promised
-returns-then-is_err-clause-promised c start of = promises start _ of
+returns-then-is_err-clause-promised c start is_world = promises start _ is_world
 
 pub turn-requires : goal.turn-requires
-turn-requires c = ready (record { run = c.self.inside.run; schedule = c.self.inside.schedule.items }) c.self.invariant c.args.worker (omega (arith, c.workers.ensures)) (omega (arith, c.self.inside.schedule.small, c.self.inside.schedule.ok))
+turn-requires c = can_take_turn (record { run = c.self.inside.run; schedule = c.self.inside.schedule.items }) c.self.invariant c.args.worker (omega (arith, c.workers.ensures)) (omega (arith, c.self.inside.schedule.small, c.self.inside.schedule.ok))
 
 pub returns-in_err-step-clause-promised : goal.returns-in_err-step-clause-promised
-returns-in_err-step-clause-promised c start of = promises start _ of
+returns-in_err-step-clause-promised c start is_world = promises start _ is_world
 
 -- the turn, as the schedule tells it
 taken : (c : goal.After-push_reserved) → TakesStep (record { run = c.self.inside.run; schedule = c.self.inside.schedule.items }) c.args.worker c.in_ok-step.step (record { run = c.turn.new.self; schedule = c.push_reserved.new.self.items })
@@ -36,13 +36,13 @@ pub returns-clause-step : goal.returns-clause-step
 returns-clause-step c = subst (λ (world : PlainWorld). TakesStep world c.args.worker c.in_ok-step.step (record { run = c.turn.new.self; schedule = c.push_reserved.new.self.items })) c.self.view_is (taken c)
 
 pub returns-clause-goes_on : goal.returns-clause-goes_on
-returns-clause-goes_on c start of = has_turn_more start c.args.self.now _ c.args.worker c.in_ok-step.step of (returns-clause-step c)
+returns-clause-goes_on c start is_world = has_turn_more start c.args.self.now _ c.args.worker c.in_ok-step.step is_world (returns-clause-step c)
 
 pub returns-clause-same_batch : goal.returns-clause-same_batch
-returns-clause-same_batch c = let takes = returns-clause-step c in same_batch_after c.args.self.now.run _ takes.taken takes.turn
+returns-clause-same_batch c = let takes = returns-clause-step c in same_batch c.args.self.now.run _ takes.taken takes.turn
 
 pub returns-clause-promised : goal.returns-clause-promised
-returns-clause-promised c start of = promises start _ of
+returns-clause-promised c start is_world = promises start _ is_world
 
 pub returns-clause-would_move : goal.returns-clause-would_move
 returns-clause-would_move c = would_move_moves c.args.self.now _ c.args.worker c.in_ok-step.step (returns-clause-step c)

@@ -1,7 +1,7 @@
 use Rattle.std.proofs.Common.{◌∙◌, ℕ, inl, inr, sym, subst, arith}
 use Rattle.std.proofs.lemmas.Bool.{cases_eq}
 use Rattle.blink_store.specs.Latches.{Holds}
-use Rattle.blink_store.proofs.HolderLemmas.{holder_of-holds, nobody, read_holds, read_other}
+use Rattle.blink_store.proofs.HoldersOfPages.{holder_of-holds, nobody, read_holds, read_other}
 use Rattle.blink_store.proofs.latches.Latches.holder.Goals as goal
 
 pub returns-then-eq-clause-holder : goal.returns-then-eq-clause-holder

@@ -1,4 +1,4 @@
-use Rattle.blink_store.proofs.LatchLemmas.{none_held_by_one}
+use Rattle.blink_store.proofs.ChangedHolders.{none_held_by_one}
 use Rattle.blink_store.proofs.latches.Latches.new.Goals as goal
 
 pub invariant_of-result : goal.invariant_of-result

@@ -1,7 +1,7 @@
 use Rattle.std.proofs.Common.{◌≡◌, ◌∙◌, None, subst, sym}
 use Rattle.blink_store.specs.Latches.{IsHeldByOne, holder_of}
-use Rattle.blink_store.proofs.HolderLemmas.{none_unless_some}
-use Rattle.blink_store.proofs.LatchLemmas.{latched_held_by_one, latched_changes}
+use Rattle.blink_page.proofs.Offered.{none_unless_some}
+use Rattle.blink_store.proofs.ChangedHolders.{latched_held_by_one, latched_changes}
 use Rattle.blink_store.proofs.latches.Latches.try_latch.Goals as goal
 
 pub invariant_of-self : goal.invariant_of-self

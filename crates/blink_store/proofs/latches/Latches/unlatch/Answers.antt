@@ -1,7 +1,7 @@
 use Rattle.std.proofs.Common.{subst, arith}
 use Rattle.blink_store.specs.Latches.{IsHeldByOne}
-use Rattle.blink_store.proofs.HolderLemmas.{holder_inside}
-use Rattle.blink_store.proofs.LatchLemmas.{unlatched_held_by_one, unlatched_changes}
+use Rattle.blink_store.proofs.HoldersOfPages.{holder_inside}
+use Rattle.blink_store.proofs.ChangedHolders.{unlatched_held_by_one, unlatched_changes}
 use Rattle.blink_store.proofs.latches.Latches.unlatch.Goals as goal
 
 pub bounds-self-inside-from : goal.bounds-self-inside-from

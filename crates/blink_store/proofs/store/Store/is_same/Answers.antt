@@ -1,5 +1,5 @@
 use Rattle.std.proofs.lemmas.Slice.Eq.{slice_eq-Decides}
-use Rattle.blink_store.proofs.EqualityLemmas.{same_page, same_numbers, same_store}
+use Rattle.blink_store.proofs.ComparedStores.{same_page, same_numbers, same_store}
 use Rattle.blink_store.proofs.store.Store.is_same.Goals as goal
 
 pub returns : goal.returns

@@ -1,0 +1,22 @@
+-- Lists of numbers: which are among them, whether they all differ, and whether they are from 1 to a last one.
+use Rattle.std.specs.Prelude.{◌≡◌, ◌≢◌, ℕ, ◌≤◌, List, [], ◌∷◌, ◌⊎◌, ⊤}
+use Rattle.std.specs.List.{AllByRecursion}
+
+-- the number is one of them
+abbrev pub IsAmong : ℕ → List ℕ → Type 0
+IsAmong n [] = ⊥
+IsAmong n (m ∷ ms) = (n ≡ m) ⊎ IsAmong n ms
+
+-- the number is none of them
+abbrev pub Avoids : ℕ → List ℕ → Type 0
+Avoids n ms = AllByRecursion (λ m. n ≢ m) ms
+
+-- no number is there twice
+abbrev pub AllDiffer : List ℕ → Type 0
+AllDiffer [] = ⊤
+AllDiffer (n ∷ ns) = Avoids n ns × AllDiffer ns
+
+-- each is from 1 to n
+abbrev pub AreWithin : ℕ → List ℕ → Type 0
+AreWithin n [] = ⊤
+AreWithin n (m ∷ ms) = (1 ≤ m) × (m ≤ n) × AreWithin n ms

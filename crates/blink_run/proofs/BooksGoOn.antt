@@ -1,0 +1,143 @@
+-- How a book begins and goes on, and what it shows at its end.
+use Rattle.std.proofs.Common.{◌≡◌, ℕ, ◌<◌, Bool, true, false, Option, Some, None, IsSome, is_some, List, [], ◌∷◌, length, map, reverse, get_or, All, refl, ap, sym, ◌∙◌, subst, arith}
+use Rattle.std.specs.Prelude.{slice_get}
+use Rattle.std.proofs.lemmas.List.{length-map, length-reverse}
+use Rattle.std.proofs.lemmas.List.Elements.{All-cons}
+use Rattle.std.proofs.lemmas.Option.{get_or_from_slice_get, slice_get-get_or, slice_get_within}
+use Rattle.blink_batch.specs.declared.Answer.{Answer}
+use Rattle.blink_batch.specs.declared.Op.{Op}
+use Rattle.blink_batch.specs.Cut.{Assignment, IsLawfulCut}
+use Rattle.blink_store.specs.Store.{PlainStore}
+use Rattle.blink_steps.specs.declared.step.Step.{Step}
+use Rattle.blink_steps.specs.Counts.{HasMoved}
+use Rattle.blink_steps.specs.Pick.{IsIdleWorker}
+use Rattle.blink_steps.specs.Promises.{HasAnswerAt, IsPromised, KeepsItsPromises}
+use Rattle.blink_steps.specs.Run.{PlainRun, Taken}
+use Rattle.blink_steps.specs.World.{PlainWorld, GoesOnBy, HasEnded, IsAtLanesEnd, IsStart, IsWorldOf, SameBatch}
+use Rattle.blink_run.specs.Book.{PlainBook, AllMoved, HasEndedOp, IsBook, IsRunOf}
+use Rattle.blink_run.specs.Run.{IsSettled}
+
+-- ---- the book's beginning
+
+-- a world whose schedule tells no turn has none
+pub no_turn_yet : (start : PlainStore) (world : PlainWorld) (is_world : IsWorldOf start world) → world.schedule ≡ [] → is_world.history ≡ []
+no_turn_yet start world is_world none =
+    let workers : List ℕ = map (λ (taken : Taken). taken.worker) is_world.history in
+    let long : length (reverse workers) ≡ length is_world.history = length-reverse workers ∙ length-map is_world.history (λ (taken : Taken). taken.worker) in
+    let empty : length (reverse workers) ≡ 0 = ap (λ (xs : List ℕ). length xs) (sym is_world.same_schedule ∙ none) in
+    none_where_short is_world.history (omega arith)
+  where
+    none_where_short : (history : List Taken) → length history ≡ 0 → history ≡ []
+    none_where_short [] short = refl
+    none_where_short (taken ∷ history) short = absurd (omega arith)
+
+-- so it has moved at each
+none_moved : (start : PlainStore) (world : PlainWorld) (is_world : IsWorldOf start world) → world.schedule ≡ [] → AllMoved is_world.history
+none_moved start world is_world none = subst AllMoved (sym (no_turn_yet start world is_world none)) (λ k default within. absurd (omega arith))
+
+-- a world that begins is a book's
+pub begins_book : (start : PlainStore) (ops : List Op) (assignment : Assignment) (world : PlainWorld) → IsStart start ops assignment world
+    → IsBook (record { start = start; ops = ops; assignment = assignment; world = world; stopped = false })
+begins_book start ops assignment world is = record {
+  is_world = is.is_world;
+  same_ops = is.same_ops;
+  same_assignment = is.same_assignment;
+  all_moved = none_moved start world is.is_world is.same_schedule;
+}
+
+-- ---- a turn
+
+-- a book goes on by a turn that moved
+pub moves_book : (book : PlainBook) (new : PlainWorld) (worker : ℕ) (step : Step) → IsBook book → GoesOnBy book.world worker step new → SameBatch book.world.run new.run → HasMoved step
+    → (stopped : Bool) → IsBook (record book { world = new; stopped = stopped })
+moves_book book new worker step is goes same moved stopped =
+    let more = goes book.start is.is_world in
+    let moved_too : HasMoved more.taken.step = subst HasMoved (sym more.same_step) moved in
+    record {
+      is_world = more.now;
+      same_ops = same.same_ops ∙ is.same_ops;
+      same_assignment = same.same_assignment ∙ is.same_assignment;
+      all_moved = subst AllMoved (sym more.one_more) (All-cons (λ (taken : Taken). HasMoved taken.step) more.taken is.is_world.history moved_too is.all_moved);
+    }
+
+-- where nothing of the world changed it stays one
+pub stays_book : (book : PlainBook) (new : PlainWorld) → IsBook book → new ≡ book.world → (stopped : Bool) → IsBook (record book { world = new; stopped = stopped })
+stays_book book new is same stopped =
+    subst (λ (world : PlainWorld). IsBook (record book { world = world; stopped = stopped })) (sym same)
+    (record { is_world = is.is_world; same_ops = is.same_ops; same_assignment = is.same_assignment; all_moved = is.all_moved })
+
+-- an answer that is found
+answer_there : (given : List (Option Answer)) (op : ℕ) → op < length given → is_some (get_or given op None) ≡ true → HasAnswerAt given op
+answer_there given op within some = by_found (get_or given op None) refl some
+  where
+    by_found : (found : Option Answer) → get_or given op None ≡ found → is_some found ≡ true → HasAnswerAt given op
+    by_found None found some = absurd (cc)
+    by_found (Some answer) found some = (answer, slice_get-get_or given op None within ∙ ap (λ (o : Option Answer). Some o) found)
+
+-- and one that isn't
+pub no_answer : (given : List (Option Answer)) (op : ℕ) → is_some (get_or given op None) ≡ false → HasAnswerAt given op → ⊥
+no_answer given op none has =
+    let found : get_or given op None ≡ Some has.0 = get_or_from_slice_get given op (Some has.0) None has.1 in
+    let some : is_some (get_or given op None) ≡ true = ap is_some found in
+    absurd (cc)
+
+-- an operation with its answer has ended where its worker is idle
+pub ended_where_idle : (run : PlainRun) (worker op : ℕ) (idle : Bool) → op < length run.ledger.answers → is_some (get_or run.ledger.answers op None) ≡ true
+    → (idle ≡ true → IsIdleWorker run worker) × (IsIdleWorker run worker → idle ≡ true) → (idle ≡ true → HasEndedOp run worker op) × (HasEndedOp run worker op → idle ≡ true)
+ended_where_idle run worker op idle within some exact = (λ yes. (answer_there run.ledger.answers op within some, exact.0 yes), λ ended. exact.1 ended.1)
+
+-- an operation of the worker's is one of the world's
+pub own_in_world : (book : PlainBook) → IsBook book → (worker op : ℕ) → slice_get book.assignment.lanes op ≡ Some worker
+    → (slice_get book.world.run.assignment.lanes op ≡ Some worker) × (op < length book.world.run.ops)
+own_in_world book is worker op own =
+    let here : slice_get book.world.run.assignment.lanes op ≡ Some worker = ap (λ (a : Assignment). slice_get a.lanes op) is.same_assignment ∙ own in
+    (here, omega (arith, slice_get_within book.world.run.assignment.lanes op worker here, is.is_world.may_begin.a_lane_each))
+
+-- a worker whose operation hasn't ended isn't at its lane's end
+pub has_more : (start : PlainStore) (world : PlainWorld) (is_world : IsWorldOf start world) (worker op : ℕ) → KeepsItsPromises start world is_world → length world.run.ledger.answers ≡ length world.run.ops
+    → slice_get world.run.assignment.lanes op ≡ Some worker → op < length world.run.ops → ¬ HasEndedOp world.run worker op → ¬ IsAtLanesEnd world.run worker
+has_more start world is_world worker op kept one_each own within goes_on at_end = by_answer (get_or world.run.ledger.answers op None) (slice_get-get_or world.run.ledger.answers op None (omega arith))
+  where
+    by_answer : (found : Option Answer) → slice_get world.run.ledger.answers op ≡ Some found → ⊥
+    by_answer None there = kept.each_has_its_turn worker (record { place = op; of_lane = own; undecided = there }) at_end
+    by_answer (Some answer) there = goes_on ((answer, there), record { next = None; seated = at_end })
+
+-- ---- the end
+
+-- at the end each place has its answer
+pub all_some : (run : PlainRun) → length run.ledger.answers ≡ length run.ops → ((place : ℕ) → place < length run.ops → HasAnswerAt run.ledger.answers place) → All (λ (answer : Option Answer). IsSome answer) run.ledger.answers
+all_some run one_each answered k default within =
+    let has = answered k (omega arith) in
+    rw (get_or_from_slice_get run.ledger.answers k (Some has.0) default has.1) refl
+
+module _ (book : PlainBook) (is : IsBook book) (promised : IsPromised book.world) (start : PlainStore) (ops : List Op) (assignment : Assignment) (run_of : IsRunOf book start ops assignment)
+    (lawful : IsLawfulCut ops assignment.workers assignment.lanes) (ended : HasEnded book.world.run) (given : List Answer) (all_given : book.world.run.ledger.answers ≡ map Some given) where
+  -- the assignment is the given one
+  same_assignment : book.assignment ≡ assignment
+  same_assignment = λ i. record { workers = run_of.same_workers i; lanes = run_of.same_lanes i }
+
+  -- a book at its end is settled over its own start
+  settled_here : IsSettled book.start ops assignment book.world.run.shared.store given
+  settled_here =
+      let kept = promised book.start is.is_world in
+      let cut : IsLawfulCut book.world.run.ops book.world.run.assignment.workers book.world.run.assignment.lanes =
+      subst (λ (xs : List Op). IsLawfulCut xs book.world.run.assignment.workers book.world.run.assignment.lanes) (sym (is.same_ops ∙ run_of.same_ops))
+      (subst (λ (a : Assignment). IsLawfulCut ops a.workers a.lanes) (sym (is.same_assignment ∙ same_assignment)) lawful) in
+      record {
+        replayed = record {
+          world = book.world;
+          replay = record { is_world = is.is_world; same_ops = is.same_ops ∙ run_of.same_ops; same_assignment = is.same_assignment ∙ same_assignment; same_schedule = refl };
+          all_moved = is.all_moved;
+          all_ended = ended;
+          same_tree = refl;
+        };
+        same_answers = all_given;
+        one_thread = kept.one_thread cut ended;
+        at_rest = (kept.ended ended).at_rest;
+      }
+
+  -- and over the given one
+  pub settled : (tree : PlainStore) → tree ≡ book.world.run.shared.store → IsSettled start ops assignment tree given
+  settled tree same =
+      subst (λ (s : PlainStore). IsSettled s ops assignment tree given) run_of.same_start
+      (subst (λ (t : PlainStore). IsSettled book.start ops assignment t given) (sym same) settled_here)
