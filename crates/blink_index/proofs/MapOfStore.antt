@@ -6,16 +6,11 @@ use Rattle.blink_page.specs.Entries.{value_at}
 use Rattle.blink_store.specs.Store.{PlainStore, page_of}
 use Rattle.blink_rest.specs.Entries.{AreEntries}
 use Rattle.blink_rest.specs.Level.{entries_along}
-use Rattle.blink_steps.specs.TreeMap.{IsMapOf, pairs_of}
-use Rattle.blink_steps.proofs.Offered.{entries_at_start}
-use Rattle.blink_index.specs.Index.{entries_from, level_of, map_of, cells_of}
+use Rattle.blink_steps.specs.TreeMap.{IsMapOf, entries_from, pairs_of}
+use Rattle.blink_steps.proofs.Offered.{entries_at_start, entries_from-pairs_of}
+use Rattle.blink_index.specs.Index.{level_of, map_of, cells_of}
 use Rattle.blink_index.specs.Laws.{MapIsKept, NoOtherMapIsKept}
 use Rattle.blink_index.proofs.PagesAlongLinks.{cells_of-chain}
-
--- entries as pairs, and these as entries again, are the same
-pub entries_from-pairs_of : (entries : List Entry) → entries_from (pairs_of entries) ≡ entries
-entries_from-pairs_of [] = refl
-entries_from-pairs_of (e ∷ es) = ap (λ (rest : List Entry). e ∷ rest) (entries_from-pairs_of es)
 
 -- a look-up in the one is a look-up in the other
 pub pointer_of-entries_from : (key : ℕ) (pairs : List (ℕ × ℕ)) → pointer_of (entries_from pairs) key ≡ value_at key pairs

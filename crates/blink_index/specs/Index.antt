@@ -1,10 +1,10 @@
 -- What an index keeps: the levels of its tree, its tree's entries, and these as a plain map.
 use Rattle.std.specs.Prelude.{ℕ, zero, suc, Option, Some, None, List, [], ◌∷◌, length, map, slice_get}
 use Rattle.blink_batch.specs.declared.Entry.{Entry}
-use Rattle.blink_batch.specs.PlainMap.{entry}
 use Rattle.blink_rest.specs.Chain.{Cell, Pages}
 use Rattle.blink_rest.specs.Level.{entries_along}
 use Rattle.blink_store.specs.Store.{PlainStore, page_of}
+use Rattle.blink_steps.specs.TreeMap.{entries_from}
 
 -- the pages from a link on, each the right link of the one before, and at most so many
 abbrev pub cells_from : Pages → ℕ → Option ℕ → List Cell
@@ -24,10 +24,6 @@ level_of store level = cells_of store (slice_get store.prime level)
 -- the levels that the prime block names, level 0 first
 abbrev pub levels_of : PlainStore → List (List Cell)
 levels_of store = map (λ leftmost. cells_of store (Some leftmost)) store.prime
-
--- pairs of a key and a pointer as the entries of a plain map
-abbrev pub entries_from : List (ℕ × ℕ) → List Entry
-entries_from pairs = map (λ (pair : ℕ × ℕ). entry pair.0 pair.1) pairs
 
 -- the plain map of a store: the entries of its leaves, from the left
 abbrev pub map_of : PlainStore → List Entry

@@ -2,6 +2,8 @@
 
 -- a tree at rest keeps a plain map
 pub use Rattle.blink_steps.proofs.worlds.EntriesAtStart.{entries_at_start}
+-- a plain map is told by its pairs
+pub use Rattle.blink_steps.proofs.law.SoundHasOneMap.{entries_from-pairs_of}
 -- the law of a step as a whole, for lemmas, which can't call it
 pub use Rattle.blink_steps.proofs.law.EachPart.{step_law}
 -- whoever drives a machine: its way down ends, it has an answer when it ends, and a find only reads

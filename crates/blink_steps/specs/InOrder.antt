@@ -9,14 +9,11 @@ use Rattle.blink_steps.specs.declared.step.Step.TheVariants.{Moved}
 use Rattle.blink_steps.specs.Kinds.{write_page}
 use Rattle.blink_steps.specs.Machine.{PlainMachine, NeedsPrime, NeedsPage, NeedsLatch, NeedsNew, NeedsWrite, NeedsPrimeWrite, NeedsUnlatch, level_read, target}
 use Rattle.blink_steps.specs.Moment.{Moment, IsItsOperation, Steps}
+use Rattle.blink_steps.specs.Owned.{HoldOneLatchEach, IsItsToWrite}
 use Rattle.blink_steps.specs.Table.{SeesPrime, WaitsForLevel, SeesPage, PrimeOut, page_out}
 use Rattle.blink_steps.specs.TreeWithDebts.{IsTreeWithDebts}
 
 -- ---- latches
-
--- no worker holds two latches
-abbrev pub HoldsOneLatchEach : Moment → Type 0
-HoldsOneLatchEach moment = (worker page other : ℕ) → moment.holder page ≡ Some worker → moment.holder other ≡ Some worker → page ≡ other
 
 -- the page that an operation is next to latch is there, and its worker holds no latch
 pub record LatchesWell (pages : Pages) (holder : ℕ → Option ℕ) (worker number : ℕ) : Type 0 where
@@ -67,7 +64,7 @@ pub record WritesWell (moment : Moment) (worker : ℕ) (m : PlainMachine) (numbe
 -- a step that writes a page writes one whose latch its worker holds, or at a number that no page has
 abbrev pub WritesItsOwnPage : Moment → Type 0
 WritesItsOwnPage moment = (then : Moment) (worker number : ℕ) (m after : PlainMachine) → IsItsOperation moment worker m → Steps moment worker m (Moved (write_page number)) after then
-    → (moment.holder number ≡ Some worker) ⊎ (moment.pages number ≡ None)
+    → IsItsToWrite moment.holder moment.pages worker number
 
 -- ---- the whole
 
@@ -75,7 +72,7 @@ pub record IsInOrder (moment : Moment) : Type 0 where
   pub tree : IsTreeWithDebts moment
   pub few_levels : length moment.prime < LEVELS
   pub same_fan : (worker : ℕ) (m : PlainMachine) → IsItsOperation moment worker m → m.fan ≡ moment.fan
-  pub one_latch : HoldsOneLatchEach moment
+  pub one_latch : HoldOneLatchEach moment.holder
   pub writes_its_own : WritesItsOwnPage moment
   pub latches : (worker number : ℕ) (m : PlainMachine) → IsItsOperation moment worker m → NeedsLatch m number → LatchesWell moment.pages moment.holder worker number
   pub unlatches : (worker number : ℕ) (m : PlainMachine) → IsItsOperation moment worker m → NeedsUnlatch m number → moment.holder number ≡ Some worker

@@ -1,5 +1,6 @@
 -- What an operation has for itself: a latch, a debt, a new page that is in no chain yet, and a top level that it splits.
-use Rattle.std.specs.Prelude.{◌≡◌, ℕ, Option, Some, None}
+use Rattle.std.specs.Prelude.{◌≡◌, ℕ, ◌⊎◌, Option, Some, None}
+use Rattle.blink_rest.specs.Chain.{Pages}
 use Rattle.blink_steps.specs.declared.machine.Debt.{Debt}
 use Rattle.blink_steps.specs.declared.machine.Job.{Job}
 use Rattle.blink_steps.specs.declared.machine.Job.TheVariants.{Leaf, Parent}
@@ -67,6 +68,14 @@ split_at state = None
 
 abbrev pub split_of : PlainMachine → Option ℕ
 split_of m = split_at m.state
+
+-- the page of this number is the worker's to write: it holds its latch, or no page has the number
+abbrev pub IsItsToWrite : (ℕ → Option ℕ) → Pages → ℕ → ℕ → Type 0
+IsItsToWrite holder pages worker number = (holder number ≡ Some worker) ⊎ (pages number ≡ None)
+
+-- no worker holds two latches
+abbrev pub HoldOneLatchEach : (ℕ → Option ℕ) → Type 0
+HoldOneLatchEach holder = (worker page other : ℕ) → holder page ≡ Some worker → holder other ≡ Some worker → page ≡ other
 
 -- a worker holds the latches that its operation's state says, and no others
 pub record LatchesAreHeld (moment : Moment) : Type 0 where

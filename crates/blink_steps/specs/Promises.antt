@@ -11,15 +11,11 @@ use Rattle.blink_steps.specs.Ways.{IsShort}
 use Rattle.blink_steps.specs.Bounds.{IsBounded}
 use Rattle.blink_steps.specs.Decided.{IsDecided}
 use Rattle.blink_steps.specs.Headline.{IsOneThread, IsReachedThroughout, ReachesPresent}
+use Rattle.blink_steps.specs.Owned.{HoldOneLatchEach}
 use Rattle.blink_steps.specs.Run.{PlainRun, moment_of}
 use Rattle.blink_steps.specs.TreeMap.{IsMapOf, HasMap}
 use Rattle.blink_steps.specs.TreeWithDebts.{IsTreeWithDebts}
 use Rattle.blink_steps.specs.World.{PlainWorld, IsWorldOf, HasEnded, IsAtLanesEnd, OnEachTurn, WritesItsOwn}
-
--- no worker holds two latches
-abbrev pub HoldOneLatchEach : List (Option ℕ) → Type 0
-HoldOneLatchEach latches = (worker page other : ℕ) → holder_of latches page ≡ Some worker
-    → holder_of latches other ≡ Some worker → page ≡ other
 
 -- the operation at a place has its answer
 abbrev pub HasAnswerAt : List (Option Answer) → ℕ → Type 0
@@ -65,7 +61,7 @@ pub record KeepsItsPromises (start : PlainStore) (world : PlainWorld)
     (is_world : IsWorldOf start world) : Type 0 where
   pub tree : IsTreeWithDebts (moment_of world.run)
   pub has_map : HasMap world.run.shared.store
-  pub one_latch : HoldOneLatchEach world.run.shared.latches
+  pub one_latch : HoldOneLatchEach (holder_of world.run.shared.latches)
   pub writes_its_own : OnEachTurn WritesItsOwn is_world.opening is_world.history world.run is_world.follows
   -- the operations decided so far answer as on a plain map, in the order of their deciding steps, and the tree keeps its entries
   pub decided : (entries : List Entry) → IsMapOf start entries → IsDecided entries world.run

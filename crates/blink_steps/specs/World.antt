@@ -13,6 +13,7 @@ use Rattle.blink_steps.specs.declared.step.Step.{Step}
 use Rattle.blink_steps.specs.declared.step.Step.TheVariants.{Moved}
 use Rattle.blink_steps.specs.declared.world.TheConstants.{NUMBERS_OF_INSERTION}
 use Rattle.blink_steps.specs.Kinds.{write_page}
+use Rattle.blink_steps.specs.Owned.{IsItsToWrite}
 use Rattle.blink_steps.specs.Run.{PlainRun, Taken, TakesTurn, Follows, IsOpeningRun, idle_seat}
 
 -- a tree at rest, and a batch with lanes, that a run may begin with
@@ -128,7 +129,7 @@ AfterEachTurn fact start history run follows = OnEachTurn (λ (before : PlainRun
 -- a page is written only by the worker that holds its latch, or at a number that no page has
 abbrev pub WritesItsOwn : PlainRun → Taken → PlainRun → Type 0
 WritesItsOwn before taken after = (number : ℕ) → taken.step ≡ Moved (write_page number)
-    → (holder_of before.shared.latches number ≡ Some taken.worker) ⊎ (page_of before.shared.store number ≡ None)
+    → IsItsToWrite (holder_of before.shared.latches) (page_of before.shared.store) taken.worker number
 
 -- why a schedule isn't replayed: memory; its first number that is no worker's; or a batch that is too large
 abbrev pub IsReplayRefusal : PlainStore → List Op → ℕ → List ℕ → StepError → Type 0

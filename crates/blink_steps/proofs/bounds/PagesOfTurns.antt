@@ -1,27 +1,16 @@
--- The pages that an operation has read on its way and latched, turn by turn; and no page is taken away by a turn.
+-- The pages that an operation has read on its way and latched, turn by turn.
 use Rattle.std.proofs.Common.{◌≡◌, ℕ, zero, suc, ◌+◌, ◌≤◌, ◌==◌, ◌&&◌, ◌∙◌, Bool, true, false, Option, Some, None, List, [], ◌∷◌, length, slice_get, refl, ap, inl, inr, arith}
 use Rattle.std.specs.Prelude.{if◌then◌else◌}
 use Rattle.std.specs.List.{cons_option}
 use Rattle.std.proofs.lemmas.Bool.{cases_Bool, cases_eq, eq-eqb, ne_eqb}
-use Rattle.blink_page.specs.Page.{PlainPage}
-use Rattle.blink_store.specs.Store.{PlainStore, page_of, KeepsFloorsAndLevels}
-use Rattle.blink_store.proofs.Offered.{keeps_by_write}
-use Rattle.blink_steps.specs.declared.machine.Need.{Need}
-use Rattle.blink_steps.specs.declared.machine.Need.TheVariants.{ReadPrime, ReadPage, Latch, WriteNew, WritePage, WritePrime, Unlatch, End}
 use Rattle.blink_steps.specs.declared.machine.State.{State}
 use Rattle.blink_steps.specs.declared.step.Kind.{Kind}
 use Rattle.blink_steps.specs.declared.step.Step.TheVariants.{Moved}
-use Rattle.blink_steps.specs.Acts.{PlainShared, Acts, ActsOn}
 use Rattle.blink_steps.specs.Ways.{pages_of_turns}
 use Rattle.blink_steps.specs.Counts.{has_moved, moves_in}
-use Rattle.blink_steps.specs.Machine.{PlainMachine, need_at}
-use Rattle.blink_steps.specs.Moment.{IsItsOperation}
-use Rattle.blink_steps.specs.Run.{Taken, moment_with}
-use Rattle.blink_steps.specs.Sound.{IsSound}
-use Rattle.blink_steps.specs.Table.{page_out}
-use Rattle.blink_steps.proofs.moment.SoundStatements.{WritesAreGood}
+use Rattle.blink_steps.specs.Machine.{PlainMachine}
+use Rattle.blink_steps.specs.Run.{Taken}
 use Rattle.blink_steps.proofs.bounds.CountedTurns.{turns_of-own, turns_of-other, turns_of-unlike}
-use Rattle.blink_steps.proofs.runs.ActsAreSteps.{none_after_last}
 
 -- the page of a turn, where it is one of this place and moved
 abbrev pub page_of_turn : (State → Option ℕ) → Taken → Bool → Option ℕ
@@ -84,40 +73,3 @@ no_pages page_at history place none = is_empty (pages_of_turns page_at history p
     is_empty : (pages : List ℕ) → length pages ≡ 0 → pages ≡ []
     is_empty [] empty = refl
     is_empty (page ∷ pages) empty = absurd (omega arith)
-
--- ---- the pages stay
-
--- a store with the same pages keeps them where they are
-keeps_same : (old new : PlainStore) → new.pages ≡ old.pages → KeepsFloorsAndLevels old new
-keeps_same old new same zero page there = absurd (cc)
-keeps_same old new same (suc n) page there = (page, ap (λ (pages : List PlainPage). slice_get pages n) same ∙ there, (refl, refl))
-
--- a move keeps every page, with its floor and its level
-pub move_keeps_places : WritesAreGood → (old new : PlainShared) (machines : ℕ → Option PlainMachine) (worker : ℕ) (m after : PlainMachine) (kind : Kind)
-    → IsSound (moment_with old machines) → IsItsOperation (moment_with old machines) worker m → Acts old worker m (Moved kind) after new
-    → KeepsFloorsAndLevels old.store new.store
-move_keeps_places writes_are_good old new machines worker m after kind sound its acts = at_need writes_are_good old new machines worker m after kind sound its (need_at m.state) refl acts
-  where
-    at_need : WritesAreGood → (old new : PlainShared) (machines : ℕ → Option PlainMachine) (worker : ℕ) (m after : PlainMachine) (kind : Kind)
-        → IsSound (moment_with old machines) → IsItsOperation (moment_with old machines) worker m → (need : Need) → need_at m.state ≡ need
-        → ActsOn need old worker m (Moved kind) after new → KeepsFloorsAndLevels old.store new.store
-    at_need writes_are_good old new machines worker m after kind sound its ReadPrime needs acts =
-        keeps_same old.store new.store (ap (λ (shared : PlainShared). shared.store.pages) acts.2)
-    at_need writes_are_good old new machines worker m after kind sound its (ReadPage number) needs acts =
-        keeps_same old.store new.store (ap (λ (shared : PlainShared). shared.store.pages) acts.2)
-    at_need writes_are_good old new machines worker m after kind sound its (Latch number) needs acts =
-        keeps_same old.store new.store (ap (λ (store : PlainStore). store.pages) acts.3)
-    at_need writes_are_good old new machines worker m after kind sound its WriteNew needs acts =
-        keeps_by_write old.store new.store (page_out m (length old.store.pages + 1)) (length old.store.pages + 1) acts.3
-        (λ before there. absurd (let none = none_after_last old.store in cc))
-    at_need writes_are_good old new machines worker m after kind sound its (WritePage number) needs acts =
-        let good = writes_are_good (moment_with old machines) worker m number sound its needs in
-        keeps_by_write old.store new.store (page_out m 0) number acts.2 (λ before there.
-        let also : page_of old.store number ≡ Some good.before = good.there in
-        let same : good.before ≡ before = cc in
-        (rw (← same) good.same_floor, rw (← same) good.same_level))
-    at_need writes_are_good old new machines worker m after kind sound its WritePrime needs acts =
-        keeps_same old.store new.store (ap (λ (store : PlainStore). store.pages) acts.3)
-    at_need writes_are_good old new machines worker m after kind sound its (Unlatch number) needs acts =
-        keeps_same old.store new.store (ap (λ (store : PlainStore). store.pages) acts.2)
-    at_need writes_are_good old new machines worker m after kind sound its End needs acts = absurd acts

@@ -11,7 +11,7 @@ use Rattle.blink_batch.specs.Cut.{Assignment}
 use Rattle.blink_batch.specs.PlainMap.{IsAscending}
 use Rattle.blink_batch.proofs.Offered.{next_place_is}
 use Rattle.blink_rest.specs.Entries.{AreEntries}
-use Rattle.blink_store.specs.Store.{PlainStore, page_of, KeepsFloorsAndLevels}
+use Rattle.blink_store.specs.Store.{PlainStore, page_of}
 use Rattle.blink_steps.specs.declared.machine.Job.TheVariants.{Leaf}
 use Rattle.blink_steps.specs.Allowance.{primes_for, primes_left}
 use Rattle.blink_store.proofs.Offered.{slice_get-set_other, slice_get-set_same}
@@ -25,6 +25,7 @@ use Rattle.blink_steps.specs.Counts.{has_moved, moved_by, moves_in}
 use Rattle.blink_steps.specs.Kinds.{is_page_read}
 use Rattle.blink_steps.specs.Machine.{PlainMachine}
 use Rattle.blink_steps.specs.Moment.{goes_on, IsItsOperation}
+use Rattle.blink_steps.specs.Places.{KeepsPlaces}
 use Rattle.blink_steps.specs.Run.{PlainRun, Taken, TakesTurn, Follows, IsOpeningRun, IsNextOf, after_move, seat_after, idle_seat, busy_seat, moment_of}
 use Rattle.blink_steps.specs.SoundRun.{IsSoundRun, IsSoundIdle}
 use Rattle.blink_steps.specs.TreeMap.{pairs_of}
@@ -34,15 +35,15 @@ use Rattle.blink_steps.proofs.bounds.MovesStayWithin.{working_is_after}
 use Rattle.blink_steps.proofs.bounds.FindsReadOnTheirWay.{find_reads_on_way}
 use Rattle.blink_steps.proofs.operation.PlacedWhateverBefore.{its_place}
 use Rattle.blink_steps.proofs.bounds.OperationTracks.{track_stays, fresh_on_track}
-use Rattle.blink_steps.proofs.operation.WrittenPagesAreLawful.{writes_are_good}
-use Rattle.blink_steps.proofs.runs.OperationOfTurn.{machines_of, next_is_its}
+use Rattle.blink_steps.proofs.law.EachPart.{step_law}
+use Rattle.blink_steps.proofs.runs.OperationOfTurn.{machines_of, move_is_step, next_is_its}
 use Rattle.blink_steps.proofs.runs.RunStatements.{MayBegin, OpeningRunIsSound, TurnKeepsSoundRun}
 use Rattle.blink_steps.proofs.bounds.MovesKeepWaysShort.{IsShortAt, IsTracked, own_track, other_track, rest_track, own_short, other_short, rest_short, short_stays}
 use Rattle.blink_steps.proofs.bounds.ReadsKeepTrack.{GoesOnTrack}
 use Rattle.blink_steps.proofs.bounds.StepsKeepTrack.{step_tracks}
 use Rattle.blink_steps.proofs.tree.TreeStatements.{TreeLaws}
 use Rattle.blink_steps.proofs.bounds.CountedTurns.{turns_of-other, turns_of-unlike}
-use Rattle.blink_steps.proofs.bounds.PagesOfTurns.{move_keeps_places, no_pages}
+use Rattle.blink_steps.proofs.bounds.PagesOfTurns.{no_pages}
 
 -- each operation under way is on its track, each operation's way is short, and only operations of the batch have taken steps
 pub record IsWalked (history : List Taken) (run : PlainRun) : Type 0 where
@@ -73,8 +74,10 @@ walked_of_move : TreeLaws → (history : List Taken) (taken : Taken) (kind : Kin
 walked_of_move laws history taken kind old new next entries sound counted walked known is_next moved acts same =
     let its : IsItsOperation (moment_of old) taken.worker taken.before = next_is_its old taken.worker taken.place taken.before next is_next in
     let fits : FitsWords taken.before.op = next_fits entries history old taken.worker taken.place taken.before next sound known in
-    let keeps : KeepsFloorsAndLevels old.shared.store new.shared.store =
-    move_keeps_places (writes_are_good laws) old.shared new.shared (machines_of old.seats) taken.worker taken.before taken.after kind sound.sound its acts in
+    let moved_to : PlainRun = after_move old taken.worker taken.place next taken.before kind taken.after new.shared in
+    let step = move_is_step old taken.worker taken.place taken.before taken.after next kind new.shared is_next acts in
+    let keeps : KeepsPlaces (page_of old.shared.store) (page_of new.shared.store) =
+    step_law.places_stay.stay (moment_of old) (moment_of moved_to) taken.worker taken.before taken.after (Moved kind) sound.sound its step in
     let before : IsTracked (page_of old.shared.store) history taken.place taken.before =
     next_on_track entries history old taken.worker taken.place taken.before next sound counted walked is_next in
     let goes : GoesOnTrack (page_of old.shared.store) taken.before.state taken.after (read_on_way history taken.place) (latched_by history taken.place) (moves_in history taken.place) =

@@ -6,12 +6,12 @@ use Rattle.blink_rest.specs.Entries.{AreEntries}
 use Rattle.blink_rest.specs.Level.{entries_along}
 use Rattle.blink_rest.proofs.Offered.{entries_ascend}
 use Rattle.blink_steps.specs.StepLaw.{SoundHasOneMap}
-use Rattle.blink_steps.specs.TreeMap.{pairs_of}
+use Rattle.blink_steps.specs.TreeMap.{entries_from, pairs_of}
 use Rattle.blink_steps.proofs.moment.EntriesThatATreeKeeps.{are_entries, entries_are}
-use Rattle.blink_steps.proofs.worlds.EntriesAtStart.{ascending_from, entries_from, pairs_of-entries_from}
+use Rattle.blink_steps.proofs.worlds.EntriesAtStart.{ascending_from, pairs_of-entries_from}
 
 -- a plain map is told by its pairs
-entries_from-pairs_of : (entries : List Entry) → entries_from (pairs_of entries) ≡ entries
+pub entries_from-pairs_of : (entries : List Entry) → entries_from (pairs_of entries) ≡ entries
 entries_from-pairs_of [] = refl
 entries_from-pairs_of (e ∷ entries) = ap (λ (rest : List Entry). e ∷ rest) (entries_from-pairs_of entries)
 

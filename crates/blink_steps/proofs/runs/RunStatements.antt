@@ -8,16 +8,18 @@ use Rattle.blink_batch.specs.Order.{operations_at}
 use Rattle.blink_batch.specs.PlainMap.{IsAscending, pointer_of}
 use Rattle.blink_page.specs.declared.limits.TheConstants.{MAX_PAGE}
 use Rattle.blink_rest.specs.Entries.{AreEntries}
+use Rattle.blink_store.specs.Latches.{holder_of}
 use Rattle.blink_store.specs.Store.{PlainStore, page_of}
 use Rattle.blink_steps.specs.Ways.{IsShort}
 use Rattle.blink_steps.specs.Bounds.{IsBounded}
 use Rattle.blink_steps.specs.Counts.{page_reads_in, moves_in}
 use Rattle.blink_steps.specs.Machine.{PlainMachine, NeedsNew}
+use Rattle.blink_steps.specs.Owned.{HoldOneLatchEach}
 use Rattle.blink_steps.specs.Run.{PlainRun, Taken, TakesTurn, Follows, IsOpeningRun, IsNextOf}
 use Rattle.blink_steps.specs.SoundRun.{IsSoundRun}
 use Rattle.blink_steps.specs.TreeMap.{pairs_of}
 use Rattle.blink_steps.specs.Acts.{CanAct}
-pub use Rattle.blink_steps.specs.Promises.{HasAnswerAt, EachOnce, IsFrontOfLane, HasUndecided, HoldOneLatchEach, IsWholeRun, IsAnsweredInOrder}
+pub use Rattle.blink_steps.specs.Promises.{HasAnswerAt, EachOnce, IsFrontOfLane, HasUndecided, IsWholeRun, IsAnsweredInOrder}
 use Rattle.blink_rest.specs.Reach.{IsReached}
 pub use Rattle.blink_steps.specs.World.{MayBegin, HasEnded, IsAtLanesEnd}
 use Rattle.blink_steps.specs.World.{WritesItsOwn}
@@ -61,7 +63,7 @@ CountsAreKept = (start : PlainStore) (ops : List Op) (assignment : Assignment) (
 
 -- a worker holds one latch at most
 abbrev pub OneLatchEach : Type 0
-OneLatchEach = (run : PlainRun) → HoldOneLatchEach run.shared.latches
+OneLatchEach = (run : PlainRun) → HoldOneLatchEach (holder_of run.shared.latches)
 
 -- an operation stands in the order once at most
 abbrev pub EachIsDecidedOnce : Type 0

@@ -9,13 +9,9 @@ use Rattle.blink_rest.specs.Entries.{AreEntries}
 use Rattle.blink_rest.specs.Rest.{IsStoreAtRest}
 use Rattle.blink_rest.proofs.Offered.{entries_ascend, entries_exist_at_rest}
 use Rattle.blink_store.specs.Store.{PlainStore, page_of}
-use Rattle.blink_steps.specs.TreeMap.{IsMapOf, pairs_of}
+use Rattle.blink_steps.specs.TreeMap.{IsMapOf, entries_from, pairs_of}
 
--- pairs as the entries of a map
-abbrev pub entries_from : List (ℕ × ℕ) → List Entry
-entries_from pairs = map (λ (pair : ℕ × ℕ). entry pair.0 pair.1) pairs
-
--- and back
+-- pairs as the entries of a map, and these as pairs again, are the same
 pub pairs_of-entries_from : (pairs : List (ℕ × ℕ)) → pairs_of (entries_from pairs) ≡ pairs
 pairs_of-entries_from [] = refl
 pairs_of-entries_from (pair ∷ pairs) = ap (λ (rest : List (ℕ × ℕ)). pair ∷ rest) (pairs_of-entries_from pairs)
