@@ -1,0 +1,5 @@
+pub mod RowsOfContent
+pub mod EntriesAsWords
+pub mod LawfulParts
+pub mod WhatRowsSay
+pub mod Offered

@@ -1,0 +1,8 @@
+//! How many changes a table has room for.
+
+/// How many insertions and how many deletions may change a table.
+#[derive(Clone, Copy, Debug, PartialEq, Eq)]
+pub struct Allowance {
+    pub inserts: u32,
+    pub deletes: u32,
+}

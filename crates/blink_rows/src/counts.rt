@@ -1,0 +1,55 @@
+//! How large a table is, and where its rows stand.
+ghost use Rattle.std.specs.Prelude.{◌≡◌, ◌+◌, ◌-◌, ◌*◌, ◌≤◌};
+
+use crate::allowance::Allowance;
+use crate::limits::{NUMBERS_OF_INSERTION, ROW_WORDS, ROWS_OF_INSERTION};
+use blink_page::MAX_PAGE;
+use std::marker::Model;
+
+/// How many page numbers a table has, with number 0, which is the prime block's, and how many rows.
+#[derive(Clone, Copy, Debug, PartialEq, Eq)]
+pub struct Counts {
+    pub numbers: u64,
+    pub rows: u64,
+}
+
+impl Model for Counts {
+    ghost use Rattle.blink_rows.specs.Counts.{PlainCounts, AreBounded};
+
+    ghost Value = { PlainCounts };
+
+    ghost use Rattle.blink_rows.specs.CountsView.{plain, inside_of};
+
+    ghost view = { plain };
+
+    ghost invariant = { λ counts. AreBounded (plain counts) };
+
+    ghost inverse = { inside_of };
+}
+
+impl Counts {
+    /// The counts of a table that opens with so many pages and has room for these changes: a row for each page and for the
+    /// prime block, and what the changes may take.
+    pub fn of(pages: u32, allowance: Allowance) -> Counts
+        requires { 1 + pages + NUMBERS_OF_INSERTION * allowance.inserts ≤ MAX_PAGE + 1 }
+        ensures numbers { result.numbers ≡ 1 + pages + NUMBERS_OF_INSERTION * allowance.inserts }
+        ensures rows { result.rows
+            ≡ 1 + pages + ROWS_OF_INSERTION * allowance.inserts + allowance.deletes }
+    {
+        let opening = 1 + u64::from(pages);
+        let inserts = u64::from(allowance.inserts);
+        Counts {
+            numbers: opening + NUMBERS_OF_INSERTION * inserts,
+            rows: opening + ROWS_OF_INSERTION * inserts + u64::from(allowance.deletes),
+        }
+    }
+
+    /// The place of a row's first word in the table. The rows, from row 1 on, stand behind two words for each number.
+    pub fn row_start(&self, row: u64) -> u64
+        requires first { 1 ≤ row }
+        requires last { row ≤ self.now.rows }
+        ensures { result ≡ 2 * self.now.numbers + ROW_WORDS * (row - 1) }
+    {
+        2 * self.numbers + ROW_WORDS as u64 * (row - 1)
+    }
+}

@@ -1,0 +1,22 @@
+//! Pages and prime blocks as rows of words, for a table that threads share.
+//!
+//! A row says all that a page is. No call takes memory.
+#![tactic(auto)]
+
+mod allowance;
+mod counts;
+mod lawful;
+mod limits;
+mod pages;
+mod primes;
+mod span;
+#[cfg(test)]
+mod tests;
+mod words;
+
+pub use allowance::Allowance;
+pub use counts::Counts;
+pub use limits::{HEAD_WORDS, NUMBERS_OF_INSERTION, ROW_WORDS, ROWS_OF_INSERTION};
+pub use pages::{page_row, row_page};
+pub use primes::{prime_row, row_prime};
+pub use span::Span;
