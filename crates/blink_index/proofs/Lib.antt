@@ -4,3 +4,4 @@ pub mod WayDown
 pub mod StretchOfScan
 pub mod WhereLinksLead
 pub mod LevelsAsLines
+pub mod Offered

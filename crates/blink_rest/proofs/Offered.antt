@@ -10,7 +10,7 @@ pub use Rattle.blink_rest.proofs.ChildrenAreInChain.{page_refers, named_refers, 
 pub use Rattle.blink_rest.proofs.DifferentNumbers.{among_append, among_from_Contains, Contains-from_among, AllPairs-from_differ}
 pub use Rattle.blink_rest.proofs.HowManyNumbers.{at_most_n}
 -- the numbers of a chain's pages
-pub use Rattle.blink_rest.proofs.PagesOfChainsDiffer.{standing, stands_among, chain_differs}
+pub use Rattle.blink_rest.proofs.PagesOfChainsDiffer.{standing, stands_among, chain_differs, levels_differ}
 pub use Rattle.blink_rest.proofs.NoPageLeftOut.{cells_within}
 pub use Rattle.blink_rest.proofs.WalkAlongLevel.{walked_within, store_numbered}
 -- why levels are few: an inner page has two entries at least

@@ -1,7 +1,7 @@
 -- What this crate offers to the proofs of the crates above: pages by their numbers, lists after a change, and who holds a page.
 
 -- which numbers have a page, and what a write makes of the pages
-pub use Rattle.blink_store.proofs.PagesByNumber.{has_page, page_there, pages-write, pages-add, keeps_by_write}
+pub use Rattle.blink_store.proofs.PagesByNumber.{has_page, page_there, pages-write, pages-add}
 -- what stands at a place of a list after a change
 pub use Rattle.blink_store.proofs.ChangedLists.{slice_get-set_same, slice_get-set_other, slice_get-push_same, slice_get-push_other}
 -- who holds a page

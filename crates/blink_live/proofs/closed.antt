@@ -1,0 +1,4 @@
+pub mod TakingBackKeepsTable
+pub mod AllBack
+pub mod TableAtTheEnd
+pub mod SharesComeBack

@@ -1,0 +1,230 @@
+-- A deal keeps the rule: the keeper's first rows and page numbers, and keys that nobody has, become a new seat's.
+use Rattle.std.proofs.Common.{◌≡◌, ◌≢◌, ℕ, suc, ◌+◌, ◌-◌, ◌<◌, Bool, true, false, Some, None, List, [], ◌∷◌, ◌++◌, length, set, refl, sym, ap, ◌∙◌, subst, inl, inr, ⊎_elim, length-set, length-append, arith}
+use Rattle.std.specs.Prelude.{if◌then◌else◌, Contains}
+use mathlib.Core.Option.{some, some-injective}
+use lib.ListN.{get_elem?}
+use Rattle.atomic_table.specs.Table.{State, Splits}
+use Rattle.atomic_table.proofs.Lists.{at_longer}
+use Rattle.blink_batch.specs.PlainMap.{pointer_of}
+use Rattle.blink_steps.specs.Moment.{Moment}
+use Rattle.blink_live.specs.declared.view.Plan.{Plan}
+use Rattle.blink_live.specs.declared.view.Role.TheVariants.{Keeper}
+use Rattle.blink_live.specs.declared.view.View.{View}
+use Rattle.blink_live.specs.Changes.{put, changes_of}
+use Rattle.blink_live.specs.Dealing.{CanDeal}
+use Rattle.blink_live.specs.Rule.{Owners, IsShare, IsInRole, Knows, pass_count, passes_in, AreCounted, IsTableAt, IsTable}
+use Rattle.blink_live.specs.Views.{is_among, share_of_keys, deals_one, keeps_rest, gets_first}
+use Rattle.blink_live.proofs.dealt.KeysOfShare.{among_from_contains, contains_from_among, entries_of_keep, after_untouched}
+use Rattle.blink_live.proofs.table.MapsWithOneChange.{put_here, put_else}
+use Rattle.blink_live.proofs.table.OwnersChange.{StaysPublished, StillOwns, reads_still, share_still, knows_still, owners_change}
+use Rattle.blink_live.proofs.table.OwnersInRange.{ranged, ranged_in, ranged_out}
+use Rattle.blink_live.proofs.table.PassesOut.{at_end, passes_more, passes_role}
+use Rattle.blink_live.proofs.table.SeatsThatStay.{at_inside, at_put, views_stay}
+
+-- whose is what after the deal
+abbrev owners_after : Owners → ℕ → View → ℕ → ℕ → List ℕ → Owners
+owners_after old seat v rows pages keys = record {
+  row = ranged v.rows.next (v.rows.next + rows) (suc seat) old.row;
+  page = ranged v.pages.next (v.pages.next + pages) (suc seat) old.page;
+  key = λ key. if is_among keys key then suc seat else old.key key;
+  latch_number = put old.latch_number seat (v.rows.next + rows - 1);
+}
+
+module _ (plan : Plan) (s : State ℕ View) (moment : Moment) (h : IsTableAt plan s moment) (id : ℕ) (v : View) (at : get_elem? s.views id ≡ some v)
+    (rows pages : ℕ) (keys taken : List ℕ) (can : CanDeal v rows pages keys taken) where
+  abbrev new_seat : ℕ
+  new_seat = length s.views
+
+  abbrev old : Owners
+  old = h.owners
+
+  abbrev new : Owners
+  new = owners_after h.owners new_seat v rows pages keys
+
+  abbrev left : View
+  left = keeps_rest v rows pages taken
+
+  abbrev right : View
+  right = gets_first v rows pages keys
+
+  known : Knows plan old s.words moment h.log id v
+  known = h.views id v at
+
+  in_role : IsInRole plan old h.log id v (Keeper can.dealt can.back)
+  in_role = subst (IsInRole plan old h.log id v) can.role known.in_role
+
+  -- ---- what isn't dealt stays whose it was
+
+  row_else : (row owner : ℕ) → old.row row ≡ owner → owner ≢ suc id → new.row row ≡ owner
+  row_else row owner is other = ranged_out v.rows.next (v.rows.next + rows) (suc new_seat) old.row row
+      (λ low high. other (sym is ∙ known.rows.own row low (let enough = can.enough_rows in omega (arith, enough, high)))) ∙ is
+
+  page_else : (number owner : ℕ) → old.page number ≡ owner → owner ≢ suc id → new.page number ≡ owner
+  page_else number owner is other = ranged_out v.pages.next (v.pages.next + pages) (suc new_seat) old.page number
+      (λ low high. other (sym is ∙ known.numbers.own number low (let enough = can.enough_pages in omega (arith, enough, high)))) ∙ is
+
+  dealt_key : (key : ℕ) → Contains keys key → old.key key ≡ 0
+  dealt_key key has = in_role.2 key (can.free_keys key has)
+
+  key_else : (key owner : ℕ) → old.key key ≡ owner → owner ≢ 0 → new.key key ≡ owner
+  key_else key owner is some_owner = go (is_among keys key) refl
+    where
+      go : (b : Bool) → is_among keys key ≡ b → (if b then suc new_seat else old.key key) ≡ owner
+      go true has = absurd (some_owner (sym is ∙ dealt_key key (contains_from_among keys key has)))
+      go false has = is
+
+  untouched_still : (key : ℕ) → new.key key ≡ 0 → old.key key ≡ 0
+  untouched_still key = go (is_among keys key)
+    where
+      go : (b : Bool) → (if b then suc new_seat else old.key key) ≡ 0 → old.key key ≡ 0
+      go true is = absurd (omega (arith, is))
+      go false is = is
+
+  published : StaysPublished old new
+  published row is = row_else row 0 is (λ e. absurd (omega (arith, e)))
+
+  latch_else : (seat : ℕ) → seat ≢ new_seat → new.latch_number seat ≡ old.latch_number seat
+  latch_else seat other = put_else old.latch_number new_seat seat (v.rows.next + rows - 1) other
+
+  -- whoever holds a latch has an operation, and the new seat has none
+  holder_else : (number seat : ℕ) → moment.holder number ≡ Some seat → new.latch_number seat ≡ old.latch_number seat
+  holder_else number seat holds = latch_else seat (λ e.
+      let its = h.sound.1.latches.by_holder seat number holds in
+      let idle : moment.machines seat ≡ None = h.others_idle seat (omega (arith, e)) in
+      let under : moment.machines seat ≡ Some its.0 = its.1 in
+      absurd (cc))
+
+  still_owns : (seat : ℕ) → seat ≢ id → seat < new_seat → StillOwns old new seat
+  still_owns seat other inside = record {
+    row = λ row is. row_else row (suc seat) is (λ e. other (omega (arith, e)));
+    page = λ number is. page_else number (suc seat) is (λ e. other (omega (arith, e)));
+    key = λ key is. key_else key (suc seat) is (λ e. absurd (omega (arith, e)));
+    latch_number = latch_else seat (λ e. absurd (omega (arith, e, inside)));
+  }
+
+  -- ---- the keeper
+
+  untaken : (key : ℕ) → ¬ Contains taken key → new.key key ≡ 0
+  untaken key none = go (is_among keys key) refl
+    where
+      go : (b : Bool) → is_among keys key ≡ b → (if b then suc new_seat else old.key key) ≡ 0
+      go true has = absurd (none ((can.taken_now key).1 (inr (contains_from_among keys key has))))
+      go false has = in_role.2 key (λ was. none ((can.taken_now key).1 (inl was)))
+
+  left_role : left.role ≡ Keeper (suc can.dealt) can.back
+  left_role = ap deals_one can.role
+
+  left_in_role : IsInRole plan new h.log id left left.role
+  left_in_role = subst (IsInRole plan new h.log id left) (sym left_role) (
+    in_role.0,
+    in_role.1,
+    untaken,
+    λ share has. share_still plan old new s.words h.log published 1 1 share (λ key is. key_else key 1 is (λ e. absurd (omega (arith, e)))) (in_role.3 share has),
+  )
+
+  left_knows : Knows plan new s.words moment h.log id left
+  left_knows = record {
+    same_plan = known.same_plan;
+    operation = known.operation;
+    bounded = known.bounded;
+    reads = reads_still plan old new s.words h.log published v.reads known.reads;
+    rows = record {
+      in_range = (let low = known.rows.in_range.0 in omega (arith, low), known.rows.in_range.1);
+      own = λ row low high. ranged_out v.rows.next (v.rows.next + rows) (suc new_seat) old.row row (λ a b. omega (arith, low, b)) ∙ known.rows.own row (omega (arith, low)) high;
+      blank = λ row low high. known.rows.blank row (omega (arith, low)) high;
+    };
+    numbers = record {
+      in_range = (let low = known.numbers.in_range.0 in omega (arith, low), known.numbers.in_range.1);
+      own = λ number low high. ranged_out v.pages.next (v.pages.next + pages) (suc new_seat) old.page number (λ a b. omega (arith, low, b)) ∙ known.numbers.own number (omega (arith, low)) high;
+      free = λ number low high. known.numbers.free number (omega (arith, low)) high;
+    };
+    share = share_still plan old new s.words h.log published (suc id) (suc id) v.share (λ key is. key_else key (suc id) is (λ e. absurd (omega (arith, e)))) known.share;
+    saw = known.saw;
+    heard = known.heard;
+    in_role = left_in_role;
+  }
+
+  -- ---- the new pass
+
+  new_key : (key : ℕ) → Contains keys key → new.key key ≡ suc new_seat
+  new_key key has = ap (λ (b : Bool). if b then suc new_seat else old.key key) (among_from_contains keys key has)
+
+  new_share : IsShare plan new h.log (suc new_seat) (share_of_keys keys v.plan.opening)
+  new_share key has =
+      let none : changes_of key h.log ≡ [] = h.untouched key (dealt_key key has) in
+      record {
+        own = new_key key has;
+        kept = entries_of_keep keys v.plan.opening key (among_from_contains keys key has)
+            ∙ (ap (λ (p : Plan). pointer_of p.opening key) known.same_plan ∙ sym (after_untouched (pointer_of plan.opening) h.log key none));
+        changes = none;
+      }
+
+  right_knows : Knows plan new s.words moment h.log new_seat right
+  right_knows = record {
+    same_plan = known.same_plan;
+    operation = h.others_idle new_seat (omega arith);
+    bounded = λ m is. absurd (cc);
+    reads = tt;
+    rows = record {
+      in_range = (known.rows.in_range.0, let enough = can.enough_rows in let high = known.rows.in_range.1 in omega (arith, enough, high));
+      own = λ row low high. ranged_in v.rows.next (v.rows.next + rows) (suc new_seat) old.row row low high;
+      blank = λ row low high. known.rows.blank row low (let enough = can.enough_rows in omega (arith, enough, high));
+    };
+    numbers = record {
+      in_range = (known.numbers.in_range.0, let enough = can.enough_pages in let high = known.numbers.in_range.1 in omega (arith, enough, high));
+      own = λ number low high. ranged_in v.pages.next (v.pages.next + pages) (suc new_seat) old.page number low high;
+      free = λ number low high. known.numbers.free number low (let enough = can.enough_pages in omega (arith, enough, high));
+    };
+    share = new_share;
+    saw = (h.log, refl);
+    heard = (h.log, refl);
+    in_role = (let inside : id < new_seat = at_inside s.views id v at in omega (arith, inside), put_here old.latch_number new_seat (v.rows.next + rows - 1));
+  }
+
+  -- ---- all seats
+
+  abbrev views_then : List View
+  views_then = set s.views id left ++ right ∷ []
+
+  older_knows : (seat : ℕ) (u : View) → get_elem? (set s.views id left) seat ≡ some u → Knows plan new s.words moment h.log seat u
+  older_knows = views_stay (Knows plan new s.words moment h.log) s.views id left left_knows
+      (λ seat u other there. knows_still plan old new s.words h.log published moment seat u
+      (let first : id ≡ 0 = in_role.0 in omega (arith, first, other))
+      (still_owns seat other (at_inside s.views seat u there)) (h.views seat u there))
+
+  all_know : (seat : ℕ) (u : View) → get_elem? views_then seat ≡ some u → Knows plan new s.words moment h.log seat u
+  all_know seat u there = ⊎_elim (λ (t : get_elem? (set s.views id left) seat ≡ some u). older_knows seat u t)
+      (λ (t : (seat ≡ length (set s.views id left)) × (right ≡ u)). subst (λ (x : ℕ × View). Knows plan new s.words moment h.log x.0 x.1)
+      (λ i. (sym (t.0 ∙ length-set s.views id left) i, t.1 i)) right_knows)
+      (at_end (set s.views id left) right u seat there)
+
+  counted_then : AreCounted views_then
+  counted_then =
+      let was = h.counted in
+      let first : id ≡ 0 = in_role.0 in
+      let is : v ≡ was.keeper = some-injective v was.keeper (sym at ∙ (ap (get_elem? s.views) first ∙ was.first)) in
+      let role : v.role ≡ Keeper was.dealt was.back = ap (λ (y : View). y.role) is ∙ was.role in
+      let role_then : left.role ≡ Keeper (suc was.dealt) was.back = ap deals_one role in
+      let changed : passes_in (set s.views id left) + pass_count v.role ≡ passes_in s.views + pass_count left.role = passes_role s.views id v left at in
+      let no_pass : pass_count v.role ≡ 0 = ap pass_count role in
+      let no_pass_then : pass_count left.role ≡ 0 = ap pass_count role_then in
+      let more : passes_in views_then ≡ passes_in (set s.views id left) + 1 = passes_more (set s.views id left) right in
+      let counted = was.counted in
+      record {
+        keeper = left;
+        dealt = suc was.dealt;
+        back = was.back;
+        first = at_longer (set s.views id left) (right ∷ []) 0 left (subst (λ (i : ℕ). get_elem? (set s.views id left) i ≡ some left) first (at_put s.views id v left at));
+        role = role_then;
+        counted = omega (arith, changed, no_pass, no_pass_then, more, counted);
+      }
+
+  deals_at : IsTableAt plan record { words = s.words; homes = s.homes; views = views_then } moment
+  deals_at = owners_change plan s moment h new views_then published holder_else untouched_still all_know
+      (let same : length (set s.views id left) ≡ length s.views = length-set s.views id left in
+      let longer : length views_then ≡ length (set s.views id left) + 1 = length-append (set s.views id left) (right ∷ []) in
+      omega (arith, same, longer)) counted_then
+
+pub deals_keep_table : (plan : Plan) (id : ℕ) (v : View) (rows pages : ℕ) (keys taken : List ℕ) → CanDeal v rows pages keys taken
+    → Splits (IsTable plan) id v (keeps_rest v rows pages taken) (gets_first v rows pages keys)
+deals_keep_table plan id v rows pages keys taken can s table at = (table.0, deals_at plan s table.0 table.1 id v at rows pages keys taken can)

@@ -1,0 +1,112 @@
+-- The load of a page word is the tree's read of the page.
+use Rattle.std.proofs.Common.{◌≡◌, ℕ, inl, inr, Option, Some, List, [], refl, sym, ap, ◌∙◌, subst, arith, ◌<◌, ◌≤◌}
+use Rattle.std.specs.Prelude.{slice_index}
+use mathlib.Core.Option.{none}
+use mathlib.Core.List.{append-nil}
+use Rattle.atomic_table.specs.Table.{step, keeps, Allows}
+use Rattle.blink_batch.specs.Batch.{FitsWords}
+use Rattle.blink_batch.specs.Operation.{answer_at, key_of}
+use Rattle.blink_batch.specs.PlainMap.{pointer_of}
+use Rattle.blink_page.specs.Page.{PlainPage, IsLawfulPage}
+use Rattle.blink_page.specs.declared.limits.TheConstants.{MAX_FAN}
+use Rattle.blink_rows.specs.Row.{page_words}
+use Rattle.blink_steps.specs.declared.step.Step.TheVariants.{Moved}
+use Rattle.blink_steps.specs.declared.step.Kind.TheVariants as kind
+use Rattle.blink_steps.specs.Machine.{PlainMachine, NeedsPage}
+use Rattle.blink_steps.specs.Moment.{Moment, goes_on, Steps, reads_page, IsItsOperation, under_way}
+use Rattle.blink_steps.specs.Places.{way_left}
+use Rattle.blink_steps.specs.StepLaw.{Decides, deciding, other}
+use Rattle.blink_steps.specs.Table.{SeesPage}
+use Rattle.blink_steps.proofs.Offered.{step_law, way_left_falls, has_answer_at_end, find_stays}
+use Rattle.blink_live.specs.declared.view.Plan.{Plan}
+use Rattle.blink_live.specs.declared.view.Role.TheVariants.{Pass}
+use Rattle.blink_live.specs.declared.view.View.{View}
+use Rattle.blink_live.specs.Changes.{after}
+use Rattle.blink_live.specs.Plays.{loads_page, LoadsPage, AnswersAfter}
+use Rattle.blink_live.specs.Rule.{IsTable, IsTableAt, PageWordIs}
+use Rattle.blink_live.specs.Views.{Sat, reading}
+use Rattle.blink_live.proofs.table.LoadsKeepTable.{moved, load_keeps}
+use Rattle.blink_live.proofs.table.MapsWithOneChange.{put_here, put_else}
+use Rattle.blink_live.proofs.table.NextPageIsThere.{next_page_is_there}
+use Rattle.blink_live.proofs.found.OperationBegins.{goes_on_as}
+
+module _ (moment : Moment) (worker number : ℕ) (m then : PlainMachine) (page : PlainPage) where
+  read_step : NeedsPage m number → moment.pages number ≡ Some page → SeesPage m number page then
+      → Steps moment worker m (Moved (kind.ReadPage number)) then (moved moment worker (goes_on then then.state))
+  read_step needs there sees = reads_page number page needs there sees refl
+      (record { same_fan = refl; same_prime = refl; same_pages = refl; same_holder = refl })
+      (record { own = put_here moment.machines worker (goes_on then then.state); others = λ some_other ne. put_else moment.machines worker some_other (goes_on then then.state) ne })
+
+-- what it answers is what its key keeps after the changes so far
+answers_after : (kept : ℕ → Option ℕ) (moment : Moment) (m then : PlainMachine) (now : List _) → ((key : ℕ) → pointer_of now key ≡ kept key) → Decides moment m then now → AnswersAfter kept m then
+answers_after kept moment m then now is (deciding none_yet answered keeps_map) = inr (answered ∙ ap (λ (o : Option ℕ). Some (answer_at m.op o)) (is (key_of m.op)))
+answers_after kept moment m then now is (other same keeps_map) = inl same
+
+-- a page of some tree is lawful under the greatest fan
+lawful_within : (fan : ℕ) (page : PlainPage) → fan ≤ MAX_FAN → IsLawfulPage fan page → IsLawfulPage MAX_FAN page
+lawful_within fan page less lawful = record {
+  level_in_range = lawful.level_in_range;
+  high_in_range = lawful.high_in_range;
+  floor_below_high = lawful.floor_below_high;
+  right_unless_last = lawful.right_unless_last;
+  right_is_number = lawful.right_is_number;
+  at_most_fan = let few = lawful.at_most_fan in omega (arith, few, less);
+  keys_rise = lawful.keys_rise;
+  values_in_range = lawful.values_in_range;
+  inner = lawful.inner;
+}
+
+pub reads_page_word : (plan : Plan) (slots id number : ℕ) (me : Sat) (m : PlainMachine) → me.0.role ≡ Pass → me.0.operation ≡ Some m → FitsWords m.op → NeedsPage m number
+    → 1 ≤ number → number < plan.counts.numbers
+    → Allows (IsTable plan) slots id me number (λ k. k) (loads_page (step slots number 0 0 none) me)
+reads_page_word plan slots id number me m role at_m fits needs some_number in_range s table homes at small =
+    let moment : Moment = table.0 in
+    let h : IsTableAt plan s moment = table.1 in
+    let known = h.views id me.0 at in
+    let under : moment.machines id ≡ Some m = known.operation ∙ at_m in
+    let its : IsItsOperation moment id m = under_way under in
+    let order = step_law.sound_is_in_order moment h.sound in
+    let reads = order.reads_page id number m its needs in
+    let then : PlainMachine = reads.one_machine.after in
+    let sees = reads.one_machine.sees in
+    let row : ℕ = slice_index s.words number in
+    let is_page : PageWordIs plan h.owners s.words row (Some reads.page) = subst (PageWordIs plan h.owners s.words row) reads.there (h.pages number some_number in_range) in
+    let way : ℕ = way_left moment.pages then in
+    let w : View = reading me.0 then way row (page_words reads.page) h.log in
+    let stepped = read_step moment id number m then reads.page needs reads.there sees in
+    let new : Moment = moved moment id (goes_on then then.state) in
+    let sound = step_law.step_keeps_sound moment new id m then (Moved (kind.ReadPage number)) h.sound fits its stepped in
+    let decides = step_law.step_decides moment new id m then (Moved (kind.ReadPage number)) h.now h.sound fits its stepped h.is_map.ascending h.is_map.kept in (
+      w,
+      keeps,
+      tt,
+      load_keeps plan s moment h id number me.0 w at role sound refl
+          (λ some_other is. ap (way_left moment.pages) (sym (goes_on_as then then.state some_other is)))
+          is_page
+          ([], append-nil h.log),
+      λ same at_same needed. subst (λ (k : PlainMachine). (machine : PlainMachine) × LoadsPage k number me row machine (w, me.1)) (let e : m ≡ same = cc in e) (
+        then,
+        record {
+          page = reads.page;
+          way = way;
+          seen = h.log;
+          is = refl;
+          learns = record { saw = known.saw; heard = known.heard };
+          row_in_range = subst (λ (p : Plan). (1 ≤ row) × (row ≤ p.counts.rows)) (sym known.same_plan) is_page.0.0;
+          lawful = lawful_within moment.fan reads.page h.sound.1.fan_in_range.1 reads.lawful;
+          readable = reads.readable;
+          sees = sees;
+          only = reads.one_machine.only;
+          next = next_page_is_there plan me.0.plan s moment h id then known.same_plan sound;
+          nearer = λ level going.
+              let before : way_left moment.pages m ≡ me.0.way_left = known.bounded m at_m in
+              let falls : way < way_left moment.pages m = way_left_falls moment h.sound id number level m then reads.page its going reads.there sees in
+              omega (arith, before, falls);
+          answers = answers_after (after (pointer_of me.0.plan.opening) h.log) new m then h.now
+              (subst (λ (p : Plan). (key : ℕ) → pointer_of h.now key ≡ after (pointer_of p.opening) h.log key) (sym known.same_plan) h.kept) decides;
+          own_keys = λ key mine. ap (λ (p : Plan). after (pointer_of p.opening) h.log key) known.same_plan ∙ sym ((known.share key mine).kept);
+          answers_at_end = λ ends. has_answer_at_end moment h.sound id m then its ends (Moved (kind.ReadPage number)) new stepped;
+          finds = λ key find. find_stays key m then find moment new id (Moved (kind.ReadPage number)) stepped;
+        },
+      ),
+    )

@@ -1,0 +1,29 @@
+-- The loads of a row's words tell the words that the page word's load has noted.
+use Rattle.std.proofs.Common.{ℕ, ◌+◌, Some, List, refl, sym, ap, ◌∙◌, subst}
+use Rattle.std.specs.Prelude.{slice_index}
+use mathlib.Core.Option.{none}
+use lib.Seq.{set-get_or}
+use Rattle.atomic_table.specs.Table.{step, keeps, Allows}
+use Rattle.atomic_table.proofs.Lists.{set_again}
+use Rattle.blink_live.specs.declared.view.Plan.{Plan}
+use Rattle.blink_live.specs.declared.view.View.{View}
+use Rattle.blink_live.specs.Plays.{loads_word}
+use Rattle.blink_live.specs.Rule.{IsTable, IsTableAt, ReadsRow}
+use Rattle.blink_live.specs.Views.{Sat}
+use Rattle.blink_live.specs.Words.{row_start}
+
+pub reads_row_word : (plan : Plan) (slots id word : ℕ) (me : Sat) → Allows (IsTable plan) slots id me word (λ k. k) (loads_word (step slots word 0 0 none) me)
+reads_row_word plan slots id word me s table homes at small =
+    let h : IsTableAt plan s table.0 = table.1 in
+    let known = h.views id me.0 at in (
+      me.0,
+      keeps,
+      tt,
+      subst (λ (x : List ℕ × List View). IsTable plan record { words = x.0; homes = s.homes; views = x.1 }) (λ i. (sym (set-get_or s.words word 0) i, sym (set_again s.views id me.0 at) i)) table,
+      record {
+        same = refl;
+        is_its = λ row i content reads inside is.
+            let its : ReadsRow plan h.owners s.words (Some (row, content)) = subst (ReadsRow plan h.owners s.words) reads known.reads in
+            ap (slice_index s.words) (is ∙ ap (λ (p : Plan). row_start p.counts row + i) known.same_plan) ∙ its.1 i inside;
+      },
+    )

@@ -1,0 +1,9 @@
+pub mod RowIsOfKeptPage
+pub mod RenumberedPageIsLawful
+pub mod ChildrenAreWritten
+pub mod RenumberedLineIsInLine
+pub mod RenumberedTreeIsAtRest
+pub mod PagesAreAdded
+pub mod KeptLevelsFit
+pub mod LevelsAreAdded
+pub mod StoreIsTheTree

@@ -1,0 +1,83 @@
+use Rattle.std.proofs.Common.{◌≡◌, ℕ, zero, suc, ◌+◌, ◌≤◌, Some, List, [], ◌∷◌, ◌++◌, length, sym, ap, ◌∙◌, subst, arith}
+use Rattle.std.specs.Prelude.{Contains, slice_get}
+use Rattle.std.specs.Mem.Slots.{slots_items}
+use Rattle.blink_batch.specs.declared.Entry.{Entry}
+use Rattle.blink_batch.specs.PlainMap.{pointer_of}
+use Rattle.blink_index.specs.Index.{map_of}
+use Rattle.blink_index.proofs.Offered.{map_of-entries}
+use Rattle.blink_rows.specs.Counts.{PlainCounts}
+use Rattle.blink_steps.specs.TreeMap.{IsMapOf, pairs_of}
+use Rattle.blink_steps.proofs.Offered.{entries_from-pairs_of}
+use Rattle.blink_store.specs.Store.{PlainStore}
+use Rattle.blink_live.specs.declared.pass.Pass.{Pass}
+use Rattle.blink_live.specs.declared.view.Role.{Role}
+use Rattle.blink_live.specs.declared.keeper.Keeper.{Keeper}
+use Rattle.blink_live.specs.declared.live.Live.{Live}
+use Rattle.blink_live.specs.declared.view.Role.TheVariants.{Keeper as KeeperRole}
+use Rattle.atomic_table.specs.Table.{Final, Seen}
+use Rattle.blink_live.specs.Rule.{IsTable}
+use Rattle.std.proofs.lemmas.List.{length-map}
+use Rattle.blink_live.specs.declared.view.Share.{Share}
+use Rattle.blink_live.specs.declared.view.View.{View}
+use Rattle.blink_live.specs.Merge.{KeepsTree, IsMerge, shares_of}
+use Rattle.blink_live.specs.Views.{Sat, plan_of, takes_more, takes_all_back}
+use Rattle.blink_live.proofs.closed.TableAtTheEnd.{IsAtEnd, at_end}
+use Rattle.blink_live.proofs.live.Live.close.Goals as goal
+
+-- the map of a store with these entries
+map_is : (store : PlainStore) (entries : List Entry) → IsMapOf store entries → map_of store ≡ entries
+map_is store entries is = map_of-entries store (pairs_of entries) is.kept ∙ entries_from-pairs_of entries
+
+share_came : (passes : List Pass) (rest : List Share) (place : ℕ) (pass : Pass) → slice_get passes place ≡ Some pass → Contains (shares_of passes ++ rest) pass.seat.me.0.share
+share_came [] rest place pass at = absurd (cc)
+share_came (first ∷ passes) rest zero pass at = (0, omega arith, let same : first ≡ pass = cc in ap (λ (p : Pass). p.seat.me.0.share) same)
+share_came (first ∷ passes) rest (suc place) pass at = let t = share_came passes rest place pass at in (suc t.0, let inside = t.1 in omega (arith, inside), t.2)
+
+enough : (passes : List Pass) (dealt count : ℕ) → count ≡ length passes → dealt ≤ count → dealt ≤ length passes
+enough passes dealt count is all = omega (arith, is, all)
+
+-- the keeper with all shares back
+abbrev view_at_end : (keeper : Keeper) (passes : List Pass) → View
+view_at_end keeper passes = takes_all_back keeper.seat.me.0 (shares_of passes)
+
+its_end : (live : Live) (keeper : Keeper) (passes : List Pass) (id : ℕ) (me : Sat) (words slots : List ℕ) → me ≡ (view_at_end keeper passes, keeper.seat.me.1) → keeper.dealt ≤ length passes
+    → Final (Seen (IsTable (plan_of live.table.shared.key)) id me.0) words slots → IsAtEnd (plan_of live.table.shared.key) words (view_at_end keeper passes)
+its_end live keeper passes id me words slots is enough final =
+    let same : me.0 ≡ view_at_end keeper passes = ap (λ (x : Sat). x.0) is in
+    let long : length (shares_of passes) ≡ length passes = length-map passes (λ (pass : Pass). pass.seat.me.0.share) in
+    let role : (view_at_end keeper passes).role ≡ KeeperRole keeper.dealt (0 + length (shares_of passes)) = ap (λ (r : Role). takes_more r (length (shares_of passes))) keeper.role_is in
+    at_end (plan_of live.table.shared.key) id (view_at_end keeper passes) keeper.dealt (0 + length (shares_of passes)) words slots role (omega (arith, enough, long))
+    (subst (λ (v : View). Final (Seen (IsTable (plan_of live.table.shared.key)) id v) words slots) same final)
+
+-- in the words of the table's own counts and fan
+its_tree : (live : Live) (v : View) (words : List ℕ) (end : IsAtEnd (plan_of live.table.shared.key) words v) → KeepsTree live.counts words live.fan end.now
+its_tree live v words end = subst (λ (x : PlainCounts × ℕ). KeepsTree x.0 words x.1 end.now) (λ i. (sym live.counts_are i, sym live.fan_is.0 i)) end.tree
+
+merges : (live : Live) (keeper : Keeper) (passes : List Pass) (words : List ℕ) (store : PlainStore) (end : IsAtEnd (plan_of live.table.shared.key) words (view_at_end keeper passes)) → keeper.seat.me.0.taken ≡ keeper.taken.items
+    → IsMapOf store end.now → IsMerge live keeper passes (map_of store)
+merges live keeper passes words store end taken_is is =
+    let same = map_is store end.now is in record {
+      dealt = λ place key pass at its.
+          ap (λ (entries : List Entry). pointer_of entries key) same
+          ∙ end.shares pass.seat.me.0.share key (share_came passes keeper.seat.me.0.back place pass at) (subst (λ (keys : List ℕ). Contains keys key) pass.keys_are its);
+      others = λ key free.
+          ap (λ (entries : List Entry). pointer_of entries key) same
+          ∙ end.others key (subst (λ (taken : List ℕ). ¬ Contains taken key) (sym taken_is) free);
+    }
+
+-- src/close.rt:57:13
+pub tree_at_end-tree-requires-clause-tree : goal.tree_at_end-tree-requires-clause-tree
+tree_at_end-tree-requires-clause-tree c =
+    let end = its_end c.args.self c.args.keeper c.args.passes.items c.take_back.new.seat.id c.take_back.new.seat.me (slots_items c.close_with-closed.result.words) (slots_items c.close_with-closed.result.slots)
+    c.take_back.ensures.back (enough c.args.passes.items c.args.keeper.dealt c.len.result (c.len.ensures ∙ c.args.passes.ok.0) c.if-len-keeper.false) c.close_with-closed.ensures.values.2 in
+    (end.now, its_tree c.args.self (view_at_end c.args.keeper c.args.passes.items) (slots_items c.close_with-closed.result.words) end)
+
+-- src/close.rt:43:5
+pub returns-in-Ok-clause-entries : goal.returns-in-Ok-clause-entries
+returns-in-Ok-clause-entries c =
+    let words = slots_items c.close_with-closed.result.words in
+    let end = its_end c.args.self c.args.keeper c.args.passes.items c.take_back.new.seat.id c.take_back.new.seat.me words (slots_items c.close_with-closed.result.slots)
+    c.take_back.ensures.back (enough c.args.passes.items c.args.keeper.dealt c.len.result (c.len.ensures ∙ c.args.passes.ok.0) c.if-len-keeper.false) c.close_with-closed.ensures.values.2 in
+    let tree = its_tree c.args.self (view_at_end c.args.keeper c.args.passes.items) words end in
+    merges c.args.self c.args.keeper c.args.passes.items words c.from_rest.result end (sym c.args.keeper.taken_are)
+    (subst (λ (store : PlainStore). IsMapOf store end.now) (sym c.from_rest.ensures) (c.in-Ok.ensures.entries end.now tree))

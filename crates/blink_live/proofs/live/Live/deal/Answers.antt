@@ -1,0 +1,30 @@
+use Rattle.std.proofs.Common.{◌⊎◌, ◌↔◌, ℕ, List, Err, sym, ap, ◌∙◌, subst}
+use Rattle.std.specs.Prelude.{Contains, IsErrOf}
+use Rattle.blink_live.specs.declared.error.LiveError.{LiveError}
+use Rattle.blink_live.specs.declared.error.LiveError.TheVariants.{Taken, NoAllowance}
+use Rattle.blink_live.specs.Deals.{IsFirstTaken, NoneIsTaken, LacksAllowance}
+use Rattle.blink_live.specs.Handles.{taken_of}
+use Rattle.blink_live.proofs.dealt.RefusalsOfDeal.{same_refusal}
+use Rattle.blink_live.proofs.live.Live.deal.Goals as goal
+
+-- src/deal.rt:47:29
+pub hand_out-requires-clause-taken : goal.hand_out-requires-clause-taken
+hand_out-requires-clause-taken c = subst (λ (l : List ℕ). (key : ℕ) → Contains c.in-Ok.taken.items key ↔ (Contains (taken_of c.args.keeper.now) key ⊎ Contains l key)) c.deref.ensures.value c.in-Ok.ensures.all
+
+-- src/deal.rt:30:5
+pub returns-in-Err-clause-taken : goal.returns-in-Err-clause-taken
+returns-in-Err-clause-taken c key =
+    let told = subst (λ (keys : List ℕ). IsErrOf c.taken_with.result (Taken key) ↔ IsFirstTaken (taken_of c.args.keeper.now) keys key) c.deref.ensures.value (c.taken_with.ensures.taken key) in (
+      λ same. told.0 (c.in-Err.is ∙ ap (λ (e : LiveError). Err e) (same_refusal c.in-Err.refusal (Taken key) same)),
+      λ first. ap (λ (e : LiveError). Err e) (same_refusal c.in-Err.refusal (Taken key) (sym c.in-Err.is ∙ told.1 first)),
+    )
+
+-- src/deal.rt:30:5
+pub returns-in-Err-clause-no_allowance : goal.returns-in-Err-clause-no_allowance
+returns-in-Err-clause-no_allowance c =
+    let keeper = c.args.keeper.now in
+    let told = subst (λ (keys : List ℕ). IsErrOf c.taken_with.result NoAllowance ↔ (NoneIsTaken (taken_of keeper) keys × LacksAllowance keeper c.args.inserts c.args.deletes))
+    c.deref.ensures.value c.taken_with.ensures.no_allowance in (
+      λ same. told.0 (c.in-Err.is ∙ ap (λ (e : LiveError). Err e) (same_refusal c.in-Err.refusal NoAllowance same)),
+      λ lacks. ap (λ (e : LiveError). Err e) (same_refusal c.in-Err.refusal NoAllowance (sym c.in-Err.is ∙ told.1 lacks)),
+    )

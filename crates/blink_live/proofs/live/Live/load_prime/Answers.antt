@@ -1,0 +1,12 @@
+use Rattle.std.proofs.Common.{sym, subst, arith}
+use Rattle.blink_batch.specs.Batch.{FitsWords}
+use Rattle.blink_live.proofs.found.OperationBegins.{begins_operation}
+use Rattle.blink_live.proofs.live.Live.load_prime.Goals as goal
+
+-- src/read.rt:49:9
+pub load-requires : goal.load-requires
+load-requires g c = (
+  c.requires.seat.same_table,
+  omega (arith, c.args.self.now.width, c.args.self.now.some_number),
+  begins_operation _ _ _ _ g.B.Begun.op c.requires.seat.role c.requires.idle (subst FitsWords (sym c.requires.picked) c.requires.fits),
+)

@@ -1,0 +1,26 @@
+use Rattle.std.proofs.Common.{ℕ, ◌<◌, List, [], length, sym, ◌∙◌, subst, arith}
+use Rattle.atomic_table.specs.Table.{opening}
+use Rattle.blink_rest.specs.Rest.{IsStoreAtRest}
+use Rattle.blink_rows.specs.Counts.{PlainCounts, AreBounded}
+use Rattle.blink_store.specs.Store.{PlainStore, IsLawfulStore}
+use Rattle.blink_live.specs.Laid.{IsLaid}
+use Rattle.blink_live.specs.Rule.{IsTable}
+use Rattle.blink_live.specs.Views.{first_view}
+use Rattle.blink_live.proofs.opened.OpeningIsTable.{plan_over, opens}
+use Rattle.blink_live.proofs.live.Live.open.Goals as goal
+
+pub of_words-requires : goal.of_words-requires
+of_words-requires c =
+    let store : PlainStore = c.args.index.now in
+    let counts : PlainCounts = c.of-counts.result in
+    let words : List ℕ = c.in-Ok.words.items in
+    let tree = c.rest.ensures.tree in
+    let bounded : AreBounded counts = record { numbers_bounded = omega arith; rows_bounded = omega arith } in
+    let numbers : length store.pages < counts.numbers = omega (arith, c.page_count-count.ensures.count) in
+    let rows : length store.pages < counts.rows = omega (arith, c.page_count-count.ensures.count) in
+    let laid : IsLaid counts store words = subst (λ (s : PlainStore). IsLaid counts s words) (c.store-store.ensures.store ∙ tree) c.in-Ok.ensures in
+    let at_rest : IsStoreAtRest store = subst IsStoreAtRest tree c.store-store.ensures.at_rest in
+    let lawful : IsLawfulStore store = subst IsLawfulStore tree c.store-store.ensures.lawful in
+    let opened = opens store counts words numbers rows laid at_rest lawful c.rest.ensures.map bounded in
+    let T : PlainStore → List ℕ → Type 0 = λ s ws. IsTable (plan_over s counts) (opening ws [] (first_view (length s.pages) (plan_over s counts))) in
+    subst (λ (s : PlainStore). T s c.deref.result.now) (sym c.of.ensures) (subst (T store) (sym c.deref.ensures.value) opened)

@@ -1,0 +1,23 @@
+use Rattle.std.proofs.Common.{◌≤◌, sym, subst, arith}
+use Rattle.atomic_table.specs.Table.{Joins}
+use Rattle.blink_rows.specs.Counts.{PlainCounts}
+use Rattle.blink_live.specs.declared.view.Plan.{Plan}
+use Rattle.blink_live.specs.Rule.{IsTable}
+use Rattle.blink_live.specs.Views.{plan_of, takes_back, spent}
+use Rattle.blink_live.proofs.closed.TakingBackKeepsTable.{taking_back_keeps_table}
+use Rattle.blink_live.proofs.live.Live.take_one.Goals as goal
+
+-- src/close.rt:95:9
+pub join_seat-requires : goal.join_seat-requires
+join_seat-requires g c =
+    let key = c.args.self.now.table.shared.key in
+    let keeper = c.requires.keeper in
+    let pass = c.requires.pass in
+    let some_number : 1 ≤ (plan_of key).counts.numbers = subst (λ (counts : PlainCounts). 1 ≤ counts.numbers) c.args.self.now.counts_are c.args.self.now.some_number in (
+      c.requires.tables.0,
+      c.requires.tables.1,
+      pass.2,
+      omega (arith, c.args.self.now.width, c.args.self.now.some_number),
+      subst (λ (p : Plan). Joins (IsTable (plan_of key)) c.args.seat.now.id c.args.seat.now.me.0 c.args.other.id c.args.other.me.0 (takes_back c.args.seat.now.me.0 c.args.other.me.0) (spent p)) (sym c.requires.picked)
+          (taking_back_keeps_table (plan_of key) c.args.seat.now.id c.args.other.id c.args.seat.now.me.0 c.args.other.me.0 keeper.0 keeper.1 some_number keeper.2 pass.0 pass.1),
+    )

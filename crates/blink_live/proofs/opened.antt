@@ -1,0 +1,2 @@
+pub mod RowsAreLaid
+pub mod OpeningIsTable

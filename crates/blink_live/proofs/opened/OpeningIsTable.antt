@@ -1,0 +1,159 @@
+-- The words of a table that opens are a table: the tree at rest, with its keeper alone.
+use Rattle.std.proofs.Common.{◌≡◌, ℕ, zero, suc, ◌+◌, ◌<◌, ◌≤◌, Option, None, List, [], ◌∷◌, length, refl, sym, subst, inl, inr, arith}
+use Rattle.std.specs.Prelude.{slice_index}
+use Rattle.std.proofs.lemmas.Bool.{cases_lt}
+use Rattle.std.proofs.lemmas.Option.{slice_get_past}
+use mathlib.Core.Option.{some, some-ne-none, some-injective}
+use lib.ListN.{get_elem?}
+use Rattle.atomic_table.specs.Table.{opening}
+use Rattle.blink_index.specs.Index.{map_of}
+use Rattle.blink_page.specs.Page.{PlainPage}
+use Rattle.blink_rest.specs.Rest.{IsStoreAtRest}
+use Rattle.blink_rows.specs.Counts.{PlainCounts, AreBounded}
+use Rattle.blink_rows.specs.Row.{prime_words}
+use Rattle.blink_store.specs.Store.{PlainStore, page_of, IsLawfulStore}
+use Rattle.blink_store.proofs.Offered.{has_page, page_there}
+use Rattle.blink_steps.specs.Moment.{Moment}
+use Rattle.blink_steps.specs.Sound.{IsSound}
+use Rattle.blink_steps.specs.StepLaw.{IsOpening}
+use Rattle.blink_steps.specs.TreeMap.{IsMapOf}
+use Rattle.blink_steps.proofs.Offered.{step_law}
+use Rattle.blink_live.specs.declared.view.Plan.{Plan}
+use Rattle.blink_live.specs.declared.view.View.{View}
+use Rattle.blink_live.specs.Laid.{IsLaid}
+use Rattle.blink_live.specs.Rule.{Owners, IsPublished, PageWordIs, Knows, IsTable}
+use Rattle.blink_live.specs.Views.{first_view}
+use Rattle.blink_live.specs.Words.{RowIs}
+
+-- the plan of a table that opens
+abbrev pub plan_over : PlainStore → PlainCounts → Plan
+plan_over store counts = record { fan = store.fan; counts = counts; opening = map_of store }
+
+-- nobody is at work on the tree
+abbrev pub moment_over : PlainStore → Moment
+moment_over store = record {
+  fan = store.fan;
+  prime = store.prime;
+  pages = page_of store;
+  holder = λ number. None;
+  machines = λ worker. None;
+}
+
+-- 0 below the first of some numbers, and 1 from it on
+abbrev pub owner_from : ℕ → ℕ → ℕ
+owner_from zero n = 1
+owner_from (suc first) zero = 0
+owner_from (suc first) (suc n) = owner_from first n
+
+owner_before : (first n : ℕ) → n < first → owner_from first n ≡ 0
+owner_before zero n early = absurd (omega arith)
+owner_before (suc first) zero early = refl
+owner_before (suc first) (suc n) early = owner_before first n (omega arith)
+
+owner_on : (first n : ℕ) → first ≤ n → owner_from first n ≡ 1
+owner_on zero n late = refl
+owner_on (suc first) zero late = absurd (omega arith)
+owner_on (suc first) (suc n) late = owner_on first n (omega arith)
+
+-- what no page has is the keeper's: its seat is the first
+abbrev pub owners_over : ℕ → Owners
+owners_over count = record {
+  row = owner_from (count + 2);
+  page = owner_from (count + 1);
+  key = λ key. 0;
+  latch_number = λ seat. 0;
+}
+
+-- no page has a number behind the last
+no_page_past : (store : PlainStore) (number : ℕ) → length store.pages < number → page_of store number ≡ None
+no_page_past store zero late = refl
+no_page_past store (suc n) late = slice_get_past store.pages n (omega arith)
+
+one_view : (K : ℕ → View → Type 0) (v : View) → K 0 v → (seat : ℕ) (u : View) → get_elem? (v ∷ []) seat ≡ some u → K seat u
+one_view K v known zero u is = subst (K 0) (some-injective v u is) known
+one_view K v known (suc seat) u is = absurd (some-ne-none u (sym is))
+
+-- such a moment is sound
+opening_moment : (store : PlainStore) → IsStoreAtRest store → IsLawfulStore store → IsSound (moment_over store)
+opening_moment store at_rest lawful = step_law.opening_is_sound (moment_over store) opens
+  where
+    opens : IsOpening (moment_over store)
+    opens = record {
+      fan_in_range = lawful.fan_in_range;
+      some_level = lawful.some_level;
+      numbers_in_range = λ number page there. let has = has_page store number page there in (has.0, omega (arith, has.1, lawful.count_in_range.1));
+      at_rest = at_rest;
+      no_latch = λ page. refl;
+      all_idle = λ worker. refl;
+    }
+
+module _ (store : PlainStore) (counts : PlainCounts) (words : List ℕ) (numbers : length store.pages < counts.numbers) (rows : length store.pages < counts.rows) (laid : IsLaid counts store words) where
+  -- each page word names its page's row
+  page_words_are : (number : ℕ) → 1 ≤ number → number < counts.numbers → PageWordIs (plan_over store counts) (owners_over (length store.pages)) words (slice_index words number) (page_of store number)
+  page_words_are number least early =
+      let plan = plan_over store counts in
+      let owners = owners_over (length store.pages) in
+      elim (cases_lt number (length store.pages + 1)) [
+        | inl less ↦
+            let found = page_there store number (least, omega arith) in
+            let named : slice_index words number ≡ number + 1 = laid.page_words_named number (omega arith) in
+            let free = owner_before (length store.pages + 2) (number + 1) (omega arith) in
+            subst (λ (t : ℕ × Option PlainPage). PageWordIs plan owners words t.0 t.1) (λ i. (sym named i, sym found.1 i))
+            (((omega arith, omega arith), free), laid.page_rows number found.0 found.1)
+        | inr more ↦ subst (PageWordIs plan owners words (slice_index words number)) (sym (no_page_past store number (omega arith))) (laid.no_more number (omega arith) (omega arith))
+      ]
+
+  -- the keeper knows what is so
+  keeper_knows : Knows (plan_over store counts) (owners_over (length store.pages)) words (moment_over store) [] 0 (first_view (length store.pages) (plan_over store counts))
+  keeper_knows = record {
+    same_plan = refl;
+    operation = refl;
+    bounded = λ m is. absurd (cc);
+    reads = tt;
+    rows = record {
+      in_range = (omega arith, omega arith);
+      own = λ row late early. owner_on (length store.pages + 2) row late;
+      blank = λ row late early. laid.blank_rows row late (omega arith);
+    };
+    numbers = record {
+      in_range = (omega arith, omega arith);
+      own = λ number late early. owner_on (length store.pages + 1) number late;
+      free = λ number late early. no_page_past store number (omega arith);
+    };
+    share = λ key among. absurd (omega (arith, among.1));
+    saw = ([], refl);
+    heard = ([], refl);
+    in_role = (refl, refl, (λ key not. refl), (λ share among. absurd (omega (arith, among.1))));
+  }
+
+  -- the table of a tree at rest, as it opens
+  pub opens : IsStoreAtRest store → IsLawfulStore store → IsMapOf store (map_of store) → AreBounded counts
+      → IsTable (plan_over store counts) (opening words [] (first_view (length store.pages) (plan_over store counts)))
+  opens at_rest lawful is_map bounded =
+      let plan = plan_over store counts in
+      let owners = owners_over (length store.pages) in
+      let named : slice_index words 0 ≡ 1 = laid.page_words_named 0 (omega arith) in (
+        moment_over store,
+        record {
+          owners = owners;
+          log = [];
+          now = map_of store;
+          same_fan = refl;
+          sound = opening_moment store at_rest lawful;
+          prime_numbers = lawful.prime_numbers;
+          bounded = bounded;
+          width = laid.width;
+          prime = subst (λ (row : ℕ). IsPublished plan owners row × RowIs counts words row (prime_words store.prime)) (sym named)
+              (((omega arith, omega arith), owner_before (length store.pages + 2) 1 (omega arith)), laid.prime_row);
+          pages = page_words_are;
+          no_other_page = λ number late. no_page_past store number (omega arith);
+          latches = λ number early. laid.no_more (counts.numbers + number) (omega arith) (omega arith);
+          holders = λ number seat is. absurd (cc);
+          is_map = record { ascending = is_map.ascending; kept = is_map.kept };
+          kept = λ key. refl;
+          untouched = λ key free. refl;
+          views = one_view (Knows plan owners words (moment_over store) []) (first_view (length store.pages) plan) keeper_knows;
+          others_idle = λ seat late. refl;
+          counted = record { keeper = first_view (length store.pages) plan; dealt = 0; back = 0; first = refl; role = refl; counted = refl };
+        },
+      )

@@ -1,0 +1,7 @@
+pub mod MapsWithOneChange
+pub mod SeatsThatStay
+pub mod LoadsKeepTable
+pub mod NextPageIsThere
+pub mod OwnersInRange
+pub mod OwnersChange
+pub mod PassesOut

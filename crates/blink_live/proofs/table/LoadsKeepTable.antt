@@ -1,0 +1,85 @@
+-- A load keeps the rule: the words stay, and one seat's operation takes a step of the tree that only reads.
+use Rattle.std.proofs.Common.{◌≡◌, ℕ, Option, List, length, get_or, set, sym, ap, ◌∙◌, subst, length-set, arith}
+use mathlib.Core.Option.{some}
+use mathlib.Core.List.{IsPrefix}
+use lib.ListN.{get_elem?}
+use lib.Seq.{set-get_or}
+use Rattle.atomic_table.specs.Table.{State}
+use Rattle.blink_steps.specs.Machine.{PlainMachine}
+use Rattle.blink_steps.specs.Moment.{Moment}
+use Rattle.blink_steps.specs.Sound.{IsSound}
+use Rattle.blink_live.specs.declared.view.Plan.{Plan}
+use Rattle.blink_live.specs.declared.view.Role.TheVariants.{Pass}
+use Rattle.blink_live.specs.declared.view.View.{View}
+use Rattle.blink_live.specs.Changes.{put}
+use Rattle.blink_live.specs.Rule.{ReadsRow, IsInRole, IsBoundedWay, Knows, IsTableAt, IsTable}
+use Rattle.blink_live.specs.Views.{SameBesideReads}
+use Rattle.blink_live.proofs.table.MapsWithOneChange.{put_here, put_else}
+use Rattle.blink_live.proofs.table.SeatsThatStay.{at_inside, views_stay, counted_stays}
+
+-- the moment where one worker has another operation, or none
+abbrev pub moved : Moment → ℕ → Option PlainMachine → Moment
+moved moment worker operation = record moment { machines = put moment.machines worker operation }
+
+module _ (plan : Plan) (s : State ℕ View) (moment : Moment) (h : IsTableAt plan s moment) (id word : ℕ) (v w : View) (at : get_elem? s.views id ≡ some v) (role : v.role ≡ Pass) where
+  -- the seat knows what it knew, but for its operation, what it reads and what it has seen
+  load_knows : SameBesideReads v w → IsBoundedWay moment w → ReadsRow plan h.owners s.words w.reads → IsPrefix w.seen h.log
+      → Knows plan h.owners s.words (moved moment id w.operation) h.log id w
+  load_knows same bounded reads saw =
+      let known = h.views id v at in
+      let kept = subst (IsInRole plan h.owners h.log id v) role known.in_role in
+      let knows : Knows plan h.owners s.words (moved moment id w.operation) h.log id (record v { operation = w.operation; way_left = w.way_left; reads = w.reads; seen = w.seen }) = record {
+        same_plan = known.same_plan;
+        operation = put_here moment.machines id w.operation;
+        bounded = bounded;
+        reads = reads;
+        rows = record { in_range = known.rows.in_range; own = known.rows.own; blank = known.rows.blank };
+        numbers = record { in_range = known.numbers.in_range; own = known.numbers.own; free = known.numbers.free };
+        share = known.share;
+        saw = saw;
+        heard = known.heard;
+        in_role = subst (IsInRole plan h.owners h.log id (record v { operation = w.operation; way_left = w.way_left; reads = w.reads; seen = w.seen })) (sym role) kept;
+      } in
+      subst (Knows plan h.owners s.words (moved moment id w.operation) h.log id) (sym same) knows
+
+  pub load_keeps : IsSound (moved moment id w.operation) → SameBesideReads v w → IsBoundedWay moment w → ReadsRow plan h.owners s.words w.reads → IsPrefix w.seen h.log
+      → IsTable plan record { words = set s.words word (get_or s.words word 0); homes = s.homes; views = set s.views id w }
+  load_keeps sound same bounded reads saw = subst (λ (words : List ℕ). IsTable plan record { words = words; homes = s.homes; views = set s.views id w }) (sym (set-get_or s.words word 0)) (
+    moved moment id w.operation,
+    record {
+      owners = h.owners;
+      log = h.log;
+      now = h.now;
+      same_fan = h.same_fan;
+      sound = sound;
+      prime_numbers = h.prime_numbers;
+      bounded = h.bounded;
+      width = h.width;
+      prime = h.prime;
+      pages = h.pages;
+      no_other_page = h.no_other_page;
+      latches = h.latches;
+      holders = h.holders;
+      is_map = record { ascending = h.is_map.ascending; kept = h.is_map.kept };
+      kept = h.kept;
+      untouched = h.untouched;
+      views = views_stay (Knows plan h.owners s.words (moved moment id w.operation) h.log) s.views id w (load_knows same bounded reads saw)
+          (λ j u other there. let known = h.views j u there in record {
+            same_plan = known.same_plan;
+            operation = put_else moment.machines id j w.operation other ∙ known.operation;
+            bounded = known.bounded;
+            reads = known.reads;
+            rows = known.rows;
+            numbers = record { in_range = known.numbers.in_range; own = known.numbers.own; free = known.numbers.free };
+            share = known.share;
+            saw = known.saw;
+            heard = known.heard;
+            in_role = known.in_role;
+          });
+      others_idle = λ seat beyond.
+          let inside = at_inside s.views id v at in
+          let longer : length (set s.views id w) ≡ length s.views = length-set s.views id w in
+          put_else moment.machines id seat w.operation (λ e. omega (arith, e, inside, longer, beyond)) ∙ h.others_idle seat (omega (arith, beyond, longer));
+      counted = counted_stays s.views id v w at (ap (λ (x : View). x.role) same) h.counted;
+    },
+  )

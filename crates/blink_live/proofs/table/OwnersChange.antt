@@ -1,0 +1,93 @@
+-- Rows, page numbers and keys get other owners; the words and the moment stay as they are.
+use Rattle.std.proofs.Common.{◌≡◌, ℕ, suc, ◌≤◌, Option, Some, None, List, length, refl, sym, ◌∙◌, arith}
+use Rattle.std.specs.Prelude.{slice_index}
+use mathlib.Core.Option.{some}
+use lib.ListN.{get_elem?}
+use Rattle.atomic_table.specs.Table.{State}
+use Rattle.blink_page.specs.Page.{PlainPage}
+use Rattle.blink_steps.specs.Moment.{Moment}
+use Rattle.blink_live.specs.declared.view.Change.{Change}
+use Rattle.blink_live.specs.declared.view.Plan.{Plan}
+use Rattle.blink_live.specs.declared.view.Role.{Role}
+use Rattle.blink_live.specs.declared.view.Role.TheVariants.{Keeper, Pass, Spent}
+use Rattle.blink_live.specs.declared.view.Share.{Share}
+use Rattle.blink_live.specs.declared.view.View.{View}
+use Rattle.blink_live.specs.Rule.{Owners, PageWordIs, latch_word, ReadsRow, IsShare, IsInRole, Knows, AreCounted, IsTableAt}
+
+-- what was published is
+abbrev pub StaysPublished : Owners → Owners → Type 0
+StaysPublished old new = (row : ℕ) → old.row row ≡ 0 → new.row row ≡ 0
+
+-- the seat owns what it did
+pub record StillOwns (old new : Owners) (seat : ℕ) : Type 0 where
+  pub row : (row : ℕ) → old.row row ≡ suc seat → new.row row ≡ suc seat
+  pub page : (number : ℕ) → old.page number ≡ suc seat → new.page number ≡ suc seat
+  pub key : (key : ℕ) → old.key key ≡ suc seat → new.key key ≡ suc seat
+  pub latch_number : new.latch_number seat ≡ old.latch_number seat
+
+module _ (plan : Plan) (old new : Owners) (words : List ℕ) (log : List Change) (published : StaysPublished old new) where
+  page_still : (word : ℕ) (page : Option PlainPage) → PageWordIs plan old words word page → PageWordIs plan new words word page
+  page_still word None is = is
+  page_still word (Some page) is = ((is.0.0, published word is.0.1), is.1)
+
+  pub reads_still : (reads : Option (ℕ × List ℕ)) → ReadsRow plan old words reads → ReadsRow plan new words reads
+  reads_still None is = is
+  reads_still (Some (row, content)) is = ((is.0.0, published row is.0.1), is.1)
+
+  -- a share whose keys have another owner
+  pub share_still : (owner other : ℕ) (share : Share) → ((key : ℕ) → old.key key ≡ owner → new.key key ≡ other) → IsShare plan old log owner share → IsShare plan new log other share
+  share_still owner other share same is key has = let known = is key has in record { own = same key known.own; kept = known.kept; changes = known.changes }
+
+  role_still : (seat : ℕ) (v : View) (role : Role) → 1 ≤ seat → new.latch_number seat ≡ old.latch_number seat → IsInRole plan old log seat v role → IsInRole plan new log seat v role
+  role_still seat v (Keeper dealt back) later same is = absurd (let first = is.0 in omega (arith, first, later))
+  role_still seat v Pass later same is = (is.0, same ∙ is.1)
+  role_still seat v Spent later same is = is
+
+  -- a seat that isn't the keeper's knows what it knew
+  pub knows_still : (moment : Moment) (seat : ℕ) (v : View) → 1 ≤ seat → StillOwns old new seat → Knows plan old words moment log seat v → Knows plan new words moment log seat v
+  knows_still moment seat v later owns known = record {
+    same_plan = known.same_plan;
+    operation = known.operation;
+    bounded = known.bounded;
+    reads = reads_still v.reads known.reads;
+    rows = record { in_range = known.rows.in_range; own = λ row low high. owns.row row (known.rows.own row low high); blank = known.rows.blank };
+    numbers = record { in_range = known.numbers.in_range; own = λ number low high. owns.page number (known.numbers.own number low high); free = known.numbers.free };
+    share = share_still (suc seat) (suc seat) v.share owns.key known.share;
+    saw = known.saw;
+    heard = known.heard;
+    in_role = role_still seat v v.role later owns.latch_number known.in_role;
+  }
+
+latch_still : (old new : Owners) (holder : Option ℕ) → ((seat : ℕ) → holder ≡ Some seat → new.latch_number seat ≡ old.latch_number seat) → latch_word old holder ≡ latch_word new holder
+latch_still old new None same = refl
+latch_still old new (Some seat) same = sym (same seat refl)
+
+-- the table with these owners and seats
+pub owners_change : (plan : Plan) (s : State ℕ View) (moment : Moment) (h : IsTableAt plan s moment) (new : Owners) (views : List View)
+    → StaysPublished h.owners new
+    → ((number seat : ℕ) → moment.holder number ≡ Some seat → new.latch_number seat ≡ h.owners.latch_number seat)
+    → ((key : ℕ) → new.key key ≡ 0 → h.owners.key key ≡ 0)
+    → ((seat : ℕ) (v : View) → get_elem? views seat ≡ some v → Knows plan new s.words moment h.log seat v)
+    → length s.views ≤ length views → AreCounted views
+    → IsTableAt plan record { words = s.words; homes = s.homes; views = views } moment
+owners_change plan s moment h new views published same_latch untouched knows longer counted = record {
+  owners = new;
+  log = h.log;
+  now = h.now;
+  same_fan = h.same_fan;
+  sound = h.sound;
+  prime_numbers = h.prime_numbers;
+  bounded = h.bounded;
+  width = h.width;
+  prime = ((h.prime.0.0, published (slice_index s.words 0) h.prime.0.1), h.prime.1);
+  pages = λ number low high. page_still plan h.owners new s.words h.log published (slice_index s.words number) (moment.pages number) (h.pages number low high);
+  no_other_page = h.no_other_page;
+  latches = λ number inside. h.latches number inside ∙ latch_still h.owners new (moment.holder number) (same_latch number);
+  holders = λ number seat holds. let same = same_latch number seat holds in let some_number = h.holders number seat holds in omega (arith, same, some_number);
+  is_map = record { ascending = h.is_map.ascending; kept = h.is_map.kept };
+  kept = h.kept;
+  untouched = λ key nobodys. h.untouched key (untouched key nobodys);
+  views = knows;
+  others_idle = λ seat beyond. h.others_idle seat (omega (arith, longer, beyond));
+  counted = counted;
+}

@@ -1,0 +1,25 @@
+-- How many changes some rows and page numbers are enough for.
+use Rattle.std.specs.Prelude.{◌≡◌, ℕ, ◌+◌, ◌-◌, ◌*◌, ◌/◌, ◌%◌, ◌<◌, ◌≤◌}
+use Rattle.blink_page.specs.declared.limits.TheConstants.{MAX_PAGE}
+use Rattle.blink_rows.specs.declared.allowance.Allowance.{Allowance}
+use Rattle.blink_rows.specs.declared.limits.TheConstants.{NUMBERS_OF_INSERTION, ROWS_OF_INSERTION}
+use Rattle.blink_rows.specs.declared.span.Span.{Span}
+
+abbrev pub length_of : Span → ℕ
+length_of span = span.stop - span.next
+
+-- so many insertions have these page numbers
+abbrev pub inserts_left : Span → ℕ
+inserts_left pages = length_of pages / NUMBERS_OF_INSERTION
+
+-- and so many deletions these rows beside them
+abbrev pub deletes_left : Span → Span → ℕ
+deletes_left pages rows = length_of rows - ROWS_OF_INSERTION * inserts_left pages
+
+-- the page numbers are for whole insertions, and the rows are enough for these
+abbrev pub AreForChanges : Span → Span → Type 0
+AreForChanges pages rows = (length_of pages % NUMBERS_OF_INSERTION ≡ 0) × (ROWS_OF_INSERTION * inserts_left pages ≤ length_of rows)
+
+-- the allowed insertions may need more page numbers than there are
+abbrev pub IsTooLarge : ℕ → Allowance → Type 0
+IsTooLarge count allowance = MAX_PAGE + 1 < 1 + count + NUMBERS_OF_INSERTION * allowance.inserts

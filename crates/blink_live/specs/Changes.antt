@@ -1,0 +1,24 @@
+-- The changes of all keys, in the order in which they became so, and what they leave of the opening entries.
+use Rattle.std.specs.Prelude.{ℕ, List, [], ◌∷◌, ◌==◌, if◌then◌else◌, Option}
+use mathlib.Core.List.{IsPrefix}
+use Rattle.blink_live.specs.declared.view.Change.{Change}
+use Rattle.blink_live.specs.declared.view.View.{View}
+
+-- a map of keys with another value at one
+abbrev pub put : {X : Type 0} → (ℕ → X) → ℕ → X → ℕ → X
+put f at x n = if n == at then x else f n
+
+-- what each key keeps after these changes
+abbrev pub after : (ℕ → Option ℕ) → List Change → ℕ → Option ℕ
+after f [] = f
+after f (change ∷ rest) = after (put f change.key change.pointer) rest
+
+-- those of one key
+abbrev pub changes_of : ℕ → List Change → List Change
+changes_of key [] = []
+changes_of key (change ∷ rest) = if change.key == key then change ∷ changes_of key rest else changes_of key rest
+
+-- whoever sees these has seen all that it saw and was told of before
+pub record Learns (v : View) (seen : List Change) : Type 0 where
+  pub saw : IsPrefix v.seen seen
+  pub heard : IsPrefix v.told seen

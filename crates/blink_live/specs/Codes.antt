@@ -1,0 +1,17 @@
+-- The number of each refusal.
+use Rattle.std.specs.Prelude.{ℕ}
+use Rattle.blink_live.specs.declared.error.LiveError.{LiveError}
+use Rattle.blink_live.specs.declared.error.LiveError.TheVariants.{OutOfMemory, Taken, NoAllowance, DealOutOfMemory, Missing, TooLarge}
+use Rattle.blink_live.specs.declared.error.PassError.{PassError}
+use Rattle.blink_live.specs.declared.error.PassError.TheVariants.{NotYours}
+
+abbrev pub code_of : LiveError → ℕ
+code_of OutOfMemory = 50
+code_of (Taken key) = 51
+code_of NoAllowance = 52
+code_of DealOutOfMemory = 53
+code_of Missing = 56
+code_of TooLarge = 57
+
+abbrev pub code_of_pass : PassError → ℕ
+code_of_pass NotYours = 54

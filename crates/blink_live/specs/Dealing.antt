@@ -1,0 +1,20 @@
+-- What a keeper can deal, and which keys of a list were met.
+use Rattle.std.specs.Prelude.{◌≡◌, ◌⊎◌, ◌↔◌, ℕ, ◌+◌, ◌≤◌, Bool, false, List, IsTrue, Contains}
+use Rattle.std.specs.BTreeSet.{BTreeSet, contains}
+use Rattle.std.specs.Ordering.{nat_cmp}
+use Rattle.blink_live.specs.declared.view.Role.TheVariants.{Keeper}
+use Rattle.blink_live.specs.declared.view.View.{View}
+
+-- the keeper's view has these rows and page numbers, and hasn't dealt these keys yet; with them all these are taken
+pub record CanDeal (v : View) (rows pages : ℕ) (keys taken : List ℕ) : Type 0 where
+  pub dealt : ℕ
+  pub back : ℕ
+  pub role : v.role ≡ Keeper dealt back
+  pub enough_rows : v.rows.next + rows ≤ v.rows.stop
+  pub enough_pages : v.pages.next + pages ≤ v.pages.stop
+  pub free_keys : (key : ℕ) → Contains keys key → ¬ Contains v.taken key
+  pub taken_now : (key : ℕ) → Contains taken key ↔ (Contains v.taken key ⊎ Contains keys key)
+
+-- unless memory was refused, the set has the keys that were met so far
+abbrev pub HasMet : Bool → BTreeSet ℕ → List ℕ → Type 0
+HasMet refused set before = refused ≡ false → (key : ℕ) → IsTrue (contains nat_cmp set key) ↔ Contains before key

@@ -1,0 +1,64 @@
+-- What a deal gives, and why it is refused.
+use Rattle.std.specs.Prelude.{◌≡◌, ◌⊎◌, ◌↔◌, ℕ, ◌+◌, ◌*◌, ◌<◌, Some, List, take, slice_get, Contains, IsPermutation}
+use Rattle.blink_rows.specs.declared.limits.TheConstants.{NUMBERS_OF_INSERTION, ROWS_OF_INSERTION}
+use Rattle.blink_live.specs.declared.error.LiveError.{LiveError}
+use Rattle.blink_live.specs.declared.error.LiveError.TheVariants.{Taken, NoAllowance, DealOutOfMemory}
+use Rattle.blink_live.specs.declared.keeper.Keeper.{Keeper}
+use Rattle.blink_live.specs.declared.live.Live.{Live}
+use Rattle.blink_live.specs.declared.pass.Pass.{Pass}
+use Rattle.blink_live.specs.Allowed.{inserts_left, deletes_left}
+use Rattle.blink_live.specs.Handles.{opening_of, IsPassOf, keys_of, share_of, IsKeeperOf, taken_of}
+use Rattle.blink_live.specs.Views.{span, entries_of}
+
+-- ---- keys that are taken
+
+-- the key at this place of the list was dealt before, or stands earlier in the list
+pub record IsTakenAt (taken keys : List ℕ) (place key : ℕ) : Type 0 where
+  pub at : slice_get keys place ≡ Some key
+  pub again : Contains taken key ⊎ Contains (take place keys) key
+
+-- it is the first such key of the list
+pub record IsFirstTaken (taken keys : List ℕ) (key : ℕ) : Type 0 where
+  pub place : ℕ
+  pub is_taken : IsTakenAt taken keys place key
+  pub none_before : (earlier other : ℕ) → earlier < place → ¬ IsTakenAt taken keys earlier other
+
+abbrev pub NoneIsTaken : List ℕ → List ℕ → Type 0
+NoneIsTaken taken keys = (place key : ℕ) → ¬ IsTakenAt taken keys place key
+
+-- ---- allowances
+
+-- the greatest number of passes that a keeper deals
+abbrev pub MOST_PASSES : ℕ
+MOST_PASSES = 4294967295
+
+-- the keeper has fewer insertions or deletions left, or has dealt as many passes as it may
+abbrev pub LacksAllowance : Keeper → ℕ → ℕ → Type 0
+LacksAllowance keeper inserts deletes = (inserts_left keeper.pages < inserts) ⊎ (deletes_left keeper.pages keeper.rows < deletes) ⊎ (keeper.dealt ≡ MOST_PASSES)
+
+abbrev pub rows_for : ℕ → ℕ → ℕ
+rows_for inserts deletes = ROWS_OF_INSERTION * inserts + deletes
+
+-- ---- what is dealt
+
+-- the pass has these keys with their opening entries, and the keeper's first page numbers and rows
+pub record IsDealt (live : Live) (old : Keeper) (keys : List ℕ) (inserts deletes : ℕ) (pass : Pass) : Type 0 where
+  pub its_own : IsPassOf live pass
+  pub same_keys : IsPermutation keys (keys_of pass)
+  pub share : share_of pass ≡ entries_of keys (opening_of live)
+  pub rows : pass.rows ≡ span old.rows.next (old.rows.next + rows_for inserts deletes)
+  pub pages : pass.pages ≡ span old.pages.next (old.pages.next + NUMBERS_OF_INSERTION * inserts)
+
+-- and the keeper has the rest
+pub record HasDealt (live : Live) (old new : Keeper) (keys : List ℕ) (inserts deletes : ℕ) : Type 0 where
+  pub its_own : IsKeeperOf live new
+  pub taken : (key : ℕ) → Contains (taken_of new) key ↔ (Contains (taken_of old) key ⊎ Contains keys key)
+  pub one_more : new.dealt ≡ old.dealt + 1
+  pub rows : new.rows ≡ span (old.rows.next + rows_for inserts deletes) old.rows.stop
+  pub pages : new.pages ≡ span (old.pages.next + NUMBERS_OF_INSERTION * inserts) old.pages.stop
+
+-- the refusals of a deal
+pub data IsDealRefusal (refusal : LiveError) : Type 0 where
+  taken : (key : ℕ) → refusal ≡ Taken key → IsDealRefusal refusal
+  no_allowance : refusal ≡ NoAllowance → IsDealRefusal refusal
+  no_memory : refusal ≡ DealOutOfMemory → IsDealRefusal refusal

@@ -1,0 +1,77 @@
+-- What a table, its keeper and its passes are for contracts.
+use Rattle.std.specs.Prelude.{◌≡◌, ℕ, ◌+◌, ◌*◌, List, [], length}
+use Rattle.blink_batch.specs.declared.Entry.{Entry}
+use Rattle.blink_index.specs.Index.{map_of}
+use Rattle.blink_rows.specs.Counts.{PlainCounts}
+use Rattle.blink_rows.specs.declared.allowance.Allowance.{Allowance}
+use Rattle.blink_rows.specs.declared.limits.TheConstants.{NUMBERS_OF_INSERTION, ROWS_OF_INSERTION}
+use Rattle.blink_store.specs.Store.{PlainStore}
+use Rattle.blink_live.specs.declared.keeper.Keeper.{Keeper}
+use Rattle.blink_live.specs.declared.live.Live.{Live}
+use Rattle.blink_live.specs.declared.pass.Pass.{Pass}
+use Rattle.blink_live.specs.Views.{plan_of, span}
+
+-- ---- a table
+
+-- the entries that it was opened with
+abbrev pub opening_of : Live → List Entry
+opening_of live = map_of live.table.shared.key.index.value
+
+-- how many entries its pages have at most
+abbrev pub fan_of : Live → ℕ
+fan_of live = live.fan
+
+-- how many page numbers and rows it has
+abbrev pub counts_of : Live → PlainCounts
+counts_of live = live.counts
+
+-- ---- a pass
+
+-- it was dealt by this table's keeper
+abbrev pub IsPassOf : Live → Pass → Type 0
+IsPassOf live pass = (pass.seat.table_id ≡ live.table.shared.table_id) × (pass.seat.me.0.plan ≡ plan_of live.table.shared.key)
+
+-- its keys
+abbrev pub keys_of : Pass → List ℕ
+keys_of pass = pass.keys.items
+
+-- the plain map of its keys
+abbrev pub share_of : Pass → List Entry
+share_of pass = pass.seat.me.0.share.entries
+
+-- the pass is as it was, but for what it has seen
+pub record IsSameBesideSeen (old new : Pass) : Type 0 where
+  pub same_table : new.seat.table_id ≡ old.seat.table_id
+  pub same_plan : new.seat.me.0.plan ≡ old.seat.me.0.plan
+  pub same_keys : keys_of new ≡ keys_of old
+  pub same_share : new.seat.me.0.share ≡ old.seat.me.0.share
+  pub same_rows : new.rows ≡ old.rows
+  pub same_pages : new.pages ≡ old.pages
+
+-- ---- a keeper
+
+-- it came with this table
+abbrev pub IsKeeperOf : Live → Keeper → Type 0
+IsKeeperOf live keeper = (keeper.seat.table_id ≡ live.table.shared.table_id) × (keeper.seat.me.0.plan ≡ plan_of live.table.shared.key)
+
+-- the keys that it has dealt
+abbrev pub taken_of : Keeper → List ℕ
+taken_of keeper = keeper.taken.items
+
+-- how many passes it has dealt
+abbrev pub passes_dealt : Keeper → ℕ
+passes_dealt keeper = keeper.dealt
+
+-- ---- a new table
+
+-- a table over this tree, with room for these changes, and its keeper, which has dealt nothing
+pub record IsOpened (store : PlainStore) (allowance : Allowance) (live : Live) (keeper : Keeper) : Type 0 where
+  pub same_opening : opening_of live ≡ map_of store
+  pub same_fan : fan_of live ≡ store.fan
+  pub numbers : (counts_of live).numbers ≡ 1 + length store.pages + NUMBERS_OF_INSERTION * allowance.inserts
+  pub rows : (counts_of live).rows ≡ 1 + length store.pages + ROWS_OF_INSERTION * allowance.inserts + allowance.deletes
+  pub its : IsKeeperOf live keeper
+  pub none_taken : taken_of keeper ≡ []
+  pub none_dealt : passes_dealt keeper ≡ 0
+  pub free_rows : keeper.rows ≡ span (length store.pages + 2) ((counts_of live).rows + 1)
+  pub free_pages : keeper.pages ≡ span (length store.pages + 1) (counts_of live).numbers

@@ -1,0 +1,16 @@
+-- The words of a table that opens.
+use Rattle.std.specs.Prelude.{◌≡◌, ℕ, ◌+◌, ◌*◌, ◌<◌, ◌≤◌, Some, List, [], length, slice_index}
+use Rattle.blink_page.specs.Page.{PlainPage}
+use Rattle.blink_rows.specs.Counts.{PlainCounts}
+use Rattle.blink_rows.specs.Row.{page_words, prime_words}
+use Rattle.blink_store.specs.Store.{PlainStore, page_of}
+use Rattle.blink_live.specs.Words.{word_count, RowIs}
+
+-- the prime block is in row 1 and page n in row n + 1, and their page words name these; all other words are 0
+pub record IsLaid (counts : PlainCounts) (store : PlainStore) (words : List ℕ) : Type 0 where
+  pub width : length words ≡ word_count counts
+  pub page_words_named : (number : ℕ) → number ≤ length store.pages → slice_index words number ≡ number + 1
+  pub no_more : (place : ℕ) → length store.pages < place → place < 2 * counts.numbers → slice_index words place ≡ 0
+  pub prime_row : RowIs counts words 1 (prime_words store.prime)
+  pub page_rows : (number : ℕ) (page : PlainPage) → page_of store number ≡ Some page → RowIs counts words (number + 1) (page_words page)
+  pub blank_rows : (row : ℕ) → length store.pages + 2 ≤ row → row ≤ counts.rows → RowIs counts words row []

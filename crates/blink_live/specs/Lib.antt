@@ -1,0 +1,17 @@
+pub mod Words
+pub mod Renumbered
+pub mod ToCome
+pub mod Gathered
+pub mod Changes
+pub mod Views
+pub mod Rule
+pub mod Plays
+pub mod Codes
+pub mod Laid
+pub mod Laying
+pub mod Allowed
+pub mod Handles
+pub mod Seats
+pub mod Dealing
+pub mod Deals
+pub mod Merge

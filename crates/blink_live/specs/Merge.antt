@@ -1,0 +1,46 @@
+-- What a table keeps when all its passes are back: the merge of their shares.
+use Rattle.std.specs.Prelude.{◌≡◌, ℕ, Some, List, map, Contains, slice_get, slice_index}
+use Rattle.blink_batch.specs.declared.Entry.{Entry}
+use Rattle.blink_batch.specs.PlainMap.{IsAscending, pointer_of}
+use Rattle.blink_rest.specs.Chain.{Pages}
+use Rattle.blink_rest.specs.Entries.{AreEntries}
+use Rattle.blink_rest.specs.Rest.{IsAtRest}
+use Rattle.blink_rows.specs.Counts.{PlainCounts}
+use Rattle.blink_rows.specs.Row.{prime_words, IsLawfulPrime}
+use Rattle.blink_steps.specs.TreeMap.{pairs_of}
+use Rattle.blink_live.specs.declared.keeper.Keeper.{Keeper}
+use Rattle.blink_live.specs.declared.live.Live.{Live}
+use Rattle.blink_live.specs.declared.pass.Pass.{Pass}
+use Rattle.blink_live.specs.declared.view.Share.{Share}
+use Rattle.blink_live.specs.Handles.{opening_of, keys_of, share_of, taken_of}
+use Rattle.blink_live.specs.Words.{IsRowNumber, RowIs, KeepsPages}
+
+-- ---- the merge
+
+-- the opening entries, in which each key that was dealt has the state of its pass's share
+pub record IsMerge (live : Live) (keeper : Keeper) (passes : List Pass) (entries : List Entry) : Type 0 where
+  pub dealt : (place key : ℕ) (pass : Pass) → slice_get passes place ≡ Some pass → Contains (keys_of pass) key
+      → pointer_of entries key ≡ pointer_of (share_of pass) key
+  pub others : (key : ℕ) → ¬ Contains (taken_of keeper) key → pointer_of entries key ≡ pointer_of (opening_of live) key
+
+-- the passes' shares
+abbrev pub shares_of : List Pass → List Share
+shares_of passes = map (λ (pass : Pass). pass.seat.me.0.share) passes
+
+-- ---- the words of a table that is closed
+
+-- page word 0 names a row of this prime block
+pub record KeepsPrime (counts : PlainCounts) (words leftmost : List ℕ) : Type 0 where
+  pub row_in_range : IsRowNumber counts (slice_index words 0)
+  pub row_is : RowIs counts words (slice_index words 0) (prime_words leftmost)
+  pub lawful : IsLawfulPrime leftmost
+
+-- the words keep a tree at rest, which keeps these entries
+pub record KeepsTree (counts : PlainCounts) (words : List ℕ) (fan : ℕ) (entries : List Entry) : Type 0 where
+  pub prime : List ℕ
+  pub pages : Pages
+  pub prime_kept : KeepsPrime counts words prime
+  pub pages_kept : KeepsPages counts words pages
+  pub at_rest : IsAtRest fan prime pages
+  pub ascending : IsAscending entries
+  pub are : AreEntries fan prime pages (pairs_of entries)

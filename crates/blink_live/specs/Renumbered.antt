@@ -1,0 +1,65 @@
+-- Pages that get other numbers: one after the other along a level, and the children of a page too.
+use Rattle.std.specs.Prelude.{ℕ, ◌+◌, zero, suc, Option, Some, None, List, [], ◌∷◌, length, map}
+use Rattle.std.specs.List.{flat_map}
+use Rattle.blink_page.specs.Page.{PlainPage}
+use Rattle.blink_rest.specs.Chain.{Cell, cell}
+
+-- so many numbers in a row
+abbrev pub numbers_from : ℕ → ℕ → List ℕ
+numbers_from first zero = []
+numbers_from first (suc count) = first ∷ numbers_from (suc first) count
+
+-- the entries with the children from this one on
+abbrev pub with_children : ℕ → List (ℕ × ℕ) → List (ℕ × ℕ)
+with_children child [] = []
+with_children child ((separator, old) ∷ rest) = (separator, child) ∷ with_children (suc child) rest
+
+-- the entries of a page of this level: a leaf's stay as they are
+abbrev pub entries_anew : ℕ → ℕ → List (ℕ × ℕ) → List (ℕ × ℕ)
+entries_anew zero child entries = entries
+entries_anew (suc level) child entries = with_children child entries
+
+-- how many children the entries of a page of this level have
+abbrev pub child_count : ℕ → List (ℕ × ℕ) → ℕ
+child_count zero entries = 0
+child_count (suc level) entries = length entries
+
+-- the link leads to this number, where there is one
+abbrev pub link_anew : ℕ → Option ℕ → Option ℕ
+link_anew next None = None
+link_anew next (Some old) = Some next
+
+-- the page with its right link to `next`, and its children from `child` on
+abbrev pub page_anew : ℕ → ℕ → PlainPage → PlainPage
+page_anew next child page = record {
+  level = page.level;
+  floor = page.floor;
+  high = page.high;
+  right = link_anew next page.right;
+  entries = entries_anew page.level child page.entries;
+}
+
+-- the pages of a level with the numbers from `number` on, and their children from `child` on
+abbrev pub cells_anew : ℕ → ℕ → List Cell → List Cell
+cells_anew number child [] = []
+cells_anew number child (c ∷ cells) =
+    cell number (page_anew (suc number) child c.page)
+    ∷ cells_anew (suc number) (child + child_count c.page.level c.page.entries) cells
+
+-- the pages of levels with the numbers from `number` on, and the children of the lowest from `child` on
+abbrev pub levels_anew : ℕ → ℕ → List (List Cell) → List (List Cell)
+levels_anew number child [] = []
+levels_anew number child (cells ∷ above) = cells_anew number child cells ∷ levels_anew (number + length cells) number above
+
+-- the numbers of their leftmost pages
+abbrev pub firsts_anew : ℕ → List (List Cell) → List ℕ
+firsts_anew number [] = []
+firsts_anew number (cells ∷ above) = number ∷ firsts_anew (number + length cells) above
+
+-- the pages of a level alone
+abbrev pub pages_in : List Cell → List PlainPage
+pages_in cells = map (λ c. c.page) cells
+
+-- and those of levels
+abbrev pub pages_in_all : List (List Cell) → List PlainPage
+pages_in_all levels = flat_map pages_in levels

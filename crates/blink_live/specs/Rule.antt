@@ -1,0 +1,156 @@
+-- The rule of the table: between any two atomic steps the words and the views of the seats, read together, are a sound moment of the tree.
+use Rattle.std.specs.Prelude.{◌≡◌, ℕ, suc, ◌+◌, ◌-◌, ◌<◌, ◌≤◌, Option, Some, None, List, [], ◌∷◌, length, All, Contains, slice_index, ⊤}
+use mathlib.Core.Option.{some}
+use mathlib.Core.List.{IsPrefix}
+use lib.ListN.{get_elem?}
+use Rattle.atomic_table.specs.Table.{State}
+use Rattle.blink_batch.specs.declared.Entry.{Entry}
+use Rattle.blink_batch.specs.PlainMap.{pointer_of}
+use Rattle.blink_page.specs.Limits.{IsPageNumber}
+use Rattle.blink_page.specs.Page.{PlainPage}
+use Rattle.blink_rows.specs.Counts.{AreBounded}
+use Rattle.blink_rows.specs.Row.{page_words, prime_words}
+use Rattle.blink_steps.specs.Machine.{PlainMachine}
+use Rattle.blink_steps.specs.Moment.{Moment}
+use Rattle.blink_steps.specs.Places.{way_left}
+use Rattle.blink_steps.specs.Sound.{IsSound}
+use Rattle.blink_steps.specs.StepLaw.{IsMapAt}
+use Rattle.blink_live.specs.declared.view.Change.{Change}
+use Rattle.blink_live.specs.declared.view.Plan.{Plan}
+use Rattle.blink_live.specs.declared.view.Role.{Role}
+use Rattle.blink_live.specs.declared.view.Role.TheVariants.{Keeper, Pass, Spent}
+use Rattle.blink_live.specs.declared.view.Share.{Share}
+use Rattle.blink_live.specs.declared.view.View.{View}
+use Rattle.blink_live.specs.Changes.{after, changes_of}
+use Rattle.blink_live.specs.Words.{word_count, IsRowNumber, RowIs}
+
+-- ---- who has what: 0 for nobody, and else a seat's number and 1
+
+pub record Owners : Type 0 where
+  -- of rows that aren't published
+  pub row : ℕ → ℕ
+  -- of page numbers that no page has
+  pub page : ℕ → ℕ
+  -- of keys; those that came back are the keeper's
+  pub key : ℕ → ℕ
+  -- the number that a seat puts into a latch word
+  pub latch_number : ℕ → ℕ
+
+-- the row is published: nobody stores to it any more
+abbrev pub IsPublished : Plan → Owners → ℕ → Type 0
+IsPublished plan owners row = IsRowNumber plan.counts row × (owners.row row ≡ 0)
+
+-- ---- page words and latch words
+
+-- the page word is 0 where there is no page, and else names a published row, the page's
+abbrev pub PageWordIs : Plan → Owners → List ℕ → ℕ → Option PlainPage → Type 0
+PageWordIs plan owners words word None = word ≡ 0
+PageWordIs plan owners words word (Some page) = IsPublished plan owners word × RowIs plan.counts words word (page_words page)
+
+-- 0, or the number of the seat that holds the latch
+abbrev pub latch_word : Owners → Option ℕ → ℕ
+latch_word owners None = 0
+latch_word owners (Some seat) = owners.latch_number seat
+
+-- ---- what a seat knows
+
+-- the row that it reads is published, and has these words
+abbrev pub ReadsRow : Plan → Owners → List ℕ → Option (ℕ × List ℕ) → Type 0
+ReadsRow plan owners words None = ⊤
+ReadsRow plan owners words (Some (row, content)) = IsPublished plan owners row × RowIs plan.counts words row content
+
+-- the rows that it may use are its own, and all 0
+pub record HasRows (plan : Plan) (owners : Owners) (words : List ℕ) (owner : ℕ) (v : View) : Type 0 where
+  pub in_range : (1 ≤ v.rows.next) × (v.rows.stop ≤ plan.counts.rows + 1)
+  pub own : (row : ℕ) → v.rows.next ≤ row → row < v.rows.stop → owners.row row ≡ owner
+  pub blank : (row : ℕ) → v.rows.next ≤ row → row < v.rows.stop → RowIs plan.counts words row []
+
+-- the page numbers that it may use are its own, and no page has them
+pub record HasNumbers (plan : Plan) (owners : Owners) (moment : Moment) (owner : ℕ) (v : View) : Type 0 where
+  pub in_range : (1 ≤ v.pages.next) × (v.pages.stop ≤ plan.counts.numbers)
+  pub own : (number : ℕ) → v.pages.next ≤ number → number < v.pages.stop → owners.page number ≡ owner
+  pub free : (number : ℕ) → v.pages.next ≤ number → number < v.pages.stop → moment.pages number ≡ None
+
+-- what the share says of one of its keys: it has this owner, keeps what the share keeps, and its changes are the share's
+pub record IsOwnKey (plan : Plan) (owners : Owners) (log : List Change) (owner : ℕ) (share : Share) (key : ℕ) : Type 0 where
+  pub own : owners.key key ≡ owner
+  pub kept : pointer_of share.entries key ≡ after (pointer_of plan.opening) log key
+  pub changes : changes_of key log ≡ changes_of key share.changes
+
+-- a share with this owner
+abbrev pub IsShare : Plan → Owners → List Change → ℕ → Share → Type 0
+IsShare plan owners log owner share = (key : ℕ) → Contains share.keys key → IsOwnKey plan owners log owner share key
+
+-- by its role. The keeper's seat is the first; what it hasn't dealt nobody has, and what it took back is its own; only a pass has an operation
+abbrev pub IsInRole : Plan → Owners → List Change → ℕ → View → Role → Type 0
+IsInRole plan owners log seat v (Keeper dealt back) =
+    (seat ≡ 0) × (v.operation ≡ None) × ((key : ℕ) → ¬ Contains v.taken key → owners.key key ≡ 0)
+    × ((share : Share) → Contains v.back share → IsShare plan owners log 1 share)
+IsInRole plan owners log seat v Pass = (1 ≤ seat) × (owners.latch_number seat ≡ v.rows.stop - 1)
+IsInRole plan owners log seat v Spent = v.operation ≡ None
+
+-- what the operation is bound by
+abbrev pub IsBoundedWay : Moment → View → Type 0
+IsBoundedWay moment v = (m : PlainMachine) → v.operation ≡ Some m → way_left moment.pages m ≡ v.way_left
+
+-- the seat's view, told by the words, the moment and the changes
+pub record Knows (plan : Plan) (owners : Owners) (words : List ℕ) (moment : Moment) (log : List Change) (seat : ℕ) (v : View) : Type 0 where
+  pub same_plan : v.plan ≡ plan
+  pub operation : moment.machines seat ≡ v.operation
+  pub bounded : IsBoundedWay moment v
+  pub reads : ReadsRow plan owners words v.reads
+  pub rows : HasRows plan owners words (suc seat) v
+  pub numbers : HasNumbers plan owners moment (suc seat) v
+  pub share : IsShare plan owners log (suc seat) v.share
+  pub saw : IsPrefix v.seen log
+  pub heard : IsPrefix v.told log
+  pub in_role : IsInRole plan owners log seat v v.role
+
+-- ---- how many passes are out
+
+abbrev pub pass_count : Role → ℕ
+pass_count Pass = 1
+pass_count role = 0
+
+abbrev pub passes_in : List View → ℕ
+passes_in [] = 0
+passes_in (v ∷ rest) = pass_count v.role + passes_in rest
+
+-- the first seat is the keeper's, which has counted them
+pub record AreCounted (views : List View) : Type 0 where
+  pub keeper : View
+  pub dealt : ℕ
+  pub back : ℕ
+  pub first : get_elem? views 0 ≡ some keeper
+  pub role : keeper.role ≡ Keeper dealt back
+  pub counted : passes_in views + back ≡ dealt
+
+-- ---- the whole
+
+pub record IsTableAt (plan : Plan) (s : State ℕ View) (moment : Moment) : Type 0 where
+  pub owners : Owners
+  pub log : List Change
+  pub now : List Entry
+  -- the moment
+  pub same_fan : moment.fan ≡ plan.fan
+  pub sound : IsSound moment
+  pub prime_numbers : All IsPageNumber moment.prime
+  -- the words
+  pub bounded : AreBounded plan.counts
+  pub width : length s.words ≡ word_count plan.counts
+  pub prime : IsPublished plan owners (slice_index s.words 0) × RowIs plan.counts s.words (slice_index s.words 0) (prime_words moment.prime)
+  pub pages : (number : ℕ) → 1 ≤ number → number < plan.counts.numbers → PageWordIs plan owners s.words (slice_index s.words number) (moment.pages number)
+  pub no_other_page : (number : ℕ) → plan.counts.numbers ≤ number → moment.pages number ≡ None
+  pub latches : (number : ℕ) → number < plan.counts.numbers → slice_index s.words (plan.counts.numbers + number) ≡ latch_word owners (moment.holder number)
+  pub holders : (number seat : ℕ) → moment.holder number ≡ Some seat → 1 ≤ owners.latch_number seat
+  -- the entries: what the changes leave of the opening ones
+  pub is_map : IsMapAt moment now
+  pub kept : (key : ℕ) → pointer_of now key ≡ after (pointer_of plan.opening) log key
+  pub untouched : (key : ℕ) → owners.key key ≡ 0 → changes_of key log ≡ []
+  -- the seats
+  pub views : (seat : ℕ) (v : View) → get_elem? s.views seat ≡ some v → Knows plan owners s.words moment log seat v
+  pub others_idle : (seat : ℕ) → length s.views ≤ seat → moment.machines seat ≡ None
+  pub counted : AreCounted s.views
+
+abbrev pub IsTable : Plan → State ℕ View → Type 0
+IsTable plan s = (moment : Moment) × IsTableAt plan s moment

@@ -1,0 +1,116 @@
+-- The views of seats: how they begin, and what each kind of step makes of them.
+use Rattle.std.specs.Prelude.{◌≡◌, ℕ, suc, ◌+◌, List, [], ◌∷◌, ◌++◌, length, Some, None, ◌||◌, ◌==◌, Bool, false, filter}
+use Rattle.atomic_table.specs.Table.{Me}
+use Rattle.blink_batch.specs.declared.Entry.{Entry}
+use Rattle.blink_index.specs.Index.{map_of}
+use Rattle.blink_rows.specs.declared.span.Span.{Span}
+use Rattle.blink_steps.specs.Machine.{PlainMachine}
+use Rattle.blink_steps.specs.Moment.{goes_on}
+use Rattle.blink_live.specs.declared.view.Change.{Change}
+use Rattle.blink_live.specs.declared.view.Opened.{Opened}
+use Rattle.blink_live.specs.declared.view.Plan.{Plan}
+use Rattle.blink_live.specs.declared.view.Role.{Role}
+use Rattle.blink_live.specs.declared.view.Role.TheVariants.{Keeper, Pass, Spent}
+use Rattle.blink_live.specs.declared.view.Share.{Share}
+use Rattle.blink_live.specs.declared.view.View.{View}
+
+-- a seat's view, with the slots that it has taken: this table has none
+abbrev pub Sat : Type 0
+Sat = Me ℕ View
+
+abbrev pub plan_of : Opened → Plan
+plan_of opened = record { fan = opened.index.value.fan; counts = opened.counts; opening = map_of opened.index.value }
+
+abbrev pub span : ℕ → ℕ → Span
+span next stop = record { next = next; stop = stop }
+
+abbrev pub no_share : Share
+no_share = record { keys = []; entries = []; changes = [] }
+
+-- a seat that does nothing, and has seen nothing
+abbrev pub seat_for : Plan → Role → Span → Span → Share → View
+seat_for plan role rows pages share = record {
+  plan = plan;
+  role = role;
+  rows = rows;
+  pages = pages;
+  share = share;
+  taken = [];
+  back = [];
+  operation = None;
+  way_left = 0;
+  reads = None;
+  seen = [];
+  told = [];
+}
+
+-- the keeper of a table that was opened over so many pages
+abbrev pub first_view : ℕ → Plan → View
+first_view count plan = seat_for plan (Keeper 0 0) (span (count + 2) (plan.counts.rows + 1)) (span (count + 1) plan.counts.numbers) no_share
+
+-- the plan of no table
+abbrev pub no_plan : Plan
+no_plan = record { fan = 0; counts = record { numbers = 0; rows = 0 }; opening = [] }
+
+-- a seat that is left when another has taken its view
+abbrev pub spent : Plan → View
+spent plan = seat_for plan Spent (span 1 1) (span 1 1) no_share
+
+-- ---- reads
+
+-- a page word was loaded, which names this row of these words: the operation is `after` now
+abbrev pub reading : View → PlainMachine → ℕ → ℕ → List ℕ → List Change → View
+reading v after way row words seen = record v { operation = goes_on after after.state; way_left = way; reads = Some (row, words); seen = seen }
+
+-- w is v, but for its operation, and for what it reads and has seen
+abbrev pub SameBesideReads : View → View → Type 0
+SameBesideReads v w = w ≡ record v { operation = w.operation; way_left = w.way_left; reads = w.reads; seen = w.seen }
+
+-- ---- deals
+
+-- the key is one of them
+abbrev pub is_among : List ℕ → ℕ → Bool
+is_among [] key = false
+is_among (first ∷ rest) key = (first == key) || is_among rest key
+
+-- the entries of these keys
+abbrev pub entries_of : List ℕ → List Entry → List Entry
+entries_of keys entries = filter (λ (e : Entry). is_among keys e.key) entries
+
+abbrev pub share_of_keys : List ℕ → List Entry → Share
+share_of_keys keys opening = record { keys = keys; entries = entries_of keys opening; changes = [] }
+
+-- the keeper has dealt one pass more, or taken one back
+abbrev pub deals_one : Role → Role
+deals_one (Keeper dealt back) = Keeper (suc dealt) back
+deals_one role = role
+
+abbrev pub takes_one : Role → Role
+takes_one (Keeper dealt back) = Keeper dealt (suc back)
+takes_one role = role
+
+-- the keeper without the first rows and page numbers; these keys are taken now
+abbrev pub keeps_rest : View → ℕ → ℕ → List ℕ → View
+keeps_rest v rows pages taken = record v {
+  role = deals_one v.role;
+  rows = span (v.rows.next + rows) v.rows.stop;
+  pages = span (v.pages.next + pages) v.pages.stop;
+  taken = taken;
+}
+
+-- a pass with these rows and page numbers, and with these keys
+abbrev pub gets_first : View → ℕ → ℕ → List ℕ → View
+gets_first v rows pages keys =
+    seat_for v.plan Pass (span v.rows.next (v.rows.next + rows)) (span v.pages.next (v.pages.next + pages)) (share_of_keys keys v.plan.opening)
+
+-- the keeper with a pass's share back
+abbrev pub takes_back : View → View → View
+takes_back v w = record v { role = takes_one v.role; back = w.share ∷ v.back }
+
+-- the keeper with all these shares back
+abbrev pub takes_more : Role → ℕ → Role
+takes_more (Keeper dealt back) more = Keeper dealt (back + more)
+takes_more role more = role
+
+abbrev pub takes_all_back : View → List Share → View
+takes_all_back v shares = record v { role = takes_more v.role (length shares); back = shares ++ v.back }

@@ -1,0 +1,32 @@
+-- What the words of a table say: where its rows stand, and which rows keep pages.
+use Rattle.std.specs.Prelude.{◌≡◌, ℕ, ◌+◌, ◌-◌, ◌*◌, ◌<◌, ◌≤◌, Some, List, slice_index}
+use Rattle.blink_page.specs.Page.{PlainPage}
+use Rattle.blink_rest.specs.Chain.{Pages}
+use Rattle.blink_rows.specs.Counts.{PlainCounts}
+use Rattle.blink_rows.specs.Row.{page_words}
+use Rattle.blink_rows.specs.declared.limits.TheConstants.{ROW_WORDS}
+
+-- where a row begins
+abbrev pub row_start : PlainCounts → ℕ → ℕ
+row_start counts row = 2 * counts.numbers + ROW_WORDS * (row - 1)
+
+-- how many words there are: a page word and a latch word for each number, and the rows
+abbrev pub word_count : PlainCounts → ℕ
+word_count counts = 2 * counts.numbers + ROW_WORDS * counts.rows
+
+abbrev pub IsRowNumber : PlainCounts → ℕ → Type 0
+IsRowNumber counts row = (1 ≤ row) × (row ≤ counts.rows)
+
+-- the row's words are these, and 0 behind them
+abbrev pub RowIs : PlainCounts → List ℕ → ℕ → List ℕ → Type 0
+RowIs counts words row content = (i : ℕ) → i < ROW_WORDS → slice_index words (row_start counts row + i) ≡ slice_index content i
+
+-- the page word of this number names a row of the page
+pub record KeepsPage (counts : PlainCounts) (words : List ℕ) (number : ℕ) (page : PlainPage) : Type 0 where
+  pub number_in_range : (1 ≤ number) × (number < counts.numbers)
+  pub row_in_range : IsRowNumber counts (slice_index words number)
+  pub row_is : RowIs counts words (slice_index words number) (page_words page)
+
+-- each of these pages is kept
+abbrev pub KeepsPages : PlainCounts → List ℕ → Pages → Type 0
+KeepsPages counts words pages = (number : ℕ) (page : PlainPage) → pages number ≡ Some page → KeepsPage counts words number page

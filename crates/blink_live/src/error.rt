@@ -1,0 +1,63 @@
+//! Why a call on a table is refused.
+ghost use Rattle.std.specs.Prelude.{◌≡◌};
+ghost use Rattle.blink_live.specs.Codes.{code_of, code_of_pass};
+
+use thiserror::Error;
+
+/// Why a table can't be opened or closed, or a pass can't be dealt.
+#[derive(Clone, Copy, Debug, PartialEq, Eq, Error)]
+pub enum LiveError {
+    /// Memory was refused when a table was to be opened or closed.
+    #[error("out of memory")]
+    OutOfMemory,
+    /// This key was dealt before, or stands twice in the list.
+    #[error("key {0} is taken")]
+    Taken(u64),
+    /// The keeper has fewer insertions or deletions left.
+    #[error("no allowance")]
+    NoAllowance,
+    /// Memory was refused when a pass was to be dealt.
+    #[error("out of memory")]
+    DealOutOfMemory,
+    /// A pass that was dealt isn't among those that came back.
+    #[error("missing pass")]
+    Missing,
+    /// The allowed insertions might need more page numbers than there are.
+    #[error("too large")]
+    TooLarge,
+}
+
+impl LiveError {
+    /// The number of the refusal, the same in every release.
+    pub fn code(&self) -> u8
+        ensures { result ≡ code_of self.now }
+    {
+        match self {
+            LiveError::OutOfMemory => 50,
+            LiveError::Taken(_) => 51,
+            LiveError::NoAllowance => 52,
+            LiveError::DealOutOfMemory => 53,
+            LiveError::Missing => 56,
+            LiveError::TooLarge => 57,
+        }
+    }
+}
+
+/// Why a call with a pass is refused.
+#[derive(Clone, Copy, Debug, PartialEq, Eq, Error)]
+pub enum PassError {
+    /// The key isn't one of the pass's.
+    #[error("not yours")]
+    NotYours,
+}
+
+impl PassError {
+    /// The number of the refusal, the same in every release.
+    pub fn code(&self) -> u8
+        ensures { result ≡ code_of_pass self.now }
+    {
+        match self {
+            PassError::NotYours => 54,
+        }
+    }
+}

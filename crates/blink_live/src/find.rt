@@ -1,0 +1,59 @@
+//! How a pass finds what one of its keys keeps.
+ghost use Rattle.std.specs.Prelude.{◌≡◌, ◌↔◌, IsTrue, IfOk, IsErrOf, Contains, None};
+ghost use Rattle.blink_batch.specs.Operation.{answer_of};
+ghost use Rattle.blink_batch.specs.declared.Op.TheVariants.{Find};
+ghost use Rattle.blink_live.specs.Handles.{IsPassOf, IsSameBesideSeen, keys_of, share_of};
+ghost use Rattle.blink_live.specs.Seats.{IsPassSeat};
+ghost use Rattle.blink_live.specs.Views.{SameBesideReads};
+
+use crate::error::PassError;
+use crate::live::Live;
+use crate::pass::Pass;
+use crate::view::View;
+use atomic_table::Seat;
+use blink_batch::{Answer, Op};
+use blink_steps::Need;
+
+impl Live {
+    /// What the pass's key keeps: `Found` with its record pointer, or `Absent`, whatever other passes do at the same time. It
+    /// takes no memory, waits for nobody, and returns.
+    ///
+    /// `NotYours` is told of every key that isn't one of the pass's; then nothing is read.
+    pub fn find(&self, pass: &mut Pass, key: u64) -> Result<Answer, PassError>
+        requires its_own { IsPassOf self.now pass.old }
+        ensures answer { IfOk result (λ answer. answer ≡ answer_of (share_of pass.old) (Find key)) }
+        ensures not_yours { IsErrOf result PassError.NotYours ↔ ¬ Contains (keys_of pass.old) key }
+        ensures same { IsSameBesideSeen pass.old pass.new }
+    {
+        if !pass.has(key) {
+            return Err(PassError::NotYours);
+        }
+        let Pass {
+            seat,
+            keys: _,
+            rows: _,
+            pages: _,
+        } = pass;
+        Ok(self.search(seat, key))
+    }
+
+    // Goes down to the leaf of one of the seat's keys.
+    fn search(&self, seat: &mut Seat<u8, View>, key: u64) -> Answer
+        requires seat { IsPassSeat self.now seat.old.table_id seat.old.me }
+        requires idle { seat.old.me.0.operation ≡ None }
+        requires own_key { Contains seat.old.me.0.share.keys key }
+        ensures answer { result ≡ answer_of seat.old.me.0.share.entries (Find key) }
+        ensures idle { seat.new.me.0.operation ≡ None }
+        ensures same_table { (seat.new.table_id ≡ seat.old.table_id) × (seat.new.id ≡ seat.old.id) }
+        ensures same { SameBesideReads seat.old.me.0 seat.new.me.0 × (seat.new.me.1 ≡ seat.old.me.1) }
+    {
+        let mut machine = self.begin(seat, Op::Find(key));
+        while let Need::ReadPage(number) = machine.need() {
+            self.read_page(seat, &mut machine, number);
+        }
+        let Some(answer) = machine.answer() else {
+            unreachable!()
+        };
+        answer
+    }
+}

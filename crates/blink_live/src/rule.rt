@@ -1,0 +1,124 @@
+//! The rule of the table, and the kinds of its atomic steps.
+
+use crate::view::{Opened, View};
+use atomic_table::{Join, Play, Split, TableRule};
+use std::marker::{Brand, PhantomData};
+
+/// Words and views are a sound moment of the tree.
+pub(crate) struct SoundTree;
+
+impl TableRule<u8, View, Opened> for SoundTree {
+    ghost use Rattle.std.specs.Prelude.{length};
+    ghost use Rattle.blink_live.specs.Rule.{IsTable};
+    ghost use Rattle.blink_live.specs.Views.{plan_of, first_view};
+
+    ghost holds = { λ opened. IsTable (plan_of opened) };
+
+    ghost first = { λ opened. first_view (length opened.index.value.pages) (plan_of opened) };
+}
+
+/// The operation that a call begins: each call picks it.
+pub(crate) trait Begun {
+    ghost use Rattle.blink_batch.specs.declared.Op.{Op};
+
+    ghost op: { Op };
+}
+
+impl Begun for Brand {
+    ghost use Rattle.blink_batch.specs.declared.Op.TheVariants.{Find};
+
+    ghost op = { Find 0 };
+}
+
+/// The load of the prime block's page word by an operation that begins.
+pub(crate) struct Begin<B> {
+    of: PhantomData<B>,
+}
+
+impl<B: Begun> Play<u8, View> for Begin<B> {
+    ghost use Rattle.blink_live.specs.Plays.{begins};
+
+    ghost then = { begins B.op };
+}
+
+/// The load of a page word by an operation on its way.
+pub(crate) struct LoadPage;
+
+impl Play<u8, View> for LoadPage {
+    ghost use Rattle.blink_live.specs.Plays.{loads_page};
+
+    ghost then = { loads_page };
+}
+
+/// The load of a word of the row that a page word named.
+pub(crate) struct LoadWord;
+
+impl Play<u8, View> for LoadWord {
+    ghost use Rattle.blink_live.specs.Plays.{loads_word};
+
+    ghost then = { loads_word };
+}
+
+/// What a deal gives to a new pass, and which keys are taken after it: each call picks them.
+pub(crate) trait Dealt {
+    ghost use Rattle.std.specs.Prelude.{ℕ, List};
+
+    ghost rows: { ℕ };
+
+    ghost pages: { ℕ };
+
+    ghost keys: { List ℕ };
+
+    ghost taken: { List ℕ };
+}
+
+impl Dealt for Brand {
+    ghost use Rattle.std.specs.Prelude.{[]};
+
+    ghost rows = { 0 };
+
+    ghost pages = { 0 };
+
+    ghost keys = { [] };
+
+    ghost taken = { [] };
+}
+
+/// A deal: the keeper keeps the rest, and a new seat gets the first.
+pub(crate) struct Deal<B> {
+    of: PhantomData<B>,
+}
+
+impl<B: Dealt> Split<View> for Deal<B> {
+    ghost use Rattle.blink_live.specs.Views.{keeps_rest, gets_first};
+
+    ghost left = { λ v. keeps_rest v B.rows B.pages B.taken };
+
+    ghost right = { λ v. gets_first v B.rows B.pages B.keys };
+}
+
+/// The plan of the table that a pass comes back to: each call picks it.
+pub(crate) trait Planned {
+    ghost use Rattle.blink_live.specs.declared.view.Plan.{Plan};
+
+    ghost plan: { Plan };
+}
+
+impl Planned for Brand {
+    ghost use Rattle.blink_live.specs.Views.{no_plan};
+
+    ghost plan = { no_plan };
+}
+
+/// The keeper takes back a pass, whose seat is spent.
+pub(crate) struct TakeBack<B> {
+    of: PhantomData<B>,
+}
+
+impl<B: Planned> Join<View> for TakeBack<B> {
+    ghost use Rattle.blink_live.specs.Views.{spent, takes_back};
+
+    ghost both = { takes_back };
+
+    ghost spent = { spent B.plan };
+}

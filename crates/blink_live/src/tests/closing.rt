@@ -1,0 +1,31 @@
+//! Tables that close.
+use crate::tests::fourteen;
+use crate::{Live, LiveError};
+use blink_index::Index;
+use blink_rows::Allowance;
+use std::test::Fail;
+
+// The tree of fourteen keys with its pages numbered level by level.
+const FOURTEEN: &str = "\
+2 8 - 18446744073709551615 - 9:6 18446744073709551615:7
+1 6 - 9 7 3:1 6:2 9:3
+1 7 9 18446744073709551615 - 12:4 18446744073709551615:5
+0 1 - 3 2 1:10 2:20 3:30
+0 2 3 6 3 4:40 5:50 6:60
+0 3 6 9 4 7:70 8:80 9:90
+0 4 9 12 5 10:100 11:110 12:120
+0 5 12 18446744073709551615 - 13:130 14:140
+";
+
+#[test]
+fn pages_are_numbered_anew(rt: HostRuntime) -> Result<(), Fail> {
+    let index = fourteen(rt.alloc())?;
+    let allowance = Allowance {
+        inserts: 0,
+        deletes: 0,
+    };
+    let (live, keeper) = Live::open(rt.alloc(), &index, allowance)?;
+    let closed = live.close(rt.alloc(), keeper, Vec::new(rt.alloc()))?;
+    assert_eq!(rt; closed.dump(rt.alloc())?.as_str(), FOURTEEN);
+    Ok(())
+}
