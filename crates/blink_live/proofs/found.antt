@@ -1,5 +1,7 @@
 pub mod OperationBegins
 pub mod ReadsPage
 pub mod ReadsRow
-pub mod RowsTellPages
+pub mod EntriesInRow
+pub mod RootInRow
+pub mod WaysFromRow
 pub mod FindsOnTheirWay

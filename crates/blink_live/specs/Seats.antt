@@ -1,9 +1,15 @@
 -- A pass's seat while a call is under way.
-use Rattle.std.specs.Prelude.{◌≡◌, ◌⊎◌, ℕ, ◌+◌, ◌*◌, ◌≤◌, Some, None, IsSome, List, length, slice_index}
+use Rattle.std.specs.Prelude.{◌≡◌, ◌⊎◌, ℕ, Option, Some, None, IsSome}
 use Rattle.atomic_table.specs.Seated.{TableId}
 use Rattle.blink_batch.specs.declared.Op.TheVariants.{Find}
 use Rattle.blink_batch.specs.Operation.{answer_of}
-use Rattle.blink_rows.specs.declared.limits.TheConstants.{HEAD_WORDS, ROW_WORDS}
+use Rattle.blink_page.specs.Entries.{value_at}
+use Rattle.blink_page.specs.Page.{PlainPage, IsLawfulPage}
+use Rattle.blink_page.specs.Way.{Leads}
+use Rattle.blink_page.specs.declared.limits.TheConstants.{MAX_FAN}
+use Rattle.blink_page.specs.declared.search.Way.{Way}
+use Rattle.blink_page.specs.declared.search.Way.TheVariants.{Here}
+use Rattle.blink_rows.specs.Row.{page_words}
 use Rattle.blink_steps.specs.declared.machine.State.TheVariants.{Start, Ended}
 use Rattle.blink_steps.specs.Finds.{IsFind}
 use Rattle.blink_steps.specs.Machine.{PlainMachine}
@@ -19,10 +25,15 @@ pub record IsPassSeat (live : Live) (table : TableId) (me : Sat) : Type 0 where
   pub same_plan : me.0.plan ≡ plan_of live.table.shared.key
   pub role : me.0.role ≡ Pass
 
--- the words of a page or a prime block: the sixth says how many parts follow, of so many words each
-pub record HasParts (size : ℕ) (content : List ℕ) : Type 0 where
-  pub width : length content ≡ HEAD_WORDS + size * slice_index content 5
-  pub fits : length content ≤ ROW_WORDS
+-- the seat reads the row of this page
+pub record ReadsPage (me : Sat) (row : ℕ) (page : PlainPage) : Type 0 where
+  pub reads : me.0.reads ≡ Some (row, page_words page)
+  pub lawful : IsLawfulPage MAX_FAN page
+
+-- the key leads this way from the page, and, where that is its leaf, this is what the page keeps under it
+pub record TellsWayFor (key : ℕ) (page : PlainPage) (way : Way) (kept : Option ℕ) : Type 0 where
+  pub leads : Leads page key way
+  pub keeps : way ≡ Here → value_at key page.entries ≡ kept
 
 -- a find of this key is on its way, or has ended. Its answer, where it has one, is that of the share
 pub record IsFinding (key : ℕ) (first me : Sat) (m : PlainMachine) : Type 0 where

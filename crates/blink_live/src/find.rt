@@ -49,7 +49,7 @@ impl Live {
     {
         let mut machine = self.begin(seat, Op::Find(key));
         while let Need::ReadPage(number) = machine.need() {
-            self.read_page(seat, &mut machine, number);
+            self.read_page(seat, &mut machine, number, key);
         }
         let Some(answer) = machine.answer() else {
             unreachable!()

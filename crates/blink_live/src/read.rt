@@ -1,11 +1,16 @@
-//! How a seat reads the pages of a table: each by the load of its page word, which is the tree's read, and then the loads of
-//! the words of the row that it names.
-ghost use Rattle.std.specs.Prelude.{◌≡◌, ℕ, ◌+◌, ◌*◌, ◌<◌, ◌≤◌, ◌⊎◌, Some, None, List, length, slice_index};
+//! How a seat reads the pages of a table: each by the load of its page word, which is the tree's read, and then by the loads of
+//! as many words of the row that it names as tell which way the operation's key leads.
+ghost use Rattle.std.specs.Prelude.{◌≡◌, ℕ, ◌+◌, ◌*◌, ◌<◌, ◌≤◌, Some, None, List, Option, slice_get, slice_index};
 ghost use Rattle.blink_batch.specs.Batch.{FitsWords};
-ghost use Rattle.blink_rows.specs.Row.{IsRowOf};
+ghost use Rattle.blink_page.specs.Place.{place_of};
+ghost use Rattle.blink_page.specs.Entries.{value_at};
+ghost use Rattle.blink_page.specs.Page.{PlainPage};
+ghost use Rattle.blink_page.specs.Rising.{IsRising};
+ghost use Rattle.blink_rows.specs.declared.limits.TheConstants.{ROW_WORDS};
+ghost use Rattle.blink_steps.specs.Finds.{IsFind};
 ghost use Rattle.blink_steps.specs.Machine.{PlainMachine, NeedsPage};
 ghost use Rattle.blink_live.specs.Plays.{Begins, LoadsPage};
-ghost use Rattle.blink_live.specs.Seats.{IsPassSeat, HasParts};
+ghost use Rattle.blink_live.specs.Seats.{IsPassSeat, ReadsPage, TellsWayFor};
 ghost use Rattle.blink_live.specs.Words.{IsRowNumber};
 
 use crate::live::Live;
@@ -13,12 +18,22 @@ use crate::rule::{Begin, Begun, LoadPage, LoadWord};
 use crate::view::View;
 use atomic_table::Seat;
 use blink_batch::Op;
-use blink_rows::{HEAD_WORDS, ROW_WORDS, row_page, row_prime};
+use blink_page::Way;
+use blink_rows::HEAD_WORDS;
 use blink_steps::Machine;
 use std::marker::Brand;
 
+// The words of a row's head.
+const LEVEL: usize = 0;
+
+const HIGH_KEY: usize = 3;
+
+const RIGHT_LINK: usize = 4;
+
+const COUNT: usize = 5;
+
 impl Live {
-    // Begins an operation: it reads the prime block.
+    // Begins an operation: it reads of the prime block what names the root.
     pub(crate) fn begin(&self, seat: &mut Seat<u8, View>, op: Op) -> Machine
         requires seat { IsPassSeat self.now seat.old.table_id seat.old.me }
         requires idle { seat.old.me.0.operation ≡ None }
@@ -27,12 +42,10 @@ impl Live {
         ensures begun { (row : ℕ) × Begins op seat.old.me row result seat.new.me }
     {
         let row = self.load_prime::<Brand>(seat, op);
-        let words = self.read_row(seat, row, 1);
-        let Some(prime) = row_prime(&words) else {
-            unreachable!()
-        };
+        let levels = self.load_word(seat, row, COUNT);
+        let root = self.load_word(seat, row, HEAD_WORDS + levels as usize - 1);
         let mut machine = Machine::new(op, self.fan);
-        let _never_waits = machine.saw_prime(&prime);
+        machine.saw_top(levels as u8 - 1, root as u32);
         machine
     }
 
@@ -48,65 +61,91 @@ impl Live {
         self.table.shared.load::<Begin<B>>(seat, 0)
     }
 
-    // Reads the page that the operation needs, and shows it to it.
-    pub(crate) fn read_page(&self, seat: &mut Seat<u8, View>, machine: &mut Machine, number: u32)
+    // Reads the page that a find of this key needs next, and tells the find which way its key leads from there.
+    pub(crate) fn read_page(
+        &self,
+        seat: &mut Seat<u8, View>,
+        machine: &mut Machine,
+        number: u32,
+        key: u64,
+    )
         requires seat { IsPassSeat self.now seat.old.table_id seat.old.me }
         requires at { seat.old.me.0.operation ≡ Some machine.old }
-        requires fits { FitsWords machine.old.op }
+        requires find { IsFind key machine.old }
         requires needs { NeedsPage machine.old number }
         requires in_range { (1 ≤ number) × (number < self.now.counts.numbers) }
         ensures same { (seat.new.table_id ≡ seat.old.table_id) × (seat.new.id ≡ seat.old.id) }
         ensures read { (row : ℕ) × LoadsPage machine.old number seat.old.me row machine.new seat.new.me }
     {
         let row = self.table.shared.load::<LoadPage>(seat, number as usize);
-        let words = self.read_row(seat, row, 2);
-        let Some(page) = row_page(&words) else {
+        let (way, kept) = self.way_from(seat, row, key);
+        machine.saw_way(way, kept);
+    }
+
+    // Which way the key leads from the page whose row the seat reads, and where that is the key's leaf, what it keeps under
+    // the key.
+    fn way_from(&self, seat: &mut Seat<u8, View>, row: u64, key: u64) -> (Way, Option<u64>)
+        requires seat { IsPassSeat self.now seat.old.table_id seat.old.me }
+        requires row { IsRowNumber self.now.counts row }
+        requires page { (page : PlainPage) × ReadsPage seat.old.me row page }
+        ensures same { (seat.new.table_id ≡ seat.old.table_id) × (seat.new.id ≡ seat.old.id) × (seat.new.me ≡ seat.old.me) }
+        ensures way { (page : PlainPage) → ReadsPage seat.old.me row page → TellsWayFor key page result.0 result.1 }
+    {
+        if key > self.load_word(seat, row, HIGH_KEY) {
+            let right = self.load_word(seat, row, RIGHT_LINK);
+            return (Way::Right(right as u32), None);
+        }
+        let entry = self.entry_from(seat, row, key);
+        if self.load_word(seat, row, LEVEL) == 0 {
+            return (Way::Here, kept_under(key, entry));
+        }
+        let Some((_, child)) = entry else {
             unreachable!()
         };
-        // Read for the proof: a page is lawful.
-        let _level = page.level;
-        machine.saw_page(&page);
+        (Way::Down(child as u32), None)
     }
 
-    // The words of the row that the seat reads: its head, and then as many parts as this says, of `size` words each. All
-    // words behind them are 0.
-    fn read_row(&self, seat: &mut Seat<u8, View>, row: u64, size: usize) -> [u64; ROW_WORDS]
+    // The first entry of the page whose row the seat reads that has this key or a greater one.
+    fn entry_from(&self, seat: &mut Seat<u8, View>, row: u64, key: u64) -> Option<(u64, u64)>
         requires seat { IsPassSeat self.now seat.old.table_id seat.old.me }
         requires row { IsRowNumber self.now.counts row }
-        requires reads { (content : List ℕ) × (seat.old.me.0.reads ≡ Some (row, content)) × HasParts size content }
+        requires page { (page : PlainPage) × ReadsPage seat.old.me row page }
         ensures same { (seat.new.table_id ≡ seat.old.table_id) × (seat.new.id ≡ seat.old.id) × (seat.new.me ≡ seat.old.me) }
-        ensures words { (content : List ℕ) → seat.old.me.0.reads ≡ Some (row, content) → IsRowOf result content }
+        ensures entry { (page : PlainPage) → ReadsPage seat.old.me row page → result ≡ slice_get page.entries (place_of key page.entries) }
     {
-        let mut words = [0; ROW_WORDS];
-        self.load_words(seat, row, &mut words, 0, HEAD_WORDS);
-        let stop = HEAD_WORDS + size * words[5] as usize;
-        self.load_words(seat, row, &mut words, HEAD_WORDS, stop);
-        words
+        let count = self.load_word(seat, row, COUNT) as usize;
+        for place in 0..count {
+            let at = HEAD_WORDS + 2 * place;
+            let found = self.load_word(seat, row, at);
+            if key <= found {
+                return Some((found, self.load_word(seat, row, at + 1)));
+            }
+        }
+        None
     }
 
-    // Loads the row's words in these places.
-    fn load_words(
-        &self,
-        seat: &mut Seat<u8, View>,
-        row: u64,
-        words: &mut [u64; ROW_WORDS],
-        from: usize,
-        to: usize,
-    )
+    // Loads a word of the row.
+    fn load_word(&self, seat: &mut Seat<u8, View>, row: u64, place: usize) -> u64
         requires seat { IsPassSeat self.now seat.old.table_id seat.old.me }
         requires row { IsRowNumber self.now.counts row }
-        requires places { (from ≤ to) × (to ≤ ROW_WORDS) }
+        requires place { place < ROW_WORDS }
         ensures same { (seat.new.table_id ≡ seat.old.table_id) × (seat.new.id ≡ seat.old.id) × (seat.new.me ≡ seat.old.me) }
-        ensures width { length words.new ≡ ROW_WORDS }
-        ensures loaded { (content : List ℕ) → seat.old.me.0.reads ≡ Some (row, content) → (n : ℕ) → from ≤ n → n < to
-            → slice_index words.new n ≡ slice_index content n }
-        ensures others { (n : ℕ) → (n < from) ⊎ (to ≤ n) → slice_index words.new n ≡ slice_index words.old n }
+        ensures word { (content : List ℕ) → seat.old.me.0.reads ≡ Some (row, content) → result ≡ slice_index content place }
     {
         // Called for the proof: a place in the table is a usize.
         let _count = self.table.word_count();
         let start = self.counts.row_start(row) as usize;
-        for n in from..to {
-            words[n] = self.table.shared.load::<LoadWord>(seat, start + n);
-        }
+        self.table.shared.load::<LoadWord>(seat, start + place)
+    }
+}
+
+// What is kept under the key, where this is the first entry that has it or a greater one.
+fn kept_under(key: u64, entry: Option<(u64, u64)>) -> Option<u64>
+    ensures { (from to : ℕ) (entries : List (ℕ × ℕ)) → IsRising from entries to → entry ≡ slice_get entries (place_of key entries)
+        → result ≡ value_at key entries }
+{
+    match entry {
+        Some((found, value)) if found == key => Some(value),
+        _ => None,
     }
 }

@@ -12,3 +12,6 @@ pub use Rattle.blink_page.proofs.EntriesOfPagesInARow.{added-append_front, added
 pub use Rattle.blink_page.proofs.LawfulPages.{lawful_with_room, lawful_removed, lawful_entries_with, length-entries_with}
 -- the two halves of a split, and the separator between them
 pub use Rattle.blink_page.proofs.HalvesOfSplit.{lower-append-upper, separator_above_floor, separator_below_high, lawful_lower, lawful_upper}
+-- what stands where a search within a page ends, and that a search in an inner page ends at a child
+pub use Rattle.blink_page.proofs.WhereSearchesEnd.{place_at_most, child_for-place, value_at-place, value_at-place_other, value_at-place_end}
+pub use Rattle.blink_page.proofs.LawfulPages.{place_inside, child_inside}

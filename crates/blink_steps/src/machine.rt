@@ -167,8 +167,8 @@ impl Machine {
         matches!(self.state, State::Ended)
     }
 
-    // The key that its job is about.
-    fn target(&self) -> u64
+    /// The key that its job is about.
+    pub fn target(&self) -> u64
         ensures { result ≡ target self.now }
     {
         match self.job {

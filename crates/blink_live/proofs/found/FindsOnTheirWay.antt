@@ -8,7 +8,7 @@ use Rattle.blink_batch.specs.PlainMap.{pointer_of}
 use Rattle.blink_page.specs.Page.{PlainPage}
 use Rattle.blink_steps.specs.declared.machine.Need.TheVariants.{ReadPage}
 use Rattle.blink_steps.specs.declared.machine.State.{State}
-use Rattle.blink_steps.specs.declared.machine.State.TheVariants.{Start, Going, Held, Ended}
+use Rattle.blink_steps.specs.declared.machine.State.TheVariants.{Start, Going, Held}
 use Rattle.blink_steps.specs.Finds.{IsReading, at_start, going, at_end, IsFind}
 use Rattle.blink_steps.specs.Machine.{PlainMachine, need_at}
 use Rattle.blink_steps.specs.Table.{SeesPrime, SeesPage, SeesOnItsWay}
@@ -51,12 +51,6 @@ never_back key number m after page find (SeesPage.under_latch held under) back =
     never_held state (at_start is) at = cc
     never_held state (going here level is) at = cc
     never_held state (at_end is) at = cc
-
--- a find that needs no page more has ended
-pub has_ended : (m : PlainMachine) (state : State) → IsReading state → state ≢ Start → ((number : ℕ) → need_at state ≢ ReadPage number) → state ≡ Ended
-has_ended m state (at_start is) begun none_needed = absurd (begun is)
-has_ended m state (going page level is) begun none_needed = absurd (none_needed page (ap need_at is))
-has_ended m state (at_end is) begun none_needed = is
 
 pub same_trans : (u v w : View) → SameBesideReads u v → SameBesideReads v w → SameBesideReads u w
 same_trans u v w first second = second ∙ ap (λ (x : View). record x { operation = w.operation; way_left = w.way_left; reads = w.reads; seen = w.seen }) first

@@ -1,10 +1,15 @@
 //! What an operation makes of what it reads.
-ghost use Rattle.std.specs.Prelude.{◌≡◌, ◌↔◌, ℕ, ◌<◌, ◌≤◌, ◌+◌, length, IsTrue};
+ghost use Rattle.std.specs.Prelude.{◌≡◌, ◌↔◌, ℕ, ◌<◌, ◌≤◌, ◌+◌, List, length, IsTrue};
 ghost use Rattle.std.specs.Bool.{OnTrue, OnFalse};
 ghost use Rattle.blink_page.specs.declared.limits.TheConstants.{LEVELS};
 ghost use Rattle.blink_page.specs.Rising.{least_above};
 ghost use Rattle.blink_steps.specs.Machine.{NeedsPrime, NeedsPage, level_of, level_read, target};
-ghost use Rattle.blink_steps.specs.Table.{SeesPrime, WaitsForLevel, SeesPage, SeesOnItsWay, SeesUnderLatch};
+ghost use Rattle.blink_batch.specs.declared.Op.TheVariants.{Find};
+ghost use Rattle.blink_page.specs.Entries.{value_at};
+ghost use Rattle.blink_page.specs.Page.{PlainPage};
+ghost use Rattle.blink_page.specs.declared.search.Way.TheVariants.{Here};
+ghost use Rattle.blink_steps.specs.Finds.{IsOnItsWay, TellsWay};
+ghost use Rattle.blink_steps.specs.Table.{SeesPrime, WaitsForLevel, SeesPage, SeesOnItsWay, SeesUnderLatch, IsTopLeftmost};
 ghost use Rattle.blink_steps.specs.Needs.{NeedsSomePage};
 
 use super::{Debt, Job, Machine, Next, State, answer_with};
@@ -33,12 +38,22 @@ impl Machine {
 
     // Begins at the root, the page that the prime block names last.
     fn begin(&mut self, prime: &Prime)
-        requires { self.old.state ≡ State.Start }
+        requires state { self.old.state ≡ State.Start }
+        requires few_levels { length prime.now < LEVELS }
         ensures { SeesPrime self.old prime.now self.new }
     {
         let top = prime.leftmost.len() - 1;
+        self.saw_top(top as u8, prime.leftmost[top]);
+    }
+
+    /// It has read as much of the prime block as tells the top level and its leftmost page, which is enough to begin.
+    pub fn saw_top(&mut self, level: u8, page: u32)
+        requires state { self.old.state ≡ State.Start }
+        requires few_levels { level + 1 < LEVELS }
+        ensures { (prime : List ℕ) → IsTopLeftmost prime level page → SeesPrime self.old prime self.new }
+    {
         self.remembered = Remembered::new();
-        self.state = State::Going(prime.leftmost[top], top as u8);
+        self.state = State::Going(page, level);
     }
 
     // Makes a new root if the page that it has split was the root, and else posts the split.
@@ -107,17 +122,41 @@ impl Machine {
         requires level { page.now.level ≡ level }
         ensures { SeesOnItsWay self.old number page.now self.new }
     {
-        match page.way(self.target()) {
+        let way = page.way(self.target());
+        let kept = self.kept_at_end(page, way);
+        self.saw_way(way, kept);
+    }
+
+    // What the page keeps under a find's key, where its way ends there.
+    fn kept_at_end(&self, page: &Page, way: Way) -> Option<u64>
+        ensures { (key : ℕ) → self.now.op ≡ Find key → way ≡ Here
+            → value_at key page.now.entries ≡ result }
+    {
+        match (way, self.op) {
+            (Way::Here, Op::Find(key)) => page.look(key),
+            _ => None,
+        }
+    }
+
+    /// It has read as much of the page that it needs on its way down as tells which way its key leads from there, and, where
+    /// it is a find and the page is the key's leaf, what the leaf keeps under the key. So it need not be shown the page.
+    pub fn saw_way(&mut self, way: Way, kept: Option<u64>)
+        requires on_its_way { IsOnItsWay self.old }
+        requires read { (page : PlainPage) × TellsWay self.old page way kept }
+        ensures { (number : ℕ) (page : PlainPage) → NeedsPage self.old number
+            → TellsWay self.old page way kept → SeesOnItsWay self.old number page self.new }
+    {
+        let State::Going(number, level) = self.state else {
+            unreachable!()
+        };
+        match way {
             Way::Right(next) => self.state = State::Going(next, level),
             Way::Down(child) => {
                 self.remembered.push(number);
                 self.state = State::Going(child, level - 1);
             }
             Way::Here => match self.op {
-                Op::Find(key) => {
-                    let kept = page.look(key);
-                    self.decide(State::Ended, answer_with(Op::Find(key), kept));
-                }
+                Op::Find(key) => self.decide(State::Ended, answer_with(Op::Find(key), kept)),
                 Op::Insert(..) | Op::Delete(_) => self.state = State::Want(number),
             },
         }

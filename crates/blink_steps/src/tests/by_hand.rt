@@ -7,7 +7,7 @@ use crate::machine::State;
 use crate::tests::has_entries;
 use crate::{Machine, Need};
 use blink_batch::{Answer, Op};
-use blink_page::{GREATEST_KEY, Page, Prime, Put};
+use blink_page::{GREATEST_KEY, Page, Prime, Put, Way};
 use std::process::Abort;
 
 // One leaf that is exactly full: the keys 1 to 4, each with ten times the key.
@@ -97,5 +97,26 @@ fn an_insertion_splits_a_leaf(rt: HostRuntime) {
     assert_eq!(rt; machine.need(), Need::Unlatch(1));
     machine.done(0);
     assert_eq!(rt; machine.need(), Need::End);
+    assert!(rt; machine.ended());
+}
+
+#[test]
+fn a_find_begins_at_the_root(rt: HostRuntime) {
+    let mut machine = Machine::new(Op::Find(3), 4);
+    assert_eq!(rt; machine.target(), 3);
+    machine.saw_top(2, 7);
+    assert_eq!(rt; machine.need(), Need::ReadPage(7));
+}
+
+#[test]
+fn a_find_is_told_its_way(rt: HostRuntime) {
+    let leaf = full_leaf(&rt);
+    let mut machine = Machine::new(Op::Find(3), 4);
+    assert!(rt; machine.saw_prime(&Prime::new()));
+    assert_eq!(rt; machine.need(), Need::ReadPage(1));
+    let way = leaf.way(3);
+    assert_eq!(rt; way, Way::Here);
+    machine.saw_way(way, leaf.look(3));
+    assert_eq!(rt; machine.answer(), Some(Answer::Found(30)));
     assert!(rt; machine.ended());
 }

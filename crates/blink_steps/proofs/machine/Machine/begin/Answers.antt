@@ -1,20 +1,18 @@
-use Rattle.std.proofs.Common.{◌≡◌, ℕ, ◌-◌, Some, None, List, [], length, get_or, ap, ◌∙◌, arith}
-use Rattle.std.specs.List.{last_or}
-use Rattle.blink_steps.specs.declared.machine.State.TheVariants.{Going}
-use Rattle.blink_steps.specs.Machine.{PlainMachine}
-use Rattle.blink_steps.specs.MachineView.{plain}
-use Rattle.blink_steps.specs.Table.{begins}
-use Rattle.blink_steps.proofs.tree.PrimeAsList.{last_or-at_end}
+use Rattle.std.proofs.Common.{◌≡◌, ℕ, ◌+◌, ◌-◌, ◌<◌, Some, List, length, get_or, ap, sym, ◌∙◌, arith}
+use Rattle.std.specs.Prelude.{slice_get}
+use Rattle.std.proofs.lemmas.Option.{slice_get-get_or}
+use Rattle.blink_steps.specs.Table.{IsTopLeftmost}
 use Rattle.blink_steps.proofs.machine.Machine.begin.Goals as goal
 
 pub returns : goal.returns
 returns c =
     let items : c.deref.result.now ≡ c.args.prime.now = c.deref.ensures.0 ∙ c.prime.view_is in
     let height : c.len-top.result ≡ length c.args.prime.now = c.len-top.ensures.value ∙ ap length c.prime.view_is in
-    let top = get_or c.deref.result.now (c.len-top.result - 1) 0 in
-    let last : last_or None c.args.prime.now ≡ Some (get_or c.deref.result.now (c.len-top.result - 1) 0) =
-    rw (items, height) (last_or-at_end c.args.prime.now (omega (arith, c.prime.invariant, ap length c.prime.view_is))) in
-    begins top c.requires last
-    (ap (λ (pages : List ℕ). record (plain c.self.inside) { remembered = pages; state = Going top (c.len-top.result - 1) }) c.new-self-inside.ensures
-    ∙ ap (λ (m : PlainMachine). record m { remembered = []; state = Going top (c.len-top.result - 1) }) c.self.view_is
-    ∙ ap (λ (n : ℕ). record c.args.self.now { remembered = []; state = Going top (n - 1) }) height)
+    let some_level = c.prime.invariant.0 in
+    let same : length c.prime.inside.leftmost.items ≡ length c.args.prime.now = ap length c.prime.view_is in
+    let inside : c.len-top.result - 1 < length c.args.prime.now = omega (arith, height, some_level, same) in
+    let top : IsTopLeftmost c.args.prime.now (c.len-top.result - 1) (get_or c.deref.result.now (c.len-top.result - 1) 0) = record {
+      top = omega (arith, height, some_level, same);
+      leftmost = slice_get-get_or c.args.prime.now (c.len-top.result - 1) 0 inside ∙ ap (λ (xs : List ℕ). Some (get_or xs (c.len-top.result - 1) 0)) (sym items);
+    } in
+    c.saw_top.ensures c.args.prime.now top

@@ -1,42 +1,30 @@
-use Rattle.std.proofs.Common.{◌≡◌, ◌+◌, ◌-◌, ap, sym, ◌∙◌, subst, inl, inr, arith}
-use Rattle.std.specs.Prelude.{List, ℕ, ◌∷◌}
+use Rattle.std.proofs.Common.{◌≡◌, ℕ, Option, ap, sym, ◌∙◌, subst}
 use Rattle.blink_batch.specs.declared.Op.TheVariants.{Find}
-use Rattle.blink_batch.specs.Operation.{answer_at}
+use Rattle.blink_page.specs.Entries.{value_at}
+use Rattle.blink_page.specs.Page.{PlainPage}
 use Rattle.blink_page.specs.Way.{Leads}
-use Rattle.blink_page.specs.declared.search.Way.TheVariants.{Right, Down, Here}
-use Rattle.blink_steps.specs.declared.machine.State.TheVariants.{Going, Want, Ended}
-use Rattle.blink_steps.specs.Machine.{PlainMachine, target, at_state, answered}
-use Rattle.blink_steps.specs.MachineView.{plain}
-use Rattle.blink_steps.specs.Table.{goes_right, goes_down, IsUpdate, find_answers, update_wants}
+use Rattle.blink_page.specs.declared.search.Way.{Way}
+use Rattle.blink_page.specs.declared.search.Way.TheVariants.{Here}
+use Rattle.blink_steps.specs.declared.machine.State.{State}
+use Rattle.blink_steps.specs.declared.machine.State.TheVariants.{Going}
+use Rattle.blink_steps.specs.Finds.{TellsWay}
+use Rattle.blink_steps.specs.Machine.{PlainMachine, level_read_at, need_at, target}
 use Rattle.blink_steps.proofs.machine.Machine.read_on_its_way.Goals as goal
 
-pub returns-in-Right : goal.returns-in-Right
-returns-in-Right c =
-    let leads : Leads c.args.page.now (target c.args.self.now) (Right c.in-Right.next) = rw (← c.target.ensures) c.in-Right.ensures in
-    goes_right c.args.level c.in-Right.next c.requires.state leads
-    (ap (λ (m : PlainMachine). at_state m (Going c.in-Right.next c.args.level)) c.self.view_is)
+tells : (m : PlainMachine) (number level key : ℕ) (page : PlainPage) (way : Way) (kept : Option ℕ) → m.state ≡ Going number level → page.level ≡ level → key ≡ target m → Leads page key way
+    → ((found : ℕ) → m.op ≡ Find found → way ≡ Here → value_at found page.entries ≡ kept) → TellsWay m page way kept
+tells m number level key page way kept at has is leads keeps = record {
+  has_level = has ∙ sym (ap (λ (state : State). level_read_at state m.job) at);
+  leads = subst (λ (k : ℕ). Leads page k way) is leads;
+  keeps = keeps;
+}
 
-pub returns-in-Down : goal.returns-in-Down
-returns-in-Down c =
-    let leads : Leads c.args.page.now (target c.args.self.now) (Down c.in-Down.child) = rw (← c.target.ensures) c.in-Down.ensures in
-    let above : c.args.level ≡ c.args.level - 1 + 1 = omega (arith, leads.1, c.requires.level) in
-    goes_down (c.args.level - 1) c.in-Down.child (c.requires.state ∙ ap (λ (level : ℕ). Going c.args.number level) above) leads
-    (ap (λ (pages : List ℕ). record (plain c.self.inside) { remembered = pages; state = Going c.in-Down.child (c.args.level - 1) }) c.push.ensures
-    ∙ ap (λ (m : PlainMachine). record m { remembered = c.args.number ∷ m.remembered; state = Going c.in-Down.child (c.args.level - 1) }) c.self.view_is)
+pub saw_way-requires-clause-read : goal.saw_way-requires-clause-read
+saw_way-requires-clause-read c = (
+  c.args.page.now,
+  tells c.args.self.now c.args.number c.args.level c.target.result c.args.page.now c.way-way.result c.kept_at_end-kept.result c.requires.state c.requires.level c.target.ensures c.way-way.ensures c.kept_at_end-kept.ensures,
+)
 
-pub returns-in-Find : goal.returns-in-Find
-returns-in-Find c =
-    let leads : Leads c.args.page.now (target c.args.self.now) Here = rw (← c.target.ensures) c.in-Here.ensures in
-    let op : c.args.self.now.op ≡ Find c.in-Find.key = sym (ap (λ (m : PlainMachine). m.op) c.self.view_is) ∙ c.in-Find.is in
-    find_answers c.args.level c.in-Find.key c.requires.state leads op
-    (c.decide.ensures ∙ ap (answered c.args.self.now Ended) (c.answer_with.ensures ∙ ap (answer_at (Find c.in-Find.key)) c.look-kept.ensures))
-
-pub returns-in-Insert : goal.returns-in-Insert
-returns-in-Insert c =
-    let leads : Leads c.args.page.now (target c.args.self.now) Here = rw (← c.target.ensures) c.in-Here.ensures in
-    let own : c.args.self.now.op ≡ c.self.inside.op = sym (ap (λ (m : PlainMachine). m.op) c.self.view_is) in
-    let after = ap (λ (m : PlainMachine). at_state m (Want c.args.number)) c.self.view_is in
-    elim c.in-Insert.is [
-      | inl w ↦ update_wants c.args.level c.requires.state leads (subst IsUpdate (sym (own ∙ w.2)) tt) after
-      | inr w ↦ update_wants c.args.level c.requires.state leads (subst IsUpdate (sym (own ∙ w.1)) tt) after
-    ]
+pub returns : goal.returns
+returns c = c.saw_way.ensures c.args.number c.args.page.now (ap need_at c.requires.state)
+    (tells c.args.self.now c.args.number c.args.level c.target.result c.args.page.now c.way-way.result c.kept_at_end-kept.result c.requires.state c.requires.level c.target.ensures c.way-way.ensures c.kept_at_end-kept.ensures)

@@ -1,0 +1,45 @@
+-- The words of a page's row tell its entries, and where a search among them ends.
+use Rattle.std.proofs.Common.{◌≡◌, ℕ, zero, suc, ◌+◌, ◌*◌, ◌<◌, ◌≤◌, List, [], ◌∷◌, length, get_or, refl, ap, ◌∙◌, arith}
+use Rattle.std.proofs.lemmas.Bool.Decides.{nat_tests}
+use Rattle.std.specs.Prelude.{slice_index}
+use Rattle.blink_page.specs.Page.{PlainPage}
+use Rattle.blink_page.specs.Place.{place_of}
+use Rattle.blink_rows.specs.Row.{flat, page_words}
+use Rattle.blink_rows.specs.declared.limits.TheConstants.{HEAD_WORDS}
+
+flat_key : (entries : List (ℕ × ℕ)) (j : ℕ) → get_or (flat entries) (2 * j) 0 ≡ (get_or entries j (0, 0)).0
+flat_key [] j = refl
+flat_key ((key, value) ∷ rest) zero = refl
+flat_key ((key, value) ∷ rest) (suc j) = let two : 2 * suc j ≡ suc (suc (2 * j)) = omega arith in ap (λ (n : ℕ). get_or (key ∷ value ∷ flat rest) n 0) two ∙ flat_key rest j
+
+flat_value : (entries : List (ℕ × ℕ)) (j : ℕ) → get_or (flat entries) (2 * j + 1) 0 ≡ (get_or entries j (0, 0)).1
+flat_value [] j = refl
+flat_value ((key, value) ∷ rest) zero = refl
+flat_value ((key, value) ∷ rest) (suc j) = let two : 2 * suc j + 1 ≡ suc (suc (2 * j + 1)) = omega arith in ap (λ (n : ℕ). get_or (key ∷ value ∷ flat rest) n 0) two ∙ flat_value rest j
+
+behind_head : (page : PlainPage) (n : ℕ) → slice_index (page_words page) (HEAD_WORDS + n) ≡ get_or (flat page.entries) n 0
+behind_head page n = let six : HEAD_WORDS + n ≡ suc (suc (suc (suc (suc (suc n))))) = omega arith in ap (slice_index (page_words page)) six
+
+pub key_word : (page : PlainPage) (j at : ℕ) → at ≡ HEAD_WORDS + 2 * j → slice_index (page_words page) at ≡ (get_or page.entries j (0, 0)).0
+key_word page j at is = ap (slice_index (page_words page)) is ∙ (behind_head page (2 * j) ∙ flat_key page.entries j)
+
+pub value_word : (page : PlainPage) (j at : ℕ) → at ≡ HEAD_WORDS + 2 * j + 1 → slice_index (page_words page) at ≡ (get_or page.entries j (0, 0)).1
+value_word page j at is =
+    let sum : HEAD_WORDS + 2 * j + 1 ≡ HEAD_WORDS + (2 * j + 1) = omega arith in
+    ap (slice_index (page_words page)) (is ∙ sum) ∙ (behind_head page (2 * j + 1) ∙ flat_value page.entries j)
+
+-- a search goes on behind an entry of a lesser key
+pub goes_on_behind : (key : ℕ) (entries : List (ℕ × ℕ)) (j : ℕ) → j ≤ place_of key entries → j < length entries → (get_or entries j (0, 0)).0 < key → suc j ≤ place_of key entries
+goes_on_behind key [] j reached inside less = absurd (omega (arith, inside))
+goes_on_behind key ((k, v) ∷ rest) zero reached inside less = grind (arith, nat_tests)
+goes_on_behind key ((k, v) ∷ rest) (suc j) reached inside less =
+    let further : j ≤ place_of key rest → suc j ≤ place_of key rest = λ r. goes_on_behind key rest j r (omega (arith, inside)) less in
+    grind (arith, nat_tests, further)
+
+-- and ends at one of no lesser key
+pub ends_at : (key : ℕ) (entries : List (ℕ × ℕ)) (j : ℕ) → j ≤ place_of key entries → j < length entries → key ≤ (get_or entries j (0, 0)).0 → place_of key entries ≡ j
+ends_at key [] j reached inside no_less = absurd (omega (arith, inside))
+ends_at key ((k, v) ∷ rest) zero reached inside no_less = grind (arith, nat_tests)
+ends_at key ((k, v) ∷ rest) (suc j) reached inside no_less =
+    let further : j ≤ place_of key rest → place_of key rest ≡ j = λ r. ends_at key rest j r (omega (arith, inside)) no_less in
+    grind (arith, nat_tests, further)
