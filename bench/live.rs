@@ -1,8 +1,11 @@
 //! Finds in Rust's `BTreeMap` by threads, each with keys of its own, timed: the same keys and finds as in live.rt.txt.
 //!
-//! `live lock THREADS` has the map under a `RwLock`, which each find takes for reading, and `live plain THREADS` has it
-//! without a lock. Each prints how many finds found their key, the sum of the pointers found, without carry beyond 64
-//! bits, and the nanoseconds that all finds took.
+//! `live finds lock THREADS` has the map under a `RwLock`, which each find takes for reading, and `live finds plain
+//! THREADS` has it without a lock. Each prints how many finds found their key, the sum of the pointers found, without carry
+//! beyond 64 bits, and the nanoseconds that all finds took. live_mixed.rs has `live mixed`.
+mod live_mixed;
+
+use live_mixed::time_mixed;
 use std::collections::BTreeMap;
 use std::sync::RwLock;
 use std::thread;
@@ -68,19 +71,29 @@ fn run(streams: &[Vec<u64>], find: impl Fn(u64) -> Option<u64> + Sync) {
     println!("{found} {sum} {}", start.elapsed().as_nanos());
 }
 
-fn main() {
-    let mut words = std::env::args().skip(1);
-    let kind = words.next().expect("lock or plain?");
-    let threads = words.next().expect("how many threads?").parse().unwrap();
+// Times finds by so many threads, and prints what came of it.
+fn time_finds(kind: &str, threads: u64) {
     let keys: Vec<u64> = (0..ENTRIES).map(spread).collect();
     let streams = streams(&keys, threads);
     // As in live.rt.txt, each key's pointer is its bits turned over.
     let map: BTreeMap<u64, u64> = keys.iter().map(|&key| (key, !key)).collect();
-    match kind.as_str() {
+    match kind {
         "lock" => {
             let map = RwLock::new(map);
             run(&streams, |key| map.read().unwrap().get(&key).copied());
         }
         _ => run(&streams, |key| map.get(&key).copied()),
+    }
+}
+
+fn main() {
+    let words: Vec<String> = std::env::args().skip(1).collect();
+    let words: Vec<&str> = words.iter().map(String::as_str).collect();
+    match words[..] {
+        ["finds", kind, threads] => time_finds(kind, threads.parse().unwrap()),
+        ["mixed", kind, finds, threads] => {
+            time_mixed(kind, finds.parse().unwrap(), threads.parse().unwrap());
+        }
+        _ => panic!("finds KIND THREADS, or mixed KIND FINDS THREADS"),
     }
 }

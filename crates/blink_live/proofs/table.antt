@@ -1,7 +1,10 @@
 pub mod MapsWithOneChange
 pub mod SeatsThatStay
+pub mod CallsOfSeats
 pub mod LoadsKeepTable
 pub mod NextPageIsThere
 pub mod OwnersInRange
 pub mod OwnersChange
 pub mod PassesOut
+pub mod OthersKnowTheSame
+pub mod StoresKeepTable

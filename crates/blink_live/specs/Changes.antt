@@ -1,6 +1,8 @@
 -- The changes of all keys, in the order in which they became so, and what they leave of the opening entries.
-use Rattle.std.specs.Prelude.{ℕ, List, [], ◌∷◌, ◌==◌, if◌then◌else◌, Option}
+use Rattle.std.specs.Prelude.{ℕ, List, [], ◌∷◌, ◌==◌, if◌then◌else◌, Option, Some, None}
 use mathlib.Core.List.{IsPrefix}
+use Rattle.blink_batch.specs.declared.Op.{Op}
+use Rattle.blink_batch.specs.declared.Op.TheVariants.{Insert, Delete}
 use Rattle.blink_live.specs.declared.view.Change.{Change}
 use Rattle.blink_live.specs.declared.view.View.{View}
 
@@ -17,6 +19,12 @@ after f (change ∷ rest) = after (put f change.key change.pointer) rest
 abbrev pub changes_of : ℕ → List Change → List Change
 changes_of key [] = []
 changes_of key (change ∷ rest) = if change.key == key then change ∷ changes_of key rest else changes_of key rest
+
+-- what an operation changes, where its key keeps this
+abbrev pub changes_made : Op → Option ℕ → List Change
+changes_made (Insert key pointer) None = record { key = key; pointer = Some pointer } ∷ []
+changes_made (Delete key) (Some kept) = record { key = key; pointer = None } ∷ []
+changes_made op kept = []
 
 -- whoever sees these has seen all that it saw and was told of before
 pub record Learns (v : View) (seen : List Change) : Type 0 where

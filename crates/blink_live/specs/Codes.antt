@@ -3,7 +3,7 @@ use Rattle.std.specs.Prelude.{ℕ}
 use Rattle.blink_live.specs.declared.error.LiveError.{LiveError}
 use Rattle.blink_live.specs.declared.error.LiveError.TheVariants.{OutOfMemory, Taken, NoAllowance, DealOutOfMemory, Missing, TooLarge}
 use Rattle.blink_live.specs.declared.error.PassError.{PassError}
-use Rattle.blink_live.specs.declared.error.PassError.TheVariants.{NotYours}
+use Rattle.blink_live.specs.declared.error.PassError.TheVariants.{NotYours, Spent}
 
 abbrev pub code_of : LiveError → ℕ
 code_of OutOfMemory = 50
@@ -15,3 +15,4 @@ code_of TooLarge = 57
 
 abbrev pub code_of_pass : PassError → ℕ
 code_of_pass NotYours = 54
+code_of_pass Spent = 55

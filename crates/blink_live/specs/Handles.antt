@@ -1,6 +1,10 @@
 -- What a table, its keeper and its passes are for contracts.
-use Rattle.std.specs.Prelude.{◌≡◌, ℕ, ◌+◌, ◌*◌, List, [], length}
+use Rattle.std.specs.Prelude.{◌≡◌, ◌⊎◌, ℕ, ◌+◌, ◌*◌, List, [], length, Contains}
+use mathlib.Core.List.{IsPrefix}
 use Rattle.blink_batch.specs.declared.Entry.{Entry}
+use Rattle.blink_batch.specs.declared.Op.{Op}
+use Rattle.blink_batch.specs.Operation.{map_after}
+use Rattle.blink_batch.specs.PlainMap.{pointer_of}
 use Rattle.blink_index.specs.Index.{map_of}
 use Rattle.blink_rows.specs.Counts.{PlainCounts}
 use Rattle.blink_rows.specs.declared.allowance.Allowance.{Allowance}
@@ -9,7 +13,9 @@ use Rattle.blink_store.specs.Store.{PlainStore}
 use Rattle.blink_live.specs.declared.keeper.Keeper.{Keeper}
 use Rattle.blink_live.specs.declared.live.Live.{Live}
 use Rattle.blink_live.specs.declared.pass.Pass.{Pass}
-use Rattle.blink_live.specs.Views.{plan_of, span}
+use Rattle.blink_live.specs.declared.view.Change.{Change}
+use Rattle.blink_live.specs.Changes.{after}
+use Rattle.blink_live.specs.Views.{plan_of, span, rows_of, pages_of}
 
 -- ---- a table
 
@@ -39,14 +45,45 @@ keys_of pass = pass.keys.items
 abbrev pub share_of : Pass → List Entry
 share_of pass = pass.seat.me.0.share.entries
 
--- the pass is as it was, but for what it has seen
+-- the changes of all keys that it has seen, in the order in which they became so
+abbrev pub seen_of : Pass → List Change
+seen_of pass = pass.seat.me.0.seen
+
+-- of what two passes have seen one is a front of the other
+abbrev pub OneIsFront : List Change → List Change → Type 0
+OneIsFront one other = IsPrefix one other ⊎ IsPrefix other one
+
+-- the pass is as it was, but that it may have seen more
 pub record IsSameBesideSeen (old new : Pass) : Type 0 where
+  pub saw : IsPrefix (seen_of old) (seen_of new)
   pub same_table : new.seat.table_id ≡ old.seat.table_id
   pub same_plan : new.seat.me.0.plan ≡ old.seat.me.0.plan
   pub same_keys : keys_of new ≡ keys_of old
   pub same_share : new.seat.me.0.share ≡ old.seat.me.0.share
   pub same_rows : new.rows ≡ old.rows
   pub same_pages : new.pages ≡ old.pages
+
+-- of each of its keys it has seen the state that its share has
+abbrev pub KnowsItsKeys : Live → Pass → Type 0
+KnowsItsKeys live pass = (key : ℕ) → Contains (keys_of pass) key → after (pointer_of (opening_of live)) (seen_of pass) key ≡ pointer_of (share_of pass) key
+
+-- the pass is as it was
+pub record IsSamePass (old new : Pass) : Type 0 where
+  pub same_table : new.seat.table_id ≡ old.seat.table_id
+  pub same_view : new.seat.me ≡ old.seat.me
+  pub same_keys : keys_of new ≡ keys_of old
+  pub same_rows : new.rows ≡ old.rows
+  pub same_pages : new.pages ≡ old.pages
+
+-- an operation of one of its keys has changed its plain map, and has used the rows and page numbers that such an operation takes
+pub record IsChangedBy (op : Op) (old new : Pass) : Type 0 where
+  pub saw : IsPrefix (seen_of old) (seen_of new)
+  pub same_table : new.seat.table_id ≡ old.seat.table_id
+  pub same_plan : new.seat.me.0.plan ≡ old.seat.me.0.plan
+  pub same_keys : keys_of new ≡ keys_of old
+  pub share : share_of new ≡ map_after (share_of old) op
+  pub rows : new.rows ≡ span (old.rows.next + rows_of op) old.rows.stop
+  pub pages : new.pages ≡ span (old.pages.next + pages_of op) old.pages.stop
 
 -- ---- a keeper
 

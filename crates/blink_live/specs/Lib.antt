@@ -3,6 +3,7 @@ pub mod Renumbered
 pub mod ToCome
 pub mod Gathered
 pub mod Changes
+pub mod Updating
 pub mod Views
 pub mod Rule
 pub mod Plays

@@ -10,11 +10,14 @@ use Rattle.blink_page.specs.Limits.{IsPageNumber}
 use Rattle.blink_page.specs.Page.{PlainPage}
 use Rattle.blink_rows.specs.Counts.{AreBounded}
 use Rattle.blink_rows.specs.Row.{page_words, prime_words}
+use Rattle.blink_rows.specs.declared.limits.TheConstants.{ROW_WORDS}
+use Rattle.blink_rows.specs.declared.span.Span.{Span}
 use Rattle.blink_steps.specs.Machine.{PlainMachine}
 use Rattle.blink_steps.specs.Moment.{Moment}
 use Rattle.blink_steps.specs.Places.{way_left}
 use Rattle.blink_steps.specs.Sound.{IsSound}
 use Rattle.blink_steps.specs.StepLaw.{IsMapAt}
+use Rattle.blink_live.specs.declared.view.Call.{Call}
 use Rattle.blink_live.specs.declared.view.Change.{Change}
 use Rattle.blink_live.specs.declared.view.Plan.{Plan}
 use Rattle.blink_live.specs.declared.view.Role.{Role}
@@ -22,6 +25,7 @@ use Rattle.blink_live.specs.declared.view.Role.TheVariants.{Keeper, Pass, Spent}
 use Rattle.blink_live.specs.declared.view.Share.{Share}
 use Rattle.blink_live.specs.declared.view.View.{View}
 use Rattle.blink_live.specs.Changes.{after, changes_of}
+use Rattle.blink_live.specs.Views.{span}
 use Rattle.blink_live.specs.Words.{word_count, IsRowNumber, RowIs}
 
 -- ---- who has what: 0 for nobody, and else a seat's number and 1
@@ -59,17 +63,27 @@ abbrev pub ReadsRow : Plan → Owners → List ℕ → Option (ℕ × List ℕ) 
 ReadsRow plan owners words None = ⊤
 ReadsRow plan owners words (Some (row, content)) = IsPublished plan owners row × RowIs plan.counts words row content
 
--- the rows that it may use are its own, and all 0
-pub record HasRows (plan : Plan) (owners : Owners) (words : List ℕ) (owner : ℕ) (v : View) : Type 0 where
-  pub in_range : (1 ≤ v.rows.next) × (v.rows.stop ≤ plan.counts.rows + 1)
-  pub own : (row : ℕ) → v.rows.next ≤ row → row < v.rows.stop → owners.row row ≡ owner
-  pub blank : (row : ℕ) → v.rows.next ≤ row → row < v.rows.stop → RowIs plan.counts words row []
+-- these rows have this owner, and are all 0
+pub record HasRows (plan : Plan) (owners : Owners) (words : List ℕ) (owner : ℕ) (rows : Span) : Type 0 where
+  pub in_range : (1 ≤ rows.next) × (rows.stop ≤ plan.counts.rows + 1)
+  pub own : (row : ℕ) → rows.next ≤ row → row < rows.stop → owners.row row ≡ owner
+  pub blank : (row : ℕ) → rows.next ≤ row → row < rows.stop → RowIs plan.counts words row []
 
--- the page numbers that it may use are its own, and no page has them
-pub record HasNumbers (plan : Plan) (owners : Owners) (moment : Moment) (owner : ℕ) (v : View) : Type 0 where
-  pub in_range : (1 ≤ v.pages.next) × (v.pages.stop ≤ plan.counts.numbers)
-  pub own : (number : ℕ) → v.pages.next ≤ number → number < v.pages.stop → owners.page number ≡ owner
-  pub free : (number : ℕ) → v.pages.next ≤ number → number < v.pages.stop → moment.pages number ≡ None
+-- these page numbers have this owner, and no page has them
+pub record HasNumbers (plan : Plan) (owners : Owners) (moment : Moment) (owner : ℕ) (pages : Span) : Type 0 where
+  pub in_range : (1 ≤ pages.next) × (pages.stop ≤ plan.counts.numbers)
+  pub own : (number : ℕ) → pages.next ≤ number → number < pages.stop → owners.page number ≡ owner
+  pub free : (number : ℕ) → pages.next ≤ number → number < pages.stop → moment.pages number ≡ None
+
+-- what a call may use stands before the row and the page number from which on its pass may use them; of the first of its rows it has stored
+-- the draft, and the others are all 0
+pub record HasForCall (plan : Plan) (owners : Owners) (words : List ℕ) (moment : Moment) (owner : ℕ) (call : Call) (row page : ℕ) : Type 0 where
+  pub before : (call.rows.stop ≤ row) × (call.pages.stop ≤ page)
+  pub width : length call.draft ≡ ROW_WORDS
+  pub first_own : call.rows.next < call.rows.stop → (1 ≤ call.rows.next) × (owners.row call.rows.next ≡ owner)
+  pub drafted : call.rows.next < call.rows.stop → RowIs plan.counts words call.rows.next call.draft
+  pub others : HasRows plan owners words owner (span (suc call.rows.next) call.rows.stop)
+  pub numbers : HasNumbers plan owners moment owner call.pages
 
 -- what the share says of one of its keys: it has this owner, keeps what the share keeps, and its changes are the share's
 pub record IsOwnKey (plan : Plan) (owners : Owners) (log : List Change) (owner : ℕ) (share : Share) (key : ℕ) : Type 0 where
@@ -99,8 +113,9 @@ pub record Knows (plan : Plan) (owners : Owners) (words : List ℕ) (moment : Mo
   pub operation : moment.machines seat ≡ v.operation
   pub bounded : IsBoundedWay moment v
   pub reads : ReadsRow plan owners words v.reads
-  pub rows : HasRows plan owners words (suc seat) v
-  pub numbers : HasNumbers plan owners moment (suc seat) v
+  pub rows : HasRows plan owners words (suc seat) v.rows
+  pub numbers : HasNumbers plan owners moment (suc seat) v.pages
+  pub for_call : HasForCall plan owners words moment (suc seat) v.call v.rows.next v.pages.next
   pub share : IsShare plan owners log (suc seat) v.share
   pub saw : IsPrefix v.seen log
   pub heard : IsPrefix v.told log
@@ -142,6 +157,7 @@ pub record IsTableAt (plan : Plan) (s : State ℕ View) (moment : Moment) : Type
   pub pages : (number : ℕ) → 1 ≤ number → number < plan.counts.numbers → PageWordIs plan owners s.words (slice_index s.words number) (moment.pages number)
   pub no_other_page : (number : ℕ) → plan.counts.numbers ≤ number → moment.pages number ≡ None
   pub latches : (number : ℕ) → number < plan.counts.numbers → slice_index s.words (plan.counts.numbers + number) ≡ latch_word owners (moment.holder number)
+  pub no_other_latch : (number : ℕ) → plan.counts.numbers ≤ number → moment.holder number ≡ None
   pub holders : (number seat : ℕ) → moment.holder number ≡ Some seat → 1 ≤ owners.latch_number seat
   -- the entries: what the changes leave of the opening ones
   pub is_map : IsMapAt moment now

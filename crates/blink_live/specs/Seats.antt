@@ -1,23 +1,30 @@
 -- A pass's seat while a call is under way.
-use Rattle.std.specs.Prelude.{◌≡◌, ◌⊎◌, ℕ, Option, Some, None, IsSome}
+use Rattle.std.specs.Prelude.{◌≡◌, ℕ, ◌<◌, Option, Some, None, List, length}
+use mathlib.Core.List.{IsPrefix}
+use Rattle.atomic_table.specs.declared.Seat.{Seat}
 use Rattle.atomic_table.specs.Seated.{TableId}
+use Rattle.blink_batch.specs.declared.Op.{Op}
 use Rattle.blink_batch.specs.declared.Op.TheVariants.{Find}
-use Rattle.blink_batch.specs.Operation.{answer_of}
+use Rattle.blink_batch.specs.Operation.{answer_at}
 use Rattle.blink_page.specs.Entries.{value_at}
 use Rattle.blink_page.specs.Page.{PlainPage, IsLawfulPage}
 use Rattle.blink_page.specs.Way.{Leads}
-use Rattle.blink_page.specs.declared.limits.TheConstants.{MAX_FAN}
+use Rattle.blink_page.specs.declared.limits.TheConstants.{LEVELS, MAX_FAN}
 use Rattle.blink_page.specs.declared.search.Way.{Way}
 use Rattle.blink_page.specs.declared.search.Way.TheVariants.{Here}
-use Rattle.blink_rows.specs.Row.{page_words}
-use Rattle.blink_steps.specs.declared.machine.State.TheVariants.{Start, Ended}
-use Rattle.blink_steps.specs.Finds.{IsFind}
+use Rattle.blink_rows.specs.Row.{page_words, prime_words}
+use Rattle.blink_rows.specs.declared.span.Span.{Span}
+use Rattle.blink_steps.specs.declared.machine.Job.TheVariants.{Leaf}
+use Rattle.blink_steps.specs.declared.machine.State.TheVariants.{Want, Ended}
+use Rattle.blink_steps.specs.OnTheWay.{IsOnItsWay}
 use Rattle.blink_steps.specs.Machine.{PlainMachine}
 use Rattle.blink_steps.specs.Moment.{goes_on}
+use Rattle.blink_steps.specs.Table.{IsUpdate}
 use Rattle.blink_live.specs.declared.live.Live.{Live}
 use Rattle.blink_live.specs.declared.view.Role.TheVariants.{Pass}
-use Rattle.blink_live.specs.Plays.{ReadsInRange}
-use Rattle.blink_live.specs.Views.{Sat, SameBesideReads, plan_of}
+use Rattle.blink_live.specs.declared.view.View.{View}
+use Rattle.blink_live.specs.Plays.{CanGoOn}
+use Rattle.blink_live.specs.Views.{Sat, KnowsItsOwn, SameBesideReads, plan_of}
 
 -- the seat is a pass's of this table
 pub record IsPassSeat (live : Live) (table : TableId) (me : Sat) : Type 0 where
@@ -25,22 +32,50 @@ pub record IsPassSeat (live : Live) (table : TableId) (me : Sat) : Type 0 where
   pub same_plan : me.0.plan ≡ plan_of live.table.shared.key
   pub role : me.0.role ≡ Pass
 
+-- the seat is as it was
+abbrev pub IsSameSeat : Seat ℕ View → Seat ℕ View → Type 0
+IsSameSeat old new = (new.table_id ≡ old.table_id) × (new.id ≡ old.id) × (new.me ≡ old.me)
+
+-- the number is the first of them
+abbrev pub IsFirst : ℕ → Span → Type 0
+IsFirst number numbers = (number ≡ numbers.next) × (number < numbers.stop)
+
 -- the seat reads the row of this page
 pub record ReadsPage (me : Sat) (row : ℕ) (page : PlainPage) : Type 0 where
   pub reads : me.0.reads ≡ Some (row, page_words page)
   pub lawful : IsLawfulPage MAX_FAN page
+
+-- the seat reads the row of this prime block
+pub record ReadsPrime (me : Sat) (row : ℕ) (prime : List ℕ) : Type 0 where
+  pub reads : me.0.reads ≡ Some (row, prime_words prime)
+  pub few_levels : length prime < LEVELS
 
 -- the key leads this way from the page, and, where that is its leaf, this is what the page keeps under it
 pub record TellsWayFor (key : ℕ) (page : PlainPage) (way : Way) (kept : Option ℕ) : Type 0 where
   pub leads : Leads page key way
   pub keeps : way ≡ Here → value_at key page.entries ≡ kept
 
--- a find of this key is on its way, or has ended. Its answer, where it has one, is that of the share
-pub record IsFinding (key : ℕ) (first me : Sat) (m : PlainMachine) : Type 0 where
+-- an operation on a leaf is on its way down
+pub record IsGoing (m : PlainMachine) : Type 0 where
+  pub same_job : m.job ≡ Leaf
+  pub on_its_way : IsOnItsWay m
+
+-- it has come to the leaf of its key, which keeps this: a find has answered, and an update wants the leaf's latch
+pub data IsAtLeaf (op : Op) (kept : Option ℕ) (m : PlainMachine) : Type 0 where
+  found : (key : ℕ) → op ≡ Find key → m.state ≡ Ended → m.answer ≡ Some (answer_at op kept) → IsAtLeaf op kept m
+  wants : (page : ℕ) → IsUpdate op → m.state ≡ Want page → m.answer ≡ None → IsAtLeaf op kept m
+
+-- it is on its way, or has come there
+pub data IsDescending (op : Op) (kept : Option ℕ) (m : PlainMachine) : Type 0 where
+  going : IsGoing m → m.answer ≡ None → IsDescending op kept m
+  at_leaf : IsAtLeaf op kept m → IsDescending op kept m
+
+-- it is the seat's, which knows what it knew when it began, but for what it has read since
+pub record HasRead (op : Op) (first me : Sat) (m : PlainMachine) : Type 0 where
   pub same : SameBesideReads first.0 me.0 × (me.1 ≡ first.1)
+  pub saw : IsPrefix first.0.seen me.0.seen
+  pub knows_own : KnowsItsOwn me.0
   pub operation : me.0.operation ≡ goes_on m m.state
-  pub find : IsFind key m
-  pub next : ReadsInRange first.0.plan m
-  pub answers : (m.answer ≡ None) ⊎ (m.answer ≡ Some (answer_of first.0.share.entries (Find key)))
-  pub answers_at_end : m.state ≡ Ended → IsSome m.answer
-  pub begun : ¬ (m.state ≡ Start)
+  pub same_op : m.op ≡ op
+  pub same_job : m.job ≡ Leaf
+  pub next : CanGoOn first.0.plan m

@@ -1,11 +1,17 @@
 -- The views of seats: how they begin, and what each kind of step makes of them.
-use Rattle.std.specs.Prelude.{◌≡◌, ℕ, suc, ◌+◌, List, [], ◌∷◌, ◌++◌, length, Some, None, ◌||◌, ◌==◌, Bool, false, filter}
+use Rattle.std.specs.Prelude.{Option, ◌≡◌, ℕ, suc, ◌+◌, ◌≤◌, List, [], ◌∷◌, ◌++◌, length, replicate, slice_set, Some, None, ◌||◌, ◌==◌, Bool, false, filter, Contains}
 use Rattle.atomic_table.specs.Table.{Me}
 use Rattle.blink_batch.specs.declared.Entry.{Entry}
+use Rattle.blink_batch.specs.declared.Op.{Op}
+use Rattle.blink_batch.specs.declared.Op.TheVariants.{Find, Insert, Delete}
+use Rattle.blink_batch.specs.Operation.{key_of, map_after}
+use Rattle.blink_batch.specs.PlainMap.{pointer_of}
 use Rattle.blink_index.specs.Index.{map_of}
+use Rattle.blink_rows.specs.declared.limits.TheConstants.{NUMBERS_OF_INSERTION, ROW_WORDS, ROWS_OF_INSERTION}
 use Rattle.blink_rows.specs.declared.span.Span.{Span}
 use Rattle.blink_steps.specs.Machine.{PlainMachine}
 use Rattle.blink_steps.specs.Moment.{goes_on}
+use Rattle.blink_live.specs.declared.view.Call.{Call}
 use Rattle.blink_live.specs.declared.view.Change.{Change}
 use Rattle.blink_live.specs.declared.view.Opened.{Opened}
 use Rattle.blink_live.specs.declared.view.Plan.{Plan}
@@ -13,6 +19,7 @@ use Rattle.blink_live.specs.declared.view.Role.{Role}
 use Rattle.blink_live.specs.declared.view.Role.TheVariants.{Keeper, Pass, Spent}
 use Rattle.blink_live.specs.declared.view.Share.{Share}
 use Rattle.blink_live.specs.declared.view.View.{View}
+use Rattle.blink_live.specs.Changes.{after, changes_made}
 
 -- a seat's view, with the slots that it has taken: this table has none
 abbrev pub Sat : Type 0
@@ -27,6 +34,14 @@ span next stop = record { next = next; stop = stop }
 abbrev pub no_share : Share
 no_share = record { keys = []; entries = []; changes = [] }
 
+-- a row of which nothing is stored
+abbrev pub no_words : List ℕ
+no_words = replicate ROW_WORDS 0
+
+-- what a seat has for a call that hasn't made one
+abbrev pub no_call : Call
+no_call = record { rows = span 1 1; pages = span 1 1; draft = no_words }
+
 -- a seat that does nothing, and has seen nothing
 abbrev pub seat_for : Plan → Role → Span → Span → Share → View
 seat_for plan role rows pages share = record {
@@ -34,6 +49,7 @@ seat_for plan role rows pages share = record {
   role = role;
   rows = rows;
   pages = pages;
+  call = no_call;
   share = share;
   taken = [];
   back = [];
@@ -56,15 +72,81 @@ no_plan = record { fan = 0; counts = record { numbers = 0; rows = 0 }; opening =
 abbrev pub spent : Plan → View
 spent plan = seat_for plan Spent (span 1 1) (span 1 1) no_share
 
+-- ---- what it has seen
+
+-- what the seat knows of a key: its state after the changes that it has seen
+abbrev pub known_of : View → ℕ → Option ℕ
+known_of v key = after (pointer_of v.plan.opening) v.seen key
+
+-- of its own keys it knows what its share keeps
+abbrev pub KnowsItsOwn : View → Type 0
+KnowsItsOwn v = (key : ℕ) → Contains v.share.keys key → known_of v key ≡ pointer_of v.share.entries key
+
 -- ---- reads
 
 -- a page word was loaded, which names this row of these words: the operation is `after` now
 abbrev pub reading : View → PlainMachine → ℕ → ℕ → List ℕ → List Change → View
 reading v after way row words seen = record v { operation = goes_on after after.state; way_left = way; reads = Some (row, words); seen = seen }
 
+-- what an operation takes of its pass's rows when it begins, and of its page numbers
+abbrev pub rows_of : Op → ℕ
+rows_of (Find key) = 0
+rows_of (Insert key pointer) = ROWS_OF_INSERTION
+rows_of (Delete key) = 1
+
+abbrev pub pages_of : Op → ℕ
+pages_of (Find key) = 0
+pages_of (Insert key pointer) = NUMBERS_OF_INSERTION
+pages_of (Delete key) = 0
+
+-- they are there
+pub record CanBegin (v : View) (op : Op) : Type 0 where
+  pub rows : v.rows.next + rows_of op ≤ v.rows.stop
+  pub pages : v.pages.next + pages_of op ≤ v.pages.stop
+
+-- the first of them are for the call that begins
+abbrev pub for_call : View → Op → View
+for_call v op = record v {
+  rows = span (v.rows.next + rows_of op) v.rows.stop;
+  pages = span (v.pages.next + pages_of op) v.pages.stop;
+  call = record { rows = span v.rows.next (v.rows.next + rows_of op); pages = span v.pages.next (v.pages.next + pages_of op); draft = no_words };
+}
+
 -- w is v, but for its operation, and for what it reads and has seen
 abbrev pub SameBesideReads : View → View → Type 0
 SameBesideReads v w = w ≡ record v { operation = w.operation; way_left = w.way_left; reads = w.reads; seen = w.seen }
+
+-- ---- steps that read nothing
+
+-- the operation is `after` now
+abbrev pub going_on : View → PlainMachine → ℕ → View
+going_on v after way = record v { operation = goes_on after after.state; way_left = way }
+
+-- it has stored these words of the first row that its call may use
+abbrev pub has_drafted : View → List ℕ → View
+has_drafted v words = record v { call = record { rows = v.call.rows; pages = v.call.pages; draft = words } }
+
+-- it has stored one word more of that row
+abbrev pub drafts : View → ℕ → ℕ → View
+drafts v place word = has_drafted v (slice_set v.call.draft place word)
+
+-- the share is changed as the operation changes a map
+abbrev pub changed_by : Op → Share → Share
+changed_by op share = record {
+  keys = share.keys;
+  entries = map_after share.entries op;
+  changes = share.changes ++ changes_made op (pointer_of share.entries (key_of op));
+}
+
+-- it has published that row, its call may still use these page numbers, and its operation is `after` now
+abbrev pub publishes : View → PlainMachine → ℕ → Span → Share → List Change → View
+publishes v after way pages share seen = record v {
+  call = record { rows = span (suc v.call.rows.next) v.call.rows.stop; pages = pages; draft = no_words };
+  operation = goes_on after after.state;
+  way_left = way;
+  share = share;
+  seen = seen;
+}
 
 -- ---- deals
 
@@ -114,3 +196,13 @@ takes_more role more = role
 
 abbrev pub takes_all_back : View → List Share → View
 takes_all_back v shares = record v { role = takes_more v.role (length shares); back = shares ++ v.back }
+
+-- ---- telling
+
+-- what a pass has seen, for another to be told: a seat that is good for nothing else
+abbrev pub note_of : View → View
+note_of v = record (spent v.plan) { told = v.seen }
+
+-- a pass that has got such a note
+abbrev pub hears : View → View → View
+hears v w = record v { told = w.told }

@@ -4,7 +4,9 @@ use Rattle.blink_page.specs.Page.{PlainPage}
 use Rattle.blink_rest.specs.Chain.{Pages}
 use Rattle.blink_rows.specs.Counts.{PlainCounts}
 use Rattle.blink_rows.specs.Row.{page_words}
+use Rattle.blink_page.specs.declared.limits.TheConstants.{MAX_PAGE}
 use Rattle.blink_rows.specs.declared.limits.TheConstants.{ROW_WORDS}
+use Rattle.blink_rows.specs.declared.span.Span.{Span}
 
 -- where a row begins
 abbrev pub row_start : PlainCounts → ℕ → ℕ
@@ -16,6 +18,13 @@ word_count counts = 2 * counts.numbers + ROW_WORDS * counts.rows
 
 abbrev pub IsRowNumber : PlainCounts → ℕ → Type 0
 IsRowNumber counts row = (1 ≤ row) × (row ≤ counts.rows)
+
+-- these rows are there, and these page numbers; no table has more numbers than there are
+abbrev pub AreRowsIn : PlainCounts → Span → Type 0
+AreRowsIn counts rows = (1 ≤ rows.next) × (rows.stop ≤ counts.rows + 1)
+
+abbrev pub AreNumbersIn : PlainCounts → Span → Type 0
+AreNumbersIn counts pages = (1 ≤ pages.next) × (pages.stop ≤ counts.numbers) × (counts.numbers ≤ MAX_PAGE + 1)
 
 -- the row's words are these, and 0 behind them
 abbrev pub RowIs : PlainCounts → List ℕ → ℕ → List ℕ → Type 0

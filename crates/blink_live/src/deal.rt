@@ -10,6 +10,7 @@ ghost use Rattle.blink_live.specs.Views.{span, keeps_rest, gets_first};
 use crate::ascending::joined;
 use crate::error::LiveError;
 use crate::keeper::Keeper;
+use crate::left::{deletes_left, first_of, inserts_left};
 use crate::live::Live;
 use crate::pass::Pass;
 use crate::rule::{Deal, Dealt};
@@ -140,25 +141,8 @@ impl Keeper {
     fn lacks_allowance(&self, inserts: u32, deletes: u32) -> bool
         ensures { IsTrue result ↔ LacksAllowance self.now inserts deletes }
     {
-        let inserts_left = self.pages.len() / NUMBERS_OF_INSERTION;
-        let deletes_left = self.rows.len() - ROWS_OF_INSERTION * inserts_left;
-        inserts_left < u64::from(inserts)
-            || deletes_left < u64::from(deletes)
+        inserts_left(&self.pages) < u64::from(inserts)
+            || deletes_left(&self.pages, &self.rows) < u64::from(deletes)
             || self.dealt == u32::MAX
-    }
-}
-
-// The first numbers of a span, which keeps the rest.
-fn first_of(rest: &mut Span, count: u64) -> Span
-    requires enough { rest.old.next + count ≤ rest.old.stop }
-    ensures first { result ≡ span rest.old.next (rest.old.next + count) }
-    ensures rest { rest.new ≡ span (rest.old.next + count) rest.old.stop }
-{
-    let next = rest.next;
-    let _stop = rest.stop;
-    rest.next += count;
-    Span {
-        next,
-        stop: next + count,
     }
 }

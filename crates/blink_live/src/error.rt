@@ -49,6 +49,9 @@ pub enum PassError {
     /// The key isn't one of the pass's.
     #[error("not yours")]
     NotYours,
+    /// The pass has no insertion left, or no deletion, of those that it was dealt.
+    #[error("spent")]
+    Spent,
 }
 
 impl PassError {
@@ -58,6 +61,7 @@ impl PassError {
     {
         match self {
             PassError::NotYours => 54,
+            PassError::Spent => 55,
         }
     }
 }

@@ -1,5 +1,5 @@
 //! What a thread changes and reads a table with.
-ghost use Rattle.std.specs.Prelude.{◌≡◌, None, [], IsSorted};
+ghost use Rattle.std.specs.Prelude.{◌≡◌, ◌≤◌, None, [], IsSorted};
 ghost use Rattle.std.specs.Ordering.{nat_cmp};
 ghost use Rattle.blink_live.specs.declared.view.Role.TheVariants.{Pass};
 ghost use Rattle.blink_live.specs.Allowed.{AreForChanges};
@@ -20,6 +20,7 @@ pub struct Pass {
     ghost ascending: { IsSorted nat_cmp keys.items },
     ghost rows_are: { rows ≡ seat.me.0.rows },
     ghost pages_are: { pages ≡ seat.me.0.pages },
+    ghost in_order: { (rows.next ≤ rows.stop) × (pages.next ≤ pages.stop) },
     ghost for_changes: { AreForChanges pages rows },
     ghost role_is: { seat.me.0.role ≡ Pass },
     ghost idle: { seat.me.0.operation ≡ None },

@@ -1,5 +1,5 @@
-//! How a seat reads the pages of a table: each by the load of its page word, which is the tree's read, and then by the loads of
-//! as many words of the row that it names as tell which way the operation's key leads.
+//! How a seat reads the pages of a table on the way of an operation: each by the load of its page word, which is the tree's
+//! read, and then by the loads of as many words of the row that it names as tell which way the operation's key leads.
 ghost use Rattle.std.specs.Prelude.{◌≡◌, ℕ, ◌+◌, ◌*◌, ◌<◌, ◌≤◌, Some, None, List, Option, slice_get, slice_index};
 ghost use Rattle.blink_batch.specs.Batch.{FitsWords};
 ghost use Rattle.blink_page.specs.Place.{place_of};
@@ -7,11 +7,14 @@ ghost use Rattle.blink_page.specs.Entries.{value_at};
 ghost use Rattle.blink_page.specs.Page.{PlainPage};
 ghost use Rattle.blink_page.specs.Rising.{IsRising};
 ghost use Rattle.blink_rows.specs.declared.limits.TheConstants.{ROW_WORDS};
-ghost use Rattle.blink_steps.specs.Finds.{IsFind};
 ghost use Rattle.blink_steps.specs.Machine.{PlainMachine, NeedsPage};
 ghost use Rattle.blink_live.specs.Plays.{Begins, LoadsPage};
-ghost use Rattle.blink_live.specs.Seats.{IsPassSeat, ReadsPage, TellsWayFor};
+ghost use Rattle.blink_live.specs.Seats.{IsGoing, IsPassSeat, IsSameSeat, ReadsPage, TellsWayFor};
+ghost use Rattle.blink_live.specs.Views.{CanBegin};
 ghost use Rattle.blink_live.specs.Words.{IsRowNumber};
+
+mod prime;
+mod row;
 
 use crate::live::Live;
 use crate::rule::{Begin, Begun, LoadPage, LoadWord};
@@ -38,6 +41,7 @@ impl Live {
         requires seat { IsPassSeat self.now seat.old.table_id seat.old.me }
         requires idle { seat.old.me.0.operation ≡ None }
         requires fits { FitsWords op }
+        requires can_begin { CanBegin seat.old.me.0 op }
         ensures same { (seat.new.table_id ≡ seat.old.table_id) × (seat.new.id ≡ seat.old.id) }
         ensures begun { (row : ℕ) × Begins op seat.old.me row result seat.new.me }
     {
@@ -55,30 +59,26 @@ impl Live {
         requires idle { seat.old.me.0.operation ≡ None }
         requires picked { B.op ≡ op }
         requires fits { FitsWords op }
+        requires can_begin { CanBegin seat.old.me.0 op }
         ensures same { (seat.new.table_id ≡ seat.old.table_id) × (seat.new.id ≡ seat.old.id) }
         ensures begun { (machine : PlainMachine) × Begins op seat.old.me result machine seat.new.me }
     {
         self.table.shared.load::<Begin<B>>(seat, 0)
     }
 
-    // Reads the page that a find of this key needs next, and tells the find which way its key leads from there.
-    pub(crate) fn read_page(
-        &self,
-        seat: &mut Seat<u8, View>,
-        machine: &mut Machine,
-        number: u32,
-        key: u64,
-    )
+    // Reads the page that an operation on its way down needs next, and tells it which way its key leads from there.
+    pub(crate) fn read_page(&self, seat: &mut Seat<u8, View>, machine: &mut Machine, number: u32)
         requires seat { IsPassSeat self.now seat.old.table_id seat.old.me }
         requires at { seat.old.me.0.operation ≡ Some machine.old }
-        requires find { IsFind key machine.old }
+        requires fits { FitsWords machine.old.op }
+        requires going { IsGoing machine.old }
         requires needs { NeedsPage machine.old number }
         requires in_range { (1 ≤ number) × (number < self.now.counts.numbers) }
         ensures same { (seat.new.table_id ≡ seat.old.table_id) × (seat.new.id ≡ seat.old.id) }
         ensures read { (row : ℕ) × LoadsPage machine.old number seat.old.me row machine.new seat.new.me }
     {
         let row = self.table.shared.load::<LoadPage>(seat, number as usize);
-        let (way, kept) = self.way_from(seat, row, key);
+        let (way, kept) = self.way_from(seat, row, machine.target());
         machine.saw_way(way, kept);
     }
 
@@ -88,7 +88,7 @@ impl Live {
         requires seat { IsPassSeat self.now seat.old.table_id seat.old.me }
         requires row { IsRowNumber self.now.counts row }
         requires page { (page : PlainPage) × ReadsPage seat.old.me row page }
-        ensures same { (seat.new.table_id ≡ seat.old.table_id) × (seat.new.id ≡ seat.old.id) × (seat.new.me ≡ seat.old.me) }
+        ensures same { IsSameSeat seat.old seat.new }
         ensures way { (page : PlainPage) → ReadsPage seat.old.me row page → TellsWayFor key page result.0 result.1 }
     {
         if key > self.load_word(seat, row, HIGH_KEY) {
@@ -110,7 +110,7 @@ impl Live {
         requires seat { IsPassSeat self.now seat.old.table_id seat.old.me }
         requires row { IsRowNumber self.now.counts row }
         requires page { (page : PlainPage) × ReadsPage seat.old.me row page }
-        ensures same { (seat.new.table_id ≡ seat.old.table_id) × (seat.new.id ≡ seat.old.id) × (seat.new.me ≡ seat.old.me) }
+        ensures same { IsSameSeat seat.old seat.new }
         ensures entry { (page : PlainPage) → ReadsPage seat.old.me row page → result ≡ slice_get page.entries (place_of key page.entries) }
     {
         let count = self.load_word(seat, row, COUNT) as usize;
@@ -129,7 +129,7 @@ impl Live {
         requires seat { IsPassSeat self.now seat.old.table_id seat.old.me }
         requires row { IsRowNumber self.now.counts row }
         requires place { place < ROW_WORDS }
-        ensures same { (seat.new.table_id ≡ seat.old.table_id) × (seat.new.id ≡ seat.old.id) × (seat.new.me ≡ seat.old.me) }
+        ensures same { IsSameSeat seat.old seat.new }
         ensures word { (content : List ℕ) → seat.old.me.0.reads ≡ Some (row, content) → result ≡ slice_index content place }
     {
         // Called for the proof: a place in the table is a usize.

@@ -50,6 +50,24 @@ impl Play<u8, View> for LoadPage {
     ghost then = { loads_page };
 }
 
+/// The load of the prime block's page word by an operation on its way.
+pub(crate) struct LoadPrime;
+
+impl Play<u8, View> for LoadPrime {
+    ghost use Rattle.blink_live.specs.Plays.{loads_prime};
+
+    ghost then = { loads_prime };
+}
+
+/// The load of the prime block's page word by a pass that learns what it was told.
+pub(crate) struct LookUp;
+
+impl Play<u8, View> for LookUp {
+    ghost use Rattle.blink_live.specs.Plays.{looks_up};
+
+    ghost then = { looks_up };
+}
+
 /// The load of a word of the row that a page word named.
 pub(crate) struct LoadWord;
 
@@ -57,6 +75,60 @@ impl Play<u8, View> for LoadWord {
     ghost use Rattle.blink_live.specs.Plays.{loads_word};
 
     ghost then = { loads_word };
+}
+
+/// The exchange of 0 in a latch word for the seat's own number.
+pub(crate) struct TryLatch;
+
+impl Play<u8, View> for TryLatch {
+    ghost use Rattle.blink_live.specs.Plays.{tries_latch};
+
+    ghost then = { tries_latch };
+}
+
+/// The store of 0 in a latch word of the seat's.
+pub(crate) struct LetGo;
+
+impl Play<u8, View> for LetGo {
+    ghost use Rattle.blink_live.specs.Plays.{lets_go};
+
+    ghost then = { lets_go };
+}
+
+/// The store of a word of the first row that the seat's call may use.
+pub(crate) struct StoreWord;
+
+impl Play<u8, View> for StoreWord {
+    ghost use Rattle.blink_live.specs.Plays.{stores_word};
+
+    ghost then = { stores_word };
+}
+
+/// The store of a page word, which names that row.
+pub(crate) struct Publish;
+
+impl Play<u8, View> for Publish {
+    ghost use Rattle.blink_live.specs.Plays.{publishes_page};
+
+    ghost then = { publishes_page };
+}
+
+/// The store of a page word of a new page, which names that row.
+pub(crate) struct PublishNew;
+
+impl Play<u8, View> for PublishNew {
+    ghost use Rattle.blink_live.specs.Plays.{publishes_new};
+
+    ghost then = { publishes_new };
+}
+
+/// The store of the prime block's page word, which names that row.
+pub(crate) struct PublishPrime;
+
+impl Play<u8, View> for PublishPrime {
+    ghost use Rattle.blink_live.specs.Plays.{publishes_prime};
+
+    ghost then = { publishes_prime };
 }
 
 /// What a deal gives to a new pass, and which keys are taken after it: each call picks them.
@@ -119,6 +191,30 @@ impl<B: Planned> Join<View> for TakeBack<B> {
     ghost use Rattle.blink_live.specs.Views.{spent, takes_back};
 
     ghost both = { takes_back };
+
+    ghost spent = { spent B.plan };
+}
+
+/// What a pass has seen becomes a seat of its own, for another pass to be told.
+pub(crate) struct Note;
+
+impl Split<View> for Note {
+    ghost use Rattle.blink_live.specs.Views.{note_of};
+
+    ghost left = { λ v. v };
+
+    ghost right = { note_of };
+}
+
+/// A pass is told by such a seat, which is spent.
+pub(crate) struct Hear<B> {
+    of: PhantomData<B>,
+}
+
+impl<B: Planned> Join<View> for Hear<B> {
+    ghost use Rattle.blink_live.specs.Views.{hears, spent};
+
+    ghost both = { hears };
 
     ghost spent = { spent B.plan };
 }

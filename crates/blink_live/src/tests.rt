@@ -1,7 +1,10 @@
 //! Examples, worked by hand.
 mod closing;
 mod dealing;
+mod deleting;
 mod finding;
+mod glancing;
+mod inserting;
 mod opening;
 
 use blink_batch::{Batch, Lanes, Op};

@@ -44,6 +44,13 @@ pub(crate) enum Role {
     Spent,
 }
 
+/// What one call may use: rows and page numbers, and the words that it has stored so far of the first of these rows.
+pub(crate) struct Call {
+    pub rows: Span,
+    pub pages: Span,
+    pub draft: LinkedList<u64>,
+}
+
 /// What a seat knows.
 pub(crate) struct View {
     pub plan: Plan,
@@ -52,6 +59,8 @@ pub(crate) struct View {
     pub rows: Span,
     pub pages: Span,
     pub share: Share,
+    /// What the call that is under way, or was made last, may use of those that it had.
+    pub call: Call,
     /// The keeper's: the keys that were dealt, and the shares that came back.
     pub taken: LinkedList<u64>,
     pub back: LinkedList<Share>,

@@ -7,4 +7,4 @@ pub use Rattle.blink_steps.proofs.law.SoundHasOneMap.{entries_from-pairs_of}
 -- the law of a step as a whole, for lemmas, which can't call it
 pub use Rattle.blink_steps.proofs.law.EachPart.{step_law}
 -- whoever drives a machine: its way down ends, it has an answer when it ends, and a find only reads
-pub use Rattle.blink_steps.proofs.law.DriversOfMachines.{goes_on_if_needed, page_is_readable, way_left_stays, way_left_falls, has_answer_at_end, find_begins, find_stays}
+pub use Rattle.blink_steps.proofs.law.DriversOfMachines.{goes_on_if_needed, page_is_readable, way_left_stays, way_left_falls, has_answer_at_end}

@@ -11,7 +11,7 @@ pub mod MachineView
 pub mod Sound
 pub mod InOrder
 pub mod Places
-pub mod Finds
+pub mod OnTheWay
 pub mod Codes
 pub mod Kinds
 pub mod Acts

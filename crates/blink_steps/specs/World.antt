@@ -1,5 +1,5 @@
 -- A world: a run with its schedule, and the world that a schedule leads to.
-use Rattle.std.specs.Prelude.{◌≡◌, ℕ, ◌+◌, ◌*◌, ◌<◌, ◌≤◌, ◌⊎◌, Some, None, List, [], ◌∷◌, ◌++◌, length, map, reverse, All, count_by, slice_get, ⊤}
+use Rattle.std.specs.Prelude.{◌≡◌, ℕ, ◌+◌, ◌*◌, ◌<◌, ◌≤◌, Some, None, List, [], ◌∷◌, ◌++◌, length, map, reverse, All, count_by, slice_get, ⊤}
 use Rattle.blink_batch.specs.declared.Op.{Op}
 use Rattle.blink_batch.specs.Batch.{FitsWords, is_insert}
 use Rattle.blink_batch.specs.Cut.{Assignment, AreLanes}

@@ -16,6 +16,7 @@ use Rattle.blink_live.proofs.table.OwnersChange.{StaysPublished, StillOwns, read
 use Rattle.blink_live.proofs.table.PassesOut.{passes_role}
 use Rattle.blink_live.proofs.dealt.FirstOrOneOfRest.{contains_case}
 use Rattle.blink_live.proofs.table.SeatsThatStay.{at_put, views_stay}
+use Rattle.blink_live.proofs.table.CallsOfSeats.{call_still, nothing_for_call}
 
 -- whose is what after the pass came back
 abbrev owners_after : Owners → ℕ → Owners
@@ -87,6 +88,7 @@ module _ (plan : Plan) (some_number : 1 ≤ plan.counts.numbers) (s : State ℕ 
     reads = reads_still plan old new s.words h.log published v.reads known.reads;
     rows = record { in_range = known.rows.in_range; own = known.rows.own; blank = known.rows.blank };
     numbers = record { in_range = known.numbers.in_range; own = known.numbers.own; free = known.numbers.free };
+    for_call = call_still plan old new s.words moment moment (suc id) v.call v.rows.next v.pages.next v.rows.next v.pages.next known.for_call (omega arith, omega arith) (λ r below own. own) (λ n below own. own) (λ n none. none);
     share = share_still plan old new s.words h.log published (suc id) (suc id) v.share
         (λ key is. key_else key (suc id) is (λ e. apart (omega (arith, e)))) known.share;
     saw = known.saw;
@@ -117,6 +119,7 @@ module _ (plan : Plan) (some_number : 1 ≤ plan.counts.numbers) (s : State ℕ 
       own = λ number low high. absurd (omega (arith, low, high));
       free = λ number low high. absurd (omega (arith, low, high));
     };
+    for_call = nothing_for_call plan new s.words moment (suc other) 1 1 (omega arith) (omega arith) some_number;
     share = λ key has. absurd (let inside = has.1 in omega (arith, inside));
     saw = (h.log, refl);
     heard = (h.log, refl);

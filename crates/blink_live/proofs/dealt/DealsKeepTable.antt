@@ -20,6 +20,7 @@ use Rattle.blink_live.proofs.table.OwnersChange.{StaysPublished, StillOwns, read
 use Rattle.blink_live.proofs.table.OwnersInRange.{ranged, ranged_in, ranged_out}
 use Rattle.blink_live.proofs.table.PassesOut.{at_end, passes_more, passes_role}
 use Rattle.blink_live.proofs.table.SeatsThatStay.{at_inside, at_put, views_stay}
+use Rattle.blink_live.proofs.table.CallsOfSeats.{call_still, nothing_for_call}
 
 -- whose is what after the deal
 abbrev owners_after : Owners → ℕ → View → ℕ → ℕ → List ℕ → Owners
@@ -138,6 +139,9 @@ module _ (plan : Plan) (s : State ℕ View) (moment : Moment) (h : IsTableAt pla
       own = λ number low high. ranged_out v.pages.next (v.pages.next + pages) (suc new_seat) old.page number (λ a b. omega (arith, low, b)) ∙ known.numbers.own number (omega (arith, low)) high;
       free = λ number low high. known.numbers.free number (omega (arith, low)) high;
     };
+    for_call = call_still plan old new s.words moment moment (suc id) v.call v.rows.next v.pages.next (v.rows.next + rows) (v.pages.next + pages) known.for_call (omega arith, omega arith)
+        (λ r below own. ranged_out v.rows.next (v.rows.next + rows) (suc new_seat) old.row r (λ a b. omega (arith, a, below)) ∙ own)
+        (λ n below own. ranged_out v.pages.next (v.pages.next + pages) (suc new_seat) old.page n (λ a b. omega (arith, a, below)) ∙ own) (λ n none. none);
     share = share_still plan old new s.words h.log published (suc id) (suc id) v.share (λ key is. key_else key (suc id) is (λ e. absurd (omega (arith, e)))) known.share;
     saw = known.saw;
     heard = known.heard;
@@ -175,6 +179,7 @@ module _ (plan : Plan) (s : State ℕ View) (moment : Moment) (h : IsTableAt pla
       own = λ number low high. ranged_in v.pages.next (v.pages.next + pages) (suc new_seat) old.page number low high;
       free = λ number low high. known.numbers.free number low (let enough = can.enough_pages in omega (arith, enough, high));
     };
+    for_call = nothing_for_call plan new s.words moment (suc new_seat) v.rows.next v.pages.next known.rows.in_range.0 known.numbers.in_range.0 (let low = known.numbers.in_range in let enough = can.enough_pages in omega (arith, low, enough));
     share = new_share;
     saw = (h.log, refl);
     heard = (h.log, refl);

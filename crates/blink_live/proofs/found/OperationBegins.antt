@@ -1,12 +1,17 @@
 -- The load of the prime block's page word is the first step of an operation.
-use Rattle.std.proofs.Common.{◌≡◌, ℕ, Some, None, List, [], refl, sym, ap, ◌∙◌, subst, ◌≤◌}
+use Rattle.std.proofs.Common.{◌≡◌, ℕ, ◌+◌, ◌≤◌, Some, None, List, [], refl, sym, ap, ◌∙◌, subst, arith}
+use Rattle.std.proofs.lemmas.List.{get_or-replicate, length-replicate}
+use mathlib.Core.Option.{some}
+use lib.ListN.{get_elem?}
 use Rattle.std.specs.Prelude.{slice_index}
 use mathlib.Core.List.{append-nil}
-use Rattle.atomic_table.specs.Table.{step, keeps, Allows}
+use Rattle.atomic_table.specs.Table.{State, step, keeps, Allows}
 use mathlib.Core.Option.{none}
 use Rattle.blink_batch.specs.Batch.{FitsWords}
 use Rattle.blink_batch.specs.declared.Op.{Op}
+use Rattle.blink_page.specs.declared.limits.TheConstants.{MAX_PAGE}
 use Rattle.blink_rows.specs.Row.{prime_words}
+use Rattle.blink_rows.specs.declared.limits.TheConstants.{ROW_WORDS}
 use Rattle.blink_steps.specs.declared.machine.State.{State as MachineState}
 use Rattle.blink_steps.specs.declared.machine.State.TheVariants.{Start, Posting, Ended}
 use Rattle.blink_steps.specs.declared.step.Step.TheVariants.{Moved}
@@ -16,15 +21,16 @@ use Rattle.blink_steps.specs.Machine.{PlainMachine, NeedsPrime, fresh}
 use Rattle.blink_steps.specs.Moment.{Moment, goes_on, Steps, reads_prime, IsItsOperation, taken_on}
 use Rattle.blink_steps.specs.Places.{way_left}
 use Rattle.blink_steps.specs.Table.{SeesPrime}
-use Rattle.blink_steps.specs.Finds.{IsFind}
-use Rattle.blink_steps.proofs.Offered.{step_law, find_begins, find_stays}
+use Rattle.blink_steps.proofs.Offered.{step_law}
 use Rattle.blink_live.specs.declared.view.Plan.{Plan}
 use Rattle.blink_live.specs.declared.view.Role.TheVariants.{Pass}
 use Rattle.blink_live.specs.declared.view.View.{View}
+use Rattle.blink_batch.specs.PlainMap.{pointer_of}
+use Rattle.blink_live.specs.Changes.{after as after_changes}
 use Rattle.blink_live.specs.Plays.{begins}
-use Rattle.blink_live.specs.Rule.{IsTable, IsTableAt}
-use Rattle.blink_live.specs.Views.{Sat, reading}
-use Rattle.blink_live.proofs.table.LoadsKeepTable.{moved, load_keeps}
+use Rattle.blink_live.specs.Rule.{ReadsRow, IsInRole, IsBoundedWay, Knows, IsTable, IsTableAt}
+use Rattle.blink_live.specs.Views.{Sat, CanBegin, for_call, reading}
+use Rattle.blink_live.proofs.table.LoadsKeepTable.{moved, load_keeps_with}
 use Rattle.blink_live.proofs.table.MapsWithOneChange.{put_here, put_else}
 use Rattle.blink_live.proofs.table.NextPageIsThere.{next_page_is_there}
 
@@ -44,14 +50,64 @@ sees_first m prime start (ReadsPrimeWell.waits waits never) = absurd (let posts 
 sees_first m prime start (ReadsPrimeWell.goes_on after sees only goes) = record { after = after; sees = sees; only = only }
 
 module _ (moment : Moment) (worker : ℕ) (m after : PlainMachine) where
-  first_step : NeedsPrime m → SeesPrime m moment.prime after → Steps moment worker m (Moved kind.ReadPrime) after (moved moment worker (goes_on after after.state))
-  first_step needs sees = reads_prime needs sees refl
+  pub prime_step : NeedsPrime m → SeesPrime m moment.prime after → Steps moment worker m (Moved kind.ReadPrime) after (moved moment worker (goes_on after after.state))
+  prime_step needs sees = reads_prime needs sees refl
       (record { same_fan = refl; same_prime = refl; same_pages = refl; same_holder = refl })
       (record { own = put_here moment.machines worker (goes_on after after.state); others = λ other ne. put_else moment.machines worker other (goes_on after after.state) ne })
 
-pub begins_operation : (plan : Plan) (slots id : ℕ) (me : Sat) (op : Op) → me.0.role ≡ Pass → me.0.operation ≡ None → FitsWords op
+module _ (plan : Plan) (s : State ℕ View) (moment : Moment) (h : IsTableAt plan s moment) (id : ℕ) (v : View) (after : PlainMachine) (row way : ℕ) (content : List ℕ) (at : get_elem? s.views id ≡ some v) (role : v.role ≡ Pass) where
+  -- the seat of an operation that begins
+  begin_knows : (op : Op) → CanBegin v op → IsBoundedWay moment (reading (for_call v op) after way row content h.log) → ReadsRow plan h.owners s.words (Some (row, content))
+      → Knows plan h.owners s.words (moved moment id (goes_on after after.state)) h.log id (reading (for_call v op) after way row content h.log)
+  begin_knows op can bounded reads =
+      let known = h.views id v at in
+      let w : View = reading (for_call v op) after way row content h.log in
+      let low_row = known.rows.in_range.0 in
+      let high_row = known.rows.in_range.1 in
+      let low_page = known.numbers.in_range.0 in
+      let high_page = known.numbers.in_range.1 in
+      let enough_rows = can.rows in
+      let enough_pages = can.pages in
+      let kept = subst (IsInRole plan h.owners h.log id v) role known.in_role in record {
+        same_plan = known.same_plan;
+        operation = put_here moment.machines id (goes_on after after.state);
+        bounded = bounded;
+        reads = reads;
+        rows = record {
+          in_range = (omega (arith, low_row), high_row);
+          own = λ r low high. known.rows.own r (omega (arith, low)) high;
+          blank = λ r low high. known.rows.blank r (omega (arith, low)) high;
+        };
+        numbers = record {
+          in_range = (omega (arith, low_page), high_page);
+          own = λ number low high. known.numbers.own number (omega (arith, low)) high;
+          free = λ number low high. known.numbers.free number (omega (arith, low)) high;
+        };
+        for_call = record {
+          before = (omega arith, omega arith);
+          width = length-replicate {A = ℕ} ROW_WORDS 0;
+          first_own = λ some. (low_row, known.rows.own v.rows.next (omega arith) (omega (arith, some, enough_rows)));
+          drafted = λ some i inside. known.rows.blank v.rows.next (omega arith) (omega (arith, some, enough_rows)) i inside ∙ sym (get_or-replicate ROW_WORDS i 0 0 inside);
+          others = record {
+            in_range = (omega arith, omega (arith, high_row, enough_rows));
+            own = λ r low high. known.rows.own r (omega (arith, low)) (omega (arith, high, enough_rows));
+            blank = λ r low high. known.rows.blank r (omega (arith, low)) (omega (arith, high, enough_rows));
+          };
+          numbers = record {
+            in_range = (low_page, omega (arith, high_page, enough_pages));
+            own = λ number low high. known.numbers.own number low (omega (arith, high, enough_pages));
+            free = λ number low high. known.numbers.free number low (omega (arith, high, enough_pages));
+          };
+        };
+        share = known.share;
+        saw = ([], append-nil h.log);
+        heard = known.heard;
+        in_role = subst (IsInRole plan h.owners h.log id w) (sym role) kept;
+      }
+
+pub begins_operation : (plan : Plan) (slots id : ℕ) (me : Sat) (op : Op) → me.0.role ≡ Pass → me.0.operation ≡ None → FitsWords op → CanBegin me.0 op
     → Allows (IsTable plan) slots id me 0 (λ k. k) (begins op (step slots 0 0 0 none) me)
-begins_operation plan slots id me op role idle fits s table homes at small =
+begins_operation plan slots id me op role idle fits enough s table homes at small =
     let moment : Moment = table.0 in
     let h : IsTableAt plan s moment = table.1 in
     let known = h.views id me.0 at in
@@ -64,16 +120,14 @@ begins_operation plan slots id me op role idle fits s table homes at small =
     let after : PlainMachine = first.after in
     let way : ℕ = way_left moment.pages after in
     let row : ℕ = slice_index s.words 0 in
-    let w : View = reading me.0 after way row (prime_words moment.prime) h.log in
+    let w : View = reading (for_call me.0 op) after way row (prime_words moment.prime) h.log in
     let sound = step_law.step_keeps_sound moment (moved moment id (goes_on after after.state)) id m after (Moved kind.ReadPrime) h.sound fits its
-    (first_step moment id m after refl first.sees) in (
+    (prime_step moment id m after refl first.sees) in (
       w,
       keeps,
       tt,
-      load_keeps plan s moment h id 0 me.0 w at role sound refl
-          (λ other is. ap (way_left moment.pages) (sym (goes_on_as after after.state other is)))
-          h.prime
-          ([], append-nil h.log),
+      load_keeps_with plan s moment h id 0 me.0 w at role sound refl
+          (begin_knows plan s moment h id me.0 after row way (prime_words moment.prime) at role op enough (λ other is. ap (way_left moment.pages) (sym (goes_on_as after after.state other is))) h.prime),
       (
         after,
         record {
@@ -88,9 +142,10 @@ begins_operation plan slots id me op role idle fits s table homes at small =
           page_numbers = h.prime_numbers;
           sees = first.sees;
           only = first.only;
-          next = next_page_is_there plan me.0.plan s moment h id after known.same_plan sound;
-          finds = λ key is. find_stays key m after (subst (λ (o : Op). IsFind key (fresh me.0.plan.fan o)) (sym is) (find_begins me.0.plan.fan key)) moment (moved moment id (goes_on after after.state)) id
-              (Moved kind.ReadPrime) (first_step moment id m after refl first.sees);
+          rows_in_range = subst (λ (p : Plan). (1 ≤ me.0.rows.next) × (me.0.rows.stop ≤ p.counts.rows + 1)) (sym known.same_plan) known.rows.in_range;
+          own_keys = λ key mine. ap (λ (p : Plan). after_changes (pointer_of p.opening) h.log key) known.same_plan ∙ sym ((known.share key mine).kept);
+          pages_in_range = subst (λ (p : Plan). (1 ≤ me.0.pages.next) × (me.0.pages.stop ≤ p.counts.numbers) × (p.counts.numbers ≤ MAX_PAGE + 1)) (sym known.same_plan) (known.numbers.in_range.0, known.numbers.in_range.1, h.bounded.numbers_bounded);
+          next = next_page_is_there plan (moved moment id (goes_on after after.state)) (record { no_page = h.no_other_page; no_latch = h.no_other_latch }) me.0.plan id after known.same_plan sound (put_here moment.machines id (goes_on after after.state));
         },
       ),
     )

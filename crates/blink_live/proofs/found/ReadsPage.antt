@@ -17,7 +17,7 @@ use Rattle.blink_steps.specs.Moment.{Moment, goes_on, Steps, reads_page, IsItsOp
 use Rattle.blink_steps.specs.Places.{way_left}
 use Rattle.blink_steps.specs.StepLaw.{Decides, deciding, other}
 use Rattle.blink_steps.specs.Table.{SeesPage}
-use Rattle.blink_steps.proofs.Offered.{step_law, way_left_falls, has_answer_at_end, find_stays}
+use Rattle.blink_steps.proofs.Offered.{step_law, way_left_falls, has_answer_at_end}
 use Rattle.blink_live.specs.declared.view.Plan.{Plan}
 use Rattle.blink_live.specs.declared.view.Role.TheVariants.{Pass}
 use Rattle.blink_live.specs.declared.view.View.{View}
@@ -39,7 +39,7 @@ module _ (moment : Moment) (worker number : ℕ) (m then : PlainMachine) (page :
 
 -- what it answers is what its key keeps after the changes so far
 answers_after : (kept : ℕ → Option ℕ) (moment : Moment) (m then : PlainMachine) (now : List _) → ((key : ℕ) → pointer_of now key ≡ kept key) → Decides moment m then now → AnswersAfter kept m then
-answers_after kept moment m then now is (deciding none_yet answered keeps_map) = inr (answered ∙ ap (λ (o : Option ℕ). Some (answer_at m.op o)) (is (key_of m.op)))
+answers_after kept moment m then now is (deciding none_yet answered keeps_map) = inr (none_yet, answered ∙ ap (λ (o : Option ℕ). Some (answer_at m.op o)) (is (key_of m.op)))
 answers_after kept moment m then now is (other same keeps_map) = inl same
 
 -- a page of some tree is lawful under the greatest fan
@@ -97,7 +97,9 @@ reads_page_word plan slots id number me m role at_m fits needs some_number in_ra
           readable = reads.readable;
           sees = sees;
           only = reads.one_machine.only;
-          next = next_page_is_there plan me.0.plan s moment h id then known.same_plan sound;
+          next = next_page_is_there plan new (record { no_page = h.no_other_page; no_latch = h.no_other_latch }) me.0.plan id then known.same_plan sound (put_here moment.machines id (goes_on then then.state));
+          uses = step_law.allowance_is_used_up.by_step moment new id m then (Moved (kind.ReadPage number)) h.sound fits its stepped;
+          answers_at_end = λ ends. has_answer_at_end moment h.sound id m then its ends (Moved (kind.ReadPage number)) new stepped;
           nearer = λ level going.
               let before : way_left moment.pages m ≡ me.0.way_left = known.bounded m at_m in
               let falls : way < way_left moment.pages m = way_left_falls moment h.sound id number level m then reads.page its going reads.there sees in
@@ -105,8 +107,6 @@ reads_page_word plan slots id number me m role at_m fits needs some_number in_ra
           answers = answers_after (after (pointer_of me.0.plan.opening) h.log) new m then h.now
               (subst (λ (p : Plan). (key : ℕ) → pointer_of h.now key ≡ after (pointer_of p.opening) h.log key) (sym known.same_plan) h.kept) decides;
           own_keys = λ key mine. ap (λ (p : Plan). after (pointer_of p.opening) h.log key) known.same_plan ∙ sym ((known.share key mine).kept);
-          answers_at_end = λ ends. has_answer_at_end moment h.sound id m then its ends (Moved (kind.ReadPage number)) new stepped;
-          finds = λ key find. find_stays key m then find moment new id (Moved (kind.ReadPage number)) stepped;
         },
       ),
     )

@@ -24,6 +24,7 @@ use Rattle.blink_live.specs.Laid.{IsLaid}
 use Rattle.blink_live.specs.Rule.{Owners, IsPublished, PageWordIs, Knows, IsTable}
 use Rattle.blink_live.specs.Views.{first_view}
 use Rattle.blink_live.specs.Words.{RowIs}
+use Rattle.blink_live.proofs.table.CallsOfSeats.{nothing_for_call}
 
 -- the plan of a table that opens
 abbrev pub plan_over : PlainStore → PlainCounts → Plan
@@ -120,6 +121,7 @@ module _ (store : PlainStore) (counts : PlainCounts) (words : List ℕ) (numbers
       own = λ number late early. owner_on (length store.pages + 1) number late;
       free = λ number late early. no_page_past store number (omega arith);
     };
+    for_call = nothing_for_call (plan_over store counts) (owners_over (length store.pages)) words (moment_over store) 1 (length store.pages + 2) (length store.pages + 1) (omega arith) (omega arith) (omega arith);
     share = λ key among. absurd (omega (arith, among.1));
     saw = ([], refl);
     heard = ([], refl);
@@ -147,6 +149,7 @@ module _ (store : PlainStore) (counts : PlainCounts) (words : List ℕ) (numbers
               (((omega arith, omega arith), owner_before (length store.pages + 2) 1 (omega arith)), laid.prime_row);
           pages = page_words_are;
           no_other_page = λ number late. no_page_past store number (omega arith);
+          no_other_latch = λ number late. refl;
           latches = λ number early. laid.no_more (counts.numbers + number) (omega arith) (omega arith);
           holders = λ number seat is. absurd (cc);
           is_map = record { ascending = is_map.ascending; kept = is_map.kept };

@@ -1,5 +1,5 @@
 -- A load keeps the rule: the words stay, and one seat's operation takes a step of the tree that only reads.
-use Rattle.std.proofs.Common.{◌≡◌, ℕ, Option, List, length, get_or, set, sym, ap, ◌∙◌, subst, length-set, arith}
+use Rattle.std.proofs.Common.{◌≡◌, ℕ, suc, Option, List, length, get_or, set, sym, ap, ◌∙◌, subst, length-set, arith}
 use mathlib.Core.Option.{some}
 use mathlib.Core.List.{IsPrefix}
 use lib.ListN.{get_elem?}
@@ -16,6 +16,7 @@ use Rattle.blink_live.specs.Rule.{ReadsRow, IsInRole, IsBoundedWay, Knows, IsTab
 use Rattle.blink_live.specs.Views.{SameBesideReads}
 use Rattle.blink_live.proofs.table.MapsWithOneChange.{put_here, put_else}
 use Rattle.blink_live.proofs.table.SeatsThatStay.{at_inside, views_stay, counted_stays}
+use Rattle.blink_live.proofs.table.CallsOfSeats.{call_still}
 
 -- the moment where one worker has another operation, or none
 abbrev pub moved : Moment → ℕ → Option PlainMachine → Moment
@@ -23,7 +24,7 @@ moved moment worker operation = record moment { machines = put moment.machines w
 
 module _ (plan : Plan) (s : State ℕ View) (moment : Moment) (h : IsTableAt plan s moment) (id word : ℕ) (v w : View) (at : get_elem? s.views id ≡ some v) (role : v.role ≡ Pass) where
   -- the seat knows what it knew, but for its operation, what it reads and what it has seen
-  load_knows : SameBesideReads v w → IsBoundedWay moment w → ReadsRow plan h.owners s.words w.reads → IsPrefix w.seen h.log
+  pub load_knows : SameBesideReads v w → IsBoundedWay moment w → ReadsRow plan h.owners s.words w.reads → IsPrefix w.seen h.log
       → Knows plan h.owners s.words (moved moment id w.operation) h.log id w
   load_knows same bounded reads saw =
       let known = h.views id v at in
@@ -35,6 +36,8 @@ module _ (plan : Plan) (s : State ℕ View) (moment : Moment) (h : IsTableAt pla
         reads = reads;
         rows = record { in_range = known.rows.in_range; own = known.rows.own; blank = known.rows.blank };
         numbers = record { in_range = known.numbers.in_range; own = known.numbers.own; free = known.numbers.free };
+        for_call = call_still plan h.owners h.owners s.words moment (moved moment id w.operation) (suc id) v.call v.rows.next v.pages.next v.rows.next v.pages.next known.for_call (omega arith, omega arith) (λ r below own. own)
+            (λ n below own. own) (λ n none. none);
         share = known.share;
         saw = saw;
         heard = known.heard;
@@ -42,9 +45,9 @@ module _ (plan : Plan) (s : State ℕ View) (moment : Moment) (h : IsTableAt pla
       } in
       subst (Knows plan h.owners s.words (moved moment id w.operation) h.log id) (sym same) knows
 
-  pub load_keeps : IsSound (moved moment id w.operation) → SameBesideReads v w → IsBoundedWay moment w → ReadsRow plan h.owners s.words w.reads → IsPrefix w.seen h.log
+  pub load_keeps_with : IsSound (moved moment id w.operation) → w.role ≡ v.role → Knows plan h.owners s.words (moved moment id w.operation) h.log id w
       → IsTable plan record { words = set s.words word (get_or s.words word 0); homes = s.homes; views = set s.views id w }
-  load_keeps sound same bounded reads saw = subst (λ (words : List ℕ). IsTable plan record { words = words; homes = s.homes; views = set s.views id w }) (sym (set-get_or s.words word 0)) (
+  load_keeps_with sound same_role knows = subst (λ (words : List ℕ). IsTable plan record { words = words; homes = s.homes; views = set s.views id w }) (sym (set-get_or s.words word 0)) (
     moved moment id w.operation,
     record {
       owners = h.owners;
@@ -58,12 +61,13 @@ module _ (plan : Plan) (s : State ℕ View) (moment : Moment) (h : IsTableAt pla
       prime = h.prime;
       pages = h.pages;
       no_other_page = h.no_other_page;
+      no_other_latch = h.no_other_latch;
       latches = h.latches;
       holders = h.holders;
       is_map = record { ascending = h.is_map.ascending; kept = h.is_map.kept };
       kept = h.kept;
       untouched = h.untouched;
-      views = views_stay (Knows plan h.owners s.words (moved moment id w.operation) h.log) s.views id w (load_knows same bounded reads saw)
+      views = views_stay (Knows plan h.owners s.words (moved moment id w.operation) h.log) s.views id w knows
           (λ j u other there. let known = h.views j u there in record {
             same_plan = known.same_plan;
             operation = put_else moment.machines id j w.operation other ∙ known.operation;
@@ -71,6 +75,8 @@ module _ (plan : Plan) (s : State ℕ View) (moment : Moment) (h : IsTableAt pla
             reads = known.reads;
             rows = known.rows;
             numbers = record { in_range = known.numbers.in_range; own = known.numbers.own; free = known.numbers.free };
+            for_call = call_still plan h.owners h.owners s.words moment (moved moment id w.operation) (suc j) u.call u.rows.next u.pages.next u.rows.next u.pages.next known.for_call (omega arith, omega arith) (λ r below own. own)
+                (λ n below own. own) (λ n none. none);
             share = known.share;
             saw = known.saw;
             heard = known.heard;
@@ -80,6 +86,10 @@ module _ (plan : Plan) (s : State ℕ View) (moment : Moment) (h : IsTableAt pla
           let inside = at_inside s.views id v at in
           let longer : length (set s.views id w) ≡ length s.views = length-set s.views id w in
           put_else moment.machines id seat w.operation (λ e. omega (arith, e, inside, longer, beyond)) ∙ h.others_idle seat (omega (arith, beyond, longer));
-      counted = counted_stays s.views id v w at (ap (λ (x : View). x.role) same) h.counted;
+      counted = counted_stays s.views id v w at same_role h.counted;
     },
   )
+
+  pub load_keeps : IsSound (moved moment id w.operation) → SameBesideReads v w → IsBoundedWay moment w → ReadsRow plan h.owners s.words w.reads → IsPrefix w.seen h.log
+      → IsTable plan record { words = set s.words word (get_or s.words word 0); homes = s.homes; views = set s.views id w }
+  load_keeps sound same bounded reads saw = load_keeps_with sound (ap (λ (x : View). x.role) same) (load_knows same bounded reads saw)

@@ -13,6 +13,7 @@ use Rattle.blink_live.specs.declared.view.Role.TheVariants.{Keeper, Pass, Spent}
 use Rattle.blink_live.specs.declared.view.Share.{Share}
 use Rattle.blink_live.specs.declared.view.View.{View}
 use Rattle.blink_live.specs.Rule.{Owners, PageWordIs, latch_word, ReadsRow, IsShare, IsInRole, Knows, AreCounted, IsTableAt}
+use Rattle.blink_live.proofs.table.CallsOfSeats.{call_still}
 
 -- what was published is
 abbrev pub StaysPublished : Owners → Owners → Type 0
@@ -52,6 +53,7 @@ module _ (plan : Plan) (old new : Owners) (words : List ℕ) (log : List Change)
     reads = reads_still v.reads known.reads;
     rows = record { in_range = known.rows.in_range; own = λ row low high. owns.row row (known.rows.own row low high); blank = known.rows.blank };
     numbers = record { in_range = known.numbers.in_range; own = λ number low high. owns.page number (known.numbers.own number low high); free = known.numbers.free };
+    for_call = call_still plan old new words moment moment (suc seat) v.call v.rows.next v.pages.next v.rows.next v.pages.next known.for_call (omega arith, omega arith) (λ r below. owns.row r) (λ n below. owns.page n) (λ n none. none);
     share = share_still (suc seat) (suc seat) v.share owns.key known.share;
     saw = known.saw;
     heard = known.heard;
@@ -82,6 +84,7 @@ owners_change plan s moment h new views published same_latch untouched knows lon
   prime = ((h.prime.0.0, published (slice_index s.words 0) h.prime.0.1), h.prime.1);
   pages = λ number low high. page_still plan h.owners new s.words h.log published (slice_index s.words number) (moment.pages number) (h.pages number low high);
   no_other_page = h.no_other_page;
+  no_other_latch = h.no_other_latch;
   latches = λ number inside. h.latches number inside ∙ latch_still h.owners new (moment.holder number) (same_latch number);
   holders = λ number seat holds. let same = same_latch number seat holds in let some_number = h.holders number seat holds in omega (arith, same, some_number);
   is_map = record { ascending = h.is_map.ascending; kept = h.is_map.kept };

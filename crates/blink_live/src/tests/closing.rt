@@ -6,7 +6,7 @@ use blink_rows::Allowance;
 use std::test::Fail;
 
 // The tree of fourteen keys with its pages numbered level by level.
-const FOURTEEN: &str = "\
+pub(crate) const FOURTEEN: &str = "\
 2 8 - 18446744073709551615 - 9:6 18446744073709551615:7
 1 6 - 9 7 3:1 6:2 9:3
 1 7 9 18446744073709551615 - 12:4 18446744073709551615:5

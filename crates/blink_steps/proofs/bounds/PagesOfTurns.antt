@@ -1,5 +1,5 @@
 -- The pages that an operation has read on its way and latched, turn by turn.
-use Rattle.std.proofs.Common.{◌≡◌, ℕ, zero, suc, ◌+◌, ◌≤◌, ◌==◌, ◌&&◌, ◌∙◌, Bool, true, false, Option, Some, None, List, [], ◌∷◌, length, slice_get, refl, ap, inl, inr, arith}
+use Rattle.std.proofs.Common.{◌≡◌, ℕ, ◌+◌, ◌≤◌, ◌==◌, ◌&&◌, ◌∙◌, Bool, true, false, Option, Some, None, List, [], ◌∷◌, length, refl, ap, inl, inr, arith}
 use Rattle.std.specs.Prelude.{if◌then◌else◌}
 use Rattle.std.specs.List.{cons_option}
 use Rattle.std.proofs.lemmas.Bool.{cases_Bool, cases_eq, eq-eqb, ne_eqb}
@@ -8,7 +8,6 @@ use Rattle.blink_steps.specs.declared.step.Kind.{Kind}
 use Rattle.blink_steps.specs.declared.step.Step.TheVariants.{Moved}
 use Rattle.blink_steps.specs.Ways.{pages_of_turns}
 use Rattle.blink_steps.specs.Counts.{has_moved, moves_in}
-use Rattle.blink_steps.specs.Machine.{PlainMachine}
 use Rattle.blink_steps.specs.Run.{Taken}
 use Rattle.blink_steps.proofs.bounds.CountedTurns.{turns_of-own, turns_of-other, turns_of-unlike}
 

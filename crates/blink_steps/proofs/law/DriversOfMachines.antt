@@ -4,7 +4,6 @@ use Rattle.std.specs.Prelude.{IsSome}
 use Rattle.blink_page.specs.Page.{PlainPage}
 use Rattle.blink_page.specs.Rising.{least_above}
 use Rattle.blink_rest.specs.Chain.{Pages}
-use Rattle.blink_batch.specs.declared.Op.TheVariants.{Find}
 use Rattle.blink_steps.specs.declared.machine.Debt.{Debt}
 use Rattle.blink_steps.specs.declared.machine.Job.{Job}
 use Rattle.blink_steps.specs.declared.machine.Job.TheVariants.{Leaf, Parent}
@@ -12,15 +11,14 @@ use Rattle.blink_steps.specs.declared.machine.Need.TheVariants.{End}
 use Rattle.blink_steps.specs.declared.machine.Next.TheVariants.{Finish, MoveRight, Post}
 use Rattle.blink_steps.specs.declared.machine.State.{State}
 use Rattle.blink_steps.specs.declared.machine.State.TheVariants.{Start, Going, Want, Held, Change, SplitNew, SplitOld, AskPrime, Root, NewPrime, Leave, Posting, Ended}
-use Rattle.blink_steps.specs.Finds.{IsReading, at_start, going, at_end, IsFind}
 use Rattle.blink_steps.specs.InOrder.{IsReadable}
 use Rattle.blink_steps.specs.declared.step.Step.{Step}
-use Rattle.blink_steps.specs.Machine.{PlainMachine, need_at, NeedsPage, target, fresh}
+use Rattle.blink_steps.specs.Machine.{PlainMachine, need_at, NeedsPage, target}
 use Rattle.blink_steps.specs.Moment.{Moment, goes_on, IsItsOperation, Steps, reads_prime, waits_for_level, reads_page, latches, waits_for_latch, writes_new, writes_page, writes_prime, unlatches}
 use Rattle.blink_steps.specs.Needs.{TellsNothing, NeedsNoRead}
 use Rattle.blink_steps.specs.Places.{KeepsPlaces, room_to, way_left_at, way_left}
 use Rattle.blink_steps.specs.Sound.{IsSound}
-use Rattle.blink_steps.specs.Table.{SeesPrime, SeesPage, SeesOnItsWay, SeesUnderLatch, IsUpdate, decided_with, sets_out, done, done_at}
+use Rattle.blink_steps.specs.Table.{SeesPrime, SeesPage, SeesOnItsWay, SeesUnderLatch, decided_with, sets_out, done, done_at}
 use Rattle.blink_steps.proofs.law.EachPart.{step_law}
 use Rattle.blink_steps.proofs.operation.OperationIsPlaced.{its_own, at_state}
 
@@ -173,62 +171,3 @@ module _ (old : Moment) (sound : IsSound old) (worker : ℕ) (m after : PlainMac
   has_answer_at_end step new (writes_page number needs is_done is same_fan same_prime writes same_holder workers) = left_with_answer 0 (rw needs tt) is_done
   has_answer_at_end step new (writes_prime needs out is_done is same_fan same_pages same_holder workers) = left_with_answer 0 (rw needs tt) is_done
   has_answer_at_end step new (unlatches number needs is_done is same_fan same_prime same_pages passes workers) = left_with_answer 0 (rw needs tt) is_done
-
--- ---- a find only reads
-
-reads_only : (state : State) → IsReading state → TellsNothing (need_at state) → ⊥
-reads_only state (at_start is) tells = subst (λ (s : State). TellsNothing (need_at s)) is tells
-reads_only state (going page level is) tells = subst (λ (s : State). TellsNothing (need_at s)) is tells
-reads_only state (at_end is) tells = subst (λ (s : State). TellsNothing (need_at s)) is tells
-
-never_held : (state : State) (page : ℕ) → IsReading state → state ≡ Held page → ⊥
-never_held state page (at_start is) held = cc
-never_held state page (going here level is) held = cc
-never_held state page (at_end is) held = cc
-
-never_asks : (state : State) (page : ℕ) (debt : Debt) → IsReading state → state ≡ AskPrime page debt → ⊥
-never_asks state page debt (at_start is) asks = cc
-never_asks state page debt (going here level is) asks = cc
-never_asks state page debt (at_end is) asks = cc
-
-never_posts : (state : State) → IsReading state → state ≡ Posting → ⊥
-never_posts state (at_start is) posts = cc
-never_posts state (going here level is) posts = cc
-never_posts state (at_end is) posts = cc
-
--- a find begins so
-pub find_begins : (fan key : ℕ) → IsFind key (fresh fan (Find key))
-find_begins fan key = record { same_op = refl; same_job = refl; reading = at_start refl }
-
-module _ (key : ℕ) (m after : PlainMachine) (find : IsFind key m) where
-  stays_find : (moved : PlainMachine) → after ≡ moved → moved.op ≡ m.op → moved.job ≡ m.job → IsReading after.state → IsFind key after
-  stays_find moved is op job reading = record {
-    same_op = ap (λ (x : PlainMachine). x.op) is ∙ op ∙ find.same_op;
-    same_job = ap (λ (x : PlainMachine). x.job) is ∙ job ∙ find.same_job;
-    reading = reading;
-  }
-
-  find_reads_prime : (prime : List ℕ) → SeesPrime m prime after → IsFind key after
-  find_reads_prime prime (SeesPrime.begins top was last is) = stays_find _ is refl refl (going top _ (ap (λ (x : PlainMachine). x.state) is))
-  find_reads_prime prime (SeesPrime.asks_of_root page debt was top is) = absurd (never_asks m.state page debt find.reading was)
-  find_reads_prime prime (SeesPrime.asks_of_other page debt was none is) = absurd (never_asks m.state page debt find.reading was)
-  find_reads_prime prime (SeesPrime.finds_leftmost debt leftmost was job there is) = absurd (never_posts m.state find.reading was)
-
-  find_reads_page : (number : ℕ) (page : PlainPage) → SeesPage m number page after → IsFind key after
-  find_reads_page number page (SeesPage.on_its_way (SeesOnItsWay.goes_right level next was leads is)) = stays_find _ is refl refl (going next level (ap (λ (x : PlainMachine). x.state) is))
-  find_reads_page number page (SeesPage.on_its_way (SeesOnItsWay.goes_down level child was leads is)) = stays_find _ is refl refl (going child level (ap (λ (x : PlainMachine). x.state) is))
-  find_reads_page number page (SeesPage.on_its_way (SeesOnItsWay.find_answers level found was leads op is)) = stays_find _ is refl refl (at_end (ap (λ (x : PlainMachine). x.state) is))
-  find_reads_page number page (SeesPage.on_its_way (SeesOnItsWay.update_wants level was leads updates is)) = absurd (subst IsUpdate find.same_op updates)
-  find_reads_page number page (SeesPage.under_latch held under) = absurd (never_held m.state number find.reading held)
-
-  -- and stays so in each step
-  pub find_stays : (old new : Moment) (worker : ℕ) (step : Step) → Steps old worker m step after new → IsFind key after
-  find_stays old new worker step (reads_prime needs sees is leaves workers) = find_reads_prime old.prime sees
-  find_stays old new worker step (waits_for_level needs waits is same stays) = absurd (never_posts m.state find.reading waits.posting)
-  find_stays old new worker step (reads_page number page needs there sees is leaves workers) = find_reads_page number page sees
-  find_stays old new worker step (latches number needs free is_done is same_fan same_prime same_pages passes workers) = absurd (reads_only m.state find.reading (rw needs tt))
-  find_stays old new worker step (waits_for_latch number holder needs held is same stays) = absurd (reads_only m.state find.reading (rw needs tt))
-  find_stays old new worker step (writes_new number needs is_number none is_done is same_fan same_prime writes same_holder workers) = absurd (reads_only m.state find.reading (rw needs tt))
-  find_stays old new worker step (writes_page number needs is_done is same_fan same_prime writes same_holder workers) = absurd (reads_only m.state find.reading (rw needs tt))
-  find_stays old new worker step (writes_prime needs out is_done is same_fan same_pages same_holder workers) = absurd (reads_only m.state find.reading (rw needs tt))
-  find_stays old new worker step (unlatches number needs is_done is same_fan same_prime same_pages passes workers) = absurd (reads_only m.state find.reading (rw needs tt))

@@ -8,7 +8,7 @@ ghost use Rattle.blink_batch.specs.declared.Op.TheVariants.{Find};
 ghost use Rattle.blink_page.specs.Entries.{value_at};
 ghost use Rattle.blink_page.specs.Page.{PlainPage};
 ghost use Rattle.blink_page.specs.declared.search.Way.TheVariants.{Here};
-ghost use Rattle.blink_steps.specs.Finds.{IsOnItsWay, TellsWay};
+ghost use Rattle.blink_steps.specs.OnTheWay.{IsOnItsWay, TellsWay};
 ghost use Rattle.blink_steps.specs.Table.{SeesPrime, WaitsForLevel, SeesPage, SeesOnItsWay, SeesUnderLatch, IsTopLeftmost};
 ghost use Rattle.blink_steps.specs.Needs.{NeedsSomePage};
 

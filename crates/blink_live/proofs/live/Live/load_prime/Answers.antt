@@ -1,12 +1,13 @@
 use Rattle.std.proofs.Common.{sym, subst, arith}
+use Rattle.blink_batch.specs.declared.Op.{Op}
 use Rattle.blink_batch.specs.Batch.{FitsWords}
+use Rattle.blink_live.specs.Views.{CanBegin}
 use Rattle.blink_live.proofs.found.OperationBegins.{begins_operation}
 use Rattle.blink_live.proofs.live.Live.load_prime.Goals as goal
 
--- src/read.rt:49:9
 pub load-requires : goal.load-requires
 load-requires g c = (
   c.requires.seat.same_table,
   omega (arith, c.args.self.now.width, c.args.self.now.some_number),
-  begins_operation _ _ _ _ g.B.Begun.op c.requires.seat.role c.requires.idle (subst FitsWords (sym c.requires.picked) c.requires.fits),
+  begins_operation _ _ _ _ g.B.Begun.op c.requires.seat.role c.requires.idle (subst FitsWords (sym c.requires.picked) c.requires.fits) (subst (λ (o : Op). CanBegin c.args.seat.now.me.0 o) (sym c.requires.picked) c.requires.can_begin),
 )

@@ -7,7 +7,7 @@ use Rattle.blink_page.specs.declared.search.Way.{Way}
 use Rattle.blink_page.specs.declared.search.Way.TheVariants.{Here}
 use Rattle.blink_steps.specs.declared.machine.State.{State}
 use Rattle.blink_steps.specs.declared.machine.State.TheVariants.{Going}
-use Rattle.blink_steps.specs.Finds.{TellsWay}
+use Rattle.blink_steps.specs.OnTheWay.{TellsWay}
 use Rattle.blink_steps.specs.Machine.{PlainMachine, level_read_at, need_at, target}
 use Rattle.blink_steps.proofs.machine.Machine.read_on_its_way.Goals as goal
 

@@ -2,8 +2,7 @@ use Rattle.std.proofs.Common.{◌≡◌, ℕ, ◌+◌, ◌-◌, List, ◌∷◌,
 use Rattle.blink_batch.specs.declared.Op.TheVariants.{Find}
 use Rattle.blink_batch.specs.Operation.{answer_at}
 use Rattle.blink_page.specs.Way.{Leads}
-use Rattle.blink_page.specs.declared.search.Way.{Way}
-use Rattle.blink_page.specs.declared.search.Way.TheVariants.{Right, Down, Here}
+use Rattle.blink_page.specs.declared.search.Way.TheVariants.{Down, Here}
 use Rattle.blink_steps.specs.declared.machine.Need.TheVariants.{ReadPage}
 use Rattle.blink_steps.specs.declared.machine.State.{State}
 use Rattle.blink_steps.specs.declared.machine.State.TheVariants.{Going, Want, Ended}

@@ -1,0 +1,7 @@
+pub mod LatchesKeepTable
+pub mod DraftsKeepTable
+pub mod RowsAreDrafted
+pub mod ChangesAreTheMaps
+pub mod RowsArePublished
+pub mod PublishesKeepTable
+pub mod UpdatesBegin

@@ -1,0 +1,218 @@
+-- A word that names a row of one's own publishes it: where the tree takes the step, the rule is kept.
+use Rattle.std.proofs.Common.{◌≡◌, ◌≢◌, ℕ, zero, suc, ◌+◌, ◌<◌, ◌≤◌, Option, Some, None, List, [], ◌++◌, set, refl, sym, ap, ◌∙◌, subst, get_or-set_same, get_or-set_other, append_assoc, arith}
+use Rattle.std.proofs.lemmas.List.{length-replicate, get_or-replicate}
+use Rattle.std.specs.Prelude.{slice_index, All}
+use mathlib.Core.Option.{some}
+use mathlib.Core.List.{append-nil}
+use mathlib.Core.Logic.{dite}
+use native.Mathlib.Decide.{ℕ_discrete}
+use lib.ListN.{get_elem?}
+use Rattle.atomic_table.specs.Table.{State}
+use Rattle.blink_batch.specs.declared.Entry.{Entry}
+use Rattle.blink_batch.specs.PlainMap.{pointer_of}
+use Rattle.blink_page.specs.Limits.{IsPageNumber}
+use Rattle.blink_page.specs.Page.{PlainPage}
+use Rattle.blink_rest.specs.Chain.{Pages}
+use Rattle.blink_rows.specs.Row.{page_words, prime_words, IsRowOf}
+use Rattle.blink_rows.specs.declared.limits.TheConstants.{ROW_WORDS}
+use Rattle.blink_rows.specs.declared.span.Span.{Span}
+use Rattle.blink_steps.specs.declared.machine.State.{State as MachineState}
+use Rattle.blink_steps.specs.declared.machine.State.TheVariants.{Going}
+use Rattle.blink_steps.specs.Machine.{PlainMachine, need_at, target}
+use Rattle.blink_steps.specs.Moment.{Moment, goes_on, under_way}
+use Rattle.blink_steps.specs.Places.{KeepsPlaces, way_left, way_left_at}
+use Rattle.blink_steps.specs.Sound.{IsSound}
+use Rattle.blink_steps.specs.StepLaw.{IsMapAt}
+use Rattle.blink_steps.proofs.Offered.{step_law, way_left_stays}
+use Rattle.blink_live.specs.declared.view.Change.{Change}
+use Rattle.blink_live.specs.declared.view.Plan.{Plan}
+use Rattle.blink_live.specs.declared.view.Role.TheVariants.{Pass}
+use Rattle.blink_live.specs.declared.view.Share.{Share}
+use Rattle.blink_live.specs.declared.view.View.{View}
+use Rattle.blink_live.specs.Changes.{put, after, changes_of}
+use Rattle.blink_live.specs.Rule.{Owners, IsPublished, PageWordIs, latch_word, HasRows, HasNumbers, IsShare, IsInRole, IsBoundedWay, Knows, IsTableAt, IsTable}
+use Rattle.blink_live.specs.Views.{span, publishes}
+use Rattle.blink_live.specs.Words.{RowIs}
+use Rattle.blink_live.proofs.changed.ChangesAreTheMaps.{after-append, changes_of-append}
+use Rattle.blink_live.proofs.table.MapsWithOneChange.{put_here, put_else}
+use Rattle.blink_live.proofs.table.OthersKnowTheSame.{LeavesOthers, RowStays, row_is_still, page_word_still, reads_still}
+use Rattle.blink_live.proofs.table.StoresKeepTable.{row_stays, IsStored, prime_still, store_keeps}
+
+-- a step that keeps pages in their places leaves the ways of operations as they are
+pub ways_stay : (moment : Moment) (new : Pages) (seat : ℕ) (m : PlainMachine) → IsSound moment → KeepsPlaces moment.pages new → moment.machines seat ≡ Some m → way_left new m ≡ way_left moment.pages m
+ways_stay moment new seat m sound stay under = go m.state refl
+  where
+    go : (state : MachineState) → m.state ≡ state → way_left new m ≡ way_left moment.pages m
+    go (Going number level) at =
+        let reads = (step_law.sound_is_in_order moment sound).reads_page seat number m (under_way under) (ap need_at at) in
+        way_left_stays moment.pages new m number level reads.page stay at reads.there
+    go state at = ap (way_left_at new (target m)) at ∙ sym (ap (way_left_at moment.pages (target m)) at)
+
+-- the row is nobody's any more
+abbrev pub gives_row : Owners → ℕ → Owners
+gives_row owners row = record owners { row = put owners.row row 0 }
+
+module _ (plan : Plan) (s : State ℕ View) (moment then : Moment) (h : IsTableAt plan s moment) (id number way : ℕ) (v : View) (after_it : PlainMachine) (content : List ℕ) (pages : Span) (at : get_elem? s.views id ≡ some v) (role : v.role ≡ Pass) where
+  -- the tree's step: what the row keeps is the page of this number now, or for number 0 the prime block, and else all is as it was
+  pub record IsStepOfTree : Type 0 where
+    pub same_fan : then.fan ≡ moment.fan
+    pub same_holder : (n : ℕ) → then.holder n ≡ moment.holder n
+    pub own : then.machines id ≡ goes_on after_it after_it.state
+    pub others : (seat : ℕ) → seat ≢ id → then.machines seat ≡ moment.machines seat
+    pub sound : IsSound then
+    pub places : KeepsPlaces moment.pages then.pages
+    pub page_here : 1 ≤ number → (page : PlainPage) × (then.pages number ≡ Some page) × (content ≡ page_words page)
+    pub other_pages : (n : ℕ) → 1 ≤ n → n ≢ number → then.pages n ≡ moment.pages n
+    pub prime_here : number ≡ 0 → content ≡ prime_words then.prime
+    pub other_prime : 1 ≤ number → then.prime ≡ moment.prime
+    pub prime_numbers : All IsPageNumber then.prime
+    pub others_free : (n : ℕ) → h.owners.page n ≢ suc id → moment.pages n ≡ None → then.pages n ≡ None
+    pub own_free : HasNumbers plan h.owners then (suc id) v.pages
+    pub call_free : HasNumbers plan h.owners then (suc id) pages
+    pub call_before : pages.stop ≤ v.pages.next
+    pub no_other_page : (n : ℕ) → plan.counts.numbers ≤ n → then.pages n ≡ None
+
+  module _ (step : IsStepOfTree) (in_range : number < plan.counts.numbers) (room : v.call.rows.next < v.call.rows.stop) (is_row : IsRowOf v.call.draft content) (made : List Change) (now : List Entry) (share : Share) where
+    abbrev pub words : List ℕ
+    words = set s.words number v.call.rows.next
+
+    abbrev pub log : List Change
+    log = h.log ++ made
+
+    abbrev pub new : Owners
+    new = gives_row h.owners v.call.rows.next
+
+    abbrev pub w : View
+    w = publishes v after_it way pages share log
+
+    known : Knows plan h.owners s.words moment h.log id v
+    known = h.views id v at
+
+    kept : IsInRole plan h.owners h.log id v Pass
+    kept = subst (IsInRole plan h.owners h.log id v) role known.in_role
+
+    stays : (row : ℕ) → RowStays plan s.words words row
+    stays row = row_stays plan s.words number v.call.rows.next row (omega (arith, in_range))
+
+    -- what the write changes of keys: its own alone
+    pub record ChangesOwn : Type 0 where
+      pub other_changes : (key : ℕ) → h.owners.key key ≢ suc id → changes_of key made ≡ []
+      pub other_kept : (key : ℕ) → h.owners.key key ≢ suc id → after (after (pointer_of plan.opening) h.log) made key ≡ after (pointer_of plan.opening) h.log key
+      pub own_share : IsShare plan new log (suc id) share
+      pub is_map : IsMapAt then now
+      pub kept_now : (key : ℕ) → pointer_of now key ≡ after (pointer_of plan.opening) log key
+
+    module _ (own : ChangesOwn) (bounded : IsBoundedWay then w) where
+      leaves : LeavesOthers plan s moment then h id words new log
+      leaves = record {
+        machines = step.others;
+        ways = λ seat m apart is. ways_stay moment then.pages seat m h.sound step.places is;
+        rows = λ row least apart. (put_else h.owners.row v.call.rows.next row 0 (λ same. apart (ap h.owners.row same ∙ (known.for_call.first_own room).1)), stays row);
+        numbers = λ n apart. (refl, step.others_free n apart);
+        keys = λ key apart. (
+          refl,
+          changes_of-append key h.log made ∙ (ap (λ (l : List Change). changes_of key h.log ++ l) (own.other_changes key apart) ∙ append-nil (changes_of key h.log)),
+          after-append (pointer_of plan.opening) h.log made key ∙ own.other_kept key apart,
+        );
+        latch_numbers = λ seat. refl;
+        longer = λ seen is. (is.0 ++ made, sym (append_assoc seen is.0 made) ∙ ap (λ (l : List Change). l ++ made) is.1);
+      }
+
+      row_number : 1 ≤ v.call.rows.next
+      row_number = (known.for_call.first_own room).0
+
+      later_rows : (rows : Span) → v.call.rows.next < rows.next → HasRows plan h.owners s.words (suc id) rows → HasRows plan new words (suc id) rows
+      later_rows rows later has = record {
+        in_range = has.in_range;
+        own = λ row low high. put_else h.owners.row v.call.rows.next row 0 (λ same. omega (arith, same, low, later)) ∙ has.own row low high;
+        blank = λ row low high. row_is_still plan s.words words row [] (stays row) (has.blank row low high);
+      }
+
+      still_numbers : (numbers : Span) → HasNumbers plan h.owners then (suc id) numbers → HasNumbers plan new then (suc id) numbers
+      still_numbers numbers has = record { in_range = has.in_range; own = has.own; free = has.free }
+
+      knows : Knows plan new words then log id w
+      knows =
+          let others = known.for_call.others in record {
+            same_plan = known.same_plan;
+            operation = step.own;
+            bounded = bounded;
+            reads = reads_still plan s moment then h id kept.0 words new log leaves v.reads known.reads;
+            rows = later_rows v.rows (let before_rows = known.for_call.before.0 in omega (arith, before_rows, room)) known.rows;
+            numbers = still_numbers v.pages step.own_free;
+            for_call = record {
+              before = (known.for_call.before.0, step.call_before);
+              width = length-replicate {A = ℕ} ROW_WORDS 0;
+              first_own = λ more. (
+                omega arith,
+                put_else h.owners.row v.call.rows.next (suc v.call.rows.next) 0 (λ same. omega (arith, same)) ∙ others.own (suc v.call.rows.next) (omega arith) more,
+              );
+              drafted = λ more i inside. stays (suc v.call.rows.next) i inside ∙ (others.blank (suc v.call.rows.next) (omega arith) more i inside ∙ sym (get_or-replicate ROW_WORDS i 0 0 inside));
+              others = later_rows (span (suc (suc v.call.rows.next)) v.call.rows.stop) (omega arith) record {
+                in_range = (omega arith, others.in_range.1);
+                own = λ row low high. others.own row (omega (arith, low)) high;
+                blank = λ row low high. others.blank row (omega (arith, low)) high;
+              };
+              numbers = still_numbers pages step.call_free;
+            };
+            share = own.own_share;
+            saw = ([], append-nil log);
+            heard = leaves.longer v.told known.heard;
+            in_role = subst (IsInRole plan new log id w) (sym role) kept;
+          }
+
+      -- the row is published, and has the words
+      is_published : IsPublished plan new v.call.rows.next × RowIs plan.counts words v.call.rows.next content
+      is_published =
+          let high = known.for_call.others.in_range.1 in (
+            ((row_number, omega (arith, high, room)), put_here h.owners.row v.call.rows.next 0),
+            λ i inside. stays v.call.rows.next i inside ∙ (known.for_call.drafted room i inside ∙ is_row.filled i inside),
+          )
+
+      word_here : slice_index words number ≡ v.call.rows.next
+      word_here = let wide = h.width in get_or-set_same s.words number v.call.rows.next 0 (omega (arith, wide, in_range))
+
+      word_else : (n : ℕ) → n ≢ number → slice_index words n ≡ slice_index s.words n
+      word_else n differ = get_or-set_other s.words number n v.call.rows.next 0 differ
+
+      -- the page word names the row now, and the row is the page's
+      names_row : (n : ℕ) → 1 ≤ n → n ≡ number → PageWordIs plan new words (slice_index words n) (then.pages n)
+      names_row n least same =
+          let here = step.page_here (omega (arith, least, same)) in
+          let published : IsPublished plan new v.call.rows.next × RowIs plan.counts words v.call.rows.next (page_words here.0) = subst (λ (c : List ℕ). IsPublished plan new v.call.rows.next × RowIs plan.counts words v.call.rows.next c) here.2 is_published in
+          let word : slice_index words n ≡ v.call.rows.next = ap (slice_index words) same ∙ word_here in
+          let is_page : then.pages n ≡ Some here.0 = ap then.pages same ∙ here.1 in
+          subst (λ (t : ℕ × Option PlainPage). PageWordIs plan new words t.0 t.1) (λ i. (sym word i, sym is_page i)) published
+
+      prime_now : (n : ℕ) → number ≡ n → IsPublished plan new (slice_index words 0) × RowIs plan.counts words (slice_index words 0) (prime_words then.prime)
+      prime_now zero is =
+          let word : slice_index words 0 ≡ v.call.rows.next = ap (slice_index words) (sym is) ∙ word_here in
+          subst (λ (t : ℕ × List ℕ). IsPublished plan new t.0 × RowIs plan.counts words t.0 t.1) (λ i. (sym word i, step.prime_here is i)) is_published
+      prime_now (suc n) is = prime_still plan s moment then h id kept.0 words new log leaves (word_else 0 (λ e. omega (arith, e, is))) (step.other_prime (omega (arith, is)))
+
+      same_latch_word : (holder : Option ℕ) → latch_word h.owners holder ≡ latch_word new holder
+      same_latch_word None = refl
+      same_latch_word (Some seat) = refl
+
+      stored : IsStored plan s moment then h words new log now
+      stored = record {
+        same_fan = step.same_fan;
+        sound = step.sound;
+        prime_numbers = step.prime_numbers;
+        prime = prime_now number refl;
+        pages = λ n least below. dite (ℕ_discrete n number) (names_row n least) (λ differ.
+            subst (λ (t : ℕ × Option PlainPage). PageWordIs plan new words t.0 t.1) (λ i. (sym (word_else n differ) i, sym (step.other_pages n least differ) i))
+            (page_word_still plan s moment then h id kept.0 words new log leaves (slice_index s.words n) (moment.pages n) (h.pages n least below)));
+        no_other_page = step.no_other_page;
+        no_other_latch = λ n beyond. step.same_holder n ∙ h.no_other_latch n beyond;
+        latches = λ n below. word_else (plan.counts.numbers + n) (λ e. omega (arith, e, in_range)) ∙ (h.latches n below ∙ (same_latch_word (moment.holder n) ∙ ap (latch_word new) (sym (step.same_holder n))));
+        holders = λ n seat holds. h.holders n seat (sym (step.same_holder n) ∙ holds);
+        is_map = own.is_map;
+        kept = own.kept_now;
+        untouched = λ key nobody.
+            changes_of-append key h.log made
+            ∙ (ap (λ (l : List Change). l ++ changes_of key made) (h.untouched key nobody) ∙ own.other_changes key (λ e. let zero_is : 0 ≡ suc id = sym nobody ∙ e in absurd (omega (arith, zero_is))));
+      }
+
+      pub publish_keeps : IsTable plan record { words = words; homes = s.homes; views = set s.views id w }
+      publish_keeps = store_keeps plan s moment then h id number v.call.rows.next kept.0 v w at new log now leaves stored refl knows

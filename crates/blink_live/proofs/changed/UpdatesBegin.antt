@@ -1,0 +1,60 @@
+-- An update begins where its way down ends, with all that it may need left.
+use Rattle.std.proofs.Common.{◌≡◌, ℕ, Option, ◌+◌, ◌≤◌, ap, sym, ◌∙◌, subst, refl, arith}
+use Rattle.blink_batch.specs.declared.Op.{Op}
+use Rattle.blink_batch.specs.declared.Op.TheVariants.{Find, Insert, Delete}
+use Rattle.blink_steps.specs.declared.machine.Job.TheVariants.{Leaf}
+use Rattle.blink_steps.specs.declared.machine.State.TheVariants.{Want}
+use Rattle.blink_steps.specs.Allowance.{numbers_left, writes_left, primes_left}
+use Rattle.blink_steps.specs.Machine.{PlainMachine}
+use Rattle.blink_steps.specs.Table.{IsUpdate}
+use Rattle.blink_live.specs.declared.view.Call.{Call}
+use Rattle.blink_live.specs.declared.view.View.{View}
+use Rattle.blink_live.specs.Seats.{HasRead, IsAtLeaf, found, wants as wants_leaf}
+use Rattle.blink_live.specs.Updating.{SameBesideCall, not_yet, HasLeft, IsUpdating, IsPastDescent}
+use Rattle.blink_live.specs.Views.{Sat, SameBesideReads, rows_of, pages_of, for_call}
+
+within_call : (v w : View) → SameBesideReads v w → SameBesideCall v w
+within_call v w same =
+    let share : v.share ≡ w.share = sym (ap (λ (x : View). x.share) same) in
+    let call : v.call ≡ w.call = sym (ap (λ (x : View). x.call) same) in
+    same ∙ (λ i. record v { operation = w.operation; way_left = w.way_left; reads = w.reads; seen = w.seen; share = share i; call = call i })
+
+-- an operation that wants its leaf's latch
+abbrev wanting : PlainMachine → ℕ → Op → PlainMachine
+wanting m page op = record { fan = m.fan; op = op; job = Leaf; remembered = m.remembered; state = Want page; answer = m.answer }
+
+-- all that it may need is left
+all_left : (m : PlainMachine) (page : ℕ) (op : Op) → (writes_left (wanting m page op) + primes_left (wanting m page op) ≤ rows_of op) × (numbers_left (wanting m page op) ≤ pages_of op)
+all_left m page (Find key) = (omega arith, omega arith)
+all_left m page (Insert key pointer) = (omega arith, omega arith)
+all_left m page (Delete key) = (omega arith, omega arith)
+
+left_at_leaf : (op : Op) (m : PlainMachine) (page : ℕ) → m.op ≡ op → m.job ≡ Leaf → m.state ≡ Want page → (writes_left m + primes_left m ≤ rows_of op) × (numbers_left m ≤ pages_of op)
+left_at_leaf op m page same_op same_job at =
+    subst (λ (k : PlainMachine). (writes_left k + primes_left k ≤ rows_of op) × (numbers_left k ≤ pages_of op))
+    (λ i. record { fan = m.fan; op = sym same_op i; job = sym same_job i; remembered = m.remembered; state = sym at i; answer = m.answer }) (all_left m page op)
+
+pub update_begins : (op : Op) (v : View) (first me : Sat) (m : PlainMachine) (kept : Option ℕ) → IsUpdate op → first.0 ≡ for_call v op → HasRead op first me m → IsAtLeaf op kept m → IsUpdating op first me m
+update_begins op v first me m kept updates is read (found key is_find at_end answer) = absurd (subst IsUpdate is_find updates)
+update_begins op v first me m kept updates is read (wants_leaf page update at none_yet) =
+    let left = left_at_leaf op m page read.same_op read.same_job at in
+    let enough_rows = left.0 in
+    let enough_pages = left.1 in
+    let call : me.0.call ≡ first.0.call = ap (λ (x : View). x.call) read.same.0 in record {
+      same = (within_call first.0 me.0 read.same.0, read.same.1);
+      saw = read.saw;
+      knows_own = read.knows_own;
+      operation = read.operation;
+      same_op = read.same_op;
+      next = read.next;
+      left = subst (λ (c : Call). HasLeft first.0.call c m) (sym call) (subst (λ (c : Call). HasLeft c c m) (sym (ap (λ (x : View). x.call) is)) record {
+        rows = omega (arith, enough_rows);
+        pages = omega (arith, enough_pages);
+        later = (omega arith, omega arith);
+        same_stop = (refl, refl);
+        blank = refl;
+      });
+      has_decided = not_yet none_yet (ap (λ (x : View). x.share) read.same.0);
+      past_descent = subst IsPastDescent (sym at) tt;
+      answers_at_end = λ ends. absurd (cc);
+    }

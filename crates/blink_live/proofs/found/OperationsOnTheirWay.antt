@@ -1,0 +1,93 @@
+-- An operation on its way down: it has begun, goes on, or has come to the leaf of its key.
+use Rattle.std.proofs.Common.{append_assoc, ◌++◌, ◌≡◌, ◌⊎◌, ℕ, inl, inr, Option, Some, None, List, ap, sym, ◌∙◌, subst, refl}
+use mathlib.Core.List.{IsPrefix}
+use Rattle.blink_batch.specs.declared.Op.{Op}
+use Rattle.blink_batch.specs.declared.Op.TheVariants.{Find}
+use Rattle.blink_batch.specs.Operation.{answer_at, key_of}
+use Rattle.blink_batch.specs.PlainMap.{pointer_of}
+use Rattle.blink_page.specs.Page.{PlainPage}
+use Rattle.blink_steps.specs.Machine.{PlainMachine, NeedsPage, need_at}
+use Rattle.blink_steps.specs.Table.{SeesPrime, SeesPage, SeesOnItsWay}
+use Rattle.blink_live.specs.declared.view.Change.{Change}
+use Rattle.blink_live.specs.declared.view.Plan.{Plan}
+use Rattle.blink_live.specs.declared.view.View.{View}
+use Rattle.blink_live.specs.Changes.{after}
+use Rattle.blink_live.specs.Plays.{LoadsPage, AnswersAfter, CanGoOn}
+use Rattle.blink_live.specs.Seats.{IsGoing, IsAtLeaf, found, wants, IsDescending, going, at_leaf, HasRead}
+use Rattle.blink_live.specs.Views.{Sat, SameBesideReads, reading, known_of, KnowsItsOwn}
+
+-- a front of a front
+pub is_prefix_trans : (first second third : List Change) → IsPrefix first second → IsPrefix second third → IsPrefix first third
+is_prefix_trans first second third one two = (one.0 ++ two.0, sym (append_assoc first one.0 two.0) ∙ (ap (λ (l : List Change). l ++ two.0) one.1 ∙ two.1))
+
+pub same_trans : (u v w : View) → SameBesideReads u v → SameBesideReads v w → SameBesideReads u w
+same_trans u v w first second = second ∙ ap (λ (x : View). record x { operation = w.operation; way_left = w.way_left; reads = w.reads; seen = w.seen }) first
+
+pub same_reading : (v : View) (then : PlainMachine) (way row : ℕ) (words : List ℕ) (seen : List Change) (w : View) → w ≡ reading v then way row words seen → SameBesideReads v w
+same_reading v then way row words seen w is = subst (SameBesideReads v) (sym is) refl
+
+-- and after each page
+module _ (op : Op) (number row : ℕ) (first me : Sat) (m then : PlainMachine) (new : Sat) (has : HasRead op first me m) (is_going : IsGoing m) (loads : LoadsPage m number me row then new) where
+  pub read_one_more : then.op ≡ m.op → then.job ≡ m.job → HasRead op first new then
+  read_one_more same_op same_job = record {
+    same = (same_trans first.0 me.0 new.0 has.same.0 (same_reading me.0 then loads.way row _ loads.seen new.0 (ap (λ (x : Sat). x.0) loads.is)), ap (λ (x : Sat). x.1) loads.is ∙ has.same.1);
+    saw = is_prefix_trans first.0.seen me.0.seen new.0.seen has.saw (subst (λ (seen : List Change). IsPrefix me.0.seen seen) (sym (ap (λ (x : Sat). x.0.seen) loads.is)) loads.learns.saw);
+    knows_own = subst (λ (x : Sat). KnowsItsOwn x.0) (sym loads.is) loads.own_keys;
+    operation = ap (λ (x : Sat). x.0.operation) loads.is;
+    same_op = same_op ∙ has.same_op;
+    same_job = same_job ∙ has.same_job;
+    next = subst (λ (p : Plan). CanGoOn p then) (ap (λ (v : View). v.plan) has.same.0) loads.next;
+  }
+
+  -- what it answers now is what its key keeps after the changes that the seat has seen
+  pub answers_as_told : AnswersAfter (after (pointer_of me.0.plan.opening) loads.seen) m then → m.answer ≡ None → (then.answer ≡ None) ⊎ (then.answer ≡ Some (answer_at op (known_of new.0 (key_of op))))
+  answers_as_told (inl same) none_yet = inl (same ∙ none_yet)
+  answers_as_told (inr (was_none, given)) none_yet =
+      inr (given ∙ ap (λ (o : Op). Some (answer_at o (after (pointer_of me.0.plan.opening) loads.seen (key_of o)))) has.same_op ∙ ap (λ (x : Sat). Some (answer_at op (known_of x.0 (key_of op)))) (sym loads.is))
+
+-- ---- a page that is read on the way down
+
+module _ (op : Op) (number row : ℕ) (first me : Sat) (m then : PlainMachine) (new : Sat) (has : HasRead op first me m) (is_going : IsGoing m) (none_yet : m.answer ≡ None)
+    (loads : LoadsPage m number me row then new) where
+  abbrev Now : Type 0
+  Now = HasRead op first new then × IsDescending op (known_of new.0 (key_of op)) then
+
+  same_way : then.op ≡ m.op → then.job ≡ m.job → IsDescending op (known_of new.0 (key_of op)) then → Now
+  same_way same_op same_job descends = (read_one_more op number row first me m then new has is_going loads same_op same_job, descends)
+
+  by_way : (page : PlainPage) → SeesOnItsWay m number page then → Now
+  by_way page (SeesOnItsWay.goes_right level next was leads is) =
+      let same_job : then.job ≡ m.job = ap (λ (x : PlainMachine). x.job) is in
+      same_way (ap (λ (x : PlainMachine). x.op) is) same_job
+      (going (record { same_job = same_job ∙ is_going.same_job; on_its_way = (next, level, ap (λ (x : PlainMachine). x.state) is) }) (ap (λ (x : PlainMachine). x.answer) is ∙ none_yet))
+  by_way page (SeesOnItsWay.goes_down level child was leads is) =
+      let same_job : then.job ≡ m.job = ap (λ (x : PlainMachine). x.job) is in
+      same_way (ap (λ (x : PlainMachine). x.op) is) same_job
+      (going (record { same_job = same_job ∙ is_going.same_job; on_its_way = (child, level, ap (λ (x : PlainMachine). x.state) is) }) (ap (λ (x : PlainMachine). x.answer) is ∙ none_yet))
+  by_way page (SeesOnItsWay.find_answers level key was leads is_find is) =
+      let given : then.answer ≡ Some (answer_at (Find key) _) = ap (λ (x : PlainMachine). x.answer) is in
+      same_way (ap (λ (x : PlainMachine). x.op) is) (ap (λ (x : PlainMachine). x.job) is) (at_leaf (found key (sym has.same_op ∙ is_find) (ap (λ (x : PlainMachine). x.state) is) (elim (answers_as_told op number row first me m then new has is_going loads loads.answers none_yet) [
+        | inl nothing ↦ absurd (cc)
+        | inr as_told ↦ as_told
+      ])))
+  by_way page (SeesOnItsWay.update_wants level was leads updates is) =
+      same_way (ap (λ (x : PlainMachine). x.op) is) (ap (λ (x : PlainMachine). x.job) is)
+      (at_leaf (wants number (subst Rattle.blink_steps.specs.Table.IsUpdate has.same_op updates) (ap (λ (x : PlainMachine). x.state) is) (ap (λ (x : PlainMachine). x.answer) is ∙ none_yet)))
+
+  by_page : SeesPage m number loads.page then → Now
+  by_page (SeesPage.on_its_way sees) = by_way loads.page sees
+  by_page (SeesPage.under_latch held under) = absurd (let goes = is_going.on_its_way.2 in cc)
+
+  pub goes_down : Now
+  goes_down = by_page loads.sees
+
+-- where it needs a page it is on its way
+pub needs_on_its_way : (op : Op) (kept : Option ℕ) (m : PlainMachine) (number : ℕ) → IsDescending op kept m → NeedsPage m number → IsGoing m × (m.answer ≡ None)
+needs_on_its_way op kept m number (going is_going none_yet) needs = (is_going, none_yet)
+needs_on_its_way op kept m number (at_leaf (found key is_find ended answer)) needs = absurd (let e = ap need_at ended in cc)
+needs_on_its_way op kept m number (at_leaf (wants page updates wants_it none_yet)) needs = absurd (let e = ap need_at wants_it in cc)
+
+-- and else it has come there
+pub else_at_leaf : (op : Op) (kept : Option ℕ) (m : PlainMachine) → ((number : ℕ) → ¬ NeedsPage m number) → IsDescending op kept m → IsAtLeaf op kept m
+else_at_leaf op kept m none (going is_going none_yet) = absurd (none is_going.on_its_way.0 (ap need_at is_going.on_its_way.2))
+else_at_leaf op kept m none (at_leaf there) = there

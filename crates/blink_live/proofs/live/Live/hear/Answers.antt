@@ -1,0 +1,21 @@
+use Rattle.std.proofs.Common.{◌≤◌, sym, subst, arith}
+use Rattle.atomic_table.specs.Table.{Joins}
+use Rattle.blink_rows.specs.Counts.{PlainCounts}
+use Rattle.blink_live.specs.declared.view.Plan.{Plan}
+use Rattle.blink_live.specs.Rule.{IsTable}
+use Rattle.blink_live.specs.Views.{plan_of, hears, spent}
+use Rattle.blink_live.proofs.told.NotesKeepTable.{hearing_keeps_table}
+use Rattle.blink_live.proofs.live.Live.hear.Goals as goal
+
+pub join_seat-requires : goal.join_seat-requires
+join_seat-requires g c =
+    let key = c.args.self.now.table.shared.key in
+    let note = c.requires.note in
+    let some_number : 1 ≤ (plan_of key).counts.numbers = subst (λ (counts : PlainCounts). 1 ≤ counts.numbers) c.args.self.now.counts_are c.args.self.now.some_number in (
+      c.requires.seat.same_table,
+      c.requires.table,
+      note.2,
+      omega (arith, c.args.self.now.width, c.args.self.now.some_number),
+      subst (λ (p : Plan). Joins (IsTable (plan_of key)) c.args.seat.now.id c.args.seat.now.me.0 c.args.note.id c.args.note.me.0 (hears c.args.seat.now.me.0 c.args.note.me.0) (spent p)) (sym c.requires.picked)
+          (hearing_keeps_table (plan_of key) c.args.seat.now.id c.args.note.id c.args.seat.now.me.0 c.args.note.me.0 some_number c.requires.seat.role note.0 note.1),
+    )

@@ -1,0 +1,56 @@
+use Rattle.std.proofs.Common.{◌≡◌, ℕ, ◌<◌, List, ap, sym, subst, arith}
+use Rattle.blink_page.specs.Page.{PlainPage, IsLawfulPage}
+use Rattle.blink_page.specs.declared.limits.TheConstants.{MAX_FAN}
+use Rattle.blink_rows.specs.Counts.{PlainCounts}
+use Rattle.blink_rows.specs.Row.{IsPageRow}
+use Rattle.blink_rows.proofs.Offered.{row_has_one_page}
+use Rattle.blink_steps.specs.InOrder.{IsReadable}
+use Rattle.blink_steps.specs.Machine.{PlainMachine}
+use Rattle.blink_steps.specs.Table.{SeesPage}
+use Rattle.blink_live.specs.Plays.{LoadsPage}
+use Rattle.blink_live.specs.Seats.{ReadsPage}
+use Rattle.blink_live.specs.Views.{Sat}
+use Rattle.blink_live.proofs.found.ReadsPage.{reads_page_word}
+use Rattle.blink_live.proofs.live.Live.read_latched.Goals as goal
+
+pub load-row-requires : goal.load-row-requires
+load-row-requires c =
+    let in_range = c.requires.in_range in (
+      c.requires.seat.same_table,
+      omega (arith, c.args.self.now.width, in_range),
+      reads_page_word _ _ _ _ _ c.args.machine.now c.requires.seat.role c.requires.at c.requires.fits c.requires.needs in_range.0
+          (subst (λ (counts : PlainCounts). c.args.number < counts.numbers) c.args.self.now.counts_are in_range.1),
+    )
+
+-- the page that the row's words tell is the one that the page word's load told
+same_page : (m : PlainMachine) (number row : ℕ) (me : Sat) (machine : PlainMachine) (then : Sat) (page : PlainPage) (words : List ℕ) (loads : LoadsPage m number me row machine then)
+    → ((told : PlainPage) → ReadsPage then row told → IsPageRow told words) → IsLawfulPage MAX_FAN page → IsPageRow page words → loads.page ≡ page
+same_page m number row me machine then page words loads read lawful is =
+    row_has_one_page loads.page page words loads.lawful lawful (read loads.page (record { reads = ap (λ (x : Sat). x.0.reads) loads.is; lawful = loads.lawful })) is
+
+readable : (c : goal.After-page-2-1) → IsReadable c.args.machine.now c.in-Some.page
+readable c =
+    let loads = (c.load-row.ensures.2 c.args.machine.now c.requires.at c.requires.needs).1 in
+    let same = same_page _ _ _ _ _ _ _ _ loads c.read_row-words.ensures.words (rw c.page.view_is at c.page.invariant) c.in-Some.ensures.page in
+    subst (IsReadable c.args.machine.now) same loads.readable
+
+pub saw_page-requires-clause-level : goal.saw_page-requires-clause-level
+saw_page-requires-clause-level c = (readable c).has_level
+
+pub saw_page-requires-clause-below : goal.saw_page-requires-clause-below
+saw_page-requires-clause-below c = (readable c).floor_below
+
+pub saw_page-requires-clause-at_most_fan : goal.saw_page-requires-clause-at_most_fan
+saw_page-requires-clause-at_most_fan c = (readable c).at_most_fan
+
+pub returns-clause-read : goal.returns-clause-read
+returns-clause-read c =
+    let m : PlainMachine = c.args.machine.now in
+    let me : Sat = c.args.seat.now.me in
+    let row = c.load-row.result in
+    let after : PlainMachine = c.saw_page.new.self in
+    let loads = c.load-row.ensures.2 m c.requires.at c.requires.needs in
+    let page_is = same_page _ _ _ _ _ _ _ _ loads.1 c.read_row-words.ensures.words (rw c.page.view_is at c.page.invariant) c.in-Some.ensures.page in
+    let sees : SeesPage m c.args.number loads.1.page after = subst (λ (page : PlainPage). SeesPage m c.args.number page after) (sym page_is) (c.saw_page.ensures c.args.number c.requires.needs) in
+    let same : after ≡ loads.0 = loads.1.only after sees in
+    (row, subst (λ (x : PlainMachine × Sat). LoadsPage m c.args.number me row x.0 x.1) (λ i. (sym same i, sym c.read_row-words.ensures.same.2 i)) loads.1)

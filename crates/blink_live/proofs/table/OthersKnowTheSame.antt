@@ -1,0 +1,122 @@
+-- A step of one seat leaves what the others know.
+use Rattle.std.proofs.Common.{◌≡◌, ◌≢◌, ℕ, suc, ◌+◌, ◌<◌, ◌≤◌, Option, Some, None, List, sym, ◌∙◌, arith, []}
+use Rattle.std.specs.Prelude.{slice_index}
+use mathlib.Core.Option.{some}
+use mathlib.Core.List.{IsPrefix}
+use lib.ListN.{get_elem?}
+use Rattle.atomic_table.specs.Table.{State}
+use Rattle.blink_batch.specs.PlainMap.{pointer_of}
+use Rattle.blink_page.specs.Page.{PlainPage}
+use Rattle.blink_rows.specs.Row.{page_words}
+use Rattle.blink_rows.specs.declared.limits.TheConstants.{ROW_WORDS}
+use Rattle.blink_rows.specs.declared.span.Span.{Span}
+use Rattle.blink_steps.specs.Machine.{PlainMachine}
+use Rattle.blink_steps.specs.Moment.{Moment}
+use Rattle.blink_steps.specs.Places.{way_left}
+use Rattle.blink_live.specs.declared.view.Change.{Change}
+use Rattle.blink_live.specs.declared.view.Plan.{Plan}
+use Rattle.blink_live.specs.declared.view.Role.{Role}
+use Rattle.blink_live.specs.declared.view.Role.TheVariants.{Keeper, Pass, Spent}
+use Rattle.blink_live.specs.declared.view.Share.{Share}
+use Rattle.blink_live.specs.declared.view.View.{View}
+use Rattle.blink_live.specs.Changes.{after, changes_of}
+use Rattle.blink_live.specs.Rule.{Owners, IsPublished, PageWordIs, ReadsRow, HasRows, HasNumbers, HasForCall, IsShare, IsInRole, Knows, IsTableAt}
+use Rattle.blink_live.specs.Views.{span}
+use Rattle.blink_live.specs.Words.{row_start, RowIs}
+
+-- the words of a row stay
+abbrev pub RowStays : Plan → List ℕ → List ℕ → ℕ → Type 0
+RowStays plan old new row = (i : ℕ) → i < ROW_WORDS → slice_index new (row_start plan.counts row + i) ≡ slice_index old (row_start plan.counts row + i)
+
+pub row_is_still : (plan : Plan) (old new : List ℕ) (row : ℕ) (content : List ℕ) → RowStays plan old new row → RowIs plan.counts old row content → RowIs plan.counts new row content
+row_is_still plan old new row content stays is i inside = stays i inside ∙ is i inside
+
+-- a step of the seat `id` after which words, moment, owners and changes are these touches nothing that another seat has
+pub record LeavesOthers (plan : Plan) (s : State ℕ View) (moment then : Moment) (h : IsTableAt plan s moment) (id : ℕ) (words : List ℕ) (new : Owners) (log : List Change) : Type 0 where
+  pub machines : (seat : ℕ) → seat ≢ id → then.machines seat ≡ moment.machines seat
+  pub ways : (seat : ℕ) (m : PlainMachine) → seat ≢ id → moment.machines seat ≡ Some m → way_left then.pages m ≡ way_left moment.pages m
+  pub rows : (row : ℕ) → 1 ≤ row → h.owners.row row ≢ suc id → (new.row row ≡ h.owners.row row) × RowStays plan s.words words row
+  pub numbers : (number : ℕ) → h.owners.page number ≢ suc id → (new.page number ≡ h.owners.page number) × (moment.pages number ≡ None → then.pages number ≡ None)
+  pub keys : (key : ℕ) → h.owners.key key ≢ suc id
+      → (new.key key ≡ h.owners.key key) × (changes_of key log ≡ changes_of key h.log) × (after (pointer_of plan.opening) log key ≡ after (pointer_of plan.opening) h.log key)
+  pub latch_numbers : (seat : ℕ) → new.latch_number seat ≡ h.owners.latch_number seat
+  pub longer : (seen : List Change) → IsPrefix seen h.log → IsPrefix seen log
+
+module _ (plan : Plan) (s : State ℕ View) (moment then : Moment) (h : IsTableAt plan s moment) (id : ℕ) (some_pass : 1 ≤ id) (words : List ℕ) (new : Owners) (log : List Change)
+    (leaves : LeavesOthers plan s moment then h id words new log) where
+  pub still_published : (row : ℕ) → IsPublished plan h.owners row → IsPublished plan new row × RowStays plan s.words words row
+  still_published row is =
+      let t = leaves.rows row is.0.0 (λ e. let zero_is : 0 ≡ suc id = sym is.1 ∙ e in absurd (omega (arith, zero_is))) in
+      ((is.0, t.0 ∙ is.1), t.1)
+
+  pub page_word_still : (word : ℕ) (page : Option PlainPage) → PageWordIs plan h.owners s.words word page → PageWordIs plan new words word page
+  page_word_still word None is = is
+  page_word_still word (Some page) is = let t = still_published word is.0 in (t.0, row_is_still plan s.words words word (page_words page) t.1 is.1)
+
+  pub reads_still : (reads : Option (ℕ × List ℕ)) → ReadsRow plan h.owners s.words reads → ReadsRow plan new words reads
+  reads_still None is = tt
+  reads_still (Some (row, content)) is = let t = still_published row is.0 in (t.0, row_is_still plan s.words words row content t.1 is.1)
+
+  module _ (seat : ℕ) (other : seat ≢ id) where
+    apart : suc seat ≢ suc id
+    apart e = other (omega (arith, e))
+
+    rows_still : (rows : Span) → HasRows plan h.owners s.words (suc seat) rows → HasRows plan new words (suc seat) rows
+    rows_still rows has = record {
+      in_range = has.in_range;
+      own = λ row low high. let least = has.in_range.0 in (leaves.rows row (omega (arith, least, low)) (λ e. apart (sym (has.own row low high) ∙ e))).0 ∙ has.own row low high;
+      blank = λ row low high.
+          let least = has.in_range.0 in
+          row_is_still plan s.words words row [] (leaves.rows row (omega (arith, least, low)) (λ e. apart (sym (has.own row low high) ∙ e))).1 (has.blank row low high);
+    }
+
+    numbers_still : (pages : Span) → HasNumbers plan h.owners moment (suc seat) pages → HasNumbers plan new then (suc seat) pages
+    numbers_still pages has = record {
+      in_range = has.in_range;
+      own = λ number low high. (leaves.numbers number (λ e. apart (sym (has.own number low high) ∙ e))).0 ∙ has.own number low high;
+      free = λ number low high. (leaves.numbers number (λ e. apart (sym (has.own number low high) ∙ e))).1 (has.free number low high);
+    }
+
+    call_stays : (v : View) → HasForCall plan h.owners s.words moment (suc seat) v.call v.rows.next v.pages.next → HasForCall plan new words then (suc seat) v.call v.rows.next v.pages.next
+    call_stays v has = record {
+      before = has.before;
+      width = has.width;
+      first_own = λ some_row. let own = has.first_own some_row in (own.0, (leaves.rows v.call.rows.next own.0 (λ e. apart (sym own.1 ∙ e))).0 ∙ own.1);
+      drafted = λ some_row.
+          let own = has.first_own some_row in
+          row_is_still plan s.words words v.call.rows.next v.call.draft (leaves.rows v.call.rows.next own.0 (λ e. apart (sym own.1 ∙ e))).1 (has.drafted some_row);
+      others = rows_still (span (suc v.call.rows.next) v.call.rows.stop) has.others;
+      numbers = numbers_still v.call.pages has.numbers;
+    }
+
+  share_still : (owner : ℕ) (share : Share) → owner ≢ suc id → IsShare plan h.owners h.log owner share → IsShare plan new log owner share
+  share_still owner share apart has key among =
+      let own = has key among in
+      let t = leaves.keys key (λ e. apart (sym own.own ∙ e)) in
+      record { own = t.0 ∙ own.own; kept = own.kept ∙ sym t.2; changes = t.1 ∙ own.changes }
+
+  role_still : (seat : ℕ) (v : View) (role : Role) → IsInRole plan h.owners h.log seat v role → IsInRole plan new log seat v role
+  role_still seat v (Keeper dealt back) is = (
+    is.0,
+    is.1,
+    λ key untaken. (leaves.keys key (λ e. let zero_is : 0 ≡ suc id = sym (is.2 key untaken) ∙ e in absurd (omega (arith, zero_is)))).0 ∙ is.2 key untaken,
+    λ share came. share_still 1 share (λ e. omega (arith, e, some_pass)) (is.3 share came),
+  )
+  role_still seat v Pass is = (is.0, leaves.latch_numbers seat ∙ is.1)
+  role_still seat v Spent is = is
+
+  pub other_knows : (seat : ℕ) (v : View) → seat ≢ id → get_elem? s.views seat ≡ some v → Knows plan new words then log seat v
+  other_knows seat v other at =
+      let known = h.views seat v at in record {
+        same_plan = known.same_plan;
+        operation = leaves.machines seat other ∙ known.operation;
+        bounded = λ m is. leaves.ways seat m other (known.operation ∙ is) ∙ known.bounded m is;
+        reads = reads_still v.reads known.reads;
+        rows = rows_still seat other v.rows known.rows;
+        numbers = numbers_still seat other v.pages known.numbers;
+        for_call = call_stays seat other v known.for_call;
+        share = share_still (suc seat) v.share (λ e. other (omega (arith, e))) known.share;
+        saw = leaves.longer v.seen known.saw;
+        heard = leaves.longer v.told known.heard;
+        in_role = role_still seat v v.role known.in_role;
+      }

@@ -1,0 +1,8 @@
+use Rattle.blink_live.specs.Handles.{IsPassOf}
+use Rattle.blink_live.proofs.tests.glancing.glance_downwards.Given as goal
+
+abbrev pub invariant-loop-key : goal.invariant-loop-key
+invariant-loop-key g l = IsPassOf l.live l.pass
+
+abbrev pub invariant-loop : goal.invariant-loop
+invariant-loop g l = IsPassOf l.live l.pass

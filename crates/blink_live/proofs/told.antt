@@ -1,0 +1,3 @@
+pub mod FrontsOfOneList
+pub mod NotesKeepTable
+pub mod LooksUpKeepTable

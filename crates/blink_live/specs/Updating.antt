@@ -1,0 +1,51 @@
+-- An update after its way down: it changes its leaf, and goes on to its end.
+use Rattle.std.specs.Prelude.{◌≡◌, ◌+◌, ◌≤◌, Some, None, IsSome}
+use mathlib.Core.List.{IsPrefix}
+use Rattle.blink_batch.specs.declared.Op.{Op}
+use Rattle.blink_batch.specs.Operation.{answer_of}
+use Rattle.blink_steps.specs.declared.machine.State.{State}
+use Rattle.blink_steps.specs.declared.machine.State.TheVariants.{Start, Going, Ended}
+use Rattle.blink_steps.specs.Allowance.{numbers_left, writes_left, primes_left}
+use Rattle.blink_steps.specs.Machine.{PlainMachine}
+use Rattle.blink_steps.specs.Moment.{goes_on}
+use Rattle.blink_live.specs.declared.view.Call.{Call}
+use Rattle.blink_live.specs.declared.view.Share.{Share}
+use Rattle.blink_live.specs.declared.view.View.{View}
+use Rattle.blink_live.specs.Plays.{CanGoOn}
+use Rattle.blink_live.specs.Views.{Sat, KnowsItsOwn, no_words, changed_by}
+
+-- w is v, but for its operation, its share, what its call has stored, and what it reads and has seen
+abbrev pub SameBesideCall : View → View → Type 0
+SameBesideCall v w = w ≡ record v { operation = w.operation; way_left = w.way_left; reads = w.reads; seen = w.seen; share = w.share; call = w.call }
+
+-- the operation hasn't decided yet, and the share is as it was; or it answers by the share, which is changed as it changes a map
+pub data HasDecided (op : Op) (before share : Share) (m : PlainMachine) : Type 0 where
+  not_yet : m.answer ≡ None → share ≡ before → HasDecided op before share m
+  decided : m.answer ≡ Some (answer_of before.entries op) → share ≡ changed_by op before → HasDecided op before share m
+
+-- it isn't on its way down any more
+abbrev pub IsPastDescent : State → Type 0
+IsPastDescent Start = ⊥
+IsPastDescent (Going page level) = ⊥
+IsPastDescent state = Unit {0}
+
+-- what the call has left is enough: a row for each write of a page or of the prime block, and the page numbers
+pub record HasLeft (first call : Call) (m : PlainMachine) : Type 0 where
+  pub rows : call.rows.next + (writes_left m + primes_left m) ≤ call.rows.stop
+  pub pages : call.pages.next + numbers_left m ≤ call.pages.stop
+  pub later : (first.rows.next ≤ call.rows.next) × (first.pages.next ≤ call.pages.next)
+  pub same_stop : (call.rows.stop ≡ first.rows.stop) × (call.pages.stop ≡ first.pages.stop)
+  pub blank : call.draft ≡ no_words
+
+-- the seat knows what it knew when the operation began, but for what the operation has done since
+pub record IsUpdating (op : Op) (first me : Sat) (m : PlainMachine) : Type 0 where
+  pub same : SameBesideCall first.0 me.0 × (me.1 ≡ first.1)
+  pub saw : IsPrefix first.0.seen me.0.seen
+  pub knows_own : KnowsItsOwn me.0
+  pub operation : me.0.operation ≡ goes_on m m.state
+  pub same_op : m.op ≡ op
+  pub next : CanGoOn first.0.plan m
+  pub left : HasLeft first.0.call me.0.call m
+  pub has_decided : HasDecided op first.0.share me.0.share m
+  pub past_descent : IsPastDescent m.state
+  pub answers_at_end : m.state ≡ Ended → IsSome m.answer
