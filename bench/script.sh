@@ -1,8 +1,8 @@
 #!/bin/sh
-# Times `blink run` on a script of 40,000 rows in ten batches against a small Rust program that runs it on a BTreeMap and
-# prints the same bytes (script.rs): each is run nine times, and the median of the nanoseconds a row is printed, the
-# start of the program with it. It needs rustc, and builds blink where that isn't built. Run it on a machine that has
-# little else to do.
+# Times `blink run` with each driver, by 1 and by 4 workers, on a script of 40,000 rows in ten batches against a small Rust
+# program that runs it on a BTreeMap and prints the same bytes (script.rs): each is run nine times, and the median of the
+# nanoseconds a row is printed, the start of the program with it. It needs rustc, and builds blink where that isn't built.
+# Run it on a machine that has little else to do.
 set -eu
 here=$(cd "$(dirname "$0")" && pwd)
 repository=$here/..
@@ -29,7 +29,14 @@ time_of() {
     done | sort -n | sed -n "$(((rounds + 1) / 2))p"
 }
 
+# Times blink with these words, and tells it.
+tell() {
+    echo "blink $*: $(time_of "$blink" "$@") ns a row"
+}
+
 echo "BTreeMap: $(time_of ./script run) ns a row"
-for workers in 1 4; do
-    echo "blink run --workers $workers: $(time_of "$blink" run --workers $workers) ns a row"
+for driver in locked live; do
+    for workers in 1 4; do
+        tell run --driver $driver --workers $workers
+    done
 done

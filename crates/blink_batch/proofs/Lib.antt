@@ -14,6 +14,7 @@ pub mod ScriptStillToRead
 pub mod SearchByHalves
 pub mod NextPlaces
 pub mod PartsOfLanes
+pub mod LanesApart
 pub mod CutsSplitNoKey
 pub mod LastPlaces
 pub mod Offered

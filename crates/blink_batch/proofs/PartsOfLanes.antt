@@ -28,7 +28,7 @@ part_of_first-other lanes worker place within other =
     ∙ rw (filter-append (λ n. is_worker worker (slice_get lanes n)) (take place (places_from 0 lanes)) (place ∷ []), is_worker-other lanes worker place within other) (append-nil (part_of lanes worker (take place (places_from 0 lanes))))
 
 -- at the lanes' end the part is the whole lane
-part_of_first-end : (lanes : List ℕ) (worker place : ℕ) → length lanes ≤ place → part_of lanes worker (take place (places_from 0 lanes)) ≡ lane_of lanes worker
+pub part_of_first-end : (lanes : List ℕ) (worker place : ℕ) → length lanes ≤ place → part_of lanes worker (take place (places_from 0 lanes)) ≡ lane_of lanes worker
 part_of_first-end lanes worker place past = let long = length-places_from 0 lanes in ap (part_of lanes worker) (take_all place (places_from 0 lanes) (omega arith))
 
 -- between a place and the next of the worker's its part stays
@@ -75,7 +75,7 @@ first_places_below from (x ∷ xs) (suc n) = (omega arith, every_below (from + 1
     every_below low high (place ∷ places) less all = (let here : place < low = all.0 in omega arith, every_below low high places less all.1)
 
 -- what holds of all elements that pass holds of each one that is contained and passes
-passes_from_filter : {X : Type 0} (P : X → Type 0) (p : X → Bool) (xs : List X) (k : ℕ) (x : X) → k < length xs → get_or xs k x ≡ x → p x ≡ true → AllByRecursion P (filter p xs) → P x
+pub passes_from_filter : {X : Type 0} (P : X → Type 0) (p : X → Bool) (xs : List X) (k : ℕ) (x : X) → k < length xs → get_or xs k x ≡ x → p x ≡ true → AllByRecursion P (filter p xs) → P x
 passes_from_filter P p [] k x within at passes all = absurd (omega arith)
 passes_from_filter P p (y ∷ xs) zero x within at passes all = let own : p y ≡ true = ap p at ∙ passes in subst P at (rw own at all).0
 passes_from_filter P p (y ∷ xs) (suc k) x within at passes all = elim (cases_Bool (p y)) [

@@ -6,3 +6,4 @@ pub mod changed
 pub mod told
 pub mod closed
 pub mod gathered
+pub mod Offered

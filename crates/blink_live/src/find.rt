@@ -1,5 +1,5 @@
 //! How a pass finds what one of its keys keeps.
-ghost use Rattle.std.specs.Prelude.{◌≡◌, ◌↔◌, IsTrue, IfOk, OnOk, IsErrOf, Contains, None};
+ghost use Rattle.std.specs.Prelude.{◌≡◌, ◌↔◌, IsTrue, IfErr, IfOk, OnOk, IsErrOf, Contains, None};
 ghost use mathlib.Core.List.{IsPrefix};
 ghost use Rattle.blink_batch.specs.Operation.{answer_at, answer_of};
 ghost use Rattle.blink_batch.specs.declared.Op.TheVariants.{Find};
@@ -24,6 +24,7 @@ impl Live {
         ensures answer { IfOk result (λ answer. answer ≡ answer_of (share_of pass.old) (Find key)) }
         ensures knows { OnOk result (KnowsItsKeys self.now pass.new) }
         ensures not_yours { IsErrOf result PassError.NotYours ↔ ¬ Contains (keys_of pass.old) key }
+        ensures refused { IfErr result (λ refusal. refusal ≡ PassError.NotYours) }
         ensures same { IsSameBesideSeen pass.old pass.new }
     {
         if !pass.has(key) {

@@ -6,3 +6,16 @@ pub mod ReplayOfBatch
 pub mod PartsAreServed
 pub mod ReplayOfParts
 pub mod FirstThatIsNoWorker
+pub mod LaneSoFar
+pub mod CallsOfPass
+pub mod LaneRuns
+pub mod GatheredSoFar
+pub mod LanesTogether
+pub mod KeysEachOnce
+pub mod NeedsOfLane
+pub mod KeysOfLanes
+pub mod ChangesOfLanes
+pub mod LanesAreDealt
+pub mod ChangesOfSpans
+pub mod EachOneMore
+pub mod EachPlace

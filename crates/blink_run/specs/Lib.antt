@@ -7,3 +7,4 @@ pub mod Trace
 pub mod Replay
 pub mod Served
 pub mod ServedReplay
+pub mod Lanes

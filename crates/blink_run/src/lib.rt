@@ -2,13 +2,15 @@
 //!
 //! The driver `Locked` takes every step under one lock. What is under it is a book, which keeps by its type that it is the
 //! run of a schedule in which every turn moved; the runner compares the book with what it gave to it, and so knows what the
-//! threads have done.
+//! threads have done. The driver `Live` gives each lane a pass of one table of atomic words, which threads share without a
+//! lock; what each has done is known by the promise that its handle carries.
 #![tactic(auto)]
 
 mod book;
 mod desk;
 mod error;
 mod gate;
+mod live;
 mod replay;
 mod run;
 mod script;

@@ -10,6 +10,7 @@ use crate::book::Book;
 use crate::desk::Desk;
 use crate::error::RunError;
 use crate::gate::Gate;
+use crate::live::run_live;
 use blink_batch::{Answer, Batch, Cut};
 use blink_index::{Index, no_other_map_is_kept};
 use std::alloc::Global;
@@ -21,13 +22,16 @@ use std::thread::{self, Threads};
 pub enum Driver {
     /// Each step is taken under one lock.
     Locked,
+    /// Without a lock, at one table of atomic words. Before the threads begin it takes 13 KB of memory for each insertion.
+    Live,
 }
 
 /// Runs a batch on an index: each worker's lane, an empty one too, in a thread of its own. The answers are those of one thread
 /// that runs the batch in order on the plain map of the index, place by place, and the index keeps that map afterwards.
 ///
 /// Each error leaves the index as it was. `TooLarge` comes before anything else; `Worker` tells the smallest worker that
-/// couldn't be started, and comes before `OutOfMemory`. Nothing is said of how long the call waits for its threads.
+/// couldn't be started, and comes before `OutOfMemory` where both came. Nothing is said of how long the call waits for its
+/// threads.
 pub fn run_batch<R: Threads + Wait + Sync, G: Gate + Sync>(
     rt: &R,
     alloc: Global,
@@ -50,6 +54,7 @@ pub fn run_batch<R: Threads + Wait + Sync, G: Gate + Sync>(
 {
     match driver {
         Driver::Locked => run_locked(rt, alloc, index, batch, cut, gate),
+        Driver::Live => run_live(rt, alloc, index, batch, cut, gate),
     }
 }
 

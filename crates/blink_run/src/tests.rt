@@ -9,6 +9,9 @@ use std::sync::atomic::{AtomicU64, Ordering};
 use std::test::Fail;
 use std::thread::{self, Threads};
 
+// Both drivers.
+const DRIVERS: [Driver; 2] = [Driver::Locked, Driver::Live];
+
 // How often a gate looks for another operation before it gives up.
 const TURNS: u32 = 100_000;
 
@@ -16,6 +19,7 @@ const TURNS: u32 = 100_000;
 fn run_with<R: Threads + Wait + Sync, G: Gate + Sync>(
     rt: &R,
     alloc: Global,
+    driver: Driver,
     index: &mut Index,
     ops: &[Op],
     workers: u8,
@@ -23,7 +27,7 @@ fn run_with<R: Threads + Wait + Sync, G: Gate + Sync>(
 ) -> Result<Vec<Answer>, Fail> {
     let batch = Batch::new(ops.to_vec(alloc)?)?;
     let cut = Cut::by_residue(alloc, &batch, workers)?;
-    Ok(run_batch(rt, alloc, index, &batch, &cut, Driver::Locked, gate)?)
+    Ok(run_batch(rt, alloc, index, &batch, &cut, driver, gate)?)
 }
 
 // The insertions of the keys from one to another, each with ten times the key.
@@ -36,79 +40,97 @@ fn insertions(alloc: Global, from: u64, to: u64) -> Result<Vec<Op>, Fail> {
 }
 
 // The index of the keys 1 to this one, inserted in order as one batch by one worker.
-fn index_to<R: Threads + Wait + Sync>(rt: &R, alloc: Global, last: u64) -> Result<Index, Fail> {
+fn index_to<R: Threads + Wait + Sync>(
+    rt: &R,
+    alloc: Global,
+    driver: Driver,
+    last: u64,
+) -> Result<Index, Fail> {
     let mut index = Index::new(alloc, 4)?;
-    run_with(
-        rt,
-        alloc,
-        &mut index,
-        &insertions(alloc, 1, last)?,
-        1,
-        &Open,
-    )?;
+    let ops = insertions(alloc, 1, last)?;
+    run_with(rt, alloc, driver, &mut index, &ops, 1, &Open)?;
     Ok(index)
 }
 
 #[test]
 fn a_batch_runs_by_two_workers(rt: HostRuntime) -> Result<(), Fail> {
     let alloc = rt.alloc();
-    let mut index = index_to(&rt, alloc, 4)?;
     let ops = [Op::Insert(5, 50), Op::Find(4)];
-    let answers = run_with(&rt, alloc, &mut index, &ops, 2, &Open)?;
     let expected = [Answer::Inserted, Answer::Found(40)];
-    assert_eq!(rt; answers.as_slice(), expected.as_slice());
-    assert_eq!(rt; index.page_count(), 3);
     let dump =
         "1 3 - 18446744073709551615 - 3:1 18446744073709551615:2\n0 1 - 3 2 1:10 2:20 3:30\n0 2 3 18446744073709551615 - 4:40 5:50\n";
-    assert_eq!(rt; index.dump(alloc)?.as_str(), dump);
+    for driver in DRIVERS {
+        let mut index = index_to(&rt, alloc, driver, 4)?;
+        let answers = run_with(&rt, alloc, driver, &mut index, &ops, 2, &Open)?;
+        assert_eq!(rt; answers.as_slice(), expected.as_slice());
+        assert_eq!(rt; index.page_count(), 3);
+        assert_eq!(rt; index.dump(alloc)?.as_str(), dump);
+    }
     Ok(())
 }
 
-// A run that built a new tree from the plain map would number its pages, and fill them, in another way.
+// A run that built a new tree from the plain map would fill its pages in another way. The numbers tell the drivers apart: the
+// steps give them in the order in which pages come to be, and a table that closes gives them level by level, the leaves first.
 #[test]
 fn the_pages_are_those_of_the_steps(rt: HostRuntime) -> Result<(), Fail> {
     let alloc = rt.alloc();
-    let mut index = index_to(&rt, alloc, 13)?;
-    let root = "1 3 - 18446744073709551615 - 3:1 6:2 9:4 18446744073709551615:5\n";
-    assert!(rt;
-        index.dump(alloc)?.as_str().starts_with(root),
-        "the root of 13 keys"
-    );
-    run_with(&rt, alloc, &mut index, &[Op::Insert(14, 140)], 1, &Open)?;
-    let top = "2 8 - 18446744073709551615 - 9:3 18446744073709551615:7\n1 3 - 9 7 3:1 6:2 9:4\n";
-    assert!(rt;
-        index.dump(alloc)?.as_str().starts_with(top),
-        "the levels above 14 keys"
-    );
+    for (driver, top) in [
+        (
+            Driver::Locked,
+            "2 8 - 18446744073709551615 - 9:3 18446744073709551615:7\n1 3 - 9 7 3:1 6:2 9:4\n",
+        ),
+        (
+            Driver::Live,
+            "2 8 - 18446744073709551615 - 9:6 18446744073709551615:7\n1 6 - 9 7 3:1 6:2 9:3\n",
+        ),
+    ] {
+        let index = index_to(&rt, alloc, driver, 14)?;
+        assert!(rt;
+            index.dump(alloc)?.as_str().starts_with(top),
+            "the levels above 14 keys"
+        );
+    }
     Ok(())
 }
 
 #[test]
 fn a_leaf_emptied_by_deletions_stays(rt: HostRuntime) -> Result<(), Fail> {
     let alloc = rt.alloc();
-    let mut index = index_to(&rt, alloc, 5)?;
     let ops = [Op::Delete(1), Op::Delete(2), Op::Delete(3), Op::Find(3)];
-    let answers = run_with(&rt, alloc, &mut index, &ops, 1, &Open)?;
     let expected = [
         Answer::Removed(10),
         Answer::Removed(20),
         Answer::Removed(30),
         Answer::Absent,
     ];
-    assert_eq!(rt; answers.as_slice(), expected.as_slice());
     let dump =
         "1 3 - 18446744073709551615 - 3:1 18446744073709551615:2\n0 1 - 3 2\n0 2 3 18446744073709551615 - 4:40 5:50\n";
-    assert_eq!(rt; index.dump(alloc)?.as_str(), dump);
+    for driver in DRIVERS {
+        let mut index = index_to(&rt, alloc, driver, 5)?;
+        let answers = run_with(&rt, alloc, driver, &mut index, &ops, 1, &Open)?;
+        assert_eq!(rt; answers.as_slice(), expected.as_slice());
+        assert_eq!(rt; index.dump(alloc)?.as_str(), dump);
+    }
     Ok(())
 }
 
 #[test]
 fn sixty_three_workers_have_nothing_to_do(rt: HostRuntime) -> Result<(), Fail> {
     let alloc = rt.alloc();
-    let mut index = Index::new(alloc, 4)?;
-    let answers = run_with(&rt, alloc, &mut index, &[Op::Insert(7, 70)], 64, &Open)?;
-    assert_eq!(rt; answers.as_slice(), [Answer::Inserted].as_slice());
-    assert_eq!(rt; index.find(7), Some(70));
+    for driver in DRIVERS {
+        let mut index = Index::new(alloc, 4)?;
+        let answers = run_with(
+            &rt,
+            alloc,
+            driver,
+            &mut index,
+            &[Op::Insert(7, 70)],
+            64,
+            &Open,
+        )?;
+        assert_eq!(rt; answers.as_slice(), [Answer::Inserted].as_slice());
+        assert_eq!(rt; index.find(7), Some(70));
+    }
     Ok(())
 }
 
@@ -116,21 +138,17 @@ fn sixty_three_workers_have_nothing_to_do(rt: HostRuntime) -> Result<(), Fail> {
 #[test]
 fn many_workers_lose_no_key(rt: HostRuntime) -> Result<(), Fail> {
     let alloc = rt.alloc();
-    let mut index = Index::new(alloc, 4)?;
-    let answers = run_with(
-        &rt,
-        alloc,
-        &mut index,
-        &insertions(alloc, 1, 400)?,
-        8,
-        &Open,
-    )?;
-    assert!(rt;
-        answers.iter().all(|answer| *answer == Answer::Inserted),
-        "all inserted"
-    );
-    for key in 1..=400u64 {
-        assert_eq!(rt; index.find(key), Some(key.wrapping_mul(10)));
+    let ops = insertions(alloc, 1, 400)?;
+    for driver in DRIVERS {
+        let mut index = Index::new(alloc, 4)?;
+        let answers = run_with(&rt, alloc, driver, &mut index, &ops, 8, &Open)?;
+        assert!(rt;
+            answers.iter().all(|answer| *answer == Answer::Inserted),
+            "all inserted"
+        );
+        for key in 1..=400u64 {
+            assert_eq!(rt; index.find(key), Some(key.wrapping_mul(10)));
+        }
     }
     Ok(())
 }
@@ -138,10 +156,12 @@ fn many_workers_lose_no_key(rt: HostRuntime) -> Result<(), Fail> {
 #[test]
 fn an_empty_batch_changes_nothing(rt: HostRuntime) -> Result<(), Fail> {
     let alloc = rt.alloc();
-    let mut index = index_to(&rt, alloc, 5)?;
-    let answers = run_with(&rt, alloc, &mut index, &[], 3, &Open)?;
-    assert_eq!(rt; answers.len(), 0);
-    assert_eq!(rt; index.page_count(), 3);
+    for driver in DRIVERS {
+        let mut index = index_to(&rt, alloc, driver, 5)?;
+        let answers = run_with(&rt, alloc, driver, &mut index, &[], 3, &Open)?;
+        assert_eq!(rt; answers.len(), 0);
+        assert_eq!(rt; index.page_count(), 3);
+    }
     Ok(())
 }
 
@@ -171,18 +191,20 @@ impl Gate for Meeting {
 #[test]
 fn two_workers_run_at_once(rt: HostRuntime) -> Result<(), Fail> {
     let alloc = rt.alloc();
-    let mut index = Index::new(alloc, 4)?;
-    let meeting = Meeting {
-        come: [AtomicU64::new(0), AtomicU64::new(0)],
-        alone: AtomicU64::new(0),
-    };
     let ops = [Op::Insert(1, 10), Op::Insert(2, 20)];
-    let answers = run_with(&rt, alloc, &mut index, &ops, 2, &meeting)?;
-    assert_eq!(rt; meeting.alone.load(Ordering::SeqCst), 0);
-    assert_eq!(rt;
-        answers.as_slice(),
-        [Answer::Inserted, Answer::Inserted].as_slice()
-    );
+    for driver in DRIVERS {
+        let mut index = Index::new(alloc, 4)?;
+        let meeting = Meeting {
+            come: [AtomicU64::new(0), AtomicU64::new(0)],
+            alone: AtomicU64::new(0),
+        };
+        let answers = run_with(&rt, alloc, driver, &mut index, &ops, 2, &meeting)?;
+        assert_eq!(rt; meeting.alone.load(Ordering::SeqCst), 0);
+        assert_eq!(rt;
+            answers.as_slice(),
+            [Answer::Inserted, Answer::Inserted].as_slice()
+        );
+    }
     Ok(())
 }
 
@@ -206,21 +228,17 @@ impl Gate for Passed {
 #[test]
 fn each_operation_passes_the_gate_twice(rt: HostRuntime) -> Result<(), Fail> {
     let alloc = rt.alloc();
-    let mut index = Index::new(alloc, 4)?;
-    let passed = Passed {
-        before: AtomicU64::new(0),
-        after: AtomicU64::new(0),
-    };
-    run_with(
-        &rt,
-        alloc,
-        &mut index,
-        &insertions(alloc, 1, 10)?,
-        3,
-        &passed,
-    )?;
-    assert_eq!(rt; passed.before.load(Ordering::SeqCst), 10);
-    assert_eq!(rt; passed.after.load(Ordering::SeqCst), 10);
+    let ops = insertions(alloc, 1, 10)?;
+    for driver in DRIVERS {
+        let mut index = Index::new(alloc, 4)?;
+        let passed = Passed {
+            before: AtomicU64::new(0),
+            after: AtomicU64::new(0),
+        };
+        run_with(&rt, alloc, driver, &mut index, &ops, 3, &passed)?;
+        assert_eq!(rt; passed.before.load(Ordering::SeqCst), 10);
+        assert_eq!(rt; passed.after.load(Ordering::SeqCst), 10);
+    }
     Ok(())
 }
 

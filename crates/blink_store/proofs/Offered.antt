@@ -3,6 +3,6 @@
 -- which numbers have a page, and what a write makes of the pages
 pub use Rattle.blink_store.proofs.PagesByNumber.{has_page, page_there, pages-write, pages-add}
 -- what stands at a place of a list after a change
-pub use Rattle.blink_store.proofs.ChangedLists.{slice_get-set_same, slice_get-set_other, slice_get-push_same, slice_get-push_other}
+pub use Rattle.blink_store.proofs.ChangedLists.{slice_get-set_same, slice_get-set_other, slice_get-push_same, slice_get-push_other, same_at_each}
 -- who holds a page
 pub use Rattle.blink_store.proofs.HoldersOfPages.{some_or_none, holder_of-holds, nobody, one_page_each}

@@ -22,7 +22,7 @@ option_or name default = record (option name) { defaults = default ∷ [] }
 abbrev pub with_sizes : App → App
 with_sizes app = with_rule (with_rule app (option_or (codes "workers") (codes "4"))) (option_or (codes "fan") (codes "16"))
 
--- `run [--workers N] [--fan F] [--cut residue|ranges] [--driver locked]`
+-- `run [--workers N] [--fan F] [--cut residue|ranges] [--driver locked|live]`
 abbrev pub run : App
 run = with_rule (with_rule (with_sizes (new_app (codes "run"))) (option_or (codes "cut") (codes "residue"))) (option_or (codes "driver") (codes "locked"))
 

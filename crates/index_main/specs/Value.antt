@@ -7,7 +7,7 @@ use Rattle.blink_batch.specs.Number.{number_of}
 use Rattle.blink_batch.specs.declared.cut.TheConstants.{WORKER_LIMIT}
 use Rattle.blink_page.specs.declared.limits.TheConstants.{MIN_FAN, MAX_FAN}
 use Rattle.blink_run.specs.declared.run.Driver.{Driver}
-use Rattle.blink_run.specs.declared.run.Driver.TheVariants.{Locked}
+use Rattle.blink_run.specs.declared.run.Driver.TheVariants.{Locked, Live}
 use Rattle.blink_run.specs.declared.settings.CutKind.{CutKind}
 use Rattle.blink_run.specs.declared.settings.CutKind.TheVariants.{Residue, Ranges}
 
@@ -37,7 +37,7 @@ cut_of text = if bytes_eq text (codes "residue") then Some Residue else if bytes
 
 -- the driver of this name
 abbrev pub driver_of : Text → Option Driver
-driver_of text = if bytes_eq text (codes "locked") then Some Locked else None
+driver_of text = if bytes_eq text (codes "locked") then Some Locked else if bytes_eq text (codes "live") then Some Live else None
 
 -- the texts between the commas
 abbrev pub parts_of : Text → List Text

@@ -98,9 +98,9 @@ fn driver_option<'a>(alloc: Global) -> Arg<'a>
     ensures rule { rule_of result ≡ option_or (codes "driver") (codes "locked") }
     ensures local { result.global ≡ false }
 {
-    option(alloc, "driver", "locked")
+    option(alloc, "driver", "locked|live")
         .default_value("locked")
-        .help("How workers share the tree: each step under one lock (locked)")
+        .help("How workers share the tree: each step under one lock (locked) or without one (live)")
 }
 
 fn schedule_option<'a>(alloc: Global) -> Arg<'a>

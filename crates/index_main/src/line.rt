@@ -52,7 +52,7 @@ impl LineError {
 }
 
 /// What the words of a command line ask for, the program's name first, as `clap` reads them:
-/// `blink run [--workers N] [--fan F] [--cut residue|ranges] [--driver locked]` or
+/// `blink run [--workers N] [--fan F] [--cut residue|ranges] [--driver locked|live]` or
 /// `blink replay [--workers N] [--fan F] [--schedule S]`. Numbers are spelled as in scripts. A replay cuts by remainders
 /// and takes its steps under one lock.
 pub fn read_line(alloc: Global, words: &[&str]) -> Result<Line, LineError>

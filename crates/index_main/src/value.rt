@@ -44,6 +44,8 @@ pub fn driver_of(text: &str) -> Option<Driver>
 {
     if text == "locked" {
         Some(Driver::Locked)
+    } else if text == "live" {
+        Some(Driver::Live)
     } else {
         None
     }

@@ -16,6 +16,10 @@ fn locked(workers: u8, fan: u8, cut: CutKind) -> Result<Settings, Fail> {
     Ok(Settings::new(workers, fan, cut, Driver::Locked)?)
 }
 
+fn live(workers: u8, fan: u8, cut: CutKind) -> Result<Settings, Fail> {
+    Ok(Settings::new(workers, fan, cut, Driver::Live)?)
+}
+
 // Whether this value of an option is refused as a bad one.
 fn is_bad_value(alloc: Global, subcommand: &str, option: &str, value: &str) -> Result<bool, Fail> {
     let text = refused(alloc, &["blink", subcommand, option, value])?;
@@ -34,31 +38,42 @@ fn defaults(rt: HostRuntime) -> Result<(), Fail> {
 #[test]
 fn runs(rt: HostRuntime) -> Result<(), Fail> {
     let cases = [
-        ("--workers", "1", 1, 16, CutKind::Residue),
-        ("--workers", "64", 64, 16, CutKind::Residue),
-        ("--fan", "4", 4, 4, CutKind::Residue),
-        ("--fan", "16", 4, 16, CutKind::Residue),
-        ("--cut", "residue", 4, 16, CutKind::Residue),
-        ("--cut", "ranges", 4, 16, CutKind::Ranges),
-        ("--driver", "locked", 4, 16, CutKind::Residue),
+        ("--workers", "1", locked(1, 16, CutKind::Residue)?),
+        ("--workers", "64", locked(64, 16, CutKind::Residue)?),
+        ("--fan", "4", locked(4, 4, CutKind::Residue)?),
+        ("--fan", "16", locked(4, 16, CutKind::Residue)?),
+        ("--cut", "residue", locked(4, 16, CutKind::Residue)?),
+        ("--cut", "ranges", locked(4, 16, CutKind::Ranges)?),
+        ("--driver", "locked", locked(4, 16, CutKind::Residue)?),
+        ("--driver", "live", live(4, 16, CutKind::Residue)?),
     ];
-    for (option, value, workers, fan, cut) in cases {
+    for (option, value, settings) in cases {
         let line = read_line(rt.alloc(), &["blink", "run", option, value])?;
+        assert!(rt; line == Line::Run(settings), "{option} {value}");
+    }
+    Ok(())
+}
+
+#[test]
+fn several_options_at_once(rt: HostRuntime) -> Result<(), Fail> {
+    let cases = [
+        ("--driver=locked", locked(10, 5, CutKind::Ranges)?),
+        ("--driver=live", live(10, 5, CutKind::Ranges)?),
+    ];
+    for (driver, settings) in cases {
+        let words = [
+            "blink",
+            "run",
+            "--cut=ranges",
+            "--fan=5",
+            driver,
+            "--workers=10",
+        ];
         assert!(rt;
-            line == Line::Run(locked(workers, fan, cut)?),
-            "{option} {value}"
+            read_line(rt.alloc(), &words)? == Line::Run(settings),
+            "{driver}"
         );
     }
-    let words = [
-        "blink",
-        "run",
-        "--cut=ranges",
-        "--fan=5",
-        "--driver=locked",
-        "--workers=10",
-    ];
-    let settings = locked(10, 5, CutKind::Ranges)?;
-    assert!(rt; read_line(rt.alloc(), &words)? == Line::Run(settings));
     Ok(())
 }
 
@@ -119,7 +134,7 @@ fn values_that_are_refused(rt: HostRuntime) -> Result<(), Fail> {
         (
             "run",
             "--driver",
-            ["x", "live", "Locked", "lock", "0", ""].as_slice(),
+            ["x", "Live", "Locked", "lock", "locked|live", "0", ""].as_slice(),
         ),
         ("replay", "--workers", ["0", "65", "05", ""].as_slice()),
         ("replay", "--fan", ["3", "17", "04", ""].as_slice()),
@@ -225,7 +240,7 @@ Options:
       --workers <N>           How many workers share the work, 1 to 64 [default: 4]
       --fan <F>               How many entries a page has at most, 4 to 16 [default: 16]
       --cut <residue|ranges>  How keys go to workers: by their remainders (residue) or by equal ranges (ranges) [default: residue]
-      --driver <locked>       How workers share the tree: each step under one lock (locked) [default: locked]
+      --driver <locked|live>  How workers share the tree: each step under one lock (locked) or without one (live) [default: locked]
   -h, --help                  Print help
 ";
     assert_eq!(rt; text.as_str(), expected);

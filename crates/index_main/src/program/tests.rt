@@ -1,24 +1,35 @@
 use super::carry_out;
-use crate::line::Line;
+use crate::end::{End, ProgramError, end_of};
+use crate::line::{Line, read_line};
 use blink_run::{CutKind, Driver, ServeError, Settings};
 use std::alloc::Global;
 use std::io;
 use std::io::{BufWriter, Write};
+use std::sync::Wait;
 use std::test::Fail;
+use std::thread::Threads;
 
-fn settings() -> Result<Settings, Fail> {
-    Ok(Settings::new(2, 4, CutKind::Residue, Driver::Locked)?)
+fn settings(driver: Driver) -> Result<Settings, Fail> {
+    Ok(Settings::new(2, 4, CutKind::Residue, driver)?)
 }
 
 // What has left the buffer is all that is written.
 #[test]
 fn all_lines_leave_the_program(rt: HostRuntime) -> Result<(), Fail> {
     let alloc = rt.alloc();
+    let run = "inserted\nend 0\nfound 50\n";
+    let replay = "1 P\n0 idle\ninserted\nend 0\nfound 50\n0 1 - 18446744073709551615 - 5:50\n";
+    let schedule = [1, 0].as_slice();
     let cases = [
-        (Line::Run(settings()?), "inserted\nend 0\nfound 50\n"),
+        (Line::Run(settings(Driver::Locked)?), run),
+        (Line::Run(settings(Driver::Live)?), run),
         (
-            Line::Replay(settings()?, vec![in alloc; 1, 0]?),
-            "1 P\n0 idle\ninserted\nend 0\nfound 50\n0 1 - 18446744073709551615 - 5:50\n",
+            Line::Replay(settings(Driver::Locked)?, schedule.to_vec(alloc)?),
+            replay,
+        ),
+        (
+            Line::Replay(settings(Driver::Live)?, schedule.to_vec(alloc)?),
+            replay,
         ),
     ];
     for (line, expected) in cases {
@@ -27,6 +38,92 @@ fn all_lines_leave_the_program(rt: HostRuntime) -> Result<(), Fail> {
         let end = carry_out(&rt, alloc, &line, &mut script, &mut output);
         assert!(rt; end.is_ok());
         assert_eq!(rt; output.get_ref().as_slice(), expected.as_bytes());
+    }
+    Ok(())
+}
+
+// What leaves the program where a script is run by this driver, and how the program ends.
+fn run_by<T: Threads + Wait + Sync>(
+    rt: &T,
+    alloc: Global,
+    workers: &str,
+    driver: &str,
+    script: &str,
+) -> Result<(Vec<u8>, End), Fail> {
+    let words = [
+        "blink",
+        "run",
+        "--workers",
+        workers,
+        "--fan",
+        "4",
+        "--driver",
+        driver,
+    ];
+    let line = read_line(alloc, &words)?;
+    let mut text = script.as_bytes();
+    let mut output = BufWriter::new(alloc, Vec::new(alloc))?;
+    let outcome = carry_out(rt, alloc, &line, &mut text, &mut output);
+    let written = output.get_ref().to_vec(alloc)?;
+    Ok((written, end_of(alloc, outcome.map_err(ProgramError::Serve))))
+}
+
+#[test]
+fn each_driver_writes_the_answers(rt: HostRuntime) -> Result<(), Fail> {
+    let cases = [
+        ("insert,5,50\nfind,5,\n", "inserted\nfound 50\n"),
+        ("", ""),
+        (
+            "insert,0,1\ninsert,18446744073709551615,2\nscan,0,18446744073709551615\n",
+            "inserted\ninserted\n0 1\n18446744073709551615 2\nend 2\n",
+        ),
+        (
+            "insert,7,1\ninsert,7,2\nfind,7,\n",
+            "inserted\nexists 1\nfound 1\n",
+        ),
+        (
+            "insert,7,1\ndelete,7,\ndelete,7,\ninsert,7,3\nfind,7,\n",
+            "inserted\nremoved 1\nabsent\ninserted\nfound 3\n",
+        ),
+        (
+            "insert,5,50\nscan,9,1\nscan,0,9\ninsert,6,60\n",
+            "inserted\nend 0\n5 50\nend 1\ninserted\n",
+        ),
+        // A leaf of four entries splits, and the next batch finds what each half has.
+        (
+            "insert,1,10\ninsert,2,20\ninsert,3,30\ninsert,4,40\ninsert,5,50\nscan,2,4\ndelete,3,\nfind,5,\n",
+            "inserted\ninserted\ninserted\ninserted\ninserted\n2 20\n3 30\n4 40\nend 3\nremoved 30\nfound 50\n",
+        ),
+    ];
+    for driver in ["locked", "live"] {
+        for workers in ["1", "2", "64"] {
+            for (script, expected) in cases {
+                let (output, end) = run_by(&rt, rt.alloc(), workers, driver, script)?;
+                assert_eq!(rt; (end.status, end.lines()), (0, None), "{driver} {script}");
+                assert_eq!(rt; output.as_slice(), expected.as_bytes(), "{driver} {script}");
+            }
+        }
+    }
+    Ok(())
+}
+
+#[test]
+fn each_driver_refuses_what_is_no_script(rt: HostRuntime) -> Result<(), Fail> {
+    let cases = [
+        ("insert,05,1\n", "script: row 1: bad number"),
+        (
+            "insert,18446744073709551616,1\n",
+            "script: row 1: bad number",
+        ),
+        ("find,5,1\n", "script: row 1: bad shape"),
+        ("put,1,1\n", "script: row 1: unknown operation"),
+    ];
+    for driver in ["locked", "live"] {
+        for (script, expected) in cases {
+            let (output, end) = run_by(&rt, rt.alloc(), "4", driver, script)?;
+            assert_eq!(rt; (end.status, end.lines()), (3, Some(expected)), "{driver}");
+            assert_eq!(rt; output.len(), 0, "{driver} {script}");
+        }
     }
     Ok(())
 }
@@ -49,8 +146,9 @@ impl Write for Full {
 fn a_full_disk_is_told(rt: HostRuntime) -> Result<(), Fail> {
     let alloc: Global = rt.alloc();
     for line in [
-        Line::Run(settings()?),
-        Line::Replay(settings()?, Vec::new(alloc)),
+        Line::Run(settings(Driver::Locked)?),
+        Line::Run(settings(Driver::Live)?),
+        Line::Replay(settings(Driver::Locked)?, Vec::new(alloc)),
     ] {
         let mut script = b"insert,5,50\n".as_slice();
         let mut output = BufWriter::new(alloc, Full)?;

@@ -1,0 +1,15 @@
+-- Each lane so far has its run, and the keeper has dealt these lanes and has enough left for the others.
+use Rattle.std.proofs.Common.{◌≡◌, ◌≤◌, ℕ, Some, vec_len, vec_capacity}
+use Rattle.std.specs.List.{slice_get}
+use Rattle.blink_run.specs.declared.live.lane.LaneRun.{LaneRun}
+use Rattle.blink_run.specs.Lanes.{MayRun, lane_ops}
+use Rattle.blink_run.proofs.LanesAreDealt.{HasDealtBefore}
+use Rattle.blink_run.proofs.live.dealing.deal_all.Given as goal
+
+abbrev pub invariant-loop-worker : goal.invariant-loop-worker
+invariant-loop-worker l = record {
+  dealt : HasDealtBefore l.live l.batch l.cut.lanes l.worker l.keeper;
+  as_many : vec_len l.runs ≡ l.worker;
+  each : (worker : ℕ) (run : LaneRun) → slice_get l.runs.items worker ≡ Some run → MayRun l.live (lane_ops l.batch l.cut.lanes worker) run;
+  room : l.cut.workers ≤ vec_capacity l.runs;
+}

@@ -1,0 +1,9 @@
+-- The run has done the lane's operations before this place.
+use Rattle.blink_run.proofs.LaneRuns.{HasDone}
+use Rattle.blink_run.proofs.LaneSoFar.{lane_so_far}
+use Rattle.blink_run.proofs.live.lane.LaneRun.to_end.Given as goal
+
+abbrev pub invariant-loop-place : goal.invariant-loop-place
+invariant-loop-place g l = record {
+  done : HasDone l.live (lane_so_far l.batch l.lanes l.worker l.place) l.fn.self l.self;
+}

@@ -1,0 +1,119 @@
+-- What workers' lanes do at a table of words, each with a pass of its own.
+use Rattle.std.specs.Prelude.{◌≡◌, ◌↔◌, ℕ, ◌+◌, ◌<◌, ◌≤◌, Some, List, [], ◌∷◌, length, Bool, true, false, Contains, count_by, slice_get, take, vec_capacity, vec_len}
+use Rattle.blink_batch.specs.declared.Answer.{Answer}
+use Rattle.blink_batch.specs.declared.Entry.{Entry}
+use Rattle.blink_batch.specs.declared.Op.{Op}
+use Rattle.blink_batch.specs.declared.Op.TheVariants.{Find, Insert, Delete}
+use Rattle.blink_batch.specs.Batch.{is_insert}
+use Rattle.blink_batch.specs.Operation.{answers, key_of, map_after, map_after_all}
+use Rattle.blink_batch.specs.Order.{lane_of, operations_at, part_of, places_from}
+use Rattle.blink_batch.specs.PlainMap.{pointer_of}
+use Rattle.blink_live.specs.declared.Keeper.{Keeper}
+use Rattle.blink_live.specs.declared.Live.{Live}
+use Rattle.blink_live.specs.declared.Pass.{Pass}
+use Rattle.blink_live.specs.Allowed.{inserts_left, deletes_left}
+use Rattle.blink_live.specs.Deals.{NoneIsTaken}
+use Rattle.blink_live.specs.Handles.{IsKeeperOf, IsPassOf, keys_of, opening_of, passes_dealt, share_of, taken_of}
+use Rattle.blink_run.specs.declared.live.lane.LaneRun.{LaneRun}
+use Rattle.blink_run.specs.declared.live.needs.Needs.{Needs}
+
+abbrev pub is_delete : Op → Bool
+is_delete (Find key) = false
+is_delete (Insert key pointer) = false
+is_delete (Delete key) = true
+
+-- ---- a lane
+
+-- the operations of a worker's lane, in their order
+abbrev pub lane_ops : List Op → List ℕ → ℕ → List Op
+lane_ops ops lanes worker = operations_at ops (lane_of lanes worker)
+
+-- how many operations of the lane stand before the place
+abbrev pub rank_in_lane : List ℕ → ℕ → ℕ → ℕ
+rank_in_lane lanes worker place = length (part_of lanes worker (take place (places_from 0 lanes)))
+
+-- the key is that of one of these operations
+abbrev pub IsKeyOfOne : List Op → ℕ → Type 0
+IsKeyOfOne ops key = (op : Op) × Contains ops op × (key_of op ≡ key)
+
+-- ---- what a lane is dealt
+
+-- the keys of the operations, each once, how many operations there are, and how many insertions and deletions of them
+pub record IsNeeded (ops : List Op) (needs : Needs) : Type 0 where
+  pub keys : (key : ℕ) → Contains needs.keys.items key ↔ IsKeyOfOne ops key
+  pub each_once : NoneIsTaken [] needs.keys.items
+  pub as_many : needs.operations ≡ length ops
+  pub inserts : needs.inserts ≡ count_by is_insert ops
+  pub deletes : needs.deletes ≡ count_by is_delete ops
+
+-- the keeper has dealt nothing, and has room for these operations' insertions and deletions
+pub record IsNewKeeper (live : Live) (ops : List Op) (keeper : Keeper) : Type 0 where
+  pub its_own : IsKeeperOf live keeper
+  pub none_taken : taken_of keeper ≡ []
+  pub none_dealt : passes_dealt keeper ≡ 0
+  pub inserts : count_by is_insert ops ≤ inserts_left keeper.pages
+  pub deletes : count_by is_delete ops ≤ deletes_left keeper.pages keeper.rows
+
+-- it has dealt a pass to each of so many workers, and no key but those of the operations
+pub record HasDealtAll (live : Live) (ops : List Op) (workers : ℕ) (keeper : Keeper) : Type 0 where
+  pub its_own : IsKeeperOf live keeper
+  pub taken : (key : ℕ) → Contains (taken_of keeper) key → IsKeyOfOne ops key
+  pub dealt : passes_dealt keeper ≡ workers
+
+-- ---- a lane's run
+
+-- the pass has the operations' keys, each with what the opened entries have, and enough insertions and deletions; none is
+-- answered yet, and there is room for each answer
+pub record MayRun (live : Live) (ops : List Op) (run : LaneRun) : Type 0 where
+  pub its_own : IsPassOf live run.pass
+  pub keys : (key : ℕ) → Contains (keys_of run.pass) key ↔ IsKeyOfOne ops key
+  pub share : (key : ℕ) → Contains (keys_of run.pass) key → pointer_of (share_of run.pass) key ≡ pointer_of (opening_of live) key
+  pub inserts : count_by is_insert ops ≤ inserts_left run.pass.pages
+  pub deletes : count_by is_delete ops ≤ deletes_left run.pass.pages run.pass.rows
+  pub none_yet : run.answers.items ≡ []
+  pub room : length ops ≤ vec_capacity run.answers
+
+-- the pass has those keys, and began with a share of them; the answers are the operations' on it, and it is as they leave it
+pub record HasRun (live : Live) (ops : List Op) (run : LaneRun) : Type 0 where
+  pub its_own : IsPassOf live run.pass
+  pub keys : (key : ℕ) → Contains (keys_of run.pass) key ↔ IsKeyOfOne ops key
+  pub share : List Entry
+  pub began : (key : ℕ) → Contains (keys_of run.pass) key → pointer_of share key ≡ pointer_of (opening_of live) key
+  pub answers_are : run.answers.items ≡ answers share ops
+  pub ended : share_of run.pass ≡ map_after_all share ops
+
+-- ---- an operation of a lane
+
+-- the pass has the operation's key, and an insertion or deletion for it where it is one, and there is room for the answer
+pub record CanRun (live : Live) (op : Op) (run : LaneRun) : Type 0 where
+  pub its_own : IsPassOf live run.pass
+  pub key : Contains (keys_of run.pass) (key_of op)
+  pub inserts : count_by is_insert (op ∷ []) ≤ inserts_left run.pass.pages
+  pub deletes : count_by is_delete (op ∷ []) ≤ deletes_left run.pass.pages run.pass.rows
+  pub room : vec_len run.answers < vec_capacity run.answers
+
+-- the pass after the operation: its plain map is changed by it, and it has used one insertion or deletion where the operation is one
+pub record IsPassAfter (live : Live) (op : Op) (old new : Pass) : Type 0 where
+  pub its_own : IsPassOf live new
+  pub same_keys : keys_of new ≡ keys_of old
+  pub share : share_of new ≡ map_after (share_of old) op
+  pub inserts : inserts_left new.pages + count_by is_insert (op ∷ []) ≡ inserts_left old.pages
+  pub deletes : deletes_left new.pages new.rows + count_by is_delete (op ∷ []) ≡ deletes_left old.pages old.rows
+
+-- ---- all lanes
+
+-- there is a run for each of so many workers, and each lane's may begin
+pub record MayRunAll (live : Live) (ops : List Op) (workers : ℕ) (lanes : List ℕ) (runs : List LaneRun) : Type 0 where
+  pub as_many : length runs ≡ workers
+  pub each : (worker : ℕ) (run : LaneRun) → slice_get runs worker ≡ Some run → MayRun live (lane_ops ops lanes worker) run
+
+-- and each has ended
+pub record HaveRun (live : Live) (ops : List Op) (workers : ℕ) (lanes : List ℕ) (runs : List LaneRun) : Type 0 where
+  pub as_many : length runs ≡ workers
+  pub each : (worker : ℕ) (run : LaneRun) → slice_get runs worker ≡ Some run → HasRun live (lane_ops ops lanes worker) run
+
+-- each place has the answer that its lane's run has for it
+pub record AreGathered (lanes : List ℕ) (runs : List LaneRun) (given : List Answer) : Type 0 where
+  pub one_each : length given ≡ length lanes
+  pub each : (place worker : ℕ) (run : LaneRun) → slice_get lanes place ≡ Some worker → slice_get runs worker ≡ Some run
+      → slice_get given place ≡ slice_get run.answers.items (rank_in_lane lanes worker place)

@@ -1,0 +1,95 @@
+//! A batch's run on an index by threads that share a table of words, without a lock.
+ghost use Rattle.std.specs.Prelude.{◌≡◌, ◌↔◌, count_by, IfOk, IsErrOf, OnErr};
+ghost use Rattle.blink_batch.specs.Cut.{IsLawfulCut};
+ghost use Rattle.blink_batch.specs.Operation.{answers, map_after_all};
+ghost use Rattle.blink_batch.specs.Batch.{is_insert};
+ghost use Rattle.blink_batch.specs.PlainMap.{IsAscending};
+ghost use Rattle.blink_index.specs.Index.{map_of};
+ghost use Rattle.blink_run.specs.Lanes.{is_delete};
+ghost use Rattle.blink_steps.specs.World.{IsTooLarge};
+
+mod dealing;
+mod gathering;
+mod lane;
+mod needs;
+mod threads;
+
+use crate::error::RunError;
+use crate::gate::Gate;
+use blink_batch::{Answer, Batch, Cut, Op};
+use blink_index::Index;
+use blink_live::{Live, LiveError};
+use blink_rows::Allowance;
+use dealing::deal_all;
+use gathering::{gathered, passes_of};
+use std::alloc::Global;
+use std::sync::Wait;
+use std::thread::Threads;
+use threads::run_all;
+
+/// Runs it at a table of words, each lane with a pass of its own.
+pub(crate) fn run_live<R: Threads + Wait + Sync, G: Gate + Sync>(
+    rt: &R,
+    alloc: Global,
+    index: &mut Index,
+    batch: &Batch,
+    cut: &Cut,
+    gate: &G,
+) -> Result<Vec<Answer>, RunError>
+    requires cut { IsLawfulCut batch.now cut.now.workers cut.now.lanes }
+    ensures answers { IfOk result (λ given. given.items ≡ answers (map_of index.old) batch.now) }
+    ensures map { IfOk result
+        (λ given. map_of index.new ≡ map_after_all (map_of index.old) batch.now) }
+    ensures too_large { IsErrOf result RunError.TooLarge ↔ IsTooLarge index.old batch.now }
+    ensures unchanged { OnErr result (index.new ≡ index.old) }
+{
+    let (live, mut keeper) = match Live::open(alloc, index, allowance_of(batch)) {
+        Ok(opened) => opened,
+        Err(LiveError::TooLarge) => return Err(RunError::TooLarge),
+        Err(_) => return Err(RunError::OutOfMemory),
+    };
+    let Ok(runs) = deal_all(alloc, &live, &mut keeper, batch, cut) else {
+        return Err(RunError::OutOfMemory);
+    };
+    let ended = run_all(rt, alloc, &live, gate, batch, cut, runs)?;
+    let Ok(answers) = gathered(alloc, cut, &ended) else {
+        return Err(RunError::OutOfMemory);
+    };
+    let Ok(passes) = passes_of(alloc, ended) else {
+        return Err(RunError::OutOfMemory);
+    };
+    match live.close(alloc, keeper, passes) {
+        Ok(closed) => {
+            entries_ascend(index);
+            entries_ascend(&closed);
+            *index = closed;
+            Ok(answers)
+        }
+        Err(LiveError::OutOfMemory) => Err(RunError::OutOfMemory),
+        Err(_) => unreachable!(),
+    }
+}
+
+// How many insertions and deletions the batch has.
+fn allowance_of(batch: &Batch) -> Allowance
+    ensures inserts { result.inserts ≡ count_by is_insert batch.now }
+    ensures deletes { result.deletes ≡ count_by is_delete batch.now }
+{
+    let mut deletes = 0;
+    for op in batch.ops() {
+        if let Op::Delete(_) = op {
+            deletes += 1;
+        }
+    }
+    Allowance {
+        inserts: batch.inserts() as u32,
+        deletes,
+    }
+}
+
+// Read for the proof: the entries of an index ascend.
+fn entries_ascend(index: &Index)
+    ensures { IsAscending (map_of index.now) }
+{
+    let _tree = index.rest();
+}

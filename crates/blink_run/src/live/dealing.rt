@@ -1,0 +1,68 @@
+//! How the keeper of a table deals a pass for each worker's lane.
+ghost use Rattle.std.specs.Prelude.{◌≡◌, ◌≤◌, [], IfOk, OnOk, vec_capacity};
+ghost use Rattle.blink_batch.specs.Cut.{IsLawfulCut};
+ghost use Rattle.blink_live.specs.Deals.{HasDealt, IsDealt, LacksAllowance, NoneIsTaken};
+ghost use Rattle.blink_live.specs.Handles.{IsKeeperOf, taken_of};
+ghost use Rattle.blink_run.specs.Lanes.{HasDealtAll, IsNewKeeper, MayRunAll};
+
+use crate::live::lane::LaneRun;
+use crate::live::needs::Needs;
+use blink_batch::{Batch, Cut};
+use blink_live::{Keeper, Live, LiveError};
+use std::alloc::{AllocError, Global};
+
+/// A run for each worker's lane, with room for its answers and a pass for its keys.
+pub(crate) fn deal_all(
+    alloc: Global,
+    live: &Live,
+    keeper: &mut Keeper,
+    batch: &Batch,
+    cut: &Cut,
+) -> Result<Vec<LaneRun>, AllocError>
+    requires cut { IsLawfulCut batch.now cut.now.workers cut.now.lanes }
+    requires keeper { IsNewKeeper live.now batch.now keeper.old }
+    ensures runs { IfOk result
+        (λ runs. MayRunAll live.now batch.now cut.now.workers cut.now.lanes runs.items) }
+    ensures keeper { OnOk result (HasDealtAll live.now batch.now cut.now.workers keeper.new) }
+{
+    let lanes = cut.lanes();
+    let mut runs = Vec::with_capacity(alloc, usize::from(cut.workers()))?;
+    for worker in 0..cut.workers() {
+        let needs = Needs::of(alloc, batch, lanes, worker)?;
+        runs.push_reserved(deal(alloc, live, keeper, needs)?);
+    }
+    Ok(runs)
+}
+
+// A run with a pass of what is needed.
+fn deal(
+    alloc: Global,
+    live: &Live,
+    keeper: &mut Keeper,
+    needs: Needs,
+) -> Result<LaneRun, AllocError>
+    requires its_own { IsKeeperOf live.now keeper.old }
+    requires free { NoneIsTaken (taken_of keeper.old) needs.keys.items }
+    requires allowed { ¬ LacksAllowance keeper.old needs.inserts needs.deletes }
+    ensures pass { IfOk result
+        (λ run. IsDealt live.now keeper.old needs.keys.items needs.inserts needs.deletes run.pass) }
+    ensures none_yet { IfOk result (λ run. run.answers.items ≡ []) }
+    ensures room { IfOk result (λ run. needs.operations ≤ vec_capacity run.answers) }
+    ensures rest { OnOk result
+        (HasDealt live.now keeper.old keeper.new needs.keys.items needs.inserts needs.deletes) }
+{
+    let Needs {
+        keys,
+        operations,
+        inserts,
+        deletes,
+    } = needs;
+    let answers = Vec::with_capacity(alloc, operations)?;
+    match live.deal(keeper, keys, inserts, deletes) {
+        Ok(pass) => Ok(LaneRun { pass, answers }),
+        Err(refusal) => match refusal {
+            LiveError::DealOutOfMemory => Err(AllocError),
+            _ => unreachable!(),
+        },
+    }
+}

@@ -1,0 +1,84 @@
+//! A worker's lane at a table of words.
+ghost use Rattle.std.specs.Prelude.{◌≡◌, ◌≤◌, ◌<◌, [], ◌∷◌, ◌++◌, length, count_by, Contains, vec_len, vec_capacity, IsOk, Ok};
+ghost use Rattle.blink_batch.specs.Batch.{is_insert};
+ghost use Rattle.blink_batch.specs.Operation.{answer_of, key_of};
+ghost use Rattle.blink_live.specs.Allowed.{inserts_left, deletes_left};
+ghost use Rattle.blink_live.specs.Handles.{IsPassOf, keys_of, share_of};
+ghost use Rattle.blink_run.specs.Lanes.{CanRun, HasRun, IsPassAfter, MayRun, is_delete, lane_ops};
+
+use crate::gate::Gate;
+use blink_batch::{Answer, Batch, Op};
+use blink_live::{Live, Pass, PassError};
+use std::sync::Wait;
+
+/// A lane on its way: its pass, and the answers to its operations so far.
+#[derive(Drop)]
+pub(crate) struct LaneRun {
+    pub pass: Pass,
+    pub answers: Vec<Answer>,
+}
+
+impl LaneRun {
+    /// Runs the worker's lane to its end. The gate is called between operations, when the pass has no latch.
+    pub(crate) fn to_end<R: Wait, G: Gate>(
+        mut self,
+        rt: &R,
+        live: &Live,
+        gate: &G,
+        batch: &Batch,
+        lanes: &[u8],
+        worker: u8,
+    ) -> LaneRun
+        requires a_lane_each { length lanes.now ≡ length batch.now }
+        requires may { MayRun live.now (lane_ops batch.now lanes.now worker) self }
+        ensures { HasRun live.now (lane_ops batch.now lanes.now worker) result }
+    {
+        let ops = batch.ops();
+        for place in 0..lanes.len() {
+            if lanes[place] == worker {
+                gate.before(worker, place as u32);
+                self.run(rt, live, ops[place]);
+                gate.after(worker, place as u32);
+            }
+        }
+        self
+    }
+
+    // Runs one operation, of one of its keys.
+    fn run<R: Wait>(&mut self, rt: &R, live: &Live, op: Op)
+        requires can { CanRun live.now op self.old }
+        ensures pass { IsPassAfter live.now op self.old.pass self.new.pass }
+        ensures answers { self.new.answers.items ≡ self.old.answers.items ++ answer_of (share_of self.old.pass) op ∷ [] }
+        ensures capacity { vec_capacity self.new.answers ≡ vec_capacity self.old.answers }
+    {
+        let answer = answer_at(rt, live, &mut self.pass, op);
+        self.answers.push_reserved(answer);
+    }
+}
+
+// The answer of an operation at the table. Nothing refuses it to a pass that has its key, and an insertion or deletion for it.
+fn answer_at<R: Wait>(rt: &R, live: &Live, pass: &mut Pass, op: Op) -> Answer
+    requires its_own { IsPassOf live.now pass.old }
+    requires key { Contains (keys_of pass.old) (key_of op) }
+    requires inserts { count_by is_insert (op ∷ []) ≤ inserts_left pass.old.pages }
+    requires deletes { count_by is_delete (op ∷ []) ≤ deletes_left pass.old.pages pass.old.rows }
+    ensures answer { result ≡ answer_of (share_of pass.old) op }
+    ensures after { IsPassAfter live.now op pass.old pass.new }
+{
+    match op {
+        Op::Find(key) => expected(live.find(pass, key)),
+        Op::Insert(key, pointer) => expected(live.insert(rt, pass, key, pointer)),
+        Op::Delete(key) => expected(live.delete(rt, pass, key)),
+    }
+}
+
+// The answer of a call that isn't refused.
+fn expected(given: Result<Answer, PassError>) -> Answer
+    requires { IsOk given }
+    ensures { given ≡ Ok result }
+{
+    match given {
+        Ok(answer) => answer,
+        Err(_) => unreachable!(),
+    }
+}

@@ -1,0 +1,112 @@
+//! How the lanes run, each in a thread of its own.
+ghost use Rattle.std.specs.Prelude.{◌≡◌, ◌<◌, ◌≤◌, ◌⊎◌, ℕ, [], length, vec_capacity, vec_len, IfErr, IfOk, IsErrOf};
+ghost use Rattle.std.specs.List.{AllZip};
+ghost use Rattle.blink_run.specs.Lanes.{HasRun, HaveRun, MayRun, MayRunAll, lane_ops};
+
+use crate::error::RunError;
+use crate::gate::Gate;
+use crate::live::lane::LaneRun;
+use blink_batch::{Batch, Cut};
+use blink_live::Live;
+use std::alloc::Global;
+use std::sync::Wait;
+use std::thread::{self, Promise, PromisedHandle, Scope, Threads};
+
+/// The promise of a worker's thread: that its lane has run to its end.
+#[derive(Clone, Copy)]
+struct RunsLane<'a> {
+    live: &'a Live,
+    batch: &'a Batch,
+    lanes: &'a [u8],
+    worker: u8,
+}
+
+impl<'a> Promise<LaneRun> for RunsLane<'a> {
+    ghost kept_by = { λ promise run. HasRun promise.live.now (lane_ops promise.batch.now promise.lanes.now promise.worker) run };
+}
+
+/// Runs each worker's lane to its end, in a thread of its own, and returns when all have ended.
+///
+/// `Worker` tells the smallest worker that couldn't be started; those that could have run to their ends then too.
+/// `OutOfMemory` comes where memory was refused, before any is started.
+pub(crate) fn run_all<R: Threads + Wait + Sync, G: Gate + Sync>(
+    rt: &R,
+    alloc: Global,
+    live: &Live,
+    gate: &G,
+    batch: &Batch,
+    cut: &Cut,
+    runs: Vec<LaneRun>,
+) -> Result<Vec<LaneRun>, RunError>
+    requires a_lane_each { length cut.now.lanes ≡ length batch.now }
+    requires may { MayRunAll live.now batch.now cut.now.workers cut.now.lanes runs.items }
+    ensures ended { IfOk result (λ ended. HaveRun live.now batch.now cut.now.workers cut.now.lanes ended.items) }
+    ensures fits { ¬ IsErrOf result RunError.TooLarge }
+    ensures refused { IfErr result (λ error. error ≡ RunError.OutOfMemory ⊎ ((worker : ℕ) × worker < cut.now.workers × error ≡ RunError.Worker worker)) }
+{
+    let lanes = cut.lanes();
+    thread::scope(
+        thread::scope_env(),
+        rt,
+        move |scope| -> Result<Vec<LaneRun>, RunError>
+            requires a_lane_each { length lanes.now ≡ length batch.now }
+            requires may { MayRunAll live.now batch.now cut.now.workers lanes.now runs.items }
+            ensures ended { IfOk result (λ ended. HaveRun live.entry.now batch.entry.now cut.entry.now.workers lanes.entry.now ended.items) }
+            ensures refused { IfErr result (λ error. error ≡ RunError.OutOfMemory ⊎ ((worker : ℕ) × worker < cut.entry.now.workers × error ≡ RunError.Worker worker)) }
+        {
+            let Ok(mut handles) = Vec::with_capacity(alloc, runs.len()) else {
+                return Err(RunError::OutOfMemory);
+            };
+            let Ok(ended) = Vec::with_capacity(alloc, runs.len()) else {
+                return Err(RunError::OutOfMemory);
+            };
+            for (worker, run) in (0..cut.workers()).zip(runs) {
+                let lane = RunsLane {
+                    live,
+                    batch,
+                    lanes,
+                    worker,
+                };
+                handles.push_reserved(start(scope, rt, gate, lane, run)?);
+            }
+            Ok(joined(rt, handles, ended))
+        },
+    )
+}
+
+// Starts the thread of a worker's lane.
+fn start<'s, E, R: Threads + Wait + Sync, G: Gate + Sync>(
+    scope: &Scope<'s, E>,
+    rt: &'s R,
+    gate: &'s G,
+    lane: RunsLane<'s>,
+    run: LaneRun,
+) -> Result<PromisedHandle<LaneRun, RunsLane<'s>>, RunError>
+    requires a_lane_each { length lane.lanes.now ≡ length lane.batch.now }
+    requires may { MayRun lane.live.now (lane_ops lane.batch.now lane.lanes.now lane.worker) run }
+    ensures promise { IfOk result (λ handle. handle.promise ≡ lane.entry) }
+    ensures refused { IfErr result (λ error. error ≡ RunError.Worker lane.entry.worker) }
+{
+    match scope.spawn_with(lane, move || {
+        run.to_end(rt, lane.live, gate, lane.batch, lane.lanes, lane.worker)
+    }) {
+        Ok(handle) => Ok(handle),
+        Err(_) => Err(RunError::Worker(lane.worker)),
+    }
+}
+
+// What the threads give, put into `all` in the order of the handles.
+fn joined<T: Drop, P: Promise<T>, R: Threads>(
+    rt: &R,
+    handles: Vec<PromisedHandle<T, P>>,
+    mut all: Vec<T>,
+) -> Vec<T>
+    requires none_yet { all.items ≡ [] }
+    requires room { vec_len handles ≤ vec_capacity all }
+    ensures { AllZip (λ handle given. P.kept_by handle.promise given) handles.items result.items }
+{
+    for handle in handles {
+        all.push_reserved(handle.join(rt));
+    }
+    all
+}
