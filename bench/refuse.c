@@ -129,7 +129,7 @@ __attribute__((destructor)) static void tell(void) {
     }
 }
 
-// A program that waits for no thread ends by this call.
+// A program with threads ends by this call, which runs no destructor.
 void _exit(int status) {
     tell();
     syscall(SYS_exit_group, status);

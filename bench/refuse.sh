@@ -11,8 +11,8 @@
 # makes was never refused. The names of some programs may be given, and then only these are tried.
 #
 # It needs a C compiler, cc, and the GNU C library. The copies take along what checks of the crates kept in out/, and then it
-# takes about 16 processor minutes, and 20 minutes on a machine with other work; where nothing was kept, each is proved from
-# nothing first, which takes far longer. Run it while no check of them runs.
+# takes some 18 minutes; where nothing was kept, each is proved from nothing first, which takes far longer. Run it while no
+# check of them runs.
 set -eu
 here=$(cd "$(dirname "$0")" && pwd)
 repository=$here/..
