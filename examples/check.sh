@@ -1,6 +1,6 @@
 #!/bin/sh
 # Runs each example, and with `run` by each driver, and compares what it prints with the output beside it. The commands are
-# those of README.md.
+# those of README.md. At the end the program's output is closed early.
 set -eu
 cd "$(dirname "$0")"
 
@@ -32,3 +32,32 @@ check_run scans --workers 3 --cut ranges
 check_run splits --workers 3 --fan 4
 check half_a_split replay --workers 2 --fan 4 --schedule 1,0,0,0,0,0,0,1,1
 check waiting replay --workers 3 --fan 4 --schedule 1,1,1,0,0,0,2
+
+# 40,000 finds, whose lines are more than the program's buffer and a pipe hold: whoever reads them takes the first and goes. The
+# program is then ended by the pipe, or tells that its output failed; it never goes on for ever.
+check_closed() {
+    first=$1
+    shift
+    work=$(mktemp -d)
+    trap 'rm -rf "$work"' EXIT
+    awk 'BEGIN { for (i = 1; i <= 40000; i++) { print "find,5,"; if (i % 4000 == 0) print "scan,1,0" } }' >"$work/script.csv"
+    { timeout 60 ../blink "$@" <"$work/script.csv" 2>"$work/told" || echo $? >"$work/status"; } | head -n 1 >"$work/first"
+    if [ "$(cat "$work/first")" != "$first" ]; then
+        echo "output closed early, $*: another first line" >&2
+        exit 1
+    fi
+    case $(cat "$work/status" 2>/dev/null) in
+    5) [ "$(cat "$work/told")" = "output: write failed" ] ;;
+    141) [ ! -s "$work/told" ] ;;
+    *) false ;;
+    esac || {
+        echo "output closed early, $*: another end, $(cat "$work/status" "$work/told")" >&2
+        exit 1
+    }
+    echo "output closed early, $*: status $(cat "$work/status")"
+    rm -rf "$work"
+}
+
+check_closed absent run --workers 1
+check_closed absent run --driver live
+check_closed "0 P" replay --workers 1 --schedule 0,0

@@ -1,4 +1,6 @@
 //! Examples, worked by hand.
+mod schedules;
+
 use crate::{Index, IndexError};
 use blink_batch::{Batch, Entry, Lanes, Op};
 use blink_steps::World;

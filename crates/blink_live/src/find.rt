@@ -1,5 +1,5 @@
 //! How a pass finds what one of its keys keeps.
-ghost use Rattle.std.specs.Prelude.{◌≡◌, ◌↔◌, IsTrue, IfErr, IfOk, OnOk, IsErrOf, Contains, None};
+ghost use Rattle.std.specs.Prelude.{◌≡◌, ◌↔◌, IsTrue, IfErr, IfOk, OnErr, OnOk, IsErrOf, Contains, None};
 ghost use mathlib.Core.List.{IsPrefix};
 ghost use Rattle.blink_batch.specs.Operation.{answer_at, answer_of};
 ghost use Rattle.blink_batch.specs.declared.Op.TheVariants.{Find};
@@ -26,6 +26,7 @@ impl Live {
         ensures not_yours { IsErrOf result PassError.NotYours ↔ ¬ Contains (keys_of pass.old) key }
         ensures refused { IfErr result (λ refusal. refusal ≡ PassError.NotYours) }
         ensures same { IsSameBesideSeen pass.old pass.new }
+        ensures unchanged { OnErr result (pass.new ≡ pass.old) }
     {
         if !pass.has(key) {
             return Err(PassError::NotYours);

@@ -19,3 +19,6 @@ pub mod LanesAreDealt
 pub mod ChangesOfSpans
 pub mod EachOneMore
 pub mod EachPlace
+pub mod OutletsTake
+pub mod WhatWritersTake
+pub mod Offered

@@ -2,6 +2,7 @@ pub mod Codes
 pub mod Book
 pub mod Run
 pub mod Settings
+pub mod Outlet
 pub mod Text
 pub mod Trace
 pub mod Replay

@@ -1,6 +1,6 @@
 -- What is written of what is read: the text of a script's parts, one after another, by one thread on one plain map.
 use Rattle.std.specs.Prelude.{ℕ, ◌≡◌, ◌+◌, ◌⊎◌, List, [], ◌∷◌, ◌++◌, Option, Some, Ok, Bool, true, false, count_by, filter, ⊤}
-use Rattle.std.specs.Io.KnownBytes.{Appends, Keeps}
+use Rattle.std.specs.Io.KnownBytes.{Keeps}
 use Rattle.blink_batch.specs.declared.Entry.{Entry}
 use Rattle.blink_batch.specs.declared.Op.{Op}
 use Rattle.blink_batch.specs.declared.Part.{Part}
@@ -9,6 +9,7 @@ use Rattle.blink_batch.specs.Operation.{answers, map_after_all}
 use Rattle.blink_batch.specs.Script.{IsReadable, TellsRefusal, records_of, script_of}
 use Rattle.blink_batch.specs.Text.{text_of}
 use Rattle.blink_index.specs.Scan.{is_within}
+use Rattle.blink_run.specs.Outlet.{BreaksOff, Pours}
 use Rattle.blink_run.specs.Text.{scan_text}
 use Rattle.blink_run.specs.declared.error.RunError.{RunError}
 use Rattle.blink_run.specs.declared.error.ServeError.{ServeError}
@@ -75,6 +76,10 @@ pub record IsTextBeforeBatch (number : ℕ) (records : List (List (List ℕ))) (
 abbrev pub IsTextOfFront : List (List (List ℕ)) → List ℕ → Type 0
 IsTextOfFront records text = (front : List Part) × (rest : List Part) × IsTextBefore records front rest text
 
+-- a beginning of a text, of which the rest may be empty
+abbrev pub IsFrontOf : (List (List (List ℕ)) → List ℕ → Type 0) → List (List (List ℕ)) → List ℕ → Type 0
+IsFrontOf is_text records text = (rest : List ℕ) × is_text records (text ++ rest)
+
 -- a refusal of the script is the reader's own, and no step is refused by itself
 abbrev pub TellsFault : Option (List ℕ) → ServeError → Type 0
 TellsFault to_read (serve.Script error) = IsReadable error × TellsRefusal to_read error
@@ -84,12 +89,12 @@ TellsFault to_read serve.Output = ⊤
 TellsFault to_read serve.OutOfMemory = ⊤
 
 -- after a refusal of the script nothing was written, and after one of a run or of memory exactly the lines of the parts before;
--- where the writer failed nothing is said
+-- where the writer failed a beginning of the text of all parts was
 abbrev pub LeavesLines : Option (List ℕ) → ServeError → Option (List ℕ) → Option (List ℕ) → Type 0
 LeavesLines to_read (serve.Script error) before after = Keeps before after
 LeavesLines to_read (serve.Run number error) before after = WritesText (IsTextBeforeBatch number) to_read before after
 LeavesLines to_read (serve.Step error) before after = ⊥
-LeavesLines to_read serve.Output before after = ⊤
+LeavesLines to_read serve.Output before after = WritesText (IsFrontOf IsTextOf) to_read before after
 LeavesLines to_read serve.OutOfMemory before after = WritesText IsTextOfFront to_read before after
 
 -- ---- parts one after another, on the way
@@ -106,32 +111,37 @@ IsPartFault part number serve.OutOfMemory = ⊤
 abbrev pub IsBatchFault : ℕ → ServeError → Type 0
 IsBatchFault number error = ((fault : RunError) × (error ≡ serve.Run number fault)) ⊎ (error ≡ serve.OutOfMemory)
 
--- what it leaves as it was, unless the writer failed
-abbrev pub KeepsUnlessOutput : ServeError → Option (List ℕ) → Option (List ℕ) → Type 0
-KeepsUnlessOutput (serve.Script error) before after = Keeps before after
-KeepsUnlessOutput (serve.Run number error) before after = Keeps before after
-KeepsUnlessOutput (serve.Step error) before after = Keeps before after
-KeepsUnlessOutput serve.Output before after = ⊤
-KeepsUnlessOutput serve.OutOfMemory before after = Keeps before after
+-- after such a refusal of a part nothing of its text was written, and where the outlet failed that was the last call
+abbrev pub LeavesPart : {O : Type 0} → (O → List ℕ → Option ℕ → O → Type 0) → (O → Bool → O → Type 0) → List ℕ → ServeError → O → O → Type 0
+LeavesPart offered settled text (serve.Script error) before after = ⊥
+LeavesPart offered settled text (serve.Run number error) before after = after ≡ before
+LeavesPart offered settled text (serve.Step error) before after = ⊥
+LeavesPart offered settled text serve.Output before after = BreaksOff offered settled before text after
+LeavesPart offered settled text serve.OutOfMemory before after = after ≡ before
 
--- the lines of the parts before others are written
-pub record WroteBefore (map : List Entry) (parts front rest : List Part) (before after : Option (List ℕ)) : Type 0 where
+-- the lines of the parts before others went out
+pub record WroteBefore {O : Type 0} (offered : O → List ℕ → Option ℕ → O → Type 0) (map : List Entry) (parts front rest : List Part) (before after : O) : Type 0 where
   pub in_order : parts ≡ front ++ rest
-  pub written : Appends before after (script_text map front)
+  pub written : Pours offered before (script_text map front) after
 
 -- the lines of the parts before a batch of this number
-pub record WroteBeforeBatch (number : ℕ) (map : List Entry) (parts : List Part) (before after : Option (List ℕ)) : Type 0 where
+pub record WroteBeforeBatch {O : Type 0} (offered : O → List ℕ → Option ℕ → O → Type 0) (number : ℕ) (map : List Entry) (parts : List Part) (before after : O) : Type 0 where
   pub front : List Part
   pub ops : List Op
   pub rest : List Part
   pub its_number : number ≡ count_by is_batch front + 1
-  pub wrote : WroteBefore map parts front (Batch ops ∷ rest) before after
+  pub wrote : WroteBefore offered map parts front (Batch ops ∷ rest) before after
 
 -- where some of the parts aren't served
-abbrev pub LeavesFront : List Entry → List Part → ServeError → Option (List ℕ) → Option (List ℕ) → Type 0
-LeavesFront map parts (serve.Script error) before after = ⊥
-LeavesFront map parts (serve.Run number error) before after = WroteBeforeBatch number map parts before after
-LeavesFront map parts (serve.Step error) before after = ⊥
-LeavesFront map parts serve.Output before after = ⊤
-LeavesFront map parts serve.OutOfMemory before after =
-    (front : List Part) × (rest : List Part) × WroteBefore map parts front rest before after
+abbrev pub LeavesFront : {O : Type 0} → (O → List ℕ → Option ℕ → O → Type 0) → (O → Bool → O → Type 0) → List Entry → List Part → ServeError → O → O → Type 0
+LeavesFront offered settled map parts (serve.Script error) before after = ⊥
+LeavesFront offered settled map parts (serve.Run number error) before after = WroteBeforeBatch offered number map parts before after
+LeavesFront offered settled map parts (serve.Step error) before after = ⊥
+LeavesFront offered settled map parts serve.Output before after = BreaksOff offered settled before (script_text map parts) after
+LeavesFront offered settled map parts serve.OutOfMemory before after =
+    (front : List Part) × (rest : List Part) × WroteBefore offered map parts front rest before after
+
+-- and what was written is flushed, unless the outlet failed
+abbrev pub LeavesFlushed : {O : Type 0} → (O → List ℕ → Option ℕ → O → Type 0) → (O → Bool → O → Type 0) → List Entry → List Part → ServeError → O → O → Type 0
+LeavesFlushed offered settled map parts serve.Output before after = BreaksOff offered settled before (script_text map parts) after
+LeavesFlushed {O} offered settled map parts error before after = (between : O) × LeavesFront offered settled map parts error before between × settled between true after

@@ -9,7 +9,7 @@ use Rattle.blink_store.specs.Store.{PlainStore, new_store}
 use Rattle.blink_steps.specs.declared.StepError.TheVariants as step
 use Rattle.blink_steps.specs.World.{IsFirstNoWorker}
 use Rattle.blink_run.specs.Replay.{IsRefusedMemory, RunsBatch, TellsBatch}
-use Rattle.blink_run.specs.Served.{WritesText, is_batch, script_text}
+use Rattle.blink_run.specs.Served.{IsFrontOf, WritesText, is_batch, script_text}
 use Rattle.blink_run.specs.declared.error.ServeError.{ServeError}
 use Rattle.blink_run.specs.declared.error.ServeError.TheVariants as serve
 
@@ -54,13 +54,13 @@ abbrev pub TellsReplayFault : ℕ → List ℕ → Option (List ℕ) → ServeEr
 TellsReplayFault workers schedule to_read error =
     ((worker : ℕ) × (error ≡ serve.Step (step.NoWorker worker)) × IsFirstNoWorker workers schedule worker) ⊎ TellsWorkersFault to_read error
 
--- nothing was written, unless the writer failed
-abbrev pub WroteNothing : ServeError → Option (List ℕ) → Option (List ℕ) → Type 0
-WroteNothing (serve.Script error) before after = Keeps before after
-WroteNothing (serve.Run number error) before after = Keeps before after
-WroteNothing (serve.Step error) before after = Keeps before after
-WroteNothing serve.Output before after = ⊤
-WroteNothing serve.OutOfMemory before after = Keeps before after
+-- nothing was written, unless the writer failed: then a beginning of the text of the replay was
+abbrev pub LeavesReplay : ℕ → ℕ → List ℕ → Option (List ℕ) → ServeError → Option (List ℕ) → Option (List ℕ) → Type 0
+LeavesReplay workers fan schedule to_read (serve.Script error) before after = Keeps before after
+LeavesReplay workers fan schedule to_read (serve.Run number error) before after = Keeps before after
+LeavesReplay workers fan schedule to_read (serve.Step error) before after = Keeps before after
+LeavesReplay workers fan schedule to_read serve.Output before after = WritesText (IsFrontOf (IsReplayText workers fan schedule)) to_read before after
+LeavesReplay workers fan schedule to_read serve.OutOfMemory before after = Keeps before after
 
 -- ---- parts one after another, on the way
 

@@ -11,6 +11,7 @@ mod desk;
 mod error;
 mod gate;
 mod live;
+mod outlet;
 mod replay;
 mod run;
 mod script;

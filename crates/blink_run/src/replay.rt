@@ -1,18 +1,19 @@
 //! A script served by a replay, without threads.
 ghost use Rattle.std.specs.Prelude.{◌≡◌, ◌<◌, ◌++◌, ◌↔◌, All, Err, IfOk, IfErr, OnOk, MatchOption, count_by, string_bytes};
-ghost use Rattle.std.specs.Io.KnownBytes.{Appends};
 ghost use Rattle.blink_batch.specs.Cut.{IsLawfulCut, MayWork};
 ghost use Rattle.blink_batch.specs.Operation.{answers, map_after_all};
 ghost use Rattle.blink_batch.specs.Text.{text_of};
 ghost use Rattle.blink_index.specs.Index.{map_of};
 ghost use Rattle.blink_steps.specs.World.{IsFirstNoWorker};
+ghost use Rattle.blink_run.specs.Outlet.{BreaksOff, GoesOut, Pours};
 ghost use Rattle.blink_run.specs.Replay.{IsReplayFault, TellsBatch, by_residue};
 ghost use Rattle.blink_run.specs.Served.{is_batch, part_after, part_text, script_text};
-ghost use Rattle.blink_run.specs.ServedReplay.{IsPartsFault, Replays, TellsPart, TellsParts, TellsReplayFault, TellsWorkersFault, WroteNothing, taken_where};
+ghost use Rattle.blink_run.specs.ServedReplay.{IsPartsFault, LeavesReplay, Replays, TellsPart, TellsParts, TellsReplayFault, TellsWorkersFault, taken_where};
 
 use crate::book::all_of;
 use crate::error::ServeError;
-use crate::script::{batches_with, new_index, write_text};
+use crate::outlet::{Outlet, flush_out, write_out};
+use crate::script::{batches_with, new_index};
 use crate::settings::Settings;
 use crate::text::{push_answers, push_scan};
 use crate::trace::trace_steps;
@@ -22,6 +23,8 @@ use blink_steps::{StepError, World};
 use std::alloc::{AllocError, Global};
 use std::io::{Read, Write};
 
+#[cfg(test)]
+mod fronts;
 #[cfg(test)]
 mod tests;
 
@@ -48,8 +51,9 @@ pub fn serve_replay<R: Read, W: Write>(
         ↔ IsFirstNoWorker settings.now.workers schedule.now worker }
     ensures unread { (worker : _) → IsFirstNoWorker settings.now.workers schedule.now worker
         → reader.new ≡ reader.old }
-    ensures wrote_nothing { IfErr result
-        (λ error. WroteNothing error (W.contents writer.old) (W.contents writer.new)) }
+    ensures left { IfErr result (λ error.
+        LeavesReplay settings.now.workers settings.now.fan schedule.now (R.remaining reader.old)
+        error (W.contents writer.old) (W.contents writer.new)) }
 {
     match first_of_no_worker(schedule, settings.workers()) {
         Some(worker) => Err(ServeError::Step(StepError::NoWorker(worker))),
@@ -69,8 +73,9 @@ fn replay_script<R: Read, W: Write>(
     ensures replayed { OnOk result (Replays settings.now.workers settings.now.fan schedule.now
         (R.remaining reader.old) (W.contents writer.old) (W.contents writer.new)) }
     ensures fault { IfErr result (TellsWorkersFault (R.remaining reader.old)) }
-    ensures wrote_nothing { IfErr result
-        (λ error. WroteNothing error (W.contents writer.old) (W.contents writer.new)) }
+    ensures left { IfErr result (λ error.
+        LeavesReplay settings.now.workers settings.now.fan schedule.now (R.remaining reader.old)
+        error (W.contents writer.old) (W.contents writer.new)) }
 {
     let script = read_script(alloc, reader)?;
     let index = new_index(alloc, settings)?;
@@ -91,23 +96,21 @@ fn replay_script<R: Read, W: Write>(
 }
 
 // Writes what a replay tells, and flushes.
-fn write_replay<W: Write>(
-    writer: &mut W,
+fn write_replay<O: Outlet>(
+    outlet: &mut O,
     trace: &str,
     text: &str,
     pages: &str,
 ) -> Result<(), ServeError>
-    ensures written { OnOk result (Appends (W.contents writer.old) (W.contents writer.new)
-        (trace.now ++ (text.now ++ pages.now))) }
-    ensures output { IfErr result (λ error. error ≡ ServeError.Output) }
+    ensures written { OnOk result
+        (GoesOut O.offered O.settled outlet.old (trace.now ++ (text.now ++ pages.now)) outlet.new) }
+    ensures broken_off { IfErr result (λ error. (error ≡ ServeError.Output) × BreaksOff O.offered O.settled
+        outlet.old (trace.now ++ (text.now ++ pages.now)) outlet.new) }
 {
-    write_text(writer, trace)?;
-    write_text(writer, text)?;
-    write_text(writer, pages)?;
-    match writer.flush() {
-        Ok(()) => Ok(()),
-        Err(_) => Err(ServeError::Output),
-    }
+    write_out(outlet, trace)?;
+    write_out(outlet, text)?;
+    write_out(outlet, pages)?;
+    flush_out(outlet)
 }
 
 // The first number of a schedule that isn't below the workers.

@@ -1,16 +1,17 @@
 //! A script served: from its text to its output.
 ghost use Rattle.std.specs.Prelude.{◌≡◌, ◌+◌, ◌<◌, ◌^◌, [], ◌∷◌, count_by, filter, IfErr, IfOk, OnOk, string_bytes};
-ghost use Rattle.std.specs.Io.KnownBytes.{Appends};
 ghost use Rattle.blink_batch.specs.Operation.{answers, map_after_all};
 ghost use Rattle.blink_batch.specs.Text.{text_of};
 ghost use Rattle.blink_index.specs.Index.{map_of};
 ghost use Rattle.blink_index.specs.Scan.{is_within};
 ghost use Rattle.blink_store.specs.Store.{new_store};
+ghost use Rattle.blink_run.specs.Outlet.{GoesOut, Pours};
 ghost use Rattle.blink_run.specs.Text.{scan_text};
-ghost use Rattle.blink_run.specs.Served.{IsBatchFault, IsPartFault, KeepsUnlessOutput, LeavesFront, LeavesLines, Serves, TellsFault, is_batch, part_after, part_text, script_text};
+ghost use Rattle.blink_run.specs.Served.{IsBatchFault, IsPartFault, LeavesFlushed, LeavesFront, LeavesLines, LeavesPart, Serves, TellsFault, is_batch, part_after, part_text, script_text};
 
 use crate::error::ServeError;
 use crate::gate::Gate;
+use crate::outlet::{Outlet, flush_out, write_out};
 use crate::run::run_batch;
 use crate::settings::Settings;
 use crate::text::{push_answers, push_scan};
@@ -28,8 +29,9 @@ mod tests;
 /// operation, in the order of its batch, and for a scan a line for each entry that it shows, in ascending order, and then
 /// their number. Each batch is run by the workers of the settings, in threads of their own.
 ///
-/// Each part's lines are handed to the writer before the next part begins, and the writer is flushed at the end: after
-/// an error too, unless nothing was written. A flush that fails is answered as `Output`, whatever came before it.
+/// Each part's lines are handed to the writer before the next part begins, and the writer is flushed at the end: after a batch that
+/// isn't run and after refused memory too, once the script is read. A write or a flush that fails, for whatever reason, and a write
+/// that takes nothing, is answered as `Output` at once, and no call of the writer comes after it.
 pub fn serve<T: Threads + Wait + Sync, R: Read, W: Write, G: Gate + Sync>(
     rt: &T,
     alloc: Global,
@@ -46,11 +48,7 @@ pub fn serve<T: Threads + Wait + Sync, R: Read, W: Write, G: Gate + Sync>(
 {
     let script = read_script(alloc, reader)?;
     let mut index = new_index(alloc, settings)?;
-    let outcome = serve_parts(rt, alloc, &script.parts, &mut index, writer, settings, gate);
-    match writer.flush() {
-        Ok(()) => outcome,
-        Err(_) => Err(ServeError::Output),
-    }
+    serve_script(rt, alloc, &script.parts, &mut index, writer, settings, gate)
 }
 
 /// The index that a script is run on: a new one.
@@ -64,25 +62,48 @@ pub(crate) fn new_index(alloc: Global, settings: &Settings) -> Result<Index, All
     }
 }
 
-// Serves the parts of a script, one after another.
-fn serve_parts<T: Threads + Wait + Sync, W: Write, G: Gate + Sync>(
+// Serves the parts of a script, and flushes unless the outlet failed.
+fn serve_script<T: Threads + Wait + Sync, O: Outlet, G: Gate + Sync>(
     rt: &T,
     alloc: Global,
     parts: &[Part],
     index: &mut Index,
-    writer: &mut W,
+    outlet: &mut O,
     settings: &Settings,
     gate: &G,
 ) -> Result<(), ServeError>
-    ensures served { OnOk result (Appends (W.contents writer.old) (W.contents writer.new)
-        (script_text (map_of index.old) parts.now)) }
-    ensures left { IfErr result (λ error. LeavesFront (map_of index.old) parts.now error
-        (W.contents writer.old) (W.contents writer.new)) }
+    ensures served { OnOk result
+        (GoesOut O.offered O.settled outlet.old (script_text (map_of index.old) parts.now) outlet.new) }
+    ensures left { IfErr result (λ error.
+        LeavesFlushed O.offered O.settled (map_of index.old) parts.now error outlet.old outlet.new) }
+{
+    let outcome = serve_parts(rt, alloc, parts, index, outlet, settings, gate);
+    if outcome == Err(ServeError::Output) {
+        return outcome;
+    }
+    flush_out(outlet)?;
+    outcome
+}
+
+// Serves the parts of a script, one after another.
+fn serve_parts<T: Threads + Wait + Sync, O: Outlet, G: Gate + Sync>(
+    rt: &T,
+    alloc: Global,
+    parts: &[Part],
+    index: &mut Index,
+    outlet: &mut O,
+    settings: &Settings,
+    gate: &G,
+) -> Result<(), ServeError>
+    ensures served { OnOk result
+        (Pours O.offered outlet.old (script_text (map_of index.old) parts.now) outlet.new) }
+    ensures left { IfErr result (λ error.
+        LeavesFront O.offered O.settled (map_of index.old) parts.now error outlet.old outlet.new) }
 {
     let mut batches = 0u64;
     for part in parts {
         batches = batches_with(part, batches);
-        serve_part(rt, alloc, part, batches, index, writer, settings, gate)?;
+        serve_part(rt, alloc, part, batches, index, outlet, settings, gate)?;
     }
     Ok(())
 }
@@ -99,28 +120,28 @@ pub(crate) fn batches_with(part: &Part, before: u64) -> u64
 }
 
 // Serves one part, where it is a batch the one of this number.
-fn serve_part<T: Threads + Wait + Sync, W: Write, G: Gate + Sync>(
+fn serve_part<T: Threads + Wait + Sync, O: Outlet, G: Gate + Sync>(
     rt: &T,
     alloc: Global,
     part: &Part,
     number: u64,
     index: &mut Index,
-    writer: &mut W,
+    outlet: &mut O,
     settings: &Settings,
     gate: &G,
 ) -> Result<(), ServeError>
-    ensures served { OnOk result (Appends (W.contents writer.old) (W.contents writer.new)
-        (part_text (map_of index.old) part.now)) }
+    ensures served { OnOk result
+        (Pours O.offered outlet.old (part_text (map_of index.old) part.now) outlet.new) }
     ensures map { OnOk result (map_of index.new ≡ part_after (map_of index.old) part.now) }
     ensures fault { IfErr result (IsPartFault part.now number) }
-    ensures kept { IfErr result (λ error.
-        KeepsUnlessOutput error (W.contents writer.old) (W.contents writer.new)) }
+    ensures left { IfErr result (λ error. LeavesPart O.offered O.settled
+        (part_text (map_of index.old) part.now) error outlet.old outlet.new) }
 {
     let text = match part {
         Part::Batch(batch) => batch_text(rt, alloc, batch, number, index, settings, gate)?,
         Part::Scan(lo, hi) => scan_text(alloc, index, *lo, *hi)?,
     };
-    write_text(writer, &text)
+    write_out(outlet, &text)
 }
 
 // Runs a batch of this number, and gives the lines of its answers.
@@ -157,16 +178,4 @@ fn scan_text(alloc: Global, index: &Index, lo: u64, hi: u64) -> Result<String, A
     let mut text = String::new(alloc);
     push_scan(&mut text, index.scan(lo, hi))?;
     Ok(text)
-}
-
-/// Writes the whole text.
-pub(crate) fn write_text<W: Write>(writer: &mut W, text: &str) -> Result<(), ServeError>
-    ensures written { OnOk result
-        (Appends (W.contents writer.old) (W.contents writer.new) text.now) }
-    ensures output { IfErr result (λ error. error ≡ ServeError.Output) }
-{
-    match writer.write_all(text.as_bytes()) {
-        Ok(()) => Ok(()),
-        Err(_) => Err(ServeError::Output),
-    }
 }

@@ -1,4 +1,6 @@
 //! Examples, worked by hand. Their trees have at most 4 entries a page.
+mod last_in;
+
 use crate::{Driver, Gate, Open, RunError, run_batch};
 use blink_batch::{Answer, Batch, Cut, Op};
 use blink_index::Index;

@@ -1,27 +1,39 @@
--- What has left a buffer that was empty before and is empty now.
-use Rattle.std.proofs.Common.{◌≡◌, ℕ, List, [], ◌++◌, Option, Some, None, refl, sym, ap, ◌∙◌, append-nil}
+-- What has left a buffer that was empty before: all that was written, where it is empty now, and else a beginning of it.
+use Rattle.std.proofs.Common.{◌≡◌, ◌⊎◌, ℕ, List, [], ◌∷◌, ◌++◌, Option, Some, None, Result, Ok, Err, IfErr, OnOk, refl, sym, ap, ◌∙◌, inl, inr, append_assoc, append-nil}
 use Rattle.std.specs.Io.KnownBytes.{Keeps, append_known}
-use Rattle.blink_run.specs.Served.{IsTextBeforeBatch, IsTextOf, IsTextOfFront, LeavesLines, WritesText}
-use Rattle.blink_run.specs.ServedReplay.{IsReplayText, WroteNothing}
+use Rattle.blink_batch.specs.declared.Part.TheVariants.{Batch}
+use Rattle.blink_batch.specs.Script.{records_of}
+use Rattle.blink_run.specs.Served.{IsFrontOf, IsTextBeforeBatch, IsTextOf, IsTextOfFront, LeavesLines, WritesText}
+use Rattle.blink_run.specs.ServedReplay.{IsReplayText, LeavesReplay}
 use Rattle.blink_run.specs.declared.error.ServeError.{ServeError}
 use Rattle.blink_run.specs.declared.error.ServeError.TheVariants as serve
-use Rattle.index_main.specs.Program.{Leaves, Writes}
+use Rattle.blink_run.proofs.Offered.{front_of_text}
+use Rattle.index_main.specs.Program.{HasLeftFront, IsText, Leaves, LetsOut, Writes}
 use Rattle.index_main.specs.declared.line.Line.{Line}
 use Rattle.index_main.specs.declared.line.Line.TheVariants.{Run, Replay}
 
+-- known bytes that are kept are the same
+kept_as : (between after : Option (List ℕ)) (bytes : List ℕ) → between ≡ Some bytes → Keeps between after → after ≡ Some bytes
+kept_as None after bytes known keeps = absurd (cc known)
+kept_as (Some xs) None bytes known keeps = absurd keeps
+kept_as (Some xs) (Some ys) bytes known keeps =
+    let same : xs ≡ bytes = cc known in
+    ap (λ (zs : List ℕ). Some zs) (keeps ∙ same)
+
+-- an empty buffer adds nothing to known bytes
+with_nothing : (known : Option (List ℕ)) → append_known known [] ≡ known
+with_nothing None = refl
+with_nothing (Some xs) = ap (λ (zs : List ℕ). Some zs) (append-nil xs)
+
 -- the bytes that are kept, behind an empty buffer, are those
 left_as : (between after : Option (List ℕ)) (bytes : List ℕ) → between ≡ Some bytes → Keeps between (append_known after []) → after ≡ Some bytes
-left_as None after bytes known keeps = absurd (cc known)
-left_as (Some xs) None bytes known keeps = absurd keeps
-left_as (Some xs) (Some ys) bytes known keeps =
-    let same : xs ≡ bytes = cc known in
-    ap (λ (zs : List ℕ). Some zs) (sym (append-nil ys) ∙ keeps ∙ same)
+left_as between after bytes known keeps = sym (with_nothing after) ∙ kept_as between (append_known after []) bytes known keeps
 
 module _ (before between after : Option (List ℕ)) (keeps : Keeps between (append_known after [])) where
   -- a text that is written has left
   text_left : (is_text : List (List (List ℕ)) → List ℕ → Type 0) (to_read : Option (List ℕ)) → WritesText is_text to_read (append_known before []) between → WritesText is_text to_read before after
   text_left is_text to_read writes = λ read written known known_before.
-      let wrote = writes read written known (rw known_before (ap (λ (xs : List ℕ). Some xs) (append-nil written))) in
+      let wrote = writes read written known (with_nothing before ∙ known_before) in
       (wrote.0, wrote.1, left_as between after (written ++ wrote.0) wrote.2 keeps)
 
   -- and where nothing is written nothing has
@@ -40,20 +52,122 @@ module _ (before between after : Option (List ℕ)) (keeps : Keeps between (appe
   writes_left (Run settings) to_read writes = text_left IsTextOf to_read writes
   writes_left (Replay settings schedule) to_read writes = text_left (IsReplayText settings.workers settings.fan schedule.items) to_read writes
 
+  -- of a run
   lines_left : (error : ServeError) (to_read : Option (List ℕ)) → LeavesLines to_read error (append_known before []) between → LeavesLines to_read error before after
   lines_left (serve.Script error) to_read left = nothing_left left
   lines_left (serve.Run number error) to_read left = text_left (IsTextBeforeBatch number) to_read left
   lines_left (serve.Step error) to_read left = absurd left
-  lines_left serve.Output to_read left = tt
+  lines_left serve.Output to_read left = text_left (IsFrontOf IsTextOf) to_read left
   lines_left serve.OutOfMemory to_read left = text_left IsTextOfFront to_read left
 
-  nothing_written : (error : ServeError) → WroteNothing error (append_known before []) between → WroteNothing error before after
-  nothing_written (serve.Script error) left = nothing_left left
-  nothing_written (serve.Run number error) left = nothing_left left
-  nothing_written (serve.Step error) left = nothing_left left
-  nothing_written serve.Output left = tt
-  nothing_written serve.OutOfMemory left = nothing_left left
+  -- of a replay
+  replay_left : (workers fan : ℕ) (schedule : List ℕ) (error : ServeError) (to_read : Option (List ℕ)) → LeavesReplay workers fan schedule to_read error (append_known before []) between → LeavesReplay workers fan schedule to_read error before after
+  replay_left workers fan schedule (serve.Script error) to_read left = nothing_left left
+  replay_left workers fan schedule (serve.Run number error) to_read left = nothing_left left
+  replay_left workers fan schedule (serve.Step error) to_read left = nothing_left left
+  replay_left workers fan schedule serve.Output to_read left = text_left (IsFrontOf (IsReplayText workers fan schedule)) to_read left
+  replay_left workers fan schedule serve.OutOfMemory to_read left = nothing_left left
 
-  pub refusal_left : (line : Line) (to_read : Option (List ℕ)) (error : ServeError) → Leaves line to_read error (append_known before []) between → Leaves line to_read error before after
-  refusal_left (Run settings) to_read error left = lines_left error to_read left
-  refusal_left (Replay settings schedule) to_read error left = nothing_written error left
+  leaves_left : (line : Line) (to_read : Option (List ℕ)) (error : ServeError) → Leaves line to_read error (append_known before []) between → Leaves line to_read error before after
+  leaves_left (Run settings) to_read error left = lines_left error to_read left
+  leaves_left (Replay settings schedule) to_read error left = replay_left settings.workers settings.fan schedule.items error to_read left
+
+  -- what a refusal leaves has left, where the writer hasn't failed
+  pub refusal_left : (line : Line) (to_read : Option (List ℕ)) (error : ServeError) → (error ≡ serve.Output → ⊥) → Leaves line to_read error (append_known before []) between → LetsOut line to_read error before after
+  refusal_left line to_read (serve.Script error) not_output left = leaves_left line to_read (serve.Script error) left
+  refusal_left line to_read (serve.Run number error) not_output left = leaves_left line to_read (serve.Run number error) left
+  refusal_left line to_read (serve.Step error) not_output left = leaves_left line to_read (serve.Step error) left
+  refusal_left line to_read serve.Output not_output left = absurd (not_output refl)
+  refusal_left line to_read serve.OutOfMemory not_output left = leaves_left line to_read serve.OutOfMemory left
+
+-- what was written of a text: a beginning, and the rest
+record FrontWritten (line : Line) (records : List (List (List ℕ))) (written : List ℕ) (between : Option (List ℕ)) : Type 0 where
+  front : List ℕ
+  more : List ℕ
+  its_text : IsText line records (front ++ more) ⊎ (front ++ more ≡ [])
+  known : between ≡ Some (written ++ front)
+
+-- behind a buffer, a beginning of that has left
+front_left : (line : Line) (records : List (List (List ℕ))) (written buffer : List ℕ) (between after : Option (List ℕ)) → FrontWritten line records written between → Keeps between (append_known after buffer) → HasLeftFront line records written after
+front_left line records written buffer between after front keeps = by_after after (kept_as between (append_known after buffer) (written ++ front.front) front.known keeps)
+  where
+    by_after : (known : Option (List ℕ)) → append_known known buffer ≡ Some (written ++ front.front) → HasLeftFront line records written known
+    by_after None same = absurd (cc same)
+    by_after (Some left) same = record {
+      text = front.front ++ front.more;
+      its_text = front.its_text;
+      left = left;
+      rest = buffer ++ front.more;
+      known = refl;
+      in_order = sym (append_assoc written front.front front.more) ∙ ap (λ (t : List ℕ). t ++ front.more) (sym (cc same)) ∙ append_assoc left buffer front.more;
+    }
+
+-- known bytes that aren't touched stay
+untouched : (known : Option (List ℕ)) → Keeps known known
+untouched None = tt
+untouched (Some bytes) = refl
+
+module _ (line : Line) (to_read before between after : Option (List ℕ)) (buffer : List ℕ) (keeps : Keeps between (append_known after buffer)) where
+  -- of what was written a beginning has left, where the writer failed
+  lets_out : ((read written : List ℕ) → to_read ≡ Some read → before ≡ Some written → FrontWritten line (records_of read) written between) → LetsOut line to_read serve.Output before after
+  lets_out front = λ read written known known_before. front_left line (records_of read) written buffer between after (front read written known known_before) keeps
+
+-- a beginning of a text, with what had left before
+front_of : (line : Line) (to_read before between : Option (List ℕ)) → WritesText (IsFrontOf (IsText line)) to_read (append_known before []) between → (read written : List ℕ) → to_read ≡ Some read → before ≡ Some written → FrontWritten line (records_of read) written between
+front_of line to_read before between writes read written known known_before =
+    let wrote = writes read written known (with_nothing before ∙ known_before) in
+    record { front = wrote.0; more = wrote.1.0; its_text = inl wrote.1.1; known = wrote.2 }
+
+-- the whole of it
+whole_of : (line : Line) (to_read before between : Option (List ℕ)) → WritesText (IsText line) to_read (append_known before []) between → (read written : List ℕ) → to_read ≡ Some read → before ≡ Some written → FrontWritten line (records_of read) written between
+whole_of line to_read before between writes read written known known_before =
+    let wrote = writes read written known (with_nothing before ∙ known_before) in
+    record { front = wrote.0; more = []; its_text = inl (rw append-nil wrote.1); known = wrote.2 }
+
+-- nothing of it
+nothing_of : (line : Line) (to_read before between : Option (List ℕ)) → Keeps (append_known before []) between → (read written : List ℕ) → to_read ≡ Some read → before ≡ Some written → FrontWritten line (records_of read) written between
+nothing_of line to_read before between stays read written known known_before =
+    record { front = []; more = []; its_text = inr refl; known = kept_as (append_known before []) between (written ++ []) (with_nothing before ∙ known_before ∙ ap (λ (t : List ℕ). Some t) (sym (append-nil written))) stays }
+
+-- what was written before the flush
+front_written : (line : Line) (to_read before between : Option (List ℕ)) (outcome : Result (Unit {0}) ServeError) → (outcome ≡ Err serve.Output → ⊥) → OnOk outcome (Writes line to_read (append_known before []) between)
+    → IfErr outcome (λ error. Leaves line to_read error (append_known before []) between) → (read written : List ℕ) → to_read ≡ Some read → before ≡ Some written → FrontWritten line (records_of read) written between
+front_written (Run settings) to_read before between (Ok done) not_output writes left = whole_of (Run settings) to_read before between writes
+front_written (Replay settings schedule) to_read before between (Ok done) not_output writes left = whole_of (Replay settings schedule) to_read before between writes
+front_written (Run settings) to_read before between (Err (serve.Script error)) not_output writes left = nothing_of (Run settings) to_read before between left
+front_written (Run settings) to_read before between (Err (serve.Run number error)) not_output writes left = λ read written known known_before.
+    let wrote = left read written known (with_nothing before ∙ known_before) in
+    let whole = front_of_text (records_of read) wrote.1.front (Batch wrote.1.ops ∷ wrote.1.rest) wrote.0 wrote.1.before in
+    record { front = wrote.0; more = whole.0; its_text = inl whole.1; known = wrote.2 }
+front_written (Run settings) to_read before between (Err (serve.Step error)) not_output writes left = absurd left
+front_written (Run settings) to_read before between (Err serve.OutOfMemory) not_output writes left = λ read written known known_before.
+    let wrote = left read written known (with_nothing before ∙ known_before) in
+    let whole = front_of_text (records_of read) wrote.1.0 wrote.1.1 wrote.0 wrote.1.2 in
+    record { front = wrote.0; more = whole.0; its_text = inl whole.1; known = wrote.2 }
+front_written line to_read before between (Err serve.Output) not_output writes left = absurd (not_output refl)
+front_written (Replay settings schedule) to_read before between (Err (serve.Script error)) not_output writes left = nothing_of (Replay settings schedule) to_read before between left
+front_written (Replay settings schedule) to_read before between (Err (serve.Run number error)) not_output writes left = nothing_of (Replay settings schedule) to_read before between left
+front_written (Replay settings schedule) to_read before between (Err (serve.Step error)) not_output writes left = nothing_of (Replay settings schedule) to_read before between left
+front_written (Replay settings schedule) to_read before between (Err serve.OutOfMemory) not_output writes left = nothing_of (Replay settings schedule) to_read before between left
+
+module _ (line : Line) (to_read before after : Option (List ℕ)) where
+  -- the writer fails at a write
+  pub write_failed : (buffer : List ℕ) → Leaves line to_read serve.Output (append_known before []) (append_known after buffer) → LetsOut line to_read serve.Output before after
+  write_failed buffer left = lets_out line to_read before (append_known after buffer) after buffer (untouched (append_known after buffer)) (front_of line to_read before (append_known after buffer) (by_line line left))
+    where
+      by_line : (l : Line) → Leaves l to_read serve.Output (append_known before []) (append_known after buffer) → WritesText (IsFrontOf (IsText l)) to_read (append_known before []) (append_known after buffer)
+      by_line (Run settings) left = left
+      by_line (Replay settings schedule) left = left
+
+  module _ (between : Option (List ℕ)) (outcome : Result (Unit {0}) ServeError) (not_output : outcome ≡ Err serve.Output → ⊥) (left : IfErr outcome (λ error. Leaves line to_read error (append_known before []) between)) where
+    -- it fails at the flush
+    pub flush_failed : (buffer : List ℕ) → OnOk outcome (Writes line to_read (append_known before []) between) → Keeps between (append_known after buffer) → LetsOut line to_read serve.Output before after
+    flush_failed buffer writes keeps = lets_out line to_read before between after buffer keeps (front_written line to_read before between outcome not_output writes left)
+
+    -- it doesn't fail
+    pub refusals_left : Keeps between (append_known after []) → IfErr outcome (λ error. LetsOut line to_read error before after)
+    refusals_left keeps = by_outcome outcome not_output left
+      where
+        by_outcome : (r : Result (Unit {0}) ServeError) → (r ≡ Err serve.Output → ⊥) → IfErr r (λ error. Leaves line to_read error (append_known before []) between) → IfErr r (λ error. LetsOut line to_read error before after)
+        by_outcome (Ok done) not_output left = tt
+        by_outcome (Err error) not_output left = refusal_left before between after keeps line to_read error (λ same. not_output (ap Err same)) left

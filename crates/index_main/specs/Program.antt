@@ -1,7 +1,8 @@
 -- What the program writes for a command line, and what it leaves behind after a refusal.
-use Rattle.std.specs.Prelude.{◌≡◌, ⊤, ℕ, List, [], Option, Result, Ok, Err}
-use Rattle.blink_run.specs.Served.{LeavesLines, Serves}
-use Rattle.blink_run.specs.ServedReplay.{Replays, WroteNothing}
+use Rattle.std.specs.Prelude.{◌≡◌, ◌⊎◌, ⊤, ℕ, List, [], ◌++◌, Option, Some, Result, Ok, Err}
+use Rattle.blink_batch.specs.Script.{records_of}
+use Rattle.blink_run.specs.Served.{IsTextOf, LeavesLines, Serves}
+use Rattle.blink_run.specs.ServedReplay.{IsReplayText, LeavesReplay, Replays}
 use Rattle.blink_run.specs.declared.error.ServeError.{ServeError}
 use Rattle.blink_run.specs.declared.error.ServeError.TheVariants as serve
 use Rattle.index_main.specs.declared.line.Line.{Line}
@@ -12,10 +13,33 @@ abbrev pub Writes : Line → Option (List ℕ) → Option (List ℕ) → Option 
 Writes (Run settings) to_read before after = Serves to_read before after
 Writes (Replay settings schedule) to_read before after = Replays settings.workers settings.fan schedule.items to_read before after
 
--- what a refusal leaves: of a run the lines of the parts before, and of a replay nothing
+-- what a refusal leaves: of a run the lines of the parts before, and of a replay nothing; where the writer failed, a beginning of
+-- the text
 abbrev pub Leaves : Line → Option (List ℕ) → ServeError → Option (List ℕ) → Option (List ℕ) → Type 0
 Leaves (Run settings) to_read error before after = LeavesLines to_read error before after
-Leaves (Replay settings schedule) to_read error before after = WroteNothing error before after
+Leaves (Replay settings schedule) to_read error before after = LeavesReplay settings.workers settings.fan schedule.items to_read error before after
+
+-- the text of some records, where they are a script
+abbrev pub IsText : Line → List (List (List ℕ)) → List ℕ → Type 0
+IsText (Run settings) records text = IsTextOf records text
+IsText (Replay settings schedule) records text = IsReplayText settings.workers settings.fan schedule.items records text
+
+-- what has left is a beginning of what had left before and the text behind it; what is refused has no text
+pub record HasLeftFront (line : Line) (records : List (List (List ℕ))) (written : List ℕ) (after : Option (List ℕ)) : Type 0 where
+  pub text : List ℕ
+  pub its_text : IsText line records text ⊎ (text ≡ [])
+  pub left : List ℕ
+  pub rest : List ℕ
+  pub known : after ≡ Some left
+  pub in_order : written ++ text ≡ left ++ rest
+
+-- what leaves the buffer then, where the bytes to be read and those that had left before are known
+abbrev pub LetsOut : Line → Option (List ℕ) → ServeError → Option (List ℕ) → Option (List ℕ) → Type 0
+LetsOut line to_read (serve.Script error) before after = Leaves line to_read (serve.Script error) before after
+LetsOut line to_read (serve.Run number error) before after = Leaves line to_read (serve.Run number error) before after
+LetsOut line to_read (serve.Step error) before after = Leaves line to_read (serve.Step error) before after
+LetsOut line to_read serve.Output before after = (read written : List ℕ) → to_read ≡ Some read → before ≡ Some written → HasLeftFront line (records_of read) written after
+LetsOut line to_read serve.OutOfMemory before after = Leaves line to_read serve.OutOfMemory before after
 
 -- nothing is left in the buffer, unless the writer failed
 abbrev pub HasLeft : Result (Unit {0}) ServeError → List ℕ → Type 0

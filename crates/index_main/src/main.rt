@@ -35,7 +35,10 @@ fn blink(
     let Ok(mut output) = BufWriter::with_capacity(alloc, BUFFER, io::writer(rt)) else {
         return Err(ProgramError::Memory);
     };
-    carry_out(rt, alloc, &line, &mut rt.reader(), &mut output).map_err(ProgramError::Serve)
+    let outcome = carry_out(rt, alloc, &line, &mut rt.reader(), &mut output);
+    // Only a writer that failed has left something in the buffer, and it isn't tried again, as it would be at the buffer's end.
+    let _ = output.into_parts();
+    outcome.map_err(ProgramError::Serve)
 }
 
 fn main(rt: HostRuntime) -> ExitCode {

@@ -1,7 +1,7 @@
 //! What the command line asks for, carried out.
-ghost use Rattle.std.specs.Prelude.{◌≡◌, [], IfErr, OnOk};
+ghost use Rattle.std.specs.Prelude.{◌≡◌, ◌↔◌, [], Err, IfErr, IsTrue, OnOk};
 ghost use Rattle.std.specs.Io.Buffered.{writer_buffer, writer_inner};
-ghost use Rattle.index_main.specs.Program.{HasLeft, Leaves, Writes};
+ghost use Rattle.index_main.specs.Program.{HasLeft, Leaves, LetsOut, Writes};
 
 use crate::line::Line;
 use blink_run::{Open, ServeError, serve, serve_replay};
@@ -15,7 +15,8 @@ mod tests;
 
 /// Carries a command line out: reads the script and writes what it answers, or what its replay tells.
 ///
-/// Whatever the end is, nothing is left in the buffer but where the writer failed: then the answer is `Output`.
+/// Whatever the end is, nothing is left in the buffer but where the writer failed: then the answer is `Output`, and nothing more is
+/// written.
 pub fn carry_out<T: Threads + Wait + Sync, R: Read, W: Write + Drop>(
     rt: &T,
     alloc: Global,
@@ -26,15 +27,25 @@ pub fn carry_out<T: Threads + Wait + Sync, R: Read, W: Write + Drop>(
     requires { writer_buffer output.old ≡ [] }
     ensures written { OnOk result (Writes line.now (R.remaining reader.old)
         (W.contents (writer_inner output.old)) (W.contents (writer_inner output.new))) }
-    ensures left { IfErr result (λ error. Leaves line.now (R.remaining reader.old) error
+    ensures left { IfErr result (λ error. LetsOut line.now (R.remaining reader.old) error
         (W.contents (writer_inner output.old)) (W.contents (writer_inner output.new))) }
     ensures emptied { HasLeft result (writer_buffer output.new) }
 {
     let outcome = served(rt, alloc, line, reader, output);
+    if has_failed(&outcome) {
+        return outcome;
+    }
     match output.flush() {
         Ok(()) => outcome,
         Err(_) => Err(ServeError::Output),
     }
+}
+
+// Whether the writer failed.
+fn has_failed(outcome: &Result<(), ServeError>) -> bool
+    ensures { IsTrue result ↔ (outcome.now ≡ Err ServeError.Output) }
+{
+    *outcome == Err(ServeError::Output)
 }
 
 // Serves the script as the command line asks.

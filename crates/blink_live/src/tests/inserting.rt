@@ -68,17 +68,17 @@ fn call_all<R: Wait + Abort>(rt: &R, live: &Live, pass: &mut Pass, work: &Work)
 
 // A table with its keeper and its passes.
 #[derive(Drop)]
-struct Shared {
-    live: Live,
+pub(super) struct Shared {
+    pub(super) live: Live,
     keeper: Keeper,
-    passes: Vec<Pass>,
+    pub(super) passes: Vec<Pass>,
     ghost its_keeper: { IsKeeperOf live keeper },
     ghost its_passes: { All (IsPassOf live) passes.items },
 }
 
 impl Shared {
     // Over an empty index whose pages have 4 entries at most.
-    fn open(alloc: Global, inserts: u32, deletes: u32) -> Result<Shared, Fail> {
+    pub(super) fn open(alloc: Global, inserts: u32, deletes: u32) -> Result<Shared, Fail> {
         let index = Index::new(alloc, 4)?;
         let (live, keeper) = Live::open(alloc, &index, Allowance { inserts, deletes })?;
         let passes = Vec::new(alloc);
@@ -89,7 +89,7 @@ impl Shared {
         })
     }
 
-    fn deal(&mut self, keys: Vec<u64>, inserts: u32, deletes: u32) -> Result<(), Fail> {
+    pub(super) fn deal(&mut self, keys: Vec<u64>, inserts: u32, deletes: u32) -> Result<(), Fail> {
         let pass = self.live.deal(&mut self.keeper, keys, inserts, deletes)?;
         self.passes.push(pass)?;
         Ok(())
@@ -110,7 +110,7 @@ impl Shared {
         thread::for_each_mut(rt, &mut self.passes, threads, &one);
     }
 
-    fn close(self, alloc: Global) -> Result<Index, Fail> {
+    pub(super) fn close(self, alloc: Global) -> Result<Index, Fail> {
         let Shared {
             live,
             keeper,
@@ -242,7 +242,7 @@ fn one_pass_builds_three_levels(rt: HostRuntime) -> Result<(), Fail> {
 // ---- several threads
 
 // Whether the index has exactly these keys, each with ten times the key.
-fn has_exactly(alloc: Global, index: &Index, keys: &[u64]) -> Result<bool, AllocError> {
+pub(super) fn has_exactly(alloc: Global, index: &Index, keys: &[u64]) -> Result<bool, AllocError> {
     let mut expected = Vec::new(alloc);
     for &key in keys {
         let pointer = key.wrapping_mul(10);

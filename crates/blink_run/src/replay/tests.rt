@@ -3,8 +3,6 @@ use crate::{CutKind, Driver, ServeError, Settings, serve_replay};
 use blink_batch::{RecordError, ScriptError};
 use blink_steps::StepError;
 use std::alloc::Global;
-use std::io;
-use std::io::Write;
 use std::test::Fail;
 
 // What is written of a script's replay, how it ended, and how much of the script is left.
@@ -123,33 +121,5 @@ fn refused_scripts_are_not_replayed(rt: HostRuntime) -> Result<(), Fail> {
         end,
         Err(ServeError::Script(ScriptError::Row(2, RecordError::UnknownOperation)))
     );
-    Ok(())
-}
-
-// Takes everything, and fails at its flush.
-#[derive(Drop)]
-struct Unflushed;
-
-impl Write for Unflushed {
-    fn write(&mut self, buffer: &[u8]) -> io::Result<usize> {
-        Ok(buffer.len())
-    }
-
-    fn flush(&mut self) -> io::Result<()> {
-        Err(io::Error::from(io::ErrorKind::Other))
-    }
-}
-
-#[test]
-fn a_flush_that_fails_is_told(rt: HostRuntime) -> Result<(), Fail> {
-    let mut script = b"insert,5,50\n".as_slice();
-    let end = serve_replay(
-        rt.alloc(),
-        &mut script,
-        &mut Unflushed,
-        &two_workers()?,
-        &[0],
-    );
-    assert_eq!(rt; end, Err(ServeError::Output));
     Ok(())
 }

@@ -1,9 +1,9 @@
 //! Examples of scripts and their output, worked by hand.
-use crate::{CutKind, Driver, Open, ServeError, Settings, serve};
+use crate::{CutKind, Driver, Open, ServeError, Settings, serve, serve_replay};
 use blink_batch::{RecordError, ScriptError};
 use std::alloc::{AllocError, Global};
 use std::io;
-use std::io::{Read, Write};
+use std::io::Read;
 use std::sync::Wait;
 use std::test::Fail;
 use std::thread::Threads;
@@ -142,96 +142,181 @@ fn a_scan_makes_room_for_another_batch(rt: HostRuntime) -> Result<(), Fail> {
     Ok(())
 }
 
-// Takes a byte at each call, and fails at the call after `calls` of them; a flush fails where it is told to.
-#[derive(Drop)]
-struct Narrow {
-    calls: usize,
-    taken: Vec<u8>,
-    flushes: u64,
-    is_flush_refused: bool,
-}
-
-impl Narrow {
-    fn new(alloc: Global, calls: usize, is_flush_refused: bool) -> Narrow {
-        Narrow {
-            calls,
-            taken: Vec::new(alloc),
-            flushes: 0,
-            is_flush_refused,
-        }
+// What is written of a script or the line of its refusal, when it is served whole.
+fn told<T: Threads + Wait + Sync>(rt: &T, alloc: Global, script: &[u8]) -> Result<String, Fail> {
+    let settings = Settings::new(2, 16, CutKind::Residue, Driver::Locked)?;
+    match served(rt, alloc, script, &settings) {
+        (output, Ok(())) => Ok(String::from_utf8(output)?),
+        (output, Err(error)) if output.is_empty() => Ok(format!(in alloc; "{error}")?),
+        _ => Err(Fail::from("a refusal after some lines")),
     }
 }
 
-impl Write for Narrow {
-    fn write(&mut self, buffer: &[u8]) -> io::Result<usize> {
+#[test]
+fn a_script_may_end_anywhere(rt: HostRuntime) -> Result<(), Fail> {
+    let script = b"insert,1,10\n";
+    for length in 0..=script.len() {
+        let expected = match length {
+            0 => "",
+            1..=8 => "row 1: bad shape",
+            9 => "row 1: bad number",
+            _ => "inserted\n",
+        };
+        let given = told(&rt, rt.alloc(), &script[..length])?;
+        assert_eq!(rt; given.as_str(), expected, "{length} bytes");
+    }
+    Ok(())
+}
+
+// A record with a field of a mebibyte, in quotes or not.
+fn wide(alloc: Global, before: &str, quote: &str, byte: &str, after: &str) -> Result<String, Fail> {
+    let field = byte.repeat(alloc, 1 << 20)?;
+    Ok(format!(in alloc; "{before}{quote}{field}{quote}{after}")?)
+}
+
+#[test]
+fn bytes_are_read_as_csv_reads_them(rt: HostRuntime) -> Result<(), Fail> {
+    let alloc = rt.alloc();
+    let bad_number = "row 1: bad number";
+    let bad_shape = "row 1: bad shape";
+    let unknown = "row 1: unknown operation";
+    let both = "inserted\nfound 10\n";
+    let cases = [
+        // A byte that isn't UTF-8 is a byte of its field.
+        (b"find,\xff,".as_slice(), bad_number),
+        (b"find\xc3,1,", unknown),
+        (b"find,1,\x80", bad_shape),
+        // Quotes stand round a field, and in them commas, quotes and line feeds.
+        (b"\"find\",\"5\",\"\"", "absent\n"),
+        (b"\"insert\",\"1\",\"10\"\n\"find\",1,\n", both),
+        (b"\"fi,nd\",1,", unknown),
+        (b"find,\"1,2\",", bad_number),
+        (b"find,1,\",\"", bad_shape),
+        (b"find,\"1\n\",", bad_number),
+        (b"\"fi\"\"nd\",1,", unknown),
+        (b"insert,1,\"1\n\n0\"\nfind,1,", bad_number),
+        (b"find,5,\n\"pu\nt\",1,1\n", "row 2: unknown operation"),
+        (b"insert,1,\"10", "inserted\n"),
+        // A byte order mark stands before the first record alone.
+        (b"\xef\xbb\xbfinsert,1,10\nfind,1,\n", both),
+        (
+            b"find,5,\n\xef\xbb\xbffind,5,\n",
+            "row 2: unknown operation",
+        ),
+        (b"\xef\xbb\xbf", ""),
+        (b"\xef\xbb", bad_shape),
+        // Records end at a line feed, a carriage return or both, or with the text.
+        (b"insert,1,10\r\nfind,1,\r\n", both),
+        (b"insert,1,10\rfind,1,\r", both),
+        (b"insert,1,10\nfind,1,", both),
+        // Empty lines are no records, and a space is a field.
+        (b"\n\r\n\ninsert,1,10\n\n\r\rfind,1,\n\n", both),
+        (b"\n\nput,1,1\n", unknown),
+        (b"\n \n", bad_shape),
+    ];
+    for (at, (script, expected)) in cases.into_iter().enumerate() {
+        let given = told(&rt, alloc, script)?;
+        assert_eq!(rt; given.as_str(), expected, "case {at}");
+    }
+    for quote in ["", "\""] {
+        for (before, byte, after, expected) in [
+            ("", "x", ",1,1\nfind,1,\n", unknown),
+            ("find,", "1", ",\n", bad_number),
+            ("find,1,", " ", "\n", bad_shape),
+            ("insert,1,", "0", "\n", bad_number),
+        ] {
+            let script = wide(alloc, before, quote, byte, after)?;
+            let given = told(&rt, alloc, script.as_bytes())?;
+            assert_eq!(rt; given.as_str(), expected, "{before}");
+        }
+    }
+    let lines = wide(alloc, "find,", "\"", "\n", ",\n")?;
+    assert_eq!(rt; told(&rt, alloc, lines.as_bytes())?.as_str(), bad_number);
+    Ok(())
+}
+
+// Gives a byte at each call, and fails at the call after so many.
+#[derive(Drop)]
+struct Slow<'a> {
+    text: &'a [u8],
+    calls: usize,
+}
+
+impl<'a> Read for Slow<'a> {
+    fn read(&mut self, buffer: &mut [u8]) -> io::Result<usize> {
         if self.calls == 0 {
             return Err(io::Error::from(io::ErrorKind::Other));
         }
         self.calls -= 1;
-        match buffer.first() {
-            Some(byte) => {
-                self.taken.push(*byte)?;
+        match (self.text.split_first(), buffer.first_mut()) {
+            (Some((byte, rest)), Some(place)) => {
+                *place = *byte;
+                self.text = rest;
                 Ok(1)
             }
-            None => Ok(0),
+            _ => Ok(0),
         }
-    }
-
-    fn flush(&mut self) -> io::Result<()> {
-        self.flushes = self.flushes.wrapping_add(1);
-        if self.is_flush_refused {
-            return Err(io::Error::from(io::ErrorKind::Other));
-        }
-        Ok(())
     }
 }
 
 #[test]
-fn narrow_and_failing_writers(rt: HostRuntime) -> Result<(), Fail> {
+fn a_reader_may_fail_at_any_call(rt: HostRuntime) -> Result<(), Fail> {
     let settings = Settings::new(2, 16, CutKind::Residue, Driver::Locked)?;
-    let expected = b"inserted\n5 50\nend 1\n";
-    for calls in 0..=expected.len() {
-        let mut writer = Narrow::new(rt.alloc(), calls, false);
-        let mut script = b"insert,5,50\nscan,0,9\n".as_slice();
-        let end = serve(&rt, rt.alloc(), &mut script, &mut writer, &settings, &Open);
-        if calls == expected.len() {
-            assert!(rt; end.is_ok());
-            assert_eq!(rt; writer.taken.as_slice(), expected.as_slice());
-            assert_eq!(rt; writer.flushes, 1);
-        } else {
-            assert_eq!(rt; end, Err(ServeError::Output), "{calls}");
-        }
+    let text = b"\xef\xbb\xbfinsert,5,50\nscan,0,9\nfind,5,\n".as_slice();
+    // A call for each byte, and one that tells the end.
+    for calls in 0..=text.len() {
+        let mut output = Vec::new(rt.alloc());
+        let mut script = Slow { text, calls };
+        let end = serve(&rt, rt.alloc(), &mut script, &mut output, &settings, &Open);
+        assert_eq!(rt; end, Err(ServeError::Script(ScriptError::Read)), "{calls}");
+        let mut script = Slow { text, calls };
+        let end = serve_replay(rt.alloc(), &mut script, &mut output, &settings, &[0]);
+        assert_eq!(rt; end, Err(ServeError::Script(ScriptError::Read)), "{calls}");
+        assert_eq!(rt; output.len(), 0);
     }
-    Ok(())
-}
-
-#[test]
-fn a_flush_that_fails_is_told(rt: HostRuntime) -> Result<(), Fail> {
-    let settings = Settings::new(2, 16, CutKind::Residue, Driver::Locked)?;
-    let mut writer = Narrow::new(rt.alloc(), 1000, true);
-    let mut script = b"insert,5,50\n".as_slice();
-    let end = serve(&rt, rt.alloc(), &mut script, &mut writer, &settings, &Open);
-    assert_eq!(rt; end, Err(ServeError::Output));
-    assert_eq!(rt; ServeError::Output.code(), 70);
-    Ok(())
-}
-
-// Gives nothing and fails.
-#[derive(Drop)]
-struct Broken;
-
-impl Read for Broken {
-    fn read(&mut self, _buffer: &mut [u8]) -> io::Result<usize> {
-        Err(io::Error::from(io::ErrorKind::Other))
-    }
-}
-
-#[test]
-fn a_reader_that_fails_is_told(rt: HostRuntime) -> Result<(), Fail> {
-    let settings = Settings::new(2, 16, CutKind::Residue, Driver::Locked)?;
+    assert_eq!(rt; ServeError::Script(ScriptError::Read).code(), 15);
     let mut output = Vec::new(rt.alloc());
-    let end = serve(&rt, rt.alloc(), &mut Broken, &mut output, &settings, &Open);
-    assert_eq!(rt; end, Err(ServeError::Script(ScriptError::Read)));
-    assert_eq!(rt; output.len(), 0);
+    let mut script = Slow { text, calls: 1000 };
+    let end = serve(&rt, rt.alloc(), &mut script, &mut output, &settings, &Open);
+    assert!(rt; end.is_ok());
+    assert_eq!(rt;
+        output.as_slice(),
+        b"inserted\n5 50\nend 1\nfound 50\n".as_slice()
+    );
+    Ok(())
+}
+
+// Counts the bytes that it has given.
+#[derive(Drop)]
+struct Counted<'a> {
+    text: &'a [u8],
+    given: usize,
+}
+
+impl<'a> Read for Counted<'a> {
+    fn read(&mut self, buffer: &mut [u8]) -> io::Result<usize> {
+        let count = self.text.read(buffer)?;
+        self.given = self.given.saturating_add(count);
+        Ok(count)
+    }
+}
+
+// The first record is refused, and no more is read than csv's reader takes at a time: 8,192 bytes, behind those of the beginning that
+// it looks at for a byte order mark.
+#[test]
+fn garbage_is_refused_at_its_first_record(rt: HostRuntime) -> Result<(), Fail> {
+    let settings = Settings::new(2, 16, CutKind::Residue, Driver::Locked)?;
+    let refusal = Err(ServeError::Script(ScriptError::Row(1, RecordError::BadShape)));
+    let records = "garbage\n".repeat(rt.alloc(), 1_000_000)?;
+    let text = records.as_bytes();
+    let mut output = Vec::new(rt.alloc());
+    let mut script = Counted { text, given: 0 };
+    let end = serve(&rt, rt.alloc(), &mut script, &mut output, &settings, &Open);
+    assert_eq!(rt; end, refusal);
+    assert!(rt; output.is_empty() && script.given <= 3 + 8192);
+    let mut script = Counted { text, given: 0 };
+    let end = serve_replay(rt.alloc(), &mut script, &mut output, &settings, &[]);
+    assert_eq!(rt; end, refusal);
+    assert!(rt; output.is_empty() && script.given <= 3 + 8192);
     Ok(())
 }

@@ -1,10 +1,10 @@
 use super::carry_out;
 use crate::end::{End, ProgramError, end_of};
 use crate::line::{Line, read_line};
-use blink_run::{CutKind, Driver, ServeError, Settings};
+use blink_run::{CutKind, Driver, Settings};
 use std::alloc::Global;
 use std::io;
-use std::io::{BufWriter, Write};
+use std::io::{BufWriter, Read, Write};
 use std::sync::Wait;
 use std::test::Fail;
 use std::thread::Threads;
@@ -128,32 +128,109 @@ fn each_driver_refuses_what_is_no_script(rt: HostRuntime) -> Result<(), Fail> {
     Ok(())
 }
 
-// Takes nothing.
+// Gives nothing and fails.
 #[derive(Drop)]
-struct Full;
+struct Broken;
 
-impl Write for Full {
-    fn write(&mut self, _buffer: &[u8]) -> io::Result<usize> {
+impl Read for Broken {
+    fn read(&mut self, _buffer: &mut [u8]) -> io::Result<usize> {
         Err(io::Error::from(io::ErrorKind::Other))
-    }
-
-    fn flush(&mut self) -> io::Result<()> {
-        Ok(())
     }
 }
 
 #[test]
-fn a_full_disk_is_told(rt: HostRuntime) -> Result<(), Fail> {
-    let alloc: Global = rt.alloc();
+fn a_reader_that_fails_is_told(rt: HostRuntime) -> Result<(), Fail> {
+    let alloc = rt.alloc();
     for line in [
         Line::Run(settings(Driver::Locked)?),
-        Line::Run(settings(Driver::Live)?),
         Line::Replay(settings(Driver::Locked)?, Vec::new(alloc)),
     ] {
-        let mut script = b"insert,5,50\n".as_slice();
-        let mut output = BufWriter::new(alloc, Full)?;
-        let end = carry_out(&rt, alloc, &line, &mut script, &mut output);
-        assert_eq!(rt; end, Err(ServeError::Output));
+        let mut output = BufWriter::new(alloc, Vec::new(alloc))?;
+        let outcome = carry_out(&rt, alloc, &line, &mut Broken, &mut output);
+        let end = end_of(alloc, outcome.map_err(ProgramError::Serve));
+        assert_eq!(rt; (end.status, end.lines()), (3, Some("script: read failed")));
+        assert_eq!(rt; output.get_ref().len(), 0);
+    }
+    Ok(())
+}
+
+// Takes so many bytes, and then has no room; a flush goes well or not.
+#[derive(Drop)]
+struct Disk {
+    taken: Vec<u8>,
+    room: usize,
+    is_flushed: bool,
+}
+
+impl Write for Disk {
+    fn write(&mut self, bytes: &[u8]) -> io::Result<usize> {
+        let room = self.room.saturating_sub(self.taken.len());
+        if room == 0 {
+            return Err(io::Error::from(io::ErrorKind::StorageFull));
+        }
+        let count = bytes.len().min(room);
+        self.taken.extend_from_slice(&bytes[..count])?;
+        Ok(count)
+    }
+
+    fn flush(&mut self) -> io::Result<()> {
+        if self.is_flushed {
+            Ok(())
+        } else {
+            Err(io::Error::from(io::ErrorKind::Other))
+        }
+    }
+}
+
+// What the program leaves on such a disk, and how it ends.
+fn left_on<T: Threads + Wait + Sync>(
+    rt: &T,
+    alloc: Global,
+    line: &Line,
+    disk: Disk,
+) -> Result<(Vec<u8>, End), Fail> {
+    let mut script = b"insert,5,50\nscan,9,1\nfind,5,\n".as_slice();
+    let mut output = BufWriter::with_capacity(alloc, 16, disk)?;
+    let outcome = carry_out(rt, alloc, line, &mut script, &mut output);
+    let (disk, _) = output.into_parts();
+    Ok((
+        disk.taken,
+        end_of(alloc, outcome.map_err(ProgramError::Serve)),
+    ))
+}
+
+#[test]
+fn a_disk_that_fails_is_told(rt: HostRuntime) -> Result<(), Fail> {
+    let alloc = rt.alloc();
+    let run = "inserted\nend 0\nfound 50\n";
+    let replay = "1 P\ninserted\nend 0\nfound 50\n0 1 - 18446744073709551615 - 5:50\n";
+    let told = (5, Some("output: write failed"));
+    for (line, text) in [
+        (Line::Run(settings(Driver::Locked)?), run),
+        (Line::Run(settings(Driver::Live)?), run),
+        (
+            Line::Replay(settings(Driver::Locked)?, [1].to_vec(alloc)?),
+            replay,
+        ),
+    ] {
+        for room in 0..text.len() {
+            let disk = Disk {
+                taken: Vec::new(alloc),
+                room,
+                is_flushed: true,
+            };
+            let (left, end) = left_on(&rt, alloc, &line, disk)?;
+            assert_eq!(rt; (end.status, end.lines()), told, "{room}");
+            assert_eq!(rt; left.as_slice(), &text.as_bytes()[..room]);
+        }
+        let disk = Disk {
+            taken: Vec::new(alloc),
+            room: text.len(),
+            is_flushed: false,
+        };
+        let (left, end) = left_on(&rt, alloc, &line, disk)?;
+        assert_eq!(rt; (end.status, end.lines()), told);
+        assert_eq!(rt; left.as_slice(), text.as_bytes());
     }
     Ok(())
 }

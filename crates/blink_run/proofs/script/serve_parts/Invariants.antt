@@ -5,4 +5,4 @@ use Rattle.blink_run.proofs.script.serve_parts.Given as goal
 
 -- the parts so far are served
 abbrev pub invariant-loop-part : goal.invariant-loop-part
-invariant-loop-part g l = HasServed (map_of l.initial.index) (take l.part-index l.parts) (g.W.Write.contents l.initial.writer) (g.W.Write.contents l.writer) (map_of l.index) l.batches
+invariant-loop-part g l = HasServed g.O.Outlet.offered (map_of l.initial.index) (take l.part-index l.parts) l.initial.outlet l.outlet (map_of l.index) l.batches

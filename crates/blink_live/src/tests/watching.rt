@@ -1,0 +1,90 @@
+//! Threads that insert, delete, and look at each other's keys meanwhile.
+ghost use Rattle.blink_live.specs.Handles.{IsPassOf};
+
+use crate::tests::inserting::{Shared, has_exactly};
+use crate::{Live, Pass};
+use blink_batch::Answer;
+use std::process::Abort;
+use std::sync::Wait;
+use std::test::Fail;
+use std::thread::{self, Threads};
+
+// Which keys a thread has seen.
+type Seen = [bool; 512];
+
+// Glances at a key: it has ten times the key, or isn't there. An even key, which nobody deletes, stays once it was seen.
+fn watch<R: Abort>(rt: &R, live: &Live, pass: &mut Pass, key: u64, seen: &mut bool)
+    requires { IsPassOf live.now pass.old }
+    ensures { IsPassOf live.now pass.new }
+{
+    match live.glance(pass, key) {
+        Some(pointer) => {
+            assert!(rt; pointer == key.wrapping_mul(10), "key {key}");
+            *seen = true;
+        }
+        None => assert!(rt; key % 2 == 1 || !*seen, "key {key} was there"),
+    }
+}
+
+// Inserts the keys of this remainder by 8, each with ten times the key, and glances at the next key after each.
+fn insert_all<R: Wait + Abort>(rt: &R, live: &Live, pass: &mut Pass, eighth: u64, seen: &mut Seen)
+    requires { IsPassOf live.now pass.old }
+    ensures { IsPassOf live.now pass.new }
+{
+    for key in (eighth..512).step_by(8) {
+        let given = live.insert(rt, pass, key, key.wrapping_mul(10));
+        assert!(rt; given == Ok(Answer::Inserted), "key {key}");
+        let next = (key + 1) % 512;
+        watch(rt, live, pass, next, &mut seen[next as usize]);
+    }
+}
+
+// Deletes them again, and glances at the next key after each.
+fn delete_all<R: Wait + Abort>(rt: &R, live: &Live, pass: &mut Pass, eighth: u64, seen: &mut Seen)
+    requires { IsPassOf live.now pass.old }
+    ensures { IsPassOf live.now pass.new }
+{
+    for key in (eighth..512).step_by(8) {
+        let given = live.delete(rt, pass, key);
+        assert!(rt;
+            given == Ok(Answer::Removed(key.wrapping_mul(10))),
+            "key {key}"
+        );
+        let next = (key + 1) % 512;
+        watch(rt, live, pass, next, &mut seen[next as usize]);
+    }
+}
+
+impl Shared {
+    // Each pass inserts its keys, in a thread of its own, and every second one deletes them.
+    fn change_all<R: Threads + Wait + Abort + Sync>(&mut self, rt: &R) {
+        let live = &self.live;
+        let one = |place: usize, pass: &mut Pass|
+            requires { IsPassOf live.now pass.now }
+            ensures { IsPassOf live.entry.now pass.exit.now }
+        {
+            let eighth = place as u64;
+            let mut seen = [false; 512];
+            insert_all(rt, live, pass, eighth, &mut seen);
+            if eighth % 2 == 1 {
+                delete_all(rt, live, pass, eighth, &mut seen);
+            }
+        };
+        thread::for_each_mut(rt, &mut self.passes, 8, &one);
+    }
+}
+
+#[test]
+fn eight_threads_look_at_each_others_keys(rt: HostRuntime) -> Result<(), Fail> {
+    let alloc = rt.alloc();
+    let mut table = Shared::open(alloc, 512, 256)?;
+    for eighth in 0..8 {
+        let keys = (0..64).map(|place| 8 * place + eighth).collect(alloc)?;
+        table.deal(keys, 64, if eighth % 2 == 1 { 64 } else { 0 })?;
+    }
+    table.change_all(&rt);
+    let closed = table.close(alloc)?;
+    let even: Vec<u64> = (0..256).map(|half| 2 * half).collect(alloc)?;
+    assert!(rt; has_exactly(alloc, &closed, &even)?);
+    Ok(())
+}
