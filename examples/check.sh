@@ -28,10 +28,13 @@ check_run() {
 check_run first --workers 2
 check_run shared_key
 check_run deletions
+check_run replacements
 check_run scans --workers 3 --cut ranges
+check_run pages --workers 2 --fan 4
 check_run splits --workers 3 --fan 4
 check half_a_split replay --workers 2 --fan 4 --schedule 1,0,0,0,0,0,0,1,1
 check waiting replay --workers 3 --fan 4 --schedule 1,1,1,0,0,0,2
+check replaced replay --workers 2 --fan 4 --schedule 1,1,1,0,0,0,1,1
 
 # 40,000 finds, whose lines are more than the program's buffer and a pipe hold: whoever reads them takes the first and goes. The
 # program is then ended by the pipe, or tells that its output failed; it never goes on for ever.

@@ -5,9 +5,9 @@ use Rattle.std.proofs.lemmas.Bool.Decides.{nat_tests}
 use Rattle.std.specs.List.{AllByRecursion, zip, filter}
 use Rattle.blink_batch.specs.declared.entry.Entry.{Entry}
 use Rattle.blink_batch.specs.declared.operation.Op.{Op}
-use Rattle.blink_batch.specs.declared.operation.Op.TheVariants.{Find, Insert, Delete}
+use Rattle.blink_batch.specs.declared.operation.Op.TheVariants.{Find, Insert, Delete, Replace}
 use Rattle.blink_batch.specs.declared.operation.Answer.{Answer}
-use Rattle.blink_batch.specs.PlainMap.{entry, IsAscending, pointer_of, added, removed}
+use Rattle.blink_batch.specs.PlainMap.{entry, IsAscending, pointer_of, added, removed, replaced}
 use Rattle.blink_batch.specs.Operation.{key_of, answer_at, map_at, answer_of, map_after, answers, map_after_all}
 use Rattle.blink_batch.specs.Cell.{cell_after, cell_answers, cell_after_all, is_on_key, on_key}
 
@@ -39,17 +39,33 @@ pointer_of-removed_elsewhere (e ∷ es) k q other =
     let rest : pointer_of (removed es k) q ≡ pointer_of es q = pointer_of-removed_elsewhere es k q other in
     grind (arith, nat_tests, rest)
 
+-- a key whose pointer is replaced keeps the new one
+pub pointer_of-replaced : (m : List Entry) (k p there : ℕ) → pointer_of m k ≡ Some there → pointer_of (replaced m k p) k ≡ Some p
+pointer_of-replaced [] k p there kept = absurd (cc)
+pointer_of-replaced (e ∷ es) k p there kept =
+    let rest : pointer_of es k ≡ Some there → pointer_of (replaced es k p) k ≡ Some p = pointer_of-replaced es k p there in
+    grind (arith, nat_tests, rest)
+
+-- and the other keys are left alone
+pub pointer_of-replaced_elsewhere : (m : List Entry) (k p q : ℕ) → (k ≡ q → ⊥) → pointer_of (replaced m k p) q ≡ pointer_of m q
+pointer_of-replaced_elsewhere [] k p q other = refl
+pointer_of-replaced_elsewhere (e ∷ es) k p q other =
+    let rest : pointer_of (replaced es k p) q ≡ pointer_of es q = pointer_of-replaced_elsewhere es k p q other in
+    grind (arith, nat_tests, rest)
+
 -- an operation on a key does to it what it does to the cell alone
 pub pointer_of-map_after_own : (m : List Entry) (op : Op) (k : ℕ) → key_of op ≡ k → pointer_of (map_after m op) k ≡ cell_after op (pointer_of m k)
 pointer_of-map_after_own m (Find key) k own = refl
 pointer_of-map_after_own m (Insert key p) k own = subst (λ (q : ℕ). pointer_of (map_after m (Insert key p)) q ≡ cell_after (Insert key p) (pointer_of m q)) own ((elim (pointer_of m key) as (λ kept. pointer_of m key ≡ kept → pointer_of (map_at (Insert key p) kept m) key ≡ cell_after (Insert key p) kept) [ Some there ↦ λ h. h | None ↦ λ h. pointer_of-added m key p h ]) refl)
 pointer_of-map_after_own m (Delete key) k own = subst (λ (q : ℕ). pointer_of (map_after m (Delete key)) q ≡ None) own ((elim (pointer_of m key) as (λ kept. pointer_of m key ≡ kept → pointer_of (map_at (Delete key) kept m) key ≡ None) [ Some there ↦ λ h. pointer_of-removed m key | None ↦ λ h. h ]) refl)
+pointer_of-map_after_own m (Replace key p) k own = subst (λ (q : ℕ). pointer_of (map_after m (Replace key p)) q ≡ cell_after (Replace key p) (pointer_of m q)) own ((elim (pointer_of m key) as (λ kept. pointer_of m key ≡ kept → pointer_of (map_at (Replace key p) kept m) key ≡ cell_after (Replace key p) kept) [ Some there ↦ λ h. pointer_of-replaced m key p there h | None ↦ λ h. h ]) refl)
 
 -- and leaves every other key alone
 pub pointer_of-map_after_other : (m : List Entry) (op : Op) (k : ℕ) → (key_of op ≡ k → ⊥) → pointer_of (map_after m op) k ≡ pointer_of m k
 pointer_of-map_after_other m (Find key) k other = refl
 pointer_of-map_after_other m (Insert key p) k other = elim (pointer_of m key) as (λ kept. pointer_of (map_at (Insert key p) kept m) k ≡ pointer_of m k) [ Some there ↦ refl | None ↦ pointer_of-added_elsewhere m key p k other ]
 pointer_of-map_after_other m (Delete key) k other = elim (pointer_of m key) as (λ kept. pointer_of (map_at (Delete key) kept m) k ≡ pointer_of m k) [ Some there ↦ pointer_of-removed_elsewhere m key k other | None ↦ refl ]
+pointer_of-map_after_other m (Replace key p) k other = elim (pointer_of m key) as (λ kept. pointer_of (map_at (Replace key p) kept m) k ≡ pointer_of m k) [ Some there ↦ pointer_of-replaced_elsewhere m key p k other | None ↦ refl ]
 
 -- ---- ascending keys
 
@@ -83,11 +99,28 @@ IsAscending-removed (e ∷ es) k ascending = cond_both (not (eqb e.key k)) (e �
     (λ _. (every-removed (λ after. e.key < after.key) es k ascending.0, IsAscending-removed es k ascending.1))
     (λ _. IsAscending-removed es k ascending.1)
 
+-- a replaced pointer leaves keys above a bound there
+above-replaced : (low : ℕ) (m : List Entry) (k p : ℕ) → AllByRecursion (λ after. low < after.key) m → AllByRecursion (λ after. low < after.key) (replaced m k p)
+above-replaced low [] k p all = tt
+above-replaced low (e ∷ es) k p all = elim (cases_eq e.key k) [
+  | inl same ↦ rw (eq-eqb e.key k same) (subst (λ (n : ℕ). low < n) same all.0, all.1)
+  | inr other ↦ rw (ne_eqb e.key k other) (all.0, above-replaced low es k p all.1)
+]
+
+-- and the map ascending
+pub IsAscending-replaced : (m : List Entry) (k p : ℕ) → IsAscending m → IsAscending (replaced m k p)
+IsAscending-replaced [] k p ascending = tt
+IsAscending-replaced (e ∷ es) k p ascending = elim (cases_eq e.key k) [
+  | inl same ↦ rw (eq-eqb e.key k same) (subst (λ (n : ℕ). AllByRecursion (λ after. n < after.key) es) same ascending.0, ascending.1)
+  | inr other ↦ rw (ne_eqb e.key k other) (above-replaced e.key es k p ascending.0, IsAscending-replaced es k p ascending.1)
+]
+
 -- so an operation leaves the keys ascending
 pub IsAscending-map_after : (m : List Entry) (op : Op) → IsAscending m → IsAscending (map_after m op)
 IsAscending-map_after m (Find key) ascending = ascending
 IsAscending-map_after m (Insert key p) ascending = (elim (pointer_of m key) as (λ kept. pointer_of m key ≡ kept → IsAscending (map_at (Insert key p) kept m)) [ Some there ↦ λ h. ascending | None ↦ λ h. IsAscending-added m key p h ascending ]) refl
 IsAscending-map_after m (Delete key) ascending = elim (pointer_of m key) as (λ kept. IsAscending (map_at (Delete key) kept m)) [ Some there ↦ IsAscending-removed m key ascending | None ↦ ascending ]
+IsAscending-map_after m (Replace key p) ascending = elim (pointer_of m key) as (λ kept. IsAscending (map_at (Replace key p) kept m)) [ Some there ↦ IsAscending-replaced m key p ascending | None ↦ ascending ]
 
 -- and so does a run of them
 pub IsAscending-map_after_all : (m : List Entry) (ops : List Op) → IsAscending m → IsAscending (map_after_all m ops)

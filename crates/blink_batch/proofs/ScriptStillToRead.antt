@@ -9,10 +9,10 @@ use Rattle.blink_batch.specs.declared.operation.Op.{Op}
 use Rattle.blink_batch.specs.declared.record.Request.{Request}
 use Rattle.blink_batch.specs.declared.record.Request.TheVariants as request
 use Rattle.blink_batch.specs.declared.script.Part.{Part}
-use Rattle.blink_batch.specs.declared.script.Part.TheVariants.{Scan}
 use Rattle.blink_batch.specs.Parts.{IsOneTooMany, PartsSoFar, all_parts, parts_of, parts_with}
 use Rattle.blink_batch.specs.Record.{request_of}
-use Rattle.blink_batch.specs.Script.{joined, script_from, script_of, with_operation, with_scan}
+use Rattle.blink_batch.specs.Script.{alone, joined, script_from, script_of, with_alone, with_operation}
+use Rattle.blink_batch.proofs.GroupedParts.{IsNoOperation}
 
 -- operations before parts, each joined to what follows it
 abbrev joined_all : List Op → List Part → List Part
@@ -24,7 +24,7 @@ joined_all-more : (ops : List Op) (op : Op) (parts : List Part) → joined_all (
 joined_all-more [] op parts = refl
 joined_all-more (first ∷ ops) op parts = ap (joined first) (joined_all-more ops op parts)
 
--- before nothing, and before a scan, they are a batch of their own
+-- before nothing, and before what is no operation, they are a batch of their own
 joined-alone : (op : Op) (ops : List Op) → joined op (parts_of ops) ≡ parts_of (op ∷ ops)
 joined-alone op [] = refl
 joined-alone op (next ∷ ops) = refl
@@ -33,13 +33,14 @@ joined_all-alone : (ops : List Op) → joined_all ops [] ≡ parts_of ops
 joined_all-alone [] = refl
 joined_all-alone (op ∷ ops) = ap (joined op) (joined_all-alone ops) ∙ joined-alone op ops
 
-joined-scan : (op : Op) (ops : List Op) (lo hi : ℕ) (parts : List Part) → joined op (parts_of ops ++ Scan lo hi ∷ parts) ≡ parts_of (op ∷ ops) ++ Scan lo hi ∷ parts
-joined-scan op [] lo hi parts = refl
-joined-scan op (next ∷ ops) lo hi parts = refl
+joined-before : (op : Op) (ops : List Op) (asked : Request) (parts : List Part) → IsNoOperation asked → joined op (parts_of ops ++ alone asked ∷ parts) ≡ parts_of (op ∷ ops) ++ alone asked ∷ parts
+joined-before op (next ∷ ops) asked parts other = refl
+joined-before op [] (request.Operation join) parts other = absurd other
+joined-before op [] asked parts other = refl
 
-joined_all-scan : (ops : List Op) (lo hi : ℕ) (parts : List Part) → joined_all ops (Scan lo hi ∷ parts) ≡ parts_of ops ++ Scan lo hi ∷ parts
-joined_all-scan [] lo hi parts = refl
-joined_all-scan (op ∷ ops) lo hi parts = ap (joined op) (joined_all-scan ops lo hi parts) ∙ joined-scan op ops lo hi parts
+joined_all-before : (ops : List Op) (asked : Request) (parts : List Part) → IsNoOperation asked → joined_all ops (alone asked ∷ parts) ≡ parts_of ops ++ alone asked ∷ parts
+joined_all-before [] asked parts other = refl
+joined_all-before (op ∷ ops) asked parts other = ap (joined op) (joined_all-before ops asked parts other) ∙ joined-before op ops asked parts other
 
 -- ---- the parts so far before what follows
 
@@ -57,13 +58,14 @@ with_parts-operation : (parts : PartsSoFar) (op : Op) (outcome : Result (List Pa
 with_parts-operation parts op (Ok following) = ap (λ p. Ok (parts.closed ++ p)) (sym (joined_all-more parts.pending op following))
 with_parts-operation parts op (Err error) = refl
 
-with_parts-scan : (parts : PartsSoFar) (lo hi : ℕ) (outcome : Result (List Part) ScriptError)
-    → with_parts parts (with_scan lo hi outcome) ≡ with_parts (parts_with parts (request.Scan lo hi)) outcome
-with_parts-scan parts lo hi (Ok following) =
-    ap Ok (ap (λ p. parts.closed ++ p) (joined_all-scan parts.pending lo hi following)
-    ∙ sym (append_assoc parts.closed (parts_of parts.pending) (Scan lo hi ∷ following))
-    ∙ sym (append_assoc (all_parts parts) (Scan lo hi ∷ []) following))
-with_parts-scan parts lo hi (Err error) = refl
+with_parts-alone : (parts : PartsSoFar) (asked : Request) (outcome : Result (List Part) ScriptError) → IsNoOperation asked
+    → with_parts parts (with_alone (alone asked) outcome) ≡ with_parts (parts_with parts asked) outcome
+with_parts-alone parts (request.Operation op) outcome other = absurd other
+with_parts-alone parts asked (Ok following) other =
+    ap Ok (ap (λ p. parts.closed ++ p) (joined_all-before parts.pending asked following other)
+    ∙ sym (append_assoc parts.closed (parts_of parts.pending) (alone asked ∷ following))
+    ∙ sym (append_assoc (all_parts parts) (alone asked ∷ []) following))
+with_parts-alone parts asked (Err error) other = refl
 
 -- ---- record by record
 
@@ -81,7 +83,7 @@ cases_too_many parts (request.Operation op) = elim (cases_lt (length parts.pendi
   | inl room ↦ inr (λ full. omega arith)
   | inr full ↦ inl full
 ]
-cases_too_many parts (request.Scan lo hi) = inr (λ never. never)
+cases_too_many parts asked = inr (λ never. never)
 
 pub takes_nothing : HasTaken [] 1 (record { closed = []; pending = [] })
 takes_nothing rest = with_parts-none (script_of rest)
@@ -93,7 +95,7 @@ takes_next number parts row rest (request.Operation op) means few =
     let room : length parts.pending < BATCH_LIMIT = elim (cases_lt (length parts.pending) BATCH_LIMIT) [ inl room ↦ room | inr full ↦ absurd (few full) ] in
     rw (means, lt-ltb (length parts.pending) BATCH_LIMIT room, length-append parts.pending (op ∷ []))
     (with_parts-operation parts op (script_from (number + 1) (length parts.pending + 1) rest))
-takes_next number parts row rest (request.Scan lo hi) means few = rw means (with_parts-scan parts lo hi (script_from (number + 1) 0 rest))
+takes_next number parts row rest asked means few = rw means (with_parts-alone parts asked (script_from (number + 1) 0 rest) tt)
 
 pub takes_more : (rows : List (List (List ℕ))) (number : ℕ) (parts : PartsSoFar) (row : List (List ℕ)) (asked : Request) → HasTaken rows number parts → request_of row ≡ Ok asked → ¬ IsOneTooMany parts asked
     → HasTaken (rows ++ row ∷ []) (number + 1) (parts_with parts asked)
@@ -106,7 +108,7 @@ pub refuses_next : (rows : List (List (List ℕ))) (number : ℕ) (parts : Parts
 refuses_next rows number parts row (Err fault) error so_far means refused rest = so_far (row ∷ rest) ∙ rw (means, refused) refl
 refuses_next rows number parts row (Ok (request.Operation op)) error so_far means refused rest =
     so_far (row ∷ rest) ∙ rw (means, le-ltb (length parts.pending) BATCH_LIMIT refused.1, refused.0) refl
-refuses_next rows number parts row (Ok (request.Scan lo hi)) error so_far means refused rest = absurd refused.1
+refuses_next rows number parts row (Ok asked) error so_far means refused rest = absurd refused.1
 
 -- where no record is left, these are the parts
 pub takes_all : (rows : List (List (List ℕ))) (number : ℕ) (parts : PartsSoFar) → HasTaken rows number parts → script_of rows ≡ Ok (all_parts parts)

@@ -1,15 +1,15 @@
 -- What a search by halves finds in a plain map, and what the map keeps and becomes there.
-use Rattle.std.proofs.Common.{◌≡◌, ◌≢◌, ℕ, zero, suc, ◌<◌, ◌≤◌, List, [], ◌∷◌, length, get_or, Some, None, Result, Ok, Err, IfOk, IfErr, refl, sym, ap, arith, inl, inr, subst}
+use Rattle.std.proofs.Common.{◌≡◌, ◌≢◌, ℕ, zero, suc, ◌<◌, ◌≤◌, List, [], ◌∷◌, length, get_or, set, Some, None, Result, Ok, Err, IfOk, IfErr, refl, sym, ap, arith, inl, inr, subst}
 use Rattle.std.specs.List.{insert, remove, AllByRecursion}
 use Rattle.std.specs.List.Sorted.{IsSearchInRange, IsBinarySearchResult, IsNonDecreasingBy}
 use Rattle.std.specs.Ordering.{nat_cmp, ordering_index}
-use Rattle.std.proofs.lemmas.Bool.{cases_lt}
+use Rattle.std.proofs.lemmas.Bool.{cases_lt, eq-eqb, ne_eqb}
 use Rattle.std.proofs.lemmas.Bool.Decides.{nat_tests}
 use Rattle.std.proofs.lemmas.Cmp.{ranked}
 use Rattle.std.proofs.lemmas.List.{get_or_default}
 use Rattle.std.proofs.lemmas.List.Sorted.{IsNonDecreasingBy-from_default}
 use Rattle.blink_batch.specs.declared.entry.Entry.{Entry}
-use Rattle.blink_batch.specs.PlainMap.{entry, IsAscending, pointer_of, added, removed}
+use Rattle.blink_batch.specs.PlainMap.{entry, IsAscending, pointer_of, added, removed, replaced}
 use Rattle.blink_batch.specs.Search.{key_at, IsPlaceOf, IsGapFor}
 
 -- what holds of each entry holds of the one at a place
@@ -95,6 +95,19 @@ remove-place (e ∷ es) key (suc place) ascending found =
     let is_key : key_at es place ≡ key = found.has_key in
     let rest : remove es place ≡ removed es key = remove-place es key place ascending.1 (record { in_range = inside; has_key = is_key }) in
     grind (arith, nat_tests, rest, here, is_key)
+
+-- to replace the pointer of a key is to put another entry at its place
+pub set-place : (map : List Entry) (key place pointer : ℕ) → IsAscending map → IsPlaceOf map key place → set map place (entry key pointer) ≡ replaced map key pointer
+set-place [] key place pointer ascending found = absurd (omega (arith, found.in_range))
+set-place (e ∷ es) key zero pointer ascending found =
+    let same : e.key ≡ key = found.has_key in
+    rw (eq-eqb e.key key same) refl
+set-place (e ∷ es) key (suc place) pointer ascending found =
+    let inside : place < length es = omega (arith, found.in_range) in
+    let here : e.key < key_at es place = all_at (λ after. e.key < after.key) es place (entry 0 0) ascending.0 inside in
+    let is_key : key_at es place ≡ key = found.has_key in
+    let rest : set es place (entry key pointer) ≡ replaced es key pointer = set-place es key place pointer ascending.1 (record { in_range = inside; has_key = is_key }) in
+    rw (ne_eqb e.key key (λ same. omega arith)) (ap (λ (r : List Entry). e ∷ r) rest)
 
 module _ (map : List Entry) (ascending : IsAscending map) (key : ℕ) where
   -- the comparisons with the key rise along the map, as a search by halves asks

@@ -5,9 +5,9 @@ use Rattle.blink_batch.specs.declared.last_places.LastPlaces.{LastPlaces}
 use Rattle.blink_batch.specs.declared.last_places.TheConstants.{BUCKETS}
 use Rattle.blink_batch.specs.Cut.{key_at}
 
--- the bucket of a key: the upper 12 of 64 bits of its product with 2 ^ 64 over the golden ratio
+-- the bucket of a key: the upper 13 of 64 bits of its product with 2 ^ 64 over the golden ratio
 unfoldable pub bucket_of : ℕ → ℕ
-bucket_of key = key * 11400714819323198485 % 2 ^ 64 / 2 ^ 52
+bucket_of key = key * 11400714819323198485 % 2 ^ 64 / 2 ^ 51
 
 -- the operation at a place is on the key
 abbrev pub IsOnKey : List Op → ℕ → ℕ → Type 0

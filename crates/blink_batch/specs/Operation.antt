@@ -2,16 +2,17 @@
 use Rattle.std.specs.Prelude.{ℕ, List, [], ◌∷◌, Option, Some, None}
 use Rattle.blink_batch.specs.declared.entry.Entry.{Entry}
 use Rattle.blink_batch.specs.declared.operation.Op.{Op}
-use Rattle.blink_batch.specs.declared.operation.Op.TheVariants.{Find, Insert, Delete}
+use Rattle.blink_batch.specs.declared.operation.Op.TheVariants.{Find, Insert, Delete, Replace}
 use Rattle.blink_batch.specs.declared.operation.Answer.{Answer}
-use Rattle.blink_batch.specs.declared.operation.Answer.TheVariants.{Found, Absent, Inserted, Exists, Removed}
-use Rattle.blink_batch.specs.PlainMap.{entry, pointer_of, added, removed}
+use Rattle.blink_batch.specs.declared.operation.Answer.TheVariants.{Found, Absent, Inserted, Exists, Removed, Replaced}
+use Rattle.blink_batch.specs.PlainMap.{entry, pointer_of, added, removed, replaced}
 
 -- the key that an operation is about
 abbrev pub key_of : Op → ℕ
 key_of (Find key) = key
 key_of (Insert key pointer) = key
 key_of (Delete key) = key
+key_of (Replace key pointer) = key
 
 -- the answer, where the map keeps this pointer, or nothing, under the operation's key
 abbrev pub answer_at : Op → Option ℕ → Answer
@@ -21,6 +22,8 @@ answer_at (Insert key pointer) (Some kept) = Exists kept
 answer_at (Insert key pointer) None = Inserted
 answer_at (Delete key) (Some kept) = Removed kept
 answer_at (Delete key) None = Absent
+answer_at (Replace key pointer) (Some kept) = Replaced kept
+answer_at (Replace key pointer) None = Absent
 
 -- the map afterwards, likewise
 abbrev pub map_at : Op → Option ℕ → List Entry → List Entry
@@ -29,6 +32,8 @@ map_at (Insert key pointer) (Some kept) map = map
 map_at (Insert key pointer) None map = added map (entry key pointer)
 map_at (Delete key) (Some kept) map = removed map key
 map_at (Delete key) None map = map
+map_at (Replace key pointer) (Some kept) map = replaced map key pointer
+map_at (Replace key pointer) None map = map
 
 -- apply: the answer of an operation on a map, and the map afterwards
 abbrev pub answer_of : List Entry → Op → Answer

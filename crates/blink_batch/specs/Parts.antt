@@ -5,7 +5,8 @@ use Rattle.blink_batch.specs.declared.operation.Op.{Op}
 use Rattle.blink_batch.specs.declared.record.Request.{Request}
 use Rattle.blink_batch.specs.declared.record.Request.TheVariants as request
 use Rattle.blink_batch.specs.declared.script.Part.{Part}
-use Rattle.blink_batch.specs.declared.script.Part.TheVariants.{Batch, Scan}
+use Rattle.blink_batch.specs.declared.script.Part.TheVariants.{Batch}
+use Rattle.blink_batch.specs.Script.{alone}
 
 pub record PartsSoFar : Type 0 where
   pub closed : List Part
@@ -39,9 +40,9 @@ all_closed parts = record { closed = all_parts parts; pending = [] }
 -- the request is for one operation more than the open batch takes
 abbrev pub IsOneTooMany : PartsSoFar → Request → Type 0
 IsOneTooMany parts (request.Operation op) = IsFull parts
-IsOneTooMany parts (request.Scan lo hi) = ⊥
+IsOneTooMany parts asked = ⊥
 
--- an operation joins the open batch, and a scan ends it
+-- an operation joins the open batch, and what is none ends it
 abbrev pub parts_with : PartsSoFar → Request → PartsSoFar
 parts_with parts (request.Operation op) = with_pending parts op
-parts_with parts (request.Scan lo hi) = with_part (all_closed parts) (Scan lo hi)
+parts_with parts asked = with_part (all_closed parts) (alone asked)

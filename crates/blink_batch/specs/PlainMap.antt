@@ -25,3 +25,8 @@ added (e ∷ es) new = if nat_lt new.key e.key then new ∷ e ∷ es else e ∷ 
 -- the map without the entry of a key
 abbrev pub removed : List Entry → ℕ → List Entry
 removed map key = filter (λ (e : Entry). not (e.key == key)) map
+
+-- the map with another pointer in the entry of a key
+abbrev pub replaced : List Entry → ℕ → ℕ → List Entry
+replaced [] key pointer = []
+replaced (e ∷ es) key pointer = if e.key == key then entry key pointer ∷ es else e ∷ replaced es key pointer

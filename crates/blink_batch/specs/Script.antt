@@ -9,7 +9,7 @@ use Rattle.blink_batch.specs.declared.error.ScriptError.{ScriptError}
 use Rattle.blink_batch.specs.declared.error.ScriptError.TheVariants.{Row, TooMany, Csv, Read, OutOfMemory}
 use Rattle.blink_batch.specs.declared.operation.Op.{Op}
 use Rattle.blink_batch.specs.declared.script.Part.{Part}
-use Rattle.blink_batch.specs.declared.script.Part.TheVariants.{Batch, Scan}
+use Rattle.blink_batch.specs.declared.script.Part.TheVariants.{Batch, Scan, Page}
 use Rattle.blink_batch.specs.declared.record.Request.{Request}
 use Rattle.blink_batch.specs.declared.record.Request.TheVariants as request
 use Rattle.blink_batch.specs.Record.{request_of}
@@ -18,29 +18,35 @@ use Rattle.blink_batch.specs.Record.{request_of}
 abbrev pub records_of : List ℕ → List (List (List ℕ))
 records_of text = records default_config (strip_bom text)
 
+-- the part that a request is by itself
+abbrev pub alone : Request → Part
+alone (request.Operation op) = Batch (op ∷ [])
+alone (request.Scan lo hi) = Scan lo hi
+alone (request.Page lo n) = Page lo n
+
 -- an operation before the parts that follow it: the first of the batch that they begin with, or a batch of its own
 abbrev pub joined : Op → List Part → List Part
 joined op [] = Batch (op ∷ []) ∷ []
 joined op (Batch ops ∷ parts) = Batch (op ∷ ops) ∷ parts
-joined op (Scan lo hi ∷ parts) = Batch (op ∷ []) ∷ Scan lo hi ∷ parts
+joined op (part ∷ parts) = Batch (op ∷ []) ∷ part ∷ parts
 
 -- an operation before a script, or before a refusal, which is then the refusal of both
 abbrev pub with_operation : Op → Result (List Part) ScriptError → Result (List Part) ScriptError
 with_operation op (Ok parts) = Ok (joined op parts)
 with_operation op (Err error) = Err error
 
--- a scan before a script, a part of its own, or before a refusal
-abbrev pub with_scan : ℕ → ℕ → Result (List Part) ScriptError → Result (List Part) ScriptError
-with_scan lo hi (Ok parts) = Ok (Scan lo hi ∷ parts)
-with_scan lo hi (Err error) = Err error
+-- a part that joins no other before a script, or before a refusal
+abbrev pub with_alone : Part → Result (List Part) ScriptError → Result (List Part) ScriptError
+with_alone part (Ok parts) = Ok (part ∷ parts)
+with_alone part (Err error) = Err error
 
--- the script of a record's meaning and what follows, where the batch so far has so many operations: a scan ends it
+-- the script of a record's meaning and what follows, where the batch so far has so many operations: what is no operation ends it
 abbrev pub script_by : ℕ → ℕ → Result Request RecordError → (ℕ → Result (List Part) ScriptError)
     → Result (List Part) ScriptError
 script_by number before (Err fault) following = Err (Row number fault)
 script_by number before (Ok (request.Operation op)) following =
     if nat_lt before BATCH_LIMIT then with_operation op (following (before + 1)) else Err (TooMany number)
-script_by number before (Ok (request.Scan lo hi)) following = with_scan lo hi (following 0)
+script_by number before (Ok asked) following = with_alone (alone asked) (following 0)
 
 -- the script of records that are counted from a number on, where the batch so far has so many operations
 abbrev pub script_from : ℕ → ℕ → List (List (List ℕ)) → Result (List Part) ScriptError

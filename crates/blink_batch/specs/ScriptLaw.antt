@@ -10,7 +10,7 @@ use Rattle.blink_batch.specs.declared.operation.Op.{Op}
 use Rattle.blink_batch.specs.declared.record.Request.{Request}
 use Rattle.blink_batch.specs.declared.record.Request.TheVariants as request
 use Rattle.blink_batch.specs.declared.script.Part.{Part}
-use Rattle.blink_batch.specs.declared.script.Part.TheVariants.{Batch, Scan}
+use Rattle.blink_batch.specs.declared.script.Part.TheVariants.{Batch, Scan, Page}
 use Rattle.blink_batch.specs.Record.{request_of}
 use Rattle.blink_batch.specs.Script.{script_of}
 
@@ -18,6 +18,7 @@ use Rattle.blink_batch.specs.Script.{script_of}
 abbrev pub requests_in : Part → List Request
 requests_in (Batch ops) = map request.Operation ops
 requests_in (Scan lo hi) = request.Scan lo hi ∷ []
+requests_in (Page lo n) = request.Page lo n ∷ []
 
 -- batches aren't empty and within the limit, and what is consecutive is one batch
 pub record AreGrouped (parts : List Part) : Type 0 where
@@ -43,7 +44,7 @@ pub record EndsInFullBatch (parts : List Part) : Type 0 where
 abbrev pub RefusedAfter : ℕ → List Part → Result Request RecordError → ScriptError → Type 0
 RefusedAfter number parts (Err fault) error = error ≡ Row number fault
 RefusedAfter number parts (Ok (request.Operation op)) error = (error ≡ TooMany number) × EndsInFullBatch parts
-RefusedAfter number parts (Ok (request.Scan lo hi)) error = ⊥
+RefusedAfter number parts (Ok asked) error = ⊥
 
 -- the first refusal of some records: those before it have parts
 pub record IsRefused (rows : List (List (List ℕ))) (error : ScriptError) : Type 0 where

@@ -3,7 +3,7 @@ use Rattle.std.specs.Prelude.{ℕ, List, [], ◌∷◌, ◌++◌, codes}
 use Rattle.std.specs.List.{flat_map}
 use Rattle.std.specs.Fmt.{decimal}
 use Rattle.blink_batch.specs.declared.operation.Answer.{Answer}
-use Rattle.blink_batch.specs.declared.operation.Answer.TheVariants.{Found, Absent, Inserted, Exists, Removed}
+use Rattle.blink_batch.specs.declared.operation.Answer.TheVariants.{Found, Absent, Inserted, Exists, Removed, Replaced}
 
 -- the words of an answer
 abbrev pub words_of : Answer → List ℕ
@@ -12,6 +12,7 @@ words_of Absent = codes "absent"
 words_of Inserted = codes "inserted"
 words_of (Exists pointer) = codes "exists " ++ decimal pointer
 words_of (Removed pointer) = codes "removed " ++ decimal pointer
+words_of (Replaced pointer) = codes "replaced " ++ decimal pointer
 
 -- each line ends with one line feed
 abbrev pub line_of : Answer → List ℕ

@@ -10,7 +10,7 @@ use std::marker::Model;
 use thiserror::Error;
 
 /// The greatest number of operations in a batch.
-pub const BATCH_LIMIT: usize = 4096;
+pub const BATCH_LIMIT: usize = 8192;
 
 /// Why operations are no batch.
 #[derive(Clone, Copy, Debug, PartialEq, Eq, Error)]
@@ -43,7 +43,8 @@ impl Model for Batch {
 
     ghost view = { λ b. b.ops.items };
 
-    ghost invariant = { λ b. (length b.ops.items ≤ BATCH_LIMIT) × All FitsWords b.ops.items × (b.inserts ≡ count_by is_insert b.ops.items) };
+    ghost invariant = { λ b. (length b.ops.items ≤ BATCH_LIMIT) × All FitsWords b.ops.items
+        × (b.inserts ≡ count_by is_insert b.ops.items) };
 }
 
 impl Batch {

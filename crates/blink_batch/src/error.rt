@@ -4,13 +4,13 @@ ghost use Rattle.blink_batch.specs.Codes.{code_of_record_error, code_of_script_e
 
 use thiserror::Error;
 
-/// Why one record of a script is neither an operation nor a scan.
+/// Why one record of a script is no operation, no scan and no page.
 #[derive(Clone, Copy, Debug, PartialEq, Eq, Error)]
 pub enum RecordError {
     /// It hasn't three fields, or its third field isn't empty where it has to be.
     #[error("bad shape")]
     BadShape,
-    /// Its first field names neither.
+    /// Its first field names none of them.
     #[error("unknown operation")]
     UnknownOperation,
     /// A field isn't a number of at most 18446744073709551615, spelled without a leading zero.
@@ -34,7 +34,7 @@ impl RecordError {
 /// Why a text is no script. Records are counted from 1.
 #[derive(Clone, Copy, Debug, PartialEq, Eq, Error)]
 pub enum ScriptError {
-    /// This record is neither an operation nor a scan.
+    /// This record is no operation, no scan and no page.
     #[error("row {0}: {1}")]
     Row(u64, RecordError),
     /// This record can't be read, for another cause than the reader or memory.

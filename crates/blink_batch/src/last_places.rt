@@ -67,11 +67,11 @@ impl LastPlaces {
 }
 
 // The bucket of a key: the upper bits of its product with 2 ^ 64 over the golden ratio (Fibonacci hashing), so that keys
-// at equal distances don't crowd into few buckets. These are 12 bits, so that every bucket of theirs is to be in the table.
+// at equal distances don't crowd into few buckets. These are 13 bits, so that every bucket of theirs is to be in the table.
 #[tactic(auto, unfolding(crate::specs::LastPlaces::bucket_of))]
 fn bucket(key: u64) -> usize
     ensures value { result ≡ bucket_of key }
     ensures below { result < BUCKETS }
 {
-    (key.wrapping_mul(0x9E37_79B9_7F4A_7C15) >> 52) as usize
+    (key.wrapping_mul(0x9E37_79B9_7F4A_7C15) >> 51) as usize
 }

@@ -14,6 +14,8 @@ pub enum Op {
     Insert(u64, u64),
     /// Takes a key away with its pointer, if it is there.
     Delete(u64),
+    /// Keeps another pointer under a key, if it is there.
+    Replace(u64, u64),
 }
 
 impl Op {
@@ -25,6 +27,7 @@ impl Op {
             Op::Find(key) => key,
             Op::Insert(key, _) => key,
             Op::Delete(key) => key,
+            Op::Replace(key, _) => key,
         }
     }
 
@@ -37,6 +40,7 @@ impl Op {
             Op::Find(_key) => false,
             Op::Insert(_key, _pointer) => true,
             Op::Delete(_key) => false,
+            Op::Replace(_key, _pointer) => false,
         }
     }
 }
@@ -54,6 +58,8 @@ pub enum Answer {
     Exists(u64),
     /// A deletion: the key was there with this pointer, and is there no more.
     Removed(u64),
+    /// A replacement: the key was there with this pointer, and is there with the new one.
+    Replaced(u64),
 }
 
 /// The words of the answer's output line, as `found 7`.
@@ -70,6 +76,7 @@ impl fmt::Display for Answer {
             Answer::Inserted => write!(f, "inserted"),
             Answer::Exists(pointer) => write!(f, "exists {pointer}"),
             Answer::Removed(pointer) => write!(f, "removed {pointer}"),
+            Answer::Replaced(pointer) => write!(f, "replaced {pointer}"),
         }
     }
 }

@@ -51,10 +51,8 @@ impl Parts {
     {
         match request {
             Request::Operation(op) => self.push(number, op),
-            Request::Scan(lo, hi) => {
-                self.close()?;
-                self.add(Part::Scan(lo, hi))
-            }
+            Request::Scan(lo, hi) => self.add_alone(Part::Scan(lo, hi)),
+            Request::Page(lo, n) => self.add_alone(Part::Page(lo, n)),
         }
     }
 
@@ -80,6 +78,15 @@ impl Parts {
             Ok(()) => Ok(()),
             Err(_) => Err(ScriptError::OutOfMemory),
         }
+    }
+
+    // Ends the open batch, and adds a part that no operation joins.
+    fn add_alone(&mut self, part: Part) -> Result<(), ScriptError>
+        ensures added { IfOk result (λ _. self.new ≡ with_part (all_closed self.old) part) }
+        ensures memory { IsOkUnless result OutOfMemory }
+    {
+        self.close()?;
+        self.add(part)
     }
 
     // Ends the open batch: its operations become a part, unless there are none.

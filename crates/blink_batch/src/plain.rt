@@ -2,7 +2,7 @@
 ghost use Rattle.std.specs.Prelude.{◌≡◌, ℕ, [], List, Option, Some, None, IsOk, IfOk, IfErr, OnOk, OnErr, MatchResult, take};
 ghost use Rattle.blink_batch.specs.declared.entry.Entry.{Entry};
 ghost use Rattle.blink_batch.specs.Search.{IsPlaceOf, IsGapFor};
-ghost use Rattle.blink_batch.specs.PlainMap.{IsAscending, pointer_of};
+ghost use Rattle.blink_batch.specs.PlainMap.{IsAscending, pointer_of, replaced};
 ghost use Rattle.blink_batch.specs.Operation.{answer_of, map_after, answers, map_after_all};
 
 use crate::entry::Entry;
@@ -51,6 +51,10 @@ impl Plain {
             }
             (Op::Delete(_), Ok(at)) => Ok(Answer::Removed(self.entries.remove(at).pointer)),
             (Op::Delete(_), Err(_)) => Ok(Answer::Absent),
+            (Op::Replace(key, pointer), Ok(at)) => {
+                Ok(Answer::Replaced(self.replace_at(at, key, pointer)))
+            }
+            (Op::Replace(_, _), Err(_)) => Ok(Answer::Absent),
         }
     }
 
@@ -76,6 +80,17 @@ impl Plain {
         ensures ascending { IsAscending self.now }
     {
         &self.entries
+    }
+
+    // Keeps another pointer under the key, which stands at the place, and gives the one before.
+    fn replace_at(&mut self, at: usize, key: u64, pointer: u64) -> u64
+        requires place { IsPlaceOf self.old key at }
+        ensures before { pointer_of self.old key ≡ Some result }
+        ensures map { self.new ≡ replaced self.old key pointer }
+    {
+        let before = self.entries[at].pointer;
+        self.entries[at] = Entry { key, pointer };
+        before
     }
 
     // Where the key stands, or where it would go.

@@ -16,6 +16,8 @@ pub(crate) enum Request {
     Operation(Op),
     /// The entries with keys from the first number to the second.
     Scan(u64, u64),
+    /// The first entries with keys from the first number on, as many as the second says.
+    Page(u64, u64),
 }
 
 /// What a record asks for.
@@ -51,8 +53,14 @@ fn named(word: &[u8], second: &[u8], third: &[u8]) -> Result<Request, RecordErro
         key_alone(second, third).map(|key| Request::Operation(Op::Find(key)))
     } else if word == b"delete".as_slice() {
         key_alone(second, third).map(|key| Request::Operation(Op::Delete(key)))
+    } else if word == b"replace".as_slice() {
+        two_numbers(second, third).map(|(key, pointer)| Request::Operation(Op::Replace(
+            key, pointer,
+        )))
     } else if word == b"scan".as_slice() {
         two_numbers(second, third).map(|(lo, hi)| Request::Scan(lo, hi))
+    } else if word == b"page".as_slice() {
+        two_numbers(second, third).map(|(lo, n)| Request::Page(lo, n))
     } else {
         Err(RecordError::UnknownOperation)
     }
@@ -68,7 +76,7 @@ fn key_alone(second: &[u8], third: &[u8]) -> Result<u64, RecordError>
     read_number(second).ok_or(RecordError::BadNumber)
 }
 
-// The two numbers of an insertion, or of a scan.
+// The two numbers of an insertion, of a replacement, of a scan, or of a page.
 fn two_numbers(second: &[u8], third: &[u8]) -> Result<(u64, u64), RecordError>
     ensures { result ≡ two_numbers (number_of second.now) (number_of third.now) }
 {

@@ -18,6 +18,9 @@ pub enum Part {
     Batch(Batch),
     /// A scan: the entries with keys from the first number to the second. There are none where the second is less.
     Scan(u64, u64),
+    /// A page: the first entries with keys from the first number on, as many as the second says, or all of these where there
+    /// are fewer.
+    Page(u64, u64),
 }
 
 /// What a text of comma-separated records asks for, part after part.
@@ -27,10 +30,11 @@ pub struct Script {
 }
 
 /// Reads a script: records of three fields as the crate `csv` reads them by default, but without a header row and
-/// of any length. `insert,k,p` keeps the pointer p under the key k, `find,k,` looks k up, and `delete,k,` takes k
-/// away. Consecutive ones form a batch, and `scan,lo,hi`, which asks for the entries with keys from lo to hi, ends it.
-/// Records are counted from 1, scans among them, and the first refusal in their order is the answer. A refusal leaves
-/// the reader somewhere behind the records that were read.
+/// of any length. `insert,k,p` keeps the pointer p under the key k, `find,k,` looks k up, `delete,k,` takes k away, and
+/// `replace,k,p` keeps p in place of k's pointer. Consecutive ones form a batch. `scan,lo,hi`, which asks for the entries
+/// with keys from lo to hi, ends it, and so does `page,lo,n`, which asks for the first n entries with keys from lo on.
+/// Records are counted from 1, scans and pages among them, and the first refusal in their order is the answer. A refusal
+/// leaves the reader somewhere behind the records that were read.
 ///
 /// What is said of the text read is said of a reader that tells its bytes. `Read` comes where the reader failed, and
 /// `OutOfMemory` where memory was refused, or where more records come than 64 bits count, whose parts have no room in it.

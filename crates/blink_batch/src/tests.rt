@@ -84,6 +84,55 @@ fn deletions_take_their_entries_away(rt: HostRuntime) -> Result<(), Fail> {
 }
 
 #[test]
+fn replacements_change_what_is_there(rt: HostRuntime) -> Result<(), Fail> {
+    let mut plain = Plain::new(rt.alloc());
+    let ops = [
+        Op::Insert(7, 1),
+        Op::Replace(7, 2),
+        Op::Find(7),
+        Op::Replace(8, 1),
+        Op::Replace(7, 2),
+    ];
+    let expected = [
+        Answer::Inserted,
+        Answer::Replaced(1),
+        Answer::Found(2),
+        Answer::Absent,
+        Answer::Replaced(2),
+    ];
+    assert_eq!(rt;
+        plain.run(rt.alloc(), &ops)?.as_slice(),
+        expected.as_slice()
+    );
+    plain.run(rt.alloc(), &[Op::Insert(8, 4), Op::Insert(6, 2)])?;
+    assert_eq!(rt; plain.apply(Op::Replace(7, 3))?, Answer::Replaced(2));
+    let kept = [
+        Entry { key: 6, pointer: 2 },
+        Entry { key: 7, pointer: 3 },
+        Entry { key: 8, pointer: 4 },
+    ];
+    assert_eq!(rt; plain.entries(), kept.as_slice());
+    assert_eq!(rt; plain.apply(Op::Replace(9, 5))?, Answer::Absent);
+    assert_eq!(rt; plain.entries(), kept.as_slice());
+    Ok(())
+}
+
+#[test]
+fn answers_have_their_words(rt: HostRuntime) -> Result<(), Fail> {
+    for (answer, words) in [
+        (Answer::Found(7), "found 7"),
+        (Answer::Absent, "absent"),
+        (Answer::Inserted, "inserted"),
+        (Answer::Exists(7), "exists 7"),
+        (Answer::Removed(0), "removed 0"),
+        (Answer::Replaced(u64::MAX), "replaced 18446744073709551615"),
+    ] {
+        assert_eq!(rt; answer.to_string(rt.alloc())?.as_str(), words);
+    }
+    Ok(())
+}
+
+#[test]
 fn batches_have_a_limit(rt: HostRuntime) -> Result<(), Fail> {
     let batch = Batch::new([Op::Insert(5, 50), Op::Find(5)].to_vec(rt.alloc())?)?;
     assert_eq!(rt; batch.ops(), [Op::Insert(5, 50), Op::Find(5)].as_slice());
@@ -91,9 +140,13 @@ fn batches_have_a_limit(rt: HostRuntime) -> Result<(), Fail> {
         (batch.len(), batch.inserts(), batch.is_empty()),
         (2, 1, false)
     );
-    let full = Batch::new(vec![in rt.alloc(); Op::Find(1); 4096]?)?;
-    assert_eq!(rt; full.len(), 4096);
-    let too_many = Batch::new(vec![in rt.alloc(); Op::Find(1); 4097]?).err();
+    let replacing = Batch::new([Op::Insert(5, 50), Op::Replace(5, 51)].to_vec(rt.alloc())?)?;
+    assert_eq!(rt; (replacing.len(), replacing.inserts()), (2, 1));
+    for count in [4097, 8192] {
+        let long = Batch::new(vec![in rt.alloc(); Op::Find(1); count]?)?;
+        assert_eq!(rt; long.len(), count);
+    }
+    let too_many = Batch::new(vec![in rt.alloc(); Op::Find(1); 8193]?).err();
     assert_eq!(rt; too_many, Some(BatchError::TooMany));
     assert_eq!(rt; BatchError::TooMany.code(), 1);
     Ok(())
@@ -108,6 +161,7 @@ fn batches_are_equal_by_their_operations(rt: HostRuntime) -> Result<(), Fail> {
         [Op::Insert(5, 50), Op::Find(7)].as_slice(),
         [Op::Insert(5, 51), Op::Find(6)].as_slice(),
         [Op::Insert(5, 50), Op::Delete(6)].as_slice(),
+        [Op::Replace(5, 50), Op::Find(6)].as_slice(),
         [Op::Find(6), Op::Insert(5, 50)].as_slice(),
         [Op::Insert(5, 50)].as_slice(),
     ];
@@ -336,6 +390,7 @@ fn batch_of(part: &Part) -> &[Op] {
     match part {
         Part::Batch(batch) => batch.ops(),
         Part::Scan(_, _) => &[],
+        Part::Page(_, _) => &[],
     }
 }
 
@@ -344,6 +399,16 @@ fn scan_of(part: &Part) -> Option<(u64, u64)> {
     match part {
         Part::Batch(_) => None,
         Part::Scan(lo, hi) => Some((*lo, *hi)),
+        Part::Page(_, _) => None,
+    }
+}
+
+// The least key of a part that is a page, and how many entries it is to have.
+fn page_of(part: &Part) -> Option<(u64, u64)> {
+    match part {
+        Part::Batch(_) => None,
+        Part::Scan(_, _) => None,
+        Part::Page(lo, n) => Some((*lo, *n)),
     }
 }
 
@@ -374,6 +439,14 @@ fn scripts_are_read_record_by_record(rt: HostRuntime) -> Result<(), Fail> {
         operations(&rt, &script),
         [Op::Insert(7, 1), Op::Delete(7)].as_slice()
     );
+    let script = read_script(
+        rt.alloc(),
+        b"replace,7,2\nreplace,8,18446744073709551615".as_slice(),
+    )?;
+    assert_eq!(rt;
+        operations(&rt, &script),
+        [Op::Replace(7, 2), Op::Replace(8, u64::MAX)].as_slice()
+    );
     let script = read_script(rt.alloc(), b"".as_slice())?;
     assert_eq!(rt; script.parts.len(), 0);
     Ok(())
@@ -397,6 +470,29 @@ fn scans_stand_between_batches(rt: HostRuntime) -> Result<(), Fail> {
         [Op::Find(7), Op::Find(8)].as_slice()
     );
     assert_eq!(rt; scan_of(&script.parts[2]), Some((5, 5)));
+    Ok(())
+}
+
+#[test]
+fn pages_stand_between_batches(rt: HostRuntime) -> Result<(), Fail> {
+    let text = b"insert,5,50\npage,9,1\nscan,0,9\npage,0,0\ninsert,6,60\n".as_slice();
+    let script = read_script(rt.alloc(), text)?;
+    assert_eq!(rt; script.parts.len(), 5);
+    assert_eq!(rt; batch_of(&script.parts[0]), [Op::Insert(5, 50)].as_slice());
+    assert_eq!(rt; page_of(&script.parts[1]), Some((9, 1)));
+    assert_eq!(rt; scan_of(&script.parts[2]), Some((0, 9)));
+    assert_eq!(rt; page_of(&script.parts[3]), Some((0, 0)));
+    assert_eq!(rt; batch_of(&script.parts[4]), [Op::Insert(6, 60)].as_slice());
+    let text =
+        b"page,18446744073709551615,18446744073709551615\nfind,7,\nfind,8,\n\"page\",5,5".as_slice();
+    let script = read_script(rt.alloc(), text)?;
+    assert_eq!(rt; script.parts.len(), 3);
+    assert_eq!(rt; page_of(&script.parts[0]), Some((u64::MAX, u64::MAX)));
+    assert_eq!(rt;
+        batch_of(&script.parts[1]),
+        [Op::Find(7), Op::Find(8)].as_slice()
+    );
+    assert_eq!(rt; page_of(&script.parts[2]), Some((5, 5)));
     Ok(())
 }
 
@@ -427,6 +523,19 @@ fn the_first_refusal_is_the_answer(rt: HostRuntime) -> Result<(), Fail> {
         (b"delete,x,2", ScriptError::Row(1, RecordError::BadShape)),
         (b"delete,x,", ScriptError::Row(1, RecordError::BadNumber)),
         (b"delete,1", ScriptError::Row(1, RecordError::BadShape)),
+        (b"replace,07,1", ScriptError::Row(1, RecordError::BadNumber)),
+        (
+            b"replace,7,18446744073709551616",
+            ScriptError::Row(1, RecordError::BadNumber),
+        ),
+        (b"replace,7,", ScriptError::Row(1, RecordError::BadNumber)),
+        (b"replace,x,y", ScriptError::Row(1, RecordError::BadNumber)),
+        (b"replace,7", ScriptError::Row(1, RecordError::BadShape)),
+        (b"replace,7,1,2", ScriptError::Row(1, RecordError::BadShape)),
+        (
+            b"replaced,7,1",
+            ScriptError::Row(1, RecordError::UnknownOperation),
+        ),
         (b"put,1", ScriptError::Row(1, RecordError::BadShape)),
         (b"find,1,,", ScriptError::Row(1, RecordError::BadShape)),
         (b"scan,05,1", ScriptError::Row(1, RecordError::BadNumber)),
@@ -434,6 +543,15 @@ fn the_first_refusal_is_the_answer(rt: HostRuntime) -> Result<(), Fail> {
         (b"scan,1", ScriptError::Row(1, RecordError::BadShape)),
         (b"scan,1,2,3", ScriptError::Row(1, RecordError::BadShape)),
         (b"scan,x,y", ScriptError::Row(1, RecordError::BadNumber)),
+        (
+            b"pages,1,2",
+            ScriptError::Row(1, RecordError::UnknownOperation),
+        ),
+        (b"page,1,01", ScriptError::Row(1, RecordError::BadNumber)),
+        (b"page,05,1", ScriptError::Row(1, RecordError::BadNumber)),
+        (b"page,1,", ScriptError::Row(1, RecordError::BadNumber)),
+        (b"page,1", ScriptError::Row(1, RecordError::BadShape)),
+        (b"page,1,2,3", ScriptError::Row(1, RecordError::BadShape)),
         (
             b"find,1,\nput,1,1\nfind,5",
             ScriptError::Row(2, RecordError::UnknownOperation),
@@ -465,16 +583,16 @@ fn long_script(alloc: Global, finds: usize, last: &str) -> Result<String, AllocE
 
 #[test]
 fn one_operation_too_many_is_told_after_its_own_checks(rt: HostRuntime) -> Result<(), Fail> {
-    let full = long_script(rt.alloc(), 4095, "find,1,")?;
+    let full = long_script(rt.alloc(), 8191, "find,1,")?;
     let script = read_script(rt.alloc(), full.as_bytes())?;
-    assert_eq!(rt; operations(&rt, &script).len(), 4096);
+    assert_eq!(rt; operations(&rt, &script).len(), 8192);
     let cases = [
-        ("find,1,", ScriptError::TooMany(4097)),
-        ("find,x,", ScriptError::Row(4097, RecordError::BadNumber)),
-        ("find,1,\nput,1,1", ScriptError::TooMany(4097)),
+        ("find,1,", ScriptError::TooMany(8193)),
+        ("find,x,", ScriptError::Row(8193, RecordError::BadNumber)),
+        ("find,1,\nput,1,1", ScriptError::TooMany(8193)),
     ];
     for (last, refusal) in cases {
-        let text = long_script(rt.alloc(), 4096, last)?;
+        let text = long_script(rt.alloc(), 8192, last)?;
         assert_eq!(rt;
             read_script(rt.alloc(), text.as_bytes()).err(),
             Some(refusal),
@@ -486,20 +604,32 @@ fn one_operation_too_many_is_told_after_its_own_checks(rt: HostRuntime) -> Resul
 
 #[test]
 fn a_scan_makes_room_for_another_batch(rt: HostRuntime) -> Result<(), Fail> {
-    let mut text = long_script(rt.alloc(), 4096, "scan,3,8\n")?;
-    for _ in 0..4096 {
+    let mut text = long_script(rt.alloc(), 8192, "scan,3,8\n")?;
+    for _ in 0..8192 {
         text.push_str("find,2,\n")?;
     }
     let script = read_script(rt.alloc(), text.as_bytes())?;
     assert_eq!(rt; script.parts.len(), 3);
-    assert_eq!(rt; batch_of(&script.parts[0]).len(), 4096);
+    assert_eq!(rt; batch_of(&script.parts[0]).len(), 8192);
     assert_eq!(rt; scan_of(&script.parts[1]), Some((3, 8)));
-    assert_eq!(rt; batch_of(&script.parts[2]).len(), 4096);
+    assert_eq!(rt; batch_of(&script.parts[2]).len(), 8192);
     text.push_str("find,1,\n")?;
     assert_eq!(rt;
         read_script(rt.alloc(), text.as_bytes()).err(),
-        Some(ScriptError::TooMany(8194))
+        Some(ScriptError::TooMany(16386))
     );
+    Ok(())
+}
+
+#[test]
+fn a_page_makes_room_for_another_batch(rt: HostRuntime) -> Result<(), Fail> {
+    let mut text = long_script(rt.alloc(), 4096, "page,3,8\n")?;
+    text.push_str("find,2,\n")?;
+    let script = read_script(rt.alloc(), text.as_bytes())?;
+    assert_eq!(rt; script.parts.len(), 3);
+    assert_eq!(rt; batch_of(&script.parts[0]).len(), 4096);
+    assert_eq!(rt; page_of(&script.parts[1]), Some((3, 8)));
+    assert_eq!(rt; batch_of(&script.parts[2]), [Op::Find(2)].as_slice());
     Ok(())
 }
 
@@ -523,9 +653,9 @@ fn refusals_have_their_codes_and_texts(rt: HostRuntime) -> Result<(), Fail> {
         ),
         (ScriptError::Csv(5), 13, "row 5: unreadable record"),
         (
-            ScriptError::TooMany(4097),
+            ScriptError::TooMany(8193),
             14,
-            "row 4097: too many operations",
+            "row 8193: too many operations",
         ),
         (ScriptError::Read, 15, "read failed"),
         (ScriptError::OutOfMemory, 16, "out of memory"),

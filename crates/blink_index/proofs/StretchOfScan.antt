@@ -1,5 +1,5 @@
 -- What a scan brings: the entries from one key to another are a stretch of the leaves' entries.
-use Rattle.std.proofs.Common.{◌≡◌, ℕ, ◌+◌, ◌<◌, ◌≤◌, List, [], ◌∷◌, ◌++◌, length, drop, filter, refl, sym, ap, ◌∙◌, arith}
+use Rattle.std.proofs.Common.{◌≡◌, ℕ, zero, suc, ◌+◌, ◌-◌, ◌<◌, ◌≤◌, Option, Some, None, take, List, [], ◌∷◌, ◌++◌, length, drop, filter, refl, sym, ap, ◌∙◌, arith}
 use Rattle.std.proofs.lemmas.Bool.Decides.{nat_tests}
 use Rattle.std.proofs.lemmas.List.{map-append}
 use Rattle.std.proofs.lemmas.List.Elements.{filter-append}
@@ -11,17 +11,31 @@ use Rattle.blink_page.proofs.Offered.{from_at_most_to, IsRising-append}
 use Rattle.blink_steps.specs.TreeMap.{entries_from}
 use Rattle.std.specs.Iterator.{YieldsFirst}
 use Rattle.std.proofs.iter.runs.Sources.{from_front, as_is}
-use Rattle.blink_index.specs.Scan.{is_within, entries_to, BringsInOrder}
+use Rattle.blink_index.specs.Scan.{at_most, is_from, is_within, entries_to, one_fewer, BringsInOrder}
 
 -- a scan is seen as the entries that it still brings, and it brings these
 pub brings_in_order : BringsInOrder
 brings_in_order p s = as_is p p.from (from_front (YieldsFirst {A = Entry} (λ rest. rest)) (λ x. x) (λ rest. rest) (λ s t h. ap length h.0) (λ s x t h. h) p s)
+
+-- the first of at most so many, and the others of one fewer
+pub one_brought : (most : Option ℕ) (first : Entry) (rest : List Entry) → (most ≡ Some 0 → ⊥) → at_most most (first ∷ rest) ≡ first ∷ at_most (one_fewer most) rest
+one_brought None first rest more = refl
+one_brought (Some zero) first rest more = absurd (more refl)
+one_brought (Some (suc n)) first rest more = let others : n ≡ suc n - 1 = omega arith in ap (λ (k : ℕ). first ∷ take k rest) others
 
 -- every entry is within all keys
 pub all_within : (greatest from : ℕ) (xs : List (ℕ × ℕ)) → IsRising from xs (greatest + 1) → filter (is_within 0 greatest) (entries_from xs) ≡ entries_from xs
 all_within greatest from [] rising = refl
 all_within greatest from ((k, v) ∷ rest) rising =
     let later : filter (is_within 0 greatest) (entries_from rest) ≡ entries_from rest = all_within greatest (k + 1) rest rising.1 in
+    let below : k + 1 ≤ greatest + 1 = from_at_most_to (k + 1) rest (greatest + 1) rising.1 in
+    grind (arith, nat_tests)
+
+-- and from a key on they are within it and the greatest
+pub from_within : (lo greatest from : ℕ) (xs : List (ℕ × ℕ)) → IsRising from xs (greatest + 1) → filter (is_within lo greatest) (entries_from xs) ≡ filter (is_from lo) (entries_from xs)
+from_within lo greatest from [] rising = refl
+from_within lo greatest from ((k, v) ∷ rest) rising =
+    let later : filter (is_within lo greatest) (entries_from rest) ≡ filter (is_from lo) (entries_from rest) = from_within lo greatest (k + 1) rest rising.1 in
     let below : k + 1 ≤ greatest + 1 = from_at_most_to (k + 1) rest (greatest + 1) rising.1 in
     grind (arith, nat_tests)
 

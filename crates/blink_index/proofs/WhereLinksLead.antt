@@ -16,11 +16,11 @@ use Rattle.blink_steps.specs.TreeMap.{IsMapOf, pairs_of}
 use Rattle.blink_steps.specs.TreeMap.{entries_from}
 use Rattle.blink_index.specs.Index.{cells_of, map_of}
 use Rattle.blink_index.specs.Leaf.{IsLeafFor}
-use Rattle.blink_index.specs.Scan.{IsLinkOf, entries_after, entries_to, is_within}
+use Rattle.blink_index.specs.Scan.{IsLinkOf, entries_after, entries_to, is_from, is_within}
 use Rattle.blink_index.proofs.PagesAlongLinks.{cells_from-line, cells_from-none, line_within}
 use Rattle.blink_steps.proofs.Offered.{entries_from-pairs_of}
 use Rattle.blink_index.proofs.MapOfStore.{map_of-entries}
-use Rattle.blink_index.proofs.StretchOfScan.{scan_of_parts, all_within}
+use Rattle.blink_index.proofs.StretchOfScan.{scan_of_parts, all_within, from_within}
 
 -- a list without a length is empty
 pub empty_of : (xs : List (ℕ × ℕ)) → length xs ≡ 0 → xs ≡ []
@@ -163,3 +163,12 @@ module _ (store : PlainStore) where
       let pairs = pairs_of (map_of store) in
       let same : entries_from pairs ≡ map_of store = entries_from-pairs_of (map_of store) in
       sym (ap (filter (is_within 0 GREATEST_KEY)) same) ∙ all_within GREATEST_KEY 0 pairs (entries_ascend store.fan store.prime (page_of store) pairs kept.kept) ∙ same
+
+  -- and what is from a key on is from that key to the greatest
+  pub scan_of_rest : (lo : ℕ) → IsMapOf store (map_of store) → filter (is_within lo GREATEST_KEY) (map_of store) ≡ filter (is_from lo) (map_of store)
+  scan_of_rest lo kept =
+      let pairs = pairs_of (map_of store) in
+      let same : entries_from pairs ≡ map_of store = entries_from-pairs_of (map_of store) in
+      sym (ap (filter (is_within lo GREATEST_KEY)) same)
+      ∙ from_within lo GREATEST_KEY 0 pairs (entries_ascend store.fan store.prime (page_of store) pairs kept.kept)
+      ∙ ap (filter (is_from lo)) same

@@ -1,12 +1,12 @@
 -- What a contract sees of a `Scan`.
 use Rattle.std.specs.Prelude.{List, ◌++◌}
 use Rattle.blink_batch.specs.declared.Entry.{Entry}
-use Rattle.blink_index.specs.Scan.{IsLinkOf, entries_after, entries_to}
+use Rattle.blink_index.specs.Scan.{IsLinkOf, at_most, entries_after, entries_to}
 use Rattle.blink_index.specs.declared.scan.Scan.TheInside.{Inside}
 
 -- the entries that it still brings
 abbrev pub to_come : Inside → List Entry
-to_come scan = entries_to scan.hi (scan.entries.now ++ entries_after scan.store.now scan.link)
+to_come scan = at_most scan.most (entries_to scan.hi (scan.entries.now ++ entries_after scan.store.now scan.link))
 
 -- its link leads along a level
 abbrev pub IsLinked : Inside → Type 0

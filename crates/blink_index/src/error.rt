@@ -7,7 +7,7 @@ use thiserror::Error;
 /// Why an index can't be made.
 #[derive(Clone, Copy, Debug, PartialEq, Eq, Error)]
 pub enum IndexError {
-    /// The number of entries that a page may have isn't from 4 to 16.
+    /// The number of entries that a page may have isn't from 4 to 32.
     #[error("bad fan")]
     BadFan,
     /// Memory was refused.

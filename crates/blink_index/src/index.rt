@@ -1,5 +1,5 @@
 //! A tree at rest, as a map that can be read.
-ghost use Rattle.std.specs.Prelude.{◌≡◌, ℕ, ◌↔◌, List, [], filter, length, string_bytes, IfOk, IsErrOf, IsOkUnless};
+ghost use Rattle.std.specs.Prelude.{◌≡◌, ℕ, ◌↔◌, List, [], filter, length, string_bytes, IfOk, IsErrOf, IsOkUnless, take};
 ghost use Rattle.blink_batch.specs.PlainMap.{pointer_of};
 ghost use Rattle.blink_page.specs.Entries.{value_at};
 ghost use Rattle.blink_page.specs.Limits.{IsPageNumber};
@@ -10,7 +10,7 @@ ghost use Rattle.blink_steps.specs.TreeMap.{IsMapOf};
 ghost use Rattle.blink_index.specs.Codes.{IsBadFan};
 ghost use Rattle.blink_index.specs.Dump.{text_of_store};
 ghost use Rattle.blink_index.specs.Index.{map_of};
-ghost use Rattle.blink_index.specs.Scan.{is_within, BringsInOrder};
+ghost use Rattle.blink_index.specs.Scan.{is_from, is_within, BringsInOrder};
 
 use crate::down::leaf_for;
 use crate::dump::tree_text;
@@ -43,7 +43,7 @@ impl Model for Index {
 impl Index {
     /// An index without an entry, whose pages will have at most `fan` entries each.
     ///
-    /// `BadFan` is told of every `fan` outside 4 to 16, before memory is asked for.
+    /// `BadFan` is told of every `fan` outside 4 to 32, before memory is asked for.
     pub fn new(alloc: Global, fan: u8) -> Result<Index, IndexError>
         ensures index { IfOk result (λ index. index ≡ new_store fan) }
         ensures empty { IfOk result (λ index. map_of index ≡ []) }
@@ -119,7 +119,18 @@ impl Index {
         ensures map { IsMapOf self.now (map_of self.now) }
         ensures runs { BringsInOrder }
     {
-        Scan::new(self.store(), lo, hi)
+        Scan::new(self.store(), lo, hi, None)
+    }
+
+    /// The first `n` entries with `lo` at most their key, in ascending order, or all of these where there are fewer. It takes
+    /// no memory: it reads one page a level on its way down, and then, as entries are asked for, each leaf on its way once,
+    /// and none after the `n`th entry.
+    pub fn page(&self, lo: u64, n: u64) -> Scan<'_>
+        ensures entries { result ≡ take n (filter (is_from lo) (map_of self.now)) }
+        ensures map { IsMapOf self.now (map_of self.now) }
+        ensures runs { BringsInOrder }
+    {
+        Scan::new(self.store(), lo, u64::MAX, Some(n))
     }
 
     /// All entries, in ascending order: the plain map that the tree keeps.

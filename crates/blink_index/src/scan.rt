@@ -4,7 +4,7 @@ ghost use Rattle.std.specs.Iterator.{YieldsFirst, item_count};
 ghost use Rattle.blink_page.specs.Place.{place_of};
 ghost use Rattle.blink_rest.specs.Rest.{IsStoreAtRest};
 ghost use Rattle.blink_index.specs.Index.{map_of};
-ghost use Rattle.blink_index.specs.Scan.{IsLinkOf, entries_after, is_within};
+ghost use Rattle.blink_index.specs.Scan.{IsLinkOf, at_most, entries_after, is_within, one_fewer};
 
 use crate::down::leaf_for;
 use blink_batch::Entry;
@@ -12,7 +12,7 @@ use blink_page::Page;
 use blink_store::Store;
 use std::marker::Model;
 
-/// The entries of an index whose keys are from one number to another, in ascending order.
+/// The entries of an index whose keys are from one number to another, or the first of these, in ascending order.
 ///
 /// It takes no memory: it walks the leaves along their right links, over those without an entry, and ends by itself.
 #[derive(Drop)]
@@ -23,6 +23,8 @@ pub struct Scan<'a> {
     // The leaf after it.
     link: Option<u32>,
     hi: u64,
+    // How many entries it may still bring, where that is bounded.
+    most: Option<u64>,
 }
 
 impl<'a> Model for Scan<'a> {
@@ -39,10 +41,11 @@ impl<'a> Model for Scan<'a> {
 }
 
 impl<'a> Scan<'a> {
-    /// The entries of a tree at rest with `lo` at most their key, and their key at most `hi`.
-    pub(crate) fn new(store: &'a Store, lo: u64, hi: u64) -> Scan<'a>
+    /// The entries of a tree at rest with `lo` at most their key, and their key at most `hi`; no more than `most` of them,
+    /// where that is a number.
+    pub(crate) fn new(store: &'a Store, lo: u64, hi: u64, most: Option<u64>) -> Scan<'a>
         requires { IsStoreAtRest store.now }
-        ensures { result ≡ filter (is_within lo hi) (map_of store.now) }
+        ensures { result ≡ at_most most (filter (is_within lo hi) (map_of store.now)) }
     {
         let leaf = leaf_for(store, lo);
         Scan {
@@ -50,6 +53,7 @@ impl<'a> Scan<'a> {
             entries: not_below(&leaf.items, lo),
             link: leaf.right,
             hi,
+            most,
         }
     }
 }
@@ -62,6 +66,9 @@ impl<'a> Iterator for Scan<'a> {
     ghost remaining = { item_count (λ entries. entries) };
 
     fn next(&mut self) -> Option<Entry> {
+        if self.most == Some(0) {
+            return None;
+        }
         if self.entries.is_empty() {
             let leaf = next_leaf(self.store, self.link)?;
             self.entries = &leaf.items;
@@ -72,7 +79,18 @@ impl<'a> Iterator for Scan<'a> {
             return None;
         }
         self.entries = rest;
+        self.most = one_fewer(self.most);
         Some(Entry { key, pointer })
+    }
+}
+
+// How many entries may come after the next.
+fn one_fewer(most: Option<u64>) -> Option<u64>
+    ensures { result ≡ one_fewer most }
+{
+    match most {
+        Some(n) => Some(n.saturating_sub(1)),
+        None => None,
     }
 }
 

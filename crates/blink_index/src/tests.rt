@@ -142,6 +142,79 @@ fn scans_cross_empty_leaves(rt: HostRuntime) -> Result<(), Fail> {
     Ok(())
 }
 
+// What a page brings, one after another.
+fn paged(alloc: Global, index: &Index, lo: u64, n: u64) -> Result<Vec<Entry>, Fail> {
+    let mut entries = Vec::new(alloc);
+    for entry in index.page(lo, n) {
+        entries.push(entry)?;
+    }
+    Ok(entries)
+}
+
+#[test]
+fn pages_cross_empty_leaves(rt: HostRuntime) -> Result<(), Fail> {
+    let index = two(rt.alloc())?;
+    let four = Entry {
+        key: 4,
+        pointer: 40,
+    };
+    let last = Entry {
+        key: 5,
+        pointer: 50,
+    };
+    for (lo, n, count) in [
+        (0, 1, 1),
+        (0, 2, 2),
+        (2, 3, 2),
+        (4, 1, 1),
+        (4, u64::MAX, 2),
+        (0, 0, 0),
+        (6, 1, 0),
+    ] {
+        let entries = paged(rt.alloc(), &index, lo, n)?;
+        assert_eq!(rt; entries.as_slice(), &[four, last][..count], "{n} from {lo}");
+    }
+    Ok(())
+}
+
+#[test]
+fn pages_are_the_first_entries(rt: HostRuntime) -> Result<(), Fail> {
+    let index = five(rt.alloc())?;
+    for (lo, n, count) in [
+        (2u64, 2, 2usize),
+        (3, 2, 2),
+        (1, 5, 5),
+        (1, 4, 4),
+        (5, 3, 1),
+        (1, 0, 0),
+    ] {
+        let entries = paged(rt.alloc(), &index, lo, n)?;
+        let all = scanned(rt.alloc(), &index, lo, u64::MAX)?;
+        assert_eq!(rt; entries.len(), count, "{n} from {lo}");
+        assert!(rt;
+            all.as_slice().starts_with(entries.as_slice()),
+            "{n} from {lo}"
+        );
+    }
+    assert!(rt; paged(rt.alloc(), &index, 9, 3)?.is_empty());
+    Ok(())
+}
+
+#[test]
+fn a_page_has_the_greatest_key(rt: HostRuntime) -> Result<(), Fail> {
+    let ops = [Op::Insert(u64::MAX, 2)];
+    let index = after(rt.alloc(), Index::new(rt.alloc(), 4)?, ops.as_slice())?;
+    let greatest = Entry {
+        key: u64::MAX,
+        pointer: 2,
+    };
+    for lo in [0, u64::MAX] {
+        let entries = paged(rt.alloc(), &index, lo, u64::MAX)?;
+        assert_eq!(rt; entries.as_slice(), [greatest].as_slice());
+    }
+    Ok(())
+}
+
 #[test]
 fn all_entries_are_given(rt: HostRuntime) -> Result<(), Fail> {
     let index = five(rt.alloc())?;
@@ -198,12 +271,12 @@ fn a_copy_of_the_store_is_the_same(rt: HostRuntime) -> Result<(), Fail> {
 }
 
 #[test]
-fn a_fan_is_from_4_to_16(rt: HostRuntime) -> Result<(), Fail> {
-    for fan in [0, 3, 17, 255] {
+fn a_fan_is_from_4_to_32(rt: HostRuntime) -> Result<(), Fail> {
+    for fan in [0, 3, 33, 255] {
         let refused = Index::new(rt.alloc(), fan);
         assert!(rt; matches!(refused, Err(IndexError::BadFan)), "at {fan}");
     }
-    for fan in [4, 16] {
+    for fan in [4, 32] {
         let index = Index::new(rt.alloc(), fan)?;
         assert_eq!(rt; index.rest().store().fan(), fan);
     }

@@ -2,7 +2,7 @@
 use Rattle.std.specs.Prelude.{ℕ, List, [], ◌∷◌, ◌==◌, if◌then◌else◌, Option, Some, None}
 use mathlib.Core.List.{IsPrefix}
 use Rattle.blink_batch.specs.declared.Op.{Op}
-use Rattle.blink_batch.specs.declared.Op.TheVariants.{Insert, Delete}
+use Rattle.blink_batch.specs.declared.Op.TheVariants.{Insert, Delete, Replace}
 use Rattle.blink_live.specs.declared.view.Change.{Change}
 use Rattle.blink_live.specs.declared.view.View.{View}
 
@@ -24,6 +24,7 @@ changes_of key (change ∷ rest) = if change.key == key then change ∷ changes_
 abbrev pub changes_made : Op → Option ℕ → List Change
 changes_made (Insert key pointer) None = record { key = key; pointer = Some pointer } ∷ []
 changes_made (Delete key) (Some kept) = record { key = key; pointer = None } ∷ []
+changes_made (Replace key pointer) (Some kept) = record { key = key; pointer = Some pointer } ∷ []
 changes_made op kept = []
 
 -- whoever sees these has seen all that it saw and was told of before

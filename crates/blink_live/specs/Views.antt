@@ -3,7 +3,7 @@ use Rattle.std.specs.Prelude.{Option, ◌≡◌, ℕ, suc, ◌+◌, ◌≤◌, L
 use Rattle.atomic_table.specs.Table.{Me}
 use Rattle.blink_batch.specs.declared.Entry.{Entry}
 use Rattle.blink_batch.specs.declared.Op.{Op}
-use Rattle.blink_batch.specs.declared.Op.TheVariants.{Find, Insert, Delete}
+use Rattle.blink_batch.specs.declared.Op.TheVariants.{Find, Insert, Delete, Replace}
 use Rattle.blink_batch.specs.Operation.{key_of, map_after}
 use Rattle.blink_batch.specs.PlainMap.{pointer_of}
 use Rattle.blink_index.specs.Index.{map_of}
@@ -93,11 +93,13 @@ abbrev pub rows_of : Op → ℕ
 rows_of (Find key) = 0
 rows_of (Insert key pointer) = ROWS_OF_INSERTION
 rows_of (Delete key) = 1
+rows_of (Replace key pointer) = 1
 
 abbrev pub pages_of : Op → ℕ
 pages_of (Find key) = 0
 pages_of (Insert key pointer) = NUMBERS_OF_INSERTION
 pages_of (Delete key) = 0
+pages_of (Replace key pointer) = 0
 
 -- they are there
 pub record CanBegin (v : View) (op : Op) : Type 0 where

@@ -15,7 +15,8 @@ pub(crate) fn is_among(keys: &[u64], key: u64) -> bool
 // The keys of both lists, in a new one.
 pub(crate) fn joined(alloc: Global, keys: &[u64], more: &[u64]) -> Result<Vec<u64>, AllocError>
     ensures ascending { IfOk result (λ all. IsSorted nat_cmp all.items) }
-    ensures of_both { IfOk result (λ all. (key : ℕ) → Contains all.items key ↔ (Contains keys.now key ⊎ Contains more.now key)) }
+    ensures of_both { IfOk result (λ all. (key : ℕ)
+        → Contains all.items key ↔ (Contains keys.now key ⊎ Contains more.now key)) }
 {
     let mut all = Vec::with_capacity(alloc, keys.len() + more.len())?;
     all.extend_from_slice(keys)?;

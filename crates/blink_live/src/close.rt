@@ -80,7 +80,8 @@ impl Live {
 
     // The keeper's seat takes the view of one pass.
     fn take_one<B: Planned>(&self, seat: &mut Seat<u8, View>, other: Seat<u8, View>)
-        requires tables { (seat.old.table_id ≡ self.now.table.shared.table_id) × (other.table_id ≡ self.now.table.shared.table_id) }
+        requires tables { (seat.old.table_id ≡ self.now.table.shared.table_id)
+            × (other.table_id ≡ self.now.table.shared.table_id) }
         requires picked { B.plan ≡ plan_of self.now.table.shared.key }
         requires keeper { (dealt : ℕ) × (back : ℕ) × (seat.old.me.0.role ≡ KeeperRole dealt back) }
         requires pass { (other.me.0.role ≡ PassRole) × (other.me.0.operation ≡ None) × (other.me.1 ≡ []) }

@@ -38,7 +38,8 @@ impl Live {
         requires its_own { IsKeeperOf self.now keeper.old }
         ensures dealt { IfOk result (λ pass. IsDealt self.now keeper.old keys.items inserts deletes pass) }
         ensures rest { OnOk result (HasDealt self.now keeper.old keeper.new keys.items inserts deletes) }
-        ensures taken { (key : ℕ) → IsErrOf result (LiveError.Taken key) ↔ IsFirstTaken (taken_of keeper.old) keys.items key }
+        ensures taken { (key : ℕ) → IsErrOf result (LiveError.Taken key)
+            ↔ IsFirstTaken (taken_of keeper.old) keys.items key }
         ensures no_allowance { IsErrOf result LiveError.NoAllowance
             ↔ (NoneIsTaken (taken_of keeper.old) keys.items × LacksAllowance keeper.old inserts deletes) }
         ensures refused { IfErr result IsDealRefusal }
@@ -63,7 +64,8 @@ impl Live {
         requires free { NoneIsTaken (taken_of keeper.old) keys.items }
         requires allowed { ¬ LacksAllowance keeper.old inserts deletes }
         requires ascending { IsSorted nat_cmp taken_now.items }
-        requires taken { (key : ℕ) → Contains taken_now.items key ↔ (Contains (taken_of keeper.old) key ⊎ Contains keys.items key) }
+        requires taken { (key : ℕ) → Contains taken_now.items key
+            ↔ (Contains (taken_of keeper.old) key ⊎ Contains keys.items key) }
         ensures dealt { IsDealt self.now keeper.old keys.items inserts deletes result }
         ensures rest { HasDealt self.now keeper.old keeper.new keys.items inserts deletes }
     {
@@ -102,7 +104,8 @@ impl Live {
         requires can { CanDeal seat.old.me.0 rows pages keys.now taken.now }
         ensures left { (seat.new.table_id ≡ seat.old.table_id) × (seat.new.id ≡ seat.old.id)
             × (seat.new.me ≡ (keeps_rest seat.old.me.0 rows pages taken.now, seat.old.me.1)) }
-        ensures right { (result.table_id ≡ seat.old.table_id) × (result.me ≡ (gets_first seat.old.me.0 rows pages keys.now, [])) }
+        ensures right { (result.table_id ≡ seat.old.table_id)
+            × (result.me ≡ (gets_first seat.old.me.0 rows pages keys.now, [])) }
     {
         self.table.shared.split_seat::<Deal<B>>(seat)
     }
@@ -114,8 +117,10 @@ impl Keeper {
         ensures free { OnOk result (NoneIsTaken (taken_of self.now) keys.now) }
         ensures allowed { OnOk result (¬ LacksAllowance self.now inserts deletes) }
         ensures ascending { IfOk result (λ all. IsSorted nat_cmp all.items) }
-        ensures all { IfOk result (λ all. (key : ℕ) → Contains all.items key ↔ (Contains (taken_of self.now) key ⊎ Contains keys.now key)) }
-        ensures taken { (key : ℕ) → IsErrOf result (LiveError.Taken key) ↔ IsFirstTaken (taken_of self.now) keys.now key }
+        ensures all { IfOk result (λ all. (key : ℕ)
+            → Contains all.items key ↔ (Contains (taken_of self.now) key ⊎ Contains keys.now key)) }
+        ensures taken { (key : ℕ) → IsErrOf result (LiveError.Taken key)
+            ↔ IsFirstTaken (taken_of self.now) keys.now key }
         ensures no_allowance { IsErrOf result LiveError.NoAllowance
             ↔ (NoneIsTaken (taken_of self.now) keys.now × LacksAllowance self.now inserts deletes) }
         ensures refused { IfErr result IsDealRefusal }

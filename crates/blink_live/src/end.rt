@@ -41,7 +41,8 @@ fn prime_at(closed: &Closed<u8, Global>, counts: &Counts) -> Prime
     requires full { IsFull closed.now.words }
     requires width { slots_len closed.now.words ≡ word_count counts.now }
     requires kept { (leftmost : List ℕ) × KeepsPrime counts.now (slots_items closed.now.words) leftmost }
-    ensures { (leftmost : List ℕ) → KeepsPrime counts.now (slots_items closed.now.words) leftmost → result ≡ leftmost }
+    ensures { (leftmost : List ℕ) → KeepsPrime counts.now (slots_items closed.now.words) leftmost
+        → result ≡ leftmost }
 {
     let row = closed.word(0);
     let words = row_words(closed, counts.row_start(row) as usize);

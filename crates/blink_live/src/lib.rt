@@ -21,6 +21,7 @@ mod live;
 mod open;
 mod pass;
 mod read;
+mod replace;
 mod rule;
 mod taken;
 mod tell;

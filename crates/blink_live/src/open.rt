@@ -18,7 +18,7 @@ use std::snapshot::Snapshot;
 
 impl Live {
     /// A table over the index's tree, which stays as it is, with room for so many insertions and deletions, and the keeper
-    /// that deals its passes.
+    /// that deals its passes. A replacement uses a deletion.
     ///
     /// `TooLarge` is told before memory is asked for, and comes exactly where the insertions might need more page numbers
     /// than the 1,048,576 that there are, 22 each. `OutOfMemory` comes where memory was refused.

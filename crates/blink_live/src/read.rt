@@ -89,7 +89,8 @@ impl Live {
         requires row { IsRowNumber self.now.counts row }
         requires page { (page : PlainPage) × ReadsPage seat.old.me row page }
         ensures same { IsSameSeat seat.old seat.new }
-        ensures way { (page : PlainPage) → ReadsPage seat.old.me row page → TellsWayFor key page result.0 result.1 }
+        ensures way { (page : PlainPage) → ReadsPage seat.old.me row page
+            → TellsWayFor key page result.0 result.1 }
     {
         if key > self.load_word(seat, row, HIGH_KEY) {
             let right = self.load_word(seat, row, RIGHT_LINK);
@@ -111,7 +112,8 @@ impl Live {
         requires row { IsRowNumber self.now.counts row }
         requires page { (page : PlainPage) × ReadsPage seat.old.me row page }
         ensures same { IsSameSeat seat.old seat.new }
-        ensures entry { (page : PlainPage) → ReadsPage seat.old.me row page → result ≡ slice_get page.entries (place_of key page.entries) }
+        ensures entry { (page : PlainPage) → ReadsPage seat.old.me row page
+            → result ≡ slice_get page.entries (place_of key page.entries) }
     {
         let count = self.load_word(seat, row, COUNT) as usize;
         for place in 0..count {
@@ -130,7 +132,8 @@ impl Live {
         requires row { IsRowNumber self.now.counts row }
         requires place { place < ROW_WORDS }
         ensures same { IsSameSeat seat.old seat.new }
-        ensures word { (content : List ℕ) → seat.old.me.0.reads ≡ Some (row, content) → result ≡ slice_index content place }
+        ensures word { (content : List ℕ) → seat.old.me.0.reads ≡ Some (row, content)
+            → result ≡ slice_index content place }
     {
         // Called for the proof: a place in the table is a usize.
         let _count = self.table.word_count();
@@ -141,7 +144,8 @@ impl Live {
 
 // What is kept under the key, where this is the first entry that has it or a greater one.
 fn kept_under(key: u64, entry: Option<(u64, u64)>) -> Option<u64>
-    ensures { (from to : ℕ) (entries : List (ℕ × ℕ)) → IsRising from entries to → entry ≡ slice_get entries (place_of key entries)
+    ensures { (from to : ℕ) (entries : List (ℕ × ℕ)) → IsRising from entries to
+        → entry ≡ slice_get entries (place_of key entries)
         → result ≡ value_at key entries }
 {
     match entry {

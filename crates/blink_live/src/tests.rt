@@ -6,6 +6,7 @@ mod finding;
 mod glancing;
 mod inserting;
 mod opening;
+mod replacing;
 mod watching;
 
 use blink_batch::{Batch, Lanes, Op};

@@ -5,7 +5,7 @@ use Rattle.std.proofs.Math.Seq.{take-append_seam}
 use Rattle.std.proofs.lemmas.Bool.{cond_both}
 use Rattle.std.proofs.lemmas.Bool.Decides.{nat_tests}
 use Rattle.blink_page.specs.Rising.{IsRising, Covers}
-use Rattle.blink_page.specs.Entries.{value_at, added, removed, posted, ValuesWithin}
+use Rattle.blink_page.specs.Entries.{value_at, added, removed, replaced, posted, ValuesWithin}
 use Rattle.blink_page.specs.Page.{PlainPage, entries_with}
 use Rattle.blink_page.proofs.RisingKeys.{rising_from_below}
 
@@ -70,6 +70,33 @@ module _ (key : ℕ) where
       cond_both (eqb k key) _ _ (ValuesWithin least greatest)
       (λ same. within.2)
       (λ other. (within.0, within.1, values_removed least greatest rest within.2))
+
+module _ (key value : ℕ) where
+  -- with another value the order stays
+  pub rising_replaced : (from : ℕ) (xs : List (ℕ × ℕ)) (to : ℕ) → IsRising from xs to → IsRising from (replaced (key, value) xs) to
+  rising_replaced from [] to rising = rising
+  rising_replaced from ((k, v) ∷ rest) to rising =
+      cond_both (eqb k key) _ _ (λ zs. IsRising from zs to)
+      (λ same. rising)
+      (λ other. (rising.0, rising_replaced (k + 1) rest to rising.1))
+
+  -- there are as many entries
+  pub length-replaced : (xs : List (ℕ × ℕ)) → length (replaced (key, value) xs) ≡ length xs
+  length-replaced [] = refl
+  length-replaced ((k, v) ∷ rest) = grind (arith, nat_tests, length-replaced rest)
+
+  -- which are the same, where the key is not there
+  pub replaced-absent : (xs : List (ℕ × ℕ)) → value_at key xs ≡ None → replaced (key, value) xs ≡ xs
+  replaced-absent [] absent = refl
+  replaced-absent ((k, v) ∷ rest) absent = grind (arith, nat_tests, replaced-absent rest)
+
+  -- the other values are as they were
+  pub values_replaced : (least greatest : ℕ) (xs : List (ℕ × ℕ)) → ValuesWithin least greatest xs → least ≤ value → value ≤ greatest → ValuesWithin least greatest (replaced (key, value) xs)
+  values_replaced least greatest [] within above below = tt
+  values_replaced least greatest ((k, v) ∷ rest) within above below =
+      cond_both (eqb k key) _ _ (ValuesWithin least greatest)
+      (λ same. (above, below, within.2))
+      (λ other. (within.0, within.1, values_replaced least greatest rest within.2 above below))
 
 module _ (separator new : ℕ) where
   -- a new separator below the end keeps the order and the end

@@ -2,9 +2,9 @@
 use Rattle.std.proofs.Common.{◌≡◌, ◌≢◌, ℕ, ◌+◌, ◌<◌, ◌≤◌, List, [], ◌∷◌, ◌++◌, IsSome, is_some, refl, arith}
 use Rattle.std.proofs.lemmas.Bool.Decides.{nat_tests}
 use Rattle.blink_page.specs.Rising.{IsRising, Covers}
-use Rattle.blink_page.specs.Entries.{value_at, added, removed, posted}
+use Rattle.blink_page.specs.Entries.{value_at, added, removed, replaced, posted}
 use Rattle.blink_page.proofs.RisingKeys.{from_at_most_to}
-use Rattle.blink_page.proofs.ChangedEntries.{removed-absent}
+use Rattle.blink_page.proofs.ChangedEntries.{removed-absent, replaced-absent}
 use Rattle.blink_page.proofs.LookUps.{value_at-below}
 
 module _ (key value : ℕ) where
@@ -31,6 +31,16 @@ module _ (key : ℕ) where
   pub removed-append_rest : (from : ℕ) (xs ys : List (ℕ × ℕ)) (middle : ℕ) → IsRising from xs middle → middle ≤ key → removed key (xs ++ ys) ≡ xs ++ removed key ys
   removed-append_rest from [] ys middle rising above = refl
   removed-append_rest from ((k, v) ∷ xs) ys middle rising above = grind (arith, nat_tests, from_at_most_to (k + 1) xs middle rising.1, removed-append_rest (k + 1) xs ys middle rising.1 above)
+
+module _ (key value : ℕ) where
+  -- a value is replaced in the page that its key belongs to
+  pub replaced-append_front : (middle : ℕ) (xs ys : List (ℕ × ℕ)) (to : ℕ) → IsRising middle ys to → key < middle → replaced (key, value) (xs ++ ys) ≡ replaced (key, value) xs ++ ys
+  replaced-append_front middle [] ys to rising below = replaced-absent key value ys (value_at-below key middle ys to rising below)
+  replaced-append_front middle ((k, v) ∷ xs) ys to rising below = grind (arith, nat_tests, replaced-append_front middle xs ys to rising below)
+
+  pub replaced-append_rest : (from : ℕ) (xs ys : List (ℕ × ℕ)) (middle : ℕ) → IsRising from xs middle → middle ≤ key → replaced (key, value) (xs ++ ys) ≡ xs ++ replaced (key, value) ys
+  replaced-append_rest from [] ys middle rising above = refl
+  replaced-append_rest from ((k, v) ∷ xs) ys middle rising above = grind (arith, nat_tests, from_at_most_to (k + 1) xs middle rising.1, replaced-append_rest (k + 1) xs ys middle rising.1 above)
 
 module _ (separator new : ℕ) where
   -- a separator is posted to the page that it belongs to

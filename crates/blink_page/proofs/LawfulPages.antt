@@ -5,11 +5,11 @@ use Rattle.std.proofs.lemmas.Bool.Decides.{nat_tests}
 use Rattle.blink_page.specs.declared.limits.TheConstants.{MAX_PAGE, GREATEST_KEY}
 use Rattle.blink_page.specs.Limits.{IsPageNumber}
 use Rattle.blink_page.specs.Rising.{IsRising, least_above}
-use Rattle.blink_page.specs.Entries.{value_at, added, removed, posted, ValuesWithin}
+use Rattle.blink_page.specs.Entries.{value_at, added, removed, replaced, posted, ValuesWithin}
 use Rattle.blink_page.specs.Place.{place_of}
 use Rattle.blink_page.specs.Page.{PlainPage, IsLawfulPage, HasChildren, IsKeyOf, with_entries, entries_with}
 use Rattle.blink_page.proofs.RisingKeys.{covers_rising}
-use Rattle.blink_page.proofs.ChangedEntries.{rising_added, length-added, values_added, rising_removed, length-removed-at_most, values_removed, covers_posted, length-posted, values_posted, values_wider, value_within}
+use Rattle.blink_page.proofs.ChangedEntries.{rising_added, length-added, values_added, rising_removed, length-removed-at_most, values_removed, rising_replaced, length-replaced, values_replaced, covers_posted, length-posted, values_posted, values_wider, value_within}
 use Rattle.blink_page.proofs.WhereSearchesEnd.{place_below_end}
 
 -- a lawful page is so for each fan that has room for its entries
@@ -65,6 +65,13 @@ module _ (fan : ℕ) (p : PlainPage) (lawful : IsLawfulPage fan p) where
       (omega (arith, length-removed-at_most key p.entries, lawful.at_most_fan))
       (rising_removed key _ p.entries _ lawful.keys_rise)
       (values_removed key 0 GREATEST_KEY p.entries lawful.values_in_range)
+
+  -- a leaf with another value in one of its entries
+  pub lawful_replaced : (key value : ℕ) → p.level ≡ 0 → value ≤ GREATEST_KEY → IsLawfulPage fan (with_entries p (replaced (key, value) p.entries))
+  lawful_replaced key value leaf fits = lawful_leaf fan (replaced (key, value) p.entries) leaf
+      (omega (arith, length-replaced key value p.entries, lawful.at_most_fan))
+      (rising_replaced key value _ p.entries _ lawful.keys_rise)
+      (values_replaced key value 0 GREATEST_KEY p.entries lawful.values_in_range (omega arith) fits)
 
   module _ (key value : ℕ) (own : IsKeyOf p key) (absent : value_at key p.entries ≡ None) where
     -- a leaf with one entry more

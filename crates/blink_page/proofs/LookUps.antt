@@ -2,7 +2,7 @@
 use Rattle.std.proofs.Common.{◌≡◌, ◌≢◌, ℕ, ◌+◌, ◌<◌, ◌≤◌, false, List, [], ◌∷◌, ◌++◌, Option, Some, None, IsSome, is_some, refl, arith}
 use Rattle.std.proofs.lemmas.Bool.Decides.{nat_tests}
 use Rattle.blink_page.specs.Rising.{IsRising, Covers}
-use Rattle.blink_page.specs.Entries.{value_at, child_for, added, removed}
+use Rattle.blink_page.specs.Entries.{value_at, child_for, added, removed, replaced}
 use Rattle.blink_page.proofs.RisingKeys.{from_at_most_to}
 
 -- what is not there
@@ -63,3 +63,12 @@ module _ (key : ℕ) where
   pub value_at-removed_other : (other : ℕ) (xs : List (ℕ × ℕ)) → key ≢ other → value_at key (removed other xs) ≡ value_at key xs
   value_at-removed_other other [] differ = refl
   value_at-removed_other other ((k, v) ∷ rest) differ = grind (arith, nat_tests, value_at-removed_other other rest differ)
+
+  -- a key whose value is replaced is found with the new one
+  pub value_at-replaced : (value : ℕ) (xs : List (ℕ × ℕ)) → IsSome (value_at key xs) → value_at key (replaced (key, value) xs) ≡ Some value
+  value_at-replaced value [] found = cc
+  value_at-replaced value ((k, v) ∷ rest) found = grind (arith, nat_tests, value_at-replaced value rest)
+
+  pub value_at-replaced_other : (other value : ℕ) (xs : List (ℕ × ℕ)) → key ≢ other → value_at key (replaced (other, value) xs) ≡ value_at key xs
+  value_at-replaced_other other value [] differ = refl
+  value_at-replaced_other other value ((k, v) ∷ rest) differ = grind (arith, nat_tests, value_at-replaced_other other value rest differ)

@@ -7,9 +7,9 @@ pub use Rattle.blink_page.proofs.LookUps.{none_unless_some, value_at-below, valu
 -- what one entry more is in a leaf and in an inner page
 pub use Rattle.blink_page.proofs.ChangedEntries.{entries_with-leaf, entries_with-inner}
 -- a change of one page's entries is a change of those of the pages in a row
-pub use Rattle.blink_page.proofs.EntriesOfPagesInARow.{added-append_front, added-append_rest, removed-append_front, removed-append_rest, posted-append_front, posted-append_rest, posted_there, others_there}
+pub use Rattle.blink_page.proofs.EntriesOfPagesInARow.{added-append_front, added-append_rest, removed-append_front, removed-append_rest, replaced-append_front, replaced-append_rest, posted-append_front, posted-append_rest, posted_there, others_there}
 -- pages that are lawful after a change
-pub use Rattle.blink_page.proofs.LawfulPages.{lawful_with_room, lawful_removed, lawful_entries_with, length-entries_with}
+pub use Rattle.blink_page.proofs.LawfulPages.{lawful_with_room, lawful_removed, lawful_replaced, lawful_entries_with, length-entries_with}
 -- the two halves of a split, and the separator between them
 pub use Rattle.blink_page.proofs.HalvesOfSplit.{lower-append-upper, separator_above_floor, separator_below_high, lawful_lower, lawful_upper}
 -- what stands where a search within a page ends, and that a search in an inner page ends at a child

@@ -3,7 +3,7 @@ use Rattle.std.proofs.Common.{◌≡◌, ◌≢◌, ℕ, ◌+◌, ◌<◌, ◌�
 use Rattle.std.specs.List.{insert, remove}
 use Rattle.std.proofs.lemmas.Bool.Decides.{nat_tests}
 use Rattle.blink_page.specs.Rising.{IsRising, Covers}
-use Rattle.blink_page.specs.Entries.{value_at, child_for, added, removed, posted}
+use Rattle.blink_page.specs.Entries.{value_at, child_for, added, removed, replaced, posted}
 use Rattle.blink_page.specs.Place.{place_of}
 use Rattle.blink_page.proofs.LookUps.{value_at-below}
 
@@ -59,3 +59,7 @@ module _ (key : ℕ) where
   pub removed-place : (from : ℕ) (xs : List (ℕ × ℕ)) (to : ℕ) → IsRising from xs to → IsSome (value_at key xs) → removed key xs ≡ remove xs (place_of key xs)
   removed-place from [] to rising found = cc
   removed-place from ((k, v) ∷ rest) to rising found = grind (arith, nat_tests, value_at-below key (k + 1) rest to rising.1, removed-place (k + 1) rest to rising.1)
+
+  pub replaced-place : (value from : ℕ) (xs : List (ℕ × ℕ)) (to : ℕ) → IsRising from xs to → IsSome (value_at key xs) → replaced (key, value) xs ≡ set xs (place_of key xs) (key, value)
+  replaced-place value from [] to rising found = cc
+  replaced-place value from ((k, v) ∷ rest) to rising found = grind (arith, nat_tests, value_at-below key (k + 1) rest to rising.1, replaced-place value (k + 1) rest to rising.1)

@@ -22,6 +22,11 @@ abbrev pub removed : ℕ → List (ℕ × ℕ) → List (ℕ × ℕ)
 removed key [] = []
 removed key ((k, v) ∷ rest) = if k == key then rest else (k, v) ∷ removed key rest
 
+-- the list with another value in the entry that has this key
+abbrev pub replaced : ℕ × ℕ → List (ℕ × ℕ) → List (ℕ × ℕ)
+replaced (key, value) [] = []
+replaced (key, value) ((k, v) ∷ rest) = if k == key then (k, value) ∷ rest else (k, v) ∷ replaced (key, value) rest
+
 -- the list with a separator posted: its page's child keeps the keys up to it, and the new child takes the keys above it
 abbrev pub posted : ℕ × ℕ → List (ℕ × ℕ) → List (ℕ × ℕ)
 posted (separator, new) [] = []

@@ -1,5 +1,5 @@
 //! Changes of a list of entries, whatever its room.
-ghost use Rattle.std.specs.Prelude.{◌≡◌, ◌+◌, ◌<◌, ◌≤◌, length};
+ghost use Rattle.std.specs.Prelude.{◌≡◌, ◌+◌, ◌<◌, ◌≤◌, length, slice_set};
 ghost use Rattle.arrayvec.specs.ArrayVec.{array_vec_len};
 ghost use Rattle.blink_page.specs.Entries.{added, posted};
 ghost use Rattle.blink_page.specs.Place.{place_of};
@@ -25,6 +25,19 @@ pub(crate) fn add<const ROOM: usize>(items: &mut ArrayVec<(u64, u64), ROOM>, key
 {
     let at = place(items, key);
     items.insert(at, (key, value));
+}
+
+/// Puts another entry in the place of the first whose key is at least `key`.
+pub(crate) fn set_among<const ROOM: usize>(
+    items: &mut ArrayVec<(u64, u64), ROOM>,
+    key: u64,
+    value: u64,
+)
+    requires there { place_of key items.old.items < array_vec_len items.old }
+    ensures { items.new.items ≡ slice_set items.old.items (place_of key items.old.items) (key, value) }
+{
+    let at = place(items, key);
+    items[at] = (key, value);
 }
 
 /// Posts a separator: the first entry at or above it goes on to the new child, and its own child moves to the separator.

@@ -12,6 +12,7 @@ mod prime;
 mod put;
 mod search;
 mod split;
+mod swap;
 mod take;
 #[cfg(test)]
 mod tests;

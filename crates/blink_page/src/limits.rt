@@ -4,7 +4,7 @@
 pub const MIN_FAN: u8 = 4;
 
 /// The greatest number of entries that a tree may allow its pages.
-pub const MAX_FAN: usize = 16;
+pub const MAX_FAN: usize = 32;
 
 /// A full page with one entry more, which is then split.
 pub(crate) const OVERFULL: usize = MAX_FAN + 1;

@@ -79,6 +79,35 @@ fn the_least_and_the_greatest_key_are_found(rt: HostRuntime) -> Result<(), Fail>
 }
 
 #[test]
+fn a_value_is_swapped_in_its_place(rt: HostRuntime) -> Result<(), Fail> {
+    let mut page = Page::leaf();
+    for (key, value) in [(1, 10), (2, 20), (3, 30)] {
+        assert!(rt;
+            page.level == 0
+                && page.floor.is_none()
+                && page.high == GREATEST_KEY
+                && page.items.len() <= 4
+        );
+        assert_eq!(rt; page.put(4, key, value), Put::Done);
+    }
+    for (value, before) in [(21, 20), (22, 21), (22, 22)] {
+        assert!(rt; page.level == 0);
+        assert_eq!(rt; page.swap(2, value), Some(before));
+        assert_eq!(rt;
+            page.items.as_slice(),
+            [(1, 10), (2, value), (3, 30)].as_slice()
+        );
+    }
+    let before = page.copy();
+    for absent in [0, 4] {
+        assert!(rt; page.level == 0);
+        assert_eq!(rt; page.swap(absent, 7), None);
+        assert_eq!(rt; page, before);
+    }
+    Ok(())
+}
+
+#[test]
 fn a_full_inner_page_splits(rt: HostRuntime) -> Result<(), Fail> {
     let mut page = Page::root(1, 3, 1, 2);
     for (separator, child) in [(6, 4), (9, 5)] {
@@ -165,8 +194,11 @@ fn a_split_keeps_the_greater_part(rt: HostRuntime) -> Result<(), Fail> {
         (8, 5, 4),
         (15, 8, 8),
         (16, 9, 8),
+        (17, 9, 9),
+        (31, 16, 16),
+        (32, 17, 16),
     ] {
-        assert!(rt; 4 <= fan && fan <= 16);
+        assert!(rt; 4 <= fan && fan <= 32);
         let mut page = Page::leaf();
         for key in 0..u64::from(fan) {
             assert!(rt; page.level == 0 && page.floor.is_none() && page.high == GREATEST_KEY);

@@ -1,4 +1,4 @@
--- A row: the 38 words that say what a page is, or what a prime block is.
+-- A row: the 70 words that say what a page is, or what a prime block is.
 use Rattle.std.specs.Prelude.{◌≡◌, ℕ, ◌<◌, ◌≤◌, Option, Some, None, List, [], ◌∷◌, length, slice_index, EachIndex, unwrap_or, All}
 use Rattle.blink_page.specs.declared.limits.TheConstants.{LEVELS, MAX_FAN}
 use Rattle.blink_page.specs.Limits.{IsPageNumber}
@@ -24,7 +24,7 @@ page_words p =
 abbrev pub prime_words : List ℕ → List ℕ
 prime_words leftmost = 0 ∷ 0 ∷ 0 ∷ 0 ∷ 0 ∷ length leftmost ∷ leftmost
 
--- 38 words that begin with these; all others are 0
+-- 70 words that begin with these; all others are 0
 pub record IsRowOf (words content : List ℕ) : Type 0 where
   pub width : length words ≡ ROW_WORDS
   pub filled : (n : ℕ) → n < ROW_WORDS → slice_index words n ≡ slice_index content n

@@ -1,7 +1,7 @@
 //! The measures of rows, and of a table of them.
 
 /// How many words a row has.
-pub const ROW_WORDS: usize = 38;
+pub const ROW_WORDS: usize = 70;
 
 /// How many of them stand before the entries of a page, or before the pages that a prime block names.
 pub const HEAD_WORDS: usize = 6;

@@ -77,8 +77,8 @@ fn a_table_has_room_for_its_allowance(rt: HostRuntime) -> Result<(), Fail> {
     );
     assert!(rt; one_page.rows >= 46);
     assert_eq!(rt; one_page.row_start(1), 48);
-    assert_eq!(rt; one_page.row_start(2), 86);
-    assert_eq!(rt; one_page.row_start(46), 1758);
+    assert_eq!(rt; one_page.row_start(2), 118);
+    assert_eq!(rt; one_page.row_start(46), 3198);
     Ok(())
 }
 
@@ -148,8 +148,8 @@ fn words_that_are_no_page(rt: HostRuntime) -> Result<(), Fail> {
         (4, 1_048_576),
         // the last page alone has no link
         (4, 0),
-        // a page has 16 entries at most
-        (5, 17),
+        // a page has 32 entries at most
+        (5, 33),
         // the third entry stands behind the last
         (5, 2),
         // the keys ascend
@@ -161,7 +161,7 @@ fn words_that_are_no_page(rt: HostRuntime) -> Result<(), Fail> {
         (10, 7),
         // a word behind the last entry
         (12, 1),
-        (37, 1),
+        (69, 1),
     ] {
         let mut words = leaf_row();
         assert!(rt; at < ROW_WORDS);

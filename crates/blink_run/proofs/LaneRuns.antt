@@ -17,7 +17,7 @@ use Rattle.blink_live.specs.declared.Live.{Live}
 use Rattle.blink_live.specs.Allowed.{inserts_left, deletes_left}
 use Rattle.blink_live.specs.Handles.{IsPassOf, keys_of, share_of}
 use Rattle.blink_run.specs.declared.live.lane.LaneRun.{LaneRun}
-use Rattle.blink_run.specs.Lanes.{CanRun, HasRun, IsPassAfter, MayRun, is_delete, lane_ops}
+use Rattle.blink_run.specs.Lanes.{CanRun, HasRun, IsPassAfter, MayRun, uses_deletion, lane_ops}
 use Rattle.blink_run.proofs.LaneSoFar.{lane_parts, lane_so_far, lane_so_far-all, lane_so_far-other, lane_so_far-own}
 
 -- the run has done these operations of its lane
@@ -26,7 +26,7 @@ pub record HasDone (live : Live) (done : List Op) (before run : LaneRun) : Type 
   pub same_keys : keys_of run.pass ≡ keys_of before.pass
   pub share : share_of run.pass ≡ map_after_all (share_of before.pass) done
   pub inserts : inserts_left run.pass.pages + count_by is_insert done ≡ inserts_left before.pass.pages
-  pub deletes : deletes_left run.pass.pages run.pass.rows + count_by is_delete done ≡ deletes_left before.pass.pages before.pass.rows
+  pub deletes : deletes_left run.pass.pages run.pass.rows + count_by uses_deletion done ≡ deletes_left before.pass.pages before.pass.rows
   pub answers_are : run.answers.items ≡ answers (share_of before.pass) done
   pub capacity : vec_capacity run.answers ≡ vec_capacity before.answers
 
@@ -43,13 +43,13 @@ module _ (live : Live) (before : LaneRun) where
     pub can_run : (ops rest : List Op) → MayRun live ops before → ops ≡ done ++ op ∷ rest → CanRun live op run
     can_run ops rest may parts =
         let inserts = count_by-append is_insert done (op ∷ rest) in
-        let deletes = count_by-append is_delete done (op ∷ rest) in
+        let deletes = count_by-append uses_deletion done (op ∷ rest) in
         let one_insert = count_by-append is_insert (op ∷ []) rest in
-        let one_delete = count_by-append is_delete (op ∷ []) rest in
+        let one_delete = count_by-append uses_deletion (op ∷ []) rest in
         let long = length-append done (op ∷ rest) in
         let as_many = length-answers (share_of before.pass) done in
         let enough_inserts : count_by is_insert (done ++ op ∷ rest) ≤ inserts_left before.pass.pages = subst (λ (all : List Op). count_by is_insert all ≤ inserts_left before.pass.pages) parts may.inserts in
-        let enough_deletes : count_by is_delete (done ++ op ∷ rest) ≤ deletes_left before.pass.pages before.pass.rows = subst (λ (all : List Op). count_by is_delete all ≤ deletes_left before.pass.pages before.pass.rows) parts may.deletes in
+        let enough_deletes : count_by uses_deletion (done ++ op ∷ rest) ≤ deletes_left before.pass.pages before.pass.rows = subst (λ (all : List Op). count_by uses_deletion all ≤ deletes_left before.pass.pages before.pass.rows) parts may.deletes in
         let enough_room : length (done ++ op ∷ rest) ≤ vec_capacity before.answers = subst (λ (all : List Op). length all ≤ vec_capacity before.answers) parts may.room in
         let its : Contains ops op = subst (λ (all : List Op). Contains all op) (sym parts) (Contains-append_right done (op ∷ rest) op (0, omega arith, refl)) in
         let left_inserts = so_far.inserts in
@@ -69,7 +69,7 @@ module _ (live : Live) (before : LaneRun) where
         → HasDone live (done ++ op ∷ []) before next
     one_done next after given same =
         let inserts = count_by-append is_insert done (op ∷ []) in
-        let deletes = count_by-append is_delete done (op ∷ []) in
+        let deletes = count_by-append uses_deletion done (op ∷ []) in
         let left_inserts = so_far.inserts in
         let left_deletes = so_far.deletes in
         let now_inserts = after.inserts in

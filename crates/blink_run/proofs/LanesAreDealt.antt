@@ -17,7 +17,7 @@ use Rattle.blink_live.specs.Handles.{IsKeeperOf, keys_of, opening_of, passes_dea
 use Rattle.blink_live.proofs.Offered.{among_from_contains, entries_of_keep}
 use Rattle.blink_run.specs.declared.live.lane.LaneRun.{LaneRun}
 use Rattle.blink_run.specs.declared.live.needs.Needs.{Needs}
-use Rattle.blink_run.specs.Lanes.{HasDealtAll, IsKeyOfOne, IsNeeded, IsNewKeeper, MayRun, is_delete, lane_ops}
+use Rattle.blink_run.specs.Lanes.{HasDealtAll, IsKeyOfOne, IsNeeded, IsNewKeeper, MayRun, uses_deletion, lane_ops}
 use Rattle.blink_run.proofs.ChangesOfLanes.{count_from, count_from-first, count_from-lane}
 use Rattle.blink_run.proofs.ChangesOfSpans.{deletes_dealt, deletes_rest, inserts_dealt, inserts_rest}
 use Rattle.blink_run.proofs.KeysOfLanes.{key_of_batch, one_lane_a_key}
@@ -55,7 +55,7 @@ pub record HasDealtBefore (live : Live) (ops : List Op) (lanes : List ℕ) (work
   pub taken : (key : ℕ) → Contains (taken_of keeper) key → (lane : ℕ) × (lane < worker) × IsKeyOfOne (lane_ops ops lanes lane) key
   pub dealt : passes_dealt keeper ≡ worker
   pub inserts : count_from is_insert ops lanes worker ≤ inserts_left keeper.pages
-  pub deletes : count_from is_delete ops lanes worker ≤ deletes_left keeper.pages keeper.rows
+  pub deletes : count_from uses_deletion ops lanes worker ≤ deletes_left keeper.pages keeper.rows
 
 -- a new one has dealt none
 pub dealt_none : (live : Live) (ops : List Op) (lanes : List ℕ) (keeper : Keeper) → length lanes ≡ length ops → IsNewKeeper live ops keeper → HasDealtBefore live ops lanes 0 keeper
@@ -64,7 +64,7 @@ dealt_none live ops lanes keeper long new = record {
   taken = λ key there. absurd (let inside = (subst (λ (keys : List ℕ). Contains keys key) new.none_taken there).1 in omega (arith, inside));
   dealt = new.none_dealt;
   inserts = let all = count_from-first is_insert ops lanes long in let enough = new.inserts in omega (arith, all, enough);
-  deletes = let all = count_from-first is_delete ops lanes long in let enough = new.deletes in omega (arith, all, enough);
+  deletes = let all = count_from-first uses_deletion ops lanes long in let enough = new.deletes in omega (arith, all, enough);
 }
 
 -- one that has dealt all lanes has dealt no key but the batch's
@@ -101,7 +101,7 @@ module _ (live : Live) (ops : List Op) (lanes : List ℕ) (worker : ℕ) (keeper
   enough_deletes long =
       let left = has.deletes in
       let asked = needed.deletes in
-      let parts = count_from-lane is_delete ops lanes worker long in
+      let parts = count_from-lane uses_deletion ops lanes worker long in
       omega (arith, left, asked, parts)
 
   -- so it lacks none
@@ -133,6 +133,6 @@ module _ (live : Live) (ops : List Op) (lanes : List ℕ) (worker : ℕ) (keeper
         let rest = deletes_rest keeper.pages keeper.rows needs.inserts needs.deletes (enough_inserts long) (enough_deletes long) in
         let before = has.deletes in
         let asked = needed.deletes in
-        let parts = count_from-lane is_delete ops lanes worker long in
+        let parts = count_from-lane uses_deletion ops lanes worker long in
         omega (arith, left, rest, before, asked, parts);
   }

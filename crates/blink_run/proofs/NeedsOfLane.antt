@@ -8,7 +8,7 @@ use Rattle.blink_batch.specs.Batch.{is_insert}
 use Rattle.blink_batch.specs.Operation.{key_of}
 use Rattle.blink_live.specs.Deals.{NoneIsTaken}
 use Rattle.blink_run.specs.declared.live.needs.Needs.{Needs}
-use Rattle.blink_run.specs.Lanes.{IsKeyOfOne, IsNeeded, is_delete}
+use Rattle.blink_run.specs.Lanes.{IsKeyOfOne, IsNeeded, uses_deletion}
 
 -- the operations' keys are those that one of them has
 pub keys_of_operations : (ops : List Op) (key : ℕ) → Contains (map key_of ops) key ↔ IsKeyOfOne ops key
@@ -27,7 +27,7 @@ keys_of_operations ops key = (
 
 -- the gathered keys, each once, and the counts are what the operations need
 pub needed_from_gathered : (ops : List Op) (needs : Needs) (gathered : List ℕ) → gathered ≡ map key_of ops → ((key : ℕ) → Contains needs.keys.items key ↔ Contains gathered key) → NoneIsTaken [] needs.keys.items
-    → needs.operations ≡ length ops → needs.inserts ≡ count_by is_insert ops → needs.deletes ≡ count_by is_delete ops → IsNeeded ops needs
+    → needs.operations ≡ length ops → needs.inserts ≡ count_by is_insert ops → needs.deletes ≡ count_by uses_deletion ops → IsNeeded ops needs
 needed_from_gathered ops needs gathered all same once as_many inserts deletes = record {
   keys = λ key. (
     λ there. (keys_of_operations ops key).0 (subst (λ (keys : List ℕ). Contains keys key) all ((same key).0 there)),

@@ -2,7 +2,7 @@
 use Rattle.std.proofs.Common.{◌≡◌, ℕ, ◌+◌, ◌-◌, ◌<◌, Bool, List, [], ◌∷◌, ◌++◌, Option, Result, Ok, Err, IfErr, OnOk, cond, true, false, count_by, length, get_or, take, drop, refl, ap, sym, ◌∙◌, append_assoc, append-nil, arith}
 use Rattle.blink_batch.specs.declared.Entry.{Entry}
 use Rattle.blink_batch.specs.declared.Part.{Part}
-use Rattle.blink_batch.specs.declared.Part.TheVariants.{Batch, Scan}
+use Rattle.blink_batch.specs.declared.Part.TheVariants.{Batch}
 use Rattle.std.proofs.lemmas.List.{take-append-drop, drop_more}
 use Rattle.std.proofs.lemmas.List.Sums.{sum_by-append}
 use Rattle.blink_run.specs.Outlet.{BreaksOff, Pours, is_not_flushed}
@@ -89,7 +89,7 @@ module _ {O : Type 0} (offered : O → List ℕ → Option ℕ → O → Type 0)
           its_number = omega (arith, counted, fault.0, so_far.counted);
           wrote = record { in_order = in_order (Batch ops) at; written = rw leaves so_far.written };
         }
-        run_fault (Scan lo hi) at counted fault = absurd (cc fault.1)
+        run_fault other at counted fault = absurd (cc fault.1)
     leaves_front (serve.Step error) here counted fault leaves = absurd leaves
     leaves_front serve.Output here counted fault leaves =
         rw (text_in_order here)

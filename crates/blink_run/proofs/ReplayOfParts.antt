@@ -1,7 +1,7 @@
 -- A replay of parts one after another: what those that are left will add to what is told.
 use Rattle.std.proofs.Common.{◌≡◌, ℕ, List, [], ◌∷◌, ◌++◌, Option, Some, Ok, count_by, length, refl, ap, sym, ◌∙◌, subst, append_assoc, append-nil, arith}
 use Rattle.blink_batch.specs.declared.Part.{Part}
-use Rattle.blink_batch.specs.declared.Part.TheVariants.{Batch, Scan}
+use Rattle.blink_batch.specs.declared.Part.TheVariants.{Batch}
 use Rattle.blink_batch.specs.Script.{ReadsAs, records_of}
 use Rattle.blink_index.specs.Dump.{text_of_store}
 use Rattle.blink_index.specs.Index.{map_of}
@@ -37,7 +37,7 @@ module _ (workers : ℕ) (schedule : List ℕ) (start : PlainStore) (parts : Lis
         let whole : RunsParts workers schedule tree (part ∷ others) after (tells.0 ++ more) = rw is (next, tells.0, more, tells.1, runs, refl) in
         let joined : trace ++ (tells.0 ++ more) ≡ trace_next ++ more = sym (append_assoc trace tells.0 more) ∙ ap (λ (t : List ℕ). t ++ more) (sym tells.2) in
         subst (λ (t : List ℕ). TellsParts workers schedule start parts old_trace t after) joined (told.traces after (tells.0 ++ more) whole)
-    traces_more (Scan lo hi) is tells after more runs =
+    traces_more other is tells after more runs =
         let whole : RunsParts workers schedule tree (part ∷ others) after more = rw is (subst (λ (t : PlainStore). RunsParts workers schedule t others after more) tells.0 runs) in
         subst (λ (t : List ℕ). TellsParts workers schedule start parts old_trace (t ++ more) after) (sym tells.1) (told.traces after more whole)
 

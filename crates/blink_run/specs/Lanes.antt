@@ -3,7 +3,7 @@ use Rattle.std.specs.Prelude.{◌≡◌, ◌↔◌, ℕ, ◌+◌, ◌<◌, ◌�
 use Rattle.blink_batch.specs.declared.Answer.{Answer}
 use Rattle.blink_batch.specs.declared.Entry.{Entry}
 use Rattle.blink_batch.specs.declared.Op.{Op}
-use Rattle.blink_batch.specs.declared.Op.TheVariants.{Find, Insert, Delete}
+use Rattle.blink_batch.specs.declared.Op.TheVariants.{Find, Insert, Delete, Replace}
 use Rattle.blink_batch.specs.Batch.{is_insert}
 use Rattle.blink_batch.specs.Operation.{answers, key_of, map_after, map_after_all}
 use Rattle.blink_batch.specs.Order.{lane_of, operations_at, part_of, places_from}
@@ -17,10 +17,12 @@ use Rattle.blink_live.specs.Handles.{IsKeeperOf, IsPassOf, keys_of, opening_of, 
 use Rattle.blink_run.specs.declared.live.lane.LaneRun.{LaneRun}
 use Rattle.blink_run.specs.declared.live.needs.Needs.{Needs}
 
-abbrev pub is_delete : Op → Bool
-is_delete (Find key) = false
-is_delete (Insert key pointer) = false
-is_delete (Delete key) = true
+-- it uses one deletion of a pass: a deletion does, and a replacement
+abbrev pub uses_deletion : Op → Bool
+uses_deletion (Find key) = false
+uses_deletion (Insert key pointer) = false
+uses_deletion (Delete key) = true
+uses_deletion (Replace key pointer) = true
 
 -- ---- a lane
 
@@ -38,21 +40,21 @@ IsKeyOfOne ops key = (op : Op) × Contains ops op × (key_of op ≡ key)
 
 -- ---- what a lane is dealt
 
--- the keys of the operations, each once, how many operations there are, and how many insertions and deletions of them
+-- the keys of the operations, each once, how many operations there are, how many insertions of them, and how many that use a deletion
 pub record IsNeeded (ops : List Op) (needs : Needs) : Type 0 where
   pub keys : (key : ℕ) → Contains needs.keys.items key ↔ IsKeyOfOne ops key
   pub each_once : NoneIsTaken [] needs.keys.items
   pub as_many : needs.operations ≡ length ops
   pub inserts : needs.inserts ≡ count_by is_insert ops
-  pub deletes : needs.deletes ≡ count_by is_delete ops
+  pub deletes : needs.deletes ≡ count_by uses_deletion ops
 
--- the keeper has dealt nothing, and has room for these operations' insertions and deletions
+-- the keeper has dealt nothing, and has the insertions and deletions that these operations use
 pub record IsNewKeeper (live : Live) (ops : List Op) (keeper : Keeper) : Type 0 where
   pub its_own : IsKeeperOf live keeper
   pub none_taken : taken_of keeper ≡ []
   pub none_dealt : passes_dealt keeper ≡ 0
   pub inserts : count_by is_insert ops ≤ inserts_left keeper.pages
-  pub deletes : count_by is_delete ops ≤ deletes_left keeper.pages keeper.rows
+  pub deletes : count_by uses_deletion ops ≤ deletes_left keeper.pages keeper.rows
 
 -- it has dealt a pass to each of so many workers, and no key but those of the operations
 pub record HasDealtAll (live : Live) (ops : List Op) (workers : ℕ) (keeper : Keeper) : Type 0 where
@@ -69,7 +71,7 @@ pub record MayRun (live : Live) (ops : List Op) (run : LaneRun) : Type 0 where
   pub keys : (key : ℕ) → Contains (keys_of run.pass) key ↔ IsKeyOfOne ops key
   pub share : (key : ℕ) → Contains (keys_of run.pass) key → pointer_of (share_of run.pass) key ≡ pointer_of (opening_of live) key
   pub inserts : count_by is_insert ops ≤ inserts_left run.pass.pages
-  pub deletes : count_by is_delete ops ≤ deletes_left run.pass.pages run.pass.rows
+  pub deletes : count_by uses_deletion ops ≤ deletes_left run.pass.pages run.pass.rows
   pub none_yet : run.answers.items ≡ []
   pub room : length ops ≤ vec_capacity run.answers
 
@@ -84,21 +86,21 @@ pub record HasRun (live : Live) (ops : List Op) (run : LaneRun) : Type 0 where
 
 -- ---- an operation of a lane
 
--- the pass has the operation's key, and an insertion or deletion for it where it is one, and there is room for the answer
+-- the pass has the operation's key, and an insertion or deletion for it where it uses one, and there is room for the answer
 pub record CanRun (live : Live) (op : Op) (run : LaneRun) : Type 0 where
   pub its_own : IsPassOf live run.pass
   pub key : Contains (keys_of run.pass) (key_of op)
   pub inserts : count_by is_insert (op ∷ []) ≤ inserts_left run.pass.pages
-  pub deletes : count_by is_delete (op ∷ []) ≤ deletes_left run.pass.pages run.pass.rows
+  pub deletes : count_by uses_deletion (op ∷ []) ≤ deletes_left run.pass.pages run.pass.rows
   pub room : vec_len run.answers < vec_capacity run.answers
 
--- the pass after the operation: its plain map is changed by it, and it has used one insertion or deletion where the operation is one
+-- the pass after the operation: its plain map is changed by it, and it has used one insertion or deletion where the operation uses one
 pub record IsPassAfter (live : Live) (op : Op) (old new : Pass) : Type 0 where
   pub its_own : IsPassOf live new
   pub same_keys : keys_of new ≡ keys_of old
   pub share : share_of new ≡ map_after (share_of old) op
   pub inserts : inserts_left new.pages + count_by is_insert (op ∷ []) ≡ inserts_left old.pages
-  pub deletes : deletes_left new.pages new.rows + count_by is_delete (op ∷ []) ≡ deletes_left old.pages old.rows
+  pub deletes : deletes_left new.pages new.rows + count_by uses_deletion (op ∷ []) ≡ deletes_left old.pages old.rows
 
 -- ---- all lanes
 

@@ -1,14 +1,14 @@
 -- What is written of what is read: the text of a script's parts, one after another, by one thread on one plain map.
-use Rattle.std.specs.Prelude.{ℕ, ◌≡◌, ◌+◌, ◌⊎◌, List, [], ◌∷◌, ◌++◌, Option, Some, Ok, Bool, true, false, count_by, filter, ⊤}
+use Rattle.std.specs.Prelude.{ℕ, ◌≡◌, ◌+◌, ◌⊎◌, List, [], ◌∷◌, ◌++◌, Option, Some, Ok, Bool, true, false, count_by, filter, take, ⊤}
 use Rattle.std.specs.Io.KnownBytes.{Keeps}
 use Rattle.blink_batch.specs.declared.Entry.{Entry}
 use Rattle.blink_batch.specs.declared.Op.{Op}
 use Rattle.blink_batch.specs.declared.Part.{Part}
-use Rattle.blink_batch.specs.declared.Part.TheVariants.{Batch, Scan}
+use Rattle.blink_batch.specs.declared.Part.TheVariants.{Batch, Scan, Page}
 use Rattle.blink_batch.specs.Operation.{answers, map_after_all}
 use Rattle.blink_batch.specs.Script.{IsReadable, TellsRefusal, records_of, script_of}
 use Rattle.blink_batch.specs.Text.{text_of}
-use Rattle.blink_index.specs.Scan.{is_within}
+use Rattle.blink_index.specs.Scan.{is_from, is_within}
 use Rattle.blink_run.specs.Outlet.{BreaksOff, Pours}
 use Rattle.blink_run.specs.Text.{scan_text}
 use Rattle.blink_run.specs.declared.error.RunError.{RunError}
@@ -17,15 +17,16 @@ use Rattle.blink_run.specs.declared.error.ServeError.TheVariants as serve
 
 -- ---- the text of parts
 
--- a line for each answer of a batch, or for each entry that a scan shows
+-- a line for each answer of a batch, or for each entry that a scan or a page shows
 abbrev pub part_text : List Entry → Part → List ℕ
 part_text map (Batch ops) = text_of (answers map ops)
 part_text map (Scan lo hi) = scan_text (filter (is_within lo hi) map)
+part_text map (Page lo n) = scan_text (take n (filter (is_from lo) map))
 
--- the map after a part: a scan changes nothing
+-- the map after a part: what is no batch changes nothing
 abbrev pub part_after : List Entry → Part → List Entry
 part_after map (Batch ops) = map_after_all map ops
-part_after map (Scan lo hi) = map
+part_after map part = map
 
 -- the texts of parts, each on the map that those before it leave
 abbrev pub script_text : List Entry → List Part → List ℕ
@@ -57,7 +58,7 @@ Serves to_read before after = WritesText IsTextOf to_read before after
 
 abbrev pub is_batch : Part → Bool
 is_batch (Batch ops) = true
-is_batch (Scan lo hi) = false
+is_batch part = false
 
 -- the text of a script's first parts, where some come after them
 pub record IsTextBefore (records : List (List (List ℕ))) (front rest : List Part) (text : List ℕ) : Type 0 where

@@ -2,7 +2,7 @@
 use Rattle.std.specs.Prelude.{ℕ, ◌≡◌, ◌⊎◌, ◌==◌, List, [], ◌∷◌, ◌++◌, Option, Ok, if◌then◌else◌, count_by, ⊤}
 use Rattle.std.specs.Io.KnownBytes.{Keeps}
 use Rattle.blink_batch.specs.declared.Part.{Part}
-use Rattle.blink_batch.specs.declared.Part.TheVariants.{Batch, Scan}
+use Rattle.blink_batch.specs.declared.Part.TheVariants.{Batch}
 use Rattle.blink_batch.specs.Script.{IsReadable, TellsRefusal, script_of}
 use Rattle.blink_index.specs.Dump.{text_of_store}
 use Rattle.blink_store.specs.Store.{PlainStore, new_store}
@@ -20,10 +20,10 @@ taken_where left schedule = if left == 0 then schedule else []
 -- parts run one after another, from one tree to another, and these are the traces of their batches
 abbrev pub RunsParts : ℕ → List ℕ → PlainStore → List Part → PlainStore → List ℕ → Type 0
 RunsParts workers schedule before [] after trace = (after ≡ before) × (trace ≡ [])
-RunsParts workers schedule before (Scan lo hi ∷ rest) after trace = RunsParts workers schedule before rest after trace
 RunsParts workers schedule before (Batch ops ∷ rest) after trace = (between : PlainStore) × (first : List ℕ) × (others : List ℕ)
     × RunsBatch workers (taken_where (count_by is_batch rest) schedule) before ops between first
     × RunsParts workers schedule between rest after others × (trace ≡ first ++ others)
+RunsParts workers schedule before (part ∷ rest) after trace = RunsParts workers schedule before rest after trace
 
 -- the text of a replay of some records, where they are a script: trace, text and pages
 pub record IsReplayText (workers fan : ℕ) (schedule : List ℕ) (records : List (List (List ℕ))) (text : List ℕ) : Type 0 where
@@ -64,10 +64,10 @@ LeavesReplay workers fan schedule to_read serve.OutOfMemory before after = Keeps
 
 -- ---- parts one after another, on the way
 
--- the trace of a part's batch is told behind what was told before; a scan changes nothing
+-- the trace of a part's batch is told behind what was told before; what is no batch changes nothing
 abbrev pub TellsPart : ℕ → List ℕ → PlainStore → Part → List ℕ → List ℕ → PlainStore → Type 0
 TellsPart workers schedule before (Batch ops) old new after = TellsBatch workers schedule before ops old new after
-TellsPart workers schedule before (Scan lo hi) old new after = (after ≡ before) × (new ≡ old)
+TellsPart workers schedule before part old new after = (after ≡ before) × (new ≡ old)
 
 -- the traces of parts likewise
 abbrev pub TellsParts : ℕ → List ℕ → PlainStore → List Part → List ℕ → List ℕ → PlainStore → Type 0

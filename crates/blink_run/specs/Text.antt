@@ -1,4 +1,4 @@
--- The text of a scan: a line for each entry, and then their number.
+-- The text of a scan or a page: a line for each entry, and then their number.
 use Rattle.std.specs.Prelude.{ℕ, List, ◌++◌, length, codes}
 use Rattle.std.specs.List.{flat_map}
 use Rattle.std.specs.Fmt.{decimal}
@@ -8,7 +8,7 @@ use Rattle.blink_batch.specs.declared.Entry.{Entry}
 abbrev pub entry_line : Entry → List ℕ
 entry_line entry = decimal entry.key ++ (codes " " ++ (decimal entry.pointer ++ codes "\n"))
 
--- the last line of a scan, with the number of the entries that it shows
+-- the last line, with the number of the entries that are shown
 abbrev pub end_line : ℕ → List ℕ
 end_line shown = codes "end " ++ (decimal shown ++ codes "\n")
 

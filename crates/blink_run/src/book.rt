@@ -44,9 +44,21 @@ impl Model for Book {
 
     ghost Value = { PlainBook };
 
-    ghost view = { λ book. record { start = book.start; ops = book.batch; assignment = book.lanes; world = book.world; stopped = book.stopped } };
+    ghost view = { λ book. record {
+      start = book.start;
+      ops = book.batch;
+      assignment = book.lanes;
+      world = book.world;
+      stopped = book.stopped;
+    } };
 
-    ghost invariant = { λ book. IsBook (record { start = book.start; ops = book.batch; assignment = book.lanes; world = book.world; stopped = book.stopped }) };
+    ghost invariant = { λ book. IsBook (record {
+      start = book.start;
+      ops = book.batch;
+      assignment = book.lanes;
+      world = book.world;
+      stopped = book.stopped;
+    }) };
 }
 
 impl Book {

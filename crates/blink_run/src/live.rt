@@ -5,7 +5,7 @@ ghost use Rattle.blink_batch.specs.Operation.{answers, map_after_all};
 ghost use Rattle.blink_batch.specs.Batch.{is_insert};
 ghost use Rattle.blink_batch.specs.PlainMap.{IsAscending};
 ghost use Rattle.blink_index.specs.Index.{map_of};
-ghost use Rattle.blink_run.specs.Lanes.{is_delete};
+ghost use Rattle.blink_run.specs.Lanes.{uses_deletion};
 ghost use Rattle.blink_steps.specs.World.{IsTooLarge};
 
 mod dealing;
@@ -70,14 +70,14 @@ pub(crate) fn run_live<R: Threads + Wait + Sync, G: Gate + Sync>(
     }
 }
 
-// How many insertions and deletions the batch has.
+// How many insertions the batch has, and how many deletions and replacements.
 fn allowance_of(batch: &Batch) -> Allowance
     ensures inserts { result.inserts ≡ count_by is_insert batch.now }
-    ensures deletes { result.deletes ≡ count_by is_delete batch.now }
+    ensures deletes { result.deletes ≡ count_by uses_deletion batch.now }
 {
     let mut deletes = 0;
     for op in batch.ops() {
-        if let Op::Delete(_) = op {
+        if let Op::Delete(_) | Op::Replace(..) = op {
             deletes += 1;
         }
     }

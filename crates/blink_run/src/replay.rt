@@ -195,6 +195,10 @@ fn replay_part(
             push_scan(&mut told.text, index.scan(lo, hi))?;
             Ok(index)
         }
+        Part::Page(lo, n) => {
+            push_scan(&mut told.text, index.page(lo, n))?;
+            Ok(index)
+        }
     }
 }
 

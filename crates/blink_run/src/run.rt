@@ -22,7 +22,7 @@ use std::thread::{self, Threads};
 pub enum Driver {
     /// Each step is taken under one lock.
     Locked,
-    /// Without a lock, at one table of atomic words. Before the threads begin it takes 13 KB of memory for each insertion.
+    /// Without a lock, at one table of atomic words. Before the threads begin it takes 25 KB of memory for each insertion.
     Live,
 }
 

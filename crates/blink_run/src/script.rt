@@ -1,9 +1,8 @@
 //! A script served: from its text to its output.
-ghost use Rattle.std.specs.Prelude.{◌≡◌, ◌+◌, ◌<◌, ◌^◌, [], ◌∷◌, count_by, filter, IfErr, IfOk, OnOk, string_bytes};
+ghost use Rattle.std.specs.Prelude.{◌≡◌, ◌+◌, ◌<◌, ◌^◌, [], ◌∷◌, count_by, IfErr, IfOk, OnOk, string_bytes};
 ghost use Rattle.blink_batch.specs.Operation.{answers, map_after_all};
 ghost use Rattle.blink_batch.specs.Text.{text_of};
 ghost use Rattle.blink_index.specs.Index.{map_of};
-ghost use Rattle.blink_index.specs.Scan.{is_within};
 ghost use Rattle.blink_store.specs.Store.{new_store};
 ghost use Rattle.blink_run.specs.Outlet.{GoesOut, Pours};
 ghost use Rattle.blink_run.specs.Text.{scan_text};
@@ -16,7 +15,7 @@ use crate::run::run_batch;
 use crate::settings::Settings;
 use crate::text::{push_answers, push_scan};
 use blink_batch::{Batch, Part, read_script};
-use blink_index::Index;
+use blink_index::{Index, Scan};
 use std::alloc::{AllocError, Global};
 use std::io::{Read, Write};
 use std::sync::Wait;
@@ -26,8 +25,8 @@ use std::thread::Threads;
 mod tests;
 
 /// Reads a whole script, runs its parts one after another on one new index, and writes what they answer: a line for each
-/// operation, in the order of its batch, and for a scan a line for each entry that it shows, in ascending order, and then
-/// their number. Each batch is run by the workers of the settings, in threads of their own.
+/// operation, in the order of its batch, and for a scan or a page a line for each entry that it shows, in ascending order,
+/// and then their number. Each batch is run by the workers of the settings, in threads of their own.
 ///
 /// Each part's lines are handed to the writer before the next part begins, and the writer is flushed at the end: after a batch that
 /// isn't run and after refused memory too, once the script is read. A write or a flush that fails, for whatever reason, and a write
@@ -116,6 +115,7 @@ pub(crate) fn batches_with(part: &Part, before: u64) -> u64
     match part {
         Part::Batch(_) => before + 1,
         Part::Scan(..) => before,
+        Part::Page(..) => before,
     }
 }
 
@@ -139,7 +139,8 @@ fn serve_part<T: Threads + Wait + Sync, O: Outlet, G: Gate + Sync>(
 {
     let text = match part {
         Part::Batch(batch) => batch_text(rt, alloc, batch, number, index, settings, gate)?,
-        Part::Scan(lo, hi) => scan_text(alloc, index, *lo, *hi)?,
+        Part::Scan(lo, hi) => scan_text(alloc, index.scan(*lo, *hi))?,
+        Part::Page(lo, n) => scan_text(alloc, index.page(*lo, *n))?,
     };
     write_out(outlet, &text)
 }
@@ -170,12 +171,11 @@ fn batch_text<T: Threads + Wait + Sync, G: Gate + Sync>(
     Ok(text)
 }
 
-// The lines of a scan.
-fn scan_text(alloc: Global, index: &Index, lo: u64, hi: u64) -> Result<String, AllocError>
-    ensures { IfOk result
-        (λ text. string_bytes text ≡ scan_text (filter (is_within lo hi) (map_of index.now))) }
+// The lines of a scan or a page.
+fn scan_text(alloc: Global, scan: Scan<'_>) -> Result<String, AllocError>
+    ensures { IfOk result (λ text. string_bytes text ≡ scan_text scan.entry) }
 {
     let mut text = String::new(alloc);
-    push_scan(&mut text, index.scan(lo, hi))?;
+    push_scan(&mut text, scan)?;
     Ok(text)
 }

@@ -32,7 +32,7 @@ pub enum SettingsError {
     /// The workers aren't 1 to 64.
     #[error("bad number of workers")]
     BadWorkers,
-    /// The number of entries that a page may have isn't from 4 to 16.
+    /// The number of entries that a page may have isn't from 4 to 32.
     #[error("bad fan")]
     BadFan,
 }
@@ -72,7 +72,7 @@ impl Model for Settings {
 }
 
 impl Settings {
-    /// Settings for 1 to 64 workers and a new index whose pages have at most `fan` entries, 4 to 16. It takes no memory.
+    /// Settings for 1 to 64 workers and a new index whose pages have at most `fan` entries, 4 to 32. It takes no memory.
     /// `BadWorkers` is told before `BadFan`.
     pub fn new(
         workers: u8,

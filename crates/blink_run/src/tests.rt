@@ -116,6 +116,35 @@ fn a_leaf_emptied_by_deletions_stays(rt: HostRuntime) -> Result<(), Fail> {
     Ok(())
 }
 
+// Three replacements and no deletion: at a table they use the allowance of deletions.
+#[test]
+fn replacements_keep_their_leaf(rt: HostRuntime) -> Result<(), Fail> {
+    let alloc = rt.alloc();
+    let ops = [
+        Op::Replace(4, 41),
+        Op::Replace(6, 61),
+        Op::Replace(4, 41),
+        Op::Find(4),
+    ];
+    let expected = [
+        Answer::Replaced(40),
+        Answer::Absent,
+        Answer::Replaced(41),
+        Answer::Found(41),
+    ];
+    let dump =
+        "1 3 - 18446744073709551615 - 3:1 18446744073709551615:2\n0 1 - 3 2 1:10 2:20 3:30\n0 2 3 18446744073709551615 - 4:41 5:50\n";
+    for driver in DRIVERS {
+        for workers in [1, 4] {
+            let mut index = index_to(&rt, alloc, driver, 5)?;
+            let answers = run_with(&rt, alloc, driver, &mut index, &ops, workers, &Open)?;
+            assert_eq!(rt; answers.as_slice(), expected.as_slice());
+            assert_eq!(rt; index.dump(alloc)?.as_str(), dump);
+        }
+    }
+    Ok(())
+}
+
 #[test]
 fn sixty_three_workers_have_nothing_to_do(rt: HostRuntime) -> Result<(), Fail> {
     let alloc = rt.alloc();

@@ -1,4 +1,4 @@
-//! The text of answers and of scans.
+//! The text of answers, of scans and of pages.
 ghost use Rattle.std.specs.Prelude.{◌≡◌, ◌++◌, OnOk, string_bytes};
 ghost use Rattle.blink_batch.specs.Text.{text_of};
 ghost use Rattle.blink_run.specs.Text.{scan_text};
@@ -18,7 +18,7 @@ pub(crate) fn push_answers(text: &mut String, answers: &[Answer]) -> Result<(), 
     Ok(())
 }
 
-/// Adds a line for each entry of a scan, and then one with their number.
+/// Adds a line for each entry of a scan or a page, and then one with their number.
 pub(crate) fn push_scan(text: &mut String, scan: Scan<'_>) -> Result<(), AllocError>
     ensures { OnOk result (string_bytes text.new ≡ string_bytes text.old ++ scan_text scan.entry) }
 {

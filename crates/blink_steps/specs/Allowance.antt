@@ -1,7 +1,7 @@
 -- What one operation may still need, by its state alone: page numbers, page writes, and writes of the prime block.
 use Rattle.std.specs.Prelude.{◌≡◌, ℕ, ◌+◌, ◌-◌, ◌*◌, ◌≤◌, ◌&&◌, Bool, if◌then◌else◌}
 use Rattle.blink_batch.specs.declared.Op.{Op}
-use Rattle.blink_batch.specs.declared.Op.TheVariants.{Find, Insert, Delete}
+use Rattle.blink_batch.specs.declared.Op.TheVariants.{Find, Insert, Delete, Replace}
 use Rattle.blink_steps.specs.declared.machine.Job.{Job}
 use Rattle.blink_steps.specs.declared.machine.Job.TheVariants.{Leaf, Parent}
 use Rattle.blink_steps.specs.declared.machine.Next.{Next}
@@ -22,6 +22,7 @@ abbrev pub numbers_for : Job → Op → ℕ
 numbers_for Leaf (Find key) = 0
 numbers_for Leaf (Insert key pointer) = NUMBERS_OF_INSERTION
 numbers_for Leaf (Delete key) = 0
+numbers_for Leaf (Replace key pointer) = 0
 numbers_for (Parent debt) op = 21 - debt.level
 
 -- from a page that the operation leaves
@@ -43,13 +44,14 @@ numbers_left_at job op state = numbers_for job op
 abbrev pub numbers_left : PlainMachine → ℕ
 numbers_left m = numbers_left_at m.job m.op m.state
 
--- ---- page writes: two for a split on each level, and one for a root; one for an entry that is removed
+-- ---- page writes: two for a split on each level, and one for a root; one for an entry that is removed or whose pointer is replaced
 
 -- for a job
 abbrev pub writes_for : Job → Op → ℕ
 writes_for Leaf (Find key) = 0
 writes_for Leaf (Insert key pointer) = WRITES_OF_INSERTION
 writes_for Leaf (Delete key) = 1
+writes_for Leaf (Replace key pointer) = 1
 writes_for (Parent debt) op = 41 - 2 * debt.level
 
 -- from a page that the operation leaves
@@ -78,6 +80,7 @@ abbrev pub primes_for : Job → Op → ℕ
 primes_for Leaf (Find key) = 0
 primes_for Leaf (Insert key pointer) = 1
 primes_for Leaf (Delete key) = 0
+primes_for Leaf (Replace key pointer) = 0
 primes_for (Parent debt) op = 1
 
 -- from a page that the operation leaves

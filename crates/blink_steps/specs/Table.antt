@@ -3,9 +3,9 @@ use Rattle.std.specs.Prelude.{◌≡◌, ℕ, ◌+◌, ◌-◌, ◌<◌, ◌≤�
 use Rattle.std.specs.List.{last_or}
 use Rattle.blink_batch.specs.declared.Answer.TheVariants.{Absent, Exists}
 use Rattle.blink_batch.specs.declared.Op.{Op}
-use Rattle.blink_batch.specs.declared.Op.TheVariants.{Find, Insert, Delete}
+use Rattle.blink_batch.specs.declared.Op.TheVariants.{Find, Insert, Delete, Replace}
 use Rattle.blink_batch.specs.Operation.{answer_at}
-use Rattle.blink_page.specs.Entries.{value_at, removed}
+use Rattle.blink_page.specs.Entries.{value_at, removed, replaced}
 use Rattle.blink_page.specs.Page.{PlainPage, with_entries, entries_with, root_over, empty_leaf}
 use Rattle.blink_page.specs.Split.{lower_half, upper_half, separator_of}
 use Rattle.blink_page.specs.Way.{Leads}
@@ -42,7 +42,7 @@ pub record WaitsForLevel (m : PlainMachine) (prime : List ℕ) : Type 0 where
   pub job : m.job ≡ Parent debt
   pub not_there : slice_get prime (debt.level + 1) ≡ None
 
--- it is an insertion or a deletion
+-- it is an insertion, a deletion or a replacement
 abbrev pub IsUpdate : Op → Type 0
 IsUpdate (Find key) = ⊥
 IsUpdate op = Unit {0}
@@ -52,6 +52,7 @@ abbrev pub Brings : Op → Job → Type 0
 Brings (Find key) Leaf = ⊥
 Brings (Insert key pointer) Leaf = Unit {0}
 Brings (Delete key) Leaf = ⊥
+Brings (Replace key pointer) Leaf = ⊥
 Brings op (Parent debt) = Unit {0}
 
 -- the page with the change that the operation makes, and what a leaf keeps under the key before
@@ -60,6 +61,8 @@ pub data IsChange (m : PlainMachine) (page changed : PlainPage) (kept : Option �
       → changed ≡ with_entries page (entries_with page (entry_of m)) → IsChange m page changed kept
   loses : (key pointer : ℕ) → m.job ≡ Leaf → m.op ≡ Delete key → value_at key page.entries ≡ Some pointer → kept ≡ Some pointer
       → changed ≡ with_entries page (removed key page.entries) → IsChange m page changed kept
+  exchanges : (key new pointer : ℕ) → m.job ≡ Leaf → m.op ≡ Replace key new → value_at key page.entries ≡ Some pointer → kept ≡ Some pointer
+      → changed ≡ with_entries page (replaced (key, new) page.entries) → IsChange m page changed kept
 
 -- the page is full, and the operation has an entry for it
 pub record IsFullFor (m : PlainMachine) (page : PlainPage) : Type 0 where
@@ -85,6 +88,8 @@ pub data SeesUnderLatch (m : PlainMachine) (number : ℕ) (page : PlainPage) (af
   insertion_finds_key : (key pointer kept : ℕ) → target m ≤ page.high → m.job ≡ Leaf → m.op ≡ Insert key pointer → value_at key page.entries ≡ Some kept
       → after ≡ answered m (Leave number Finish) (Exists kept) → SeesUnderLatch m number page after
   deletion_finds_none : (key : ℕ) → target m ≤ page.high → m.job ≡ Leaf → m.op ≡ Delete key → value_at key page.entries ≡ None
+      → after ≡ answered m (Leave number Finish) Absent → SeesUnderLatch m number page after
+  replacement_finds_none : (key pointer : ℕ) → target m ≤ page.high → m.job ≡ Leaf → m.op ≡ Replace key pointer → value_at key page.entries ≡ None
       → after ≡ answered m (Leave number Finish) Absent → SeesUnderLatch m number page after
   posting_finds_separator : (debt : Debt) (child : ℕ) → target m ≤ page.high → m.job ≡ Parent debt → value_at debt.separator page.entries ≡ Some child
       → after ≡ at_state m (Leave number Finish) → SeesUnderLatch m number page after

@@ -23,10 +23,16 @@ impl Model for Ledger {
 
     ghost Value = { PlainLedger };
 
-    ghost view = { λ l. record { answers = l.answers.items; order = l.order.items; reads = l.reads.items; moves = l.moves.items } };
+    ghost view = { λ l. record {
+      answers = l.answers.items;
+      order = l.order.items;
+      reads = l.reads.items;
+      moves = l.moves.items;
+    } };
 
     // There is room for each operation in the order, so that nothing is refused at a deciding step.
-    ghost invariant = { λ l. (length l.answers.items ≤ vec_capacity l.order) × (length l.reads.items ≡ length l.answers.items) × (length l.moves.items ≡ length l.answers.items) };
+    ghost invariant = { λ l. (length l.answers.items ≤ vec_capacity l.order)
+        × (length l.reads.items ≡ length l.answers.items) × (length l.moves.items ≡ length l.answers.items) };
 }
 
 impl Ledger {

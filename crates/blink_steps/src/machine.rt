@@ -94,8 +94,8 @@ pub enum Need {
 /// The state of one operation on its way through a tree whose pages have at most `fan` entries, over whatever memory keeps
 /// the pages: whoever runs it does the step that `need` tells, and then tells it, by `saw_prime` and `saw_page` after a read
 /// and by `done` after any other step. It takes no memory. That each step of it is one that a tree bears, whatever other
-/// operations do between, is the law `step_keeps`; the table of states is that of Lehman and Yao, with deletions and a prime
-/// block.
+/// operations do between, is the law `step_keeps`; the table of states is that of Lehman and Yao, with deletions, replacements
+/// and a prime block.
 #[derive(Debug, Drop)]
 pub struct Machine {
     fan: u8,
@@ -122,7 +122,7 @@ impl Model for Machine {
 }
 
 impl Machine {
-    /// The operation before the prime block read that begins it. `fan` is 4 to 16.
+    /// The operation before the prime block read that begins it. `fan` is 4 to 32.
     pub fn new(op: Op, fan: u8) -> Machine
         requires { IsFan fan }
         ensures { result ≡ fresh fan op }
@@ -183,7 +183,7 @@ impl Machine {
     {
         match (self.job, self.op) {
             (Job::Parent(debt), _) => u64::from(debt.page),
-            (Job::Leaf, Op::Insert(_, pointer)) => pointer,
+            (Job::Leaf, Op::Insert(_, pointer) | Op::Replace(_, pointer)) => pointer,
             (Job::Leaf, Op::Find(_) | Op::Delete(_)) => 0,
         }
     }
@@ -207,6 +207,7 @@ fn answer_with(op: Op, kept: Option<u64>) -> Answer
         (Op::Insert(..), Some(pointer)) => Answer::Exists(pointer),
         (Op::Insert(..), None) => Answer::Inserted,
         (Op::Delete(_), Some(pointer)) => Answer::Removed(pointer),
-        (Op::Find(_) | Op::Delete(_), None) => Answer::Absent,
+        (Op::Replace(..), Some(pointer)) => Answer::Replaced(pointer),
+        (Op::Find(_) | Op::Delete(_) | Op::Replace(..), None) => Answer::Absent,
     }
 }

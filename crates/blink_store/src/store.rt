@@ -28,7 +28,11 @@ impl Model for Store {
 
     ghost view = { λ store. record { fan = store.fan; prime = store.prime; pages = store.pages.items } };
 
-    ghost invariant = { λ store. IsLawfulStore (record { fan = store.fan; prime = store.prime; pages = store.pages.items }) };
+    ghost invariant = { λ store. IsLawfulStore (record {
+      fan = store.fan;
+      prime = store.prime;
+      pages = store.pages.items;
+    }) };
 }
 
 impl Store {

@@ -82,7 +82,7 @@ fn fan_option<'a>(alloc: Global) -> Arg<'a>
 {
     option(alloc, "fan", "F")
         .default_value("16")
-        .help("How many entries a page has at most, 4 to 16")
+        .help("How many entries a page has at most, 4 to 32")
 }
 
 fn cut_option<'a>(alloc: Global) -> Arg<'a>

@@ -58,22 +58,24 @@ fn each_schedule_gives_the_same_pages(rt: HostRuntime) -> Result<(), Fail> {
         Op::Insert(6, 60),
         Op::Find(5),
         Op::Delete(4),
+        Op::Replace(3, 31),
     ];
     let answers = [
         Some(Answer::Inserted),
         Some(Answer::Inserted),
         Some(Answer::Found(50)),
         Some(Answer::Removed(40)),
+        Some(Answer::Replaced(30)),
     ];
     let dump = "\
 1 3 - 18446744073709551615 - 3:1 18446744073709551615:2
-0 1 - 3 2 1:10 2:20 3:30
+0 1 - 3 2 1:10 2:20 3:31
 0 2 3 18446744073709551615 - 5:50 6:60
 ";
     let index = four(alloc)?;
     for number in 0..SCHEDULES {
         let schedule = schedule_of(number);
-        let world = ended(alloc, &index, &ops, &[0, 1, 0, 1], &schedule)?;
+        let world = ended(alloc, &index, &ops, &[0, 1, 0, 1, 1], &schedule)?;
         assert_eq!(rt; world.answers(), answers.as_slice(), "{schedule:?}");
         let after = Index::from_rest(world.into_rest());
         assert_eq!(rt; after.dump(alloc)?.as_str(), dump, "{schedule:?}");
@@ -101,6 +103,33 @@ fn each_schedule_answers_in_the_order_of_deciding(rt: HostRuntime) -> Result<(),
         };
         let answers = [Some(Answer::Inserted), Some(deleted)];
         assert_eq!(rt; world.answers(), answers.as_slice(), "{schedule:?}");
+    }
+    assert!(rt; first > 0 && second > 0, "{first} and {second}");
+    Ok(())
+}
+
+// The same of an insertion and a replacement, by the pointer that stays under the key.
+#[test]
+fn each_schedule_replaces_what_is_there(rt: HostRuntime) -> Result<(), Fail> {
+    let alloc = rt.alloc();
+    let index = four(alloc)?;
+    let ops = [Op::Insert(5, 50), Op::Replace(5, 51)];
+    let (mut first, mut second) = (0u64, 0u64);
+    for number in 0..SCHEDULES {
+        let schedule = schedule_of(number);
+        let world = ended(alloc, &index, &ops, &[0, 1], &schedule)?;
+        let (replaced, pointer) = if world.order() == [0, 1].as_slice() {
+            first = first.wrapping_add(1);
+            (Answer::Replaced(50), 51)
+        } else {
+            assert_eq!(rt; world.order(), [1, 0].as_slice(), "{schedule:?}");
+            second = second.wrapping_add(1);
+            (Answer::Absent, 50)
+        };
+        let answers = [Some(Answer::Inserted), Some(replaced)];
+        assert_eq!(rt; world.answers(), answers.as_slice(), "{schedule:?}");
+        let after = Index::from_rest(world.into_rest());
+        assert_eq!(rt; after.find(5), Some(pointer), "{schedule:?}");
     }
     assert!(rt; first > 0 && second > 0, "{first} and {second}");
     Ok(())

@@ -5,7 +5,7 @@ use mathlib.Core.Logic.{dite}
 use native.Mathlib.Decide.{ℕ_discrete}
 use Rattle.blink_batch.specs.declared.Entry.{Entry}
 use Rattle.blink_batch.specs.declared.Op.{Op}
-use Rattle.blink_batch.specs.declared.Op.TheVariants.{Find, Insert, Delete}
+use Rattle.blink_batch.specs.declared.Op.TheVariants.{Find, Insert, Delete, Replace}
 use Rattle.blink_batch.specs.Cell.{cell_after}
 use Rattle.blink_batch.specs.Operation.{key_of, map_after}
 use Rattle.blink_batch.specs.PlainMap.{pointer_of}
@@ -37,6 +37,8 @@ none_of_other (Insert k pointer) (Some kept) key differ = refl
 none_of_other (Insert k pointer) None key differ = ap (λ (b : Bool). if b then record { key = k; pointer = Some pointer } ∷ [] else []) (ne_eqb k key differ)
 none_of_other (Delete k) (Some kept) key differ = ap (λ (b : Bool). if b then record { key = k; pointer = None } ∷ [] else []) (ne_eqb k key differ)
 none_of_other (Delete k) None key differ = refl
+none_of_other (Replace k pointer) (Some kept) key differ = ap (λ (b : Bool). if b then record { key = k; pointer = Some pointer } ∷ [] else []) (ne_eqb k key differ)
+none_of_other (Replace k pointer) None key differ = refl
 
 pub other_stays : (f : ℕ → Option ℕ) (op : Op) (kept : Option ℕ) (key : ℕ) → key_of op ≢ key → after f (changes_made op kept) key ≡ f key
 other_stays f (Find k) kept key differ = refl
@@ -44,6 +46,8 @@ other_stays f (Insert k pointer) (Some kept) key differ = refl
 other_stays f (Insert k pointer) None key differ = put_else f k key (Some pointer) (λ e. differ (sym e))
 other_stays f (Delete k) (Some kept) key differ = put_else f k key None (λ e. differ (sym e))
 other_stays f (Delete k) None key differ = refl
+other_stays f (Replace k pointer) (Some kept) key differ = put_else f k key (Some pointer) (λ e. differ (sym e))
+other_stays f (Replace k pointer) None key differ = refl
 
 -- and of its own key as the cell is
 own_becomes : (f : ℕ → Option ℕ) (op : Op) (kept : Option ℕ) → f (key_of op) ≡ kept → after f (changes_made op kept) (key_of op) ≡ cell_after op kept
@@ -52,6 +56,8 @@ own_becomes f (Insert k pointer) (Some kept) is = is
 own_becomes f (Insert k pointer) None is = put_here f k (Some pointer)
 own_becomes f (Delete k) (Some kept) is = put_here f k None
 own_becomes f (Delete k) None is = is
+own_becomes f (Replace k pointer) (Some kept) is = put_here f k (Some pointer)
+own_becomes f (Replace k pointer) None is = is
 
 -- so where a map keeps of the operation's key and of this one what the changes leave, the map after the operation keeps of it what they leave with its own
 pub map_is_changed : (opening : ℕ → Option ℕ) (log : List Change) (map : List Entry) (op : Op) (kept : Option ℕ) → pointer_of map (key_of op) ≡ kept → after opening log (key_of op) ≡ kept

@@ -1,7 +1,7 @@
 -- An update begins where its way down ends, with all that it may need left.
 use Rattle.std.proofs.Common.{◌≡◌, ℕ, Option, ◌+◌, ◌≤◌, ap, sym, ◌∙◌, subst, refl, arith}
 use Rattle.blink_batch.specs.declared.Op.{Op}
-use Rattle.blink_batch.specs.declared.Op.TheVariants.{Find, Insert, Delete}
+use Rattle.blink_batch.specs.declared.Op.TheVariants.{Find, Insert, Delete, Replace}
 use Rattle.blink_steps.specs.declared.machine.Job.TheVariants.{Leaf}
 use Rattle.blink_steps.specs.declared.machine.State.TheVariants.{Want}
 use Rattle.blink_steps.specs.Allowance.{numbers_left, writes_left, primes_left}
@@ -28,6 +28,7 @@ all_left : (m : PlainMachine) (page : ℕ) (op : Op) → (writes_left (wanting m
 all_left m page (Find key) = (omega arith, omega arith)
 all_left m page (Insert key pointer) = (omega arith, omega arith)
 all_left m page (Delete key) = (omega arith, omega arith)
+all_left m page (Replace key pointer) = (omega arith, omega arith)
 
 left_at_leaf : (op : Op) (m : PlainMachine) (page : ℕ) → m.op ≡ op → m.job ≡ Leaf → m.state ≡ Want page → (writes_left m + primes_left m ≤ rows_of op) × (numbers_left m ≤ pages_of op)
 left_at_leaf op m page same_op same_job at =

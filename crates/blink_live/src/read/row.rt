@@ -67,7 +67,8 @@ impl Live {
         requires places { (from ≤ to) × (to ≤ ROW_WORDS) }
         ensures same { IsSameSeat seat.old seat.new }
         ensures width { length words.new ≡ ROW_WORDS }
-        ensures loaded { (content : List ℕ) → seat.old.me.0.reads ≡ Some (row, content) → (n : ℕ) → from ≤ n → n < to
+        ensures loaded { (content : List ℕ) → seat.old.me.0.reads ≡ Some (row, content) → (n : ℕ) → from ≤ n
+            → n < to
             → slice_index words.new n ≡ slice_index content n }
         ensures others { (n : ℕ) → (n < from) ⊎ (to ≤ n) → slice_index words.new n ≡ slice_index words.old n }
     {

@@ -49,6 +49,7 @@ fn call<R: Wait>(rt: &R, live: &Live, pass: &mut Pass, op: Op) -> Result<Answer,
         Op::Find(key) => live.find(pass, key),
         Op::Insert(key, pointer) => live.insert(rt, pass, key, pointer),
         Op::Delete(key) => live.delete(rt, pass, key),
+        Op::Replace(key, pointer) => live.replace(rt, pass, key, pointer),
     }
 }
 
@@ -136,7 +137,7 @@ fn four(alloc: Global) -> Result<Index, Fail> {
 // Looks at the 24 page words and the 24 latch words once an insertion has split that leaf: the new right page, 2, was written
 // first, in row 3; then page 1 in row 4, the root, page 3, in row 5, and the prime block in row 6. No page is latched any more.
 fn look_after_split(rt: &impl Abort, live: &Live) {
-    assert!(rt; live.table.word_count() == 1_796);
+    assert!(rt; live.table.word_count() == 3_268);
     for place in 0..48 {
         let expected = match place {
             0 => 6,

@@ -16,7 +16,8 @@ pub(crate) fn gathered(
     runs: &[LaneRun],
 ) -> Result<Vec<Answer>, AllocError>
     requires as_many { length runs.now ≡ cut.now.workers }
-    requires whole { (worker : ℕ) (run : LaneRun) → slice_get runs.now worker ≡ Some run → length run.answers.items ≡ length (lane_of cut.now.lanes worker) }
+    requires whole { (worker : ℕ) (run : LaneRun) → slice_get runs.now worker ≡ Some run
+        → length run.answers.items ≡ length (lane_of cut.now.lanes worker) }
     ensures { IfOk result (λ given. AreGathered cut.now.lanes runs.now given.items) }
 {
     let lanes = cut.lanes();

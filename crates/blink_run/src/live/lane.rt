@@ -4,7 +4,7 @@ ghost use Rattle.blink_batch.specs.Batch.{is_insert};
 ghost use Rattle.blink_batch.specs.Operation.{answer_of, key_of};
 ghost use Rattle.blink_live.specs.Allowed.{inserts_left, deletes_left};
 ghost use Rattle.blink_live.specs.Handles.{IsPassOf, keys_of, share_of};
-ghost use Rattle.blink_run.specs.Lanes.{CanRun, HasRun, IsPassAfter, MayRun, is_delete, lane_ops};
+ghost use Rattle.blink_run.specs.Lanes.{CanRun, HasRun, IsPassAfter, MayRun, uses_deletion, lane_ops};
 
 use crate::gate::Gate;
 use blink_batch::{Answer, Batch, Op};
@@ -48,7 +48,8 @@ impl LaneRun {
     fn run<R: Wait>(&mut self, rt: &R, live: &Live, op: Op)
         requires can { CanRun live.now op self.old }
         ensures pass { IsPassAfter live.now op self.old.pass self.new.pass }
-        ensures answers { self.new.answers.items ≡ self.old.answers.items ++ answer_of (share_of self.old.pass) op ∷ [] }
+        ensures answers { self.new.answers.items
+            ≡ self.old.answers.items ++ answer_of (share_of self.old.pass) op ∷ [] }
         ensures capacity { vec_capacity self.new.answers ≡ vec_capacity self.old.answers }
     {
         let answer = answer_at(rt, live, &mut self.pass, op);
@@ -61,7 +62,7 @@ fn answer_at<R: Wait>(rt: &R, live: &Live, pass: &mut Pass, op: Op) -> Answer
     requires its_own { IsPassOf live.now pass.old }
     requires key { Contains (keys_of pass.old) (key_of op) }
     requires inserts { count_by is_insert (op ∷ []) ≤ inserts_left pass.old.pages }
-    requires deletes { count_by is_delete (op ∷ []) ≤ deletes_left pass.old.pages pass.old.rows }
+    requires deletes { count_by uses_deletion (op ∷ []) ≤ deletes_left pass.old.pages pass.old.rows }
     ensures answer { result ≡ answer_of (share_of pass.old) op }
     ensures after { IsPassAfter live.now op pass.old pass.new }
 {
@@ -69,6 +70,7 @@ fn answer_at<R: Wait>(rt: &R, live: &Live, pass: &mut Pass, op: Op) -> Answer
         Op::Find(key) => expected(live.find(pass, key)),
         Op::Insert(key, pointer) => expected(live.insert(rt, pass, key, pointer)),
         Op::Delete(key) => expected(live.delete(rt, pass, key)),
+        Op::Replace(key, pointer) => expected(live.replace(rt, pass, key, pointer)),
     }
 }
 

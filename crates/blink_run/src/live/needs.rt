@@ -6,7 +6,8 @@ ghost use Rattle.blink_run.specs.Lanes.{IsNeeded, lane_ops};
 use blink_batch::{Batch, Op};
 use std::alloc::{AllocError, Global};
 
-/// The keys of a lane's operations, each once, how many operations there are, and how many insertions and deletions of them.
+/// The keys of a lane's operations, each once, how many operations there are, how many insertions of them, and how many that use
+/// a deletion.
 #[derive(Drop)]
 pub(crate) struct Needs {
     pub keys: Vec<u64>,
@@ -40,6 +41,7 @@ impl Needs {
                     Op::Find(_) => {}
                     Op::Insert(..) => inserts += 1,
                     Op::Delete(_) => deletes += 1,
+                    Op::Replace(..) => deletes += 1,
                 }
             }
         }

@@ -42,7 +42,8 @@ pub(crate) fn run_all<R: Threads + Wait + Sync, G: Gate + Sync>(
     requires may { MayRunAll live.now batch.now cut.now.workers cut.now.lanes runs.items }
     ensures ended { IfOk result (λ ended. HaveRun live.now batch.now cut.now.workers cut.now.lanes ended.items) }
     ensures fits { ¬ IsErrOf result RunError.TooLarge }
-    ensures refused { IfErr result (λ error. error ≡ RunError.OutOfMemory ⊎ ((worker : ℕ) × worker < cut.now.workers × error ≡ RunError.Worker worker)) }
+    ensures refused { IfErr result (λ error. error ≡ RunError.OutOfMemory
+        ⊎ ((worker : ℕ) × worker < cut.now.workers × error ≡ RunError.Worker worker)) }
 {
     let lanes = cut.lanes();
     thread::scope(
@@ -52,7 +53,8 @@ pub(crate) fn run_all<R: Threads + Wait + Sync, G: Gate + Sync>(
             requires a_lane_each { length lanes.now ≡ length batch.now }
             requires may { MayRunAll live.now batch.now cut.now.workers lanes.now runs.items }
             ensures ended { IfOk result (λ ended. HaveRun live.entry.now batch.entry.now cut.entry.now.workers lanes.entry.now ended.items) }
-            ensures refused { IfErr result (λ error. error ≡ RunError.OutOfMemory ⊎ ((worker : ℕ) × worker < cut.entry.now.workers × error ≡ RunError.Worker worker)) }
+            ensures refused { IfErr result (λ error. error ≡ RunError.OutOfMemory
+                ⊎ ((worker : ℕ) × worker < cut.entry.now.workers × error ≡ RunError.Worker worker)) }
         {
             let Ok(mut handles) = Vec::with_capacity(alloc, runs.len()) else {
                 return Err(RunError::OutOfMemory);

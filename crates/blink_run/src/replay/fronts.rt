@@ -13,7 +13,7 @@ const REPLAYS: [(&str, &[u8]); 3] = [
     ),
     ("insert,1,1\ninsert,3,3\n", &[1, 1, 1, 0, 0, 0, 2]),
     (
-        "scan,0,9\ninsert,7,70\nfind,7,\nscan,0,10\ndelete,7,\ndelete,07,\n",
+        "scan,0,9\ninsert,7,70\nfind,7,\nscan,0,10\npage,7,10\nreplace,7,71\ndelete,7,\ndelete,07,\n",
         &[2, 1, 0],
     ),
 ];
@@ -31,6 +31,7 @@ fn number(field: &str) -> Result<u64, RecordError> {
 enum Request {
     Of(Op),
     Scan(u64, u64),
+    Page(u64, u64),
 }
 
 fn request_of(line: &str) -> Result<Request, RecordError> {
@@ -45,7 +46,9 @@ fn request_of(line: &str) -> Result<Request, RecordError> {
     };
     match word {
         "insert" => Ok(Request::Of(Op::Insert(number(second)?, number(third)?))),
+        "replace" => Ok(Request::Of(Op::Replace(number(second)?, number(third)?))),
         "scan" => Ok(Request::Scan(number(second)?, number(third)?)),
+        "page" => Ok(Request::Page(number(second)?, number(third)?)),
         "find" | "delete" if !third.is_empty() => Err(RecordError::BadShape),
         "find" => Ok(Request::Of(Op::Find(number(second)?))),
         "delete" => Ok(Request::Of(Op::Delete(number(second)?))),
@@ -61,6 +64,16 @@ fn answer(plain: &mut Plain, request: Request, text: &mut String) -> Result<(), 
             let mut shown = 0u64;
             for entry in plain.entries() {
                 if lo <= entry.key && entry.key <= hi {
+                    writeln!(text, "{} {}", entry.key, entry.pointer)?;
+                    shown = shown.wrapping_add(1);
+                }
+            }
+            writeln!(text, "end {shown}")
+        }
+        Request::Page(lo, n) => {
+            let mut shown = 0u64;
+            for entry in plain.entries() {
+                if lo <= entry.key && shown < n {
                     writeln!(text, "{} {}", entry.key, entry.pointer)?;
                     shown = shown.wrapping_add(1);
                 }

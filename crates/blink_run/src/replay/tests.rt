@@ -79,6 +79,7 @@ fn scripts_without_operations_have_no_trace(rt: HostRuntime) -> Result<(), Fail>
     for (script, expected) in [
         ("", "0 1 - 18446744073709551615 -\n"),
         ("scan,0,9\n", "end 0\n0 1 - 18446744073709551615 -\n"),
+        ("page,0,9\n", "end 0\n0 1 - 18446744073709551615 -\n"),
     ] {
         let (output, end, _) = replayed(rt.alloc(), script.as_bytes(), &two_workers()?, &[0, 1, 0]);
         assert!(rt; end.is_ok());

@@ -53,7 +53,19 @@ fn scripts_are_served(rt: HostRuntime) -> Result<(), Fail> {
             "insert,5,50\nscan,9,1\nscan,0,9\ninsert,6,60\n",
             "inserted\nend 0\n5 50\nend 1\ninserted\n",
         ),
+        (
+            "insert,7,1\nreplace,7,2\nfind,7,\nreplace,8,1\n",
+            "inserted\nreplaced 1\nfound 2\nabsent\n",
+        ),
         ("scan,0,9\ninsert,1,10\n", "end 0\ninserted\n"),
+        (
+            "insert,1,10\ninsert,2,20\ninsert,3,30\ninsert,4,40\ninsert,5,50\npage,2,2\npage,0,0\npage,9,3\n",
+            "inserted\ninserted\ninserted\ninserted\ninserted\n2 20\n3 30\nend 2\nend 0\nend 0\n",
+        ),
+        (
+            "insert,18446744073709551615,2\npage,18446744073709551615,18446744073709551615\n",
+            "inserted\n18446744073709551615 2\nend 1\n",
+        ),
     ];
     let all = all_settings(rt.alloc(), 16)?;
     for (script, expected) in cases {
@@ -61,6 +73,24 @@ fn scripts_are_served(rt: HostRuntime) -> Result<(), Fail> {
             let (output, end) = served(&rt, rt.alloc(), script.as_bytes(), settings);
             assert!(rt; end.is_ok(), "{script}");
             assert_eq!(rt; output.as_slice(), expected.as_bytes(), "{script}");
+        }
+    }
+    Ok(())
+}
+
+// The first leaf of two is emptied by deletions, and a page that begins there goes on over it.
+#[test]
+fn pages_cross_an_empty_leaf(rt: HostRuntime) -> Result<(), Fail> {
+    let script =
+        "insert,1,10\ninsert,2,20\ninsert,3,30\ninsert,4,40\ninsert,5,50\npage,3,2\ndelete,1,\ndelete,2,\ndelete,3,\npage,0,1\npage,0,9\npage,5,1\npage,6,1\n";
+    let expected =
+        "inserted\ninserted\ninserted\ninserted\ninserted\n3 30\n4 40\nend 2\nremoved 10\nremoved 20\nremoved 30\n4 40\nend 1\n4 40\n5 50\nend 2\n5 50\nend 1\nend 0\n";
+    for driver in [Driver::Locked, Driver::Live] {
+        for workers in [1, 2, 64] {
+            let settings = Settings::new(workers, 4, CutKind::Residue, driver)?;
+            let (output, end) = served(&rt, rt.alloc(), script.as_bytes(), &settings);
+            assert!(rt; end.is_ok());
+            assert_eq!(rt; output.as_slice(), expected.as_bytes());
         }
     }
     Ok(())
@@ -106,6 +136,7 @@ fn refused_scripts_write_nothing(rt: HostRuntime) -> Result<(), Fail> {
             ScriptError::Row(3, RecordError::BadShape),
             10,
         ),
+        ("page,1,01", ScriptError::Row(1, RecordError::BadNumber), 12),
     ];
     for (script, refusal, code) in cases {
         let (output, end) = served(&rt, rt.alloc(), script.as_bytes(), &settings);
@@ -128,17 +159,17 @@ fn finds(text: &mut String, count: u64) -> Result<(), AllocError> {
 fn a_scan_makes_room_for_another_batch(rt: HostRuntime) -> Result<(), Fail> {
     let settings = Settings::new(4, 16, CutKind::Residue, Driver::Locked)?;
     let mut text = String::new(rt.alloc());
-    finds(&mut text, 4096)?;
+    finds(&mut text, 8192)?;
     text.push_str("scan,0,9\n")?;
-    finds(&mut text, 4096)?;
+    finds(&mut text, 8192)?;
     let (output, end) = served(&rt, rt.alloc(), text.as_bytes(), &settings);
     assert!(rt; end.is_ok());
     // Each find is answered by `absent`, and the scan by `end 0`.
-    assert_eq!(rt; output.len(), 2 * 4096 * 7 + 6);
+    assert_eq!(rt; output.len(), 2 * 8192 * 7 + 6);
     finds(&mut text, 1)?;
     let (output, end) = served(&rt, rt.alloc(), text.as_bytes(), &settings);
     assert_eq!(rt; output.len(), 0);
-    assert_eq!(rt; end, Err(ServeError::Script(ScriptError::TooMany(8194))));
+    assert_eq!(rt; end, Err(ServeError::Script(ScriptError::TooMany(16386))));
     Ok(())
 }
 

@@ -5,7 +5,7 @@ use std::test::Fail;
 
 #[test]
 fn settings_have_limits(rt: HostRuntime) -> Result<(), Fail> {
-    for (workers, fan) in [(1, 4), (4, 16), (64, 4)] {
+    for (workers, fan) in [(1, 4), (4, 32), (64, 4)] {
         let settings = Settings::new(workers, fan, CutKind::Ranges, Driver::Locked)?;
         assert_eq!(rt; (settings.workers(), settings.fan()), (workers, fan));
         assert_eq!(rt; settings.cut(), CutKind::Ranges);
@@ -15,7 +15,7 @@ fn settings_have_limits(rt: HostRuntime) -> Result<(), Fail> {
         (0, 16, SettingsError::BadWorkers, 2),
         (65, 3, SettingsError::BadWorkers, 2),
         (64, 3, SettingsError::BadFan, 40),
-        (1, 17, SettingsError::BadFan, 40),
+        (1, 33, SettingsError::BadFan, 40),
     ] {
         assert_eq!(rt;
             Settings::new(workers, fan, CutKind::Residue, Driver::Locked),

@@ -8,7 +8,7 @@ use Rattle.std.proofs.lemmas.Slice.Zip.{length-zip}
 use Rattle.blink_batch.specs.declared.Op.{Op}
 use Rattle.blink_batch.specs.Batch.{is_insert}
 use Rattle.blink_store.specs.Store.{PlainStore}
-use Rattle.blink_batch.specs.declared.Op.TheVariants.{Find, Insert, Delete}
+use Rattle.blink_batch.specs.declared.Op.TheVariants.{Find, Insert, Delete, Replace}
 use Rattle.blink_steps.specs.declared.machine.Job.TheVariants.{Leaf}
 use Rattle.blink_steps.specs.Allowance.{one_if, numbers_for, numbers_left}
 use Rattle.blink_steps.specs.Counts.{numbers_in, moves_in, takes_number, begun_inserts}
@@ -108,6 +108,7 @@ numbers_by_kind : (op : Op) → numbers_for Leaf op ≤ 22 * one_if (is_insert o
 numbers_by_kind (Find key) = omega arith
 numbers_by_kind (Insert key pointer) = omega arith
 numbers_by_kind (Delete key) = omega arith
+numbers_by_kind (Replace key pointer) = omega arith
 
 -- a worker whose operation writes a new page finds a number left for it
 pub number_is_left : OpeningRunIsSound → TurnKeepsSoundRun → NumberIsLeft

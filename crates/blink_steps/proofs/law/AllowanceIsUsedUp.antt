@@ -1,7 +1,7 @@
 -- What an operation may still need is as much after a step as before, and one less of what the step took.
 use Rattle.std.proofs.Common.{◌≡◌, ℕ, ◌+◌, ◌-◌, ◌*◌, ◌≤◌, ◌&&◌, inl, inr, Option, Some, None, List, [], ◌∷◌, refl, ap, ◌∙◌, arith}
 use Rattle.blink_batch.specs.declared.Op.{Op}
-use Rattle.blink_batch.specs.declared.Op.TheVariants.{Find, Insert, Delete}
+use Rattle.blink_batch.specs.declared.Op.TheVariants.{Find, Insert, Delete, Replace}
 use Rattle.blink_page.specs.Page.{PlainPage}
 use Rattle.blink_steps.specs.declared.machine.Debt.{Debt}
 use Rattle.blink_steps.specs.declared.machine.Job.{Job}
@@ -85,6 +85,8 @@ uses_page_read m after step number page is (SeesPage.under_latch at (SeesUnderLa
     uses_when m after _ step (Moved (read_page number)) (Held number) at is is_after refl (omega arith) (omega arith) (omega arith)
 uses_page_read m after step number page is (SeesPage.under_latch at (SeesUnderLatch.deletion_finds_none key below is_job is_op found is_after)) =
     uses_when m after _ step (Moved (read_page number)) (Held number) at is is_after refl (omega arith) (omega arith) (omega arith)
+uses_page_read m after step number page is (SeesPage.under_latch at (SeesUnderLatch.replacement_finds_none key pointer below is_job is_op found is_after)) =
+    uses_when m after _ step (Moved (read_page number)) (Held number) at is is_after refl (omega arith) (omega arith) (omega arith)
 uses_page_read m after step number page is (SeesPage.under_latch at (SeesUnderLatch.posting_finds_separator debt child below is_job found is_after)) =
     uses_when m after _ step (Moved (read_page number)) (Held number) at is is_after refl (omega arith) (omega arith) (omega arith)
 uses_page_read m after step number page is (SeesPage.under_latch at (SeesUnderLatch.is_to_change changed kept below change is_after)) =
@@ -104,12 +106,14 @@ may_split : (job : Job) (op : Op) → Brings op job → level_of job ≤ 20 → 
 may_split Leaf (Find key) brings low = absurd brings
 may_split Leaf (Insert key pointer) brings low = record { numbers = omega arith; page_writes = omega arith; prime_writes = omega arith }
 may_split Leaf (Delete key) brings low = absurd brings
+may_split Leaf (Replace key pointer) brings low = absurd brings
 may_split (Parent debt) op brings low = record { numbers = omega arith; page_writes = omega arith; prime_writes = omega arith }
 
 -- what changes a page may write it
 may_write : (m : PlainMachine) (page changed : PlainPage) (kept : Option ℕ) → level_of m.job ≤ 20 → IsChange m page changed kept → 1 ≤ writes_for m.job m.op
 may_write m page changed kept low (IsChange.gains brings none room is_kept is) = let it = (may_split m.job m.op brings low).page_writes in omega arith
 may_write m page changed kept low (IsChange.loses key pointer is_job is_op there is_kept is) = rw (is_job, is_op) (omega arith)
+may_write m page changed kept low (IsChange.exchanges key new pointer is_job is_op there is_kept is) = rw (is_job, is_op) (omega arith)
 
 -- what an operation's deciding write leaves of it
 pub decided_parts : (m : PlainMachine) (job : Job) (state : State) (kept : Option ℕ)
@@ -276,6 +280,7 @@ at_its_begin : (fan : ℕ) (op : Op) → (numbers_left (fresh fan op) ≤ 22) ×
 at_its_begin fan (Find key) = (omega arith, omega arith, omega arith)
 at_its_begin fan (Insert key pointer) = (omega arith, omega arith, omega arith)
 at_its_begin fan (Delete key) = (omega arith, omega arith, omega arith)
+at_its_begin fan (Replace key pointer) = (omega arith, omega arith, omega arith)
 
 -- all of it
 pub allowance_is_used_up : TreeLaws → AllowanceIsUsedUp

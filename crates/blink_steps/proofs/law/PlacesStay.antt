@@ -106,6 +106,8 @@ module _ (laws : TreeLaws) (moment : Moment) (levels : Levels) (sound : IsSoundW
       absurd (let then = ap (λ (x : PlainMachine). x.state) is in cc)
   under_latch next at leaves (SeesPage.under_latch held (SeesUnderLatch.deletion_finds_none key below is_leaf is_op found is)) =
       absurd (let then = ap (λ (x : PlainMachine). x.state) is in cc)
+  under_latch next at leaves (SeesPage.under_latch held (SeesUnderLatch.replacement_finds_none key pointer below is_leaf is_op found is)) =
+      absurd (let then = ap (λ (x : PlainMachine). x.state) is in cc)
   under_latch next at leaves (SeesPage.under_latch held (SeesUnderLatch.posting_finds_separator debt child below is_job found is)) =
       absurd (let then = ap (λ (x : PlainMachine). x.state) is in cc)
   under_latch next at leaves (SeesPage.under_latch held (SeesUnderLatch.is_to_change changed kept below change is)) =

@@ -10,12 +10,12 @@ use Rattle.blink_steps.specs.declared.machine.Job.{Job}
 use Rattle.blink_steps.specs.declared.machine.Job.TheVariants.{Leaf, Parent}
 use Rattle.blink_steps.specs.declared.machine.Next.TheVariants.{Finish}
 use Rattle.blink_steps.specs.declared.machine.State.TheVariants.{Change, Leave}
-use Rattle.blink_steps.specs.Machine.{PlainMachine, target, level_of}
+use Rattle.blink_steps.specs.Machine.{entry_of, PlainMachine, target, level_of}
 use Rattle.blink_steps.specs.Moment.{Moment}
 use Rattle.blink_steps.specs.Owned.{debt_of, debt_at, debt_of_job, loose_at, split_at}
 use Rattle.blink_steps.specs.Placed.{HasAnswer, IsPlaced}
 use Rattle.blink_steps.specs.Sound.{IsSound, IsSoundWith}
-use Rattle.blink_steps.specs.Table.{IsChange, gains, loses, decided_with}
+use Rattle.blink_steps.specs.Table.{IsChange, gains, loses, exchanges, decided_with}
 use Rattle.blink_steps.specs.TreeWithDebts.{Levels, IsInChain}
 use Rattle.blink_steps.proofs.tree.TreeStatements.{TreeLaws, IsReplaced, InnerGains}
 use Rattle.blink_steps.proofs.moment.WhoseOperation.{Turns}
@@ -23,7 +23,7 @@ use Rattle.blink_steps.proofs.tree.DebtsWhereKeysChange.{KeysPass, above_gains, 
 use Rattle.blink_steps.proofs.operation.PlacedWhateverBefore.{placed_at}
 use Rattle.blink_steps.proofs.operation.WriteOfOwnPage.{WritesOwn, replaced_is_sound}
 use Rattle.blink_steps.proofs.operation.PageAtWork.{WorksOn, works_on}
-use Rattle.blink_steps.proofs.operation.ChangeOfTree.{leaf_gains, leaf_loses, inner_gains}
+use Rattle.blink_steps.proofs.operation.ChangeOfTree.{leaf_gains, leaf_loses, leaf_exchanges, inner_gains}
 
 module _ (fan : ℕ) (prime : List ℕ) (after : Pages) (levels : Levels) (c : Cell) (page : PlainPage) (before : Option Debt) where
   -- where no separator and no high key changes, debts pass if the operation owed nothing
@@ -73,6 +73,15 @@ module _ (laws : TreeLaws) (old new : Moment) (levels : Levels) (sound : IsSound
             (keys_unchanged old.fan old.prime new.pages levels work.cell changed (debt_of m) 0 it.new it.replaced it.same_above (ap (debt_at m.job) here ∙ ap debt_of_job leaf))
             (ap loose_at here) (ap split_at here),
       )
+  leaf_is_changed page (exchanges key to pointer is_leaf op found some is_changed) leaf work same turn =
+      let on : target m ≡ key = rw (leaf, op) refl in
+      let entry : ◌≡◌ {A = ℕ × ℕ} (entry_of m) (key, to) = rw (leaf, op) refl in
+      let it = leaf_exchanges laws old new levels sound worker m placed number changed page own work same leaf pointer (rw on found) (rw entry is_changed) in (
+        it.new,
+        replaced_is_sound laws old new levels sound worker m number changed own (is_chained 0 work) placed (Some (answer_at m.op kept)) refl turn 0 work.cell changed it.new it.page_replaced work.same_number
+            (keys_unchanged old.fan old.prime new.pages levels work.cell changed (debt_of m) 0 it.new it.page_replaced it.same_above (ap (debt_at m.job) here ∙ ap debt_of_job leaf))
+            (ap loose_at here) (ap split_at here),
+      )
 
   -- of an inner page, by a posting
   inner_is_changed : (debt : Debt) (page : PlainPage) → IsChange m page changed kept → m.job ≡ Parent debt → (work : WorksOn old levels m number (debt.level + 1))
@@ -85,6 +94,7 @@ module _ (laws : TreeLaws) (old new : Moment) (levels : Levels) (sound : IsSound
             (keys_posted old.fan old.prime new.pages levels work.cell changed (debt_of m) debt it owes) (ap loose_at here) (ap split_at here),
       )
   inner_is_changed debt page (loses key pointer is_leaf op found some is_changed) job work same answered turn = absurd cc
+  inner_is_changed debt page (exchanges key to pointer is_leaf op found some is_changed) job work same answered turn = absurd cc
 
   -- of either
   pub change_is_sound : (job : Job) → m.job ≡ job → Turns old.machines new.machines worker m (decided_with m job (Leave number Finish) kept) → IsSound new

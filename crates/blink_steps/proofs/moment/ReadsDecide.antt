@@ -2,7 +2,7 @@
 use Rattle.std.proofs.Common.{◌≡◌, ℕ, ◌+◌, ◌≤◌, Option, Some, None, List, refl, sym, ap, subst, ◌∙◌}
 use Rattle.blink_batch.specs.declared.Entry.{Entry}
 use Rattle.blink_batch.specs.declared.Op.{Op}
-use Rattle.blink_batch.specs.declared.Op.TheVariants.{Find, Insert, Delete}
+use Rattle.blink_batch.specs.declared.Op.TheVariants.{Find, Insert, Delete, Replace}
 use Rattle.blink_batch.specs.Operation.{key_of, answer_at, map_at}
 use Rattle.blink_batch.specs.PlainMap.{pointer_of}
 use Rattle.blink_page.specs.Entries.{value_at}
@@ -71,7 +71,7 @@ module _ (laws : TreeLaws) (old new : Moment) (levels : Levels) (sound : IsSound
   way_read_decides level is placed (SeesOnItsWay.find_answers there_level key going leads op same) = find_decides level key placed leads.0 leads.1 op (ap (λ (x : PlainMachine). x.answer) same)
   way_read_decides level is placed (SeesOnItsWay.update_wants there_level going leads is_update same) = decides_nothing new m after entries _ same refl keeps
 
-  -- an insertion or a deletion that finds its answer under the latch
+  -- an insertion, a deletion or a replacement that finds its answer under the latch
   held_decides : (op : Op) (found : Option ℕ) → PlacedAt old levels m (Held number) → target m ≤ page.high → m.job ≡ Leaf → m.op ≡ op → value_at (key_of op) page.entries ≡ found
       → after.answer ≡ Some (answer_at op found) → map_at op found entries ≡ entries → Decides new m after entries
   held_decides op found placed inside leaf is finds answer unchanged =
@@ -85,6 +85,8 @@ module _ (laws : TreeLaws) (old new : Moment) (levels : Levels) (sound : IsSound
       held_decides (Insert key pointer) (Some found) placed inside leaf op finds (ap (λ (x : PlainMachine). x.answer) same) refl
   latched_read_decides placed (SeesUnderLatch.deletion_finds_none key inside leaf op finds same) =
       held_decides (Delete key) None placed inside leaf op finds (ap (λ (x : PlainMachine). x.answer) same) refl
+  latched_read_decides placed (SeesUnderLatch.replacement_finds_none key pointer inside leaf op finds same) =
+      held_decides (Replace key pointer) None placed inside leaf op finds (ap (λ (x : PlainMachine). x.answer) same) refl
   latched_read_decides placed (SeesUnderLatch.posting_finds_separator debt child inside job finds same) = decides_nothing new m after entries _ same refl keeps
   latched_read_decides placed (SeesUnderLatch.is_to_change changed found inside change same) = decides_nothing new m after entries _ same refl keeps
   latched_read_decides placed (SeesUnderLatch.is_to_split inside full same) = decides_nothing new m after entries _ same refl keeps

@@ -7,7 +7,7 @@ use Rattle.blink_steps.specs.Owned.{debt_of, debt_at, debt_of_job}
 use Rattle.blink_steps.proofs.operation.WhatJobsAreAbout.{brings_parent, some_value}
 use Rattle.blink_steps.proofs.tree.PrimeAsList.{is_top_leftmost, last_or-at_end, not_top_leftmost}
 use Rattle.blink_batch.specs.declared.Op.{Op}
-use Rattle.blink_batch.specs.declared.Op.TheVariants.{Find, Insert, Delete}
+use Rattle.blink_batch.specs.declared.Op.TheVariants.{Find, Insert, Delete, Replace}
 use Rattle.blink_batch.specs.Batch.{FitsWords}
 use Rattle.blink_page.specs.Entries.{child_for, value_at}
 use Rattle.blink_page.specs.Page.{PlainPage, IsLawfulPage}
@@ -25,7 +25,7 @@ use Rattle.blink_steps.specs.Machine.{PlainMachine, NeedsPage, NeedsPrime, targe
 use Rattle.blink_steps.specs.Moment.{Moment, IsItsOperation}
 use Rattle.blink_steps.specs.Placed.{MayChange, PlacedAt}
 use Rattle.blink_steps.specs.Sound.{IsSound, IsSoundWith}
-use Rattle.blink_steps.specs.Table.{SeesOnItsWay, goes_right, goes_down, find_answers, SeesUnderLatch, is_above_high_key, insertion_finds_key, deletion_finds_none, posting_finds_separator, is_to_change, is_to_split, IsChange, SeesPage, on_its_way, under_latch, Brings, WaitsForLevel, IsTopLeftmost, SeesPrime, finds_leftmost, begins, asks_of_root, asks_of_other, update_wants}
+use Rattle.blink_steps.specs.Table.{SeesOnItsWay, goes_right, goes_down, find_answers, SeesUnderLatch, is_above_high_key, insertion_finds_key, deletion_finds_none, replacement_finds_none, posting_finds_separator, is_to_change, is_to_split, IsChange, SeesPage, on_its_way, under_latch, Brings, WaitsForLevel, IsTopLeftmost, SeesPrime, finds_leftmost, begins, asks_of_root, asks_of_other, update_wants}
 use Rattle.blink_steps.specs.TreeWithDebts.{Levels}
 use Rattle.blink_steps.proofs.operation.ReadPagesAreThere.{reads_are_good}
 use Rattle.blink_steps.proofs.operation.OperationIsPlaced.{at_state, begun, its_own}
@@ -82,6 +82,8 @@ module _ (m : PlainMachine) (number : ℕ) (page : PlainPage) (lawful : IsLawful
     on_leaf job (Insert key pointer) op may None there = gains_or_splits (rw (job, op) tt) there
     on_leaf job (Delete key) op may (Some kept) there = (_, is_to_change _ (Some kept) below (IsChange.loses key kept job op (rw (job, op) at there) refl refl) refl)
     on_leaf job (Delete key) op may None there = (_, deletion_finds_none key below job op (rw (job, op) at there) refl)
+    on_leaf job (Replace key new) op may (Some kept) there = (_, is_to_change _ (Some kept) below (IsChange.exchanges key new kept job op (rw (job, op) at there) refl refl) refl)
+    on_leaf job (Replace key new) op may None there = (_, replacement_finds_none key new below job op (rw (job, op) at there) refl)
 
     -- a posting, by whether its separator is there
     on_inner : (debt : Debt) → m.job ≡ Parent debt → (kept : Option ℕ) → value_at (target m) page.entries ≡ kept → MakesUnderLatch m number page
@@ -107,6 +109,7 @@ key_fits : (op : Op) → FitsWords op → key_of op ≤ GREATEST_KEY
 key_fits (Find key) words = omega (arith, words)
 key_fits (Insert key pointer) words = omega (arith, words.0)
 key_fits (Delete key) words = omega (arith, words)
+key_fits (Replace key pointer) words = omega (arith, words.0)
 
 module _ (moment : Moment) (levels : Levels) (sound : IsSoundWith moment levels) (worker : ℕ) (m : PlainMachine) (under : moment.machines worker ≡ Some m) where
   -- so is that of its job

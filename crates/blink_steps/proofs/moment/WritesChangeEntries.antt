@@ -1,6 +1,6 @@
 -- What the writes of an operation make of the entries that a tree keeps.
 use Rattle.std.proofs.Common.{◌≡◌, ℕ, ◌+◌, Option, Some, None, sym, ap, subst, ◌∙◌, arith}
-use Rattle.blink_page.specs.Entries.{value_at, added, removed, posted}
+use Rattle.blink_page.specs.Entries.{value_at, added, removed, replaced, posted}
 use Rattle.blink_page.specs.Page.{PlainPage, IsKeyOf, with_entries, entries_with}
 use Rattle.blink_page.specs.Split.{lower_half, upper_half}
 use Rattle.blink_page.proofs.Offered.{entries_with-leaf, entries_with-inner}
@@ -59,6 +59,15 @@ module _ (laws : TreeLaws) (moment : Moment) (levels : Levels) (sound : IsSoundW
         let it = laws.leaf_loss_keeps moment.fan moment.prime moment.pages after levels (cell number page) changed key pointer sound.lawful.tree (read_stands_at 0 (ap level_of leaf)) writes
         (change_replaces laws moment levels sound worker m under owes number page at_work read changed kept change) (subst (IsKeyOf page) own read.belongs) there loses in
         keeps_entries moment.fan moment.prime after it.new it.replaced.tree _ it.entries
+
+    -- or another value in its entry
+    pub leaf_exchanges : (key new pointer : ℕ) → m.job ≡ Leaf → target m ≡ key → value_at key page.entries ≡ Some pointer → changed ≡ with_entries page (replaced (key, new) page.entries)
+        → AreEntries moment.fan moment.prime after (replaced (key, new) (entries_along (levels 0)))
+    leaf_exchanges key new pointer leaf own there same =
+        let exchanges : changed.entries ≡ replaced (key, new) page.entries = ap (λ (p : PlainPage). p.entries) same in
+        let it = laws.leaf_exchange_keeps moment.fan moment.prime moment.pages after levels (cell number page) changed (key, new) pointer sound.lawful.tree (read_stands_at 0 (ap level_of leaf)) writes
+        (change_replaces laws moment levels sound worker m under owes number page at_work read changed kept change) (subst (IsKeyOf page) own read.belongs) there exchanges in
+        keeps_entries moment.fan moment.prime after it.new it.page_replaced.tree _ it.entries
 
     -- a posting changes no leaf
     pub posting_keeps_entries : (debt : Debt) → m.job ≡ Parent debt → value_at (target m) page.entries ≡ None → changed ≡ with_entries page (entries_with page (entry_of m))

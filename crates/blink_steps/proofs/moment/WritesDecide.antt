@@ -2,11 +2,11 @@
 use Rattle.std.proofs.Common.{◌≡◌, ℕ, Option, Some, None, List, refl, sym, ap, subst, ◌∙◌}
 use Rattle.blink_batch.specs.declared.Entry.{Entry}
 use Rattle.blink_batch.specs.declared.Op.{Op}
-use Rattle.blink_batch.specs.declared.Op.TheVariants.{Insert, Delete}
+use Rattle.blink_batch.specs.declared.Op.TheVariants.{Insert, Delete, Replace}
 use Rattle.blink_batch.specs.Operation.{key_of, answer_at}
 use Rattle.blink_batch.specs.PlainMap.{entry, pointer_of, IsAscending}
 use Rattle.blink_batch.specs.PlainMap as map
-use Rattle.blink_page.specs.Entries.{value_at, added, removed}
+use Rattle.blink_page.specs.Entries.{value_at, added, removed, replaced}
 use Rattle.blink_page.specs.Page.{PlainPage, IsKeyOf}
 use Rattle.blink_rest.specs.Entries.{AreEntries}
 use Rattle.blink_rest.specs.Level.{entries_along}
@@ -23,12 +23,12 @@ use Rattle.blink_steps.specs.Sound.{IsSoundWith}
 use Rattle.blink_steps.specs.TreeMap.{Keeps, pairs_of}
 use Rattle.blink_steps.specs.Table.{Brings, IsChange, decided_with}
 use Rattle.blink_steps.specs.TreeWithDebts.{Levels}
-use Rattle.blink_steps.proofs.tree.EntriesAsMap.{added-pairs_of, removed-pairs_of}
+use Rattle.blink_steps.proofs.tree.EntriesAsMap.{added-pairs_of, removed-pairs_of, replaced-pairs_of}
 use Rattle.blink_steps.proofs.moment.EntriesThatATreeKeeps.{entries_are, pointer_in_leaf, keeps_by, decides_by, decides_nothing}
 use Rattle.blink_steps.proofs.moment.ReadsDecide.{unanswered_on_leaf}
 use Rattle.blink_steps.specs.StepLaw.{Decides}
 use Rattle.blink_steps.proofs.tree.TreeStatements.{TreeLaws}
-use Rattle.blink_steps.proofs.moment.WritesChangeEntries.{read_stands_at, leaf_gains, leaf_loses, posting_keeps_entries, leaf_split_gains, inner_split_keeps_entries}
+use Rattle.blink_steps.proofs.moment.WritesChangeEntries.{read_stands_at, leaf_gains, leaf_loses, leaf_exchanges, posting_keeps_entries, leaf_split_gains, inner_split_keeps_entries}
 use Rattle.blink_steps.proofs.operation.WhatJobsAreAbout.{target-leaf}
 
 -- what an insertion brings to a leaf
@@ -76,6 +76,13 @@ module _ (laws : TreeLaws) (old new : Moment) (levels : Levels) (sound : IsSound
       decides_by new m after entries (Delete key) (Some pointer) is (pointer_read (Delete key) leaf is ∙ there) (unanswered_on_leaf m leaf answered) answer
       (keeps_new _ (map.removed entries key) are (ap (removed key) (sym joined) ∙ removed-pairs_of key entries ascending))
 
+  -- a replacement puts its pointer there
+  exchange_decides : (key to pointer : ℕ) → m.op ≡ Replace key to → m.job ≡ Leaf → AnsweredInJob m.job m.answer → value_at key page.entries ≡ Some pointer
+      → AreEntries old.fan old.prime new.pages (replaced (key, to) (entries_along (levels 0))) → after.answer ≡ Some (answer_at (Replace key to) (Some pointer)) → Decides new m after entries
+  exchange_decides key to pointer is leaf answered there are answer =
+      decides_by new m after entries (Replace key to) (Some pointer) is (pointer_read (Replace key to) leaf is ∙ there) (unanswered_on_leaf m leaf answered) answer
+      (keeps_new _ (map.replaced entries key to) are (ap (replaced (key, to)) (sym joined) ∙ replaced-pairs_of key to entries))
+
   -- a leaf operation has its answer after its write
   pub answer_on_leaf : (op : Op) (state : State) (found outcome : Option ℕ) → m.op ≡ op → m.job ≡ Leaf → found ≡ outcome → after ≡ decided_with m m.job state found → after.answer ≡ Some (answer_at op outcome)
   answer_on_leaf op state found outcome is leaf finds same =
@@ -97,10 +104,15 @@ module _ (laws : TreeLaws) (old new : Moment) (levels : Levels) (sound : IsSound
         loss_decides ascending key pointer op leaf answered there
         (leaf_loses laws old levels sound worker m under owes number page at_work read new.pages changed found change writes key pointer leaf (target-leaf m (Delete key) leaf op) there eq)
         (answer_on_leaf (Delete key) state found (Some pointer) op leaf some same)
+    changes_decide Leaf leaf (IsChange.exchanges key to pointer leaf_too op there some eq) =
+        exchange_decides key to pointer op leaf answered there
+        (leaf_exchanges laws old levels sound worker m under owes number page at_work read new.pages changed found change writes key to pointer leaf (target-leaf m (Replace key to) leaf op) there eq)
+        (answer_on_leaf (Replace key to) state found (Some pointer) op leaf some same)
     changes_decide (Parent debt) job (IsChange.gains brings absent room nothing eq) =
         decides_nothing new m after entries _ same (answer_above debt state found job)
         (keeps_old (posting_keeps_entries laws old levels sound worker m under owes number page at_work read new.pages changed found change writes debt job absent eq))
     changes_decide (Parent debt) job (IsChange.loses key pointer leaf op there some eq) = absurd (cc (job, leaf))
+    changes_decide (Parent debt) job (IsChange.exchanges key to pointer leaf op there some eq) = absurd (cc (job, leaf))
 
     -- whatever its job
     pub change_decides : Decides new m after entries

@@ -1,6 +1,6 @@
 -- What an operation's change of the page that it works on makes of the tree.
 use Rattle.std.proofs.Common.{◌≡◌, ℕ, ◌+◌, ◌<◌, ◌≤◌, Some, None, length, refl, ap, ◌∙◌, subst, arith}
-use Rattle.blink_page.specs.Entries.{value_at, removed}
+use Rattle.blink_page.specs.Entries.{value_at, removed, replaced}
 use Rattle.blink_page.specs.Limits.{IsPageNumber}
 use Rattle.blink_page.specs.Page.{PlainPage, IsKeyOf, entries_with, with_entries}
 use Rattle.blink_page.specs.declared.limits.TheConstants.{GREATEST_KEY}
@@ -14,8 +14,8 @@ use Rattle.blink_steps.specs.Placed.{IsPlaced}
 use Rattle.blink_steps.specs.Sound.{IsSoundWith}
 use Rattle.blink_steps.specs.Table.{Brings}
 use Rattle.blink_steps.specs.TreeWithDebts.{Levels}
-use Rattle.blink_steps.proofs.tree.TreeStatements.{TreeLaws, LeafGains, LeafLoses, InnerGains}
-use Rattle.blink_steps.proofs.tree.PageGainsOrLoses.{gain_replaces, loss_replaces, pointer_fits}
+use Rattle.blink_steps.proofs.tree.TreeStatements.{TreeLaws, LeafGains, LeafLoses, LeafExchanges, InnerGains}
+use Rattle.blink_steps.proofs.tree.PageGainsOrLoses.{gain_replaces, loss_replaces, exchange_replaces, pointer_fits}
 use Rattle.blink_steps.proofs.operation.WriteOfOwnPage.{WritesOwn}
 use Rattle.blink_steps.proofs.operation.PageAtWork.{WorksOn, job_is_number}
 
@@ -46,6 +46,16 @@ module _ (laws : TreeLaws) (old new : Moment) (levels : Levels) (sound : IsSound
       let is : changed ≡ with_entries work.cell.page (removed (target m) work.cell.page.entries) = rw same is_changed in
       laws.leaf_loss_keeps old.fan old.prime old.pages new.pages levels work.cell changed (target m) pointer sound.lawful.tree work.stands (writes_cell 0 work)
       (rw is (loss_replaces old.fan (target m) work.cell.page work.of_level.lawful work.of_level.has_level))
+      work.belongs (rw same found) (ap (λ (p : PlainPage). p.entries) is)
+
+  -- or gets another value
+  pub leaf_exchanges : (work : WorksOn old levels m number 0) → work.cell.page ≡ page → m.job ≡ Leaf → (pointer : ℕ) → value_at (target m) page.entries ≡ Some pointer
+      → changed ≡ with_entries page (replaced (entry_of m) page.entries) → LeafExchanges old.fan old.prime new.pages levels work.cell changed (entry_of m)
+  leaf_exchanges work same leaf pointer found is_changed =
+      let is : changed ≡ with_entries work.cell.page (replaced (entry_of m) work.cell.page.entries) = rw same is_changed in
+      let fits : (entry_of m).1 ≤ GREATEST_KEY = rw leaf (pointer_fits m.op placed.words) in
+      laws.leaf_exchange_keeps old.fan old.prime old.pages new.pages levels work.cell changed (entry_of m) pointer sound.lawful.tree work.stands (writes_cell 0 work)
+      (rw is (exchange_replaces old.fan (target m) (entry_of m).1 work.cell.page work.of_level.lawful work.of_level.has_level fits))
       work.belongs (rw same found) (ap (λ (p : PlainPage). p.entries) is)
 
   -- an inner page gains a separator

@@ -1,11 +1,13 @@
 -- The page that an operation has read under its latch, and that page with the operation's change.
 use Rattle.std.proofs.Common.{◌≡◌, ℕ, ◌+◌, ◌<◌, ◌≤◌, Option, Some, None, length, refl, sym, ap, subst, ◌∙◌, arith}
+use Rattle.blink_batch.specs.Batch.{FitsWords}
+use Rattle.blink_batch.specs.declared.Op.TheVariants.{Replace}
 use Rattle.blink_page.specs.Entries.{value_at}
 use Rattle.blink_page.specs.Limits.{IsPageNumber}
 use Rattle.blink_page.specs.Page.{PlainPage, IsLawfulPage, with_entries}
 use Rattle.blink_page.specs.Split.{lower_half, upper_half}
 use Rattle.blink_page.specs.declared.limits.TheConstants.{GREATEST_KEY}
-use Rattle.blink_page.proofs.Offered.{lawful_entries_with, lawful_lower, lawful_removed, lawful_upper, lawful_with_room, length-entries_with}
+use Rattle.blink_page.proofs.Offered.{lawful_entries_with, lawful_lower, lawful_removed, lawful_replaced, lawful_upper, lawful_with_room, length-entries_with}
 use Rattle.blink_rest.specs.Chain.{Cell, StandsIn, cell}
 use Rattle.blink_rest.proofs.Offered.{same_cell}
 use Rattle.blink_steps.specs.declared.machine.Job.{Job}
@@ -93,6 +95,14 @@ module _ (laws : TreeLaws) (moment : Moment) (levels : Levels) (sound : IsSoundW
       change_replaces changed kept (IsChange.loses key pointer leaf op there some same) =
           subst (Replaces moment.fan page) (sym same) (record {
             lawful = lawful_removed moment.fan page read_of_level.lawful key (read_of_level.has_level ∙ ap level_of leaf);
+            same_level = refl;
+            same_floor = refl;
+            same_high = refl;
+            same_right = refl;
+          })
+      change_replaces changed kept (IsChange.exchanges key new pointer leaf op there some same) =
+          subst (Replaces moment.fan page) (sym same) (record {
+            lawful = lawful_replaced moment.fan page read_of_level.lawful key new (read_of_level.has_level ∙ ap level_of leaf) (let words : FitsWords (Replace key new) = subst FitsWords op (sound.placed worker m under).words in let below = words.1 in omega arith);
             same_level = refl;
             same_floor = refl;
             same_high = refl;

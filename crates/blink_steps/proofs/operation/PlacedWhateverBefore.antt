@@ -11,7 +11,7 @@ use Rattle.blink_steps.specs.Machine.{PlainMachine, at_state}
 use Rattle.blink_steps.specs.Moment.{Moment, IsItsOperation, under_way, taken_on}
 use Rattle.blink_steps.specs.Placed.{StandsAt, IsAtWork, HasRead, HasHalved, HasSplit, PlacedForNext, PlacedAt, IsPlaced}
 use Rattle.blink_steps.specs.Sound.{IsSoundWith}
-use Rattle.blink_steps.specs.Table.{IsChange, IsFullFor, gains, loses}
+use Rattle.blink_steps.specs.Table.{IsChange, IsFullFor, gains, loses, exchanges}
 use Rattle.blink_steps.specs.TreeWithDebts.{Levels}
 
 module _ (moment : Moment) (levels : Levels) (m : PlainMachine) (s : State) where
@@ -35,6 +35,7 @@ module _ (moment : Moment) (levels : Levels) (m : PlainMachine) (s : State) wher
   IsChange-moved : (page changed : PlainPage) (kept : Option ℕ) → IsChange m page changed kept → IsChange (at_state m s) page changed kept
   IsChange-moved page changed kept (gains brings absent room none is_changed) = gains brings absent room none is_changed
   IsChange-moved page changed kept (loses key pointer leaf op there some is_changed) = loses key pointer leaf op there some is_changed
+  IsChange-moved page changed kept (exchanges key new pointer leaf op there some is_changed) = exchanges key new pointer leaf op there some is_changed
 
   -- the page of which it has written the upper half
   HasHalved-moved : (number : ℕ) (lower : PlainPage) (debt : Debt) → HasHalved moment m number lower debt → HasHalved moment (at_state m s) number lower debt

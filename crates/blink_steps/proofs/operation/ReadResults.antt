@@ -2,7 +2,7 @@
 use Rattle.std.proofs.Common.{◌≡◌, ℕ, ◌+◌, ◌-◌, ◌≤◌, Bool, true, false, cond, Option, Some, None, ◌∷◌, length, refl, ap, sym, ◌∙◌, subst, ltb, arith}
 use Rattle.std.proofs.lemmas.Bool.{le-ltb, lt-ltb}
 use Rattle.blink_batch.specs.declared.Op.{Op}
-use Rattle.blink_batch.specs.declared.Op.TheVariants.{Find, Insert, Delete}
+use Rattle.blink_batch.specs.declared.Op.TheVariants.{Find, Insert, Delete, Replace}
 use Rattle.blink_batch.specs.Operation.{answer_at}
 use Rattle.blink_page.specs.Entries.{value_at}
 use Rattle.blink_page.specs.Page.{PlainPage}
@@ -14,7 +14,7 @@ use Rattle.blink_steps.specs.declared.machine.Job.TheVariants.{Leaf, Parent}
 use Rattle.blink_steps.specs.declared.machine.State.TheVariants.{Going, Ended, Want, Change}
 use Rattle.blink_steps.specs.Laws.{OneChange, OneResultOfPage, OneResultOfPrime}
 use Rattle.blink_steps.specs.Machine.{PlainMachine, at_state, answered, target}
-use Rattle.blink_steps.specs.Table.{Brings, IsUpdate, begins, asks_of_root, asks_of_other, finds_leftmost, IsTopLeftmost, IsChange, gains, loses, SeesOnItsWay, goes_right, goes_down, find_answers, update_wants, SeesUnderLatch, is_above_high_key, insertion_finds_key, deletion_finds_none, posting_finds_separator, is_to_change, is_to_split, on_its_way, under_latch}
+use Rattle.blink_steps.specs.Table.{Brings, IsUpdate, begins, asks_of_root, asks_of_other, finds_leftmost, IsTopLeftmost, IsChange, gains, loses, exchanges, SeesOnItsWay, goes_right, goes_down, find_answers, update_wants, SeesUnderLatch, is_above_high_key, insertion_finds_key, deletion_finds_none, replacement_finds_none, posting_finds_separator, is_to_change, is_to_split, on_its_way, under_latch}
 
 -- ---- the prime block
 
@@ -109,6 +109,14 @@ one_change m page changed also kept and (gains brings absent room none is) (gain
 one_change m page changed also kept and (loses key pointer job op there was is) (loses key_too pointer_too job_too op_too there_too was_too is_too) =
     let same : key ≡ key_too = cc in
     (cc, cc)
+one_change m page changed also kept and (exchanges key new pointer job op there was is) (exchanges key_too new_too pointer_too job_too op_too there_too was_too is_too) =
+    let same : key ≡ key_too = cc in
+    let same_new : new ≡ new_too = cc in
+    (cc, cc)
+one_change m page changed also kept and (loses key pointer job op there was is) (exchanges key_too new_too pointer_too job_too op_too there_too was_too is_too) = absurd cc
+one_change m page changed also kept and (exchanges key new pointer job op there was is) (loses key_too pointer_too job_too op_too there_too was_too is_too) = absurd cc
+one_change m page changed also kept and (gains brings absent room none is) (exchanges key new pointer job op there was is_too) = absurd (rw (op, job) at brings)
+one_change m page changed also kept and (exchanges key new pointer job op there was is) (gains brings absent room none is_too) = absurd (rw (op, job) at brings)
 one_change m page changed also kept and (gains brings absent room none is) (loses key pointer job op there was is_too) = absurd (rw (op, job) at brings)
 one_change m page changed also kept and (loses key pointer job op there was is) (gains brings absent room none is_too) = absurd (rw (op, job) at brings)
 
@@ -130,6 +138,8 @@ row_here Leaf (Insert key pointer) (Some kept) room = finds_key
 row_here Leaf (Insert key pointer) None room = cond room changes splits
 row_here Leaf (Delete key) (Some kept) room = changes
 row_here Leaf (Delete key) None room = finds_none
+row_here Leaf (Replace key pointer) (Some kept) room = changes
+row_here Leaf (Replace key pointer) None room = finds_none
 row_here (Parent debt) op (Some kept) room = finds_separator
 row_here (Parent debt) op None room = cond room changes splits
 
@@ -149,6 +159,7 @@ row_gains Leaf (Insert key pointer) brings = refl
 row_gains (Parent debt) op brings = refl
 row_gains Leaf (Find key) brings = absurd brings
 row_gains Leaf (Delete key) brings = absurd brings
+row_gains Leaf (Replace key pointer) brings = absurd brings
 
 -- and splits it, where it is full
 row_splits : (job : Job) (op : Op) → Brings op job → row_here job op None false ≡ splits
@@ -156,6 +167,7 @@ row_splits Leaf (Insert key pointer) brings = refl
 row_splits (Parent debt) op brings = refl
 row_splits Leaf (Find key) brings = absurd brings
 row_splits Leaf (Delete key) brings = absurd brings
+row_splits Leaf (Replace key pointer) brings = absurd brings
 
 -- the row of a change
 row_of_change : (m : PlainMachine) (page changed : PlainPage) (kept : Option ℕ) → IsChange m page changed kept
@@ -165,12 +177,14 @@ row_of_change m page changed kept (gains brings absent room none is) =
     ∙ ap (row_here m.job m.op None) (lt-ltb (length page.entries) m.fan room)
     ∙ row_gains m.job m.op brings
 row_of_change m page changed kept (loses key pointer job op there was is) = rw (job, op, there) refl
+row_of_change m page changed kept (exchanges key new pointer job op there was is) = rw (job, op, there) refl
 
 -- the row that a case of the table is
 abbrev row_at : (m : PlainMachine) (number : ℕ) (page : PlainPage) (after : PlainMachine) → SeesUnderLatch m number page after → Row
 row_at m number page after (is_above_high_key next high right is) = above
 row_at m number page after (insertion_finds_key key pointer kept below job op there is) = finds_key
 row_at m number page after (deletion_finds_none key below job op none is) = finds_none
+row_at m number page after (replacement_finds_none key pointer below job op none is) = finds_none
 row_at m number page after (posting_finds_separator debt child below job there is) = finds_separator
 row_at m number page after (is_to_change changed kept below change is) = changes
 row_at m number page after (is_to_split below full is) = splits
@@ -181,6 +195,7 @@ row_is m number page after (is_above_high_key next high right is) =
     ap (λ (right : Bool). cond right above (row_here m.job m.op (value_at (target m) page.entries) (ltb (length page.entries) m.fan))) (lt-ltb page.high (target m) high)
 row_is m number page after (insertion_finds_key key pointer kept below job op there is) = row_below m page below ∙ rw (job, op, there) refl
 row_is m number page after (deletion_finds_none key below job op none is) = row_below m page below ∙ rw (job, op, none) refl
+row_is m number page after (replacement_finds_none key pointer below job op none is) = row_below m page below ∙ rw (job, op, none) refl
 row_is m number page after (posting_finds_separator debt child below job there is) = row_below m page below ∙ rw (job, there) refl
 row_is m number page after (is_to_change changed kept below change is) = row_below m page below ∙ row_of_change m page changed kept change
 row_is m number page after (is_to_split below full is) =
@@ -197,6 +212,9 @@ one_of_row m number page after other (insertion_finds_key key pointer kept below
     let same_key : key ≡ key_too = cc in
     cc
 one_of_row m number page after other (deletion_finds_none key below job op none is) (deletion_finds_none key_too below_too job_too op_too none_too is_too) same = is ∙ sym is_too
+one_of_row m number page after other (replacement_finds_none key pointer below job op none is) (replacement_finds_none key_too pointer_too below_too job_too op_too none_too is_too) same = is ∙ sym is_too
+one_of_row m number page after other (deletion_finds_none key below job op none is) (replacement_finds_none key_too pointer_too below_too job_too op_too none_too is_too) same = is ∙ sym is_too
+one_of_row m number page after other (replacement_finds_none key pointer below job op none is) (deletion_finds_none key_too below_too job_too op_too none_too is_too) same = is ∙ sym is_too
 one_of_row m number page after other (posting_finds_separator debt child below job there is) (posting_finds_separator debt_too child_too below_too job_too there_too is_too) same = is ∙ sym is_too
 one_of_row m number page after other (is_to_change changed kept below change is) (is_to_change changed_too kept_too below_too change_too is_too) same =
     let both = one_change m page changed changed_too kept kept_too change change_too in

@@ -1,10 +1,10 @@
 -- The entries of a whole level, where one of its pages gives way to others: a change of the page's entries is one of the level's.
 use Rattle.std.proofs.Common.{◌≡◌, ℕ, ◌+◌, ◌<◌, Some, None, List, ◌∷◌, ◌++◌, sym, ap, ◌∙◌, arith}
-use Rattle.blink_page.specs.Entries.{added, removed, posted}
+use Rattle.blink_page.specs.Entries.{added, removed, replaced, posted}
 use Rattle.blink_page.specs.Page.{IsKeyOf}
 use Rattle.blink_page.specs.Rising.{least_above, IsRising}
 use Rattle.blink_page.specs.declared.limits.TheConstants.{GREATEST_KEY}
-use Rattle.blink_page.proofs.Offered.{added-append_front, added-append_rest, posted-append_front, posted-append_rest, removed-append_front, removed-append_rest}
+use Rattle.blink_page.proofs.Offered.{added-append_front, added-append_rest, posted-append_front, posted-append_rest, removed-append_front, removed-append_rest, replaced-append_front, replaced-append_rest}
 use Rattle.blink_rest.specs.Chain.{Cell, Pages}
 use Rattle.blink_rest.specs.Level.{entries_along}
 use Rattle.blink_rest.proofs.Offered.{entries_along-append, line_rising}
@@ -61,6 +61,15 @@ module _ (fan : ℕ) (prime : List ℕ) (pages : Pages) (levels : Levels) (level
           ∙ ap (λ (es : List (ℕ × ℕ)). entries_before ++ es) (sym (removed-append_front key (c.page.high + 1) c.page.entries entries_rest (GREATEST_KEY + 1) rises_rest (omega arith)))
           ∙ sym (removed-append_rest key 0 entries_before (c.page.entries ++ entries_rest) (least_above c.page.floor) rises_before belongs.0)
           ∙ ap (removed key) (sym entries_were)
+
+      -- a value replaced is replaced in the level
+      pub replaced_across : (value : ℕ) → entries_along middle ≡ replaced (key, value) c.page.entries → entries_along (cells_after here middle) ≡ replaced (key, value) (entries_along (levels level))
+      replaced_across value same =
+          let below = belongs.1 in
+          entries_become (replaced (key, value) c.page.entries) same
+          ∙ ap (λ (es : List (ℕ × ℕ)). entries_before ++ es) (sym (replaced-append_front key value (c.page.high + 1) c.page.entries entries_rest (GREATEST_KEY + 1) rises_rest (omega arith)))
+          ∙ sym (replaced-append_rest key value 0 entries_before (c.page.entries ++ entries_rest) (least_above c.page.floor) rises_before belongs.0)
+          ∙ ap (replaced (key, value)) (sym entries_were)
 
       -- and a separator posted is posted in the level
       pub posted_across : (child : ℕ) → 0 < level → entries_along middle ≡ posted (key, child) c.page.entries → entries_along (cells_after here middle) ≡ posted (key, child) (entries_along (levels level))

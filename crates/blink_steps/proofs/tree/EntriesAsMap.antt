@@ -1,11 +1,11 @@
--- The entries of a tree as a plain map: looked up, added to and removed from alike.
+-- The entries of a tree as a plain map: looked up, added to, removed from and replaced alike.
 use Rattle.std.proofs.Common.{◌≡◌, ℕ, ◌<◌, cond, eqb, Some, None, List, [], ◌∷◌, refl, ap, arith}
 use Rattle.std.specs.List.{AllByRecursion}
 use Rattle.std.proofs.lemmas.Bool.Decides.{nat_tests}
 use Rattle.blink_batch.specs.declared.Entry.{Entry}
 use Rattle.blink_batch.specs.PlainMap.{entry, IsAscending, pointer_of}
 use Rattle.blink_batch.specs.PlainMap as map
-use Rattle.blink_page.specs.Entries.{value_at, added, removed}
+use Rattle.blink_page.specs.Entries.{value_at, added, removed, replaced}
 use Rattle.blink_steps.specs.TreeMap.{pairs_of}
 
 -- a key has in the tree what the map keeps under it
@@ -35,3 +35,10 @@ removed-pairs_of key (e ∷ es) ascending =
     let rest : removed key (pairs_of es) ≡ pairs_of (map.removed es key) = removed-pairs_of key es ascending.1 in
     let above : map.removed es e.key ≡ es = removed-above e.key es ascending.0 in
     grind (arith, nat_tests, rest, above)
+
+-- and a pointer is replaced alike
+pub replaced-pairs_of : (key pointer : ℕ) (entries : List Entry) → replaced (key, pointer) (pairs_of entries) ≡ pairs_of (map.replaced entries key pointer)
+replaced-pairs_of key pointer [] = refl
+replaced-pairs_of key pointer (e ∷ es) =
+    let rest : replaced (key, pointer) (pairs_of es) ≡ pairs_of (map.replaced es key pointer) = replaced-pairs_of key pointer es in
+    grind (arith, nat_tests, rest)

@@ -7,7 +7,7 @@ use Rattle.blink_steps.proofs.tree.RestIsQuiet.{rest_is_quiet}
 use Rattle.blink_steps.proofs.tree.QuietIsRest.{quiet_is_rest}
 use Rattle.blink_steps.proofs.tree.FewLevels.{few_levels}
 use Rattle.blink_steps.proofs.tree.FreeWriteKeepsTree.{free_write_keeps}
-use Rattle.blink_steps.proofs.tree.LeafChanges.{leaf_gain_keeps, leaf_loss_keeps}
+use Rattle.blink_steps.proofs.tree.LeafChanges.{leaf_gain_keeps, leaf_loss_keeps, leaf_exchange_keeps}
 use Rattle.blink_steps.proofs.tree.PostingChanges.{posting_keeps}
 use Rattle.blink_steps.proofs.tree.SplitChanges.{leaf_split_keeps, inner_split_keeps}
 use Rattle.blink_steps.proofs.tree.GrowthChanges.{growth_keeps}
@@ -31,6 +31,7 @@ tree_laws = record {
   free_write_keeps = free_write_keeps;
   leaf_gain_keeps = leaf_gain_keeps;
   leaf_loss_keeps = leaf_loss_keeps;
+  leaf_exchange_keeps = leaf_exchange_keeps;
   posting_keeps = posting_keeps;
   leaf_split_keeps = leaf_split_keeps;
   inner_split_keeps = inner_split_keeps;

@@ -1,6 +1,6 @@
 -- What the lemmas about trees say: how a tree is read, and what each kind of change makes of it. No operation is in them.
 use Rattle.std.proofs.Common.{◌≡◌, ◌≢◌, ℕ, ◌+◌, ◌<◌, ◌≤◌, ◌⊎◌, Some, None, IsSome, is_some, List, [], ◌∷◌, ◌++◌, length, slice_get}
-use Rattle.blink_page.specs.Entries.{value_at, child_for, added, removed, posted}
+use Rattle.blink_page.specs.Entries.{value_at, child_for, added, removed, replaced, posted}
 use Rattle.blink_page.specs.Limits.{IsFan, IsPageNumber}
 use Rattle.blink_page.specs.Page.{PlainPage, IsLawfulPage, IsKeyOf, entries_with, root_over}
 use Rattle.blink_page.specs.Rising.{least_above}
@@ -163,6 +163,18 @@ LeafLossKeeps = (fan : ℕ) (prime : List ℕ) (pages after : Pages) (levels : L
     → StandsIn c (levels 0) → WritesOne pages after c.number page → Replaces fan c.page page → IsKeyOf c.page key → value_at key c.page.entries ≡ Some pointer
     → page.entries ≡ removed key c.page.entries → LeafLoses fan prime after levels c page key
 
+-- or its value was replaced
+pub record LeafExchanges (fan : ℕ) (prime : List ℕ) (after : Pages) (levels : Levels) (c : Cell) (page : PlainPage) (entry : ℕ × ℕ) : Type 0 where
+  pub new : Levels
+  pub page_replaced : IsReplaced fan prime after levels new 0 c page
+  pub same_above : (level : ℕ) → entries_along (new (level + 1)) ≡ entries_along (levels (level + 1))
+  pub entries : entries_along (new 0) ≡ replaced entry (entries_along (levels 0))
+
+abbrev pub LeafExchangeKeeps : Type 0
+LeafExchangeKeeps = (fan : ℕ) (prime : List ℕ) (pages after : Pages) (levels : Levels) (c : Cell) (page : PlainPage) (entry : ℕ × ℕ) (pointer : ℕ) → IsTree fan prime pages levels
+    → StandsIn c (levels 0) → WritesOne pages after c.number page → Replaces fan c.page page → IsKeyOf c.page entry.0 → value_at entry.0 c.page.entries ≡ Some pointer
+    → page.entries ≡ replaced entry c.page.entries → LeafExchanges fan prime after levels c page entry
+
 -- the separators of the levels above level 0: as they were, and one more; the one after it leads to the new child now
 pub record GainsSeparator (levels new : Levels) (level separator : ℕ) : Type 0 where
   pub is_there : IsSome (value_at separator (entries_along (new (level + 1))))
@@ -277,6 +289,7 @@ pub record TreeLaws : Type 0 where
   pub free_write_keeps : FreeWriteKeeps
   pub leaf_gain_keeps : LeafGainKeeps
   pub leaf_loss_keeps : LeafLossKeeps
+  pub leaf_exchange_keeps : LeafExchangeKeeps
   pub posting_keeps : PostingKeeps
   pub leaf_split_keeps : LeafSplitKeeps
   pub inner_split_keeps : InnerSplitKeeps

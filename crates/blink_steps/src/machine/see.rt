@@ -157,7 +157,9 @@ impl Machine {
             }
             Way::Here => match self.op {
                 Op::Find(key) => self.decide(State::Ended, answer_with(Op::Find(key), kept)),
-                Op::Insert(..) | Op::Delete(_) => self.state = State::Want(number),
+                Op::Insert(..) | Op::Delete(_) | Op::Replace(..) => {
+                    self.state = State::Want(number);
+                }
             },
         }
     }
@@ -177,6 +179,7 @@ impl Machine {
         match (self.job, self.op) {
             (Job::Leaf, Op::Insert(key, pointer)) => self.insert(number, page, key, pointer),
             (Job::Leaf, Op::Delete(key)) => self.delete(number, page, key),
+            (Job::Leaf, Op::Replace(key, pointer)) => self.replace(number, page, key, pointer),
             (Job::Leaf, Op::Find(_)) => unreachable!(),
             (Job::Parent(debt), _) => self.post(number, page, debt),
         }
@@ -215,6 +218,22 @@ impl Machine {
         let mut changed = page.copy();
         match changed.take(key) {
             Some(kept) => self.state = State::Change(number, changed, Some(kept)),
+            None => self.decide(State::Leave(number, Next::Finish), Answer::Absent),
+        }
+    }
+
+    // Puts its pointer in the place of the key's in the leaf, if the key is there.
+    fn replace(&mut self, number: u32, page: &Page, key: u64, pointer: u64)
+        requires state { self.old.state ≡ State.Held number }
+        requires job { self.old.job ≡ Job.Leaf }
+        requires op { self.old.op ≡ Op.Replace key pointer }
+        requires level { page.now.level ≡ 0 }
+        requires not_right { key ≤ page.now.high }
+        ensures { SeesUnderLatch self.old number page.now self.new }
+    {
+        let mut changed = page.copy();
+        match changed.swap(key, pointer) {
+            Some(before) => self.state = State::Change(number, changed, Some(before)),
             None => self.decide(State::Leave(number, Next::Finish), Answer::Absent),
         }
     }

@@ -96,6 +96,32 @@ fn an_empty_leaf_takes_a_key(rt: HostRuntime) -> Result<(), Fail> {
 }
 
 #[test]
+fn a_replacement_writes_its_leaf_once(rt: HostRuntime) -> Result<(), Fail> {
+    let to_leaf = [ReadPrime, ReadPage(3), ReadPage(2), Latch(2), ReadPage(2)];
+    let ops = [Op::Replace(4, 41), Op::Replace(4, 41), Op::Replace(6, 60)];
+    let rest = two_leaves(rt.alloc())?;
+    let mut world = world_of(rt.alloc(), rest, &ops, 1, &[0; 3], &[])?;
+    // The second writes too, though the pointers are the same; the third finds nothing to replace.
+    for _ in 0..2 {
+        takes(&rt, &mut world, 0, &to_leaf);
+        takes(&rt, &mut world, 0, &[WritePage(2), Unlatch(2)]);
+    }
+    takes(&rt, &mut world, 0, &to_leaf);
+    takes(&rt, &mut world, 0, &[Unlatch(2)]);
+    assert!(rt; world.ended());
+    let answers = [
+        Some(Answer::Replaced(40)),
+        Some(Answer::Replaced(41)),
+        Some(Answer::Absent),
+    ];
+    assert_eq!(rt; world.answers(), answers.as_slice());
+    let rest = world.into_rest();
+    assert!(rt; rest.store().pages() == 3);
+    has_entries(&rt, rest.store().read(2), &[(4, 41), (5, 50)]);
+    Ok(())
+}
+
+#[test]
 fn a_number_that_is_no_workers_takes_no_turn(rt: HostRuntime) -> Result<(), Fail> {
     let rest = Rest::empty(rt.alloc(), 4)?;
     let mut world = world_of(rt.alloc(), rest, &[Op::Find(7)], 1, &[0], &[])?;

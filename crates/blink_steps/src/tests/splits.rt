@@ -167,6 +167,23 @@ fn an_inner_page_splits(rt: HostRuntime) -> Result<(), Fail> {
 }
 
 #[test]
+fn the_greatest_fan_splits_into_seventeen_and_sixteen(rt: HostRuntime) -> Result<(), Fail> {
+    let mut ops = Vec::new(rt.alloc());
+    for key in 1..34 {
+        ops.push(Op::Insert(key, key))?;
+    }
+    let rest = after(rt.alloc(), Rest::empty(rt.alloc(), 32)?, &ops)?;
+    let store = rest.store();
+    assert!(rt; store.pages() == 3);
+    assert_eq!(rt; store.prime().leftmost.as_slice(), [1, 3].as_slice());
+    let (left, right) = (store.read(1), store.read(2));
+    assert_eq!(rt; (left.items.len(), left.high), (17, 17));
+    assert_eq!(rt; (right.items.len(), right.floor), (16, Some(17)));
+    has_entries(&rt, store.read(3), &[(17, 1), (GREATEST_KEY, 2)]);
+    Ok(())
+}
+
+#[test]
 fn a_fan_of_sixteen_splits_into_nine_and_eight(rt: HostRuntime) -> Result<(), Fail> {
     let mut ops = Vec::new(rt.alloc());
     for key in 1..18 {

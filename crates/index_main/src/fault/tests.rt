@@ -9,13 +9,13 @@ fn scripts_that_are_refused(rt: HostRuntime) -> Result<(), Fail> {
     let shape = ScriptError::Row(1, RecordError::BadShape);
     let operation = ScriptError::Row(10, RecordError::UnknownOperation);
     let number = ScriptError::Row(12, RecordError::BadNumber);
-    let many = ScriptError::TooMany(4097);
+    let many = ScriptError::TooMany(8193);
     let cases = [
         (shape, "script: row 1: bad shape"),
         (operation, "script: row 10: unknown operation"),
         (number, "script: row 12: bad number"),
         (ScriptError::Csv(11), "script: row 11: unreadable record"),
-        (many, "script: row 4097: too many operations"),
+        (many, "script: row 8193: too many operations"),
         (ScriptError::Read, "script: read failed"),
         (ScriptError::OutOfMemory, "script: out of memory"),
     ];

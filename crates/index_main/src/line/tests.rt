@@ -41,7 +41,7 @@ fn runs(rt: HostRuntime) -> Result<(), Fail> {
         ("--workers", "1", locked(1, 16, CutKind::Residue)?),
         ("--workers", "64", locked(64, 16, CutKind::Residue)?),
         ("--fan", "4", locked(4, 4, CutKind::Residue)?),
-        ("--fan", "16", locked(4, 16, CutKind::Residue)?),
+        ("--fan", "32", locked(4, 32, CutKind::Residue)?),
         ("--cut", "residue", locked(4, 16, CutKind::Residue)?),
         ("--cut", "ranges", locked(4, 16, CutKind::Ranges)?),
         ("--driver", "locked", locked(4, 16, CutKind::Residue)?),
@@ -125,7 +125,7 @@ fn values_that_are_refused(rt: HostRuntime) -> Result<(), Fail> {
     ];
     let cases = [
         ("run", "--workers", workers.as_slice()),
-        ("run", "--fan", ["0", "3", "17", "04", "260", ""].as_slice()),
+        ("run", "--fan", ["0", "3", "33", "04", "260", ""].as_slice()),
         (
             "run",
             "--cut",
@@ -137,7 +137,7 @@ fn values_that_are_refused(rt: HostRuntime) -> Result<(), Fail> {
             ["x", "Live", "Locked", "lock", "locked|live", "0", ""].as_slice(),
         ),
         ("replay", "--workers", ["0", "65", "05", ""].as_slice()),
-        ("replay", "--fan", ["3", "17", "04", ""].as_slice()),
+        ("replay", "--fan", ["3", "33", "04", ""].as_slice()),
         ("replay", "--schedule", schedules.as_slice()),
     ];
     for (subcommand, option, values) in cases {
@@ -238,7 +238,7 @@ Usage: blink run [OPTIONS]
 
 Options:
       --workers <N>           How many workers share the work, 1 to 64 [default: 4]
-      --fan <F>               How many entries a page has at most, 4 to 16 [default: 16]
+      --fan <F>               How many entries a page has at most, 4 to 32 [default: 16]
       --cut <residue|ranges>  How keys go to workers: by their remainders (residue) or by equal ranges (ranges) [default: residue]
       --driver <locked|live>  How workers share the tree: each step under one lock (locked) or without one (live) [default: locked]
   -h, --help                  Print help
@@ -256,7 +256,7 @@ Usage: blink replay [OPTIONS]
 
 Options:
       --workers <N>   How many workers share the work, 1 to 64 [default: 4]
-      --fan <F>       How many entries a page has at most, 4 to 16 [default: 16]
+      --fan <F>       How many entries a page has at most, 4 to 32 [default: 16]
       --schedule <S>  Which worker takes each turn: numbers from 0 to 63, separated by single commas [default: none]
   -h, --help          Print help
 ";

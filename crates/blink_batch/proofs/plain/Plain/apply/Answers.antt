@@ -92,3 +92,23 @@ returns-in-Delete-Err-clause-map c =
     let gap = rw c.in-Delete-Err.is-1 at c.place-place.ensures.gap in
     let absent = pointer_of-gap _ _ _ gap in
     rw c.in-Delete-Err.is-0 (rw (rw (c.key.ensures, c.in-Delete-Err.is-0) at absent) refl)
+
+-- the pointer at the key's place is replaced, and the one before answered
+pub returns-in-Replace-Ok-clause-answer : goal.returns-in-Replace-Ok-clause-answer
+returns-in-Replace-Ok-clause-answer c = rw (c.in-Replace-Ok.is-0, c.replace_at.ensures.before) refl
+
+pub returns-in-Replace-Ok-clause-map : goal.returns-in-Replace-Ok-clause-map
+returns-in-Replace-Ok-clause-map c = rw (c.in-Replace-Ok.is-0, c.replace_at.ensures.before) c.replace_at.ensures.map
+
+-- there is nothing to replace
+pub returns-in-Replace-Err-clause-answer : goal.returns-in-Replace-Err-clause-answer
+returns-in-Replace-Err-clause-answer c =
+    let gap = rw c.in-Replace-Err.is-1 at c.place-place.ensures.gap in
+    let absent = pointer_of-gap _ _ _ gap in
+    rw c.in-Replace-Err.is-0 (rw (rw (c.key.ensures, c.in-Replace-Err.is-0) at absent) refl)
+
+pub returns-in-Replace-Err-clause-map : goal.returns-in-Replace-Err-clause-map
+returns-in-Replace-Err-clause-map c =
+    let gap = rw c.in-Replace-Err.is-1 at c.place-place.ensures.gap in
+    let absent = pointer_of-gap _ _ _ gap in
+    rw c.in-Replace-Err.is-0 (rw (rw (c.key.ensures, c.in-Replace-Err.is-0) at absent) refl)

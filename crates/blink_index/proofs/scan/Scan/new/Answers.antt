@@ -2,7 +2,7 @@ use Rattle.std.proofs.Common.{◌≡◌, ◌≤◌, ◌++◌, ℕ, List, drop, a
 use Rattle.blink_page.specs.Page.{PlainPage}
 use Rattle.blink_page.specs.Place.{place_of}
 use Rattle.blink_page.specs.declared.limits.TheConstants.{GREATEST_KEY}
-use Rattle.blink_index.specs.Scan.{IsLinkOf, entries_after, entries_to}
+use Rattle.blink_index.specs.Scan.{IsLinkOf, at_most, entries_after, entries_to}
 use Rattle.blink_index.proofs.WhereLinksLead.{leaf_link, scan_from_leaf}
 use Rattle.blink_index.proofs.scan.Scan.new.Goals as goal
 
@@ -17,7 +17,7 @@ returns c =
     let same : entries_to c.args.hi (c.not_below.result.now ++ entries_after c.args.store.now c.leaf.inside.right)
     ≡ entries_to c.args.hi (drop (place_of c.args.lo leaf.entries) leaf.entries ++ entries_after c.args.store.now leaf.right)
     = λ i. entries_to c.args.hi (own i ++ entries_after c.args.store.now (right i)) in
-    same ∙ scan_from_leaf c.args.store.now c.requires c.args.lo c.args.hi in_range leaf c.leaf_for-leaf.ensures
+    ap (at_most c.args.most) (same ∙ scan_from_leaf c.args.store.now c.requires c.args.lo c.args.hi in_range leaf c.leaf_for-leaf.ensures)
 
 pub invariant_of-result : goal.invariant_of-result
 invariant_of-result c =

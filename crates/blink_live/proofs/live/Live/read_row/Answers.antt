@@ -42,7 +42,7 @@ returns-clause-words c page reads =
           | no within ↦ c.load_words-2.ensures.loaded content again n behind (omega (arith, within, end))
           | yes beyond ↦
               c.load_words-2.ensures.others n (inr (omega (arith, beyond, end)))
-              ∙ (c.load_words.ensures.others n (inr behind) ∙ (get_or-replicate 38 n 0 0 inside ∙ sym (get_or_past content n 0 beyond)))
+              ∙ (c.load_words.ensures.others n (inr behind) ∙ (get_or-replicate ROW_WORDS n 0 0 inside ∙ sym (get_or_past content n 0 beyond)))
         ]
       ];
     }

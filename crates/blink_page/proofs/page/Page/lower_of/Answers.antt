@@ -2,7 +2,7 @@ use Rattle.std.proofs.Common.{◌≡◌, ◌∙◌, ap, refl, subst, sym}
 use Rattle.blink_page.specs.declared.limits.TheConstants.{MAX_FAN}
 use Rattle.blink_page.specs.Page.{PlainPage, IsLawfulPage}
 use Rattle.blink_page.specs.PageView.{plain}
-use Rattle.blink_page.specs.Split.{kept_count, lower_entries, lower_half}
+use Rattle.blink_page.specs.Split.{lower_entries, lower_half}
 use Rattle.blink_page.proofs.LawfulPages.{lawful_for_greater}
 use Rattle.blink_page.proofs.HalvesOfSplit.{lower_half-of, lawful_lower}
 use Rattle.blink_page.proofs.page.Page.lower_of.Goals as goal

@@ -53,5 +53,8 @@ returns-in-Insert c number page needs tells =
     let after = ap (λ (m : PlainMachine). at_state m (Want c.in-Going.number)) c.self.view_is ∙ ap (λ (n : ℕ). at_state c.args.self.now (Want n)) same in
     elim c.in-Insert.is [
       | inl w ↦ update_wants c.in-Going.level here leads (subst IsUpdate (sym (own ∙ w.2)) tt) after
-      | inr w ↦ update_wants c.in-Going.level here leads (subst IsUpdate (sym (own ∙ w.1)) tt) after
+      | inr other ↦ elim other [
+        | inl w ↦ update_wants c.in-Going.level here leads (subst IsUpdate (sym (own ∙ w.1)) tt) after
+        | inr w ↦ update_wants c.in-Going.level here leads (subst IsUpdate (sym (own ∙ w.2)) tt) after
+      ]
     ]

@@ -1,0 +1,20 @@
+use Rattle.std.proofs.Common.{List, take, ap, ◌∙◌, subst, sym}
+use Rattle.blink_batch.specs.declared.Entry.{Entry}
+use Rattle.blink_rest.specs.Rest.{IsStoreAtRest}
+use Rattle.blink_index.proofs.MapOfStore.{the_map_is_kept}
+use Rattle.blink_index.proofs.StretchOfScan.{brings_in_order}
+use Rattle.blink_index.proofs.WhereLinksLead.{scan_of_rest}
+use Rattle.blink_index.proofs.index.Index.page.Goals as goal
+
+pub new-requires : goal.new-requires
+new-requires c = subst IsStoreAtRest (sym c.store.ensures.store) c.store.ensures.at_rest
+
+pub returns-clause-entries : goal.returns-clause-entries
+returns-clause-entries c =
+    rw c.store.ensures.store at c.new.ensures ∙ ap (λ (entries : List Entry). take c.args.n entries) (scan_of_rest c.args.self.now c.args.lo (the_map_is_kept c.args.self.now c.store.ensures.at_rest))
+
+pub returns-clause-runs : goal.returns-clause-runs
+returns-clause-runs c = brings_in_order
+
+pub returns-clause-map : goal.returns-clause-map
+returns-clause-map c = the_map_is_kept c.args.self.now c.store.ensures.at_rest

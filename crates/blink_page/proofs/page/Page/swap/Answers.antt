@@ -1,0 +1,36 @@
+use Rattle.std.proofs.Common.{◌≡◌, None, IsSome, is_some, ap, subst, sym, ◌∙◌, arith}
+use Rattle.blink_page.specs.declared.limits.TheConstants.{MAX_FAN}
+use Rattle.blink_page.specs.Entries.{value_at, replaced}
+use Rattle.blink_page.specs.Page.{PlainPage, IsLawfulPage, with_entries}
+use Rattle.blink_page.specs.PageView.{plain}
+use Rattle.blink_page.proofs.ChangedEntries.{replaced-absent}
+use Rattle.blink_page.proofs.WhereSearchesEnd.{place_found, replaced-place}
+use Rattle.blink_page.proofs.LawfulPages.{lawful_replaced}
+use Rattle.blink_page.proofs.page.Page.swap.Goals as goal
+
+pub returns-in_default-clause-entries : goal.returns-in_default-clause-entries
+returns-in_default-clause-entries c =
+    let absent : value_at c.args.key c.args.self.now.entries ≡ None = cc in
+    ap (with_entries c.args.self.now) (sym (replaced-absent c.args.key c.args.value c.args.self.now.entries absent))
+
+pub set_among-requires : goal.set_among-requires
+set_among-requires c =
+    let own : c.self.inside.items.items ≡ c.args.self.now.entries = ap (λ (p : PlainPage). p.entries) c.self.view_is in
+    let found : IsSome (value_at c.args.key c.args.self.now.entries) = ap is_some (sym c.in-Some.ensures) in
+    let lawful : IsLawfulPage MAX_FAN c.args.self.now = subst (IsLawfulPage MAX_FAN) c.self.view_is c.self.invariant in
+    rw own (omega arith, place_found c.args.key _ c.args.self.now.entries _ lawful.keys_rise found)
+
+-- the value is replaced in the list
+pub returns-clause-entries : goal.returns-clause-entries
+returns-clause-entries c =
+    let own : c.self.inside.items.items ≡ c.args.self.now.entries = ap (λ (p : PlainPage). p.entries) c.self.view_is in
+    let found : IsSome (value_at c.args.key c.args.self.now.entries) = ap is_some (sym c.in-Some.ensures) in
+    let lawful : IsLawfulPage MAX_FAN c.args.self.now = subst (IsLawfulPage MAX_FAN) c.self.view_is c.self.invariant in
+    let changed = replaced-place c.args.key c.args.value _ c.args.self.now.entries _ lawful.keys_rise found in
+    let entries : c.set_among.new.items.items ≡ replaced (c.args.key, c.args.value) c.args.self.now.entries = c.set_among.ensures ∙ rw own (sym changed) in
+    ap (with_entries (plain c.self.inside)) entries ∙ ap (λ (p : PlainPage). with_entries p (replaced (c.args.key, c.args.value) c.args.self.now.entries)) c.self.view_is
+
+pub invariant_of-self : goal.invariant_of-self
+invariant_of-self c =
+    let lawful : IsLawfulPage MAX_FAN c.args.self.now = subst (IsLawfulPage MAX_FAN) c.self.view_is c.self.invariant in
+    subst (IsLawfulPage MAX_FAN) (sym (returns-clause-entries c)) (lawful_replaced MAX_FAN c.args.self.now lawful c.args.key c.args.value c.requires (let fits = c.ranges.value.fits in omega arith))

@@ -1,0 +1,23 @@
+//! Replacing the value of an entry of a leaf.
+ghost use Rattle.std.specs.Prelude.{◌≡◌, IfNone};
+ghost use Rattle.blink_page.specs.Entries.{value_at, replaced};
+ghost use Rattle.blink_page.specs.Page.{with_entries};
+
+use crate::entries::set_among;
+use crate::page::Page;
+
+impl Page {
+    /// Puts another value under this key of a leaf, and returns the one before. Where the key isn't there nothing changes.
+    pub fn swap(&mut self, key: u64, value: u64) -> Option<u64>
+        requires { self.old.level ≡ 0 }
+        ensures value { result ≡ value_at key self.old.entries }
+        ensures entries { self.new ≡ with_entries self.old (replaced (key, value) self.old.entries) }
+        ensures unchanged { IfNone result (self.new ≡ self.old) }
+    {
+        let Some(before) = self.look(key) else {
+            return None;
+        };
+        set_among(&mut self.items, key, value);
+        Some(before)
+    }
+}
