@@ -1,8 +1,12 @@
 #!/bin/sh
 # Times a table of blink_live by 1 and by 4 threads, each with keys of its own, on an index of 40,000 entries, against
-# Rust's BTreeMap. First finds: against the map under a RwLock that each find takes for reading, and without a lock. Then
-# finds with insertions and deletions, 80 + 10 + 10 and 90 + 5 + 5 of a hundred: against the map under a Mutex, and under
-# a RwLock that finds take for reading and the others for writing.
+# Rust's BTreeMap, for each fan that is given (16 where none is):
+#
+#     bench/live.sh [FAN ..]
+#
+# First finds: against the map under a RwLock that each find takes for reading, and without a lock. Then finds with
+# insertions and deletions, 80 + 10 + 10 and 90 + 5 + 5 of a hundred: against the map under a Mutex, and under a RwLock
+# that finds take for reading and the others for writing.
 #
 # No lock and no thread crosses to Rust in a static library, so two programs make the same operations: live.rt.txt with
 # live_mixed.rt.txt, and live.rs with live_mixed.rs. They are run in turn, nine times, and what they answered is compared,
@@ -32,7 +36,7 @@ cd crates/live_bench
 cp "$here/live.rt.txt" src/main.rt
 cp "$here/live_mixed.rt.txt" src/mixed.rt
 cp "$here/live_mixed.antt.txt" proofs/mixed/carried_out/Invariants.antt
-if ! rt run -- finds 1 >run.log 2>&1; then
+if ! rt run -- finds 1 16 >run.log 2>&1; then
     cat run.log >&2
     exit 1
 fi
@@ -117,16 +121,20 @@ tell_mixed() {
         }'
 }
 
-for threads in 1 4; do
-    for _ in $(seq 1 $rounds); do
-        echo "$(out/live_bench finds $threads) $(./live finds lock $threads) $(./live finds plain $threads)"
-    done | tell_finds $threads
-done
-for finds in 80 90; do
+for fan in "${@:-16}"; do
+    echo "fan $fan"
     for threads in 1 4; do
         for _ in $(seq 1 $rounds); do
-            table=$(out/live_bench mixed $finds $threads)
-            echo "$table $(./live mixed mutex $finds $threads) $(./live mixed lock $finds $threads)"
-        done | tell_mixed $finds $threads
+            table=$(out/live_bench finds $threads "$fan")
+            echo "$table $(./live finds lock $threads) $(./live finds plain $threads)"
+        done | tell_finds $threads
+    done
+    for finds in 80 90; do
+        for threads in 1 4; do
+            for _ in $(seq 1 $rounds); do
+                table=$(out/live_bench mixed $finds $threads "$fan")
+                echo "$table $(./live mixed mutex $finds $threads) $(./live mixed lock $finds $threads)"
+            done | tell_mixed $finds $threads
+        done
     done
 done

@@ -1,6 +1,6 @@
 -- Ascending keys: how what a list spans is widened, joined and cut.
 use Rattle.std.proofs.Common.{◌≡◌, ℕ, ◌+◌, ◌<◌, ◌≤◌, List, [], ◌∷◌, ◌++◌, length, refl, arith}
-use Rattle.blink_page.specs.Rising.{IsRising, Covers, next_key}
+use Rattle.blink_page.specs.Rising.{IsRising, Covers, Rises, next_key}
 use Rattle.blink_page.specs.Entries.{last_key_or, last_key}
 
 -- what rises from a key to an end has that end above it
@@ -27,6 +27,10 @@ rising_to_above from (x ∷ xs) to higher above rising = (rising.0, rising_to_ab
 pub rising_to_next : (from : ℕ) (xs : List (ℕ × ℕ)) (to : ℕ) → IsRising from xs to → IsRising from xs (next_key from xs)
 rising_to_next from [] to rising = omega arith
 rising_to_next from (x ∷ xs) to rising = (rising.0, rising_to_next (x.0 + 1) xs to rising.1)
+
+-- so they rise, wherever they begin and end
+pub rising_rises : (from : ℕ) (xs : List (ℕ × ℕ)) (to : ℕ) → IsRising from xs to → Rises xs
+rising_rises from xs to rising = rising_to_next 0 xs to (rising_from_below 0 from xs to (omega arith) rising)
 
 -- which is no greater than any end
 pub next_at_most_to : (from : ℕ) (xs : List (ℕ × ℕ)) (to : ℕ) → IsRising from xs to → next_key from xs ≤ to

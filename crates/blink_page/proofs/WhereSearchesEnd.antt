@@ -1,5 +1,5 @@
 -- What stands at the place where a search ends.
-use Rattle.std.proofs.Common.{◌≡◌, ◌≢◌, ℕ, ◌+◌, ◌<◌, ◌≤◌, List, [], ◌∷◌, length, get_or, set, Some, None, IsSome, refl, arith}
+use Rattle.std.proofs.Common.{◌≡◌, ◌≢◌, ℕ, zero, suc, ◌+◌, ◌<◌, ◌≤◌, List, [], ◌∷◌, length, get_or, set, Some, None, IsSome, refl, arith}
 use Rattle.std.specs.List.{insert, remove}
 use Rattle.std.proofs.lemmas.Bool.Decides.{nat_tests}
 use Rattle.blink_page.specs.Rising.{IsRising, Covers}
@@ -7,10 +7,29 @@ use Rattle.blink_page.specs.Entries.{value_at, child_for, added, removed, replac
 use Rattle.blink_page.specs.Place.{place_of}
 use Rattle.blink_page.proofs.LookUps.{value_at-below}
 
+-- entries whose keys rise are at or above where they begin
+pub rising_get : (d : ℕ × ℕ) (from i : ℕ) (xs : List (ℕ × ℕ)) (to : ℕ) → IsRising from xs to → i < length xs → from ≤ (get_or xs i d).0
+rising_get d from i [] to rising inside = absurd (omega arith)
+rising_get d from zero ((k, v) ∷ rest) to rising inside = rising.0
+rising_get d from (suc i) ((k, v) ∷ rest) to rising inside = omega (arith, rising.0, rising_get d (k + 1) i rest to rising.1 (omega arith))
+
 module _ (key : ℕ) where
   pub place_at_most : (xs : List (ℕ × ℕ)) → place_of key xs ≤ length xs
   place_at_most [] = omega arith
   place_at_most ((k, v) ∷ rest) = grind (arith, nat_tests, place_at_most rest)
+
+  -- an entry at or above the key is not before the place
+  pub place-at_or_above : (d : ℕ × ℕ) (i : ℕ) (xs : List (ℕ × ℕ)) → i < length xs → key ≤ (get_or xs i d).0 → place_of key xs ≤ i
+  place-at_or_above d i [] inside above = absurd (omega arith)
+  place-at_or_above d zero ((k, v) ∷ rest) inside above = grind (arith, nat_tests, above)
+  place-at_or_above d (suc i) ((k, v) ∷ rest) inside above = grind (arith, nat_tests, place-at_or_above d i rest (omega arith) above)
+
+  -- where the keys rise, an entry below the key is
+  pub place-below : (d : ℕ × ℕ) (from i : ℕ) (xs : List (ℕ × ℕ)) (to : ℕ) → IsRising from xs to → i < length xs → (get_or xs i d).0 < key → i < place_of key xs
+  place-below d from i [] to rising inside below = absurd (omega arith)
+  place-below d from zero ((k, v) ∷ rest) to rising inside below = grind (arith, nat_tests, below)
+  place-below d from (suc i) ((k, v) ∷ rest) to rising inside below =
+      grind (arith, nat_tests, below, rising_get d (k + 1) i rest to rising.1 (omega arith), place-below d (k + 1) i rest to rising.1 (omega arith) below)
 
   -- where the entries cover the key, one is at or above it
   pub place_covered : (from : ℕ) (xs : List (ℕ × ℕ)) (to : ℕ) → Covers from xs to → from ≤ key → key < to → place_of key xs < length xs

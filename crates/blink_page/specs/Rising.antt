@@ -20,3 +20,7 @@ Covers from ((key, value) ∷ rest) to = (from ≤ key) × Covers (key + 1) rest
 abbrev pub next_key : ℕ → List (ℕ × ℕ) → ℕ
 next_key from [] = from
 next_key from ((key, value) ∷ rest) = next_key (key + 1) rest
+
+-- the keys rise, from wherever to wherever
+abbrev pub Rises : List (ℕ × ℕ) → Type 0
+Rises entries = IsRising 0 entries (next_key 0 entries)

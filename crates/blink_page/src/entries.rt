@@ -3,6 +3,7 @@ ghost use Rattle.std.specs.Prelude.{◌≡◌, ◌+◌, ◌<◌, ◌≤◌, leng
 ghost use Rattle.arrayvec.specs.ArrayVec.{array_vec_len};
 ghost use Rattle.blink_page.specs.Entries.{added, posted};
 ghost use Rattle.blink_page.specs.Place.{place_of};
+ghost use Rattle.blink_page.specs.Rising.{Rises};
 
 use crate::search::place;
 use arrayvec::ArrayVec;
@@ -19,7 +20,8 @@ pub(crate) fn copied<const ROOM: usize>(entries: &[(u64, u64)]) -> ArrayVec<(u64
 
 /// Adds an entry at its place.
 pub(crate) fn add<const ROOM: usize>(items: &mut ArrayVec<(u64, u64), ROOM>, key: u64, value: u64)
-    requires { array_vec_len items.old < ROOM }
+    requires room { array_vec_len items.old < ROOM }
+    requires rise { Rises items.old.items }
     ensures entries { items.new.items ≡ added (key, value) items.old.items }
     ensures one_more { array_vec_len items.new ≡ array_vec_len items.old + 1 }
 {
@@ -33,6 +35,7 @@ pub(crate) fn set_among<const ROOM: usize>(
     key: u64,
     value: u64,
 )
+    requires rise { Rises items.old.items }
     requires there { place_of key items.old.items < array_vec_len items.old }
     ensures { items.new.items ≡ slice_set items.old.items (place_of key items.old.items) (key, value) }
 {
@@ -47,6 +50,7 @@ pub(crate) fn post_among<const ROOM: usize>(
     new: u64,
 )
     requires room { array_vec_len items.old < ROOM }
+    requires rise { Rises items.old.items }
     requires below_last { place_of separator items.old.items < array_vec_len items.old }
     ensures entries { items.new.items ≡ posted (separator, new) items.old.items }
     ensures one_more { array_vec_len items.new ≡ array_vec_len items.old + 1 }

@@ -1,7 +1,9 @@
 //! Searches within a page. A search of the tree reads pages under no latch, an update its own page under one.
-ghost use Rattle.std.specs.Prelude.{◌≡◌, ◌<◌, ◌≤◌, Some, length};
+ghost use Rattle.std.specs.Prelude.{◌≡◌, ◌<◌, ◌≤◌, ◌+◌, ◌*◌, Some, length};
 ghost use Rattle.blink_page.specs.Entries.{value_at, child_for};
 ghost use Rattle.blink_page.specs.Place.{place_of};
+ghost use Rattle.blink_page.specs.Rising.{Rises};
+ghost use Rattle.blink_page.specs.declared.search.TheConstants.{LINE};
 
 use crate::page::Page;
 
@@ -51,10 +53,31 @@ impl Page {
     }
 }
 
+// How many entries a line of the processor's cache has, at 64 bytes a line.
+const LINE: usize = 4;
+
 /// How many entries stand before the first whose key is at least `key`.
 ///
-/// It reads from the front: at 16 and at 32 entries that takes less time than a search by halves.
+/// It asks the last key of each line of the cache whether the line is passed, and then each of four keys, all without
+/// a branch on a key: at 16 and at 32 entries that takes less time than to stop at the first, or than a search by halves.
 pub(crate) fn place(entries: &[(u64, u64)], key: u64) -> usize
+    requires rise { Rises entries.now }
+    ensures place { result ≡ place_of key entries.now }
+    ensures within { result ≤ length entries.now }
+{
+    if entries.len() < LINE {
+        return place_from_front(entries, key);
+    }
+    let first = (LINE * lines_passed(entries, key)).min(entries.len() - LINE);
+    first
+        + passed(entries, first, key)
+        + passed(entries, first + 1, key)
+        + passed(entries, first + 2, key)
+        + passed(entries, first + 3, key)
+}
+
+// The same for a few entries.
+fn place_from_front(entries: &[(u64, u64)], key: u64) -> usize
     ensures place { result ≡ place_of key entries.now }
     ensures within { result ≤ length entries.now }
 {
@@ -64,4 +87,28 @@ pub(crate) fn place(entries: &[(u64, u64)], key: u64) -> usize
         }
     }
     entries.len()
+}
+
+// How many whole lines stand before the place of the key.
+fn lines_passed(entries: &[(u64, u64)], key: u64) -> usize
+    requires rise { Rises entries.now }
+    ensures passed { LINE * result ≤ place_of key entries.now }
+    ensures reached { place_of key entries.now < LINE * result + LINE }
+{
+    let mut lines = 0;
+    for line in 0..entries.len() / LINE {
+        lines += passed(entries, LINE * line + LINE - 1, key);
+    }
+    lines
+}
+
+// 1 for an entry before the place of the key, and 0 for any other.
+fn passed(entries: &[(u64, u64)], at: usize, key: u64) -> usize
+    requires rise { Rises entries.now }
+    requires inside { at < length entries.now }
+    ensures before { at < place_of key entries.now → result ≡ 1 }
+    ensures not_before { place_of key entries.now ≤ at → result ≡ 0 }
+{
+    let (found, _) = entries[at];
+    usize::from(found < key)
 }

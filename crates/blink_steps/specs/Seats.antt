@@ -1,14 +1,45 @@
 -- What a worker has in its seat between two turns.
-use Rattle.std.specs.Prelude.{◌≡◌, ℕ, Option, Some, None, List, slice_get}
+use Rattle.std.specs.Prelude.{◌≡◌, ℕ, Option, Some, None, List, slice_get, Result, IfOk, OnErr}
+use Rattle.blink_batch.specs.declared.Answer.{Answer}
+use Rattle.blink_steps.specs.Acts.{PlainShared, Acts, CanAct}
+use Rattle.blink_steps.specs.declared.error.StepError.{StepError}
+use Rattle.blink_steps.specs.declared.step.Step.{Step}
 use Rattle.blink_steps.specs.declared.seat.Seat.{Seat}
 use Rattle.blink_steps.specs.declared.seat.Working.{Working}
 use Rattle.blink_steps.specs.Machine.{PlainMachine}
+use Rattle.blink_steps.specs.Moment.{goes_on}
 use Rattle.blink_steps.specs.Run.{PlainRun, busy_seat}
 
 -- the operation of a place, where it goes on
 abbrev pub working_after : Option PlainMachine → ℕ → Option Working
 working_after None place = None
 working_after (Some m) place = Some (record { place = place; machine = m })
+
+-- what is left in a seat: its operation, where that goes on
+abbrev pub left_in_seat : Seat → Seat
+left_in_seat seat = record { working = left_of seat.working; next = seat.next }
+  where
+    left_of : Option Working → Option Working
+    left_of None = None
+    left_of (Some working) = working_after (goes_on working.machine working.machine.state) working.place
+
+-- what the operation in a seat answers
+abbrev pub answer_in_seat : Seat → Option Answer
+answer_in_seat seat = answer_of seat.working
+  where
+    answer_of : Option Working → Option Answer
+    answer_of None = None
+    answer_of (Some working) = working.machine.answer
+
+-- the operation in the seat can take its next step
+abbrev pub IsAbleInSeat : PlainShared → ℕ → Seat → Type 0
+IsAbleInSeat shared worker seat = (working : Working) × (seat.working ≡ Some working) × CanAct shared worker working.machine
+
+-- the operation in the seat took this step, and is there still
+abbrev pub ActsInSeat : PlainShared → ℕ → Seat → Result Step StepError → Seat → PlainShared → Type 0
+ActsInSeat old worker before result after new = (working : Working) → before.working ≡ Some working →
+    (m : PlainMachine) × (after ≡ record { working = Some (record { place = working.place; machine = m }); next = before.next })
+    × IfOk result (λ step. Acts old worker working.machine step m new) × OnErr result ((m ≡ working.machine) × (new ≡ old))
 
 -- the worker has an operation under way
 pub record HasOperation (run : PlainRun) (worker : ℕ) : Type 0 where

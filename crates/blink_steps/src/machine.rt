@@ -70,6 +70,20 @@ pub(crate) enum State {
     Ended,
 }
 
+impl State {
+    // Goes on to another page. A state has room for a whole page, so that on the way down only what differs is written.
+    fn go(&mut self, page: u32, level: u8)
+        ensures { self.new ≡ State.Going page level }
+    {
+        if let State::Going(at, of) = self {
+            *at = page;
+            *of = level;
+        } else {
+            *self = State::Going(page, level);
+        }
+    }
+}
+
 /// The step that comes next of an operation.
 #[derive(Clone, Copy, Debug, PartialEq, Eq)]
 pub enum Need {

@@ -95,7 +95,7 @@ impl Run {
         }
     }
 
-    // A step of the operation that the worker has under way.
+    // A step of the operation that the worker has under way. The operation stays in its seat, since it is large.
     fn go_on(&mut self, worker: u8) -> Result<Step, StepError>
         requires ready { CanTakeTurn self.old worker }
         requires busy { HasOperation self.old worker }
@@ -104,14 +104,14 @@ impl Run {
         ensures unchanged { OnErr result (self.new ≡ self.old) }
     {
         let seat = &mut self.seats[usize::from(worker)];
-        let Some(mut working) = seat.working.take() else {
+        let Some(working) = &seat.working else {
             unreachable!()
         };
         let place = working.place;
-        let before = working.machine.answer();
-        let acted = self.shared.act(worker, &mut working.machine);
-        let after = working.machine.answer();
-        seat.working = working.unless_ended();
+        let before = seat.answer();
+        let acted = seat.act(&mut self.shared, worker);
+        let after = seat.answer();
+        seat.forget_ended();
         let step = acted?;
         if let Step::Moved(kind) = step {
             self.ledger.note(place, kind, before, after);

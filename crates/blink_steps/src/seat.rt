@@ -1,9 +1,12 @@
 //! What a worker has under way, and what its lane has next.
-ghost use Rattle.std.specs.Prelude.{◌≡◌};
-ghost use Rattle.blink_steps.specs.Moment.{goes_on};
-ghost use Rattle.blink_steps.specs.Seats.{working_after};
+ghost use Rattle.std.specs.Prelude.{◌≡◌, IsOkUnless};
+ghost use Rattle.blink_steps.specs.Seats.{left_in_seat, answer_in_seat, IsAbleInSeat, ActsInSeat};
 
+use crate::error::StepError;
 use crate::machine::Machine;
+use crate::shared::Shared;
+use crate::step::Step;
+use blink_batch::Answer;
 
 /// An operation under way, and its place in the batch.
 #[derive(Debug, Drop)]
@@ -12,22 +15,46 @@ pub(crate) struct Working {
     pub machine: Machine,
 }
 
-impl Working {
-    /// What is left to do of it after a step: nothing, where it has ended.
-    pub(crate) fn unless_ended(self) -> Option<Working>
-        ensures { result ≡ working_after (goes_on self.machine self.machine.state) self.place }
-    {
-        if self.machine.ended() {
-            None
-        } else {
-            Some(self)
-        }
-    }
-}
-
 /// A worker: its operation under way, where it isn't idle, and the place of its next one, where its lane has one more.
 #[derive(Debug, Drop)]
 pub(crate) struct Seat {
     pub working: Option<Working>,
     pub next: Option<u32>,
+}
+
+impl Seat {
+    /// A step of the operation, which stays in the seat meanwhile, since it is large.
+    pub(crate) fn act(&mut self, shared: &mut Shared, worker: u8) -> Result<Step, StepError>
+        requires { IsAbleInSeat shared.old worker self.old }
+        ensures acted { ActsInSeat shared.old worker self.old result self.new shared.new }
+        ensures refused { IsOkUnless result StepError.OutOfMemory }
+    {
+        match &mut self.working {
+            Some(working) => shared.act(worker, &mut working.machine),
+            None => unreachable!(),
+        }
+    }
+
+    /// What the operation answers, from its deciding step on.
+    pub(crate) fn answer(&self) -> Option<Answer>
+        ensures { result ≡ answer_in_seat self.now }
+    {
+        match &self.working {
+            Some(working) => working.machine.answer(),
+            None => None,
+        }
+    }
+
+    /// Lets the operation go where it has ended.
+    pub(crate) fn forget_ended(&mut self)
+        ensures { self.new ≡ left_in_seat self.old }
+    {
+        let ended = match &self.working {
+            Some(working) => working.machine.ended(),
+            None => false,
+        };
+        if ended {
+            self.working = None;
+        }
+    }
 }

@@ -3,8 +3,8 @@ ghost use Rattle.std.specs.Prelude.{◌≡◌, ◌↔◌, ℕ, ◌+◌, ◌<◌,
 ghost use Rattle.blink_page.specs.declared.limits.TheConstants.{MAX_PAGE};
 ghost use Rattle.blink_page.specs.Limits.{IsFan};
 ghost use Rattle.blink_store.specs.Store.{WritesPage};
-ghost use Rattle.blink_steps.specs.Acts.{Acts, CanAct};
-ghost use Rattle.blink_steps.specs.Machine.{NeedsNew};
+ghost use Rattle.blink_steps.specs.Acts.{Acts, CanAct, MayReplace};
+ghost use Rattle.blink_steps.specs.Machine.{NeedsNew, NeedsWrite};
 ghost use Rattle.blink_steps.specs.Table.{page_out};
 
 use crate::error::StepError;
@@ -72,7 +72,7 @@ impl Shared {
                 Step::Moved(Kind::WritePage(number))
             }
             Need::WritePage(number) => {
-                self.store.write(number, machine.page_out(0));
+                self.write(number, machine);
                 machine.done(0);
                 Step::Moved(Kind::WritePage(number))
             }
@@ -100,6 +100,17 @@ impl Shared {
             Need::Latch(number) => self.latches.holder(number).is_some(),
             _ => false,
         }
+    }
+
+    // Writes the page that the operation wants written over page `number`.
+    fn write(&mut self, number: u32, machine: &Machine)
+        requires needs { NeedsWrite machine.now number }
+        requires allowed { MayReplace self.old.store number (page_out machine.now 0) }
+        ensures written { WritesPage self.old.store self.new.store number (page_out machine.now 0) }
+        ensures count { length self.new.store.pages ≡ length self.old.store.pages }
+        ensures latches { self.new.latches ≡ self.old.latches }
+    {
+        self.store.write(number, machine.page_out(0));
     }
 
     // Writes the new page that the operation wants written. Its number is the next one.

@@ -1,14 +1,13 @@
 //! Where an operation is after a step of which it learns no more than that it is done.
 ghost use Rattle.std.specs.Prelude.{◌≡◌};
 ghost use Rattle.blink_page.specs.Limits.{IsPageNumber};
-ghost use Rattle.blink_steps.specs.Machine.{NeedsNew};
+ghost use Rattle.blink_steps.specs.Machine.{NeedsNew, at_state};
 ghost use Rattle.blink_steps.specs.Table.{done, decided_with, leaves_for, sets_out, halved};
 ghost use Rattle.blink_steps.specs.Kept.{KeptAt, KeptForNext, IsPostable, IsToSplit};
 ghost use Rattle.blink_steps.specs.Needs.{NeedsNoRead};
 
 use super::{Debt, Job, Machine, Next, State, answer_with};
 use blink_page::Page;
-use std::mem;
 
 impl Machine {
     /// It has got the latch, written the page or the prime block, or let the latch go. `new` is the number of the page, from 1 to
@@ -18,14 +17,25 @@ impl Machine {
         requires new_number { NeedsNew self.old → IsPageNumber new }
         ensures { self.new ≡ done self.old new }
     {
-        match mem::replace(&mut self.state, State::Ended) {
-            State::Want(page) => self.state = State::Held(page),
-            State::Change(page, _, kept) => self.written(State::Leave(page, Next::Finish), kept),
-            State::SplitNew(page, before) => self.halve(page, &before, new),
-            State::SplitOld(page, _, debt) => self.written(State::AskPrime(page, debt), None),
-            State::Root(page, debt, prime) => self.state = State::NewPrime(page, debt, new, prime),
-            State::NewPrime(page, ..) => self.state = State::Leave(page, Next::Finish),
-            State::Leave(_, next) => self.leave(next),
+        match &self.state {
+            State::Want(page) => self.state = State::Held(*page),
+            State::Change(page, _, kept) => {
+                let (page, kept) = (*page, *kept);
+                self.written(State::Leave(page, Next::Finish), kept);
+            }
+            State::SplitNew(page, before) => self.state = self.half_split(*page, before, new),
+            State::SplitOld(page, _, debt) => {
+                let state = State::AskPrime(*page, *debt);
+                self.written(state, None);
+            }
+            State::Root(page, debt, prime) => {
+                self.state = State::NewPrime(*page, *debt, new, prime.copy());
+            }
+            State::NewPrime(page, ..) => self.state = State::Leave(*page, Next::Finish),
+            State::Leave(_, next) => {
+                let next = *next;
+                self.leave(next);
+            }
             _ => unreachable!(),
         }
     }
@@ -43,10 +53,10 @@ impl Machine {
     }
 
     // The upper half is written as the page `new`: the lower one is next, and the split is owed to the level above.
-    fn halve(&mut self, page: u32, before: &Page, new: u32)
-        requires to_split { IsToSplit self.old before.now }
+    fn half_split(&self, page: u32, before: &Page, new: u32) -> State
+        requires to_split { IsToSplit self.now before.now }
         requires new_number { IsPageNumber new }
-        ensures { self.new ≡ halved self.old page before.now new }
+        ensures { at_state self.now result ≡ halved self.now page before.now new }
     {
         let lower = before.lower_with(self.fan, self.target(), self.value(), new);
         let debt = Debt {
@@ -54,7 +64,7 @@ impl Machine {
             separator: lower.high,
             page: new,
         };
-        self.state = State::SplitOld(page, lower, debt);
+        State::SplitOld(page, lower, debt)
     }
 
     // Goes where it goes from a page whose latch it has let go.

@@ -150,10 +150,10 @@ impl Machine {
             unreachable!()
         };
         match way {
-            Way::Right(next) => self.state = State::Going(next, level),
+            Way::Right(next) => self.state.go(next, level),
             Way::Down(child) => {
                 self.remembered.push(number);
-                self.state = State::Going(child, level - 1);
+                self.state.go(child, level - 1);
             }
             Way::Here => match self.op {
                 Op::Find(key) => self.decide(State::Ended, answer_with(Op::Find(key), kept)),

@@ -4,7 +4,12 @@ use Rattle.blink_page.specs.Page.{PlainPage, IsLawfulPage}
 use Rattle.blink_page.specs.Place.{place_of}
 use Rattle.blink_page.proofs.WhereSearchesEnd.{child_for-place}
 use Rattle.blink_page.proofs.LawfulPages.{place_inside, child_inside}
+use Rattle.blink_page.proofs.RisingKeys.{rising_rises}
 use Rattle.blink_page.proofs.page.Page.child.Goals as goal
+
+-- a page's keys rise
+pub place-requires : goal.place-requires
+place-requires c = record { rise = rw c.deref-2.ensures.0 (rising_rises _ c.self.inside.items.items _ c.self.invariant.keys_rise) }
 
 pub bounds-deref-place : goal.bounds-deref-place
 bounds-deref-place c =

@@ -1,7 +1,12 @@
 use Rattle.std.proofs.Common.{◌≡◌, ◌<◌, length, get_or, ap, sym, arith}
 use Rattle.blink_page.specs.Place.{place_of}
 use Rattle.blink_page.proofs.WhereSearchesEnd.{value_at-place, value_at-place_other, value_at-place_end}
+use Rattle.blink_page.proofs.RisingKeys.{rising_rises}
 use Rattle.blink_page.proofs.page.Page.look.Goals as goal
+
+-- a page's keys rise
+pub place-at-requires : goal.place-at-requires
+place-at-requires c = record { rise = rw c.deref.ensures.0 (rising_rises _ c.self.inside.items.items _ c.self.invariant.keys_rise) }
 
 pub returns-then-at-len : goal.returns-then-at-len
 returns-then-at-len c =

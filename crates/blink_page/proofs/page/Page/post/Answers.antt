@@ -6,6 +6,7 @@ use Rattle.blink_page.specs.PageView.{plain}
 use Rattle.blink_page.proofs.ChangedEntries.{length-posted}
 use Rattle.blink_page.proofs.LookUps.{none_unless_some}
 use Rattle.blink_page.proofs.LawfulPages.{lawful_posted, lawful_with_room, place_inside}
+use Rattle.blink_page.proofs.RisingKeys.{rising_rises}
 use Rattle.blink_page.proofs.page.Page.post.Goals as goal
 
 pub post_among-requires : goal.post_among-requires
@@ -14,7 +15,7 @@ post_among-requires c =
     let lawful : IsLawfulPage MAX_FAN c.args.self.now = subst (IsLawfulPage MAX_FAN) c.self.view_is c.self.invariant in
     let few : length c.args.self.now.entries < c.args.fan = omega (arith, ap length own, c.len.ensures.value, c.requires.at_most_fan) in
     let inside = place_inside MAX_FAN c.args.self.now lawful c.args.separator c.requires.inner c.requires.separator.1 in
-    rw own (omega arith, (omega (arith, c.requires.fan.1), inside))
+    rw own (omega arith, (omega (arith, c.requires.fan.1), (rising_rises _ c.args.self.now.entries _ lawful.keys_rise, inside)))
 
 pub invariant_of-self : goal.invariant_of-self
 invariant_of-self c =

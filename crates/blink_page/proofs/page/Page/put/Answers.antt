@@ -5,7 +5,14 @@ use Rattle.blink_page.specs.Page.{PlainPage, IsLawfulPage, with_entries}
 use Rattle.blink_page.specs.PageView.{plain}
 use Rattle.blink_page.proofs.ChangedEntries.{length-added}
 use Rattle.blink_page.proofs.LawfulPages.{lawful_added, lawful_with_room}
+use Rattle.blink_page.proofs.RisingKeys.{rising_rises}
 use Rattle.blink_page.proofs.page.Page.put.Goals as goal
+
+pub add-requires : goal.add-requires
+add-requires c =
+    let own : c.self.inside.items.items ≡ c.args.self.now.entries = ap (λ (p : PlainPage). p.entries) c.self.view_is in
+    let few : length c.args.self.now.entries < c.args.fan = omega (arith, ap length own, c.len.ensures.value, c.requires.at_most_fan) in
+    (omega arith, (omega (arith, few, ap length own, c.requires.fan.1), rising_rises _ c.self.inside.items.items _ c.self.invariant.keys_rise))
 
 pub invariant_of-self : goal.invariant_of-self
 invariant_of-self c =

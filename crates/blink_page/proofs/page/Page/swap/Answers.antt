@@ -6,6 +6,7 @@ use Rattle.blink_page.specs.PageView.{plain}
 use Rattle.blink_page.proofs.ChangedEntries.{replaced-absent}
 use Rattle.blink_page.proofs.WhereSearchesEnd.{place_found, replaced-place}
 use Rattle.blink_page.proofs.LawfulPages.{lawful_replaced}
+use Rattle.blink_page.proofs.RisingKeys.{rising_rises}
 use Rattle.blink_page.proofs.page.Page.swap.Goals as goal
 
 pub returns-in_default-clause-entries : goal.returns-in_default-clause-entries
@@ -18,7 +19,7 @@ set_among-requires c =
     let own : c.self.inside.items.items ≡ c.args.self.now.entries = ap (λ (p : PlainPage). p.entries) c.self.view_is in
     let found : IsSome (value_at c.args.key c.args.self.now.entries) = ap is_some (sym c.in-Some.ensures) in
     let lawful : IsLawfulPage MAX_FAN c.args.self.now = subst (IsLawfulPage MAX_FAN) c.self.view_is c.self.invariant in
-    rw own (omega arith, place_found c.args.key _ c.args.self.now.entries _ lawful.keys_rise found)
+    rw own (omega arith, (rising_rises _ c.args.self.now.entries _ lawful.keys_rise, place_found c.args.key _ c.args.self.now.entries _ lawful.keys_rise found))
 
 -- the value is replaced in the list
 pub returns-clause-entries : goal.returns-clause-entries

@@ -7,7 +7,12 @@ use Rattle.blink_page.specs.Place.{place_of}
 use Rattle.blink_page.proofs.ChangedEntries.{removed-absent}
 use Rattle.blink_page.proofs.WhereSearchesEnd.{place_found, removed-place}
 use Rattle.blink_page.proofs.LawfulPages.{lawful_removed}
+use Rattle.blink_page.proofs.RisingKeys.{rising_rises}
 use Rattle.blink_page.proofs.page.Page.take.Goals as goal
+
+-- a page's keys rise
+pub place-requires : goal.place-requires
+place-requires c = record { rise = rw c.deref.ensures.0 (rising_rises _ c.self.inside.items.items _ c.self.invariant.keys_rise) }
 
 pub returns-in_default-clause-entries : goal.returns-in_default-clause-entries
 returns-in_default-clause-entries c =

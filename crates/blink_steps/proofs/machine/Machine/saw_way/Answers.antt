@@ -20,7 +20,8 @@ returns-in-Right c number page needs tells =
     let at : c.args.self.now.state ≡ Going c.in-Going.number c.in-Going.level = sym (ap (λ (m : PlainMachine). m.state) c.self.view_is) ∙ c.in-Going.is in
     goes_right c.in-Going.level c.in-Right.next (is_going c.args.self.now c.in-Going.number number c.in-Going.level at needs)
     (subst (Leads page (target c.args.self.now)) c.in-Right.is tells.leads)
-    (ap (λ (m : PlainMachine). at_state m (Going c.in-Right.next c.in-Going.level)) c.self.view_is)
+    (ap (λ (state : State). at_state (plain c.self.inside) state) c.go.ensures
+    ∙ ap (λ (m : PlainMachine). at_state m (Going c.in-Right.next c.in-Going.level)) c.self.view_is)
 
 pub returns-in-Down : goal.returns-in-Down
 returns-in-Down c number page needs tells =
@@ -31,9 +32,10 @@ returns-in-Down c number page needs tells =
     let above : c.in-Going.level ≡ c.in-Going.level - 1 + 1 = omega (arith, leads.1, level) in
     let same : c.in-Going.number ≡ number = let p : Going c.in-Going.number c.in-Going.level ≡ Going number c.in-Going.level = sym at ∙ here in cc in
     goes_down (c.in-Going.level - 1) c.in-Down.child (here ∙ ap (λ (l : ℕ). Going number l) above) leads
-    (ap (λ (pages : List ℕ). record (plain c.self.inside) { remembered = pages; state = Going c.in-Down.child (c.in-Going.level - 1) }) c.push.ensures
+    (ap (λ (state : State). record (plain c.self.inside) { remembered = c.push.new.self; state = state }) c.go-in-Down.ensures
+    ∙ (ap (λ (pages : List ℕ). record (plain c.self.inside) { remembered = pages; state = Going c.in-Down.child (c.in-Going.level - 1) }) c.push.ensures
     ∙ (ap (λ (m : PlainMachine). record m { remembered = c.in-Going.number ∷ m.remembered; state = Going c.in-Down.child (c.in-Going.level - 1) }) c.self.view_is
-    ∙ ap (λ (n : ℕ). record c.args.self.now { remembered = n ∷ c.args.self.now.remembered; state = Going c.in-Down.child (c.in-Going.level - 1) }) same))
+    ∙ ap (λ (n : ℕ). record c.args.self.now { remembered = n ∷ c.args.self.now.remembered; state = Going c.in-Down.child (c.in-Going.level - 1) }) same)))
 
 pub returns-in-Find : goal.returns-in-Find
 returns-in-Find c number page needs tells =
