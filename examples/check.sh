@@ -1,6 +1,6 @@
 #!/bin/sh
-# Runs each example, and with `run` by each driver, and compares what it prints with the output beside it. The commands are
-# those of README.md. At the end the program's output is closed early.
+# Runs each example, and with `run` by each driver, and compares what it prints with the output beside it; and makes each page, and
+# compares. The commands are those of README.md. At the end the program's output is closed early.
 set -eu
 cd "$(dirname "$0")"
 
@@ -35,6 +35,21 @@ check_run splits --workers 3 --fan 4
 check half_a_split replay --workers 2 --fan 4 --schedule 1,0,0,0,0,0,0,1,1
 check waiting replay --workers 3 --fan 4 --schedule 1,1,1,0,0,0,2
 check replaced replay --workers 2 --fan 4 --schedule 1,1,1,0,0,0,1,1
+
+# Makes the page of this name, of its script and its schedule, and compares.
+check_page() {
+    if ../blink-show --workers "$2" --fan 4 --schedule "$(cat "$1.schedule")" <"$1.csv" | cmp -s - "$1.html"; then
+        echo "$1, the page: as expected"
+    else
+        echo "$1, the page: another output" >&2
+        exit 1
+    fi
+}
+
+check_page half_a_split 2
+check_page overtaking 3
+check_page root_grows 2
+check_page inner_split 2
 
 # 40,000 finds, whose lines are more than the program's buffer and a pipe hold: whoever reads them takes the first and goes. The
 # program is then ended by the pipe, or tells that its output failed; it never goes on for ever.

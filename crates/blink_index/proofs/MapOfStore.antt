@@ -1,6 +1,5 @@
 -- The plain map of a store at rest: what its tree keeps, and nothing else.
 use Rattle.std.proofs.Common.{◌≡◌, ℕ, Some, List, [], ◌∷◌, cond, eqb, refl, sym, ap, ◌∙◌, subst}
-use Rattle.blink_batch.specs.declared.Entry.{Entry}
 use Rattle.blink_batch.specs.PlainMap.{pointer_of}
 use Rattle.blink_page.specs.Entries.{value_at}
 use Rattle.blink_store.specs.Store.{PlainStore, page_of}

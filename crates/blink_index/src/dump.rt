@@ -11,11 +11,11 @@ use blink_store::Store;
 use std::alloc::{AllocError, Global};
 use std::fmt;
 
-// A number, or a dash where there is none.
+/// A number, or a dash where there is none, as a line of a dump has them.
 #[derive(Clone, Copy)]
-struct Words(Option<u64>);
+pub struct OrDash(pub Option<u64>);
 
-impl fmt::Display for Words {
+impl fmt::Display for OrDash {
     ghost output = { λ words. Some (words_of words.0) };
 
     fn fmt<W: fmt::Write>(&self, f: &mut fmt::Formatter<W>) -> fmt::Result {
@@ -26,8 +26,9 @@ impl fmt::Display for Words {
     }
 }
 
-// Adds entries, with a space before each.
-fn push_entries(text: &mut String, entries: &[(u64, u64)]) -> Result<(), AllocError>
+/// Adds entries to a text, with a space before each and a colon between its key and its pointer, as a line of a dump has them. An
+/// error is a refusal of memory.
+pub fn push_entries(text: &mut String, entries: &[(u64, u64)]) -> Result<(), AllocError>
     ensures { OnOk result
         (string_bytes text.new ≡ string_bytes text.old ++ flat_map entry_text entries.now) }
 {
@@ -44,9 +45,9 @@ fn push_page(text: &mut String, number: u32, page: &Page) -> Result<(), AllocErr
         ≡ string_bytes text.old ++ page_text (record { number = number; page = page.now })) }
 {
     let level = page.level;
-    let floor = Words(page.floor);
+    let floor = OrDash(page.floor);
     let high = page.high;
-    let right = Words(page.right.map(u64::from));
+    let right = OrDash(page.right.map(u64::from));
     write!(text, "{level} {number} {floor} {high} {right}")
 }
 

@@ -14,6 +14,7 @@ mod scan;
 #[cfg(test)]
 mod tests;
 
+pub use dump::{OrDash, push_entries};
 pub use error::IndexError;
 pub use index::Index;
 pub use laws::{no_other_map_is_kept, the_map_is_kept, the_text_is_of_the_levels};

@@ -1,7 +1,7 @@
 //! Examples, worked by hand.
 mod schedules;
 
-use crate::{Index, IndexError};
+use crate::{Index, IndexError, OrDash, push_entries};
 use blink_batch::{Batch, Entry, Lanes, Op};
 use blink_steps::World;
 use blink_store::Store;
@@ -293,5 +293,13 @@ fn refusals_are_told(rt: HostRuntime) -> Result<(), Fail> {
         let shown = format!(in rt.alloc(); "{error}")?;
         assert_eq!(rt; shown.as_str(), text);
     }
+    Ok(())
+}
+
+#[test]
+fn words_of_a_line(rt: HostRuntime) -> Result<(), Fail> {
+    let mut text = format!(in rt.alloc(); "{} {}", OrDash(Some(5)), OrDash(None))?;
+    push_entries(&mut text, &[(3, 1), (9, 2)])?;
+    assert_eq!(rt; text.as_str(), "5 - 3:1 9:2");
     Ok(())
 }

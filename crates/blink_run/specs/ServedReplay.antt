@@ -25,6 +25,10 @@ RunsParts workers schedule before (Batch ops ∷ rest) after trace = (between : 
     × RunsParts workers schedule between rest after others × (trace ≡ first ++ others)
 RunsParts workers schedule before (part ∷ rest) after trace = RunsParts workers schedule before rest after trace
 
+-- parts run without a schedule, from one tree to another
+abbrev pub HaveRunParts : ℕ → PlainStore → List Part → PlainStore → Type 0
+HaveRunParts workers before parts after = (trace : List ℕ) × RunsParts workers [] before parts after trace
+
 -- the text of a replay of some records, where they are a script: trace, text and pages
 pub record IsReplayText (workers fan : ℕ) (schedule : List ℕ) (records : List (List (List ℕ))) (text : List ℕ) : Type 0 where
   pub parts : List Part

@@ -23,7 +23,9 @@ mod trace;
 
 pub use error::{RunError, ServeError};
 pub use gate::{Gate, Open};
-pub use replay::serve_replay;
+pub use outlet::{Outlet, flush_out, write_out};
+pub use replay::{first_of_no_worker, lanes_by_residue, run_parts, serve_replay, write_replay};
 pub use run::{Driver, run_batch};
-pub use script::serve;
+pub use script::{new_index, serve};
 pub use settings::{CutKind, Settings, SettingsError};
+pub use trace::push_turn;

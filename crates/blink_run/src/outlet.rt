@@ -10,7 +10,7 @@ mod tests;
 
 /// A writer, without the kinds of its errors. Its contracts tell one call from another, so that the functions that use it can say
 /// which calls it has seen.
-pub(crate) trait Outlet {
+pub trait Outlet {
     // A call that is offered these bytes takes so many of them, or fails, and leaves this.
     ghost offered: { Self → List ℕ → Option ℕ → Self → Type 0 };
 
@@ -44,7 +44,7 @@ impl<W: Write> Outlet for W {
 }
 
 /// Writes the whole text. The first call that fails, or takes nothing, is the last.
-pub(crate) fn write_out<O: Outlet>(outlet: &mut O, text: &str) -> Result<(), ServeError>
+pub fn write_out<O: Outlet>(outlet: &mut O, text: &str) -> Result<(), ServeError>
     ensures written { OnOk result (Pours O.offered outlet.old text.now outlet.new) }
     ensures broken_off { IfErr result (λ error. (error ≡ ServeError.Output)
         × BreaksOff O.offered O.settled outlet.old text.now outlet.new) }
@@ -60,7 +60,7 @@ pub(crate) fn write_out<O: Outlet>(outlet: &mut O, text: &str) -> Result<(), Ser
 }
 
 /// Flushes what was written.
-pub(crate) fn flush_out<O: Outlet>(outlet: &mut O) -> Result<(), ServeError>
+pub fn flush_out<O: Outlet>(outlet: &mut O) -> Result<(), ServeError>
     ensures flushed { OnOk result (O.settled outlet.old true outlet.new) }
     ensures unflushed { IfErr result (λ error. (error ≡ ServeError.Output)
         × O.settled outlet.old false outlet.new) }

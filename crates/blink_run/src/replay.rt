@@ -8,7 +8,7 @@ ghost use Rattle.blink_steps.specs.World.{IsFirstNoWorker};
 ghost use Rattle.blink_run.specs.Outlet.{BreaksOff, GoesOut, Pours};
 ghost use Rattle.blink_run.specs.Replay.{IsReplayFault, TellsBatch, by_residue};
 ghost use Rattle.blink_run.specs.Served.{is_batch, part_after, part_text, script_text};
-ghost use Rattle.blink_run.specs.ServedReplay.{IsPartsFault, LeavesReplay, Replays, TellsPart, TellsParts, TellsReplayFault, TellsWorkersFault, taken_where};
+ghost use Rattle.blink_run.specs.ServedReplay.{HaveRunParts, IsPartsFault, LeavesReplay, Replays, TellsPart, TellsParts, TellsReplayFault, TellsWorkersFault, taken_where};
 
 use crate::book::all_of;
 use crate::error::ServeError;
@@ -95,8 +95,8 @@ fn replay_script<R: Read, W: Write>(
     write_replay(writer, &told.trace, &told.text, &pages)
 }
 
-// Writes what a replay tells, and flushes.
-fn write_replay<O: Outlet>(
+/// Writes the three texts of a replay one after another, and flushes. The first call that fails, or takes nothing, is the last.
+pub fn write_replay<O: Outlet>(
     outlet: &mut O,
     trace: &str,
     text: &str,
@@ -113,8 +113,8 @@ fn write_replay<O: Outlet>(
     flush_out(outlet)
 }
 
-// The first number of a schedule that isn't below the workers.
-fn first_of_no_worker(schedule: &[u8], workers: u8) -> Option<u8>
+/// The first number of a schedule that isn't below the workers.
+pub fn first_of_no_worker(schedule: &[u8], workers: u8) -> Option<u8>
     ensures { MatchOption result (All (λ worker. worker < workers) schedule.now)
         (IsFirstNoWorker workers schedule.now) }
 {
@@ -124,6 +124,25 @@ fn first_of_no_worker(schedule: &[u8], workers: u8) -> Option<u8>
         }
     }
     None
+}
+
+/// Runs parts one after another on an index, as a replay runs those before a script's last batch: each batch is cut by the
+/// remainders of the keys and finished at once, without threads. A refusal gives up the index.
+pub fn run_parts(
+    alloc: Global,
+    index: Index,
+    parts: Vec<Part>,
+    workers: u8,
+) -> Result<Index, ServeError>
+    requires { MayWork workers }
+    ensures run { IfOk result (λ after. HaveRunParts workers index parts.items after) }
+    ensures refused { IfErr result IsPartsFault }
+{
+    let mut told = Told {
+        trace: String::new(alloc),
+        text: String::new(alloc),
+    };
+    replay_parts(alloc, index, parts, workers, &[], &mut told)
 }
 
 // Runs parts one after another. The last batch among them takes the schedule.
@@ -231,8 +250,8 @@ fn replay_batch(
     Ok(Index::from_rest(world.into_rest()))
 }
 
-// The lane of each operation, by the remainder of its key.
-fn lanes_by_residue(alloc: Global, batch: &Batch, workers: u8) -> Result<Lanes, AllocError>
+/// The lane of each operation, by the remainder of its key: the lanes of a replay. An error is a refusal of memory alone.
+pub fn lanes_by_residue(alloc: Global, batch: &Batch, workers: u8) -> Result<Lanes, AllocError>
     requires { MayWork workers }
     ensures lanes { IfOk result (λ lanes. lanes ≡ by_residue workers batch.now) }
     ensures lawful { IfOk result (λ lanes. IsLawfulCut batch.now lanes.workers lanes.lanes) }

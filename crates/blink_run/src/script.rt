@@ -51,7 +51,7 @@ pub fn serve<T: Threads + Wait + Sync, R: Read, W: Write, G: Gate + Sync>(
 }
 
 /// The index that a script is run on: a new one.
-pub(crate) fn new_index(alloc: Global, settings: &Settings) -> Result<Index, AllocError>
+pub fn new_index(alloc: Global, settings: &Settings) -> Result<Index, AllocError>
     ensures index { IfOk result (λ index. index ≡ new_store settings.now.fan) }
     ensures empty { IfOk result (λ index. map_of index ≡ []) }
 {

@@ -49,8 +49,8 @@ pub(crate) fn trace_steps(
     Ok(())
 }
 
-// Adds the line of a turn.
-fn push_turn(trace: &mut String, worker: u8, step: Step) -> Result<(), AllocError>
+/// Adds the line of a turn to a trace: its worker, and the words of what became of it.
+pub fn push_turn(trace: &mut String, worker: u8, step: Step) -> Result<(), AllocError>
     ensures { OnOk result (string_bytes trace.new ≡ string_bytes trace.old ++ turn_line worker step) }
 {
     writeln!(trace, "{worker} {}", Words(step))

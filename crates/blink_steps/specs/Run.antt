@@ -37,6 +37,11 @@ abbrev pub machine_in : Option Working → Option PlainMachine
 machine_in None = None
 machine_in (Some working) = Some working.machine
 
+-- what a worker's seat has under way
+abbrev pub working_of : Option Seat → Option Working
+working_of None = None
+working_of (Some seat) = seat.working
+
 abbrev pub machine_of_seat : Option Seat → Option PlainMachine
 machine_of_seat None = None
 machine_of_seat (Some seat) = machine_in seat.working

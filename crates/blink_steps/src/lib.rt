@@ -18,6 +18,7 @@ mod world;
 
 pub use error::StepError;
 pub use laws::{reads_have_one_result, step_keeps, turns_are_steps};
-pub use machine::{Machine, Need};
+pub use machine::{Debt, Job, Machine, Need, Next, State};
+pub use seat::Working;
 pub use step::{Kind, Step};
 pub use world::{NUMBERS_OF_INSERTION, WRITES_OF_INSERTION, World, is_too_large, replay};

@@ -1,6 +1,6 @@
 //! One operation on its way through a tree, over any pages: the state that it is in, and what it needs next.
 
-ghost use Rattle.std.specs.Prelude.{◌≡◌, ◌↔◌, IsTrue};
+ghost use Rattle.std.specs.Prelude.{◌≡◌, ◌↔◌, IsTrue, reverse};
 ghost use Rattle.blink_batch.specs.Operation.{answer_at};
 ghost use Rattle.blink_page.specs.Limits.{IsFan};
 ghost use Rattle.blink_steps.specs.Machine.{fresh, need_at, target, value_of_job, answered};
@@ -18,30 +18,39 @@ use std::marker::Model;
 /// What a split owes: the separator of two pages of a level, and the number of the new one. It is to be posted to the
 /// level above.
 #[derive(Clone, Copy, Debug, PartialEq, Eq)]
-pub(crate) struct Debt {
+pub struct Debt {
+    /// The level of the two pages.
     pub level: u8,
+    /// The high key of the old one, which has the lower half.
     pub separator: u64,
+    /// The number of the new one.
     pub page: u32,
 }
 
 /// What an operation is about: its own key, on a leaf, or what a split below owes, on the level above it.
 #[derive(Clone, Copy, Debug, PartialEq, Eq)]
-pub(crate) enum Job {
+pub enum Job {
+    /// The operation's own key.
     Leaf,
+    /// This debt of a split of its own.
     Parent(Debt),
 }
 
 /// Where an operation goes from a page whose latch it lets go.
 #[derive(Clone, Copy, Debug, PartialEq, Eq)]
-pub(crate) enum Next {
+pub enum Next {
+    /// Nowhere: it ends.
     Finish,
+    /// To the page that its right link leads to.
     MoveRight(u32),
+    /// To the level above, with what its split owes.
     Post(Debt),
 }
 
-/// Where an operation is.
+/// Where an operation is: the states of the table, each with what it has to know there. The first number of each is the page that
+/// it is about to read, latch, write or leave.
 #[derive(Debug, Drop)]
-pub(crate) enum State {
+pub enum State {
     /// Before the prime block read that begins it.
     Start,
     /// On its way down: the page that it reads next, and that page's level.
@@ -189,6 +198,28 @@ impl Machine {
             Job::Leaf => self.op.key(),
             Job::Parent(debt) => debt.separator,
         }
+    }
+
+    /// Where it is.
+    pub fn state(&self) -> &State
+        ensures { result.now ≡ self.now.state }
+    {
+        &self.state
+    }
+
+    /// What it is about.
+    pub fn job(&self) -> Job
+        ensures { result ≡ self.now.job }
+    {
+        self.job
+    }
+
+    /// The pages that it remembers of its way down, one of each level above its job's that it has not gone back to, the top level
+    /// first.
+    pub fn remembered(&self) -> &[u32]
+        ensures { self.now.remembered ≡ reverse result.now }
+    {
+        self.remembered.pages()
     }
 
     // What its job brings into a page.

@@ -1,5 +1,5 @@
 //! The pages that an operation remembers on its way down.
-ghost use Rattle.std.specs.Prelude.{◌≡◌, ◌<◌, [], ◌∷◌, length, MatchOption};
+ghost use Rattle.std.specs.Prelude.{◌≡◌, ◌<◌, [], ◌∷◌, length, reverse, MatchOption};
 
 use arrayvec::ArrayVec;
 use blink_page::LEVELS;
@@ -28,6 +28,13 @@ impl Remembered {
         Remembered {
             pages: ArrayVec::new(),
         }
+    }
+
+    /// The pages, the top level first.
+    pub(crate) fn pages(&self) -> &[u32]
+        ensures { self.now ≡ reverse result.now }
+    {
+        &self.pages
     }
 
     /// Remembers a page of the next lower level.

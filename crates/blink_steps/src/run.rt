@@ -1,7 +1,7 @@
 //! A batch's run over a tree, turn by turn.
-ghost use Rattle.std.specs.Prelude.{◌≡◌, ◌↔◌, ◌+◌, ◌<◌, ℕ, Some, length, slice_get, IsTrue, IsNone, IfOk, IfSome, OnErr, IsOkUnless};
+ghost use Rattle.std.specs.Prelude.{◌≡◌, ◌↔◌, ◌+◌, ◌<◌, ℕ, Some, length, option_map, slice_get, IsTrue, IsNone, IfOk, IfSome, OnErr, IsOkUnless};
 ghost use Rattle.blink_steps.specs.Pick.{IsFirstMover, IsIdleWorker, WouldMove, WouldWait};
-ghost use Rattle.blink_steps.specs.Run.{TakesSomeTurn, IsOpeningRun, idle_seat};
+ghost use Rattle.blink_steps.specs.Run.{TakesSomeTurn, IsOpeningRun, idle_seat, working_of};
 ghost use Rattle.blink_steps.specs.Seats.{HasOperation};
 ghost use Rattle.blink_steps.specs.SoundRun.{CanTakeTurn};
 ghost use Rattle.blink_steps.specs.World.{HasEnded};
@@ -196,6 +196,29 @@ impl Run {
             }
         }
         None
+    }
+
+    /// The tree, as it is between two turns.
+    pub(crate) fn store(&self) -> &Store
+        ensures { result.now ≡ self.now.shared.store }
+    {
+        &self.shared.store
+    }
+
+    /// Which worker holds which page's latch.
+    pub(crate) fn latches(&self) -> &Latches
+        ensures { result.now ≡ self.now.shared.latches }
+    {
+        &self.shared.latches
+    }
+
+    /// The operation that the worker has under way, if it isn't idle.
+    pub(crate) fn working(&self, worker: u8) -> Option<&Working>
+        requires { worker < length self.now.seats }
+        ensures { option_map (λ working. working.now) result
+            ≡ working_of (slice_get self.now.seats worker) }
+    {
+        self.seats[usize::from(worker)].working.as_ref()
     }
 
     /// How many workers there are, those without an operation included.

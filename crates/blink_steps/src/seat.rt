@@ -10,8 +10,10 @@ use blink_batch::Answer;
 
 /// An operation under way, and its place in the batch.
 #[derive(Debug, Drop)]
-pub(crate) struct Working {
+pub struct Working {
+    /// The place, from 0.
     pub place: u32,
+    /// The operation.
     pub machine: Machine,
 }
 

@@ -5,6 +5,7 @@ mod by_hand;
 mod one_leaf;
 mod picks;
 mod schedules;
+mod seen;
 mod splits;
 
 use crate::{Kind, Step, World, replay};

@@ -1,17 +1,20 @@
 //! The world of a schedule: a run over a tree, and the worker of each turn so far.
-ghost use Rattle.std.specs.Prelude.{◌≡◌, ◌≤◌, ◌<◌, ◌↔◌, ◌⊎◌, length, Ok, IfOk, IfErr, IfSome, IsNone, OnErr, OnOk, IsErrOf, IsOk, IsOkUnless, All, IsTrue};
+ghost use Rattle.std.specs.Prelude.{◌≡◌, ◌≤◌, ◌<◌, ◌↔◌, ◌⊎◌, length, option_map, slice_get, Ok, IfOk, IfErr, IfSome, IsNone, OnErr, OnOk, IsErrOf, IsOk, IsOkUnless, All, IsTrue};
 ghost use Rattle.blink_steps.specs.Counts.{HasMoved, HasWaited, moves_in, page_reads_in};
 ghost use Rattle.blink_steps.specs.Headline.{EndsAsOneThread};
 ghost use Rattle.blink_steps.specs.Pick.{GoesOnPicked, IsFirstMover, IsIdleWorker, WouldMove, WouldWait, steps_left};
 ghost use Rattle.blink_steps.specs.Promises.{IsPromised};
+ghost use Rattle.blink_steps.specs.Run.{working_of};
 ghost use Rattle.blink_steps.specs.World.{GoesOnBy, HasEnded, InItsHistory, IsReplay, IsReplayRefusal, IsStart, IsStepRefusal, IsTooLarge, KeepsItsStart, SameBatch, TakesStep, with_turn};
 
 use crate::error::StepError;
 use crate::run::Run;
+use crate::seat::Working;
 use crate::step::Step;
 use blink_batch::{Answer, Batch, Lanes};
 use blink_page::MAX_PAGE;
 use blink_rest::Rest;
+use blink_store::{Latches, Store};
 use std::alloc::Global;
 use std::marker::Model;
 
@@ -126,6 +129,38 @@ impl World {
         &self.schedule
     }
 
+    /// The pages and the prime block, as they are after the turns so far. It takes no memory.
+    pub fn store(&self) -> &Store
+        ensures store { result.now ≡ self.now.run.shared.store }
+        ensures promised { IsPromised self.now }
+    {
+        self.run.store()
+    }
+
+    /// Which worker holds which page's latch. It takes no memory.
+    pub fn latches(&self) -> &Latches
+        ensures { result.now ≡ self.now.run.shared.latches }
+    {
+        self.run.latches()
+    }
+
+    /// How many workers there are, 1 to 64, those without an operation included.
+    pub fn workers(&self) -> u8
+        ensures { result ≡ self.now.run.assignment.workers }
+    {
+        self.run.workers()
+    }
+
+    /// The operation that the worker has under way, with its place in the batch; there is none where it is idle. It takes no
+    /// memory.
+    pub fn working(&self, worker: u8) -> Option<&Working>
+        requires { worker < self.now.run.assignment.workers }
+        ensures { option_map (λ working. working.now) result
+            ≡ working_of (slice_get self.now.run.seats worker) }
+    {
+        self.run.working(worker)
+    }
+
     /// Whether all operations have ended: then each has its answer, and the tree is at rest.
     pub fn ended(&self) -> bool
         ensures ended { IsTrue result ↔ HasEnded self.now.run }
@@ -195,17 +230,20 @@ impl World {
         Ok(())
     }
 
-    // A turn of the picked worker. It is a step, so that fewer are left.
-    fn advance(&mut self, worker: u8) -> Result<(), StepError>
+    /// Gives the picked worker a turn, and tells its step: [`World::finish`] takes one such turn after another. There are fewer
+    /// steps left after it. A refusal changes nothing.
+    pub fn advance(&mut self, worker: u8) -> Result<Step, StepError>
         requires { IsFirstMover self.old.run worker }
-        ensures turn { IfOk result (λ _. (step : Step) × TakesStep self.old worker step self.new) }
+        ensures turn { IfOk result (λ step. TakesStep self.old worker step self.new) }
+        ensures same_batch { SameBatch self.old.run self.new.run }
+        ensures promised { IsPromised self.new }
         ensures nearer { IfOk result (λ _. steps_left self.new.run < steps_left self.old.run) }
         ensures refused { IsOkUnless result StepError.OutOfMemory }
         ensures unchanged { OnErr result (self.new ≡ self.old) }
     {
         let _schedule = &self.schedule;
-        self.step(worker)?;
-        Ok(())
+        let taken = self.step(worker)?;
+        Ok(taken)
     }
 
     /// The tree, once all operations have ended. It takes no memory.

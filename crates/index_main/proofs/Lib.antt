@@ -1,3 +1,1 @@
-pub mod OneMissing
-pub mod ScheduleFromParts
 pub mod WhatIsFlushed

@@ -9,8 +9,8 @@ use Rattle.blink_run.specs.declared.error.ServeError.{ServeError}
 use Rattle.blink_run.specs.declared.error.ServeError.TheVariants as serve
 use Rattle.blink_run.proofs.Offered.{front_of_text}
 use Rattle.index_main.specs.Program.{HasLeftFront, IsText, Leaves, LetsOut, Writes}
-use Rattle.index_main.specs.declared.line.Line.{Line}
-use Rattle.index_main.specs.declared.line.Line.TheVariants.{Run, Replay}
+use Rattle.blink_line.specs.declared.line.Line.{Line}
+use Rattle.blink_line.specs.declared.line.Line.TheVariants.{Run, Replay}
 
 -- known bytes that are kept are the same
 kept_as : (between after : Option (List ℕ)) (bytes : List ℕ) → between ≡ Some bytes → Keeps between after → after ≡ Some bytes

@@ -1,5 +1,1 @@
-pub mod Codes
-pub mod End
-pub mod Line
-pub mod Value
 pub mod Program

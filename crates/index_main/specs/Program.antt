@@ -5,8 +5,8 @@ use Rattle.blink_run.specs.Served.{IsTextOf, LeavesLines, Serves}
 use Rattle.blink_run.specs.ServedReplay.{IsReplayText, LeavesReplay, Replays}
 use Rattle.blink_run.specs.declared.error.ServeError.{ServeError}
 use Rattle.blink_run.specs.declared.error.ServeError.TheVariants as serve
-use Rattle.index_main.specs.declared.line.Line.{Line}
-use Rattle.index_main.specs.declared.line.Line.TheVariants.{Run, Replay}
+use Rattle.blink_line.specs.declared.line.Line.{Line}
+use Rattle.blink_line.specs.declared.line.Line.TheVariants.{Run, Replay}
 
 -- the text of the script that is read, or its replay, is written behind what was written before
 abbrev pub Writes : Line → Option (List ℕ) → Option (List ℕ) → Option (List ℕ) → Type 0

@@ -1,15 +1,9 @@
 //! The program `blink`: it reads a script of operations on standard input and prints their answers.
 #![tactic(auto)]
 
-mod command;
-mod end;
-mod fault;
-mod line;
 mod program;
-mod value;
 
-use end::{ProgramError, end_of};
-use line::read_line;
+use blink_line::{ProgramError, end_of, read_line};
 use program::carry_out;
 use std::io::BufWriter;
 use std::process::ExitCode;

@@ -1,7 +1,8 @@
 //! Examples of replays, worked by hand from the machine's table of states.
-use crate::{CutKind, Driver, ServeError, Settings, serve_replay};
-use blink_batch::{RecordError, ScriptError};
-use blink_steps::StepError;
+use crate::replay::{first_of_no_worker, lanes_by_residue, run_parts, write_replay};
+use crate::{CutKind, Driver, ServeError, Settings, new_index, push_turn, serve_replay};
+use blink_batch::{Batch, Entry, Op, RecordError, ScriptError, read_script};
+use blink_steps::{Step, StepError};
 use std::alloc::Global;
 use std::test::Fail;
 
@@ -122,5 +123,35 @@ fn refused_scripts_are_not_replayed(rt: HostRuntime) -> Result<(), Fail> {
         end,
         Err(ServeError::Script(ScriptError::Row(2, RecordError::UnknownOperation)))
     );
+    Ok(())
+}
+
+#[test]
+fn what_a_replay_is_made_of(rt: HostRuntime) -> Result<(), Fail> {
+    let alloc = rt.alloc();
+    assert_eq!(rt; first_of_no_worker(&[0, 2, 1, 3], 2), Some(2));
+    assert_eq!(rt; first_of_no_worker(&[1, 0], 2), None);
+    let ops = [Op::Insert(4, 40), Op::Find(5), Op::Delete(6)];
+    let batch = Batch::new(ops.to_vec(alloc)?)?;
+    assert_eq!(rt;
+        lanes_by_residue(alloc, &batch, 3)?.lanes(),
+        [1, 2, 0].as_slice()
+    );
+    let script = read_script(
+        alloc,
+        &mut b"insert,1,10\nscan,0,9\ndelete,1,\ninsert,2,20\n".as_slice(),
+    )?;
+    let index = run_parts(alloc, new_index(alloc, &two_workers()?)?, script.parts, 2)?;
+    let entry = Entry {
+        key: 2,
+        pointer: 20,
+    };
+    assert_eq!(rt; index.entries(alloc)?.as_slice(), [entry].as_slice());
+    let mut trace = String::new(alloc);
+    push_turn(&mut trace, 7, Step::Waited)?;
+    assert_eq!(rt; trace.as_str(), "7 wait\n");
+    let mut output = Vec::new(alloc);
+    write_replay(&mut output, &trace, "found 1\n", "pages\n")?;
+    assert_eq!(rt; output.as_slice(), b"7 wait\nfound 1\npages\n".as_slice());
     Ok(())
 }

@@ -1,6 +1,5 @@
 use super::carry_out;
-use crate::end::{End, ProgramError, end_of};
-use crate::line::{Line, read_line};
+use blink_line::{End, Line, ProgramError, end_of, read_line};
 use blink_run::{CutKind, Driver, Settings};
 use std::alloc::Global;
 use std::io;

@@ -9,7 +9,7 @@ use Rattle.blink_steps.proofs.world.World.finish.Goals.{In_err-advance}
 pub loop-worker-preserved : goal.loop-worker-preserved
 loop-worker-preserved c =
     let turn = c.in_ok-advance.ensures.turn in
-    picked_further c.args.self.now c.loop-worker.self c.advance.new.self c.in-Some.worker turn.0 c.loop-worker.invariant c.in-Some.ensures.first turn.1
+    picked_further c.args.self.now c.loop-worker.self c.advance.new.self c.in-Some.worker c.in_ok-advance.field-0 c.loop-worker.invariant c.in-Some.ensures.first turn
 
 -- after a refusal the world is the one before it
 refused : (c : In_err-advance) → GoesOnPicked c.args.self.now c.advance.new.self

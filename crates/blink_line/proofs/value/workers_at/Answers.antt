@@ -1,0 +1,9 @@
+use Rattle.std.proofs.Common.{◌∙◌, sym}
+use Rattle.blink_line.specs.Value.{worker_of}
+use Rattle.blink_line.proofs.OneMissing.{one_missing}
+use Rattle.blink_line.proofs.value.workers_at.Goals as goal
+
+-- a part that spells no worker leaves no schedule
+pub returns-in-None : goal.returns-in-None
+returns-in-None c = λ workers all.
+    one_missing (λ part. worker_of part.now) c.args.parts.now c.loop-part.part-index _ workers c.loop-part-test.true (sym c.worker_of.ensures ∙ c.in-None.is) all

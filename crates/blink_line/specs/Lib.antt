@@ -1,0 +1,4 @@
+pub mod Codes
+pub mod End
+pub mod Line
+pub mod Value

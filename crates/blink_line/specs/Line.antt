@@ -1,0 +1,92 @@
+-- What the words of a command line ask for, by clap's reading of them.
+use Rattle.std.specs.Prelude.{◌≡◌, ⊤, ℕ, List, [], ◌∷◌, Option, Some, None, codes, drop, option_and_then, string_bytes, true, unwrap_or}
+use Rattle.clap.specs.Words.{App, Row, Rule, Text, fault_of, first_of, new_app, new_rule, subcommand_of, with_rule, with_subcommand}
+use Rattle.blink_run.specs.Settings.{IsAllowed, PlainSettings}
+use Rattle.blink_run.specs.declared.run.Driver.TheVariants.{Locked}
+use Rattle.blink_run.specs.declared.settings.CutKind.TheVariants.{Residue}
+use Rattle.blink_line.specs.Value.{IsSchedule, cut_of, driver_of, fan_of, workers_of}
+use Rattle.blink_line.specs.declared.line.Line.{Line}
+use Rattle.blink_line.specs.declared.line.Line.TheVariants.{Run, Replay}
+use Rattle.blink_line.specs.declared.line.LineError.{LineError}
+use Rattle.blink_line.specs.declared.line.LineError.TheVariants.{Usage, OutOfMemory}
+
+-- an option of this name, with one value
+abbrev pub option : Text → Rule
+option name = record (new_rule name) { long = Some name; value_names = 1 }
+
+-- the same, with the value that it has where it isn't given
+abbrev pub option_or : Text → Text → Rule
+option_or name default = record (option name) { defaults = default ∷ [] }
+
+-- `[--workers N] [--fan F]`
+abbrev pub with_sizes : App → App
+with_sizes app = with_rule (with_rule app (option_or (codes "workers") (codes "4"))) (option_or (codes "fan") (codes "16"))
+
+-- `run [--workers N] [--fan F] [--cut residue|ranges] [--driver locked|live]`
+abbrev pub run : App
+run = with_rule (with_rule (with_sizes (new_app (codes "run"))) (option_or (codes "cut") (codes "residue"))) (option_or (codes "driver") (codes "locked"))
+
+-- `replay [--workers N] [--fan F] [--schedule S]`
+abbrev pub replay : App
+replay = with_rule (with_sizes (new_app (codes "replay"))) (option (codes "schedule"))
+
+-- a command that wants a subcommand
+abbrev pub wanting_subcommand : App → App
+wanting_subcommand app = record app { top = record app.top { subcommand_required = true } }
+
+-- the whole command: `blink run ..` and `blink replay ..`
+abbrev pub blink : App
+blink = with_subcommand (with_subcommand (wanting_subcommand (new_app (codes "blink"))) run.top) replay.top
+
+-- clap finds no fault in the words
+abbrev pub IsTaken : List Text → Type 0
+IsTaken words = fault_of blink words ≡ []
+
+-- the value of an option, as it is given or else by default
+abbrev pub value : List Row → Text → Option Text
+value rows name = first_of name rows
+
+-- the options spell these sizes
+pub record HasSizes (rows : List Row) (settings : PlainSettings) : Type 0 where
+  pub workers : option_and_then workers_of (value rows (codes "workers")) ≡ Some settings.workers
+  pub fan : option_and_then fan_of (value rows (codes "fan")) ≡ Some settings.fan
+
+-- `run` with these options
+pub record AsksToRun (rows : List Row) (settings : PlainSettings) : Type 0 where
+  pub sizes : HasSizes rows settings
+  pub cut : option_and_then cut_of (value rows (codes "cut")) ≡ Some settings.cut
+  pub driver : option_and_then driver_of (value rows (codes "driver")) ≡ Some settings.driver
+
+-- `replay` with these options; without a schedule its text is empty
+pub record AsksToReplay (rows : List Row) (settings : PlainSettings) (schedule : List ℕ) : Type 0 where
+  pub sizes : HasSizes rows settings
+  pub cut : settings.cut ≡ Residue
+  pub driver : settings.driver ≡ Locked
+  pub turns : IsSchedule (unwrap_or (value rows (codes "schedule")) []) schedule
+
+-- the subcommand, with the values that its options have, asks for this
+abbrev pub Means : Text → List Row → Line → Type 0
+Means name rows (Run settings) = (name ≡ codes "run") × AsksToRun rows settings
+Means name rows (Replay settings schedule) = (name ≡ codes "replay") × AsksToReplay rows settings schedule.items
+
+abbrev pub SubcommandMeans : Option (Text × List Row) → Line → Type 0
+SubcommandMeans None line = ⊥
+SubcommandMeans (Some subcommand) line = Means subcommand.0 subcommand.1 line
+
+-- clap takes the words, and their subcommand asks for this
+abbrev pub Asks : List Text → Line → Type 0
+Asks words line = IsTaken words × SubcommandMeans (subcommand_of blink words) line
+
+-- the words of `blink-show`, the program's name first, as those of `blink replay`
+abbrev pub as_replay : List Text → List Text
+as_replay words = codes "blink" ∷ codes "replay" ∷ drop 1 words
+
+-- the workers and the fan are allowed
+abbrev pub HasAllowedSizes : Line → Type 0
+HasAllowedSizes (Run settings) = IsAllowed settings.workers settings.fan
+HasAllowedSizes (Replay settings schedule) = IsAllowed settings.workers settings.fan
+
+-- the refusal of a value, unless memory was refused
+abbrev pub IsBadValue : LineError → Type 0
+IsBadValue (Usage text) = string_bytes text ≡ codes "usage: bad value"
+IsBadValue OutOfMemory = ⊤

@@ -1,0 +1,121 @@
+//! The command line's grammar, as `clap` has it.
+ghost use Rattle.std.specs.Prelude.{◌≡◌, false, codes, IfOk, IfErr};
+ghost use Rattle.clap.specs.Words.{app_of, kind_of, new_app, rule_of, subcommand_of, subcommand_rows_of};
+ghost use Rattle.clap.specs.Walk.{texts};
+ghost use Rattle.clap.specs.declared.builder.command.Command.TheViews.{out-Command};
+ghost use Rattle.blink_line.specs.Line.{IsTaken, blink, option, option_or, replay, run, with_sizes};
+
+use clap::error::ErrorKind;
+use clap::{Arg, ArgMatches, Command};
+use std::alloc::{AllocError, Global};
+
+/// What `clap` finds in the words.
+pub fn matches_of<'a>(alloc: Global, words: &'a [&'a str]) -> Result<ArgMatches<'a>, clap::Error>
+    ensures taken { IfOk result (λ _. IsTaken (texts words.entry.now)) }
+    ensures matches { IfOk result
+        (λ matches. subcommand_rows_of matches ≡ subcommand_of blink (texts words.entry.now)) }
+    ensures memory { IfErr result
+        (λ error. IsTaken (texts words.entry.now) → kind_of error ≡ ErrorKind.OutOfMemory) }
+{
+    let command = command(alloc)?;
+    command.try_get_matches_from(words)
+}
+
+fn command<'a>(alloc: Global) -> Result<Command<'a>, AllocError>
+    ensures { IfOk result (λ command. app_of command ≡ blink) }
+{
+    Command::new(alloc, "blink")
+        .about("Runs scripts of index operations on a B-link tree")
+        .subcommand_required(true)
+        .subcommand(run_command(alloc)?)?
+        .subcommand(replay_command(alloc)?)
+}
+
+fn run_command<'a>(alloc: Global) -> Result<Command<'a>, AllocError>
+    ensures app { IfOk result (λ command. app_of command ≡ run) }
+    ensures local { IfOk result (λ command. (out-Command command).has_globals ≡ false) }
+{
+    sized(
+        alloc,
+        "run",
+        "Runs the script on standard input by threads and prints its answers",
+    )?
+    .arg(cut_option(alloc))?
+    .arg(driver_option(alloc))
+}
+
+fn replay_command<'a>(alloc: Global) -> Result<Command<'a>, AllocError>
+    ensures app { IfOk result (λ command. app_of command ≡ replay) }
+    ensures local { IfOk result (λ command. (out-Command command).has_globals ≡ false) }
+{
+    sized(
+        alloc,
+        "replay",
+        "Runs the script on standard input turn by turn, as a schedule says",
+    )?
+    .arg(schedule_option(alloc))
+}
+
+// A subcommand with the options that both have.
+fn sized<'a>(alloc: Global, name: &'a str, about: &'a str) -> Result<Command<'a>, AllocError>
+    ensures app { IfOk result (λ command. app_of command ≡ with_sizes (new_app name.entry.now)) }
+    ensures local { IfOk result (λ command. (out-Command command).has_globals ≡ false) }
+{
+    Command::new(alloc, name)
+        .about(about)
+        .arg(workers_option(alloc))?
+        .arg(fan_option(alloc))
+}
+
+fn workers_option<'a>(alloc: Global) -> Arg<'a>
+    ensures rule { rule_of result ≡ option_or (codes "workers") (codes "4") }
+    ensures local { result.global ≡ false }
+{
+    option(alloc, "workers", "N")
+        .default_value("4")
+        .help("How many workers share the work, 1 to 64")
+}
+
+fn fan_option<'a>(alloc: Global) -> Arg<'a>
+    ensures rule { rule_of result ≡ option_or (codes "fan") (codes "16") }
+    ensures local { result.global ≡ false }
+{
+    option(alloc, "fan", "F")
+        .default_value("16")
+        .help("How many entries a page has at most, 4 to 32")
+}
+
+fn cut_option<'a>(alloc: Global) -> Arg<'a>
+    ensures rule { rule_of result ≡ option_or (codes "cut") (codes "residue") }
+    ensures local { result.global ≡ false }
+{
+    option(alloc, "cut", "residue|ranges")
+        .default_value("residue")
+        .help("How keys go to workers: by their remainders (residue) or by equal ranges (ranges)")
+}
+
+fn driver_option<'a>(alloc: Global) -> Arg<'a>
+    ensures rule { rule_of result ≡ option_or (codes "driver") (codes "locked") }
+    ensures local { result.global ≡ false }
+{
+    option(alloc, "driver", "locked|live")
+        .default_value("locked")
+        .help("How workers share the tree: each step under one lock (locked) or without one (live)")
+}
+
+fn schedule_option<'a>(alloc: Global) -> Arg<'a>
+    ensures rule { rule_of result ≡ option (codes "schedule") }
+    ensures local { result.global ≡ false }
+{
+    option(alloc, "schedule", "S").help(
+        "Which worker takes each turn: numbers from 0 to 63, separated by single commas [default: none]",
+    )
+}
+
+// An option with one value.
+fn option<'a>(alloc: Global, name: &'a str, value: &'a str) -> Arg<'a>
+    ensures rule { rule_of result ≡ option name.entry.now }
+    ensures local { result.global ≡ false }
+{
+    Arg::new(alloc, name).long(name).value_name(value)
+}

@@ -1,0 +1,11 @@
+//! The command line of the programs `blink` and `blink-show`: what their words ask for, and how they end.
+#![tactic(auto)]
+
+mod command;
+mod end;
+mod fault;
+mod line;
+mod value;
+
+pub use end::{End, ProgramError, Told, end_of};
+pub use line::{Line, LineError, read_line, read_replay};

@@ -1,0 +1,108 @@
+//! What the values of options mean.
+ghost use Rattle.std.specs.Prelude.{◌≡◌, ◌≢◌, ◌≤◌, List, ℕ, Some, map, IfOk, IfSome, MatchOption};
+ghost use Rattle.blink_batch.specs.Cut.{MayWork};
+ghost use Rattle.clap.specs.Walk.{texts};
+ghost use Rattle.blink_line.specs.Value.{IsSchedule, cut_of, driver_of, fan_of, number_between, parts_of, worker_of, workers_of};
+
+use blink_batch::{WORKER_LIMIT, read_number};
+use blink_page::{MAX_FAN, MIN_FAN};
+use blink_run::{CutKind, Driver};
+use std::alloc::{AllocError, Global};
+
+/// The number of workers that a text spells, if a run may have so many.
+pub fn workers_of(text: &str) -> Option<u8>
+    ensures spelled { result ≡ workers_of text.now }
+    ensures allowed { IfSome result MayWork }
+{
+    number_between(1, WORKER_LIMIT, text)
+}
+
+/// The greatest number of entries in a page that a text spells, if a page may have so many.
+pub fn fan_of(text: &str) -> Option<u8>
+    ensures spelled { result ≡ fan_of text.now }
+    ensures allowed { IfSome result (λ fan. (MIN_FAN ≤ fan) × (fan ≤ MAX_FAN)) }
+{
+    number_between(MIN_FAN, MAX_FAN as u8, text)
+}
+
+/// The cut of this name.
+pub fn cut_of(text: &str) -> Option<CutKind>
+    ensures { result ≡ cut_of text.now }
+{
+    if text == "residue" {
+        Some(CutKind::Residue)
+    } else if text == "ranges" {
+        Some(CutKind::Ranges)
+    } else {
+        None
+    }
+}
+
+/// The driver of this name.
+pub fn driver_of(text: &str) -> Option<Driver>
+    ensures { result ≡ driver_of text.now }
+{
+    if text == "locked" {
+        Some(Driver::Locked)
+    } else if text == "live" {
+        Some(Driver::Live)
+    } else {
+        None
+    }
+}
+
+/// The schedule that a text spells: nothing, or workers from 0 to 63 with a single comma between any two. An error is a
+/// refusal of memory alone.
+pub fn schedule_of(alloc: Global, text: &str) -> Result<Option<Vec<u8>>, AllocError>
+    ensures { IfOk result (λ found. MatchOption found
+        ((schedule : List ℕ) → ¬ IsSchedule text.now schedule)
+        (λ schedule. IsSchedule text.now schedule.items)) }
+{
+    if text.is_empty() {
+        return Ok(Some(Vec::new(alloc)));
+    }
+    workers_at(alloc, parts_of(alloc, text)?.as_slice())
+}
+
+// The texts between the commas.
+fn parts_of(alloc: Global, text: &str) -> Result<Vec<&str>, AllocError>
+    ensures { IfOk result (λ parts. texts parts.items ≡ parts_of text.now) }
+{
+    text.split(',').collect(alloc)
+}
+
+// The workers that the parts spell, one each.
+fn workers_at(alloc: Global, parts: &[&str]) -> Result<Option<Vec<u8>>, AllocError>
+    ensures { IfOk result (λ found. MatchOption found
+        ((workers : List ℕ) → map (λ part. worker_of part.now) parts.now ≢ map Some workers)
+        (λ workers. map (λ part. worker_of part.now) parts.now ≡ map Some workers.items)) }
+{
+    let mut workers = Vec::new(alloc);
+    for part in parts {
+        match worker_of(part) {
+            Some(worker) => workers.push(worker)?,
+            None => return Ok(None),
+        }
+    }
+    Ok(Some(workers))
+}
+
+// The number of a worker, from 0.
+fn worker_of(text: &str) -> Option<u8>
+    ensures { result ≡ worker_of text.now }
+{
+    number_between(0, WORKER_LIMIT - 1, text)
+}
+
+// The number that a text spells as numbers in scripts are, if it lies between the limits.
+fn number_between(least: u8, most: u8, text: &str) -> Option<u8>
+    ensures spelled { result ≡ number_between least most text.now }
+    ensures between { IfSome result (λ number. (least ≤ number) × (number ≤ most)) }
+{
+    match read_number(text.as_bytes()) {
+        Some(number) if u64::from(least) <= number && number <= u64::from(most) => {
+            Some(number as u8)
+        }
+        _ => None,
+    }
+}

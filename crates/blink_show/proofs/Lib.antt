@@ -1,0 +1,4 @@
+mod OneMore
+mod TextOfReplay
+mod TurnsAreShown
+mod WhatIsGot

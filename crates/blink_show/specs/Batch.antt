@@ -1,0 +1,38 @@
+-- The text of a batch that is replayed: its operations, and a frame for each moment.
+use Rattle.std.specs.Prelude.{◌≡◌, ℕ, ◌+◌, ◌%◌, List, [], ◌∷◌, ◌++◌, codes}
+use Rattle.std.specs.Fmt.{decimal}
+use Rattle.blink_batch.specs.declared.Op.{Op}
+use Rattle.blink_batch.specs.Operation.{key_of}
+use Rattle.blink_run.specs.Replay.{by_residue}
+use Rattle.blink_store.specs.Store.{PlainStore}
+use Rattle.blink_steps.specs.World.{PlainWorld, HasEnded, IsStart}
+use Rattle.blink_show.specs.Frames.{first_frame}
+use Rattle.blink_show.specs.Turns.{ShowsFinish, ShowsSchedule}
+use Rattle.blink_show.specs.Words.{words_of_op}
+
+-- an operation: its place, its worker, and itself
+abbrev pub op_line : ℕ → ℕ → Op → List ℕ
+op_line place worker op = codes "op " ++ (decimal place ++ (codes " " ++ (decimal worker ++ (codes " " ++ (words_of_op op ++ codes "\n")))))
+
+-- operations from a place on; the worker of each is the remainder of its key
+abbrev pub ops_from : ℕ → ℕ → List Op → List ℕ
+ops_from workers place [] = []
+ops_from workers place (op ∷ ops) = op_line place (key_of op % workers) op ++ ops_from workers (place + 1) ops
+
+-- the text of a batch's replay over a tree: its operations, the first moment, each turn of the schedule, and then each picked turn, until
+-- all operations have ended
+pub record ShowsBatch (workers : ℕ) (schedule : List ℕ) (before : PlainStore) (ops : List Op) (text : List ℕ) : Type 0 where
+  pub start : PlainWorld
+  pub is_start : IsStart before ops (by_residue workers ops) start
+  pub replayed : PlainWorld
+  pub turns : List ℕ
+  pub shows_turns : ShowsSchedule start schedule replayed turns
+  pub finished : PlainWorld
+  pub finish : List ℕ
+  pub shows_finish : ShowsFinish replayed finished finish
+  pub ended : HasEnded finished.run
+  pub its_text : text ≡ ops_from workers 0 ops ++ (first_frame start.run ++ (turns ++ finish))
+
+-- such a text is added behind what was there
+abbrev pub AddsBatch : ℕ → List ℕ → PlainStore → List Op → List ℕ → List ℕ → Type 0
+AddsBatch workers schedule before ops old new = (text : List ℕ) × ShowsBatch workers schedule before ops text × (new ≡ old ++ text)

@@ -1,0 +1,47 @@
+-- What is written of a script's replay that is to be looked at.
+use Rattle.std.specs.Prelude.{◌≡◌, ℕ, List, [], ◌∷◌, ◌++◌, Option, Ok, codes, count_by}
+use Rattle.std.specs.Fmt.{decimal}
+use Rattle.std.specs.Io.KnownBytes.{Keeps}
+use Rattle.blink_batch.specs.declared.Op.{Op}
+use Rattle.blink_batch.specs.declared.Part.{Part}
+use Rattle.blink_batch.specs.declared.Part.TheVariants.{Batch}
+use Rattle.blink_batch.specs.Script.{script_of}
+use Rattle.blink_run.specs.Served.{IsFrontOf, WritesText, is_batch}
+use Rattle.blink_run.specs.ServedReplay.{HaveRunParts}
+use Rattle.blink_run.specs.declared.error.ServeError.{ServeError}
+use Rattle.blink_run.specs.declared.error.ServeError.TheVariants as serve
+use Rattle.blink_store.specs.Store.{PlainStore, new_store}
+use Rattle.blink_show.specs.Batch.{ShowsBatch}
+
+-- this batch is the last of some parts
+pub record IsLastBatch (parts front : List Part) (ops : List Op) : Type 0 where
+  pub rest : List Part
+  pub in_order : parts ≡ front ++ Batch ops ∷ rest
+  pub last : count_by is_batch rest ≡ 0
+
+-- the text of some parts over a tree: that of the last batch, over the tree that those before it leave; without a batch there is none
+pub data ShowsParts (workers : ℕ) (schedule : List ℕ) (start : PlainStore) (parts : List Part) (text : List ℕ) : Type 0 where
+  no_batch : count_by is_batch parts ≡ 0 → text ≡ [] → ShowsParts workers schedule start parts text
+  last_batch : (front : List Part) (ops : List Op) (before : PlainStore) → IsLastBatch parts front ops → HaveRunParts workers start front before
+      → ShowsBatch workers schedule before ops text → ShowsParts workers schedule start parts text
+
+-- the first two lines: the workers and the fan
+abbrev pub sizes_text : ℕ → ℕ → List ℕ
+sizes_text workers fan = codes "workers " ++ (decimal workers ++ (codes "\nfan " ++ (decimal fan ++ codes "\n")))
+
+-- the text between a head and a tail, of some records, where they are a script
+pub record IsShowText (head tail : List ℕ) (workers fan : ℕ) (schedule : List ℕ) (records : List (List (List ℕ))) (text : List ℕ) : Type 0 where
+  pub parts : List Part
+  pub a_script : script_of records ≡ Ok parts
+  pub frames : List ℕ
+  pub shows : ShowsParts workers schedule (new_store fan) parts frames
+  pub its_text : text ≡ head ++ ((sizes_text workers fan ++ frames) ++ tail)
+
+-- nothing was written, unless the writer failed: then a beginning of such a text was
+abbrev pub LeavesShow : (List (List (List ℕ)) → List ℕ → Type 0) → Option (List ℕ) → ServeError → Option (List ℕ) → Option (List ℕ) → Type 0
+LeavesShow is_text to_read serve.Output before after = WritesText (IsFrontOf is_text) to_read before after
+LeavesShow is_text to_read error before after = Keeps before after
+
+-- such a text of parts is added behind what was there
+abbrev pub AddsParts : ℕ → List ℕ → PlainStore → List Part → List ℕ → List ℕ → Type 0
+AddsParts workers schedule start parts old new = (text : List ℕ) × ShowsParts workers schedule start parts text × (new ≡ old ++ text)

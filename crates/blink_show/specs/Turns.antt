@@ -1,0 +1,28 @@
+-- Turns one after another, with a frame for each.
+use Rattle.std.specs.Prelude.{◌≡◌, ℕ, List, [], ◌∷◌, ◌++◌, codes, ⊤}
+use Rattle.blink_steps.specs.declared.Step.{Step}
+use Rattle.blink_steps.specs.Pick.{IsFirstMover}
+use Rattle.blink_steps.specs.Run.{PlainRun}
+use Rattle.blink_steps.specs.World.{PlainWorld, TakesStep}
+use Rattle.blink_show.specs.Frames.{frame}
+
+-- turns of these workers, each of which may have its turn then, lead from one world to another, and this is the text of their frames
+pub data Shows (word : List ℕ) (may : PlainRun → ℕ → Type 0) (start : PlainWorld) : List ℕ → PlainWorld → List ℕ → Type 0 where
+  no_turn : Shows word may start [] start []
+  one_turn : (schedule text longer more : List ℕ) (worker : ℕ) (step : Step) (before after : PlainWorld) → Shows word may start schedule before text → may before.run worker
+      → TakesStep before worker step after → longer ≡ schedule ++ worker ∷ [] → more ≡ text ++ frame word before.run worker step after.run → Shows word may start longer after more
+
+-- the turns of a schedule
+abbrev pub ShowsSchedule : PlainWorld → List ℕ → PlainWorld → List ℕ → Type 0
+ShowsSchedule = Shows (codes "turn ") (λ run worker. ⊤)
+
+-- turns of the first that would move
+abbrev pub ShowsFinish : PlainWorld → PlainWorld → List ℕ → Type 0
+ShowsFinish start finished text = (workers : List ℕ) × Shows (codes "finish ") IsFirstMover start workers finished text
+
+-- the text of these frames is added behind what was there
+abbrev pub AddsSchedule : PlainWorld → List ℕ → PlainWorld → List ℕ → List ℕ → Type 0
+AddsSchedule start schedule world old new = (text : List ℕ) × ShowsSchedule start schedule world text × (new ≡ old ++ text)
+
+abbrev pub AddsFinish : PlainWorld → PlainWorld → List ℕ → List ℕ → Type 0
+AddsFinish start finished old new = (text : List ℕ) × ShowsFinish start finished text × (new ≡ old ++ text)

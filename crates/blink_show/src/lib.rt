@@ -1,0 +1,14 @@
+//! The text of a replay that is to be looked at: a frame for each moment of a script's last batch, which shows the pages by number,
+//! who has latched what, each worker's operation, and what is decided.
+#![tactic(auto)]
+
+mod batch;
+mod frame;
+mod line;
+mod show;
+#[cfg(test)]
+mod tests;
+mod turns;
+mod words;
+
+pub use show::serve_show;

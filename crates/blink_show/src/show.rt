@@ -1,0 +1,129 @@
+//! A script's replay, written to be looked at.
+ghost use Rattle.std.specs.Prelude.{◌≡◌, ◌<◌, ◌++◌, ◌↔◌, All, Err, IfErr, IfOk, OnOk, MatchOption, count_by, string_bytes};
+ghost use Rattle.blink_batch.specs.Cut.{MayWork};
+ghost use Rattle.blink_run.specs.Served.{WritesText, is_batch};
+ghost use Rattle.blink_run.specs.ServedReplay.{IsPartsFault, TellsReplayFault, TellsWorkersFault};
+ghost use Rattle.blink_steps.specs.World.{IsFirstNoWorker};
+ghost use Rattle.blink_show.specs.Show.{AddsParts, IsLastBatch, IsShowText, LeavesShow};
+
+use crate::batch::show_batch;
+use blink_batch::{Batch, Part, read_script};
+use blink_index::Index;
+use blink_run::{ServeError, Settings, first_of_no_worker, new_index, run_parts, write_replay};
+use blink_steps::StepError;
+use std::alloc::Global;
+use std::fmt::Write as _;
+use std::io::{Read, Write};
+
+/// Reads a whole script and replays it, as [`blink_run::serve_replay`] does: each batch is cut by the remainders of the keys, the last
+/// one takes a turn for each number of the schedule and is then finished, and those before it are finished at once.
+///
+/// When all turns are taken, `head` is written; then the workers and the fan; where there is a batch, its operations, a frame for its
+/// first moment and one for each turn, of the schedule and of the finish; and then `tail`. The first frame has a line for the prime
+/// block, for each worker and for each page, and each other one those that have changed, with the operations that have decided since.
+/// A schedule with a number that isn't below the workers is refused before anything is read. After every error but `Output`
+/// nothing was written.
+pub fn serve_show<R: Read, W: Write>(
+    alloc: Global,
+    reader: &mut R,
+    writer: &mut W,
+    settings: &Settings,
+    schedule: &[u8],
+    head: &str,
+    tail: &str,
+) -> Result<(), ServeError>
+    ensures shown { OnOk result (WritesText
+        (IsShowText head.now tail.now settings.now.workers settings.now.fan schedule.now)
+        (R.remaining reader.old) (W.contents writer.old) (W.contents writer.new)) }
+    ensures fault { IfErr result
+        (TellsReplayFault settings.now.workers schedule.now (R.remaining reader.old)) }
+    ensures no_worker { (worker : _) → (result ≡ Err (ServeError.Step (StepError.NoWorker worker)))
+        ↔ IsFirstNoWorker settings.now.workers schedule.now worker }
+    ensures unread { (worker : _) → IsFirstNoWorker settings.now.workers schedule.now worker
+        → reader.new ≡ reader.old }
+    ensures left { IfErr result (λ error. LeavesShow
+        (IsShowText head.now tail.now settings.now.workers settings.now.fan schedule.now)
+        (R.remaining reader.old) error (W.contents writer.old) (W.contents writer.new)) }
+{
+    match first_of_no_worker(schedule, settings.workers()) {
+        Some(worker) => Err(ServeError::Step(StepError::NoWorker(worker))),
+        None => show_script(alloc, reader, writer, settings, schedule, head, tail),
+    }
+}
+
+// Shows it, where each number of the schedule is a worker.
+fn show_script<R: Read, W: Write>(
+    alloc: Global,
+    reader: &mut R,
+    writer: &mut W,
+    settings: &Settings,
+    schedule: &[u8],
+    head: &str,
+    tail: &str,
+) -> Result<(), ServeError>
+    requires { All (λ worker. worker < settings.now.workers) schedule.now }
+    ensures shown { OnOk result (WritesText
+        (IsShowText head.now tail.now settings.now.workers settings.now.fan schedule.now)
+        (R.remaining reader.old) (W.contents writer.old) (W.contents writer.new)) }
+    ensures fault { IfErr result (TellsWorkersFault (R.remaining reader.old)) }
+    ensures left { IfErr result (λ error. LeavesShow
+        (IsShowText head.now tail.now settings.now.workers settings.now.fan schedule.now)
+        (R.remaining reader.old) error (W.contents writer.old) (W.contents writer.new)) }
+{
+    let script = read_script(alloc, reader)?;
+    let index = new_index(alloc, settings)?;
+    let mut text = String::new(alloc);
+    write!(
+        text,
+        "workers {}\nfan {}\n",
+        settings.workers(),
+        settings.fan()
+    )?;
+    show_parts(
+        alloc,
+        index,
+        script.parts,
+        settings.workers(),
+        schedule,
+        &mut text,
+    )?;
+    write_replay(writer, head, &text, tail)
+}
+
+// Adds the text of the last batch, over the tree that the parts before it leave.
+fn show_parts(
+    alloc: Global,
+    index: Index,
+    parts: Vec<Part>,
+    workers: u8,
+    schedule: &[u8],
+    text: &mut String,
+) -> Result<(), ServeError>
+    requires allowed { MayWork workers }
+    requires workers { All (λ worker. worker < workers) schedule.now }
+    ensures shown { OnOk result (AddsParts workers schedule.now index parts.items
+        (string_bytes text.old) (string_bytes text.new)) }
+    ensures refused { IfErr result IsPartsFault }
+{
+    let mut front = parts;
+    match take_last_batch(&mut front) {
+        Some(batch) => {
+            let index = run_parts(alloc, index, front, workers)?;
+            show_batch(alloc, index, batch, workers, schedule, text)
+        }
+        None => Ok(()),
+    }
+}
+
+// Takes the last batch away, with what comes after it.
+fn take_last_batch(parts: &mut Vec<Part>) -> Option<Batch>
+    ensures { MatchOption result (count_by is_batch parts.old.items ≡ 0)
+        (IsLastBatch parts.old.items parts.new.items) }
+{
+    while let Some(part) = parts.pop() {
+        if let Part::Batch(batch) = part {
+            return Some(batch);
+        }
+    }
+    None
+}

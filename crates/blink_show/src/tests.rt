@@ -1,0 +1,217 @@
+//! Texts of replays, worked by hand from the machine's table of states.
+use crate::serve_show;
+use blink_run::{CutKind, Driver, ServeError, Settings};
+use blink_steps::StepError;
+use std::alloc::Global;
+use std::test::Fail;
+
+// What is written of a script's replay between `<` and `>`, how it ended, and how much of the script is left.
+fn shown(
+    alloc: Global,
+    script: &str,
+    workers: u8,
+    schedule: &[u8],
+) -> Result<(Vec<u8>, Result<(), ServeError>, usize), Fail> {
+    let settings = Settings::new(workers, 4, CutKind::Residue, Driver::Locked)?;
+    let mut text = script.as_bytes();
+    let mut output = Vec::new(alloc);
+    let end = serve_show(
+        alloc,
+        &mut text,
+        &mut output,
+        &settings,
+        schedule,
+        "<\n",
+        ">\n",
+    );
+    Ok((output, end, text.len()))
+}
+
+// A worker finds a key that a split, half finished by the other, has moved to a new page: all moments, byte for byte.
+#[test]
+fn half_a_split(rt: HostRuntime) -> Result<(), Fail> {
+    let script =
+        "insert,1,10\ninsert,2,20\ninsert,3,30\ninsert,5,50\nscan,1,0\ninsert,6,60\nfind,5,\nscan,0,9\n";
+    let schedule = [1, 0, 0, 0, 0, 0, 0, 1, 1];
+    let expected = "<
+workers 2
+fan 4
+op 0 0 insert 6 60
+op 1 1 find 5
+first
+prime 1
+worker 0 -
+worker 1 -
+page 1 - 0 - 18446744073709551615 - 1:10 2:20 3:30 5:50
+turn 1 P
+worker 1 1 - - going down, page 1
+turn 0 P
+worker 0 0 - - going down, page 1
+turn 0 R1
+worker 0 0 - - wants 1
+turn 0 L1
+worker 0 0 - - holds 1
+page 1 0 0 - 18446744073709551615 - 1:10 2:20 3:30 5:50
+turn 0 R1
+worker 0 0 - - new page of a split, holds 1
+turn 0 W2
+worker 0 0 - - old page of a split, holds 1
+page 2 - 0 3 18446744073709551615 - 5:50 6:60
+turn 0 W1
+worker 0 0 - - asks the prime block, holds 1
+page 1 0 0 - 3 2 1:10 2:20 3:30
+decided 0 inserted
+turn 1 R1
+worker 1 1 - - going down, page 2
+turn 1 R2
+worker 1 -
+decided 1 found 50
+finish 0 P
+worker 0 0 - - new root, holds 1
+finish 0 W3
+worker 0 0 - - names the root, holds 1
+page 3 - 1 - 18446744073709551615 - 3:1 18446744073709551615:2
+finish 0 Q
+prime 1 3
+worker 0 0 - - leaves 1 and ends
+finish 0 U1
+worker 0 -
+page 1 - 0 - 3 2 1:10 2:20 3:30
+>
+";
+    let (output, end, left) = shown(rt.alloc(), script, 2, &schedule)?;
+    assert!(rt; end.is_ok());
+    assert_eq!(rt; output.as_slice(), expected.as_bytes());
+    assert_eq!(rt; left, 0);
+    Ok(())
+}
+
+// A split is posted to the page that was remembered; a wait and an idle turn change nothing; the answers of each kind.
+#[test]
+fn a_posting(rt: HostRuntime) -> Result<(), Fail> {
+    let script =
+        "insert,1,1\ninsert,2,2\ninsert,3,3\ninsert,4,4\nscan,1,0\ninsert,5,5\ninsert,6,6\ninsert,7,7\npage,0,1\ninsert,9,9\ndelete,7,\nreplace,1,5\n";
+    let schedule = [0, 0, 0, 0, 1, 1, 1, 1, 2, 0, 0, 0, 0, 0, 0, 0, 0, 0];
+    let expected = "<
+workers 3
+fan 4
+op 0 0 insert 9 9
+op 1 1 delete 7
+op 2 1 replace 1 5
+first
+prime 1 3
+worker 0 -
+worker 1 -
+worker 2 -
+page 1 - 0 - 3 2 1:1 2:2 3:3
+page 2 - 0 3 18446744073709551615 - 4:4 5:5 6:6 7:7
+page 3 - 1 - 18446744073709551615 - 3:1 18446744073709551615:2
+turn 0 P
+worker 0 0 - - going down, page 3
+turn 0 R3
+worker 0 0 3 - going down, page 2
+turn 0 R2
+worker 0 0 3 - wants 2
+turn 0 L2
+worker 0 0 3 - holds 2
+page 2 0 0 3 18446744073709551615 - 4:4 5:5 6:6 7:7
+turn 1 P
+worker 1 1 - - going down, page 3
+turn 1 R3
+worker 1 1 3 - going down, page 2
+turn 1 R2
+worker 1 1 3 - wants 2
+turn 1 wait
+turn 2 idle
+turn 0 R2
+worker 0 0 3 - new page of a split, holds 2
+turn 0 W4
+worker 0 0 3 - old page of a split, holds 2
+page 4 - 0 6 18446744073709551615 - 7:7 9:9
+turn 0 W2
+worker 0 0 3 - asks the prime block, holds 2
+page 2 0 0 3 6 4 4:4 5:5 6:6
+decided 0 inserted
+turn 0 P
+worker 0 0 3 - leaves 2 to post
+turn 0 U2
+worker 0 0 - 0:6:4 wants 3
+page 2 - 0 3 6 4 4:4 5:5 6:6
+turn 0 L3
+worker 0 0 - 0:6:4 holds 3
+page 3 0 1 - 18446744073709551615 - 3:1 18446744073709551615:2
+turn 0 R3
+worker 0 0 - 0:6:4 change, holds 3
+turn 0 W3
+worker 0 0 - 0:6:4 leaves 3 and ends
+page 3 0 1 - 18446744073709551615 - 3:1 6:2 18446744073709551615:4
+turn 0 U3
+worker 0 -
+page 3 - 1 - 18446744073709551615 - 3:1 6:2 18446744073709551615:4
+finish 1 L2
+worker 1 1 3 - holds 2
+page 2 1 0 3 6 4 4:4 5:5 6:6
+finish 1 R2
+worker 1 1 3 - leaves 2 for 4
+finish 1 U2
+worker 1 1 3 - wants 4
+page 2 - 0 3 6 4 4:4 5:5 6:6
+finish 1 L4
+worker 1 1 3 - holds 4
+page 4 1 0 6 18446744073709551615 - 7:7 9:9
+finish 1 R4
+worker 1 1 3 - change, holds 4
+finish 1 W4
+worker 1 1 3 - leaves 4 and ends
+page 4 1 0 6 18446744073709551615 - 9:9
+decided 1 removed 7
+finish 1 U4
+worker 1 -
+page 4 - 0 6 18446744073709551615 - 9:9
+finish 1 P
+worker 1 2 - - going down, page 3
+finish 1 R3
+worker 1 2 3 - going down, page 1
+finish 1 R1
+worker 1 2 3 - wants 1
+finish 1 L1
+worker 1 2 3 - holds 1
+page 1 1 0 - 3 2 1:1 2:2 3:3
+finish 1 R1
+worker 1 2 3 - change, holds 1
+finish 1 W1
+worker 1 2 3 - leaves 1 and ends
+page 1 1 0 - 3 2 1:5 2:2 3:3
+decided 2 replaced 1
+finish 1 U1
+worker 1 -
+page 1 - 0 - 3 2 1:5 2:2 3:3
+>
+";
+    let (output, end, _) = shown(rt.alloc(), script, 3, &schedule)?;
+    assert!(rt; end.is_ok());
+    assert_eq!(rt; output.as_slice(), expected.as_bytes());
+    Ok(())
+}
+
+#[test]
+fn scripts_without_operations_have_no_frame(rt: HostRuntime) -> Result<(), Fail> {
+    for script in ["", "scan,0,9\n", "page,0,1\nscan,1,0\n"] {
+        let (output, end, _) = shown(rt.alloc(), script, 3, &[2, 0])?;
+        assert!(rt; end.is_ok());
+        assert_eq!(rt; output.as_slice(), b"<\nworkers 3\nfan 4\n>\n".as_slice());
+    }
+    Ok(())
+}
+
+#[test]
+fn refusals(rt: HostRuntime) -> Result<(), Fail> {
+    let (output, end, left) = shown(rt.alloc(), "find,1,\n", 3, &[2, 3, 4])?;
+    assert!(rt; end == Err(ServeError::Step(StepError::NoWorker(3))));
+    assert!(rt; output.is_empty());
+    assert_eq!(rt; left, 8);
+    let (output, end, _) = shown(rt.alloc(), "find,1,\nfind,x,\n", 3, &[2])?;
+    assert!(rt; matches!(end, Err(ServeError::Script(_))));
+    assert!(rt; output.is_empty());
+    Ok(())
+}

@@ -1,9 +1,0 @@
-use Rattle.std.proofs.Common.{◌∙◌, sym}
-use Rattle.index_main.specs.Value.{worker_of}
-use Rattle.index_main.proofs.OneMissing.{one_missing}
-use Rattle.index_main.proofs.value.workers_at.Goals as goal
-
--- a part that spells no worker leaves no schedule
-pub returns-in-None : goal.returns-in-None
-returns-in-None c = λ workers all.
-    one_missing (λ part. worker_of part.now) c.args.parts.now c.loop-part.part-index _ workers c.loop-part-test.true (sym c.worker_of.ensures ∙ c.in-None.is) all

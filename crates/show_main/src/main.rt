@@ -1,0 +1,39 @@
+//! The program `blink-show`: it replays a script of operations on standard input and writes a page to look at it.
+#![tactic(auto)]
+
+mod page;
+mod program;
+
+use blink_line::{ProgramError, end_of};
+use page::{HEAD, TAIL};
+use program::carry_out;
+use std::process::ExitCode;
+use std::rt::Env;
+use std::{env, io};
+
+// Reads the command line and carries it out.
+fn blink_show(rt: &(impl Env + Input + Print + AllocGlobal)) -> Result<(), ProgramError> {
+    let alloc = rt.alloc();
+    let words: Vec<String> = match env::args(rt) {
+        Ok(words) => words.collect(alloc)?,
+        Err(_) => return Err(ProgramError::Memory),
+    };
+    let texts: Vec<&str> = words.iter().map(|word| word.as_str()).collect(alloc)?;
+    let texts = texts.as_slice();
+    carry_out(
+        alloc,
+        texts,
+        HEAD,
+        TAIL,
+        &mut rt.reader(),
+        &mut io::writer(rt),
+    )
+}
+
+fn main(rt: HostRuntime) -> ExitCode {
+    let end = end_of(rt.alloc(), blink_show(&rt));
+    if let Some(lines) = end.lines() {
+        let _ = eprintln!(rt; "{lines}");
+    }
+    ExitCode::from(end.status)
+}

@@ -1,0 +1,39 @@
+//! What the command line asks for, carried out.
+ghost use Rattle.std.specs.Prelude.{◌≡◌, IfErr, OnOk};
+ghost use Rattle.clap.specs.Walk.{texts};
+ghost use Rattle.show_main.specs.Program.{IsFault, Leaves, WritesPage};
+
+use blink_line::{ProgramError, read_replay};
+use blink_show::serve_show;
+use std::alloc::Global;
+use std::io::{Read, Write};
+
+#[cfg(test)]
+mod tests;
+
+/// Carries out what the words of a command line ask for, the program's name first: reads the script and writes the page of its
+/// replay, the frames between `head` and `tail`. Nothing is read where the words ask for nothing, and nothing is written after a
+/// refusal, but where the writer failed: then a beginning of the page was.
+pub fn carry_out<R: Read, W: Write>(
+    alloc: Global,
+    words: &[&str],
+    head: &str,
+    tail: &str,
+    reader: &mut R,
+    writer: &mut W,
+) -> Result<(), ProgramError>
+    ensures written { OnOk result (WritesPage head.now tail.now (texts words.now)
+        (R.remaining reader.old) (W.contents writer.old) (W.contents writer.new)) }
+    ensures fault { IfErr result (IsFault (texts words.now) (R.remaining reader.old)) }
+    ensures left { IfErr result (λ error. Leaves head.now tail.now (texts words.now)
+        (R.remaining reader.old) error (W.contents writer.old) (W.contents writer.new)) }
+{
+    let (settings, schedule) = match read_replay(alloc, words) {
+        Ok(asked) => asked,
+        Err(error) => return Err(ProgramError::Line(error)),
+    };
+    match serve_show(alloc, reader, writer, &settings, &schedule, head, tail) {
+        Ok(()) => Ok(()),
+        Err(error) => Err(ProgramError::Serve(error)),
+    }
+}

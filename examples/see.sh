@@ -1,0 +1,179 @@
+#!/bin/sh
+# Opens the pages of the replays in a browser without a window and looks at every frame: nothing may be told on the console, the keys,
+# the slider and the lines must step, no two boxes overlap, all text of a page stands in its box, and each arrow ends at a box and
+# crosses none, with keys shortened and as numbers. Then it makes pictures of three frames of each page, 1280 by 800, in pictures/,
+# smaller ones where there is python3.
+#
+#     see.sh [PAGE.html ..]     without a page, those below; of other pages no pictures are made
+#
+# It needs Chromium: apt-get install --no-install-recommends chromium. The variable CHROMIUM names another program.
+set -eu
+cd "$(dirname "$0")"
+chromium=${CHROMIUM:-chromium}
+if ! command -v "$chromium" >/dev/null; then
+    echo "there is no $chromium: apt-get install --no-install-recommends chromium" >&2
+    exit 2
+fi
+work=$(mktemp -d)
+trap 'rm -rf "$work"' EXIT
+
+# The frames that pictures are made of.
+frames_of() {
+    case $1 in
+    half_a_split) echo 6 8 13 ;;
+    overtaking) echo 22 28 36 ;;
+    root_grows) echo 30 32 39 ;;
+    inner_split) echo 15 17 25 ;;
+    esac
+}
+
+cat >"$work/look.html" <<'END_OF_LOOK'
+<script>
+"use strict";
+(() => {
+  const faults = [];
+  window.addEventListener("error", (event) => faults.push(event.message));
+  const fail = (text) => faults.push(document.getElementById("count").textContent + ": " + text);
+  const all = (what) => [...document.querySelectorAll("#tree " + what)];
+  const count = () => document.getElementById("count").textContent.split(" ")[0];
+  const press = (key) => document.dispatchEvent(new KeyboardEvent("keydown", { key, cancelable: true }));
+
+  function expect(what, wanted) {
+    if (count() !== String(wanted)) fail(what + " leads to " + count() + " instead of " + wanted);
+  }
+  function check_steps(last) {
+    expect("opening", 0);
+    press("ArrowLeft"), expect("left at the first", 0);
+    press("ArrowRight"), expect("right", Math.min(1, last));
+    press("ArrowRight"), expect("right", Math.min(2, last));
+    press("ArrowLeft"), expect("left", Math.min(1, last - 1));
+    press("End"), expect("end", last);
+    press("ArrowRight"), expect("right at the last", last);
+    press("Home"), expect("home", 0);
+    const slider = document.getElementById("slider");
+    slider.value = last >> 1;
+    slider.dispatchEvent(new Event("input"));
+    expect("the slider", last >> 1);
+    press("Home");
+    document.querySelector("#lines [data-at='1']").click();
+    expect("a line", 1);
+    press("Home");
+  }
+
+  const inside = (x, y, box, margin) => x > box.left + margin && x < box.right - margin && y > box.top + margin && y < box.bottom - margin;
+  const meet = (one, other) => one.left < other.right && other.left < one.right && one.top < other.bottom && other.top < one.bottom;
+  function check_boxes(boxes) {
+    boxes.forEach((box, at) => {
+      for (const other of boxes.slice(at + 1)) if (meet(box, other)) fail("two boxes overlap");
+      for (const label of all(".level")) if (meet(label.getBoundingClientRect(), box)) fail("a level's name overlaps a box");
+    });
+    for (const group of all(".page")) {
+      const box = group.querySelector(".box").getBoundingClientRect();
+      const texts = [...group.querySelectorAll("text")].map((text) => text.getBoundingClientRect());
+      texts.forEach((text, at) => {
+        if (text.left < box.left || text.right > box.right || text.bottom > box.bottom + 1) fail("text leaves its box");
+        const inner = { left: text.left + 1, right: text.right - 1, top: text.top + 3, bottom: text.bottom - 3 };
+        for (const other of texts.slice(at + 1)) if (meet(inner, other)) fail("two texts overlap");
+      });
+    }
+  }
+  function check_arrows(boxes) {
+    for (const path of all("path.way, path.link")) {
+      const matrix = path.getScreenCTM();
+      const length = path.getTotalLength();
+      const at = (distance) => path.getPointAtLength(distance).matrixTransform(matrix);
+      for (let distance = 0; distance <= length; distance += 3) {
+        const point = at(distance);
+        if (boxes.some((box) => inside(point.x, point.y, box, 1.5))) {
+          fail("an arrow crosses a box");
+          break;
+        }
+      }
+      const end = at(length);
+      const reaches = boxes.some((box) => inside(end.x, end.y, box, -14));
+      if (!reaches && !path.classList.contains("short")) fail("an arrow ends nowhere");
+    }
+  }
+  function check_frames(last) {
+    const stride = Math.max(1, Math.floor(last / 300));
+    for (let at = 0; at <= last; at += stride) {
+      const slider = document.getElementById("slider");
+      slider.value = at;
+      slider.dispatchEvent(new Event("input"));
+      const boxes = all(".page .box").map((box) => box.getBoundingClientRect());
+      check_boxes(boxes);
+      check_arrows(boxes);
+    }
+  }
+  function time_steps() {
+    press("Home");
+    const began = performance.now();
+    for (let at = 0; at < 30; at += 1) press("ArrowRight");
+    const step = (performance.now() - began) / 30;
+    const jump = performance.now();
+    press("End");
+    return "a step takes " + Math.round(step) + " ms, a jump to the end " + Math.round(performance.now() - jump) + " ms";
+  }
+  window.addEventListener("load", () => {
+    const opened = Math.round(performance.now());
+    const last = Number(document.getElementById("slider").max);
+    check_steps(last);
+    check_frames(last);
+    document.getElementById("short").click();
+    check_frames(last);
+    document.getElementById("short").click();
+    const times = time_steps();
+    const found = faults.length === 0 ? "in order" : faults.length + " faults, " + [...new Set(faults)].slice(0, 5).join("; ");
+    document.title = found + "; " + (last + 1) + " frames, open after " + opened + " ms, " + times;
+  });
+})();
+</script>
+END_OF_LOOK
+
+browse() {
+    timeout 300 "$chromium" --headless --no-sandbox --disable-gpu --hide-scrollbars --enable-logging=stderr --user-data-dir="$work/profile" \
+        --window-size=1280,800 "$@" 2>"$work/log"
+}
+
+failed=0
+look() {
+    page=$1
+    sed "/<meta charset/r $work/look.html" "$page" >"$work/page.html"
+    found=$(browse --dump-dom "file://$work/page.html" | grep -m 1 -o '<title>[^<]*' | sed 's/<title>//' || true)
+    echo "$page: ${found:-the browser told nothing}"
+    case $found in
+    "in order"*) ;;
+    *) failed=1 ;;
+    esac
+    if grep ':CONSOLE' "$work/log"; then
+        failed=1
+    fi
+}
+
+picture() {
+    browse --screenshot="$work/picture.png" "file://$(pwd)/$1.html#frame=$2" >/dev/null
+    if grep ':CONSOLE' "$work/log" || [ ! -s "$work/picture.png" ]; then
+        echo "pictures/$1-$2.png could not be made" >&2
+        failed=1
+    else
+        mv "$work/picture.png" "pictures/$1-$2.png"
+        if command -v python3 >/dev/null; then
+            python3 smaller.py "pictures/$1-$2.png"
+        fi
+    fi
+}
+
+if [ $# -gt 0 ]; then
+    for page in "$@"; do
+        look "$page"
+    done
+    exit $failed
+fi
+mkdir -p pictures
+for name in half_a_split overtaking root_grows inner_split; do
+    look "$name.html"
+    for frame in $(frames_of $name); do
+        picture $name "$frame"
+    done
+done
+exit $failed

@@ -1,0 +1,77 @@
+#!/bin/sh
+# What `blink` and `blink-show` do: runs one of the programs. It is built first where it isn't built yet, or where its sources are newer.
+#
+#     launch.sh CRATE NAME [WORD ..]
+set -eu
+top=$(cd "$(dirname "$0")" && pwd)
+crate=$1
+name=$2
+shift 2
+program=$top/crates/$crate/out/$crate
+# The same under the name that its help tells.
+named=$top/out/$name
+
+# A source that is newer than the program, if there is one.
+newer_source() {
+    find "$top"/crates.txt "$top"/crates/*/src "$top"/crates/*/specs "$top"/crates/*/proofs -type f -newer "$program" | head -n 1
+}
+
+# What the build is at: which crate of how many, and before the first a look at all of them.
+stage() {
+    if [ -z "$1" ]; then
+        echo "a first look at all crates"
+    else
+        number=$(grep '^[a-z]' "$top/crates.txt" | grep -n "^$1[ :]" | cut -d: -f1)
+        echo "crate $number of $crates, $1"
+    fi
+}
+
+# How the build gets on, told on standard error: each crate that it comes to, and every half minute how long it has taken.
+# The program is run on nothing once it is built, which is how it gets built. A build that is stopped goes on with the crate that it
+# had come to.
+build() {
+    crates=$(grep -c '^[a-z]' "$top/crates.txt")
+    log=$(mktemp)
+    began=$(date +%s)
+    echo "$name: proving and building the program, $crates crates, which takes some minutes the first time" >&2
+    # A process group of its own, where the shell can make one, so that all of it can be stopped.
+    { set -m; } 2>/dev/null
+    (cd "$top/crates/$crate" && exec rt run -- "$@") </dev/null >"$log" 2>&1 &
+    building=$!
+    set +m
+    trap 'kill -- -$building 2>/dev/null || kill $building 2>/dev/null || true; rm -f "$log"; exit 130' HUP INT TERM
+    told=none
+    told_at=0
+    while kill -0 "$building" 2>/dev/null; do
+        sleep 1
+        at=$(sed -n 's/^rt: chose --jobs .* for //p' "$log" | tail -n 1)
+        seconds=$(($(date +%s) - began))
+        if [ "$at" != "$told" ] || [ $((seconds - told_at)) -ge 30 ]; then
+            echo "$name: $(stage "$at"), after $seconds seconds" >&2
+            told=$at
+            told_at=$seconds
+        fi
+    done
+    if ! wait "$building"; then
+        cat "$log" >&2
+        rm -f "$log"
+        echo "$name: the program could not be built" >&2
+        exit 1
+    fi
+    trap - HUP INT TERM
+    rm -f "$log"
+    touch "$program"
+}
+
+if [ ! -x "$program" ] || [ -n "$(newer_source)" ]; then
+    case $crate in
+    index_main) build run ;;
+    *) build ;;
+    esac
+fi
+if [ ! -x "$named" ] || [ -n "$(find "$program" -newer "$named")" ]; then
+    mkdir -p "$top/out"
+    cp "$program" "$named.new"
+    mv "$named.new" "$named"
+fi
+exec "$named" "$@"
