@@ -32,6 +32,35 @@ fn a_pass_is_told_what_another_has_seen(rt: HostRuntime) -> Result<(), Fail> {
     Ok(())
 }
 
+// Asserts what a glance at a key gives.
+fn sees<R: Abort>(rt: &R, live: &Live, pass: &mut Pass, key: u64, kept: Option<u64>)
+    requires { IsPassOf live.now pass.old }
+    ensures { IsPassOf live.now pass.new }
+{
+    assert!(rt; live.glance(pass, key) == kept, "key {key}");
+}
+
+// Asserts that a glance gives 51 for key 5, 70 for key 7, and that key 8 isn't there: nobody has the keys 7 and 8.
+fn sees_what_is_kept<R: Abort>(rt: &R, live: &Live, pass: &mut Pass)
+    requires { IsPassOf live.now pass.old }
+    ensures { IsPassOf live.now pass.new }
+{
+    sees(rt, live, pass, 5, Some(51));
+    sees(rt, live, pass, 7, Some(70));
+    sees(rt, live, pass, 8, None);
+}
+
+// Inserts key 5, deletes it, and inserts it with another pointer.
+fn change_five<R: Wait + Abort>(rt: &R, live: &Live, pass: &mut Pass)
+    requires { IsPassOf live.now pass.old }
+    ensures { IsPassOf live.now pass.new }
+{
+    assert!(rt; live.insert(rt, pass, 5, 50) == Ok(Answer::Inserted));
+    assert!(rt; live.delete(rt, pass, 5) == Ok(Answer::Removed(50)));
+    sees(rt, live, pass, 5, None);
+    assert!(rt; live.insert(rt, pass, 5, 51) == Ok(Answer::Inserted));
+}
+
 #[test]
 fn what_was_told_is_told_on(rt: HostRuntime) -> Result<(), Fail> {
     let seven = [Op::Insert(7, 70)];
@@ -44,19 +73,12 @@ fn what_was_told_is_told_on(rt: HostRuntime) -> Result<(), Fail> {
     let mut first = live.deal(&mut keeper, vec![in rt.alloc(); 5]?, 2, 1)?;
     let mut second = live.deal(&mut keeper, vec![in rt.alloc(); 6]?, 0, 0)?;
     let mut third = live.deal(&mut keeper, Vec::new(rt.alloc()), 0, 0)?;
-    assert!(rt; live.insert(&rt, &mut first, 5, 50) == Ok(Answer::Inserted));
-    assert!(rt; live.delete(&rt, &mut first, 5) == Ok(Answer::Removed(50)));
-    assert!(rt; live.glance(&mut first, 5) == None);
-    assert!(rt; live.insert(&rt, &mut first, 5, 51) == Ok(Answer::Inserted));
-    assert!(rt; live.glance(&mut first, 5) == Some(51));
+    change_five(&rt, &live, &mut first);
     live.tell(&mut first, &mut second);
-    assert!(rt; live.glance(&mut second, 5) == Some(51));
+    sees_what_is_kept(&rt, &live, &mut second);
     live.tell(&mut second, &mut third);
-    assert!(rt; live.glance(&mut third, 5) == Some(51));
-    // Nobody has the keys 7 and 8.
-    assert!(rt; live.glance(&mut first, 7) == Some(70) && live.glance(&mut first, 8) == None);
-    assert!(rt; live.glance(&mut second, 7) == Some(70) && live.glance(&mut second, 8) == None);
-    assert!(rt; live.glance(&mut third, 7) == Some(70) && live.glance(&mut third, 8) == None);
+    sees_what_is_kept(&rt, &live, &mut third);
+    sees_what_is_kept(&rt, &live, &mut first);
     Ok(())
 }
 
