@@ -30,9 +30,24 @@ fn a_replacement_uses_a_deletion(rt: HostRuntime) -> Result<(), Fail> {
     Ok(())
 }
 
-// The row that page 1 is in.
-fn row_of_page_1(live: &Live) -> u64 {
-    live.table.shared.peek(1)
+// Asserts what a replacement gives, and that page 1 is in this row then.
+fn replaces<R: Wait + Abort>(
+    rt: &R,
+    live: &Live,
+    pass: &mut Pass,
+    entry: (u64, u64),
+    expected: Result<Answer, PassError>,
+    row: u64,
+)
+    requires { IsPassOf live.now pass.old }
+    ensures { IsPassOf live.now pass.new }
+{
+    let (key, pointer) = entry;
+    assert!(rt;
+        live.replace(rt, pass, key, pointer) == expected,
+        "key {key}"
+    );
+    assert_eq!(rt; live.table.shared.peek(1), row);
 }
 
 #[test]
@@ -45,20 +60,17 @@ fn each_accepted_call_uses_a_row(rt: HostRuntime) -> Result<(), Fail> {
     };
     let (live, mut keeper) = Live::open(rt.alloc(), &index, allowance)?;
     let mut pass = live.deal(&mut keeper, vec![in rt.alloc(); 5, 6]?, 0, 3)?;
-    assert!(rt; live.replace(&rt, &mut pass, 7, 70) == Err(PassError::NotYours));
+    let (not_yours, spent) = (Err(PassError::NotYours), Err(PassError::Spent));
+    let replaced = Ok(Answer::Replaced(50));
+    replaces(&rt, &live, &mut pass, (7, 70), not_yours, 2);
     assert!(rt; pass.rows == Span { next: 3, stop: 6 });
-    assert!(rt; row_of_page_1(&live) == 2);
     // The page is written anew, though the pointer stays.
-    assert!(rt; live.replace(&rt, &mut pass, 5, 50) == Ok(Answer::Replaced(50)));
-    assert!(rt; row_of_page_1(&live) == 3);
+    replaces(&rt, &live, &mut pass, (5, 50), replaced, 3);
     // The second row is used, and stays 0.
-    assert!(rt; live.replace(&rt, &mut pass, 6, 60) == Ok(Answer::Absent));
-    assert!(rt; row_of_page_1(&live) == 3);
-    assert!(rt; live.replace(&rt, &mut pass, 5, 51) == Ok(Answer::Replaced(50)));
-    assert!(rt; row_of_page_1(&live) == 5);
-    assert!(rt; live.replace(&rt, &mut pass, 5, 52) == Err(PassError::Spent));
-    assert!(rt; live.replace(&rt, &mut pass, 7, 70) == Err(PassError::NotYours));
-    assert!(rt; row_of_page_1(&live) == 5);
+    replaces(&rt, &live, &mut pass, (6, 60), Ok(Answer::Absent), 3);
+    replaces(&rt, &live, &mut pass, (5, 51), replaced, 5);
+    replaces(&rt, &live, &mut pass, (5, 52), spent, 5);
+    replaces(&rt, &live, &mut pass, (7, 70), not_yours, 5);
     let closed = live.close(rt.alloc(), keeper, vec![in rt.alloc(); pass]?)?;
     assert_eq!(rt;
         closed.dump(rt.alloc())?.as_str(),
