@@ -5,8 +5,8 @@ use Rattle.blink_page.specs.Entries.{value_at}
 use Rattle.blink_store.specs.Store.{PlainStore, page_of}
 use Rattle.blink_rest.specs.Entries.{AreEntries}
 use Rattle.blink_rest.specs.Level.{entries_along}
-use Rattle.blink_steps.specs.TreeMap.{IsMapOf, entries_from, pairs_of}
-use Rattle.blink_steps.proofs.Offered.{entries_at_start, entries_from-pairs_of}
+use Rattle.blink_machine.specs.TreeMap.{IsMapOf, entries_from, pairs_of}
+use Rattle.blink_machine.proofs.Offered.{entries_at_start, entries_from-pairs_of}
 use Rattle.blink_index.specs.Index.{level_of, map_of, cells_of}
 use Rattle.blink_index.specs.Laws.{MapIsKept, NoOtherMapIsKept}
 use Rattle.blink_index.proofs.PagesAlongLinks.{cells_of-chain}

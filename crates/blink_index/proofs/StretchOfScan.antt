@@ -8,7 +8,7 @@ use Rattle.blink_batch.specs.PlainMap.{entry}
 use Rattle.blink_page.specs.Place.{place_of}
 use Rattle.blink_page.specs.Rising.{IsRising}
 use Rattle.blink_page.proofs.Offered.{from_at_most_to, IsRising-append}
-use Rattle.blink_steps.specs.TreeMap.{entries_from}
+use Rattle.blink_machine.specs.TreeMap.{entries_from}
 use Rattle.std.specs.Iterator.{YieldsFirst}
 use Rattle.std.proofs.iter.runs.Sources.{from_front, as_is}
 use Rattle.blink_index.specs.Scan.{at_most, is_from, is_within, entries_to, one_fewer, BringsInOrder}

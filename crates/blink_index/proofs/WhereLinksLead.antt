@@ -12,13 +12,13 @@ use Rattle.blink_rest.specs.Entries.{AreEntries}
 use Rattle.blink_rest.specs.Level.{entries_along}
 use Rattle.blink_rest.specs.Rest.{IsStoreAtRest}
 use Rattle.blink_rest.proofs.Offered.{AreAmong-rest, chain_spans, entries_ascend, entries_exist_at_rest, InLine-front, InLine-rest, line_rising, same_cell, search_ends_at_leaf, stands_of, stands_split, stands_there}
-use Rattle.blink_steps.specs.TreeMap.{IsMapOf, pairs_of}
-use Rattle.blink_steps.specs.TreeMap.{entries_from}
+use Rattle.blink_machine.specs.TreeMap.{IsMapOf, pairs_of}
+use Rattle.blink_machine.specs.TreeMap.{entries_from}
 use Rattle.blink_index.specs.Index.{cells_of, map_of}
 use Rattle.blink_index.specs.Leaf.{IsLeafFor}
 use Rattle.blink_index.specs.Scan.{IsLinkOf, entries_after, entries_to, is_from, is_within}
 use Rattle.blink_index.proofs.PagesAlongLinks.{cells_from-line, cells_from-none, line_within}
-use Rattle.blink_steps.proofs.Offered.{entries_from-pairs_of}
+use Rattle.blink_machine.proofs.Offered.{entries_from-pairs_of}
 use Rattle.blink_index.proofs.MapOfStore.{map_of-entries}
 use Rattle.blink_index.proofs.StretchOfScan.{scan_of_parts, all_within, from_within}
 

@@ -4,7 +4,7 @@ use Rattle.blink_batch.specs.declared.Entry.{Entry}
 use Rattle.blink_rest.specs.Chain.{Cell, Pages}
 use Rattle.blink_rest.specs.Level.{entries_along}
 use Rattle.blink_store.specs.Store.{PlainStore, page_of}
-use Rattle.blink_steps.specs.TreeMap.{entries_from}
+use Rattle.blink_machine.specs.TreeMap.{entries_from}
 
 -- the pages from a link on, each the right link of the one before, and at most so many
 abbrev pub cells_from : Pages → ℕ → Option ℕ → List Cell

@@ -5,7 +5,7 @@ use Rattle.blink_rest.specs.Chain.{Cell}
 use Rattle.blink_rest.specs.Entries.{AreEntries}
 use Rattle.blink_rest.specs.Rest.{AreLevels, IsStoreAtRest}
 use Rattle.blink_store.specs.Store.{PlainStore, page_of}
-use Rattle.blink_steps.specs.TreeMap.{IsMapOf, pairs_of}
+use Rattle.blink_machine.specs.TreeMap.{IsMapOf, pairs_of}
 use Rattle.blink_index.specs.Dump.{text_of, text_of_store}
 use Rattle.blink_index.specs.Index.{map_of}
 

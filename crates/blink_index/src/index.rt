@@ -6,7 +6,7 @@ ghost use Rattle.blink_page.specs.Limits.{IsPageNumber};
 ghost use Rattle.blink_rest.specs.Entries.{AreEntries};
 ghost use Rattle.blink_rest.specs.Rest.{IsStoreAtRest};
 ghost use Rattle.blink_store.specs.Store.{page_of, new_store};
-ghost use Rattle.blink_steps.specs.TreeMap.{IsMapOf};
+ghost use Rattle.blink_machine.specs.TreeMap.{IsMapOf};
 ghost use Rattle.blink_index.specs.Codes.{IsBadFan};
 ghost use Rattle.blink_index.specs.Dump.{text_of_store};
 ghost use Rattle.blink_index.specs.Index.{map_of};

@@ -2,7 +2,8 @@
 use Rattle.std.specs.Prelude.{◌≡◌, ℕ, ◌+◌, ◌-◌, ◌*◌, ◌/◌, ◌%◌, ◌<◌, ◌≤◌}
 use Rattle.blink_page.specs.declared.limits.TheConstants.{MAX_PAGE}
 use Rattle.blink_rows.specs.declared.allowance.Allowance.{Allowance}
-use Rattle.blink_rows.specs.declared.limits.TheConstants.{NUMBERS_OF_INSERTION, ROWS_OF_INSERTION}
+use Rattle.blink_rows.specs.declared.limits.TheConstants.{ROWS_OF_INSERTION}
+use Rattle.blink_page.specs.declared.limits.TheConstants.{NUMBERS_OF_INSERTION}
 use Rattle.blink_rows.specs.declared.span.Span.{Span}
 
 abbrev pub length_of : Span → ℕ

@@ -1,6 +1,7 @@
 -- What a deal gives, and why it is refused.
 use Rattle.std.specs.Prelude.{◌≡◌, ◌⊎◌, ◌↔◌, ℕ, ◌+◌, ◌*◌, ◌<◌, Some, List, take, slice_get, Contains, IsPermutation}
-use Rattle.blink_rows.specs.declared.limits.TheConstants.{NUMBERS_OF_INSERTION, ROWS_OF_INSERTION}
+use Rattle.blink_rows.specs.declared.limits.TheConstants.{ROWS_OF_INSERTION}
+use Rattle.blink_page.specs.declared.limits.TheConstants.{NUMBERS_OF_INSERTION}
 use Rattle.blink_live.specs.declared.error.LiveError.{LiveError}
 use Rattle.blink_live.specs.declared.error.LiveError.TheVariants.{Taken, NoAllowance, DealOutOfMemory}
 use Rattle.blink_live.specs.declared.keeper.Keeper.{Keeper}

@@ -8,7 +8,8 @@ use Rattle.blink_batch.specs.PlainMap.{pointer_of}
 use Rattle.blink_index.specs.Index.{map_of}
 use Rattle.blink_rows.specs.Counts.{PlainCounts}
 use Rattle.blink_rows.specs.declared.allowance.Allowance.{Allowance}
-use Rattle.blink_rows.specs.declared.limits.TheConstants.{NUMBERS_OF_INSERTION, ROWS_OF_INSERTION}
+use Rattle.blink_rows.specs.declared.limits.TheConstants.{ROWS_OF_INSERTION}
+use Rattle.blink_page.specs.declared.limits.TheConstants.{NUMBERS_OF_INSERTION}
 use Rattle.blink_store.specs.Store.{PlainStore}
 use Rattle.blink_live.specs.declared.keeper.Keeper.{Keeper}
 use Rattle.blink_live.specs.declared.live.Live.{Live}

@@ -7,7 +7,7 @@ use Rattle.blink_rest.specs.Entries.{AreEntries}
 use Rattle.blink_rest.specs.Rest.{IsAtRest}
 use Rattle.blink_rows.specs.Counts.{PlainCounts}
 use Rattle.blink_rows.specs.Row.{prime_words, IsLawfulPrime}
-use Rattle.blink_steps.specs.TreeMap.{pairs_of}
+use Rattle.blink_machine.specs.TreeMap.{pairs_of}
 use Rattle.blink_live.specs.declared.keeper.Keeper.{Keeper}
 use Rattle.blink_live.specs.declared.live.Live.{Live}
 use Rattle.blink_live.specs.declared.pass.Pass.{Pass}

@@ -12,11 +12,11 @@ use Rattle.blink_rows.specs.Counts.{AreBounded}
 use Rattle.blink_rows.specs.Row.{page_words, prime_words}
 use Rattle.blink_rows.specs.declared.limits.TheConstants.{ROW_WORDS}
 use Rattle.blink_rows.specs.declared.span.Span.{Span}
-use Rattle.blink_steps.specs.Machine.{PlainMachine}
-use Rattle.blink_steps.specs.Moment.{Moment}
-use Rattle.blink_steps.specs.Places.{way_left}
-use Rattle.blink_steps.specs.Sound.{IsSound}
-use Rattle.blink_steps.specs.StepLaw.{IsMapAt}
+use Rattle.blink_machine.specs.Machine.{PlainMachine}
+use Rattle.blink_machine.specs.Moment.{Moment}
+use Rattle.blink_machine.specs.Places.{way_left}
+use Rattle.blink_machine.specs.Sound.{IsSound}
+use Rattle.blink_machine.specs.StepLaw.{IsMapAt}
 use Rattle.blink_live.specs.declared.view.Call.{Call}
 use Rattle.blink_live.specs.declared.view.Change.{Change}
 use Rattle.blink_live.specs.declared.view.Plan.{Plan}

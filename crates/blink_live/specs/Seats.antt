@@ -14,12 +14,12 @@ use Rattle.blink_page.specs.declared.search.Way.{Way}
 use Rattle.blink_page.specs.declared.search.Way.TheVariants.{Here}
 use Rattle.blink_rows.specs.Row.{page_words, prime_words}
 use Rattle.blink_rows.specs.declared.span.Span.{Span}
-use Rattle.blink_steps.specs.declared.machine.Job.TheVariants.{Leaf}
-use Rattle.blink_steps.specs.declared.machine.State.TheVariants.{Want, Ended}
-use Rattle.blink_steps.specs.OnTheWay.{IsOnItsWay}
-use Rattle.blink_steps.specs.Machine.{PlainMachine}
-use Rattle.blink_steps.specs.Moment.{goes_on}
-use Rattle.blink_steps.specs.Table.{IsUpdate}
+use Rattle.blink_machine.specs.declared.machine.Job.TheVariants.{Leaf}
+use Rattle.blink_machine.specs.declared.machine.State.TheVariants.{Want, Ended}
+use Rattle.blink_machine.specs.OnTheWay.{IsOnItsWay}
+use Rattle.blink_machine.specs.Machine.{PlainMachine}
+use Rattle.blink_machine.specs.Moment.{goes_on}
+use Rattle.blink_machine.specs.Table.{IsUpdate}
 use Rattle.blink_live.specs.declared.live.Live.{Live}
 use Rattle.blink_live.specs.declared.view.Role.TheVariants.{Pass}
 use Rattle.blink_live.specs.declared.view.View.{View}

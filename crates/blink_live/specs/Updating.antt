@@ -3,11 +3,11 @@ use Rattle.std.specs.Prelude.{◌≡◌, ◌+◌, ◌≤◌, Some, None, IsSome}
 use mathlib.Core.List.{IsPrefix}
 use Rattle.blink_batch.specs.declared.Op.{Op}
 use Rattle.blink_batch.specs.Operation.{answer_of}
-use Rattle.blink_steps.specs.declared.machine.State.{State}
-use Rattle.blink_steps.specs.declared.machine.State.TheVariants.{Start, Going, Ended}
-use Rattle.blink_steps.specs.Allowance.{numbers_left, writes_left, primes_left}
-use Rattle.blink_steps.specs.Machine.{PlainMachine}
-use Rattle.blink_steps.specs.Moment.{goes_on}
+use Rattle.blink_machine.specs.declared.machine.State.{State}
+use Rattle.blink_machine.specs.declared.machine.State.TheVariants.{Start, Going, Ended}
+use Rattle.blink_machine.specs.Allowance.{numbers_left, writes_left, primes_left}
+use Rattle.blink_machine.specs.Machine.{PlainMachine}
+use Rattle.blink_machine.specs.Moment.{goes_on}
 use Rattle.blink_live.specs.declared.view.Call.{Call}
 use Rattle.blink_live.specs.declared.view.Share.{Share}
 use Rattle.blink_live.specs.declared.view.View.{View}

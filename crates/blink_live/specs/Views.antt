@@ -7,10 +7,11 @@ use Rattle.blink_batch.specs.declared.Op.TheVariants.{Find, Insert, Delete, Repl
 use Rattle.blink_batch.specs.Operation.{key_of, map_after}
 use Rattle.blink_batch.specs.PlainMap.{pointer_of}
 use Rattle.blink_index.specs.Index.{map_of}
-use Rattle.blink_rows.specs.declared.limits.TheConstants.{NUMBERS_OF_INSERTION, ROW_WORDS, ROWS_OF_INSERTION}
+use Rattle.blink_rows.specs.declared.limits.TheConstants.{ROW_WORDS, ROWS_OF_INSERTION}
+use Rattle.blink_page.specs.declared.limits.TheConstants.{NUMBERS_OF_INSERTION}
 use Rattle.blink_rows.specs.declared.span.Span.{Span}
-use Rattle.blink_steps.specs.Machine.{PlainMachine}
-use Rattle.blink_steps.specs.Moment.{goes_on}
+use Rattle.blink_machine.specs.Machine.{PlainMachine}
+use Rattle.blink_machine.specs.Moment.{goes_on}
 use Rattle.blink_live.specs.declared.view.Call.{Call}
 use Rattle.blink_live.specs.declared.view.Change.{Change}
 use Rattle.blink_live.specs.declared.view.Opened.{Opened}

@@ -6,9 +6,9 @@ ghost use Rattle.blink_batch.specs.Operation.{key_of};
 ghost use Rattle.blink_page.specs.Limits.{IsPageNumber};
 ghost use Rattle.blink_rows.specs.Row.{page_words, prime_words, IsRowOf};
 ghost use Rattle.blink_rows.specs.declared.limits.TheConstants.{ROW_WORDS};
-ghost use Rattle.blink_steps.specs.Kinds.{latch, unlatch};
-ghost use Rattle.blink_steps.specs.Machine.{NeedsLatch, NeedsNew, NeedsPrimeWrite, NeedsWrite, NeedsUnlatch};
-ghost use Rattle.blink_steps.specs.Table.{PrimeOut, done, page_out};
+ghost use Rattle.blink_machine.specs.Kinds.{latch, unlatch};
+ghost use Rattle.blink_machine.specs.Machine.{NeedsLatch, NeedsNew, NeedsPrimeWrite, NeedsWrite, NeedsUnlatch};
+ghost use Rattle.blink_machine.specs.Table.{PrimeOut, done, page_out};
 ghost use Rattle.blink_live.specs.Plays.{GoesOn, PublishesNew, PublishesPage, PublishesPrime};
 ghost use Rattle.blink_live.specs.Seats.{IsFirst, IsPassSeat};
 ghost use Rattle.blink_live.specs.Views.{drafts};
@@ -18,7 +18,7 @@ use crate::live::Live;
 use crate::rule::{LetGo, Publish, PublishNew, PublishPrime, StoreWord, TryLatch};
 use crate::view::View;
 use atomic_table::Seat;
-use blink_steps::Machine;
+use blink_machine::Machine;
 
 impl Live {
     // The place of the page's latch word.

@@ -1,7 +1,7 @@
 //! How a table's keeper deals passes.
 ghost use Rattle.std.specs.Prelude.{◌≡◌, ◌⊎◌, ◌↔◌, ℕ, ◌+◌, ◌*◌, ◌≤◌, IfOk, IfErr, OnOk, OnErr, IsErrOf, IsTrue, Contains, IsSorted, []};
 ghost use Rattle.std.specs.Ordering.{nat_cmp};
-ghost use Rattle.blink_rows.specs.declared.limits.TheConstants.{NUMBERS_OF_INSERTION};
+ghost use Rattle.blink_page.specs.declared.limits.TheConstants.{NUMBERS_OF_INSERTION};
 ghost use Rattle.blink_live.specs.Dealing.{CanDeal};
 ghost use Rattle.blink_live.specs.Deals.{IsFirstTaken, NoneIsTaken, LacksAllowance, IsDealt, HasDealt, IsDealRefusal, rows_for};
 ghost use Rattle.blink_live.specs.Handles.{IsKeeperOf, taken_of};

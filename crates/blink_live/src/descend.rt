@@ -10,7 +10,7 @@ use crate::live::Live;
 use crate::view::View;
 use atomic_table::Seat;
 use blink_batch::Op;
-use blink_steps::{Machine, Need};
+use blink_machine::{Machine, Need};
 
 impl Live {
     // Takes an operation down to the leaf of its key.

@@ -3,7 +3,7 @@ ghost use Rattle.std.specs.Prelude.{◌≡◌, ℕ, List, IfOk};
 ghost use Rattle.std.specs.Mem.Slots.{slots_items, slots_len, IsFull};
 ghost use Rattle.blink_batch.specs.declared.Entry.{Entry};
 ghost use Rattle.blink_page.specs.Limits.{IsFan};
-ghost use Rattle.blink_steps.specs.TreeMap.{IsMapOf};
+ghost use Rattle.blink_machine.specs.TreeMap.{IsMapOf};
 ghost use Rattle.blink_live.specs.Gathered.{IsNumberedInOrder};
 ghost use Rattle.blink_live.specs.Merge.{KeepsPrime, KeepsTree};
 ghost use Rattle.blink_live.specs.Words.{word_count};

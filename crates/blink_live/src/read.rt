@@ -7,7 +7,7 @@ ghost use Rattle.blink_page.specs.Entries.{value_at};
 ghost use Rattle.blink_page.specs.Page.{PlainPage};
 ghost use Rattle.blink_page.specs.Rising.{IsRising};
 ghost use Rattle.blink_rows.specs.declared.limits.TheConstants.{ROW_WORDS};
-ghost use Rattle.blink_steps.specs.Machine.{PlainMachine, NeedsPage};
+ghost use Rattle.blink_machine.specs.Machine.{PlainMachine, NeedsPage};
 ghost use Rattle.blink_live.specs.Plays.{Begins, LoadsPage};
 ghost use Rattle.blink_live.specs.Seats.{IsGoing, IsPassSeat, IsSameSeat, ReadsPage, TellsWayFor};
 ghost use Rattle.blink_live.specs.Views.{CanBegin};
@@ -21,9 +21,9 @@ use crate::rule::{Begin, Begun, LoadPage, LoadWord};
 use crate::view::View;
 use atomic_table::Seat;
 use blink_batch::Op;
+use blink_machine::Machine;
 use blink_page::Way;
 use blink_rows::HEAD_WORDS;
-use blink_steps::Machine;
 use std::marker::Brand;
 
 // The words of a row's head.

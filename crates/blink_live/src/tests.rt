@@ -11,7 +11,7 @@ mod watching;
 
 use blink_batch::{Batch, Lanes, Op};
 use blink_index::Index;
-use blink_steps::World;
+use blink_machine::World;
 use std::alloc::Global;
 use std::test::Fail;
 

@@ -3,7 +3,7 @@ ghost use Rattle.std.specs.Prelude.{◌≡◌, ◌+◌, ◌-◌, None, Contains}
 ghost use mathlib.Core.List.{IsPrefix};
 ghost use Rattle.blink_batch.specs.Batch.{FitsWords};
 ghost use Rattle.blink_batch.specs.Operation.{answer_of, key_of};
-ghost use Rattle.blink_steps.specs.Table.{IsUpdate};
+ghost use Rattle.blink_machine.specs.Table.{IsUpdate};
 ghost use Rattle.blink_live.specs.Seats.{IsPassSeat};
 ghost use Rattle.blink_live.specs.Updating.{SameBesideCall};
 ghost use Rattle.blink_live.specs.Views.{CanBegin, KnowsItsOwn, changed_by, for_call, pages_of, rows_of, span};
@@ -12,8 +12,8 @@ use crate::live::Live;
 use crate::view::View;
 use atomic_table::Seat;
 use blink_batch::{Answer, Op};
+use blink_machine::Need;
 use blink_rows::Span;
-use blink_steps::Need;
 use std::sync::Wait;
 use std::thread;
 

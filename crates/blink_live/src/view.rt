@@ -2,8 +2,8 @@
 
 use blink_batch::Entry;
 use blink_index::Index;
+use blink_machine::Machine;
 use blink_rows::{Counts, Span};
-use blink_steps::Machine;
 use std::collections::LinkedList;
 use std::snapshot::Snapshot;
 

@@ -3,8 +3,8 @@ ghost use Rattle.std.specs.Prelude.{◌≡◌, ◌<◌, ◌≤◌, Some, Contain
 ghost use Rattle.blink_batch.specs.Batch.{FitsWords};
 ghost use Rattle.blink_batch.specs.Operation.{key_of};
 ghost use Rattle.blink_page.specs.Limits.{IsPageNumber};
-ghost use Rattle.blink_steps.specs.Machine.{NeedsNew, NeedsPrimeWrite, NeedsWrite};
-ghost use Rattle.blink_steps.specs.Table.{done};
+ghost use Rattle.blink_machine.specs.Machine.{NeedsNew, NeedsPrimeWrite, NeedsWrite};
+ghost use Rattle.blink_machine.specs.Table.{done};
 ghost use Rattle.blink_live.specs.Plays.{PublishesNew, PublishesPage, PublishesPrime};
 ghost use Rattle.blink_live.specs.Seats.{IsFirst, IsPassSeat};
 ghost use Rattle.blink_live.specs.Views.{has_drafted, no_words};
@@ -13,8 +13,8 @@ ghost use Rattle.blink_live.specs.Words.{IsRowNumber};
 use crate::live::Live;
 use crate::view::View;
 use atomic_table::Seat;
+use blink_machine::Machine;
 use blink_rows::{ROW_WORDS, page_row, prime_row};
-use blink_steps::Machine;
 
 impl Live {
     // Writes the page that the operation writes over the page of this number: in the first row of those of its call, which the

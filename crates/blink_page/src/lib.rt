@@ -18,7 +18,10 @@ mod take;
 mod tests;
 
 pub use laws::postings_commute;
-pub use limits::{GREATEST_KEY, LEVELS, MAX_FAN, MAX_LEVEL, MAX_PAGE, MIN_FAN};
+pub use limits::{
+    GREATEST_KEY, LEVELS, MAX_FAN, MAX_LEVEL, MAX_PAGE, MIN_FAN, NUMBERS_OF_INSERTION,
+    WRITES_OF_INSERTION,
+};
 pub use page::Page;
 pub use post::Post;
 pub use prime::Prime;

@@ -19,5 +19,12 @@ pub const LEVELS: usize = 21;
 /// The greatest number of a page. Number 0 is the prime block's.
 pub const MAX_PAGE: u32 = 1_048_575;
 
+/// A bound on the page numbers that an insertion takes: one for each page that it splits, and one for a new root. Where 20 levels
+/// are named these are 21; the promise is 22.
+pub const NUMBERS_OF_INSERTION: u64 = 22;
+
+/// A bound on how often an insertion writes a page: twice on each level that it comes to, and once for a new root.
+pub const WRITES_OF_INSERTION: u64 = 43;
+
 /// The high key of the last page of each level, so that every key has a page.
 pub const GREATEST_KEY: u64 = 18_446_744_073_709_551_615;

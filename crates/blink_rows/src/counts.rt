@@ -2,8 +2,8 @@
 ghost use Rattle.std.specs.Prelude.{◌≡◌, ◌+◌, ◌-◌, ◌*◌, ◌≤◌};
 
 use crate::allowance::Allowance;
-use crate::limits::{NUMBERS_OF_INSERTION, ROW_WORDS, ROWS_OF_INSERTION};
-use blink_page::MAX_PAGE;
+use crate::limits::{ROW_WORDS, ROWS_OF_INSERTION};
+use blink_page::{MAX_PAGE, NUMBERS_OF_INSERTION};
 use std::marker::Model;
 
 /// How many page numbers a table has, with number 0, which is the prime block's, and how many rows.

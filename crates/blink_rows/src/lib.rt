@@ -15,8 +15,9 @@ mod tests;
 mod words;
 
 pub use allowance::Allowance;
+pub use blink_page::NUMBERS_OF_INSERTION;
 pub use counts::Counts;
-pub use limits::{HEAD_WORDS, NUMBERS_OF_INSERTION, ROW_WORDS, ROWS_OF_INSERTION};
+pub use limits::{HEAD_WORDS, ROW_WORDS, ROWS_OF_INSERTION};
 pub use pages::{page_row, row_page};
 pub use primes::{prime_row, row_prime};
 pub use span::Span;

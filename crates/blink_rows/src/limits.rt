@@ -6,8 +6,5 @@ pub const ROW_WORDS: usize = 70;
 /// How many of them stand before the entries of a page, or before the pages that a prime block names.
 pub const HEAD_WORDS: usize = 6;
 
-/// How many page numbers one insertion may take: one for a split on each level, and one for a new root.
-pub const NUMBERS_OF_INSERTION: u64 = 22;
-
 /// How many rows one insertion may take: two for a split on each level, and two for a new root and its prime block.
 pub const ROWS_OF_INSERTION: u64 = 44;

@@ -8,7 +8,7 @@ use Rattle.blink_batch.specs.declared.Answer.{Answer}
 use Rattle.blink_batch.specs.declared.Op.{Op}
 use Rattle.blink_batch.specs.Cut.{Assignment, IsLawfulCut}
 use Rattle.blink_store.specs.Store.{PlainStore}
-use Rattle.blink_steps.specs.declared.step.Step.{Step}
+use Rattle.blink_machine.specs.declared.step.Step.{Step}
 use Rattle.blink_steps.specs.Counts.{HasMoved}
 use Rattle.blink_steps.specs.Pick.{IsIdleWorker}
 use Rattle.blink_steps.specs.Promises.{HasAnswerAt, IsPromised, KeepsItsPromises}

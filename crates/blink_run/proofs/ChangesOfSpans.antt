@@ -1,6 +1,6 @@
 -- How many changes a pass's rows and page numbers are enough for, and how many the keeper's rest.
 use Rattle.std.proofs.Common.{◌≡◌, ℕ, ◌+◌, ◌-◌, ◌*◌, ◌≤◌, arith}
-use Rattle.blink_rows.specs.declared.limits.TheConstants.{NUMBERS_OF_INSERTION}
+use Rattle.blink_page.specs.declared.limits.TheConstants.{NUMBERS_OF_INSERTION}
 use Rattle.blink_rows.specs.declared.span.Span.{Span}
 use Rattle.blink_live.specs.Allowed.{inserts_left, deletes_left}
 use Rattle.blink_live.specs.Deals.{rows_for}

@@ -11,7 +11,7 @@ use Rattle.blink_store.specs.Store.{PlainStore}
 use Rattle.blink_rest.specs.Rest.{IsStoreAtRest}
 use Rattle.blink_steps.specs.Headline.{IsOneThread}
 use Rattle.blink_steps.specs.Run.{PlainRun}
-use Rattle.blink_steps.specs.TreeMap.{IsMapOf}
+use Rattle.blink_machine.specs.TreeMap.{IsMapOf}
 use Rattle.blink_run.specs.Run.{IsSettled}
 
 -- the same answers, each as one that is given

@@ -4,7 +4,7 @@ use Rattle.std.proofs.lemmas.Grind.{flat_map-append}
 use Rattle.std.proofs.lemmas.List.{append-nil, reverse-append}
 use Rattle.std.specs.List.{flat_map}
 use Rattle.blink_store.specs.Store.{PlainStore}
-use Rattle.blink_steps.specs.declared.Step.{Step}
+use Rattle.blink_machine.specs.declared.Step.{Step}
 use Rattle.blink_steps.specs.Run.{Taken}
 use Rattle.blink_steps.specs.World.{PlainWorld, GoesOnBy, IsWorldOf, SameBatch, TakesStep}
 use Rattle.blink_run.specs.Replay.{HasTurnsMore, IsTraced}

@@ -3,7 +3,7 @@ use Rattle.std.specs.Prelude.{◌≡◌, ◌↔◌, ℕ, ◌⊎◌, Bool, true, 
 use Rattle.blink_batch.specs.declared.Op.{Op}
 use Rattle.blink_batch.specs.Cut.{Assignment}
 use Rattle.blink_store.specs.Store.{PlainStore}
-use Rattle.blink_steps.specs.declared.step.Step.TheVariants.{Moved}
+use Rattle.blink_machine.specs.declared.step.Step.TheVariants.{Moved}
 use Rattle.blink_steps.specs.Counts.{HasMoved}
 use Rattle.blink_steps.specs.Pick.{IsIdleWorker, WouldWait}
 use Rattle.blink_steps.specs.Promises.{HasAnswerAt}

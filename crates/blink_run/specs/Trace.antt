@@ -2,10 +2,10 @@
 use Rattle.std.specs.Prelude.{ℕ, List, ◌++◌, reverse, codes}
 use Rattle.std.specs.List.{flat_map}
 use Rattle.std.specs.Fmt.{decimal}
-use Rattle.blink_steps.specs.declared.Kind.{Kind}
-use Rattle.blink_steps.specs.declared.Kind.TheVariants.{ReadPage, ReadPrime, Latch, Unlatch, WritePage, WritePrime}
-use Rattle.blink_steps.specs.declared.Step.{Step}
-use Rattle.blink_steps.specs.declared.Step.TheVariants.{Moved, Waited, Idle}
+use Rattle.blink_machine.specs.declared.Kind.{Kind}
+use Rattle.blink_machine.specs.declared.Kind.TheVariants.{ReadPage, ReadPrime, Latch, Unlatch, WritePage, WritePrime}
+use Rattle.blink_machine.specs.declared.Step.{Step}
+use Rattle.blink_machine.specs.declared.Step.TheVariants.{Moved, Waited, Idle}
 use Rattle.blink_steps.specs.Run.{Taken}
 
 -- P and Q are a read and a write of the prime block; the others have their page's number

@@ -1,6 +1,6 @@
 -- Turns one after another, with a frame for each.
 use Rattle.std.specs.Prelude.{◌≡◌, ℕ, List, [], ◌∷◌, ◌++◌, codes, ⊤}
-use Rattle.blink_steps.specs.declared.Step.{Step}
+use Rattle.blink_machine.specs.declared.Step.{Step}
 use Rattle.blink_steps.specs.Pick.{IsFirstMover}
 use Rattle.blink_steps.specs.Run.{PlainRun}
 use Rattle.blink_steps.specs.World.{PlainWorld, TakesStep}

@@ -4,12 +4,12 @@ use Rattle.std.specs.List.{flat_map}
 use Rattle.std.specs.Fmt.{decimal}
 use Rattle.blink_batch.specs.declared.Op.{Op}
 use Rattle.blink_batch.specs.declared.Op.TheVariants.{Find, Insert, Delete, Replace}
-use Rattle.blink_steps.specs.declared.Job.{Job}
-use Rattle.blink_steps.specs.declared.Job.TheVariants.{Leaf, Parent}
-use Rattle.blink_steps.specs.declared.Next.{Next}
-use Rattle.blink_steps.specs.declared.Next.TheVariants.{Finish, MoveRight, Post}
-use Rattle.blink_steps.specs.declared.State.{State}
-use Rattle.blink_steps.specs.declared.State.TheVariants.{Start, Going, Want, Held, Change, SplitNew, SplitOld, AskPrime, Root, NewPrime, Leave, Posting, Ended}
+use Rattle.blink_machine.specs.declared.Job.{Job}
+use Rattle.blink_machine.specs.declared.Job.TheVariants.{Leaf, Parent}
+use Rattle.blink_machine.specs.declared.Next.{Next}
+use Rattle.blink_machine.specs.declared.Next.TheVariants.{Finish, MoveRight, Post}
+use Rattle.blink_machine.specs.declared.State.{State}
+use Rattle.blink_machine.specs.declared.State.TheVariants.{Start, Going, Want, Held, Change, SplitNew, SplitOld, AskPrime, Root, NewPrime, Leave, Posting, Ended}
 
 -- where it goes from a page that it leaves
 abbrev pub words_of_next : Next → List ℕ

@@ -7,14 +7,14 @@ use Rattle.blink_page.specs.Rising.{least_above}
 use Rattle.blink_store.specs.Latches.{holder_of, HoldsNone, ChangesHolder}
 use Rattle.blink_store.specs.Store.{PlainStore, page_of, HasPage, WritesPage, SameFloorAndLevel}
 use Rattle.blink_store.specs.declared.latches.TheConstants.{WORKERS}
-use Rattle.blink_steps.specs.declared.machine.Need.{Need}
-use Rattle.blink_steps.specs.declared.machine.Need.TheVariants.{ReadPrime, ReadPage, Latch, WriteNew, WritePage, WritePrime, Unlatch, End}
-use Rattle.blink_steps.specs.declared.step.Kind.{Kind}
-use Rattle.blink_steps.specs.declared.step.Step.{Step}
-use Rattle.blink_steps.specs.declared.step.Step.TheVariants.{Moved, Waited, Idle}
-use Rattle.blink_steps.specs.Kinds.{read_page, read_prime, latch, unlatch, write_page, write_prime}
-use Rattle.blink_steps.specs.Machine.{PlainMachine, need_at, level_read, target}
-use Rattle.blink_steps.specs.Table.{SeesPrime, WaitsForLevel, SeesPage, page_out, done, PrimeOut}
+use Rattle.blink_machine.specs.declared.machine.Need.{Need}
+use Rattle.blink_machine.specs.declared.machine.Need.TheVariants.{ReadPrime, ReadPage, Latch, WriteNew, WritePage, WritePrime, Unlatch, End}
+use Rattle.blink_machine.specs.declared.step.Kind.{Kind}
+use Rattle.blink_machine.specs.declared.step.Step.{Step}
+use Rattle.blink_machine.specs.declared.step.Step.TheVariants.{Moved, Waited, Idle}
+use Rattle.blink_machine.specs.Kinds.{read_page, read_prime, latch, unlatch, write_page, write_prime}
+use Rattle.blink_machine.specs.Machine.{PlainMachine, need_at, level_read, target}
+use Rattle.blink_machine.specs.Table.{SeesPrime, WaitsForLevel, SeesPage, page_out, done, PrimeOut}
 
 -- the store, and the page whose latch each worker holds
 pub record PlainShared : Type 0 where

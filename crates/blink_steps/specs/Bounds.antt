@@ -2,7 +2,7 @@
 use Rattle.std.specs.Prelude.{ℕ, ◌+◌, ◌*◌, ◌<◌, ◌≤◌, List, length}
 use Rattle.blink_page.specs.declared.limits.TheConstants.{LEVELS}
 use Rattle.blink_store.specs.Store.{PlainStore}
-use Rattle.blink_steps.specs.declared.world.TheConstants.{NUMBERS_OF_INSERTION, WRITES_OF_INSERTION}
+use Rattle.blink_page.specs.declared.limits.TheConstants.{NUMBERS_OF_INSERTION, WRITES_OF_INSERTION}
 use Rattle.blink_steps.specs.Counts.{begun_inserts, numbers_in, page_writes_in, prime_writes_in}
 use Rattle.blink_steps.specs.Run.{PlainRun, Taken}
 

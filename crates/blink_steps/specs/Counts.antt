@@ -3,28 +3,10 @@ use Rattle.std.specs.Prelude.{◌≡◌, ℕ, ◌==◌, nat_lt, ◌&&◌, Bool, 
 use Rattle.std.specs.List.{zip}
 use Rattle.blink_batch.specs.declared.Op.{Op}
 use Rattle.blink_batch.specs.Batch.{is_insert}
-use Rattle.blink_steps.specs.declared.machine.State.{State}
-use Rattle.blink_steps.specs.declared.machine.State.TheVariants.{SplitNew, Root}
-use Rattle.blink_steps.specs.declared.step.Kind.{Kind}
-use Rattle.blink_steps.specs.declared.step.Step.{Step}
-use Rattle.blink_steps.specs.declared.step.Step.TheVariants.{Moved, Waited, Idle}
-use Rattle.blink_steps.specs.Kinds.{is_page_read, is_page_write, is_prime_write}
+use Rattle.blink_machine.specs.declared.step.Step.{Step}
+use Rattle.blink_machine.specs.declared.step.Step.TheVariants.{Waited}
+use Rattle.blink_machine.specs.Kinds.{has_moved, is_page_read, is_page_write, is_prime_write, moved_by, writes_new_page}
 use Rattle.blink_steps.specs.Run.{Taken}
-
--- a state whose step writes a new page
-abbrev pub writes_new_page : State → Bool
-writes_new_page (SplitNew page before) = true
-writes_new_page (Root page debt prime) = true
-writes_new_page state = false
-
--- the turn moved, by a step of this kind
-abbrev pub moved_by : (Kind → Bool) → Step → Bool
-moved_by of_kind (Moved kind) = of_kind kind
-moved_by of_kind Waited = false
-moved_by of_kind Idle = false
-
-abbrev pub has_moved : Step → Bool
-has_moved step = moved_by (λ kind. true) step
 
 abbrev pub HasMoved : Step → Type 0
 HasMoved step = has_moved step ≡ true

@@ -7,7 +7,7 @@ use Rattle.blink_batch.specs.declared.Op.{Op}
 use Rattle.blink_batch.specs.Operation.{answers, map_after_all}
 use Rattle.blink_batch.specs.Order.{operations_at}
 use Rattle.blink_steps.specs.Run.{PlainRun, moment_of}
-use Rattle.blink_steps.specs.TreeMap.{Keeps}
+use Rattle.blink_machine.specs.TreeMap.{Keeps}
 
 -- the answers so far are those of a run in the given order on a map, each at its operation's place
 abbrev pub AnswersSoFar : List Entry → List Op → List ℕ → List (Option Answer) → Type 0

@@ -9,7 +9,7 @@ use Rattle.blink_rest.specs.Reach.{IsReached}
 use Rattle.blink_store.specs.Store.{PlainStore, page_of}
 use Rattle.blink_steps.specs.Decided.{map_now}
 use Rattle.blink_steps.specs.Run.{PlainRun}
-use Rattle.blink_steps.specs.TreeMap.{IsMapOf}
+use Rattle.blink_machine.specs.TreeMap.{IsMapOf}
 use Rattle.blink_steps.specs.World.{PlainWorld, IsWorldOf, HasEnded, AfterEachTurn}
 
 -- the answers, and the entries that the tree keeps afterwards, are those of one thread that runs the batch in its own order on

@@ -1,14 +1,12 @@
--- Laws of turns and of reads, whatever the run.
+-- Laws of turns, whatever the run.
 use Rattle.std.specs.Prelude.{◌≡◌, ◌≢◌, ℕ, ◌+◌, Option, List, length}
-use Rattle.blink_page.specs.Page.{PlainPage}
 use Rattle.blink_store.specs.Store.{PlainStore}
-use Rattle.blink_steps.specs.declared.step.Step.{Step}
-use Rattle.blink_steps.specs.declared.step.Step.TheVariants.{Moved, Idle}
-use Rattle.blink_steps.specs.Kinds.{write_page}
-use Rattle.blink_steps.specs.Machine.{PlainMachine, NeedsNew}
-use Rattle.blink_steps.specs.Moment.{Moment, IsItsOperation, Steps}
+use Rattle.blink_machine.specs.declared.step.Step.{Step}
+use Rattle.blink_machine.specs.declared.step.Step.TheVariants.{Moved, Idle}
+use Rattle.blink_machine.specs.Kinds.{write_page}
+use Rattle.blink_machine.specs.Machine.{PlainMachine, NeedsNew}
+use Rattle.blink_machine.specs.Moment.{Moment, IsItsOperation, Steps}
 use Rattle.blink_steps.specs.Run.{PlainRun, Taken, TakesTurn, IsNextOf, moment_of}
-use Rattle.blink_steps.specs.Table.{SeesPrime, SeesPage, IsChange}
 use Rattle.blink_steps.specs.World.{PlainWorld, IsWorld}
 
 -- ---- turns and steps
@@ -42,18 +40,3 @@ abbrev pub StepsAreTurns : Type 0
 StepsAreTurns = (world : PlainWorld) (worker place : ℕ) (m after : PlainMachine) (next : Option ℕ) (step : Step) (then : Moment) → IsWorld world
     → IsNextOf world.run worker place m next → Steps (moment_of world.run) worker m step after then
     → TakesNextNumber world.run.shared.store m step → HasTurnTo world.run (turn_of worker place m step after) then
-
--- ---- what is read
-
--- what an operation makes of the prime block is determined by what it reads
-abbrev pub OneResultOfPrime : Type 0
-OneResultOfPrime = (m after other : PlainMachine) (prime : List ℕ) → SeesPrime m prime after → SeesPrime m prime other → after ≡ other
-
--- likewise of a page
-abbrev pub OneResultOfPage : Type 0
-OneResultOfPage = (m after other : PlainMachine) (number : ℕ) (page : PlainPage) → SeesPage m number page after → SeesPage m number page other → after ≡ other
-
--- and so is the change that it makes
-abbrev pub OneChange : Type 0
-OneChange = (m : PlainMachine) (page changed also : PlainPage) (kept and : Option ℕ) → IsChange m page changed kept → IsChange m page also and
-    → (changed ≡ also) × (kept ≡ and)

@@ -1,8 +1,8 @@
 -- What is decided in a run, and how far each operation has come.
 use Rattle.std.specs.Prelude.{ℕ, ◌+◌, Bool, true, false, if◌then◌else◌, Option, Some, None, List, [], ◌∷◌, ◌++◌, replicate, slice_set, slice_index_or}
 use Rattle.blink_batch.specs.declared.Answer.{Answer}
-use Rattle.blink_steps.specs.declared.step.Kind.{Kind}
-use Rattle.blink_steps.specs.Kinds.{is_page_read}
+use Rattle.blink_machine.specs.declared.step.Kind.{Kind}
+use Rattle.blink_machine.specs.Kinds.{is_page_read}
 
 pub record PlainLedger : Type 0 where
   -- the answer at each operation's place, once it is decided

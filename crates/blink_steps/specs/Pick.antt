@@ -1,9 +1,9 @@
 -- Which workers are idle, which wait, whose turn is picked, and a run that goes on by picked turns alone.
 use Rattle.std.specs.Prelude.{◌≡◌, ℕ, ◌-◌, ◌*◌, ◌<◌, Option, Some, List, ◌++◌, length, map, reverse, slice_get, sum}
 use Rattle.blink_page.specs.declared.limits.TheConstants.{MAX_PAGE}
-use Rattle.blink_steps.specs.declared.step.Step.TheVariants.{Waited}
+use Rattle.blink_machine.specs.declared.step.Step.TheVariants.{Waited}
 use Rattle.blink_steps.specs.Acts.{Acts}
-use Rattle.blink_steps.specs.Machine.{PlainMachine}
+use Rattle.blink_machine.specs.Machine.{PlainMachine}
 use Rattle.blink_steps.specs.Run.{PlainRun, Taken, Follows, IsNextOf, idle_seat}
 use Rattle.blink_steps.specs.Ways.{steps_at_most_with}
 use Rattle.blink_steps.specs.World.{PlainWorld, IsAtLanesEnd, OnEachTurn}

@@ -11,10 +11,10 @@ use Rattle.blink_steps.specs.Ways.{IsShort}
 use Rattle.blink_steps.specs.Bounds.{IsBounded}
 use Rattle.blink_steps.specs.Decided.{IsDecided}
 use Rattle.blink_steps.specs.Headline.{IsOneThread, IsReachedThroughout, ReachesPresent}
-use Rattle.blink_steps.specs.Owned.{HoldOneLatchEach}
+use Rattle.blink_machine.specs.Owned.{HoldOneLatchEach}
 use Rattle.blink_steps.specs.Run.{PlainRun, moment_of}
-use Rattle.blink_steps.specs.TreeMap.{IsMapOf, HasMap}
-use Rattle.blink_steps.specs.TreeWithDebts.{IsTreeWithDebts}
+use Rattle.blink_machine.specs.TreeMap.{IsMapOf, HasMap}
+use Rattle.blink_machine.specs.TreeWithDebts.{IsTreeWithDebts}
 use Rattle.blink_steps.specs.World.{PlainWorld, IsWorldOf, HasEnded, IsAtLanesEnd, OnEachTurn, WritesItsOwn}
 
 -- the operation at a place has its answer

@@ -7,13 +7,13 @@ use Rattle.blink_store.specs.Latches.{holder_of}
 use Rattle.blink_store.specs.Store.{PlainStore, page_of}
 use Rattle.blink_steps.specs.declared.seat.Seat.{Seat}
 use Rattle.blink_steps.specs.declared.seat.Working.{Working}
-use Rattle.blink_steps.specs.declared.step.Kind.{Kind}
-use Rattle.blink_steps.specs.declared.step.Step.{Step}
-use Rattle.blink_steps.specs.declared.step.Step.TheVariants.{Moved, Waited, Idle}
+use Rattle.blink_machine.specs.declared.step.Kind.{Kind}
+use Rattle.blink_machine.specs.declared.step.Step.{Step}
+use Rattle.blink_machine.specs.declared.step.Step.TheVariants.{Moved, Waited, Idle}
 use Rattle.blink_steps.specs.Acts.{PlainShared, Acts}
 use Rattle.blink_steps.specs.Ledger.{PlainLedger, empty_ledger, noted}
-use Rattle.blink_steps.specs.Machine.{PlainMachine, fresh}
-use Rattle.blink_steps.specs.Moment.{Moment, goes_on}
+use Rattle.blink_machine.specs.Machine.{PlainMachine, fresh}
+use Rattle.blink_machine.specs.Moment.{Moment, goes_on}
 
 pub record PlainRun : Type 0 where
   pub shared : PlainShared

@@ -3,11 +3,11 @@ use Rattle.std.specs.Prelude.{◌≡◌, ℕ, Option, Some, None, List, slice_ge
 use Rattle.blink_batch.specs.declared.Answer.{Answer}
 use Rattle.blink_steps.specs.Acts.{PlainShared, Acts, CanAct}
 use Rattle.blink_steps.specs.declared.error.StepError.{StepError}
-use Rattle.blink_steps.specs.declared.step.Step.{Step}
+use Rattle.blink_machine.specs.declared.step.Step.{Step}
 use Rattle.blink_steps.specs.declared.seat.Seat.{Seat}
 use Rattle.blink_steps.specs.declared.seat.Working.{Working}
-use Rattle.blink_steps.specs.Machine.{PlainMachine}
-use Rattle.blink_steps.specs.Moment.{goes_on}
+use Rattle.blink_machine.specs.Machine.{PlainMachine}
+use Rattle.blink_machine.specs.Moment.{goes_on}
 use Rattle.blink_steps.specs.Run.{PlainRun, busy_seat}
 
 -- the operation of a place, where it goes on

@@ -7,14 +7,14 @@ use Rattle.blink_batch.specs.Cut.{AreLanes}
 use Rattle.blink_batch.specs.Order.{part_of, places_from, next_place}
 use Rattle.blink_batch.specs.PlainMap.{IsAscending}
 use Rattle.blink_store.specs.Store.{IsLawfulStore}
-use Rattle.blink_steps.specs.declared.machine.State.TheVariants.{Ended}
+use Rattle.blink_machine.specs.declared.machine.State.TheVariants.{Ended}
 use Rattle.blink_steps.specs.declared.seat.Seat.{Seat}
 use Rattle.blink_steps.specs.declared.seat.Working.{Working}
 use Rattle.blink_steps.specs.Acts.{CanAct}
 use Rattle.blink_steps.specs.Decided.{IsDecided}
-use Rattle.blink_steps.specs.Machine.{PlainMachine}
+use Rattle.blink_machine.specs.Machine.{PlainMachine}
 use Rattle.blink_steps.specs.Run.{PlainRun, IsNextOf, idle_seat, moment_of}
-use Rattle.blink_steps.specs.Sound.{IsSound}
+use Rattle.blink_machine.specs.Sound.{IsSound}
 
 -- the operation has its answer
 abbrev pub is_answered : Option Answer → Bool

@@ -5,10 +5,11 @@ use Rattle.std.specs.List.{filter_map}
 use Rattle.blink_batch.specs.declared.Op.TheVariants.{Find}
 use Rattle.blink_batch.specs.Batch.{is_insert}
 use Rattle.blink_store.specs.Store.{PlainStore}
-use Rattle.blink_steps.specs.declared.machine.State.{State}
-use Rattle.blink_steps.specs.declared.machine.State.TheVariants.{Going, Want}
-use Rattle.blink_steps.specs.declared.world.TheConstants.{NUMBERS_OF_INSERTION}
-use Rattle.blink_steps.specs.Counts.{has_moved, moves_in, page_reads_in}
+use Rattle.blink_machine.specs.declared.machine.State.{State}
+use Rattle.blink_machine.specs.declared.machine.State.TheVariants.{Going, Want}
+use Rattle.blink_page.specs.declared.limits.TheConstants.{NUMBERS_OF_INSERTION}
+use Rattle.blink_steps.specs.Counts.{moves_in, page_reads_in}
+use Rattle.blink_machine.specs.Kinds.{has_moved}
 use Rattle.blink_steps.specs.Run.{PlainRun, Taken}
 
 -- the page that is read at a state on the way down

@@ -9,11 +9,11 @@ use Rattle.blink_store.specs.Latches.{holder_of}
 use Rattle.blink_store.specs.Store.{PlainStore, IsLawfulStore, page_of}
 use Rattle.blink_steps.specs.declared.error.StepError.{StepError}
 use Rattle.blink_steps.specs.declared.error.StepError.TheVariants.{OutOfMemory, NoWorker, TooLarge}
-use Rattle.blink_steps.specs.declared.step.Step.{Step}
-use Rattle.blink_steps.specs.declared.step.Step.TheVariants.{Moved}
-use Rattle.blink_steps.specs.declared.world.TheConstants.{NUMBERS_OF_INSERTION}
-use Rattle.blink_steps.specs.Kinds.{write_page}
-use Rattle.blink_steps.specs.Owned.{IsItsToWrite}
+use Rattle.blink_machine.specs.declared.step.Step.{Step}
+use Rattle.blink_machine.specs.declared.step.Step.TheVariants.{Moved}
+use Rattle.blink_page.specs.declared.limits.TheConstants.{NUMBERS_OF_INSERTION}
+use Rattle.blink_machine.specs.Kinds.{write_page}
+use Rattle.blink_machine.specs.Owned.{IsItsToWrite}
 use Rattle.blink_steps.specs.Run.{PlainRun, Taken, TakesTurn, Follows, IsOpeningRun, idle_seat}
 
 -- a tree at rest, and a batch with lanes, that a run may begin with

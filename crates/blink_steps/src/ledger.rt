@@ -2,8 +2,8 @@
 ghost use Rattle.std.specs.Prelude.{◌≡◌, ◌<◌, true, length, slice_index_or, IfOk};
 ghost use Rattle.blink_steps.specs.Ledger.{decides_now, empty_ledger, noted};
 
-use crate::step::Kind;
 use blink_batch::Answer;
+use blink_machine::Kind;
 use std::alloc::{AllocError, Global};
 use std::marker::Model;
 

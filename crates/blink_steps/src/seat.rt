@@ -3,10 +3,9 @@ ghost use Rattle.std.specs.Prelude.{◌≡◌, IsOkUnless};
 ghost use Rattle.blink_steps.specs.Seats.{left_in_seat, answer_in_seat, IsAbleInSeat, ActsInSeat};
 
 use crate::error::StepError;
-use crate::machine::Machine;
 use crate::shared::Shared;
-use crate::step::Step;
 use blink_batch::Answer;
+use blink_machine::{Machine, Step};
 
 /// An operation under way, and its place in the batch.
 #[derive(Debug, Drop)]

@@ -4,12 +4,11 @@ ghost use Rattle.blink_page.specs.declared.limits.TheConstants.{MAX_PAGE};
 ghost use Rattle.blink_page.specs.Limits.{IsFan};
 ghost use Rattle.blink_store.specs.Store.{WritesPage};
 ghost use Rattle.blink_steps.specs.Acts.{Acts, CanAct, MayReplace};
-ghost use Rattle.blink_steps.specs.Machine.{NeedsNew, NeedsWrite};
-ghost use Rattle.blink_steps.specs.Table.{page_out};
+ghost use Rattle.blink_machine.specs.Machine.{NeedsNew, NeedsWrite};
+ghost use Rattle.blink_machine.specs.Table.{page_out};
 
 use crate::error::StepError;
-use crate::machine::{Machine, Need};
-use crate::step::{Kind, Step};
+use blink_machine::{Kind, Machine, Need, Step};
 use blink_store::{Latches, Store};
 use std::marker::Model;
 

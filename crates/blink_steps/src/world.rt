@@ -10,20 +10,13 @@ ghost use Rattle.blink_steps.specs.World.{GoesOnBy, HasEnded, InItsHistory, IsRe
 use crate::error::StepError;
 use crate::run::Run;
 use crate::seat::Working;
-use crate::step::Step;
 use blink_batch::{Answer, Batch, Lanes};
-use blink_page::MAX_PAGE;
+use blink_machine::Step;
+use blink_page::{MAX_PAGE, NUMBERS_OF_INSERTION};
 use blink_rest::Rest;
 use blink_store::{Latches, Store};
 use std::alloc::Global;
 use std::marker::Model;
-
-/// A bound on the page numbers that an insertion takes: one for each page that it splits, and one for a new root. Where 20 levels
-/// are named these are 21; the promise is 22.
-pub const NUMBERS_OF_INSERTION: u64 = 22;
-
-/// A bound on how often an insertion writes a page: twice on each level that it comes to, and once for a new root.
-pub const WRITES_OF_INSERTION: u64 = 43;
 
 /// A batch's run over a tree at rest, up to some moment: one turn for each number of its schedule.
 ///

@@ -8,7 +8,7 @@ use lib.ListN.{get_elem?}
 use Rattle.atomic_table.specs.Table.{State, step, keeps, Allows}
 use Rattle.blink_rows.specs.declared.limits.TheConstants.{ROW_WORDS}
 use Rattle.blink_rows.specs.declared.span.Span.{Span}
-use Rattle.blink_steps.specs.Moment.{Moment}
+use Rattle.blink_machine.specs.Moment.{Moment}
 use Rattle.blink_live.specs.declared.view.Plan.{Plan}
 use Rattle.blink_live.specs.declared.view.Role.TheVariants.{Pass}
 use Rattle.blink_live.specs.declared.view.View.{View}

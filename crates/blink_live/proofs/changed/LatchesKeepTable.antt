@@ -11,16 +11,16 @@ use Rattle.atomic_table.specs.Table.{State, Act, Valid, stepped, carried_after, 
 use Rattle.atomic_table.proofs.Lists.{exchanged, set_again}
 use lib.Seq.{set-get_or}
 use Rattle.blink_batch.specs.Batch.{FitsWords}
-use Rattle.blink_steps.specs.declared.machine.Need.TheVariants.{Latch, Unlatch}
-use Rattle.blink_steps.specs.declared.step.Step.TheVariants.{Moved}
-use Rattle.blink_steps.specs.declared.step.Kind.TheVariants as kind
-use Rattle.blink_steps.specs.Kinds.{latch, unlatch}
-use Rattle.blink_steps.specs.Machine.{PlainMachine, NeedsLatch, NeedsUnlatch, need_at}
-use Rattle.blink_steps.specs.Moment.{Moment, goes_on, Steps, latches, unlatches, IsItsOperation, under_way}
-use Rattle.blink_steps.specs.Places.{way_left}
-use Rattle.blink_steps.specs.Sound.{IsSound}
-use Rattle.blink_steps.specs.Table.{done}
-use Rattle.blink_steps.proofs.Offered.{step_law, has_answer_at_end}
+use Rattle.blink_machine.specs.declared.machine.Need.TheVariants.{Latch, Unlatch}
+use Rattle.blink_machine.specs.declared.step.Step.TheVariants.{Moved}
+use Rattle.blink_machine.specs.declared.step.Kind.TheVariants as kind
+use Rattle.blink_machine.specs.Kinds.{latch, unlatch}
+use Rattle.blink_machine.specs.Machine.{PlainMachine, NeedsLatch, NeedsUnlatch, need_at}
+use Rattle.blink_machine.specs.Moment.{Moment, goes_on, Steps, latches, unlatches, IsItsOperation, under_way}
+use Rattle.blink_machine.specs.Places.{way_left}
+use Rattle.blink_machine.specs.Sound.{IsSound}
+use Rattle.blink_machine.specs.Table.{done}
+use Rattle.blink_machine.proofs.Offered.{step_law, has_answer_at_end}
 use Rattle.blink_live.specs.declared.view.Plan.{Plan}
 use Rattle.blink_live.specs.declared.view.Role.TheVariants.{Pass}
 use Rattle.blink_live.specs.declared.view.View.{View}

@@ -12,19 +12,19 @@ use Rattle.blink_batch.specs.PlainMap.{pointer_of}
 use Rattle.blink_page.specs.Page.{PlainPage}
 use Rattle.blink_rows.specs.Row.{page_words, prime_words, IsRowOf}
 use Rattle.blink_rows.specs.declared.span.Span.{Span}
-use Rattle.blink_steps.specs.declared.machine.State.TheVariants.{Ended}
-use Rattle.blink_steps.specs.declared.step.Kind.{Kind}
-use Rattle.blink_steps.specs.declared.step.Step.TheVariants.{Moved}
-use Rattle.blink_steps.specs.declared.step.Kind.TheVariants as kinds
-use Rattle.blink_steps.specs.Allowance.{UsesUp}
-use Rattle.blink_steps.specs.Kinds.{write_page, write_prime}
-use Rattle.blink_steps.specs.Machine.{PlainMachine, NeedsNew, NeedsWrite, NeedsPrimeWrite}
-use Rattle.blink_steps.specs.Moment.{Moment, goes_on, Steps, writes_page, writes_new, writes_prime, IsItsOperation, under_way}
-use Rattle.blink_steps.specs.Places.{way_left}
-use Rattle.blink_steps.specs.StepLaw.{deciding, other}
-use Rattle.blink_steps.specs.Table.{done, page_out, PrimeOut}
-use Rattle.blink_steps.specs.TreeMap.{Keeps}
-use Rattle.blink_steps.proofs.Offered.{step_law, has_answer_at_end}
+use Rattle.blink_machine.specs.declared.machine.State.TheVariants.{Ended}
+use Rattle.blink_machine.specs.declared.step.Kind.{Kind}
+use Rattle.blink_machine.specs.declared.step.Step.TheVariants.{Moved}
+use Rattle.blink_machine.specs.declared.step.Kind.TheVariants as kinds
+use Rattle.blink_machine.specs.Allowance.{UsesUp}
+use Rattle.blink_machine.specs.Kinds.{write_page, write_prime}
+use Rattle.blink_machine.specs.Machine.{PlainMachine, NeedsNew, NeedsWrite, NeedsPrimeWrite}
+use Rattle.blink_machine.specs.Moment.{Moment, goes_on, Steps, writes_page, writes_new, writes_prime, IsItsOperation, under_way}
+use Rattle.blink_machine.specs.Places.{way_left}
+use Rattle.blink_machine.specs.StepLaw.{deciding, other}
+use Rattle.blink_machine.specs.Table.{done, page_out, PrimeOut}
+use Rattle.blink_machine.specs.TreeMap.{Keeps}
+use Rattle.blink_machine.proofs.Offered.{step_law, has_answer_at_end}
 use Rattle.blink_live.specs.declared.view.Change.{Change}
 use Rattle.blink_live.specs.declared.view.Plan.{Plan}
 use Rattle.blink_live.specs.declared.view.Role.TheVariants.{Pass}
@@ -165,7 +165,7 @@ module _ (plan : Plan) (s : State ℕ View) (moment : Moment) (h : IsTableAt pla
   numbers_else : (numbers : Span) → ((n : ℕ) → numbers.next ≤ n → n < numbers.stop → n ≢ number) → HasNumbers plan h.owners moment (suc id) numbers → HasNumbers plan h.owners after_write (suc id) numbers
   numbers_else numbers differ has = record { in_range = has.in_range; own = has.own; free = λ n low high. free_else n (differ n low high) (has.free n low high) }
 
-  tree_written : Rattle.blink_steps.specs.Sound.IsSound after_write → Rattle.blink_steps.specs.Places.KeepsPlaces moment.pages after_write.pages
+  tree_written : Rattle.blink_machine.specs.Sound.IsSound after_write → Rattle.blink_machine.specs.Places.KeepsPlaces moment.pages after_write.pages
       → ((n : ℕ) → h.owners.page n ≢ suc id → moment.pages n ≡ None → n ≢ number)
       → HasNumbers plan h.owners after_write (suc id) v.pages → HasNumbers plan h.owners after_write (suc id) pages → pages.stop ≤ v.pages.next
       → IsStepOfTree plan s moment after_write h id number way v after_it (page_words page) pages at role

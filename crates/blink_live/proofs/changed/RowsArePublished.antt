@@ -16,14 +16,14 @@ use Rattle.blink_rest.specs.Chain.{Pages}
 use Rattle.blink_rows.specs.Row.{page_words, prime_words, IsRowOf}
 use Rattle.blink_rows.specs.declared.limits.TheConstants.{ROW_WORDS}
 use Rattle.blink_rows.specs.declared.span.Span.{Span}
-use Rattle.blink_steps.specs.declared.machine.State.{State as MachineState}
-use Rattle.blink_steps.specs.declared.machine.State.TheVariants.{Going}
-use Rattle.blink_steps.specs.Machine.{PlainMachine, need_at, target}
-use Rattle.blink_steps.specs.Moment.{Moment, goes_on, under_way}
-use Rattle.blink_steps.specs.Places.{KeepsPlaces, way_left, way_left_at}
-use Rattle.blink_steps.specs.Sound.{IsSound}
-use Rattle.blink_steps.specs.StepLaw.{IsMapAt}
-use Rattle.blink_steps.proofs.Offered.{step_law, way_left_stays}
+use Rattle.blink_machine.specs.declared.machine.State.{State as MachineState}
+use Rattle.blink_machine.specs.declared.machine.State.TheVariants.{Going}
+use Rattle.blink_machine.specs.Machine.{PlainMachine, need_at, target}
+use Rattle.blink_machine.specs.Moment.{Moment, goes_on, under_way}
+use Rattle.blink_machine.specs.Places.{KeepsPlaces, way_left, way_left_at}
+use Rattle.blink_machine.specs.Sound.{IsSound}
+use Rattle.blink_machine.specs.StepLaw.{IsMapAt}
+use Rattle.blink_machine.proofs.Offered.{step_law, way_left_stays}
 use Rattle.blink_live.specs.declared.view.Change.{Change}
 use Rattle.blink_live.specs.declared.view.Plan.{Plan}
 use Rattle.blink_live.specs.declared.view.Role.TheVariants.{Pass}

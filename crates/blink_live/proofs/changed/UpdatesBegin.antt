@@ -2,11 +2,11 @@
 use Rattle.std.proofs.Common.{◌≡◌, ℕ, Option, ◌+◌, ◌≤◌, ap, sym, ◌∙◌, subst, refl, arith}
 use Rattle.blink_batch.specs.declared.Op.{Op}
 use Rattle.blink_batch.specs.declared.Op.TheVariants.{Find, Insert, Delete, Replace}
-use Rattle.blink_steps.specs.declared.machine.Job.TheVariants.{Leaf}
-use Rattle.blink_steps.specs.declared.machine.State.TheVariants.{Want}
-use Rattle.blink_steps.specs.Allowance.{numbers_left, writes_left, primes_left}
-use Rattle.blink_steps.specs.Machine.{PlainMachine}
-use Rattle.blink_steps.specs.Table.{IsUpdate}
+use Rattle.blink_machine.specs.declared.machine.Job.TheVariants.{Leaf}
+use Rattle.blink_machine.specs.declared.machine.State.TheVariants.{Want}
+use Rattle.blink_machine.specs.Allowance.{numbers_left, writes_left, primes_left}
+use Rattle.blink_machine.specs.Machine.{PlainMachine}
+use Rattle.blink_machine.specs.Table.{IsUpdate}
 use Rattle.blink_live.specs.declared.view.Call.{Call}
 use Rattle.blink_live.specs.declared.view.View.{View}
 use Rattle.blink_live.specs.Seats.{HasRead, IsAtLeaf, found, wants as wants_leaf}

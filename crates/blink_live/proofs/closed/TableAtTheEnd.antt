@@ -10,9 +10,9 @@ use Rattle.blink_batch.specs.PlainMap.{pointer_of}
 use Rattle.blink_page.specs.Page.{PlainPage}
 use Rattle.blink_rest.specs.Entries.{AreEntries}
 use Rattle.blink_rest.specs.Rest.{IsAtRest}
-use Rattle.blink_steps.specs.Moment.{Moment}
-use Rattle.blink_steps.specs.TreeMap.{pairs_of}
-use Rattle.blink_steps.proofs.Offered.{step_law}
+use Rattle.blink_machine.specs.Moment.{Moment}
+use Rattle.blink_machine.specs.TreeMap.{pairs_of}
+use Rattle.blink_machine.proofs.Offered.{step_law}
 use Rattle.blink_live.specs.declared.view.Plan.{Plan}
 use Rattle.blink_live.specs.declared.view.Role.{Role}
 use Rattle.blink_live.specs.declared.view.Role.TheVariants.{Keeper}

@@ -1,6 +1,6 @@
 -- The first rows and page numbers of a keeper are enough for a pass's changes, and the rest for the changes that are left.
 use Rattle.std.proofs.Common.{◌≡◌, ℕ, ◌+◌, ◌-◌, ◌*◌, ◌≤◌, arith}
-use Rattle.blink_rows.specs.declared.limits.TheConstants.{NUMBERS_OF_INSERTION}
+use Rattle.blink_page.specs.declared.limits.TheConstants.{NUMBERS_OF_INSERTION}
 use Rattle.blink_rows.specs.declared.span.Span.{Span}
 use Rattle.blink_live.specs.Allowed.{inserts_left, deletes_left, AreForChanges}
 use Rattle.blink_live.specs.Deals.{rows_for}

@@ -6,7 +6,7 @@ use lib.ListN.{get_elem?}
 use Rattle.atomic_table.specs.Table.{State, Splits}
 use Rattle.atomic_table.proofs.Lists.{at_longer}
 use Rattle.blink_batch.specs.PlainMap.{pointer_of}
-use Rattle.blink_steps.specs.Moment.{Moment}
+use Rattle.blink_machine.specs.Moment.{Moment}
 use Rattle.blink_live.specs.declared.view.Plan.{Plan}
 use Rattle.blink_live.specs.declared.view.Role.TheVariants.{Keeper}
 use Rattle.blink_live.specs.declared.view.View.{View}

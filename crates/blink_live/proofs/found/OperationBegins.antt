@@ -12,16 +12,16 @@ use Rattle.blink_batch.specs.declared.Op.{Op}
 use Rattle.blink_page.specs.declared.limits.TheConstants.{MAX_PAGE}
 use Rattle.blink_rows.specs.Row.{prime_words}
 use Rattle.blink_rows.specs.declared.limits.TheConstants.{ROW_WORDS}
-use Rattle.blink_steps.specs.declared.machine.State.{State as MachineState}
-use Rattle.blink_steps.specs.declared.machine.State.TheVariants.{Start, Posting, Ended}
-use Rattle.blink_steps.specs.declared.step.Step.TheVariants.{Moved}
-use Rattle.blink_steps.specs.declared.step.Kind.TheVariants as kind
-use Rattle.blink_steps.specs.InOrder.{ReadsPrimeWell}
-use Rattle.blink_steps.specs.Machine.{PlainMachine, NeedsPrime, fresh}
-use Rattle.blink_steps.specs.Moment.{Moment, goes_on, Steps, reads_prime, IsItsOperation, taken_on}
-use Rattle.blink_steps.specs.Places.{way_left}
-use Rattle.blink_steps.specs.Table.{SeesPrime}
-use Rattle.blink_steps.proofs.Offered.{step_law}
+use Rattle.blink_machine.specs.declared.machine.State.{State as MachineState}
+use Rattle.blink_machine.specs.declared.machine.State.TheVariants.{Start, Posting, Ended}
+use Rattle.blink_machine.specs.declared.step.Step.TheVariants.{Moved}
+use Rattle.blink_machine.specs.declared.step.Kind.TheVariants as kind
+use Rattle.blink_machine.specs.InOrder.{ReadsPrimeWell}
+use Rattle.blink_machine.specs.Machine.{PlainMachine, NeedsPrime, fresh}
+use Rattle.blink_machine.specs.Moment.{Moment, goes_on, Steps, reads_prime, IsItsOperation, taken_on}
+use Rattle.blink_machine.specs.Places.{way_left}
+use Rattle.blink_machine.specs.Table.{SeesPrime}
+use Rattle.blink_machine.proofs.Offered.{step_law}
 use Rattle.blink_live.specs.declared.view.Plan.{Plan}
 use Rattle.blink_live.specs.declared.view.Role.TheVariants.{Pass}
 use Rattle.blink_live.specs.declared.view.View.{View}

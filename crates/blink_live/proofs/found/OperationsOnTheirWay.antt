@@ -6,8 +6,8 @@ use Rattle.blink_batch.specs.declared.Op.TheVariants.{Find}
 use Rattle.blink_batch.specs.Operation.{answer_at, key_of}
 use Rattle.blink_batch.specs.PlainMap.{pointer_of}
 use Rattle.blink_page.specs.Page.{PlainPage}
-use Rattle.blink_steps.specs.Machine.{PlainMachine, NeedsPage, need_at}
-use Rattle.blink_steps.specs.Table.{SeesPrime, SeesPage, SeesOnItsWay}
+use Rattle.blink_machine.specs.Machine.{PlainMachine, NeedsPage, need_at}
+use Rattle.blink_machine.specs.Table.{SeesPrime, SeesPage, SeesOnItsWay}
 use Rattle.blink_live.specs.declared.view.Change.{Change}
 use Rattle.blink_live.specs.declared.view.Plan.{Plan}
 use Rattle.blink_live.specs.declared.view.View.{View}
@@ -72,7 +72,7 @@ module _ (op : Op) (number row : ℕ) (first me : Sat) (m then : PlainMachine) (
       ])))
   by_way page (SeesOnItsWay.update_wants level was leads updates is) =
       same_way (ap (λ (x : PlainMachine). x.op) is) (ap (λ (x : PlainMachine). x.job) is)
-      (at_leaf (wants number (subst Rattle.blink_steps.specs.Table.IsUpdate has.same_op updates) (ap (λ (x : PlainMachine). x.state) is) (ap (λ (x : PlainMachine). x.answer) is ∙ none_yet)))
+      (at_leaf (wants number (subst Rattle.blink_machine.specs.Table.IsUpdate has.same_op updates) (ap (λ (x : PlainMachine). x.state) is) (ap (λ (x : PlainMachine). x.answer) is ∙ none_yet)))
 
   by_page : SeesPage m number loads.page then → Now
   by_page (SeesPage.on_its_way sees) = by_way loads.page sees

@@ -10,14 +10,14 @@ use Rattle.blink_batch.specs.PlainMap.{pointer_of}
 use Rattle.blink_page.specs.Page.{PlainPage, IsLawfulPage}
 use Rattle.blink_page.specs.declared.limits.TheConstants.{MAX_FAN}
 use Rattle.blink_rows.specs.Row.{page_words}
-use Rattle.blink_steps.specs.declared.step.Step.TheVariants.{Moved}
-use Rattle.blink_steps.specs.declared.step.Kind.TheVariants as kind
-use Rattle.blink_steps.specs.Machine.{PlainMachine, NeedsPage}
-use Rattle.blink_steps.specs.Moment.{Moment, goes_on, Steps, reads_page, IsItsOperation, under_way}
-use Rattle.blink_steps.specs.Places.{way_left}
-use Rattle.blink_steps.specs.StepLaw.{Decides, deciding, other}
-use Rattle.blink_steps.specs.Table.{SeesPage}
-use Rattle.blink_steps.proofs.Offered.{step_law, way_left_falls, has_answer_at_end}
+use Rattle.blink_machine.specs.declared.step.Step.TheVariants.{Moved}
+use Rattle.blink_machine.specs.declared.step.Kind.TheVariants as kind
+use Rattle.blink_machine.specs.Machine.{PlainMachine, NeedsPage}
+use Rattle.blink_machine.specs.Moment.{Moment, goes_on, Steps, reads_page, IsItsOperation, under_way}
+use Rattle.blink_machine.specs.Places.{way_left}
+use Rattle.blink_machine.specs.StepLaw.{Decides, deciding, other}
+use Rattle.blink_machine.specs.Table.{SeesPage}
+use Rattle.blink_machine.proofs.Offered.{step_law, way_left_falls, has_answer_at_end}
 use Rattle.blink_live.specs.declared.view.Plan.{Plan}
 use Rattle.blink_live.specs.declared.view.Role.TheVariants.{Pass}
 use Rattle.blink_live.specs.declared.view.View.{View}

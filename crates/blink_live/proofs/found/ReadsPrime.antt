@@ -6,15 +6,15 @@ use mathlib.Core.List.{append-nil}
 use Rattle.atomic_table.specs.Table.{step, keeps, Allows}
 use Rattle.blink_batch.specs.Batch.{FitsWords}
 use Rattle.blink_rows.specs.Row.{prime_words}
-use Rattle.blink_steps.specs.declared.machine.Need.TheVariants.{End, ReadPrime}
-use Rattle.blink_steps.specs.declared.step.Step.TheVariants.{Moved}
-use Rattle.blink_steps.specs.declared.step.Kind.TheVariants as kind
-use Rattle.blink_steps.specs.InOrder.{ReadsPrimeWell}
-use Rattle.blink_steps.specs.Machine.{PlainMachine, NeedsPrime}
-use Rattle.blink_steps.specs.Moment.{Moment, goes_on, IsItsOperation, under_way}
-use Rattle.blink_steps.specs.Places.{way_left}
-use Rattle.blink_steps.specs.Sound.{IsSound}
-use Rattle.blink_steps.proofs.Offered.{step_law, goes_on_if_needed}
+use Rattle.blink_machine.specs.declared.machine.Need.TheVariants.{End, ReadPrime}
+use Rattle.blink_machine.specs.declared.step.Step.TheVariants.{Moved}
+use Rattle.blink_machine.specs.declared.step.Kind.TheVariants as kind
+use Rattle.blink_machine.specs.InOrder.{ReadsPrimeWell}
+use Rattle.blink_machine.specs.Machine.{PlainMachine, NeedsPrime}
+use Rattle.blink_machine.specs.Moment.{Moment, goes_on, IsItsOperation, under_way}
+use Rattle.blink_machine.specs.Places.{way_left}
+use Rattle.blink_machine.specs.Sound.{IsSound}
+use Rattle.blink_machine.proofs.Offered.{step_law, goes_on_if_needed}
 use Rattle.blink_live.specs.declared.view.Plan.{Plan}
 use Rattle.blink_live.specs.declared.view.Role.TheVariants.{Pass}
 use Rattle.blink_live.specs.declared.view.View.{View}

@@ -13,11 +13,11 @@ use Rattle.blink_rows.specs.Counts.{PlainCounts, AreBounded}
 use Rattle.blink_rows.specs.Row.{prime_words}
 use Rattle.blink_store.specs.Store.{PlainStore, page_of, IsLawfulStore}
 use Rattle.blink_store.proofs.Offered.{has_page, page_there}
-use Rattle.blink_steps.specs.Moment.{Moment}
-use Rattle.blink_steps.specs.Sound.{IsSound}
-use Rattle.blink_steps.specs.StepLaw.{IsOpening}
-use Rattle.blink_steps.specs.TreeMap.{IsMapOf}
-use Rattle.blink_steps.proofs.Offered.{step_law}
+use Rattle.blink_machine.specs.Moment.{Moment}
+use Rattle.blink_machine.specs.Sound.{IsSound}
+use Rattle.blink_machine.specs.StepLaw.{IsOpening}
+use Rattle.blink_machine.specs.TreeMap.{IsMapOf}
+use Rattle.blink_machine.proofs.Offered.{step_law}
 use Rattle.blink_live.specs.declared.view.Plan.{Plan}
 use Rattle.blink_live.specs.declared.view.View.{View}
 use Rattle.blink_live.specs.Laid.{IsLaid}

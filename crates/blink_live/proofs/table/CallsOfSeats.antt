@@ -2,7 +2,7 @@
 use Rattle.std.proofs.Common.{◌≡◌, ℕ, ◌<◌, ◌≤◌, None, List, arith}
 use Rattle.std.proofs.lemmas.List.{length-replicate}
 use Rattle.blink_rows.specs.declared.limits.TheConstants.{ROW_WORDS}
-use Rattle.blink_steps.specs.Moment.{Moment}
+use Rattle.blink_machine.specs.Moment.{Moment}
 use Rattle.blink_live.specs.declared.view.Call.{Call}
 use Rattle.blink_live.specs.declared.view.Plan.{Plan}
 use Rattle.blink_live.specs.Rule.{Owners, HasForCall}

@@ -2,12 +2,12 @@
 use Rattle.std.proofs.Common.{◌≡◌, ℕ, ◌<◌, ◌≤◌, Option, Some, None, sym, ◌∙◌, subst, arith}
 use native.Mathlib.Decide.{dec_le}
 use Rattle.blink_page.specs.Page.{PlainPage}
-use Rattle.blink_steps.specs.declared.machine.Need.TheVariants.{End, ReadPage, Latch, WriteNew, WritePage, WritePrime, Unlatch}
-use Rattle.blink_steps.specs.Machine.{PlainMachine, need_at}
-use Rattle.blink_steps.specs.Moment.{Moment, goes_on, under_way, IsItsOperation}
-use Rattle.blink_steps.specs.Needs.{IsPageWrite}
-use Rattle.blink_steps.specs.Sound.{IsSound}
-use Rattle.blink_steps.proofs.Offered.{step_law, goes_on_if_needed}
+use Rattle.blink_machine.specs.declared.machine.Need.TheVariants.{End, ReadPage, Latch, WriteNew, WritePage, WritePrime, Unlatch}
+use Rattle.blink_machine.specs.Machine.{PlainMachine, need_at}
+use Rattle.blink_machine.specs.Moment.{Moment, goes_on, under_way, IsItsOperation}
+use Rattle.blink_machine.specs.Needs.{IsPageWrite}
+use Rattle.blink_machine.specs.Sound.{IsSound}
+use Rattle.blink_machine.proofs.Offered.{step_law, goes_on_if_needed}
 use Rattle.blink_live.specs.declared.view.Plan.{Plan}
 use Rattle.blink_live.specs.Plays.{IsNumberIn, CanGoOn}
 

@@ -5,7 +5,7 @@ use mathlib.Core.Option.{some}
 use lib.ListN.{get_elem?}
 use Rattle.atomic_table.specs.Table.{State}
 use Rattle.blink_page.specs.Page.{PlainPage}
-use Rattle.blink_steps.specs.Moment.{Moment}
+use Rattle.blink_machine.specs.Moment.{Moment}
 use Rattle.blink_live.specs.declared.view.Change.{Change}
 use Rattle.blink_live.specs.declared.view.Plan.{Plan}
 use Rattle.blink_live.specs.declared.view.Role.{Role}

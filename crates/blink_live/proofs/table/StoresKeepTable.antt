@@ -7,9 +7,9 @@ use Rattle.atomic_table.specs.Table.{State}
 use Rattle.blink_batch.specs.declared.Entry.{Entry}
 use Rattle.blink_batch.specs.PlainMap.{pointer_of}
 use Rattle.blink_rows.specs.Row.{prime_words}
-use Rattle.blink_steps.specs.Moment.{Moment}
-use Rattle.blink_steps.specs.Sound.{IsSound}
-use Rattle.blink_steps.specs.StepLaw.{IsMapAt}
+use Rattle.blink_machine.specs.Moment.{Moment}
+use Rattle.blink_machine.specs.Sound.{IsSound}
+use Rattle.blink_machine.specs.StepLaw.{IsMapAt}
 use Rattle.blink_rows.specs.declared.span.Span.{Span}
 use Rattle.blink_live.specs.declared.view.Call.{Call}
 use Rattle.blink_live.specs.declared.view.Change.{Change}

@@ -3,8 +3,8 @@ use Rattle.std.proofs.Common.{◌≡◌, ℕ, [], refl, ap, sym, ◌∙◌}
 use mathlib.Core.Option.{none}
 use mathlib.Core.List.{append-nil}
 use Rattle.atomic_table.specs.Table.{step, keeps, Allows}
-use Rattle.blink_steps.specs.Moment.{Moment}
-use Rattle.blink_steps.proofs.Offered.{step_law}
+use Rattle.blink_machine.specs.Moment.{Moment}
+use Rattle.blink_machine.proofs.Offered.{step_law}
 use Rattle.blink_live.specs.declared.view.Plan.{Plan}
 use Rattle.blink_live.specs.declared.view.Role.TheVariants.{Pass}
 use Rattle.blink_batch.specs.PlainMap.{pointer_of}

@@ -4,8 +4,8 @@ ghost use Rattle.std.specs.Prelude.{◌≡◌, ℕ, Some, List};
 ghost use Rattle.std.specs.Bool.{OnTrue, OnFalse};
 ghost use Rattle.blink_batch.specs.Batch.{FitsWords};
 ghost use Rattle.blink_rows.specs.Row.{IsPrimeRow};
-ghost use Rattle.blink_steps.specs.Machine.{NeedsPrime};
-ghost use Rattle.blink_steps.specs.Table.{SeesPrime};
+ghost use Rattle.blink_machine.specs.Machine.{NeedsPrime};
+ghost use Rattle.blink_machine.specs.Table.{SeesPrime};
 ghost use Rattle.blink_live.specs.Plays.{LoadsPrime};
 ghost use Rattle.blink_live.specs.Seats.{IsPassSeat, IsSameSeat, ReadsPrime};
 ghost use Rattle.blink_live.specs.Words.{IsRowNumber};
@@ -15,8 +15,8 @@ use crate::read::COUNT;
 use crate::rule::LoadPrime;
 use crate::view::View;
 use atomic_table::Seat;
+use blink_machine::Machine;
 use blink_rows::{HEAD_WORDS, ROW_WORDS, row_prime};
-use blink_steps::Machine;
 
 impl Live {
     // Reads the prime block for an operation under way, and tells whether it moved: where the level that it is to post to isn't

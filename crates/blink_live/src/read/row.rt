@@ -4,7 +4,7 @@ ghost use Rattle.std.specs.Prelude.{◌≡◌, ℕ, ◌<◌, ◌≤◌, ◌⊎�
 ghost use Rattle.blink_batch.specs.Batch.{FitsWords};
 ghost use Rattle.blink_page.specs.Page.{PlainPage};
 ghost use Rattle.blink_rows.specs.Row.{IsPageRow};
-ghost use Rattle.blink_steps.specs.Machine.{NeedsPage};
+ghost use Rattle.blink_machine.specs.Machine.{NeedsPage};
 ghost use Rattle.blink_live.specs.Plays.{LoadsPage};
 ghost use Rattle.blink_live.specs.Seats.{IsPassSeat, IsSameSeat, ReadsPage};
 ghost use Rattle.blink_live.specs.Words.{IsRowNumber};
@@ -14,8 +14,8 @@ use crate::read::COUNT;
 use crate::rule::LoadPage;
 use crate::view::View;
 use atomic_table::Seat;
+use blink_machine::Machine;
 use blink_rows::{HEAD_WORDS, ROW_WORDS, row_page};
-use blink_steps::Machine;
 
 impl Live {
     // Reads the page that the operation has latched, the whole of it, and shows it to the operation.

@@ -5,14 +5,14 @@ use Rattle.blink_batch.specs.declared.Op.{Op}
 use Rattle.blink_batch.specs.declared.Entry.{Entry}
 use Rattle.blink_batch.specs.Batch.{is_insert}
 use Rattle.blink_batch.specs.Order.{next_place}
-use Rattle.blink_steps.specs.declared.machine.Job.TheVariants.{Leaf}
+use Rattle.blink_machine.specs.declared.machine.Job.TheVariants.{Leaf}
 use Rattle.blink_batch.proofs.Offered.{next_place_is}
 use Rattle.blink_steps.specs.declared.seat.Seat.{Seat}
 use Rattle.blink_steps.specs.declared.seat.Working.{Working}
-use Rattle.blink_steps.specs.Allowance.{numbers_for, numbers_left, writes_for, writes_left, primes_for, primes_left}
+use Rattle.blink_machine.specs.Allowance.{numbers_for, numbers_left, writes_for, writes_left, primes_for, primes_left}
 use Rattle.blink_steps.specs.Counts.{numbers_in, page_writes_in, prime_writes_in, moves_in}
-use Rattle.blink_steps.specs.Kinds.{is_page_write, is_prime_write}
-use Rattle.blink_steps.specs.Machine.{PlainMachine, fresh}
+use Rattle.blink_machine.specs.Kinds.{is_page_write, is_prime_write}
+use Rattle.blink_machine.specs.Machine.{PlainMachine, fresh}
 use Rattle.blink_steps.specs.Run.{PlainRun, Taken, IsNextOf, busy_seat, idle_seat}
 use Rattle.blink_steps.specs.SoundRun.{IsSoundRun, IsSoundWorking, IsSoundIdle}
 use Rattle.blink_steps.proofs.bounds.CountedTurns.{numbers_in-few, moves_of-few}

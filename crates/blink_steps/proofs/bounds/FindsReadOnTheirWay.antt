@@ -3,21 +3,21 @@ use Rattle.std.proofs.Common.{◌≡◌, ℕ, ◌+◌, ◌≤◌, ◌∙◌, fal
 use Rattle.std.specs.List.{cons_option}
 use Rattle.blink_batch.specs.declared.Op.{Op}
 use Rattle.blink_batch.specs.declared.Op.TheVariants.{Find}
-use Rattle.blink_steps.specs.declared.machine.Job.{Job}
-use Rattle.blink_steps.specs.declared.machine.Job.TheVariants.{Leaf, Parent}
-use Rattle.blink_steps.specs.declared.machine.State.{State}
-use Rattle.blink_steps.specs.declared.machine.State.TheVariants.{Start, Going, Want, Held, Change, SplitNew, SplitOld, AskPrime, Root, NewPrime, Leave, Posting, Ended}
-use Rattle.blink_steps.specs.declared.step.Kind.{Kind}
-use Rattle.blink_steps.specs.declared.step.Step.TheVariants.{Moved}
+use Rattle.blink_machine.specs.declared.machine.Job.{Job}
+use Rattle.blink_machine.specs.declared.machine.Job.TheVariants.{Leaf, Parent}
+use Rattle.blink_machine.specs.declared.machine.State.{State}
+use Rattle.blink_machine.specs.declared.machine.State.TheVariants.{Start, Going, Want, Held, Change, SplitNew, SplitOld, AskPrime, Root, NewPrime, Leave, Posting, Ended}
+use Rattle.blink_machine.specs.declared.step.Kind.{Kind}
+use Rattle.blink_machine.specs.declared.step.Step.TheVariants.{Moved}
 use Rattle.blink_steps.specs.Acts.{PlainShared, ActsOn, Acts}
-use Rattle.blink_steps.specs.Allowance.{primes_for, primes_left, one_if}
+use Rattle.blink_machine.specs.Allowance.{primes_for, primes_left, one_if}
 use Rattle.blink_steps.specs.Ways.{page_on_way}
-use Rattle.blink_steps.specs.Kinds.{is_page_read}
-use Rattle.blink_steps.specs.Machine.{PlainMachine, need_at}
-use Rattle.blink_steps.specs.Moment.{Moment}
-use Rattle.blink_steps.specs.Placed.{MayChange, IsPlaced}
-use Rattle.blink_steps.specs.TreeWithDebts.{Levels}
-use Rattle.blink_steps.proofs.operation.PlacedWhateverBefore.{placed_at}
+use Rattle.blink_machine.specs.Kinds.{is_page_read}
+use Rattle.blink_machine.specs.Machine.{PlainMachine, need_at}
+use Rattle.blink_machine.specs.Moment.{Moment}
+use Rattle.blink_machine.specs.Placed.{MayChange, IsPlaced}
+use Rattle.blink_machine.specs.TreeWithDebts.{Levels}
+use Rattle.blink_machine.proofs.operation.PlacedWhateverBefore.{placed_at}
 
 -- a find doesn't latch: it posts nothing, since it may never write the prime block
 find_changes_none : (m : PlainMachine) (key : ℕ) → primes_left m ≤ primes_for Leaf m.op → m.op ≡ Find key → (number : ℕ) → m.state ≡ Held number → MayChange m.op m.job → ⊥

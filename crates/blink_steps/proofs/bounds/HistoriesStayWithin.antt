@@ -12,20 +12,20 @@ use Rattle.blink_batch.specs.PlainMap.{IsAscending}
 use Rattle.blink_batch.proofs.Offered.{next_place_is}
 use Rattle.blink_rest.specs.Entries.{AreEntries}
 use Rattle.blink_store.specs.Store.{PlainStore, page_of}
-use Rattle.blink_steps.specs.declared.machine.Job.TheVariants.{Leaf}
+use Rattle.blink_machine.specs.declared.machine.Job.TheVariants.{Leaf}
 use Rattle.blink_store.proofs.Offered.{slice_get-set_other, slice_get-set_same}
 use Rattle.blink_steps.specs.declared.seat.Seat.{Seat}
 use Rattle.blink_steps.specs.declared.seat.Working.{Working}
-use Rattle.blink_steps.specs.declared.step.Kind.{Kind}
-use Rattle.blink_steps.specs.declared.step.Step.TheVariants.{Moved}
-use Rattle.blink_steps.specs.Allowance.{numbers_for, UsesUp}
+use Rattle.blink_machine.specs.declared.step.Kind.{Kind}
+use Rattle.blink_machine.specs.declared.step.Step.TheVariants.{Moved}
+use Rattle.blink_machine.specs.Allowance.{numbers_for, UsesUp}
 use Rattle.blink_steps.specs.Counts.{takes_number, numbers_in, moves_in}
-use Rattle.blink_steps.specs.Machine.{PlainMachine}
-use Rattle.blink_steps.specs.Moment.{goes_on}
+use Rattle.blink_machine.specs.Machine.{PlainMachine}
+use Rattle.blink_machine.specs.Moment.{goes_on}
 use Rattle.blink_steps.specs.Run.{PlainRun, Taken, TakesTurn, Follows, IsOpeningRun, after_move, seat_after, idle_seat, moment_of}
 use Rattle.blink_steps.specs.SoundRun.{IsSoundRun, IsSoundSeat}
-use Rattle.blink_steps.specs.TreeMap.{pairs_of}
-use Rattle.blink_steps.proofs.law.EachPart.{step_law}
+use Rattle.blink_machine.specs.TreeMap.{pairs_of}
+use Rattle.blink_machine.proofs.law.EachPart.{step_law}
 use Rattle.blink_steps.proofs.runs.OperationOfTurn.{move_is_step, next_is_its}
 use Rattle.blink_steps.proofs.bounds.CountsOfOperations.{IsWithin, IsLimited, IsInsertAt, IsCounted, IsKnown, next_is_known}
 use Rattle.blink_steps.proofs.bounds.MovesStayWithin.{is_moving_turn, is_write_turn, is_prime_turn, own_within, other_within, within_is_limited, other_limited, numbers_for_inserts, next_after, working_is_after}

@@ -3,13 +3,14 @@ use Rattle.std.proofs.Common.{ℕ, ◌+◌, ◌*◌, ◌≤◌, List, length, co
 use Rattle.std.specs.Prelude.{nat_lt}
 use Rattle.blink_batch.specs.Batch.{is_insert}
 use Rattle.blink_rest.proofs.Offered.{AllPairs-from_differ}
-use Rattle.blink_steps.specs.Counts.{has_moved, moves_in}
+use Rattle.blink_steps.specs.Counts.{moves_in}
+use Rattle.blink_machine.specs.Kinds.{has_moved}
 use Rattle.blink_steps.specs.Ways.{read_on_way, latched_by, steps_at_most_with}
 use Rattle.blink_steps.specs.Bounds.{IsBounded}
 use Rattle.blink_steps.specs.Run.{PlainRun, Taken}
 use Rattle.blink_steps.proofs.bounds.MetPages.{IsAny, at_most_all}
 use Rattle.blink_steps.proofs.runs.RunStatements.{OpeningRunIsSound, TurnKeepsSoundRun, HistoryIsBounded, HistoryIsShort}
-use Rattle.blink_steps.proofs.tree.TreeStatements.{TreeLaws}
+use Rattle.blink_machine.proofs.tree.TreeStatements.{TreeLaws}
 use Rattle.blink_steps.proofs.bounds.TurnsAddedUp.{turns_are_of_places, turns_at_most, count_of_pairs}
 use Rattle.blink_steps.proofs.bounds.WaysStayShort.{IsWalked, walked_along}
 

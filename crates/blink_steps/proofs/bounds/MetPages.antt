@@ -6,7 +6,7 @@ use Rattle.blink_page.specs.Page.{PlainPage}
 use Rattle.blink_page.specs.Rising.{least_above}
 use Rattle.blink_rest.specs.Chain.{Pages}
 use Rattle.blink_store.specs.Store.{PlainStore, page_of}
-use Rattle.blink_steps.specs.Places.{KeepsPlaces}
+use Rattle.blink_machine.specs.Places.{KeepsPlaces}
 use Rattle.blink_rest.proofs.Offered.{at_most_n}
 use Rattle.blink_rest.specs.Numbers.{AllDiffer, AreWithin, Avoids}
 

@@ -5,22 +5,23 @@ use Rattle.blink_batch.specs.declared.Op.{Op}
 use Rattle.blink_batch.specs.declared.Op.TheVariants.{Find}
 use Rattle.blink_rest.specs.Chain.{Pages}
 use Rattle.blink_rest.specs.Numbers.{AllDiffer}
-use Rattle.blink_steps.specs.declared.machine.Job.{Job}
-use Rattle.blink_steps.specs.declared.machine.State.{State}
-use Rattle.blink_steps.specs.declared.machine.State.TheVariants.{Going, Want}
-use Rattle.blink_steps.specs.declared.step.Kind.{Kind}
-use Rattle.blink_steps.specs.declared.step.Step.{Step}
-use Rattle.blink_steps.specs.declared.step.Step.TheVariants.{Moved}
+use Rattle.blink_machine.specs.declared.machine.Job.{Job}
+use Rattle.blink_machine.specs.declared.machine.State.{State}
+use Rattle.blink_machine.specs.declared.machine.State.TheVariants.{Going, Want}
+use Rattle.blink_machine.specs.declared.step.Kind.{Kind}
+use Rattle.blink_machine.specs.declared.step.Step.{Step}
+use Rattle.blink_machine.specs.declared.step.Step.TheVariants.{Moved}
 use Rattle.blink_steps.specs.Ways.{page_on_way, page_to_latch, read_on_way, latched_by}
-use Rattle.blink_steps.specs.Counts.{has_moved, moved_by, moves_in, page_reads_in}
-use Rattle.blink_steps.specs.Kinds.{is_page_read}
-use Rattle.blink_steps.specs.Machine.{PlainMachine}
+use Rattle.blink_steps.specs.Counts.{moves_in, page_reads_in}
+use Rattle.blink_machine.specs.Kinds.{has_moved, moved_by}
+use Rattle.blink_machine.specs.Kinds.{is_page_read}
+use Rattle.blink_machine.specs.Machine.{PlainMachine}
 use Rattle.blink_steps.specs.Run.{Taken}
-use Rattle.blink_steps.specs.Places.{KeepsPlaces}
+use Rattle.blink_machine.specs.Places.{KeepsPlaces}
 use Rattle.blink_steps.proofs.bounds.MetPages.{ArePagesWith, IsAny, ComesAfter, IsPassed, IsBelow, pages_stay, after_avoids}
 use Rattle.blink_steps.proofs.bounds.OperationTracks.{OnWayAt, LatchedAt, IsOnTrack, few_others}
 use Rattle.blink_steps.proofs.bounds.ReadsKeepTrack.{GoesOnTrack}
-use Rattle.blink_steps.specs.Allowance.{one_if}
+use Rattle.blink_machine.specs.Allowance.{one_if}
 use Rattle.blink_steps.proofs.bounds.CountedTurns.{turns_of-own, turns_of-other, turns_of-unlike}
 use Rattle.blink_steps.proofs.bounds.PagesOfTurns.{pages_of-own, pages_of-other, pages_of-rest}
 

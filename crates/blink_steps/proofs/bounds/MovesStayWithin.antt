@@ -3,20 +3,21 @@ use Rattle.std.proofs.Common.{◌≡◌, ℕ, ◌+◌, ◌<◌, ◌≤◌, ◌�
 use Rattle.blink_batch.specs.declared.Op.{Op}
 use Rattle.blink_batch.specs.declared.Op.TheVariants.{Find, Insert, Delete, Replace}
 use Rattle.blink_batch.specs.Batch.{is_insert}
-use Rattle.blink_steps.specs.declared.machine.Job.TheVariants.{Leaf}
-use Rattle.blink_steps.specs.declared.machine.State.{State}
-use Rattle.blink_steps.specs.declared.machine.State.TheVariants.{Ended}
+use Rattle.blink_machine.specs.declared.machine.Job.TheVariants.{Leaf}
+use Rattle.blink_machine.specs.declared.machine.State.{State}
+use Rattle.blink_machine.specs.declared.machine.State.TheVariants.{Ended}
 use Rattle.blink_steps.specs.declared.seat.Working.{Working}
-use Rattle.blink_steps.specs.declared.step.Kind.{Kind}
-use Rattle.blink_steps.specs.declared.step.Step.{Step}
-use Rattle.blink_steps.specs.declared.step.Step.TheVariants.{Moved}
-use Rattle.blink_steps.specs.Allowance.{one_if, numbers_for, numbers_left, writes_for, writes_left, primes_for, primes_left, UsesUp}
-use Rattle.blink_steps.specs.Counts.{takes_number, has_moved, moved_by, writes_new_page, numbers_in, page_writes_in, prime_writes_in}
-use Rattle.blink_steps.specs.Kinds.{is_page_write, is_prime_write}
-use Rattle.blink_steps.specs.Machine.{PlainMachine}
-use Rattle.blink_steps.specs.Moment.{goes_on}
+use Rattle.blink_machine.specs.declared.step.Kind.{Kind}
+use Rattle.blink_machine.specs.declared.step.Step.{Step}
+use Rattle.blink_machine.specs.declared.step.Step.TheVariants.{Moved}
+use Rattle.blink_machine.specs.Allowance.{one_if, numbers_for, numbers_left, writes_for, writes_left, primes_for, primes_left, UsesUp}
+use Rattle.blink_steps.specs.Counts.{takes_number, numbers_in, page_writes_in, prime_writes_in}
+use Rattle.blink_machine.specs.Kinds.{has_moved, moved_by, writes_new_page}
+use Rattle.blink_machine.specs.Kinds.{is_page_write, is_prime_write}
+use Rattle.blink_machine.specs.Machine.{PlainMachine}
+use Rattle.blink_machine.specs.Moment.{goes_on}
 use Rattle.blink_steps.specs.Run.{Taken, seat_after}
-use Rattle.blink_steps.proofs.law.EachPart.{step_law}
+use Rattle.blink_machine.proofs.law.EachPart.{step_law}
 use Rattle.blink_steps.proofs.bounds.CountsOfOperations.{IsWithin, IsLimited}
 use Rattle.blink_steps.proofs.bounds.CountedTurns.{turns_of-own, turns_of-other}
 

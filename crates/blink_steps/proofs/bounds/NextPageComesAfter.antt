@@ -4,15 +4,15 @@ use Rattle.blink_page.specs.Entries.{child_for}
 use Rattle.blink_page.specs.Page.{PlainPage}
 use Rattle.blink_page.specs.Rising.{least_above}
 use Rattle.blink_rest.specs.Chain.{Cell, Pages}
-use Rattle.blink_steps.specs.Machine.{PlainMachine, target}
-use Rattle.blink_steps.specs.Moment.{Moment}
-use Rattle.blink_steps.specs.Placed.{StandsAt}
-use Rattle.blink_steps.specs.Places.{BeginsFurther}
-use Rattle.blink_steps.specs.Sound.{IsSoundWith}
-use Rattle.blink_steps.specs.TreeWithDebts.{Levels}
+use Rattle.blink_machine.specs.Machine.{PlainMachine, target}
+use Rattle.blink_machine.specs.Moment.{Moment}
+use Rattle.blink_machine.specs.Placed.{StandsAt}
+use Rattle.blink_machine.specs.Places.{BeginsFurther}
+use Rattle.blink_machine.specs.Sound.{IsSoundWith}
+use Rattle.blink_machine.specs.TreeWithDebts.{Levels}
 use Rattle.blink_steps.proofs.bounds.MetPages.{ArePagesWith, ComesAfter, IsPassed, IsBelow, IsUpTo, IsNotAbove, pages_wider}
-use Rattle.blink_steps.proofs.tree.TreeStatements.{TreeLaws}
-use Rattle.blink_steps.proofs.operation.WhereMovesLead.{IsOnLevel, stands_on, page_of_cell, belongs_here}
+use Rattle.blink_machine.proofs.tree.TreeStatements.{TreeLaws}
+use Rattle.blink_machine.proofs.operation.WhereMovesLead.{IsOnLevel, stands_on, page_of_cell, belongs_here}
 
 module _ (laws : TreeLaws) (moment : Moment) (levels : Levels) (sound : IsSoundWith moment levels) where
   -- the leftmost page of a level is on it

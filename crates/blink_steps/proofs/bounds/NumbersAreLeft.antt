@@ -9,11 +9,11 @@ use Rattle.blink_batch.specs.declared.Op.{Op}
 use Rattle.blink_batch.specs.Batch.{is_insert}
 use Rattle.blink_store.specs.Store.{PlainStore}
 use Rattle.blink_batch.specs.declared.Op.TheVariants.{Find, Insert, Delete, Replace}
-use Rattle.blink_steps.specs.declared.machine.Job.TheVariants.{Leaf}
-use Rattle.blink_steps.specs.Allowance.{one_if, numbers_for, numbers_left}
+use Rattle.blink_machine.specs.declared.machine.Job.TheVariants.{Leaf}
+use Rattle.blink_machine.specs.Allowance.{one_if, numbers_for, numbers_left}
 use Rattle.blink_steps.specs.Counts.{numbers_in, moves_in, takes_number, begun_inserts}
 use Rattle.blink_steps.specs.Run.{PlainRun, Taken, moment_of}
-use Rattle.blink_steps.proofs.law.EachPart.{step_law}
+use Rattle.blink_machine.proofs.law.EachPart.{step_law}
 use Rattle.blink_steps.proofs.runs.OperationOfTurn.{next_is_its}
 use Rattle.blink_steps.proofs.runs.RunStatements.{OpeningRunIsSound, TurnKeepsSoundRun, HistoryIsBounded, NumberIsLeft, CountsAreOf}
 use Rattle.blink_steps.proofs.bounds.CountedTurns.{numbers_in-few}

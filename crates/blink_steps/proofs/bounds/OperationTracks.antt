@@ -2,13 +2,13 @@
 use Rattle.std.proofs.Common.{◌≡◌, ℕ, ◌+◌, ◌*◌, ◌<◌, ◌≤◌, List, [], length, arith}
 use Rattle.std.specs.Prelude.{⊤}
 use Rattle.blink_rest.specs.Chain.{Pages}
-use Rattle.blink_steps.specs.declared.machine.Job.{Job}
-use Rattle.blink_steps.specs.declared.machine.Next.{Next}
-use Rattle.blink_steps.specs.declared.machine.Next.TheVariants.{Finish, MoveRight, Post}
-use Rattle.blink_steps.specs.declared.machine.State.{State}
-use Rattle.blink_steps.specs.declared.machine.State.TheVariants.{Start, Going, Want, Held, Change, SplitNew, SplitOld, AskPrime, Root, NewPrime, Leave, Posting, Ended}
-use Rattle.blink_steps.specs.Machine.{PlainMachine, level_of}
-use Rattle.blink_steps.specs.Places.{KeepsPlaces}
+use Rattle.blink_machine.specs.declared.machine.Job.{Job}
+use Rattle.blink_machine.specs.declared.machine.Next.{Next}
+use Rattle.blink_machine.specs.declared.machine.Next.TheVariants.{Finish, MoveRight, Post}
+use Rattle.blink_machine.specs.declared.machine.State.{State}
+use Rattle.blink_machine.specs.declared.machine.State.TheVariants.{Start, Going, Want, Held, Change, SplitNew, SplitOld, AskPrime, Root, NewPrime, Leave, Posting, Ended}
+use Rattle.blink_machine.specs.Machine.{PlainMachine, level_of}
+use Rattle.blink_machine.specs.Places.{KeepsPlaces}
 use Rattle.blink_steps.proofs.bounds.MetPages.{ArePagesWith, ComesAfter, IsPassed, IsBelow, IsUpTo, IsNotAbove, pages_stay, after_stays}
 
 -- on its way down the page that an operation reads next comes after those that it has read

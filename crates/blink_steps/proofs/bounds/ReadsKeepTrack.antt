@@ -3,23 +3,23 @@ use Rattle.std.proofs.Common.{◌≡◌, ℕ, ◌+◌, ◌-◌, ◌*◌, ◌≤�
 use Rattle.std.specs.List.{cons_option}
 use Rattle.blink_page.specs.Page.{PlainPage}
 use Rattle.blink_rest.specs.Chain.{Pages}
-use Rattle.blink_steps.specs.declared.machine.Job.{Job}
-use Rattle.blink_steps.specs.declared.machine.Next.TheVariants.{Finish, MoveRight, Post}
-use Rattle.blink_steps.specs.declared.machine.State.{State}
-use Rattle.blink_steps.specs.declared.machine.State.TheVariants.{Start, Going, Want, Held, Change, SplitNew, AskPrime, Root, Leave, Posting, Ended}
+use Rattle.blink_machine.specs.declared.machine.Job.{Job}
+use Rattle.blink_machine.specs.declared.machine.Next.TheVariants.{Finish, MoveRight, Post}
+use Rattle.blink_machine.specs.declared.machine.State.{State}
+use Rattle.blink_machine.specs.declared.machine.State.TheVariants.{Start, Going, Want, Held, Change, SplitNew, AskPrime, Root, Leave, Posting, Ended}
 use Rattle.blink_steps.specs.Ways.{page_on_way, page_to_latch}
-use Rattle.blink_steps.specs.Machine.{PlainMachine, level_of}
-use Rattle.blink_steps.specs.Moment.{Moment}
-use Rattle.blink_steps.specs.Placed.{IsPlaced}
-use Rattle.blink_steps.specs.Sound.{IsSoundWith}
-use Rattle.blink_steps.specs.Table.{SeesPrime, SeesPage, SeesOnItsWay, SeesUnderLatch}
-use Rattle.blink_steps.specs.TreeWithDebts.{Levels}
+use Rattle.blink_machine.specs.Machine.{PlainMachine, level_of}
+use Rattle.blink_machine.specs.Moment.{Moment}
+use Rattle.blink_machine.specs.Placed.{IsPlaced}
+use Rattle.blink_machine.specs.Sound.{IsSoundWith}
+use Rattle.blink_machine.specs.Table.{SeesPrime, SeesPage, SeesOnItsWay, SeesUnderLatch}
+use Rattle.blink_machine.specs.TreeWithDebts.{Levels}
 use Rattle.blink_steps.proofs.bounds.MetPages.{ArePagesWith, IsNotAbove, pages_wider}
-use Rattle.blink_steps.proofs.operation.PlacedWhateverBefore.{placed_at}
+use Rattle.blink_machine.proofs.operation.PlacedWhateverBefore.{placed_at}
 use Rattle.blink_steps.proofs.bounds.NextPageComesAfter.{leftmost_on, child_is_lower, passed_right, passed_down, below_right, not_above, comes_after_lower}
 use Rattle.blink_steps.proofs.bounds.OperationTracks.{OnWayAt, LatchedAt, IsUnder, open_at, others_at, IsOnTrack, on_track}
-use Rattle.blink_steps.proofs.tree.TreeStatements.{TreeLaws}
-use Rattle.blink_steps.proofs.operation.WhereMovesLead.{last_at, level_here, right_is_further}
+use Rattle.blink_machine.proofs.tree.TreeStatements.{TreeLaws}
+use Rattle.blink_machine.proofs.operation.WhereMovesLead.{last_at, level_here, right_is_further}
 
 -- after a step from this state an operation is on its track, with the page that it has read or latched by it
 abbrev pub GoesOnTrack : Pages → State → PlainMachine → List ℕ → List ℕ → ℕ → Type 0

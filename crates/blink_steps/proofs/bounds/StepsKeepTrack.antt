@@ -1,32 +1,32 @@
 -- Every step leaves its operation on its track.
 use Rattle.std.proofs.Common.{◌≡◌, ℕ, ◌+◌, ◌<◌, ◌≤◌, Option, Some, None, List, [], ◌∷◌, length, refl, ap, sym, ◌∙◌, arith}
 use Rattle.blink_batch.specs.Batch.{FitsWords}
-use Rattle.blink_steps.specs.declared.machine.Debt.{Debt}
-use Rattle.blink_steps.specs.declared.machine.Job.TheVariants.{Parent}
-use Rattle.blink_steps.specs.declared.machine.Next.{Next}
-use Rattle.blink_steps.specs.declared.machine.Next.TheVariants.{Finish, MoveRight, Post}
-use Rattle.blink_steps.specs.declared.machine.State.{State}
-use Rattle.blink_steps.specs.declared.machine.State.TheVariants.{Start, Going, Want, Held, Change, SplitNew, SplitOld, AskPrime, Root, NewPrime, Leave, Posting, Ended}
-use Rattle.blink_steps.specs.declared.step.Kind.{Kind}
-use Rattle.blink_steps.specs.declared.step.Step.TheVariants.{Moved}
+use Rattle.blink_machine.specs.declared.machine.Debt.{Debt}
+use Rattle.blink_machine.specs.declared.machine.Job.TheVariants.{Parent}
+use Rattle.blink_machine.specs.declared.machine.Next.{Next}
+use Rattle.blink_machine.specs.declared.machine.Next.TheVariants.{Finish, MoveRight, Post}
+use Rattle.blink_machine.specs.declared.machine.State.{State}
+use Rattle.blink_machine.specs.declared.machine.State.TheVariants.{Start, Going, Want, Held, Change, SplitNew, SplitOld, AskPrime, Root, NewPrime, Leave, Posting, Ended}
+use Rattle.blink_machine.specs.declared.step.Kind.{Kind}
+use Rattle.blink_machine.specs.declared.step.Step.TheVariants.{Moved}
 use Rattle.blink_steps.specs.Acts.{PlainShared, ActsOn, Acts}
-use Rattle.blink_steps.specs.Machine.{PlainMachine, need_at}
-use Rattle.blink_steps.specs.Moment.{Moment, IsItsOperation}
-use Rattle.blink_steps.specs.Owned.{debt_at}
-use Rattle.blink_steps.specs.Placed.{IsPlaced, AreRemembered}
+use Rattle.blink_machine.specs.Machine.{PlainMachine, need_at}
+use Rattle.blink_machine.specs.Moment.{Moment, IsItsOperation}
+use Rattle.blink_machine.specs.Owned.{debt_at}
+use Rattle.blink_machine.specs.Placed.{IsPlaced, AreRemembered}
 use Rattle.blink_steps.specs.Run.{moment_with}
-use Rattle.blink_steps.specs.Sound.{IsSoundWith}
-use Rattle.blink_steps.specs.Table.{decided_with, sets_out, done_at}
-use Rattle.blink_steps.specs.TreeWithDebts.{Levels}
+use Rattle.blink_machine.specs.Sound.{IsSoundWith}
+use Rattle.blink_machine.specs.Table.{decided_with, sets_out, done_at}
+use Rattle.blink_machine.specs.TreeWithDebts.{Levels}
 use Rattle.blink_steps.proofs.bounds.MetPages.{IsNotAbove, pages_wider}
-use Rattle.blink_steps.proofs.operation.WhereMovesLead.{stands_on}
-use Rattle.blink_steps.proofs.operation.PlacedWhateverBefore.{placed_at, its_place}
+use Rattle.blink_machine.proofs.operation.WhereMovesLead.{stands_on}
+use Rattle.blink_machine.proofs.operation.PlacedWhateverBefore.{placed_at, its_place}
 use Rattle.blink_steps.proofs.bounds.NextPageComesAfter.{latched_up_to, comes_after_lower}
 use Rattle.blink_steps.proofs.bounds.OperationTracks.{IsUnder, IsOnTrack, on_track}
-use Rattle.blink_steps.proofs.operation.OperationIsPlaced.{its_own}
-use Rattle.blink_steps.proofs.law.AllowanceIsUsedUp.{decided_parts}
+use Rattle.blink_machine.proofs.operation.OperationIsPlaced.{its_own}
+use Rattle.blink_machine.proofs.law.AllowanceIsUsedUp.{decided_parts}
 use Rattle.blink_steps.proofs.bounds.ReadsKeepTrack.{GoesOnTrack, track_at, sees_prime_tracks, sees_page_tracks}
-use Rattle.blink_steps.proofs.tree.TreeStatements.{TreeLaws}
+use Rattle.blink_machine.proofs.tree.TreeStatements.{TreeLaws}
 
 module _ (laws : TreeLaws) (moment : Moment) (levels : Levels) (sound : IsSoundWith moment levels) (worker : ℕ) (m : PlainMachine) (its : IsItsOperation moment worker m)
     (words : FitsWords m.op) (reads latched : List ℕ) (moves : ℕ) (track : IsOnTrack moment.pages m reads latched moves) where

@@ -12,36 +12,37 @@ use Rattle.blink_batch.specs.PlainMap.{IsAscending}
 use Rattle.blink_batch.proofs.Offered.{next_place_is}
 use Rattle.blink_rest.specs.Entries.{AreEntries}
 use Rattle.blink_store.specs.Store.{PlainStore, page_of}
-use Rattle.blink_steps.specs.declared.machine.Job.TheVariants.{Leaf}
-use Rattle.blink_steps.specs.Allowance.{primes_for, primes_left}
+use Rattle.blink_machine.specs.declared.machine.Job.TheVariants.{Leaf}
+use Rattle.blink_machine.specs.Allowance.{primes_for, primes_left}
 use Rattle.blink_store.proofs.Offered.{slice_get-set_other, slice_get-set_same}
 use Rattle.blink_steps.specs.declared.seat.Seat.{Seat}
 use Rattle.blink_steps.specs.declared.seat.Working.{Working}
-use Rattle.blink_steps.specs.declared.step.Kind.{Kind}
-use Rattle.blink_steps.specs.declared.step.Step.TheVariants.{Moved}
+use Rattle.blink_machine.specs.declared.step.Kind.{Kind}
+use Rattle.blink_machine.specs.declared.step.Step.TheVariants.{Moved}
 use Rattle.blink_steps.specs.Acts.{Acts}
 use Rattle.blink_steps.specs.Ways.{page_on_way, page_to_latch, read_on_way, latched_by}
-use Rattle.blink_steps.specs.Counts.{has_moved, moved_by, moves_in}
-use Rattle.blink_steps.specs.Kinds.{is_page_read}
-use Rattle.blink_steps.specs.Machine.{PlainMachine}
-use Rattle.blink_steps.specs.Moment.{goes_on, IsItsOperation}
-use Rattle.blink_steps.specs.Places.{KeepsPlaces}
+use Rattle.blink_steps.specs.Counts.{moves_in}
+use Rattle.blink_machine.specs.Kinds.{has_moved, moved_by}
+use Rattle.blink_machine.specs.Kinds.{is_page_read}
+use Rattle.blink_machine.specs.Machine.{PlainMachine}
+use Rattle.blink_machine.specs.Moment.{goes_on, IsItsOperation}
+use Rattle.blink_machine.specs.Places.{KeepsPlaces}
 use Rattle.blink_steps.specs.Run.{PlainRun, Taken, TakesTurn, Follows, IsOpeningRun, IsNextOf, after_move, seat_after, idle_seat, busy_seat, moment_of}
 use Rattle.blink_steps.specs.SoundRun.{IsSoundRun, IsSoundIdle}
-use Rattle.blink_steps.specs.TreeMap.{pairs_of}
+use Rattle.blink_machine.specs.TreeMap.{pairs_of}
 use Rattle.blink_steps.proofs.bounds.HistoriesStayWithin.{IsSoundAndCounted, counted_along, next_fits, none_under_way, other_lane, own_of_working}
 use Rattle.blink_steps.proofs.bounds.CountsOfOperations.{IsCounted, IsKnown, next_is_known}
 use Rattle.blink_steps.proofs.bounds.MovesStayWithin.{working_is_after}
 use Rattle.blink_steps.proofs.bounds.FindsReadOnTheirWay.{find_reads_on_way}
-use Rattle.blink_steps.proofs.operation.PlacedWhateverBefore.{its_place}
+use Rattle.blink_machine.proofs.operation.PlacedWhateverBefore.{its_place}
 use Rattle.blink_steps.proofs.bounds.OperationTracks.{track_stays, fresh_on_track}
-use Rattle.blink_steps.proofs.law.EachPart.{step_law}
+use Rattle.blink_machine.proofs.law.EachPart.{step_law}
 use Rattle.blink_steps.proofs.runs.OperationOfTurn.{machines_of, move_is_step, next_is_its}
 use Rattle.blink_steps.proofs.runs.RunStatements.{MayBegin, OpeningRunIsSound, TurnKeepsSoundRun}
 use Rattle.blink_steps.proofs.bounds.MovesKeepWaysShort.{IsShortAt, IsTracked, own_track, other_track, rest_track, own_short, other_short, rest_short, short_stays}
 use Rattle.blink_steps.proofs.bounds.ReadsKeepTrack.{GoesOnTrack}
 use Rattle.blink_steps.proofs.bounds.StepsKeepTrack.{step_tracks}
-use Rattle.blink_steps.proofs.tree.TreeStatements.{TreeLaws}
+use Rattle.blink_machine.proofs.tree.TreeStatements.{TreeLaws}
 use Rattle.blink_steps.proofs.bounds.CountedTurns.{turns_of-other, turns_of-unlike}
 use Rattle.blink_steps.proofs.bounds.PagesOfTurns.{no_pages}
 

@@ -4,15 +4,15 @@ use Rattle.std.proofs.lemmas.Option.{slice_get_past}
 use Rattle.blink_page.specs.Page.{PlainPage}
 use Rattle.blink_store.specs.Latches.{holder_of, ChangesHolder}
 use Rattle.blink_store.specs.Store.{PlainStore, page_of, WritesPage}
-use Rattle.blink_steps.specs.declared.machine.Need.{Need}
-use Rattle.blink_steps.specs.declared.machine.Need.TheVariants.{ReadPrime, ReadPage, Latch, WriteNew, WritePage, WritePrime, Unlatch, End}
-use Rattle.blink_steps.specs.declared.step.Kind.{Kind}
-use Rattle.blink_steps.specs.declared.step.Step.TheVariants.{Moved, Waited}
+use Rattle.blink_machine.specs.declared.machine.Need.{Need}
+use Rattle.blink_machine.specs.declared.machine.Need.TheVariants.{ReadPrime, ReadPage, Latch, WriteNew, WritePage, WritePrime, Unlatch, End}
+use Rattle.blink_machine.specs.declared.step.Kind.{Kind}
+use Rattle.blink_machine.specs.declared.step.Step.TheVariants.{Moved, Waited}
 use Rattle.blink_steps.specs.Acts.{PlainShared, Acts, ActsOn}
-use Rattle.blink_steps.specs.Machine.{PlainMachine, need_at}
-use Rattle.blink_steps.specs.Moment.{Leaves, WritesOne, LatchPasses, IsWorkersNow, Steps, reads_prime, waits_for_level, reads_page, latches, waits_for_latch, writes_new, writes_page, writes_prime, unlatches}
+use Rattle.blink_machine.specs.Machine.{PlainMachine, need_at}
+use Rattle.blink_machine.specs.Moment.{Leaves, WritesOne, LatchPasses, IsWorkersNow, Steps, reads_prime, waits_for_level, reads_page, latches, waits_for_latch, writes_new, writes_page, writes_prime, unlatches}
 use Rattle.blink_steps.specs.Run.{moment_with}
-use Rattle.blink_steps.proofs.operation.WhatJobsAreAbout.{some_value}
+use Rattle.blink_machine.proofs.operation.WhatJobsAreAbout.{some_value}
 
 -- where nothing shared changes, the moment keeps all but its operations
 same_leaves : (old new : PlainShared) (machines after_machines : ℕ → Option PlainMachine) → new ≡ old → Leaves (moment_with old machines) (moment_with new after_machines)

@@ -17,7 +17,7 @@ use Rattle.blink_steps.specs.Run.{PlainRun, moment_of}
 use Rattle.blink_steps.specs.Ledger.{decides_now}
 use Rattle.blink_steps.specs.SoundRun.{is_answered}
 use Rattle.blink_steps.specs.Decided.{AnswersSoFar, IsDecided}
-use Rattle.blink_steps.specs.TreeMap.{Keeps}
+use Rattle.blink_machine.specs.TreeMap.{Keeps}
 
 -- ---- lists
 

@@ -19,8 +19,8 @@ use Rattle.blink_steps.specs.declared.seat.Working.{Working}
 use Rattle.blink_steps.specs.Run.{PlainRun, idle_seat, machine_of_seat, moment_of}
 use Rattle.blink_steps.specs.SoundRun.{HasDecided, IsSoundIdle, IsSoundRun, IsSoundSeat, decided_below}
 use Rattle.blink_steps.specs.Decided.{AnswersSoFar}
-use Rattle.blink_steps.specs.StepLaw.{StepLaw}
-use Rattle.blink_steps.proofs.tree.NumbersApart.{contains_or_not, filter-take, holds_at_passing, holds_of_both, holds_of_filter, one_index, AllDiffer-filter, AllDiffer-places_from, AllDiffer-take}
+use Rattle.blink_machine.specs.StepLaw.{StepLaw}
+use Rattle.blink_machine.proofs.tree.NumbersApart.{contains_or_not, filter-take, holds_at_passing, holds_of_both, holds_of_filter, one_index, AllDiffer-filter, AllDiffer-places_from, AllDiffer-take}
 use Rattle.blink_steps.proofs.runs.RunStatements.{EachHasItsTurn, EachIsDecidedOnce, EndedRunIsWhole, FrontsAreDecided, HasAnswerAt, HasEnded, OneLatchEach}
 
 -- ---- fronts

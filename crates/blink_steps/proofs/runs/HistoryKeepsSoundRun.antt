@@ -4,7 +4,7 @@ use Rattle.std.specs.List.{slice_get}
 use Rattle.blink_batch.specs.declared.Answer.{Answer}
 use Rattle.blink_steps.specs.SoundRun.{IsSoundRun}
 use Rattle.blink_steps.specs.Decided.{AnswersSoFar}
-use Rattle.blink_steps.specs.StepLaw.{StepLaw}
+use Rattle.blink_machine.specs.StepLaw.{StepLaw}
 use Rattle.blink_steps.proofs.runs.DecidedAtEnd.{each_decided, each_is_decided_once}
 use Rattle.blink_steps.proofs.runs.RunStatements.{EndedRunIsAnswered, HasAnswerAt, HistoryKeepsSoundRun}
 use Rattle.blink_steps.proofs.runs.TurnsKeepSoundRun.{turn_keeps_sound_run}

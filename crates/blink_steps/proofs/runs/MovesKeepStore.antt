@@ -7,17 +7,17 @@ use Rattle.blink_page.specs.Limits.{IsPageNumber}
 use Rattle.blink_page.specs.Page.{PlainPage, IsLawfulPage}
 use Rattle.blink_store.specs.Store.{PlainStore, page_of, WritesPage, IsLawfulStore}
 use Rattle.blink_store.proofs.Offered.{pages-add, pages-write}
-use Rattle.blink_steps.specs.declared.machine.Need.{Need}
-use Rattle.blink_steps.specs.declared.machine.Need.TheVariants.{ReadPrime, ReadPage, Latch, WriteNew, WritePage, WritePrime, Unlatch, End}
-use Rattle.blink_steps.specs.declared.step.Kind.{Kind}
-use Rattle.blink_steps.specs.declared.step.Step.TheVariants.{Moved}
+use Rattle.blink_machine.specs.declared.machine.Need.{Need}
+use Rattle.blink_machine.specs.declared.machine.Need.TheVariants.{ReadPrime, ReadPage, Latch, WriteNew, WritePage, WritePrime, Unlatch, End}
+use Rattle.blink_machine.specs.declared.step.Kind.{Kind}
+use Rattle.blink_machine.specs.declared.step.Step.TheVariants.{Moved}
 use Rattle.blink_steps.specs.Acts.{PlainShared, Acts, ActsOn}
-use Rattle.blink_steps.specs.Machine.{PlainMachine, need_at}
-use Rattle.blink_steps.specs.Moment.{IsItsOperation}
+use Rattle.blink_machine.specs.Machine.{PlainMachine, need_at}
+use Rattle.blink_machine.specs.Moment.{IsItsOperation}
 use Rattle.blink_steps.specs.Run.{moment_with}
-use Rattle.blink_steps.specs.Sound.{IsSound}
-use Rattle.blink_steps.specs.StepLaw.{StepLaw}
-use Rattle.blink_steps.specs.Table.{PrimeOut, adds_root, page_out}
+use Rattle.blink_machine.specs.Sound.{IsSound}
+use Rattle.blink_machine.specs.StepLaw.{StepLaw}
+use Rattle.blink_machine.specs.Table.{PrimeOut, adds_root, page_out}
 
 module _ (old new : PlainStore) (lawful : IsLawfulStore old) (page : PlainPage) (good : IsLawfulPage old.fan page) where
   -- a store with a lawful page at the end

@@ -21,9 +21,9 @@ use Rattle.blink_steps.specs.declared.seat.Seat.{Seat}
 use Rattle.blink_steps.specs.Run.{PlainRun, IsOpeningRun, idle_seat, machine_of_seat, moment_of}
 use Rattle.blink_steps.specs.SoundRun.{IsShaped, IsSoundRun, IsSoundSeat, is_answered, IsSoundIdle}
 use Rattle.blink_steps.specs.Decided.{IsDecided}
-use Rattle.blink_steps.specs.TreeMap.{Keeps, pairs_of}
+use Rattle.blink_machine.specs.TreeMap.{Keeps, pairs_of}
 use Rattle.blink_steps.proofs.runs.RunStatements.{MayBegin, OpeningRunIsSound}
-use Rattle.blink_steps.specs.StepLaw.{IsOpening, StepLaw}
+use Rattle.blink_machine.specs.StepLaw.{IsOpening, StepLaw}
 use Rattle.blink_steps.specs.Ledger.{PlainLedger}
 
 -- the number of a page of a lawful store is one that a page may have

@@ -8,15 +8,15 @@ use Rattle.blink_batch.specs.Order.{next_place}
 use Rattle.blink_batch.proofs.Offered.{fresh_from_part, next_place_is, part_of-next_place}
 use Rattle.blink_store.proofs.Offered.{slice_get-set_other, slice_get-set_same}
 use Rattle.blink_steps.specs.declared.seat.Seat.{Seat}
-use Rattle.blink_steps.specs.declared.step.Kind.{Kind}
-use Rattle.blink_steps.specs.declared.step.Step.{Step}
-use Rattle.blink_steps.specs.declared.step.Step.TheVariants.{Moved, Waited, Idle}
+use Rattle.blink_machine.specs.declared.step.Kind.{Kind}
+use Rattle.blink_machine.specs.declared.step.Step.{Step}
+use Rattle.blink_machine.specs.declared.step.Step.TheVariants.{Moved, Waited, Idle}
 use Rattle.blink_steps.specs.Acts.{PlainShared, Acts, ActsOn}
-use Rattle.blink_steps.specs.declared.machine.Need.{Need}
-use Rattle.blink_steps.specs.declared.machine.Need.TheVariants.{WriteNew}
+use Rattle.blink_machine.specs.declared.machine.Need.{Need}
+use Rattle.blink_machine.specs.declared.machine.Need.TheVariants.{WriteNew}
 use Rattle.blink_steps.specs.Laws.{TakesNextNumber, TurnsAreSteps}
-use Rattle.blink_steps.specs.Machine.{PlainMachine, fresh}
-use Rattle.blink_steps.specs.Moment.{IsItsOperation, under_way as is_under_way, taken_on as is_taken_on, IsWorkersNow, Steps, goes_on}
+use Rattle.blink_machine.specs.Machine.{PlainMachine, fresh}
+use Rattle.blink_machine.specs.Moment.{IsItsOperation, under_way as is_under_way, taken_on as is_taken_on, IsWorkersNow, Steps, goes_on}
 use Rattle.blink_steps.specs.Run.{PlainRun, IsNextOf, under_way, taken_on, Taken, TakesTurn, moves, waits, idles, after_move, busy_seat, idle_seat, machine_of_seat, moment_of, seat_after}
 use Rattle.blink_steps.specs.SoundRun.{HasDecided, IsSoundWorking, IsSoundIdle, IsSoundRun}
 use Rattle.blink_steps.proofs.runs.ActsAreSteps.{acts_are_steps, waits_are_steps}

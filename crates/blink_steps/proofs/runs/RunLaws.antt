@@ -1,7 +1,7 @@
 -- The laws of runs, each proved.
 use Rattle.blink_steps.proofs.runs.RunStatements.{RunLaws}
-use Rattle.blink_steps.proofs.tree.TreeLaws.{tree_laws}
-use Rattle.blink_steps.proofs.law.EachPart.{step_law}
+use Rattle.blink_machine.proofs.tree.TreeLaws.{tree_laws}
+use Rattle.blink_machine.proofs.law.EachPart.{step_law}
 use Rattle.blink_steps.proofs.runs.TurnsKeepSoundRun.{turn_keeps_sound_run}
 use Rattle.blink_steps.proofs.runs.OpeningRunIsSound.{opening_run_is_sound}
 use Rattle.blink_steps.proofs.runs.TurnIsReady.{turn_is_ready}

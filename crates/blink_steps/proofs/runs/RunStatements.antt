@@ -13,11 +13,11 @@ use Rattle.blink_store.specs.Store.{PlainStore, page_of}
 use Rattle.blink_steps.specs.Ways.{IsShort}
 use Rattle.blink_steps.specs.Bounds.{IsBounded}
 use Rattle.blink_steps.specs.Counts.{page_reads_in, moves_in}
-use Rattle.blink_steps.specs.Machine.{PlainMachine, NeedsNew}
-use Rattle.blink_steps.specs.Owned.{HoldOneLatchEach}
+use Rattle.blink_machine.specs.Machine.{PlainMachine, NeedsNew}
+use Rattle.blink_machine.specs.Owned.{HoldOneLatchEach}
 use Rattle.blink_steps.specs.Run.{PlainRun, Taken, TakesTurn, Follows, IsOpeningRun, IsNextOf}
 use Rattle.blink_steps.specs.SoundRun.{IsSoundRun}
-use Rattle.blink_steps.specs.TreeMap.{pairs_of}
+use Rattle.blink_machine.specs.TreeMap.{pairs_of}
 use Rattle.blink_steps.specs.Acts.{CanAct}
 pub use Rattle.blink_steps.specs.Promises.{HasAnswerAt, EachOnce, IsFrontOfLane, HasUndecided, IsWholeRun, IsAnsweredInOrder}
 use Rattle.blink_rest.specs.Reach.{IsReached}

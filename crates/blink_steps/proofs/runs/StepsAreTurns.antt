@@ -13,24 +13,24 @@ use Rattle.blink_store.specs.Latches.{Holds, IsHeldByOne, holder_of, ChangesHold
 use Rattle.blink_store.specs.Store.{PlainStore, page_of, WritesPage}
 use Rattle.blink_store.specs.declared.latches.TheConstants.{WORKERS}
 use Rattle.blink_store.proofs.Offered.{holder_of-holds, nobody, slice_get-push_other, slice_get-push_same, slice_get-set_other, slice_get-set_same}
-use Rattle.blink_steps.specs.declared.machine.Need.{Need}
-use Rattle.blink_steps.specs.declared.machine.Need.TheVariants.{ReadPrime, ReadPage, Latch, WriteNew, WritePage, WritePrime, Unlatch}
+use Rattle.blink_machine.specs.declared.machine.Need.{Need}
+use Rattle.blink_machine.specs.declared.machine.Need.TheVariants.{ReadPrime, ReadPage, Latch, WriteNew, WritePage, WritePrime, Unlatch}
 use Rattle.blink_steps.specs.declared.seat.Seat.{Seat}
-use Rattle.blink_steps.specs.declared.step.Kind.{Kind}
-use Rattle.blink_steps.specs.declared.step.Step.{Step}
-use Rattle.blink_steps.specs.declared.step.Step.TheVariants.{Moved, Waited}
+use Rattle.blink_machine.specs.declared.step.Kind.{Kind}
+use Rattle.blink_machine.specs.declared.step.Step.{Step}
+use Rattle.blink_machine.specs.declared.step.Step.TheVariants.{Moved, Waited}
 use Rattle.blink_steps.specs.Acts.{PlainShared, Acts, ActsOn}
-use Rattle.blink_steps.specs.Kinds.{read_page, read_prime, latch, unlatch, write_page, write_prime}
+use Rattle.blink_machine.specs.Kinds.{read_page, read_prime, latch, unlatch, write_page, write_prime}
 use Rattle.blink_steps.specs.Laws.{HasTurnTo, StepsAreTurns, TakesNextNumber, turn_of}
-use Rattle.blink_steps.specs.Machine.{PlainMachine, need_at}
-use Rattle.blink_steps.specs.Moment.{Moment, IsItsOperation, IsWorkersNow, LatchPasses, WritesOne, Steps, reads_prime, waits_for_level, reads_page, latches, waits_for_latch, writes_new, writes_page, writes_prime, unlatches, goes_on}
-use Rattle.blink_steps.specs.Owned.{latch_of}
+use Rattle.blink_machine.specs.Machine.{PlainMachine, need_at}
+use Rattle.blink_machine.specs.Moment.{Moment, IsItsOperation, IsWorkersNow, LatchPasses, WritesOne, Steps, reads_prime, waits_for_level, reads_page, latches, waits_for_latch, writes_new, writes_page, writes_prime, unlatches, goes_on}
+use Rattle.blink_machine.specs.Owned.{latch_of}
 use Rattle.blink_steps.specs.Run.{PlainRun, IsNextOf, moves, waits, after_move, machine_of_seat, moment_of, seat_after}
-use Rattle.blink_steps.specs.Sound.{IsSound}
+use Rattle.blink_machine.specs.Sound.{IsSound}
 use Rattle.blink_steps.specs.SoundRun.{IsSoundRun}
-use Rattle.blink_steps.specs.Table.{page_out, done}
+use Rattle.blink_machine.specs.Table.{page_out, done}
 use Rattle.blink_steps.proofs.runs.OperationOfTurn.{machines_of, next_has_seat, next_is_busy, next_is_its, seats_after_move}
-use Rattle.blink_steps.proofs.law.EachPart.{step_law}
+use Rattle.blink_machine.proofs.law.EachPart.{step_law}
 use Rattle.blink_steps.proofs.worlds.WorldPromises.{sound}
 
 -- ---- what is the same

@@ -11,26 +11,26 @@ use Rattle.blink_batch.specs.declared.operation.Op.TheVariants.{Find}
 use Rattle.blink_batch.specs.declared.cut.TheConstants.{WORKER_LIMIT}
 use Rattle.blink_batch.specs.Order.{next_place}
 use Rattle.blink_batch.proofs.Offered.{next_place_is}
-use Rattle.blink_steps.specs.declared.machine.Need.{Need}
-use Rattle.blink_steps.specs.declared.machine.Need.TheVariants.{ReadPrime, ReadPage, Latch, WriteNew, WritePage, WritePrime, Unlatch, End}
-use Rattle.blink_steps.specs.declared.machine.State.{State}
-use Rattle.blink_steps.specs.declared.machine.State.TheVariants.{Start, Going, Want, Held, Change, SplitNew, SplitOld, AskPrime, Root, NewPrime, Leave, Posting, Ended}
+use Rattle.blink_machine.specs.declared.machine.Need.{Need}
+use Rattle.blink_machine.specs.declared.machine.Need.TheVariants.{ReadPrime, ReadPage, Latch, WriteNew, WritePage, WritePrime, Unlatch, End}
+use Rattle.blink_machine.specs.declared.machine.State.{State}
+use Rattle.blink_machine.specs.declared.machine.State.TheVariants.{Start, Going, Want, Held, Change, SplitNew, SplitOld, AskPrime, Root, NewPrime, Leave, Posting, Ended}
 use Rattle.blink_steps.specs.declared.run.Run.TheInside.{Inside}
 use Rattle.blink_steps.specs.declared.seat.Seat.{Seat}
 use Rattle.blink_steps.specs.declared.seat.Working.{Working}
-use Rattle.blink_steps.specs.declared.step.Kind.{Kind}
-use Rattle.blink_steps.specs.declared.step.Step.{Step}
-use Rattle.blink_steps.specs.declared.step.Step.TheVariants.{Moved, Waited, Idle}
+use Rattle.blink_machine.specs.declared.step.Kind.{Kind}
+use Rattle.blink_machine.specs.declared.step.Step.{Step}
+use Rattle.blink_machine.specs.declared.step.Step.TheVariants.{Moved, Waited, Idle}
 use Rattle.blink_steps.specs.Acts.{PlainShared, ActsOn, Acts, CanAct}
 use Rattle.blink_steps.specs.Ledger.{PlainLedger, decides_now, noted}
 use Rattle.blink_store.proofs.Offered.{slice_get-push_other, slice_get-push_same, slice_get-set_other, slice_get-set_same}
 use Rattle.blink_steps.specs.Links.{AreFirsts}
-use Rattle.blink_steps.specs.Machine.{PlainMachine, need_at, fresh}
-use Rattle.blink_steps.specs.Moment.{goes_on}
+use Rattle.blink_machine.specs.Machine.{PlainMachine, need_at, fresh}
+use Rattle.blink_machine.specs.Moment.{goes_on}
 use Rattle.blink_steps.specs.Run.{PlainRun, Taken, TakesTurn, IsNextOf, idle_seat, seat_after, after_move}
 use Rattle.blink_steps.specs.RunView.{IsLinked}
 use Rattle.blink_steps.specs.Seats.{working_after, AreOfLanes}
-use Rattle.blink_steps.specs.Table.{SeesPrime}
+use Rattle.blink_machine.specs.Table.{SeesPrime}
 
 -- ---- the operation after a step
 

@@ -6,17 +6,17 @@ use Rattle.blink_batch.specs.declared.cut.TheConstants.{WORKER_LIMIT}
 use Rattle.blink_page.specs.declared.limits.TheConstants.{MAX_PAGE}
 use Rattle.blink_store.specs.declared.latches.TheConstants.{WORKERS}
 use Rattle.blink_store.proofs.Offered.{has_page}
-use Rattle.blink_steps.specs.declared.machine.Need.{Need}
-use Rattle.blink_steps.specs.declared.machine.Need.TheVariants.{ReadPrime, ReadPage, Latch, WriteNew, WritePage, WritePrime, Unlatch, End}
-use Rattle.blink_steps.specs.declared.machine.State.{State}
-use Rattle.blink_steps.specs.declared.machine.State.TheVariants.{Start, Going, Want, Held, Change, SplitNew, SplitOld, AskPrime, Root, NewPrime, Leave, Posting, Ended}
-use Rattle.blink_steps.specs.InOrder.{IsInOrder}
+use Rattle.blink_machine.specs.declared.machine.Need.{Need}
+use Rattle.blink_machine.specs.declared.machine.Need.TheVariants.{ReadPrime, ReadPage, Latch, WriteNew, WritePage, WritePrime, Unlatch, End}
+use Rattle.blink_machine.specs.declared.machine.State.{State}
+use Rattle.blink_machine.specs.declared.machine.State.TheVariants.{Start, Going, Want, Held, Change, SplitNew, SplitOld, AskPrime, Root, NewPrime, Leave, Posting, Ended}
+use Rattle.blink_machine.specs.InOrder.{IsInOrder}
 use Rattle.blink_steps.specs.Acts.{CanAct, CanActOn}
-use Rattle.blink_steps.specs.Machine.{PlainMachine, NeedsNew, need_at}
-use Rattle.blink_steps.specs.Moment.{IsItsOperation}
+use Rattle.blink_machine.specs.Machine.{PlainMachine, NeedsNew, need_at}
+use Rattle.blink_machine.specs.Moment.{IsItsOperation}
 use Rattle.blink_steps.specs.Run.{PlainRun, IsNextOf, moment_of}
 use Rattle.blink_steps.specs.SoundRun.{IsSoundRun}
-use Rattle.blink_steps.specs.StepLaw.{StepLaw}
+use Rattle.blink_machine.specs.StepLaw.{StepLaw}
 use Rattle.blink_steps.proofs.runs.OperationOfTurn.{next_has_seat, next_is_busy, next_is_its}
 use Rattle.blink_steps.proofs.runs.RunStatements.{TurnIsReady}
 

@@ -11,16 +11,16 @@ use Rattle.blink_batch.specs.Operation.{map_after_all}
 use Rattle.blink_batch.specs.Order.{operations_at, part_of}
 use Rattle.blink_batch.proofs.Offered.{fresh_from_part, IsAscending-map_after_all}
 use Rattle.blink_store.proofs.Offered.{slice_get-set_other, slice_get-set_same}
-use Rattle.blink_steps.specs.declared.machine.State.{State}
-use Rattle.blink_steps.specs.declared.machine.State.TheVariants.{Start, Going, Want, Held, Change, SplitNew, SplitOld, AskPrime, Root, NewPrime, Leave, Posting, Ended}
+use Rattle.blink_machine.specs.declared.machine.State.{State}
+use Rattle.blink_machine.specs.declared.machine.State.TheVariants.{Start, Going, Want, Held, Change, SplitNew, SplitOld, AskPrime, Root, NewPrime, Leave, Posting, Ended}
 use Rattle.blink_steps.specs.declared.seat.Seat.{Seat}
 use Rattle.blink_steps.specs.declared.seat.Working.{Working}
-use Rattle.blink_steps.specs.declared.step.Kind.{Kind}
-use Rattle.blink_steps.specs.declared.step.Step.TheVariants.{Moved}
+use Rattle.blink_machine.specs.declared.step.Kind.{Kind}
+use Rattle.blink_machine.specs.declared.step.Step.TheVariants.{Moved}
 use Rattle.blink_steps.specs.Acts.{PlainShared, Acts}
-use Rattle.blink_steps.specs.Kinds.{is_page_read}
-use Rattle.blink_steps.specs.Machine.{PlainMachine}
-use Rattle.blink_steps.specs.Moment.{Steps, goes_on}
+use Rattle.blink_machine.specs.Kinds.{is_page_read}
+use Rattle.blink_machine.specs.Machine.{PlainMachine}
+use Rattle.blink_machine.specs.Moment.{Steps, goes_on}
 use Rattle.blink_steps.specs.Run.{PlainRun, IsNextOf, moves, waits, idles, after_move, moment_of, seat_after}
 use Rattle.blink_steps.specs.Ledger.{one_more_at}
 use Rattle.blink_steps.specs.SoundRun.{HasDecided, IsSoundWorking, IsSoundIdle, IsShaped, IsSoundRun, IsSoundSeat, decided_below, is_answered}
@@ -29,8 +29,8 @@ use Rattle.blink_steps.proofs.runs.DecidedAfterMove.{as_many_more, as_many_stay,
 use Rattle.blink_steps.proofs.runs.OperationOfTurn.{machines_of, move_is_step, next_has_seat, next_is_busy, next_is_its}
 use Rattle.blink_steps.proofs.runs.RunStatements.{TurnKeepsSoundRun}
 use Rattle.blink_steps.proofs.runs.MovesKeepStore.{move_keeps_lawful}
-use Rattle.blink_steps.specs.StepLaw.{Decides, deciding, other, StepLaw}
-use Rattle.blink_steps.proofs.operation.OperationStaysItself.{StaysItself, step_stays}
+use Rattle.blink_machine.specs.StepLaw.{Decides, deciding, other, StepLaw}
+use Rattle.blink_machine.proofs.operation.OperationStaysItself.{StaysItself, step_stays}
 
 -- an operation goes on unless it has ended
 ends_or_goes_on : (m : PlainMachine) (state : State) → ((state ≡ Ended) × (goes_on m state ≡ None)) ⊎ ((state ≢ Ended) × (goes_on m state ≡ Some m))

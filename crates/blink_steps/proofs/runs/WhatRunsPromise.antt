@@ -8,16 +8,16 @@ use Rattle.blink_page.specs.Rising.{IsRising}
 use Rattle.blink_page.proofs.Offered.{value_at-above}
 use Rattle.blink_page.specs.declared.limits.TheConstants.{GREATEST_KEY}
 use Rattle.blink_rest.proofs.Offered.{entries_ascend}
-use Rattle.blink_steps.specs.declared.step.Step.{Step}
-use Rattle.blink_steps.specs.Moment.{Steps}
+use Rattle.blink_machine.specs.declared.step.Step.{Step}
+use Rattle.blink_machine.specs.Moment.{Steps}
 use Rattle.blink_steps.specs.Run.{moment_of}
-use Rattle.blink_steps.specs.TreeMap.{pairs_of}
-use Rattle.blink_steps.specs.StepLaw.{StepLaw}
-use Rattle.blink_steps.proofs.tree.EntriesAsMap.{value_at-pairs_of}
-use Rattle.blink_steps.proofs.moment.EntriesThatATreeKeeps.{pointer_in_leaf}
+use Rattle.blink_machine.specs.TreeMap.{pairs_of}
+use Rattle.blink_machine.specs.StepLaw.{StepLaw}
+use Rattle.blink_machine.proofs.tree.EntriesAsMap.{value_at-pairs_of}
+use Rattle.blink_machine.proofs.moment.EntriesThatATreeKeeps.{pointer_in_leaf}
 use Rattle.blink_steps.proofs.runs.OperationOfTurn.{turn_is_step, next_is_busy}
 use Rattle.blink_steps.proofs.runs.RunStatements.{NextIsUnanswered, PresentIsReached, WritesAreOwn}
-use Rattle.blink_steps.proofs.tree.TreeStatements.{TreeLaws}
+use Rattle.blink_machine.proofs.tree.TreeStatements.{TreeLaws}
 
 -- an operation without an answer has none at its place
 pub next_is_unanswered : NextIsUnanswered

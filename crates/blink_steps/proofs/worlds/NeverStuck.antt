@@ -1,22 +1,22 @@
 -- While an operation is under way, the next step of some worker is not a wait.
 use Rattle.std.proofs.Common.{◌≡◌, ℕ, ◌+◌, ◌≤◌, Option, Some, None, length, slice_get, inl, inr, refl, sym, ap, ◌∙◌, arith}
 use Rattle.std.proofs.lemmas.Option.{slice_get_cases}
-use Rattle.blink_steps.specs.declared.machine.Debt.{Debt}
-use Rattle.blink_steps.specs.declared.machine.Job.TheVariants.{Parent}
-use Rattle.blink_steps.specs.declared.machine.Need.TheVariants.{Latch}
-use Rattle.blink_steps.specs.declared.machine.State.{State}
-use Rattle.blink_steps.specs.declared.machine.State.TheVariants.{Want, Posting}
-use Rattle.blink_steps.specs.Machine.{PlainMachine, NeedsLatch, need_at}
-use Rattle.blink_steps.specs.Moment.{Moment}
-use Rattle.blink_steps.specs.Owned.{latch_at, split_at, debt_of, debt_at}
-use Rattle.blink_steps.specs.Placed.{PlacedAt}
-use Rattle.blink_steps.specs.Sound.{IsSoundWith}
-use Rattle.blink_steps.specs.Table.{WaitsForLevel}
-use Rattle.blink_steps.specs.TreeWithDebts.{Levels}
-use Rattle.blink_steps.proofs.tree.TreeStatements.{TreeLaws}
-use Rattle.blink_steps.proofs.moment.SoundStatements.{IsWaiting, SomeoneMoves, NeverStuck}
-use Rattle.blink_steps.proofs.operation.OperationIsPlaced.{at_state}
-use Rattle.blink_steps.proofs.tree.PrimeAsList.{leftmost_of}
+use Rattle.blink_machine.specs.declared.machine.Debt.{Debt}
+use Rattle.blink_machine.specs.declared.machine.Job.TheVariants.{Parent}
+use Rattle.blink_machine.specs.declared.machine.Need.TheVariants.{Latch}
+use Rattle.blink_machine.specs.declared.machine.State.{State}
+use Rattle.blink_machine.specs.declared.machine.State.TheVariants.{Want, Posting}
+use Rattle.blink_machine.specs.Machine.{PlainMachine, NeedsLatch, need_at}
+use Rattle.blink_machine.specs.Moment.{Moment}
+use Rattle.blink_machine.specs.Owned.{latch_at, split_at, debt_of, debt_at}
+use Rattle.blink_machine.specs.Placed.{PlacedAt}
+use Rattle.blink_machine.specs.Sound.{IsSoundWith}
+use Rattle.blink_machine.specs.Table.{WaitsForLevel}
+use Rattle.blink_machine.specs.TreeWithDebts.{Levels}
+use Rattle.blink_machine.proofs.tree.TreeStatements.{TreeLaws}
+use Rattle.blink_machine.proofs.moment.SoundStatements.{IsWaiting, SomeoneMoves, NeverStuck}
+use Rattle.blink_machine.proofs.operation.OperationIsPlaced.{at_state}
+use Rattle.blink_machine.proofs.tree.PrimeAsList.{leftmost_of}
 
 module _ (moment : Moment) (m : PlainMachine) where
   -- an operation waits only for a latch that another holds, and for a level that is not there

@@ -9,7 +9,7 @@ use Rattle.blink_steps.specs.Headline.{IsOneThread}
 use Rattle.blink_steps.specs.Promises.{IsLawfullyCut}
 use Rattle.blink_steps.specs.Run.{PlainRun, moment_of}
 use Rattle.blink_steps.specs.SoundRun.{IsSoundRun}
-use Rattle.blink_steps.specs.TreeMap.{Keeps, IsMapOf}
+use Rattle.blink_machine.specs.TreeMap.{Keeps, IsMapOf}
 use Rattle.blink_steps.specs.World.{HasEnded}
 use Rattle.blink_steps.proofs.runs.RunStatements.{RunLaws}
 

@@ -5,21 +5,21 @@ use Rattle.std.specs.List.{slice_get}
 use Rattle.std.specs.Prelude.{IfSome, IsNone, IsSome}
 use Rattle.blink_batch.specs.declared.Entry.{Entry}
 use Rattle.blink_store.specs.Latches.{holder_of}
-use Rattle.blink_steps.specs.declared.machine.Need.{Need}
-use Rattle.blink_steps.specs.declared.machine.Need.TheVariants.{ReadPrime, ReadPage, Latch, WriteNew, WritePage, WritePrime, Unlatch, End}
+use Rattle.blink_machine.specs.declared.machine.Need.{Need}
+use Rattle.blink_machine.specs.declared.machine.Need.TheVariants.{ReadPrime, ReadPage, Latch, WriteNew, WritePage, WritePrime, Unlatch, End}
 use Rattle.blink_steps.specs.declared.seat.Seat.{Seat}
 use Rattle.blink_steps.specs.declared.seat.Working.{Working}
-use Rattle.blink_steps.specs.declared.step.Step.TheVariants.{Waited}
+use Rattle.blink_machine.specs.declared.step.Step.TheVariants.{Waited}
 use Rattle.blink_steps.specs.Acts.{ActsOn}
-use Rattle.blink_steps.specs.Machine.{PlainMachine, need_at}
+use Rattle.blink_machine.specs.Machine.{PlainMachine, need_at}
 use Rattle.blink_steps.specs.Pick.{IsFirstMover, WouldMove}
 use Rattle.blink_steps.specs.Run.{PlainRun, busy_seat, idle_seat, machine_of_seat, moment_of}
 use Rattle.blink_steps.specs.SoundRun.{IsSoundRun}
 use Rattle.blink_steps.specs.World.{HasEnded}
 use Rattle.blink_steps.proofs.worlds.NeverStuck.{never_stuck}
 use Rattle.blink_steps.proofs.worlds.WorkersBySeat.{idle_never_waits, one_seat, only_next}
-use Rattle.blink_steps.proofs.moment.SoundStatements.{IsWaiting}
-use Rattle.blink_steps.proofs.tree.TreeLaws.{tree_laws}
+use Rattle.blink_machine.proofs.moment.SoundStatements.{IsWaiting}
+use Rattle.blink_machine.proofs.tree.TreeLaws.{tree_laws}
 
 module _ (run : PlainRun) where
   -- a step that is a wait waits for a latch that another holds, or for a level that isn't there

@@ -2,12 +2,12 @@
 use Rattle.std.proofs.Common.{◌≡◌, ℕ, Bool, true, false, not, Option, Some, None, slice_get, refl, ap, ◌∙◌, subst}
 use Rattle.std.specs.Option.{is_some}
 use Rattle.blink_batch.specs.declared.Op.{Op}
-use Rattle.blink_steps.specs.declared.machine.State.TheVariants.{Start, Posting}
+use Rattle.blink_machine.specs.declared.machine.State.TheVariants.{Start, Posting}
 use Rattle.blink_steps.specs.declared.seat.Seat.{Seat}
 use Rattle.blink_steps.specs.declared.seat.Working.{Working}
-use Rattle.blink_steps.specs.declared.step.Step.TheVariants.{Waited}
+use Rattle.blink_machine.specs.declared.step.Step.TheVariants.{Waited}
 use Rattle.blink_steps.specs.Acts.{Acts}
-use Rattle.blink_steps.specs.Machine.{PlainMachine, fresh}
+use Rattle.blink_machine.specs.Machine.{PlainMachine, fresh}
 use Rattle.blink_steps.specs.Pick.{IsIdleWorker, WouldWait}
 use Rattle.blink_steps.specs.Run.{PlainRun, IsNextOf, idle_seat, busy_seat}
 use Rattle.blink_steps.proofs.runs.TurnFromItsParts.{seat_with}

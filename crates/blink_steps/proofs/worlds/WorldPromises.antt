@@ -6,14 +6,14 @@ use Rattle.blink_steps.specs.Headline.{IsOneThread}
 use Rattle.blink_batch.specs.declared.Entry.{Entry}
 use Rattle.blink_store.specs.Store.{PlainStore}
 use Rattle.blink_steps.specs.Ways.{IsShort}
-use Rattle.blink_steps.specs.Machine.{PlainMachine}
+use Rattle.blink_machine.specs.Machine.{PlainMachine}
 use Rattle.blink_steps.specs.Promises.{KeepsItsPromises}
 use Rattle.blink_steps.specs.Run.{IsNextOf}
 use Rattle.blink_steps.specs.SoundRun.{IsShaped, IsSoundRun, CanTakeTurn}
 use Rattle.blink_steps.specs.World.{PlainWorld, IsWorldOf, IsWorld, IsReplay, HasEnded}
 use Rattle.blink_steps.proofs.runs.RunLaws.{run_laws}
 use Rattle.blink_steps.proofs.runs.RunStatements.{CountsAreOf}
-use Rattle.blink_steps.proofs.worlds.EntriesAtStart.{entries_at_start}
+use Rattle.blink_machine.proofs.law.EntriesAtStart.{entries_at_start}
 use Rattle.blink_steps.proofs.worlds.WorldsGoFurther.{counts_with, place_within, promises_with, shaped_with, sound_now, turn_can_be_taken}
 
 -- what is promised of a world

@@ -11,13 +11,13 @@ use Rattle.blink_batch.specs.Cut.{Assignment}
 use Rattle.blink_store.specs.Store.{PlainStore}
 use Rattle.blink_steps.specs.declared.error.StepError.{StepError}
 use Rattle.blink_steps.specs.declared.error.StepError.TheVariants.{OutOfMemory, NoWorker, TooLarge}
-use Rattle.blink_steps.specs.declared.step.Step.{Step}
+use Rattle.blink_machine.specs.declared.step.Step.{Step}
 use Rattle.blink_steps.specs.Counts.{page_reads_in, moves_in}
-use Rattle.blink_steps.specs.Machine.{PlainMachine}
+use Rattle.blink_machine.specs.Machine.{PlainMachine}
 use Rattle.blink_steps.specs.Decided.{map_now}
 use Rattle.blink_steps.specs.Headline.{ReachesPresent}
 use Rattle.blink_steps.specs.Promises.{KeepsItsPromises}
-use Rattle.blink_steps.specs.TreeMap.{IsMapOf}
+use Rattle.blink_machine.specs.TreeMap.{IsMapOf}
 use Rattle.blink_steps.specs.Run.{PlainRun, Taken, TakesTurn, Follows, IsOpeningRun, IsNextOf, idle_seat, busy_seat}
 use Rattle.blink_steps.specs.SoundRun.{is_answered, IsShaped, IsSoundRun, CanTakeTurn}
 use Rattle.blink_steps.specs.World.{PlainWorld, IsFirstNoWorker, IsReplay, IsReplayRefusal, IsStepRefusal, IsWorldOf, MayBegin, TakesStep, HasTurnMore, SameBatch, OnEachTurn, AfterEachTurn, WritesItsOwn}

@@ -10,21 +10,22 @@ use Rattle.blink_batch.specs.declared.Op.{Op}
 use Rattle.blink_batch.specs.Cut.{Assignment}
 use Rattle.blink_page.specs.declared.limits.TheConstants.{MAX_PAGE}
 use Rattle.blink_store.specs.Store.{PlainStore}
-use Rattle.blink_steps.specs.declared.machine.Debt.{Debt}
-use Rattle.blink_steps.specs.declared.machine.Need.{Need}
-use Rattle.blink_steps.specs.declared.machine.Need.TheVariants.{ReadPrime, ReadPage, Latch, WriteNew, WritePage, WritePrime, Unlatch, End}
+use Rattle.blink_machine.specs.declared.machine.Debt.{Debt}
+use Rattle.blink_machine.specs.declared.machine.Need.{Need}
+use Rattle.blink_machine.specs.declared.machine.Need.TheVariants.{ReadPrime, ReadPage, Latch, WriteNew, WritePage, WritePrime, Unlatch, End}
 use Rattle.blink_steps.specs.declared.seat.Working.{Working}
-use Rattle.blink_steps.specs.declared.step.Kind.{Kind}
-use Rattle.blink_steps.specs.declared.step.Step.{Step}
-use Rattle.blink_steps.specs.declared.step.Step.TheVariants.{Moved, Waited}
+use Rattle.blink_machine.specs.declared.step.Kind.{Kind}
+use Rattle.blink_machine.specs.declared.step.Step.{Step}
+use Rattle.blink_machine.specs.declared.step.Step.TheVariants.{Moved, Waited}
 use Rattle.blink_steps.specs.Acts.{PlainShared, Acts, ActsOn}
-use Rattle.blink_steps.specs.Counts.{has_moved, moves_in}
+use Rattle.blink_steps.specs.Counts.{moves_in}
+use Rattle.blink_machine.specs.Kinds.{has_moved}
 use Rattle.blink_steps.specs.Ways.{steps_at_most_with}
 use Rattle.blink_steps.specs.Ledger.{one_more_at}
-use Rattle.blink_steps.specs.Machine.{PlainMachine, need_at}
+use Rattle.blink_machine.specs.Machine.{PlainMachine, need_at}
 use Rattle.blink_steps.specs.Pick.{GoesOnPicked, IsFirstMover, WouldMove, WouldWait, steps_at_most, steps_left}
 use Rattle.blink_steps.specs.Run.{PlainRun, Taken, TakesTurn, Follows, IsNextOf, IsOpeningRun, busy_seat, idle_seat}
-use Rattle.blink_steps.specs.Table.{SeesPrime, WaitsForLevel}
+use Rattle.blink_machine.specs.Table.{SeesPrime, WaitsForLevel}
 use Rattle.blink_steps.specs.World.{PlainWorld, IsWorldOf, MayBegin, SameBatch, TakesStep}
 use Rattle.blink_steps.proofs.worlds.WorkersBySeat.{idle_never_waits, only_next}
 use Rattle.blink_steps.proofs.runs.TurnFromItsParts.{waits_unchanged}

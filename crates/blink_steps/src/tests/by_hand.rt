@@ -1,12 +1,12 @@
 //! One operation's machine driven by hand, over pages in local variables, as a memory of another kind would drive it.
 ghost use Rattle.std.specs.Prelude.{◌≡◌, ◌≤◌, None, [], ◌∷◌, length};
 ghost use Rattle.blink_page.specs.declared.limits.TheConstants.{GREATEST_KEY};
-ghost use Rattle.blink_steps.specs.Machine.{fresh, at_state};
+ghost use Rattle.blink_machine.specs.Machine.{fresh, at_state};
 
-use crate::machine::State;
 use crate::tests::has_entries;
 use crate::{Machine, Need};
 use blink_batch::{Answer, Op};
+use blink_machine::State;
 use blink_page::{GREATEST_KEY, Page, Prime, Put, Way};
 use std::process::Abort;
 

@@ -3,7 +3,7 @@ use Rattle.std.specs.Prelude.{IfOk}
 use Rattle.std.specs.Mem.Slots.{slots_items}
 use Rattle.blink_batch.specs.declared.Entry.{Entry}
 use Rattle.blink_rows.specs.Counts.{PlainCounts}
-use Rattle.blink_steps.specs.TreeMap.{pairs_of, IsMapOf}
+use Rattle.blink_machine.specs.TreeMap.{pairs_of, IsMapOf}
 use Rattle.blink_store.specs.Store.{PlainStore}
 use Rattle.blink_live.specs.Gathered.{HasTheEntries}
 use Rattle.blink_live.specs.Merge.{KeepsPrime, KeepsTree}

@@ -1,7 +1,7 @@
 use Rattle.std.proofs.Common.{◌≡◌, length, ap, sym, ◌∙◌, subst, arith}
 use Rattle.blink_rows.specs.Row.{prime_words}
-use Rattle.blink_steps.specs.Machine.{PlainMachine, fresh}
-use Rattle.blink_steps.specs.Table.{SeesPrime}
+use Rattle.blink_machine.specs.Machine.{PlainMachine, fresh}
+use Rattle.blink_machine.specs.Table.{SeesPrime}
 use Rattle.blink_live.specs.declared.view.Plan.{Plan}
 use Rattle.blink_live.specs.Plays.{Begins}
 use Rattle.blink_live.specs.Views.{Sat}

@@ -6,8 +6,8 @@ use Rattle.blink_batch.specs.PlainMap.{pointer_of}
 use Rattle.blink_index.specs.Index.{map_of}
 use Rattle.blink_index.proofs.Offered.{map_of-entries}
 use Rattle.blink_rows.specs.Counts.{PlainCounts}
-use Rattle.blink_steps.specs.TreeMap.{IsMapOf, pairs_of}
-use Rattle.blink_steps.proofs.Offered.{entries_from-pairs_of}
+use Rattle.blink_machine.specs.TreeMap.{IsMapOf, pairs_of}
+use Rattle.blink_machine.proofs.Offered.{entries_from-pairs_of}
 use Rattle.blink_store.specs.Store.{PlainStore}
 use Rattle.blink_live.specs.declared.pass.Pass.{Pass}
 use Rattle.blink_live.specs.declared.view.Role.{Role}

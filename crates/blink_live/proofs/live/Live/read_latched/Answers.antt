@@ -4,9 +4,9 @@ use Rattle.blink_page.specs.declared.limits.TheConstants.{MAX_FAN}
 use Rattle.blink_rows.specs.Counts.{PlainCounts}
 use Rattle.blink_rows.specs.Row.{IsPageRow}
 use Rattle.blink_rows.proofs.Offered.{row_has_one_page}
-use Rattle.blink_steps.specs.InOrder.{IsReadable}
-use Rattle.blink_steps.specs.Machine.{PlainMachine}
-use Rattle.blink_steps.specs.Table.{SeesPage}
+use Rattle.blink_machine.specs.InOrder.{IsReadable}
+use Rattle.blink_machine.specs.Machine.{PlainMachine}
+use Rattle.blink_machine.specs.Table.{SeesPage}
 use Rattle.blink_live.specs.Plays.{LoadsPage}
 use Rattle.blink_live.specs.Seats.{ReadsPage}
 use Rattle.blink_live.specs.Views.{Sat}

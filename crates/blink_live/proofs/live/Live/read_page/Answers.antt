@@ -5,12 +5,12 @@ use Rattle.blink_batch.specs.Operation.{key_of}
 use Rattle.blink_page.specs.Entries.{value_at}
 use Rattle.blink_page.specs.Way.{Leads}
 use Rattle.blink_page.specs.declared.search.Way.{Way}
-use Rattle.blink_steps.specs.declared.machine.Job.{Job}
-use Rattle.blink_steps.specs.OnTheWay.{TellsWay}
-use Rattle.blink_steps.specs.InOrder.{IsReadable}
-use Rattle.blink_steps.specs.Machine.{PlainMachine, key_of_job, target}
+use Rattle.blink_machine.specs.declared.machine.Job.{Job}
+use Rattle.blink_machine.specs.OnTheWay.{TellsWay}
+use Rattle.blink_machine.specs.InOrder.{IsReadable}
+use Rattle.blink_machine.specs.Machine.{PlainMachine, key_of_job, target}
 use Rattle.blink_live.specs.Seats.{IsGoing, ReadsPage, TellsWayFor}
-use Rattle.blink_steps.specs.Table.{SeesPage, on_its_way}
+use Rattle.blink_machine.specs.Table.{SeesPage, on_its_way}
 use Rattle.blink_live.specs.Plays.{LoadsPage}
 use Rattle.blink_live.specs.Views.{Sat}
 use Rattle.blink_live.proofs.found.ReadsPage.{reads_page_word}

@@ -4,8 +4,8 @@ use Rattle.std.proofs.lemmas.Bool.{OnTrue_at, OnTrue_from}
 use Rattle.blink_page.specs.declared.limits.TheConstants.{LEVELS}
 use Rattle.blink_rows.specs.Row.{IsPrimeRow}
 use Rattle.blink_rows.proofs.Offered.{row_has_one_prime}
-use Rattle.blink_steps.specs.Machine.{PlainMachine}
-use Rattle.blink_steps.specs.Table.{SeesPrime, WaitsForLevel}
+use Rattle.blink_machine.specs.Machine.{PlainMachine}
+use Rattle.blink_machine.specs.Table.{SeesPrime, WaitsForLevel}
 use Rattle.blink_live.specs.Plays.{AsksPrime, LoadsPrime}
 use Rattle.blink_live.specs.Seats.{ReadsPrime}
 use Rattle.blink_live.specs.Views.{Sat}

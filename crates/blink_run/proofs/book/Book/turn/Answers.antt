@@ -1,5 +1,5 @@
 use Rattle.std.proofs.Common.{true, ap}
-use Rattle.blink_steps.specs.Counts.{has_moved}
+use Rattle.blink_machine.specs.Kinds.{has_moved}
 use Rattle.blink_run.proofs.BooksGoOn.{moves_book, stays_book}
 use Rattle.blink_run.proofs.book.Book.turn.Goals as goal
 

@@ -6,7 +6,7 @@ use Rattle.blink_batch.specs.declared.operation.Op.TheVariants.{Find}
 use Rattle.blink_batch.specs.Order.{next_place}
 use Rattle.blink_steps.proofs.runs.TurnFromItsParts.{goes_on-begun, IsLinked-with_seat, turn_moves}
 use Rattle.blink_steps.specs.declared.seat.Seat.{Seat}
-use Rattle.blink_steps.specs.Machine.{fresh}
+use Rattle.blink_machine.specs.Machine.{fresh}
 use Rattle.blink_steps.specs.Run.{IsNextOf, idle_seat}
 use Rattle.blink_steps.specs.RunView.{plain}
 use Rattle.blink_steps.specs.SoundRun.{CanTakeTurn}

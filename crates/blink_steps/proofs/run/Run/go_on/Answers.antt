@@ -5,11 +5,11 @@ use Rattle.blink_batch.specs.declared.operation.Answer.{Answer}
 use Rattle.blink_steps.proofs.runs.TurnFromItsParts.{decides_now-before, seat_found, seat_with, seats-same, working_kept, IsLinked-with_seat, turn_moves, turn_waits}
 use Rattle.blink_steps.specs.declared.error.StepError.{StepError}
 use Rattle.blink_steps.specs.declared.seat.Seat.{Seat}
-use Rattle.blink_steps.specs.declared.step.Step.{Step}
+use Rattle.blink_machine.specs.declared.step.Step.{Step}
 use Rattle.blink_steps.specs.Acts.{Acts}
 use Rattle.blink_steps.specs.Ledger.{noted}
-use Rattle.blink_steps.specs.Machine.{PlainMachine}
-use Rattle.blink_steps.specs.Moment.{goes_on}
+use Rattle.blink_machine.specs.Machine.{PlainMachine}
+use Rattle.blink_machine.specs.Moment.{goes_on}
 use Rattle.blink_steps.specs.Run.{IsNextOf}
 use Rattle.blink_steps.specs.RunView.{plain}
 use Rattle.blink_steps.specs.Seats.{working_after, left_in_seat, answer_in_seat}

@@ -1,0 +1,84 @@
+-- What a sound moment says: its tree is lawful but for debts, and each operation can take its next step, whoever runs it.
+use Rattle.std.specs.Prelude.{◌≡◌, ℕ, ◌<◌, ◌≤◌, Option, Some, List, length, All}
+use Rattle.blink_page.specs.Limits.{IsPageNumber}
+use Rattle.blink_page.specs.Page.{PlainPage, IsLawfulPage}
+use Rattle.blink_page.specs.Rising.{least_above}
+use Rattle.blink_page.specs.declared.limits.TheConstants.{LEVELS}
+use Rattle.blink_rest.specs.Chain.{Pages}
+use Rattle.blink_machine.specs.declared.step.Step.TheVariants.{Moved}
+use Rattle.blink_machine.specs.Kinds.{write_page}
+use Rattle.blink_machine.specs.Machine.{PlainMachine, NeedsPrime, NeedsPage, NeedsLatch, NeedsNew, NeedsWrite, NeedsPrimeWrite, NeedsUnlatch, level_read, target}
+use Rattle.blink_machine.specs.Moment.{Moment, IsItsOperation, Steps}
+use Rattle.blink_machine.specs.Owned.{HoldOneLatchEach, IsItsToWrite}
+use Rattle.blink_machine.specs.Table.{SeesPrime, WaitsForLevel, SeesPage, PrimeOut, page_out}
+use Rattle.blink_machine.specs.TreeWithDebts.{IsTreeWithDebts}
+
+-- ---- latches
+
+-- the page that an operation is next to latch is there, and its worker holds no latch
+pub record LatchesWell (pages : Pages) (holder : ℕ → Option ℕ) (worker number : ℕ) : Type 0 where
+  pub page : PlainPage
+  pub there : pages number ≡ Some page
+  pub holds_none : (held : ℕ) → ¬ (holder held ≡ Some worker)
+
+-- ---- reads
+
+-- the page is one that `saw_page` takes: of the level that the operation's state says, beginning below its key, and not too long
+pub record IsReadable (m : PlainMachine) (page : PlainPage) : Type 0 where
+  pub has_level : page.level ≡ level_read m
+  pub floor_below : least_above page.floor ≤ target m
+  pub at_most_fan : length page.entries ≤ m.fan
+
+-- exactly one machine comes of a page that is read
+pub record ReadsOneMachine (m : PlainMachine) (number : ℕ) (page : PlainPage) : Type 0 where
+  pub after : PlainMachine
+  pub sees : SeesPage m number page after
+  pub only : (other : PlainMachine) → SeesPage m number page other → other ≡ after
+
+-- the page that an operation is next to read is there, and is read so
+pub record ReadsWell (moment : Moment) (m : PlainMachine) (number : ℕ) : Type 0 where
+  pub page : PlainPage
+  pub there : moment.pages number ≡ Some page
+  pub lawful : IsLawfulPage moment.fan page
+  pub readable : IsReadable m page
+  pub one_machine : ReadsOneMachine m number page
+
+-- an operation that reads the prime block waits, or exactly one machine comes of it
+pub data ReadsPrimeWell (m : PlainMachine) (prime : List ℕ) : Type 0 where
+  waits : WaitsForLevel m prime → ((after : PlainMachine) → ¬ SeesPrime m prime after) → ReadsPrimeWell m prime
+  goes_on : (after : PlainMachine) → SeesPrime m prime after → ((other : PlainMachine) → SeesPrime m prime other → other ≡ after)
+      → ¬ WaitsForLevel m prime → ReadsPrimeWell m prime
+
+-- ---- writes
+
+-- the page that an operation is next to write in its place is there, its latch is the worker's, and what is written is lawful and stands as
+-- the page did
+pub record WritesWell (moment : Moment) (worker : ℕ) (m : PlainMachine) (number : ℕ) : Type 0 where
+  pub before : PlainPage
+  pub there : moment.pages number ≡ Some before
+  pub same_floor : (page_out m 0).floor ≡ before.floor
+  pub same_level : (page_out m 0).level ≡ before.level
+  pub lawful : IsLawfulPage moment.fan (page_out m 0)
+  pub latched : moment.holder number ≡ Some worker
+
+-- a step that writes a page writes one whose latch its worker holds, or at a number that no page has
+abbrev pub WritesItsOwnPage : Moment → Type 0
+WritesItsOwnPage moment = (then : Moment) (worker number : ℕ) (m after : PlainMachine) → IsItsOperation moment worker m → Steps moment worker m (Moved (write_page number)) after then
+    → IsItsToWrite moment.holder moment.pages worker number
+
+-- ---- the whole
+
+pub record IsInOrder (moment : Moment) : Type 0 where
+  pub tree : IsTreeWithDebts moment
+  pub few_levels : length moment.prime < LEVELS
+  pub same_fan : (worker : ℕ) (m : PlainMachine) → IsItsOperation moment worker m → m.fan ≡ moment.fan
+  pub one_latch : HoldOneLatchEach moment.holder
+  pub writes_its_own : WritesItsOwnPage moment
+  pub latches : (worker number : ℕ) (m : PlainMachine) → IsItsOperation moment worker m → NeedsLatch m number → LatchesWell moment.pages moment.holder worker number
+  pub unlatches : (worker number : ℕ) (m : PlainMachine) → IsItsOperation moment worker m → NeedsUnlatch m number → moment.holder number ≡ Some worker
+  pub reads_page : (worker number : ℕ) (m : PlainMachine) → IsItsOperation moment worker m → NeedsPage m number → ReadsWell moment m number
+  pub reads_prime : (worker : ℕ) (m : PlainMachine) → IsItsOperation moment worker m → NeedsPrime m → ReadsPrimeWell m moment.prime
+  pub writes_page : (worker number : ℕ) (m : PlainMachine) → IsItsOperation moment worker m → NeedsWrite m number → WritesWell moment worker m number
+  pub writes_new : (worker number : ℕ) (m : PlainMachine) → IsItsOperation moment worker m → NeedsNew m → IsPageNumber number → IsLawfulPage moment.fan (page_out m number)
+  pub writes_prime : (worker : ℕ) (m : PlainMachine) (prime : List ℕ) → IsItsOperation moment worker m → NeedsPrimeWrite m → PrimeOut m prime
+      → All IsPageNumber moment.prime → All IsPageNumber prime

@@ -1,0 +1,83 @@
+-- What an operation has for itself: a latch, a debt, a new page that is in no chain yet, and a top level that it splits.
+use Rattle.std.specs.Prelude.{◌≡◌, ℕ, ◌⊎◌, Option, Some, None}
+use Rattle.blink_rest.specs.Chain.{Pages}
+use Rattle.blink_machine.specs.declared.machine.Debt.{Debt}
+use Rattle.blink_machine.specs.declared.machine.Job.{Job}
+use Rattle.blink_machine.specs.declared.machine.Job.TheVariants.{Leaf, Parent}
+use Rattle.blink_machine.specs.declared.machine.Next.{Next}
+use Rattle.blink_machine.specs.declared.machine.Next.TheVariants.{Finish, MoveRight, Post}
+use Rattle.blink_machine.specs.declared.machine.State.{State}
+use Rattle.blink_machine.specs.declared.machine.State.TheVariants.{Start, Going, Held, Change, SplitNew, SplitOld, AskPrime, Root, NewPrime, Leave, Ended}
+use Rattle.blink_machine.specs.Machine.{PlainMachine}
+use Rattle.blink_machine.specs.Moment.{Moment}
+
+-- the page whose latch it holds
+abbrev pub latch_at : State → Option ℕ
+latch_at (Held page) = Some page
+latch_at (Change page changed kept) = Some page
+latch_at (SplitNew page before) = Some page
+latch_at (SplitOld page lower debt) = Some page
+latch_at (AskPrime page debt) = Some page
+latch_at (Root page debt prime) = Some page
+latch_at (NewPrime page debt root prime) = Some page
+latch_at (Leave page next) = Some page
+latch_at state = None
+
+abbrev pub latch_of : PlainMachine → Option ℕ
+latch_of m = latch_at m.state
+
+-- the debt that its job is to post
+abbrev pub debt_of_job : Job → Option Debt
+debt_of_job Leaf = None
+debt_of_job (Parent debt) = Some debt
+
+abbrev pub debt_of_next : Job → Next → Option Debt
+debt_of_next job Finish = None
+debt_of_next job (MoveRight page) = debt_of_job job
+debt_of_next job (Post debt) = Some debt
+
+-- the debt that it owes
+abbrev pub debt_at : Job → State → Option Debt
+debt_at job Start = None
+debt_at job (Going page level) = None
+debt_at job (AskPrime page debt) = Some debt
+debt_at job (Root page debt prime) = Some debt
+debt_at job (NewPrime page debt root prime) = Some debt
+debt_at job (Leave page next) = debt_of_next job next
+debt_at job Ended = None
+debt_at job state = debt_of_job job
+
+abbrev pub debt_of : PlainMachine → Option Debt
+debt_of m = debt_at m.job m.state
+
+-- the page that it has written and that no other page links to or names yet
+abbrev pub loose_at : State → Option ℕ
+loose_at (SplitOld page lower debt) = Some debt.page
+loose_at (NewPrime page debt root prime) = Some root
+loose_at state = None
+
+abbrev pub loose_of : PlainMachine → Option ℕ
+loose_of m = loose_at m.state
+
+-- the page that it has split and whose latch it keeps until it has asked whether that was the root, or has made a new one
+abbrev pub split_at : State → Option ℕ
+split_at (AskPrime page debt) = Some page
+split_at (Root page debt prime) = Some page
+split_at (NewPrime page debt root prime) = Some page
+split_at state = None
+
+abbrev pub split_of : PlainMachine → Option ℕ
+split_of m = split_at m.state
+
+-- the page of this number is the worker's to write: it holds its latch, or no page has the number
+abbrev pub IsItsToWrite : (ℕ → Option ℕ) → Pages → ℕ → ℕ → Type 0
+IsItsToWrite holder pages worker number = (holder number ≡ Some worker) ⊎ (pages number ≡ None)
+
+-- no worker holds two latches
+abbrev pub HoldOneLatchEach : (ℕ → Option ℕ) → Type 0
+HoldOneLatchEach holder = (worker page other : ℕ) → holder page ≡ Some worker → holder other ≡ Some worker → page ≡ other
+
+-- a worker holds the latches that its operation's state says, and no others
+pub record LatchesAreHeld (moment : Moment) : Type 0 where
+  pub by_state : (worker page : ℕ) (m : PlainMachine) → moment.machines worker ≡ Some m → latch_of m ≡ Some page → moment.holder page ≡ Some worker
+  pub by_holder : (worker page : ℕ) → moment.holder page ≡ Some worker → (m : PlainMachine) × (moment.machines worker ≡ Some m) × (latch_of m ≡ Some page)

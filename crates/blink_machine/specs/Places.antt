@@ -1,0 +1,41 @@
+-- Where pages stand: no page goes away, and none changes its level or its floor; so on its way an operation always comes further.
+use Rattle.std.specs.Prelude.{◌≡◌, ℕ, ◌+◌, ◌-◌, ◌*◌, ◌<◌, ◌⊎◌, Option, Some, None}
+use Rattle.blink_page.specs.Page.{PlainPage}
+use Rattle.blink_page.specs.Rising.{least_above}
+use Rattle.blink_rest.specs.Chain.{Pages}
+use Rattle.blink_store.specs.Store.{SameFloorAndLevel}
+use Rattle.blink_machine.specs.declared.machine.Next.TheVariants.{MoveRight}
+use Rattle.blink_machine.specs.declared.machine.State.{State}
+use Rattle.blink_machine.specs.declared.machine.State.TheVariants.{Going, Held, Leave}
+use Rattle.blink_machine.specs.Machine.{PlainMachine, target}
+
+-- every page stays, with its level and its floor
+abbrev pub KeepsPlaces : Pages → Pages → Type 0
+KeepsPlaces old new = (number : ℕ) (page : PlainPage) → old number ≡ Some page → (after : PlainPage) × (new number ≡ Some after) × SameFloorAndLevel page after
+
+-- the page of this number is there, on this level, and begins at a greater key than this
+pub record BeginsFurther (pages : Pages) (number level least : ℕ) : Type 0 where
+  pub page : PlainPage
+  pub there : pages number ≡ Some page
+  pub has_level : page.level ≡ level
+  pub further : least < least_above page.floor
+
+-- from a page that is read an operation goes to a lower level, or along the level to a page that begins further on
+pub record GoesFurther (pages : Pages) (m : PlainMachine) (number : ℕ) (page : PlainPage) (after : PlainMachine) : Type 0 where
+  pub on_its_way : (level next lower : ℕ) → m.state ≡ Going number level → after.state ≡ Going next lower
+      → (lower < level) ⊎ ((lower ≡ level) × BeginsFurther pages next page.level (least_above page.floor))
+  pub under_latch : (next : ℕ) → m.state ≡ Held number → after.state ≡ Leave number (MoveRight next)
+      → BeginsFurther pages next page.level (least_above page.floor)
+
+-- how many keys there are from where the page begins up to this one
+abbrev pub room_to : ℕ → Option PlainPage → ℕ
+room_to key None = 0
+room_to key (Some page) = key + 1 - least_above page.floor
+
+-- a bound of the pages that an operation on its way down still reads, which each of them lowers: the level counts first, then where on it the page begins
+abbrev pub way_left_at : Pages → ℕ → State → ℕ
+way_left_at pages key (Going number level) = level * (key + 2) + room_to key (pages number) + 1
+way_left_at pages key other = 0
+
+abbrev pub way_left : Pages → PlainMachine → ℕ
+way_left pages m = way_left_at pages (target m) m.state

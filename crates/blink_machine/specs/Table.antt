@@ -1,0 +1,160 @@
+-- The table of states: what an operation makes of what it reads, what it writes, and where it is afterwards.
+use Rattle.std.specs.Prelude.{◌≡◌, ℕ, ◌+◌, ◌-◌, ◌<◌, ◌≤◌, Option, Some, None, List, [], ◌∷◌, ◌++◌, length, slice_get}
+use Rattle.std.specs.List.{last_or}
+use Rattle.blink_batch.specs.declared.Answer.TheVariants.{Absent, Exists}
+use Rattle.blink_batch.specs.declared.Op.{Op}
+use Rattle.blink_batch.specs.declared.Op.TheVariants.{Find, Insert, Delete, Replace}
+use Rattle.blink_batch.specs.Operation.{answer_at}
+use Rattle.blink_page.specs.Entries.{value_at, removed, replaced}
+use Rattle.blink_page.specs.Page.{PlainPage, with_entries, entries_with, root_over, empty_leaf}
+use Rattle.blink_page.specs.Split.{lower_half, upper_half, separator_of}
+use Rattle.blink_page.specs.Way.{Leads}
+use Rattle.blink_page.specs.declared.search.Way.TheVariants.{Right, Down, Here}
+use Rattle.blink_machine.specs.declared.machine.Debt.{Debt}
+use Rattle.blink_machine.specs.declared.machine.Job.{Job}
+use Rattle.blink_machine.specs.declared.machine.Job.TheVariants.{Leaf, Parent}
+use Rattle.blink_machine.specs.declared.machine.Next.{Next}
+use Rattle.blink_machine.specs.declared.machine.Next.TheVariants.{Finish, MoveRight, Post}
+use Rattle.blink_machine.specs.declared.machine.State.{State}
+use Rattle.blink_machine.specs.declared.machine.State.TheVariants.{Start, Going, Want, Held, Change, SplitNew, SplitOld, AskPrime, Root, NewPrime, Leave, Posting, Ended}
+use Rattle.blink_machine.specs.Machine.{PlainMachine, at_state, answered, target, level_of, entry_of}
+
+-- the page is the leftmost of the top level, and this is its level
+pub record IsTopLeftmost (prime : List ℕ) (level page : ℕ) : Type 0 where
+  pub top : length prime ≡ level + 1
+  pub leftmost : slice_get prime level ≡ Some page
+
+-- the prime block is read: a row each
+pub data SeesPrime (m : PlainMachine) (prime : List ℕ) (after : PlainMachine) : Type 0 where
+  begins : (top : ℕ) → m.state ≡ Start → last_or None prime ≡ Some top
+      → after ≡ record m { remembered = []; state = Going top (length prime - 1) } → SeesPrime m prime after
+  asks_of_root : (page : ℕ) (debt : Debt) → m.state ≡ AskPrime page debt → IsTopLeftmost prime debt.level page
+      → after ≡ at_state m (Root page debt prime) → SeesPrime m prime after
+  asks_of_other : (page : ℕ) (debt : Debt) → m.state ≡ AskPrime page debt → ¬ IsTopLeftmost prime debt.level page
+      → after ≡ at_state m (Leave page (Post debt)) → SeesPrime m prime after
+  finds_leftmost : (debt : Debt) (leftmost : ℕ) → m.state ≡ Posting → m.job ≡ Parent debt → slice_get prime (debt.level + 1) ≡ Some leftmost
+      → after ≡ at_state m (Want leftmost) → SeesPrime m prime after
+
+-- the level that it posts to isn't there yet
+pub record WaitsForLevel (m : PlainMachine) (prime : List ℕ) : Type 0 where
+  pub debt : Debt
+  pub posting : m.state ≡ Posting
+  pub job : m.job ≡ Parent debt
+  pub not_there : slice_get prime (debt.level + 1) ≡ None
+
+-- it is an insertion, a deletion or a replacement
+abbrev pub IsUpdate : Op → Type 0
+IsUpdate (Find key) = ⊥
+IsUpdate op = Unit {0}
+
+-- it brings its entry into a page: an insertion does, and a posting
+abbrev pub Brings : Op → Job → Type 0
+Brings (Find key) Leaf = ⊥
+Brings (Insert key pointer) Leaf = Unit {0}
+Brings (Delete key) Leaf = ⊥
+Brings (Replace key pointer) Leaf = ⊥
+Brings op (Parent debt) = Unit {0}
+
+-- the page with the change that the operation makes, and what a leaf keeps under the key before
+pub data IsChange (m : PlainMachine) (page changed : PlainPage) (kept : Option ℕ) : Type 0 where
+  gains : Brings m.op m.job → value_at (target m) page.entries ≡ None → length page.entries < m.fan → kept ≡ None
+      → changed ≡ with_entries page (entries_with page (entry_of m)) → IsChange m page changed kept
+  loses : (key pointer : ℕ) → m.job ≡ Leaf → m.op ≡ Delete key → value_at key page.entries ≡ Some pointer → kept ≡ Some pointer
+      → changed ≡ with_entries page (removed key page.entries) → IsChange m page changed kept
+  exchanges : (key new pointer : ℕ) → m.job ≡ Leaf → m.op ≡ Replace key new → value_at key page.entries ≡ Some pointer → kept ≡ Some pointer
+      → changed ≡ with_entries page (replaced (key, new) page.entries) → IsChange m page changed kept
+
+-- the page is full, and the operation has an entry for it
+pub record IsFullFor (m : PlainMachine) (page : PlainPage) : Type 0 where
+  pub brings : Brings m.op m.job
+  pub absent : value_at (target m) page.entries ≡ None
+  pub full : length page.entries ≡ m.fan
+
+-- a page is read on the way down: a row each
+pub data SeesOnItsWay (m : PlainMachine) (number : ℕ) (page : PlainPage) (after : PlainMachine) : Type 0 where
+  goes_right : (level next : ℕ) → m.state ≡ Going number level → Leads page (target m) (Right next)
+      → after ≡ at_state m (Going next level) → SeesOnItsWay m number page after
+  goes_down : (level child : ℕ) → m.state ≡ Going number (level + 1) → Leads page (target m) (Down child)
+      → after ≡ record m { remembered = number ∷ m.remembered; state = Going child level } → SeesOnItsWay m number page after
+  find_answers : (level key : ℕ) → m.state ≡ Going number level → Leads page (target m) Here → m.op ≡ Find key
+      → after ≡ answered m Ended (answer_at (Find key) (value_at key page.entries)) → SeesOnItsWay m number page after
+  update_wants : (level : ℕ) → m.state ≡ Going number level → Leads page (target m) Here → IsUpdate m.op
+      → after ≡ at_state m (Want number) → SeesOnItsWay m number page after
+
+-- a page is read under its latch: a row each
+pub data SeesUnderLatch (m : PlainMachine) (number : ℕ) (page : PlainPage) (after : PlainMachine) : Type 0 where
+  is_above_high_key : (next : ℕ) → page.high < target m → page.right ≡ Some next
+      → after ≡ at_state m (Leave number (MoveRight next)) → SeesUnderLatch m number page after
+  insertion_finds_key : (key pointer kept : ℕ) → target m ≤ page.high → m.job ≡ Leaf → m.op ≡ Insert key pointer → value_at key page.entries ≡ Some kept
+      → after ≡ answered m (Leave number Finish) (Exists kept) → SeesUnderLatch m number page after
+  deletion_finds_none : (key : ℕ) → target m ≤ page.high → m.job ≡ Leaf → m.op ≡ Delete key → value_at key page.entries ≡ None
+      → after ≡ answered m (Leave number Finish) Absent → SeesUnderLatch m number page after
+  replacement_finds_none : (key pointer : ℕ) → target m ≤ page.high → m.job ≡ Leaf → m.op ≡ Replace key pointer → value_at key page.entries ≡ None
+      → after ≡ answered m (Leave number Finish) Absent → SeesUnderLatch m number page after
+  posting_finds_separator : (debt : Debt) (child : ℕ) → target m ≤ page.high → m.job ≡ Parent debt → value_at debt.separator page.entries ≡ Some child
+      → after ≡ at_state m (Leave number Finish) → SeesUnderLatch m number page after
+  is_to_change : (changed : PlainPage) (kept : Option ℕ) → target m ≤ page.high → IsChange m page changed kept
+      → after ≡ at_state m (Change number changed kept) → SeesUnderLatch m number page after
+  is_to_split : target m ≤ page.high → IsFullFor m page
+      → after ≡ at_state m (SplitNew number page) → SeesUnderLatch m number page after
+
+-- a page is read
+pub data SeesPage (m : PlainMachine) (number : ℕ) (page : PlainPage) (after : PlainMachine) : Type 0 where
+  on_its_way : SeesOnItsWay m number page after → SeesPage m number page after
+  under_latch : m.state ≡ Held number → SeesUnderLatch m number page after → SeesPage m number page after
+
+-- the entries of a page that is split, with the one that it gets
+abbrev pub overfull : PlainMachine → PlainPage → List (ℕ × ℕ)
+overfull m page = entries_with page (entry_of m)
+
+-- what the split owes, where the new page has this number
+abbrev pub debt_of_split : PlainMachine → PlainPage → ℕ → Debt
+debt_of_split m page new = record { level = level_of m.job; separator = separator_of m.fan (overfull m page); page = new }
+
+-- the page that the wanted write writes; `new` is the number of a new one
+abbrev pub page_out_at : PlainMachine → State → ℕ → PlainPage
+page_out_at m (Change page changed kept) new = changed
+page_out_at m (SplitNew page before) new = upper_half m.fan before (overfull m before)
+page_out_at m (SplitOld page lower debt) new = lower
+page_out_at m (Root page debt prime) new = root_over (debt.level + 1) debt.separator page debt.page
+page_out_at m state new = empty_leaf
+
+abbrev pub page_out : PlainMachine → ℕ → PlainPage
+page_out m new = page_out_at m m.state new
+
+-- the operation after a leaf operation's write of its leaf, which is its deciding step; a posting has decided before
+abbrev pub decided_with : PlainMachine → Job → State → Option ℕ → PlainMachine
+decided_with m Leaf state kept = answered m state (answer_at m.op kept)
+decided_with m (Parent debt) state kept = at_state m state
+
+-- the operation on its way to post a debt: it wants the page of that level that it remembers, where it does
+abbrev pub sets_out : PlainMachine → Debt → List ℕ → PlainMachine
+sets_out m debt [] = record m { job = Parent debt; remembered = []; state = Posting }
+sets_out m debt (page ∷ above) = record m { job = Parent debt; remembered = above; state = Want page }
+
+abbrev pub leaves_for : PlainMachine → Next → PlainMachine
+leaves_for m Finish = at_state m Ended
+leaves_for m (MoveRight page) = at_state m (Want page)
+leaves_for m (Post debt) = sets_out m debt m.remembered
+
+-- the operation between the two writes of a split: the upper half has this number, and the lower one is to be written
+abbrev pub halved : PlainMachine → ℕ → PlainPage → ℕ → PlainMachine
+halved m page before new = at_state m (SplitOld page (lower_half m.fan new before (overfull m before)) (debt_of_split m before new))
+
+-- the operation after a latch that was got, a write or an unlatch; `new` is the number of a new page
+abbrev pub done_at : PlainMachine → State → ℕ → PlainMachine
+done_at m (Want page) new = at_state m (Held page)
+done_at m (Change page changed kept) new = decided_with m m.job (Leave page Finish) kept
+done_at m (SplitNew page before) new = halved m page before new
+done_at m (SplitOld page lower debt) new = decided_with m m.job (AskPrime page debt) None
+done_at m (Root page debt prime) new = at_state m (NewPrime page debt new prime)
+done_at m (NewPrime page debt root prime) new = at_state m (Leave page Finish)
+done_at m (Leave page next) new = leaves_for m next
+done_at m state new = m
+
+abbrev pub done : PlainMachine → ℕ → PlainMachine
+done m new = done_at m m.state new
+
+-- the prime block with the new root added
+pub data PrimeOut (m : PlainMachine) (prime : List ℕ) : Type 0 where
+  adds_root : (page : ℕ) (debt : Debt) (root : ℕ) (read : List ℕ) → m.state ≡ NewPrime page debt root read → prime ≡ read ++ root ∷ [] → PrimeOut m prime

@@ -1,0 +1,28 @@
+-- The entries of a tree as a plain map.
+use Rattle.std.specs.Prelude.{ℕ, List, map}
+use Rattle.blink_batch.specs.declared.Entry.{Entry}
+use Rattle.blink_batch.specs.PlainMap.{entry, IsAscending}
+use Rattle.blink_rest.specs.Entries.{AreEntries}
+use Rattle.blink_store.specs.Store.{PlainStore, page_of}
+use Rattle.blink_machine.specs.Moment.{Moment}
+
+-- the entries of a plain map as a tree keeps them
+abbrev pub pairs_of : List Entry → List (ℕ × ℕ)
+pairs_of entries = map (λ (e : Entry). (e.key, e.pointer)) entries
+
+-- and pairs as the entries of a plain map
+abbrev pub entries_from : List (ℕ × ℕ) → List Entry
+entries_from pairs = map (λ (pair : ℕ × ℕ). entry pair.0 pair.1) pairs
+
+-- the tree of a moment keeps the entries of this map
+abbrev pub Keeps : Moment → List Entry → Type 0
+Keeps moment entries = AreEntries moment.fan moment.prime moment.pages (pairs_of entries)
+
+-- the entries of the store's tree are this plain map
+pub record IsMapOf (store : PlainStore) (entries : List Entry) : Type 0 where
+  pub ascending : IsAscending entries
+  pub kept : AreEntries store.fan store.prime (page_of store) (pairs_of entries)
+
+-- they are some plain map
+abbrev pub HasMap : PlainStore → Type 0
+HasMap store = (entries : List Entry) × IsMapOf store entries

@@ -1,0 +1,12 @@
+//! The machine of one operation on its way through a B-link tree, one atomic step at a time over any memory, and the law that
+//! each of its steps keeps.
+#![tactic(auto)]
+
+mod laws;
+mod machine;
+mod remembered;
+mod step;
+
+pub use laws::{reads_have_one_result, step_keeps};
+pub use machine::{Debt, Job, Machine, Need, Next, State};
+pub use step::{Kind, Step};

@@ -1,0 +1,258 @@
+//! What an operation makes of what it reads.
+ghost use Rattle.std.specs.Prelude.{◌≡◌, ◌↔◌, ℕ, ◌<◌, ◌≤◌, ◌+◌, List, length, IsTrue};
+ghost use Rattle.std.specs.Bool.{OnTrue, OnFalse};
+ghost use Rattle.blink_page.specs.declared.limits.TheConstants.{LEVELS};
+ghost use Rattle.blink_page.specs.Rising.{least_above};
+ghost use Rattle.blink_machine.specs.Machine.{NeedsPrime, NeedsPage, level_of, level_read, target};
+ghost use Rattle.blink_batch.specs.declared.Op.TheVariants.{Find};
+ghost use Rattle.blink_page.specs.Entries.{value_at};
+ghost use Rattle.blink_page.specs.Page.{PlainPage};
+ghost use Rattle.blink_page.specs.declared.search.Way.TheVariants.{Here};
+ghost use Rattle.blink_machine.specs.OnTheWay.{IsOnItsWay, TellsWay};
+ghost use Rattle.blink_machine.specs.Table.{SeesPrime, WaitsForLevel, SeesPage, SeesOnItsWay, SeesUnderLatch, IsTopLeftmost};
+ghost use Rattle.blink_machine.specs.Needs.{NeedsSomePage};
+
+use super::{Debt, Job, Machine, Next, State, answer_with};
+use crate::remembered::Remembered;
+use blink_batch::{Answer, Op};
+use blink_page::{Page, Post, Prime, Put, Way};
+
+impl Machine {
+    /// It has read the prime block that it needs, which has fewer than 21 levels. `false` says that it waits: the level to
+    /// post to isn't there yet, so that it has to read the prime block again. Then it is as it was.
+    pub fn saw_prime(&mut self, prime: &Prime) -> bool
+        requires needs { NeedsPrime self.old }
+        requires few_levels { length prime.now < LEVELS }
+        ensures moved { OnTrue result (SeesPrime self.old prime.now self.new) }
+        ensures waits { OnFalse result (WaitsForLevel self.old prime.now) }
+        ensures unchanged { OnFalse result (self.new ≡ self.old) }
+    {
+        match self.state {
+            State::Start => self.begin(prime),
+            State::AskPrime(page, debt) => self.ask(page, debt, prime),
+            State::Posting => return self.find_level(prime),
+            _ => unreachable!(),
+        }
+        true
+    }
+
+    // Begins at the root, the page that the prime block names last.
+    fn begin(&mut self, prime: &Prime)
+        requires state { self.old.state ≡ State.Start }
+        requires few_levels { length prime.now < LEVELS }
+        ensures { SeesPrime self.old prime.now self.new }
+    {
+        let top = prime.leftmost.len() - 1;
+        self.saw_top(top as u8, prime.leftmost[top]);
+    }
+
+    /// It has read as much of the prime block as tells the top level and its leftmost page, which is enough to begin.
+    pub fn saw_top(&mut self, level: u8, page: u32)
+        requires state { self.old.state ≡ State.Start }
+        requires few_levels { level + 1 < LEVELS }
+        ensures { (prime : List ℕ) → IsTopLeftmost prime level page → SeesPrime self.old prime self.new }
+    {
+        self.remembered = Remembered::new();
+        self.state = State::Going(page, level);
+    }
+
+    // Makes a new root if the page that it has split was the root, and else posts the split.
+    fn ask(&mut self, page: u32, debt: Debt, prime: &Prime)
+        requires state { self.old.state ≡ State.AskPrime page debt }
+        requires few_levels { length prime.now < LEVELS }
+        ensures { SeesPrime self.old prime.now self.new }
+    {
+        let level = usize::from(debt.level);
+        if prime.leftmost.len() == level + 1 && prime.leftmost[level] == page {
+            self.state = State::Root(page, debt, prime.copy());
+        } else {
+            self.state = State::Leave(page, Next::Post(debt));
+        }
+    }
+
+    // Goes to the leftmost page of the level to post to, if that is there.
+    fn find_level(&mut self, prime: &Prime) -> bool
+        requires { self.old.state ≡ State.Posting }
+        ensures moved { OnTrue result (SeesPrime self.old prime.now self.new) }
+        ensures waits { OnFalse result (WaitsForLevel self.old prime.now) }
+        ensures unchanged { OnFalse result (self.new ≡ self.old) }
+    {
+        let Job::Parent(debt) = self.job else {
+            unreachable!()
+        };
+        let Some(&leftmost) = prime.leftmost.get(usize::from(debt.level) + 1) else {
+            return false;
+        };
+        self.state = State::Want(leftmost);
+        true
+    }
+
+    /// Whether it would read the prime block in vain, since the level to post to isn't there yet.
+    pub fn waits_for_level(&self, prime: &Prime) -> bool
+        ensures { IsTrue result ↔ WaitsForLevel self.now prime.now }
+    {
+        match (&self.state, self.job) {
+            (State::Posting, Job::Parent(debt)) => {
+                prime.leftmost.len() <= usize::from(debt.level) + 1
+            }
+            _ => false,
+        }
+    }
+
+    /// It has read the page that it needs, which has the level that its state says, no floor or one below its key, and at most
+    /// `fan` entries; in a sound moment each page that it needs is such a page.
+    pub fn saw_page(&mut self, page: &Page)
+        requires needs { NeedsSomePage self.old }
+        requires level { page.now.level ≡ level_read self.old }
+        requires below { least_above page.now.floor ≤ target self.old }
+        requires at_most_fan { length page.now.entries ≤ self.old.fan }
+        ensures { (number : ℕ) → NeedsPage self.old number
+            → SeesPage self.old number page.now self.new }
+    {
+        match self.state {
+            State::Going(number, level) => self.read_on_its_way(number, level, page),
+            State::Held(number) => self.read_under_latch(number, page),
+            _ => unreachable!(),
+        }
+    }
+
+    // Goes right or down, and at the leaf does what is done under no latch.
+    fn read_on_its_way(&mut self, number: u32, level: u8, page: &Page)
+        requires state { self.old.state ≡ State.Going number level }
+        requires level { page.now.level ≡ level }
+        ensures { SeesOnItsWay self.old number page.now self.new }
+    {
+        let way = page.way(self.target());
+        let kept = self.kept_at_end(page, way);
+        self.saw_way(way, kept);
+    }
+
+    // What the page keeps under a find's key, where its way ends there.
+    fn kept_at_end(&self, page: &Page, way: Way) -> Option<u64>
+        ensures { (key : ℕ) → self.now.op ≡ Find key → way ≡ Here
+            → value_at key page.now.entries ≡ result }
+    {
+        match (way, self.op) {
+            (Way::Here, Op::Find(key)) => page.look(key),
+            _ => None,
+        }
+    }
+
+    /// It has read as much of the page that it needs on its way down as tells which way its key leads from there, and, where
+    /// it is a find and the page is the key's leaf, what the leaf keeps under the key. So it need not be shown the page.
+    pub fn saw_way(&mut self, way: Way, kept: Option<u64>)
+        requires on_its_way { IsOnItsWay self.old }
+        requires read { (page : PlainPage) × TellsWay self.old page way kept }
+        ensures { (number : ℕ) (page : PlainPage) → NeedsPage self.old number
+            → TellsWay self.old page way kept → SeesOnItsWay self.old number page self.new }
+    {
+        let State::Going(number, level) = self.state else {
+            unreachable!()
+        };
+        match way {
+            Way::Right(next) => self.state.go(next, level),
+            Way::Down(child) => {
+                self.remembered.push(number);
+                self.state.go(child, level - 1);
+            }
+            Way::Here => match self.op {
+                Op::Find(key) => self.decide(State::Ended, answer_with(Op::Find(key), kept)),
+                Op::Insert(..) | Op::Delete(_) | Op::Replace(..) => {
+                    self.state = State::Want(number);
+                }
+            },
+        }
+    }
+
+    // Looks again, now that nobody else changes the page: it may have been split since.
+    fn read_under_latch(&mut self, number: u32, page: &Page)
+        requires state { self.old.state ≡ State.Held number }
+        requires level { page.now.level ≡ level_of self.old.job }
+        requires below { least_above page.now.floor ≤ target self.old }
+        requires at_most_fan { length page.now.entries ≤ self.old.fan }
+        ensures { SeesUnderLatch self.old number page.now self.new }
+    {
+        if let Way::Right(next) = page.way(self.target()) {
+            self.state = State::Leave(number, Next::MoveRight(next));
+            return;
+        }
+        match (self.job, self.op) {
+            (Job::Leaf, Op::Insert(key, pointer)) => self.insert(number, page, key, pointer),
+            (Job::Leaf, Op::Delete(key)) => self.delete(number, page, key),
+            (Job::Leaf, Op::Replace(key, pointer)) => self.replace(number, page, key, pointer),
+            (Job::Leaf, Op::Find(_)) => unreachable!(),
+            (Job::Parent(debt), _) => self.post(number, page, debt),
+        }
+    }
+
+    // Adds its entry to the leaf, unless the key is there, or splits it.
+    fn insert(&mut self, number: u32, page: &Page, key: u64, pointer: u64)
+        requires state { self.old.state ≡ State.Held number }
+        requires job { self.old.job ≡ Job.Leaf }
+        requires op { self.old.op ≡ Op.Insert key pointer }
+        requires level { page.now.level ≡ 0 }
+        requires above { least_above page.now.floor ≤ key }
+        requires not_right { key ≤ page.now.high }
+        requires at_most_fan { length page.now.entries ≤ self.old.fan }
+        ensures { SeesUnderLatch self.old number page.now self.new }
+    {
+        let mut changed = page.copy();
+        match changed.put(self.fan, key, pointer) {
+            Put::Done => self.state = State::Change(number, changed, None),
+            Put::Present(kept) => {
+                self.decide(State::Leave(number, Next::Finish), Answer::Exists(kept));
+            }
+            Put::Full => self.state = State::SplitNew(number, changed),
+        }
+    }
+
+    // Takes the key's entry out of the leaf, if it is there.
+    fn delete(&mut self, number: u32, page: &Page, key: u64)
+        requires state { self.old.state ≡ State.Held number }
+        requires job { self.old.job ≡ Job.Leaf }
+        requires op { self.old.op ≡ Op.Delete key }
+        requires level { page.now.level ≡ 0 }
+        requires not_right { key ≤ page.now.high }
+        ensures { SeesUnderLatch self.old number page.now self.new }
+    {
+        let mut changed = page.copy();
+        match changed.take(key) {
+            Some(kept) => self.state = State::Change(number, changed, Some(kept)),
+            None => self.decide(State::Leave(number, Next::Finish), Answer::Absent),
+        }
+    }
+
+    // Puts its pointer in the place of the key's in the leaf, if the key is there.
+    fn replace(&mut self, number: u32, page: &Page, key: u64, pointer: u64)
+        requires state { self.old.state ≡ State.Held number }
+        requires job { self.old.job ≡ Job.Leaf }
+        requires op { self.old.op ≡ Op.Replace key pointer }
+        requires level { page.now.level ≡ 0 }
+        requires not_right { key ≤ page.now.high }
+        ensures { SeesUnderLatch self.old number page.now self.new }
+    {
+        let mut changed = page.copy();
+        match changed.swap(key, pointer) {
+            Some(before) => self.state = State::Change(number, changed, Some(before)),
+            None => self.decide(State::Leave(number, Next::Finish), Answer::Absent),
+        }
+    }
+
+    // Posts the debt to the page, unless its separator is there, or splits it.
+    fn post(&mut self, number: u32, page: &Page, debt: Debt)
+        requires state { self.old.state ≡ State.Held number }
+        requires job { self.old.job ≡ Job.Parent debt }
+        requires level { page.now.level ≡ debt.level + 1 }
+        requires above { least_above page.now.floor ≤ debt.separator }
+        requires not_right { debt.separator ≤ page.now.high }
+        requires at_most_fan { length page.now.entries ≤ self.old.fan }
+        ensures { SeesUnderLatch self.old number page.now self.new }
+    {
+        let mut changed = page.copy();
+        match changed.post(self.fan, debt.separator, debt.page) {
+            Post::Done => self.state = State::Change(number, changed, None),
+            Post::Already => self.state = State::Leave(number, Next::Finish),
+            Post::Full => self.state = State::SplitNew(number, changed),
+        }
+    }
+}

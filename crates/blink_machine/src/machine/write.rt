@@ -1,0 +1,44 @@
+//! What an operation writes.
+ghost use Rattle.std.specs.Prelude.{◌≡◌};
+ghost use Rattle.blink_page.specs.Limits.{IsPageNumber};
+ghost use Rattle.blink_machine.specs.Machine.{NeedsNew, NeedsPrimeWrite};
+ghost use Rattle.blink_machine.specs.Table.{page_out, PrimeOut};
+ghost use Rattle.blink_machine.specs.Needs.{NeedsSomeWrite};
+
+use super::{Machine, State};
+use blink_page::{Page, Prime};
+
+impl Machine {
+    /// The page that the wanted write writes. `new` is the number that the page gets, from 1 to 1,048,575, where it is a new one,
+    /// and else 0.
+    pub fn page_out(&self, new: u32) -> Page
+        requires needs { NeedsSomeWrite self.now }
+        requires new_number { NeedsNew self.now → IsPageNumber new }
+        ensures { result ≡ page_out self.now new }
+    {
+        match &self.state {
+            State::Change(_, changed, _) => changed.copy(),
+            State::SplitNew(_, before) => {
+                before.upper_with(self.fan, self.target(), self.value())
+            }
+            State::SplitOld(_, lower, _) => lower.copy(),
+            State::Root(page, debt, _) => {
+                Page::root(debt.level + 1, debt.separator, *page, debt.page)
+            }
+            _ => unreachable!(),
+        }
+    }
+
+    /// The prime block that the wanted write writes: the one that it has read, with its new root added.
+    pub fn prime_out(&self) -> Prime
+        requires { NeedsPrimeWrite self.now }
+        ensures { PrimeOut self.now result }
+    {
+        let State::NewPrime(_, _, root, read) = &self.state else {
+            unreachable!()
+        };
+        let mut prime = read.copy();
+        prime.grow(*root);
+        prime
+    }
+}
