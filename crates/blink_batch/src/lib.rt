@@ -26,6 +26,3 @@ pub use number::read_number;
 pub use operation::{Answer, Op};
 pub use plain::Plain;
 pub use script::{Part, Script, read_script};
-
-#[cfg(test)]
-mod tests;

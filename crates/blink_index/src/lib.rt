@@ -11,8 +11,6 @@ mod error;
 mod index;
 mod laws;
 mod scan;
-#[cfg(test)]
-mod tests;
 
 pub use dump::{OrDash, push_entries};
 pub use error::IndexError;

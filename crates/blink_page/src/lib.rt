@@ -14,8 +14,6 @@ mod search;
 mod split;
 mod swap;
 mod take;
-#[cfg(test)]
-mod tests;
 
 pub use laws::postings_commute;
 pub use limits::{

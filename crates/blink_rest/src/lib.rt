@@ -6,8 +6,6 @@
 mod decide;
 mod laws;
 mod rest;
-#[cfg(test)]
-mod tests;
 mod walk;
 
 pub use decide::at_rest;

@@ -10,8 +10,6 @@ mod limits;
 mod pages;
 mod primes;
 mod span;
-#[cfg(test)]
-mod tests;
 mod words;
 
 pub use allowance::Allowance;

@@ -9,8 +9,6 @@ mod links;
 mod run;
 mod seat;
 mod shared;
-#[cfg(test)]
-mod tests;
 mod world;
 
 pub use blink_machine::{

@@ -7,8 +7,6 @@
 mod error;
 mod latches;
 mod store;
-#[cfg(test)]
-mod tests;
 
 pub use error::StoreError;
 pub use latches::{Latches, WORKERS};

@@ -1,0 +1,69 @@
+//! Batches.
+use crate::fixtures::worlds::batch_of;
+use blink_batch::{Batch, BatchError, Op};
+use std::alloc::Global;
+use std::process::Abort;
+use std::test::Fail;
+
+// The batch of these operations has them, and so many insertions.
+fn has_inserts(rt: &impl Abort, alloc: Global, ops: &[Op], inserts: usize) -> Result<(), Fail> {
+    let batch = batch_of(alloc, ops)?;
+    assert_eq!(rt; batch.ops(), ops);
+    assert_eq!(rt; (batch.len(), batch.inserts()), (ops.len(), inserts));
+    assert!(rt; !batch.is_empty());
+    Ok(())
+}
+
+// So many finds are a batch, or too many for one.
+fn is_taken(rt: &impl Abort, alloc: Global, count: usize, expected: bool) -> Result<(), Fail> {
+    let batch = Batch::new(vec![in alloc; Op::Find(1); count]?);
+    match batch {
+        Ok(batch) => assert_eq!(rt; (true, batch.len()), (expected, count)),
+        Err(refusal) => assert_eq!(rt; (false, refusal), (expected, BatchError::TooMany)),
+    }
+    Ok(())
+}
+
+#[test]
+fn batches_have_a_limit(rt: HostRuntime) -> Result<(), Fail> {
+    let alloc = rt.alloc();
+    has_inserts(&rt, alloc, &[Op::Insert(5, 50), Op::Find(5)], 1)?;
+    has_inserts(&rt, alloc, &[Op::Insert(5, 50), Op::Replace(5, 51)], 1)?;
+    is_taken(&rt, alloc, 4097, true)?;
+    is_taken(&rt, alloc, 8192, true)?;
+    is_taken(&rt, alloc, 8193, false)?;
+    assert_eq!(rt; BatchError::TooMany.code(), 1);
+    Ok(())
+}
+
+// Whether the batch is equal to the one of these operations.
+fn is_equal(
+    rt: &impl Abort,
+    alloc: Global,
+    batch: &Batch,
+    ops: &[Op],
+    expected: bool,
+) -> Result<(), Fail> {
+    let other = batch_of(alloc, ops)?;
+    assert_eq!(rt; *batch == other, expected, "{ops:?}");
+    Ok(())
+}
+
+#[test]
+fn batches_are_equal_by_their_operations(rt: HostRuntime) -> Result<(), Fail> {
+    let alloc = rt.alloc();
+    let batch = batch_of(alloc, &[Op::Insert(5, 50), Op::Find(6)])?;
+    is_equal(&rt, alloc, &batch, &[Op::Insert(5, 50), Op::Find(6)], true)?;
+    let others = [
+        [Op::Insert(5, 50), Op::Find(7)].as_slice(),
+        [Op::Insert(5, 51), Op::Find(6)].as_slice(),
+        [Op::Insert(5, 50), Op::Delete(6)].as_slice(),
+        [Op::Replace(5, 50), Op::Find(6)].as_slice(),
+        [Op::Find(6), Op::Insert(5, 50)].as_slice(),
+        [Op::Insert(5, 50)].as_slice(),
+    ];
+    for ops in others {
+        is_equal(&rt, alloc, &batch, ops, false)?;
+    }
+    Ok(())
+}

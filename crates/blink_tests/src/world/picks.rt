@@ -1,0 +1,98 @@
+//! Examples of picked turns and of waits.
+use crate::fixtures::stores::{has_leftmost, has_pages, keeps_entries};
+use crate::fixtures::worlds::{full_leaf, has_answers, tree_after, world_of};
+use blink_batch::{Answer, Op};
+use blink_page::GREATEST_KEY;
+use blink_rest::Rest;
+use blink_steps::World;
+use std::alloc::Global;
+use std::process::Abort;
+use std::test::Fail;
+
+// Whether the worker's next turn would be a wait, and whether it is idle.
+fn is_seen(rt: &impl Abort, world: &World, worker: u8, waits: bool, idle: bool) {
+    assert!(rt; worker < world.workers());
+    assert_eq!(rt; (world.waits(worker), world.is_idle(worker)), (waits, idle));
+}
+
+// The worker whose turn is next.
+fn picks(rt: &impl Abort, world: &World, picked: Option<u8>) {
+    assert_eq!(rt; world.pick(), picked);
+}
+
+// The operations have taken so many steps, each at its place.
+fn has_moves(rt: &impl Abort, world: &World, moves: &[u64]) {
+    for (place, expected) in (0u32..).zip(moves.iter()) {
+        assert!(rt; (place as usize) < world.answers().len());
+        assert_eq!(rt; world.moves_of(place), *expected);
+    }
+}
+
+// Two workers with an insertion each into an empty tree, after these turns.
+fn two_insertions(alloc: Global, schedule: &[u8]) -> Result<World, Fail> {
+    let ops = [Op::Insert(1, 1), Op::Insert(2, 2)];
+    world_of(alloc, Rest::empty(alloc, 4)?, &ops, 2, &[0, 1], schedule)
+}
+
+#[test]
+fn nobody_waits_at_the_start(rt: HostRuntime) -> Result<(), Fail> {
+    let world = two_insertions(rt.alloc(), &[])?;
+    picks(&rt, &world, Some(0));
+    is_seen(&rt, &world, 0, false, true);
+    is_seen(&rt, &world, 1, false, true);
+    Ok(())
+}
+
+#[test]
+fn a_worker_waits_for_a_latch(rt: HostRuntime) -> Result<(), Fail> {
+    let mut world = two_insertions(rt.alloc(), &[0, 0, 0, 1, 1, 1])?;
+    picks(&rt, &world, Some(0));
+    is_seen(&rt, &world, 0, false, false);
+    is_seen(&rt, &world, 1, true, false);
+    has_moves(&rt, &world, &[3, 2]);
+
+    world.finish()?;
+    picks(&rt, &world, None);
+    is_seen(&rt, &world, 0, false, true);
+    is_seen(&rt, &world, 1, false, true);
+    has_answers(&rt, &world, &[Some(Answer::Inserted); 2]);
+    Ok(())
+}
+
+// Worker 0 has split the full leaf; worker 1 has split its right half, and asks for the level above, which isn't there yet.
+const OVERTAKING: [u8; 30] = [
+    0, 0, 0, 0, 0, 0, 1, 1, 1, 1, 1, 1, 1, 1, 1, 1, 1, 1, 1, 1, 1, 1, 1, 1, 1, 1, 1, 1, 1, 1,
+];
+
+// The world of those turns.
+fn overtaking(rt: &impl Abort, alloc: Global) -> Result<World, Fail> {
+    let ops = [
+        Op::Insert(5, 50),
+        Op::Insert(6, 60),
+        Op::Insert(7, 70),
+        Op::Insert(8, 80),
+    ];
+    let leaf = full_leaf(rt, alloc)?;
+    world_of(alloc, leaf, &ops, 2, &[0, 1, 1, 1], &OVERTAKING)
+}
+
+#[test]
+fn a_worker_waits_for_a_level(rt: HostRuntime) -> Result<(), Fail> {
+    let mut world = overtaking(&rt, rt.alloc())?;
+    is_seen(&rt, &world, 0, false, false);
+    is_seen(&rt, &world, 1, true, false);
+    picks(&rt, &world, Some(0));
+    has_moves(&rt, &world, &[6, 7, 7, 9]);
+
+    world.finish()?;
+    picks(&rt, &world, None);
+    has_moves(&rt, &world, &[10, 7, 7, 14]);
+    let picked = [0, 0, 0, 0, 1, 1, 1, 1, 1];
+    assert!(rt; world.schedule().ends_with(picked.as_slice()));
+    let rest = tree_after(&rt, world);
+    has_pages(&rt, rest.store(), 4);
+    has_leftmost(&rt, rest.store(), &[1, 4]);
+    let root = [(3, 1), (6, 2), (GREATEST_KEY, 3)];
+    keeps_entries(&rt, rest.store(), 4, &root);
+    Ok(())
+}
