@@ -1,5 +1,5 @@
 -- What an operation answers on a plain map and makes of it, and a list of operations one after another.
-use Rattle.std.specs.Prelude.{ℕ, List, [], ◌∷◌, Option, Some, None}
+use Rattle.std.specs.Prelude.{◌≡◌, ℕ, ◌<◌, List, [], ◌∷◌, Option, Some, None, length, slice_get, take}
 use Rattle.blink_batch.specs.declared.entry.Entry.{Entry}
 use Rattle.blink_batch.specs.declared.operation.Op.{Op}
 use Rattle.blink_batch.specs.declared.operation.Op.TheVariants.{Find, Insert, Delete, Replace}
@@ -50,3 +50,16 @@ answers map (op ∷ ops) = answer_of map op ∷ answers (map_after map op) ops
 abbrev pub map_after_all : List Entry → List Op → List Entry
 map_after_all map [] = map
 map_after_all map (op ∷ ops) = map_after_all (map_after map op) ops
+
+-- ---- where memory is asked for
+
+-- it is an insertion of an absent key, so that the map grows
+abbrev pub AddsEntry : List Entry → Op → Type 0
+AddsEntry map op = answer_of map op ≡ Inserted
+
+-- why a run stopped at this map: no memory for the answers, before the first operation, or none for the entry that the operation next
+-- to those carried out adds
+pub data StopsForMemory (map : List Entry) (ops : List Op) (left : List Entry) : Type 0 where
+  for_answers : 0 < length ops → left ≡ map → StopsForMemory map ops left
+  for_entry : (done : ℕ) (next : Op) → slice_get ops done ≡ Some next → left ≡ map_after_all map (take done ops) → AddsEntry left next
+      → StopsForMemory map ops left

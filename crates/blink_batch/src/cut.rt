@@ -129,7 +129,7 @@ impl Cut {
     /// [`Lanes::new`] come first and in its order, and then `SplitKey`, which tells the first operation whose key had an
     /// earlier operation in another lane.
     ///
-    /// It takes no memory from the heap, and a table of 32 KiB on the stack. The work grows with the batch, unless many
+    /// It takes no memory from the heap, and tables of 64 KiB on the stack. The work grows with the batch, unless many
     /// keys fall into one bucket of the table: then there are at worst n * (n - 1) / 2 comparisons of keys for n
     /// operations.
     pub fn from_lanes(batch: &Batch, workers: u8, lanes: Vec<u8>) -> Result<Cut, CutError>
@@ -156,7 +156,7 @@ impl Cut {
     /// Whether it is a lawful cut of this batch, which need not be the one that it was made for: it has as many lanes
     /// as the batch has operations, and no key of the batch is in two lanes.
     ///
-    /// It takes no memory from the heap, and a table of 32 KiB on the stack. The work grows with the batch, unless many
+    /// It takes no memory from the heap, and tables of 64 KiB on the stack. The work grows with the batch, unless many
     /// keys fall into one bucket of the table: then there are at worst n * (n - 1) / 2 comparisons of keys for n
     /// operations.
     pub fn is_for(&self, batch: &Batch) -> bool

@@ -3,7 +3,7 @@ ghost use Rattle.std.specs.Prelude.{◌≡◌, ℕ, [], List, Option, Some, None
 ghost use Rattle.blink_batch.specs.declared.entry.Entry.{Entry};
 ghost use Rattle.blink_batch.specs.Search.{IsPlaceOf, IsGapFor};
 ghost use Rattle.blink_batch.specs.PlainMap.{IsAscending, pointer_of, replaced};
-ghost use Rattle.blink_batch.specs.Operation.{answer_of, map_after, answers, map_after_all};
+ghost use Rattle.blink_batch.specs.Operation.{AddsEntry, StopsForMemory, answer_of, map_after, answers, map_after_all};
 
 use crate::entry::Entry;
 use crate::operation::{Answer, Op};
@@ -34,10 +34,11 @@ impl Plain {
         }
     }
 
-    /// Carries one operation out. An error leaves the map as it was.
+    /// Carries one operation out. Only an insertion of an absent key takes memory; where that is refused the map is as it was.
     pub fn apply(&mut self, op: Op) -> Result<Answer, AllocError>
         ensures answer { IfOk result (λ answer. answer ≡ answer_of self.old op) }
         ensures map { OnOk result (self.new ≡ map_after self.old op) }
+        ensures growth { OnErr result (AddsEntry self.old op) }
         ensures unchanged { OnErr result (self.new ≡ self.old) }
     {
         let place = self.place(op.key());
@@ -58,13 +59,14 @@ impl Plain {
         }
     }
 
-    /// Carries operations out, one after another, and answers each at its place. After an error the map is that of
-    /// the operations carried out so far.
+    /// Carries operations out, one after another, and answers each at its place. It takes memory for the answers, before the first
+    /// operation, and for each entry that an insertion adds. After an error the map is that of the operations carried out so far.
     pub fn run(&mut self, alloc: Global, ops: &[Op]) -> Result<Vec<Answer>, AllocError>
         ensures answers { IfOk result (λ given. given.items ≡ answers self.old ops.now) }
         ensures map { OnOk result (self.new ≡ map_after_all self.old ops.now) }
         ensures front { OnErr result
             ((done : ℕ) × (self.new ≡ map_after_all self.old (take done ops.now))) }
+        ensures growth { OnErr result (StopsForMemory self.old ops.now self.new) }
     {
         let mut given = Vec::with_capacity(alloc, ops.len())?;
         for op in ops {

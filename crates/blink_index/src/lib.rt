@@ -9,11 +9,10 @@ mod down;
 mod dump;
 mod error;
 mod index;
-mod laws;
+pub mod laws;
 mod scan;
 
 pub use dump::{OrDash, push_entries};
 pub use error::IndexError;
 pub use index::Index;
-pub use laws::{no_other_map_is_kept, the_map_is_kept, the_text_is_of_the_levels};
 pub use scan::Scan;

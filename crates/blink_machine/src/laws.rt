@@ -1,6 +1,6 @@
 //! Laws of one operation and of its steps, each on a function that does nothing.
 ghost use Rattle.blink_machine.specs.OneResult.{OneChange, OneResultOfPage, OneResultOfPrime};
-ghost use Rattle.blink_machine.specs.StepLaw.{OpeningIsSound, SoundIsInOrder, SoundHasOneMap, IdleWorkersDontMatter, StepKeepsSound, StepDecides, AllIdleIsAtRest, PlacesStay, AllowanceIsUsedUp};
+ghost use Rattle.blink_machine.specs.StepLaw.{StepLaw};
 
 /// What an operation makes of what it reads, and the change that it makes, are determined.
 pub fn reads_have_one_result()
@@ -11,15 +11,8 @@ pub fn reads_have_one_result()
 
 /// The law that all that is promised of steps follows from, over pages, latches and operations as partial maps, whatever keeps
 /// them, and for any number of workers: how a **sound moment** begins, what it says, what each step keeps of it, decides and
-/// uses up, and how it ends.
+/// uses up, and how it ends. A memory of its own that takes each step as the table has it may rely on it, in its proofs by the
+/// lemma `step_law`, which is this clause.
 pub fn step_keeps()
-    ensures begins { OpeningIsSound }
-    ensures says { SoundIsInOrder }
-    ensures entries { SoundHasOneMap }
-    ensures idle { IdleWorkersDontMatter }
-    ensures keeps { StepKeepsSound }
-    ensures decides { StepDecides }
-    ensures ends { AllIdleIsAtRest }
-    ensures places { PlacesStay }
-    ensures allowance { AllowanceIsUsedUp }
+    ensures { StepLaw }
 {}

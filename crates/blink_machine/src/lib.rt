@@ -2,11 +2,10 @@
 //! each of its steps keeps.
 #![tactic(auto)]
 
-mod laws;
+pub mod laws;
 mod machine;
 mod remembered;
 mod step;
 
-pub use laws::{reads_have_one_result, step_keeps};
 pub use machine::{Debt, Job, Machine, Need, Next, State};
 pub use step::{Kind, Step};

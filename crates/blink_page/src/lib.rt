@@ -4,7 +4,7 @@
 #![tactic(auto)]
 
 mod entries;
-mod laws;
+pub mod laws;
 mod limits;
 mod page;
 mod post;
@@ -15,7 +15,6 @@ mod split;
 mod swap;
 mod take;
 
-pub use laws::postings_commute;
 pub use limits::{
     GREATEST_KEY, LEVELS, MAX_FAN, MAX_LEVEL, MAX_PAGE, MIN_FAN, NUMBERS_OF_INSERTION,
     WRITES_OF_INSERTION,

@@ -13,3 +13,4 @@ pub mod HistoryKeepsSoundRun
 pub mod DecidedAtEnd
 pub mod WhatRunsPromise
 pub mod RunLaws
+pub mod OneIdleWorkerMore

@@ -1,15 +1,18 @@
 -- What one thread would answer and leave, whatever the schedule was; and that at every moment each key then present is reached.
-use Rattle.std.specs.Prelude.{◌≡◌, ℕ, Some, List, map}
+use Rattle.std.specs.Prelude.{◌≡◌, ℕ, ◌+◌, ◌*◌, ◌≤◌, Some, List, length, map, count_by}
 use Rattle.blink_batch.specs.declared.Entry.{Entry}
 use Rattle.blink_batch.specs.declared.Op.{Op}
+use Rattle.blink_batch.specs.Batch.{is_insert}
 use Rattle.blink_batch.specs.Cut.{Assignment, IsLawfulCut}
 use Rattle.blink_batch.specs.Operation.{answers, map_after_all}
 use Rattle.blink_batch.specs.PlainMap.{pointer_of}
 use Rattle.blink_rest.specs.Reach.{IsReached}
 use Rattle.blink_store.specs.Store.{PlainStore, page_of}
 use Rattle.blink_steps.specs.Decided.{map_now}
+use Rattle.blink_page.specs.declared.limits.TheConstants.{NUMBERS_OF_INSERTION}
 use Rattle.blink_steps.specs.Run.{PlainRun}
 use Rattle.blink_machine.specs.TreeMap.{IsMapOf}
+use Rattle.blink_steps.specs.Ways.{all_moves, steps_at_most_with}
 use Rattle.blink_steps.specs.World.{PlainWorld, IsWorldOf, HasEnded, AfterEachTurn}
 
 -- the answers, and the entries that the tree keeps afterwards, are those of one thread that runs the batch in its own order on
@@ -19,11 +22,6 @@ pub record IsOneThread (start : PlainStore) (run : PlainRun) : Type 0 where
       → run.ledger.answers ≡ map Some (answers entries run.ops)
   pub same_entries : (entries : List Entry) → IsMapOf start entries
       → IsMapOf run.shared.store (map_after_all entries run.ops)
-
--- so it is where each key is one worker's and all operations have ended
-abbrev pub EndsAsOneThread : PlainStore → List Op → Assignment → PlainWorld → Type 0
-EndsAsOneThread start ops assignment world = IsLawfulCut ops assignment.workers assignment.lanes
-    → HasEnded world.run → IsOneThread start world.run
 
 -- each key that the operations decided so far leave present is reached from the root, and with its pointer
 abbrev pub ReachesPresent : List Entry → PlainRun → Type 0
@@ -36,3 +34,17 @@ pub record IsReachedThroughout (start : PlainStore) (world : PlainWorld)
   pub at_first : (entries : List Entry) → IsMapOf start entries → ReachesPresent entries is_world.opening
   pub after_each : (entries : List Entry) → IsMapOf start entries
       → AfterEachTurn (ReachesPresent entries) is_world.opening is_world.history world.run is_world.follows
+
+-- **The headline**, of a batch's run over a tree by some lanes and any schedule
+pub record NoKeyIsLost (start : PlainStore) (ops : List Op) (assignment : Assignment) (world : PlainWorld) : Type 0 where
+  -- where each key is one worker's and all operations have ended, answer i is the one that one thread gives to operation i
+  pub answers_place_by_place : (entries : List Entry) → IsMapOf start entries → IsLawfulCut ops assignment.workers assignment.lanes → HasEnded world.run
+      → world.run.ledger.answers ≡ map Some (answers entries ops)
+  -- and the tree's entries are those that one thread leaves
+  pub entries_of_one_thread : (entries : List Entry) → IsMapOf start entries → IsLawfulCut ops assignment.workers assignment.lanes → HasEnded world.run
+      → IsMapOf world.run.shared.store (map_after_all entries ops)
+  -- at every moment, whatever the lanes, each key then present is reached from the root
+  pub reached_at_every_moment : (is_world : IsWorldOf start world) → IsReachedThroughout start world is_world
+  -- no schedule has more steps that move than this
+  pub steps_bounded : (is_world : IsWorldOf start world)
+      → all_moves is_world.history ≤ length ops * steps_at_most_with (length start.pages + NUMBERS_OF_INSERTION * count_by is_insert ops)

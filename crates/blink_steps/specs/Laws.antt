@@ -1,12 +1,13 @@
 -- Laws of turns, whatever the run.
-use Rattle.std.specs.Prelude.{◌≡◌, ◌≢◌, ℕ, ◌+◌, Option, List, length}
+use Rattle.std.specs.Prelude.{◌≡◌, ◌≢◌, ◌↔◌, ℕ, ◌+◌, Option, List, [], ◌∷◌, ◌++◌, length}
 use Rattle.blink_store.specs.Store.{PlainStore}
 use Rattle.blink_machine.specs.declared.step.Step.{Step}
 use Rattle.blink_machine.specs.declared.step.Step.TheVariants.{Moved, Idle}
 use Rattle.blink_machine.specs.Kinds.{write_page}
 use Rattle.blink_machine.specs.Machine.{PlainMachine, NeedsNew}
 use Rattle.blink_machine.specs.Moment.{Moment, IsItsOperation, Steps}
-use Rattle.blink_steps.specs.Run.{PlainRun, Taken, TakesTurn, IsNextOf, moment_of}
+use Rattle.blink_machine.specs.Sound.{IsSound}
+use Rattle.blink_steps.specs.Run.{PlainRun, Taken, TakesTurn, IsNextOf, idle_seat, moment_of}
 use Rattle.blink_steps.specs.World.{PlainWorld, IsWorld}
 
 -- ---- turns and steps
@@ -40,3 +41,13 @@ abbrev pub StepsAreTurns : Type 0
 StepsAreTurns = (world : PlainWorld) (worker place : ℕ) (m after : PlainMachine) (next : Option ℕ) (step : Step) (then : Moment) → IsWorld world
     → IsNextOf world.run worker place m next → Steps (moment_of world.run) worker m step after then
     → TakesNextNumber world.run.shared.store m step → HasTurnTo world.run (turn_of worker place m step after) then
+
+-- ---- idle workers
+
+-- the run has one worker more, who is idle
+abbrev pub with_idle_worker : PlainRun → Option ℕ → PlainRun
+with_idle_worker run next = record run { seats = run.seats ++ idle_seat next ∷ [] }
+
+-- with it the moment is sound exactly where it was without
+abbrev pub IdleWorkersDontMatter : Type 0
+IdleWorkersDontMatter = (run : PlainRun) (next : Option ℕ) → IsSound (moment_of (with_idle_worker run next)) ↔ IsSound (moment_of run)

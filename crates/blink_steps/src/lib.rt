@@ -3,7 +3,7 @@
 #![tactic(auto)]
 
 mod error;
-mod laws;
+pub mod laws;
 mod ledger;
 mod links;
 mod run;
@@ -11,11 +11,9 @@ mod seat;
 mod shared;
 mod world;
 
-pub use blink_machine::{
-    Debt, Job, Kind, Machine, Need, Next, State, Step, reads_have_one_result, step_keeps,
-};
+pub use blink_machine::laws::step_keeps;
+pub use blink_machine::{Debt, Job, Kind, Machine, Need, Next, State, Step};
 pub use blink_page::{NUMBERS_OF_INSERTION, WRITES_OF_INSERTION};
 pub use error::StepError;
-pub use laws::turns_are_steps;
 pub use seat::Working;
 pub use world::{World, is_too_large, replay};

@@ -1,11 +1,13 @@
 //! The world of a schedule: a run over a tree, and the worker of each turn so far.
-ghost use Rattle.std.specs.Prelude.{◌≡◌, ◌≤◌, ◌<◌, ◌↔◌, ◌⊎◌, length, option_map, slice_get, Ok, IfOk, IfErr, IfSome, IsNone, OnErr, OnOk, IsErrOf, IsOk, IsOkUnless, All, IsTrue};
+ghost use Rattle.std.specs.Prelude.{◌≡◌, ℕ, ◌≤◌, ◌<◌, ◌↔◌, ◌⊎◌, length, option_map, slice_get, Some, Ok, IfOk, IfErr, IfSome, IsNone, OnErr, OnOk, IsErrOf, IsOk, IsOkUnless, All, IsTrue};
 ghost use Rattle.blink_steps.specs.Counts.{HasMoved, HasWaited, moves_in, page_reads_in};
-ghost use Rattle.blink_steps.specs.Headline.{EndsAsOneThread};
+ghost use Rattle.blink_batch.specs.declared.Op.TheVariants.{Find};
+ghost use Rattle.blink_steps.specs.Headline.{NoKeyIsLost};
 ghost use Rattle.blink_steps.specs.Pick.{GoesOnPicked, IsFirstMover, IsIdleWorker, WouldMove, WouldWait, steps_left};
 ghost use Rattle.blink_steps.specs.Promises.{IsPromised};
 ghost use Rattle.blink_steps.specs.Run.{working_of};
-ghost use Rattle.blink_steps.specs.World.{GoesOnBy, HasEnded, InItsHistory, IsReplay, IsReplayRefusal, IsStart, IsStepRefusal, IsTooLarge, KeepsItsStart, SameBatch, TakesStep, with_turn};
+ghost use Rattle.blink_steps.specs.Ways.{steps_at_most_with};
+ghost use Rattle.blink_steps.specs.World.{GoesOnBy, HasEnded, InItsHistory, IsReplay, IsReplayRefusal, IsStart, IsStepRefusal, IsTooLarge, IsWorld, KeepsItsStart, SameBatch, TakesStep, with_turn};
 
 use crate::error::StepError;
 use crate::run::Run;
@@ -117,7 +119,8 @@ impl World {
 
     /// The worker of each turn so far, waits and idle turns with them.
     pub fn schedule(&self) -> &[u8]
-        ensures { result.now ≡ self.now.schedule }
+        ensures schedule { result.now ≡ self.now.schedule }
+        ensures of_its_schedule { IsWorld self.now }
     {
         &self.schedule
     }
@@ -162,19 +165,25 @@ impl World {
         self.run.ended()
     }
 
-    /// How many pages the operation at this place of the batch has read, those under latches with them.
+    /// How many pages the operation at this place of the batch has read, those under latches with them: a find at most as many as
+    /// there are pages, and no operation more than 4n + 90 where there are n.
     pub fn reads_of(&self, op: u32) -> u64
         requires { op < length self.now.run.ops }
         ensures count { InItsHistory self.now (λ history. result ≡ page_reads_in history op) }
+        ensures of_find { (key : ℕ) → slice_get self.now.run.ops op ≡ Some (Find key)
+            → result ≤ length self.now.run.shared.store.pages }
+        ensures at_most { result ≤ steps_at_most_with (length self.now.run.shared.store.pages) }
         ensures promised { IsPromised self.now }
     {
         self.run.reads()[op as usize]
     }
 
-    /// How many steps the operation at this place of the batch has taken. Waits are not counted.
+    /// How many steps the operation at this place of the batch has taken, at most 4n + 90 where there are n pages. Waits are not
+    /// counted.
     pub fn moves_of(&self, op: u32) -> u64
         requires { op < length self.now.run.ops }
         ensures count { InItsHistory self.now (λ history. result ≡ moves_in history op) }
+        ensures at_most { result ≤ steps_at_most_with (length self.now.run.shared.store.pages) }
         ensures promised { IsPromised self.now }
     {
         self.run.moves()[op as usize]
@@ -228,6 +237,8 @@ impl World {
     pub fn advance(&mut self, worker: u8) -> Result<Step, StepError>
         requires { IsFirstMover self.old.run worker }
         ensures turn { IfOk result (λ step. TakesStep self.old worker step self.new) }
+        ensures goes_on { IfOk result (λ step. GoesOnBy self.old worker step self.new) }
+        ensures moved { IfOk result HasMoved }
         ensures same_batch { SameBatch self.old.run self.new.run }
         ensures promised { IsPromised self.new }
         ensures nearer { IfOk result (λ _. steps_left self.new.run < steps_left self.old.run) }
@@ -274,7 +285,7 @@ pub fn replay(
     requires a_lane_each { length lanes.lanes ≡ length batch }
     ensures world { IfOk result (λ world. IsReplay rest batch lanes schedule.now world) }
     ensures promised { IfOk result IsPromised }
-    ensures one_thread { IfOk result (EndsAsOneThread rest batch lanes) }
+    ensures headline { IfOk result (NoKeyIsLost rest batch lanes) }
     ensures too_large { IsErrOf result StepError.TooLarge ↔ IsTooLarge rest batch }
     ensures workers { IsOk result → All (λ worker. worker < lanes.workers) schedule.now }
     ensures refused { IfErr result (IsReplayRefusal rest batch lanes.workers schedule.now) }

@@ -1,8 +1,8 @@
 -- What is promised of every world, and that every worker's turn can be taken.
 use Rattle.std.proofs.Common.{ℕ, ◌+◌, ◌<◌, ◌^◌, List, Option, length, sym, subst}
 use Rattle.blink_batch.specs.declared.Op.{Op}
-use Rattle.blink_batch.specs.Cut.{Assignment, IsLawfulCut}
-use Rattle.blink_steps.specs.Headline.{IsOneThread}
+use Rattle.blink_batch.specs.Cut.{Assignment}
+use Rattle.blink_steps.specs.Headline.{NoKeyIsLost}
 use Rattle.blink_batch.specs.declared.Entry.{Entry}
 use Rattle.blink_store.specs.Store.{PlainStore}
 use Rattle.blink_steps.specs.Ways.{IsShort}
@@ -10,7 +10,7 @@ use Rattle.blink_machine.specs.Machine.{PlainMachine}
 use Rattle.blink_steps.specs.Promises.{KeepsItsPromises}
 use Rattle.blink_steps.specs.Run.{IsNextOf}
 use Rattle.blink_steps.specs.SoundRun.{IsShaped, IsSoundRun, CanTakeTurn}
-use Rattle.blink_steps.specs.World.{PlainWorld, IsWorldOf, IsWorld, IsReplay, HasEnded}
+use Rattle.blink_steps.specs.World.{PlainWorld, IsWorldOf, IsWorld, IsReplay}
 use Rattle.blink_steps.proofs.runs.RunLaws.{run_laws}
 use Rattle.blink_steps.proofs.runs.RunStatements.{CountsAreOf}
 use Rattle.blink_machine.proofs.law.EntriesAtStart.{entries_at_start}
@@ -48,9 +48,13 @@ place_of_next world is worker place m next is_next =
     let found = entries_at_start is.0 is.1.may_begin.at_rest in place_within run_laws is.0 world is.1 found.0 found.1 worker place m next is_next
 
 -- a replayed world has the batch and the lanes that it was given
-pub replayed_one_thread : (start : PlainStore) (ops : List Op) (assignment : Assignment) (schedule : List ℕ) (world : PlainWorld) → IsReplay start ops assignment schedule world
-    → IsLawfulCut ops assignment.workers assignment.lanes → HasEnded world.run → IsOneThread start world.run
-replayed_one_thread start ops assignment schedule world is lawful =
-    (promises start world is.is_world).one_thread
-    (subst (λ (xs : List Op). IsLawfulCut xs world.run.assignment.workers world.run.assignment.lanes) (sym is.same_ops)
-    (subst (λ (a : Assignment). IsLawfulCut ops a.workers a.lanes) (sym is.same_assignment) lawful))
+pub replay_loses_no_key : (start : PlainStore) (ops : List Op) (assignment : Assignment) (schedule : List ℕ) (world : PlainWorld) → IsReplay start ops assignment schedule world
+    → NoKeyIsLost start ops assignment world
+replay_loses_no_key start ops assignment schedule world is =
+    subst (λ (xs : List Op). NoKeyIsLost start xs assignment world) is.same_ops
+    (subst (λ (a : Assignment). NoKeyIsLost start world.run.ops a world) is.same_assignment (record {
+      answers_place_by_place = λ entries is_map cut ended. ((promises start world is.is_world).one_thread cut ended).same_answers entries is_map;
+      entries_of_one_thread = λ entries is_map cut ended. ((promises start world is.is_world).one_thread cut ended).same_entries entries is_map;
+      reached_at_every_moment = λ is_world. (promises start world is_world).reached_throughout;
+      steps_bounded = λ is_world. (short start world is_world).moves_in_all;
+    }))

@@ -4,7 +4,7 @@ use Rattle.std.proofs.lemmas.Result.{err_from_is_err_and}
 use Rattle.blink_batch.specs.Cut.{Assignment}
 use Rattle.blink_steps.specs.World.{IsReplay, IsReplayRefusal, IsStepRefusal}
 use Rattle.blink_steps.proofs.worlds.WorldsGoFurther.{replay_refusal, replays_further, workers_more}
-use Rattle.blink_steps.proofs.worlds.WorldPromises.{promises, replayed_one_thread}
+use Rattle.blink_steps.proofs.worlds.WorldPromises.{promises, replay_loses_no_key}
 use Rattle.blink_steps.proofs.world.replay.Goals as goal
 
 -- who took a step is a worker
@@ -24,11 +24,11 @@ loop-worker-preserved c = (
 pub returns-clause-promised : goal.returns-clause-promised
 returns-clause-promised c start is_world = promises start _ is_world
 
-pub returns-clause-one_thread : goal.returns-clause-one_thread
-returns-clause-one_thread c =
+pub returns-clause-headline : goal.returns-clause-headline
+returns-clause-headline c =
     let all : take c.loop-worker.worker-index c.args.schedule.now ≡ c.args.schedule.now = take_all c.loop-worker.worker-index c.args.schedule.now (omega arith) in
     let is = subst (λ (front : List ℕ). IsReplay c.args.rest c.args.batch c.args.lanes front c.loop-worker.world) all c.loop-worker.invariant.0 in
-    replayed_one_thread c.args.rest c.args.batch c.args.lanes c.args.schedule.now c.loop-worker.world is
+    replay_loses_no_key c.args.rest c.args.batch c.args.lanes c.args.schedule.now c.loop-worker.world is
 
 pub returns-clause-workers : goal.returns-clause-workers
 returns-clause-workers c =

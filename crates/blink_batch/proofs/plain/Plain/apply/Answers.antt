@@ -1,4 +1,5 @@
 use Rattle.std.proofs.Common.{refl}
+use Rattle.std.proofs.lemmas.Result.{err_from_is_err_and}
 use Rattle.blink_batch.specs.PlainMap.{IsAscending, entry}
 use Rattle.blink_batch.proofs.SearchByHalves.{kept_at_place, pointer_of-gap, insert-gap, remove-place}
 use Rattle.blink_batch.proofs.RunsByKey.{IsAscending-added, IsAscending-removed}
@@ -38,6 +39,14 @@ returns-in_ok-insert-in-Insert-Err-clause-answer c =
     let gap = rw c.in-Insert-Err.is-1 at c.place-place.ensures.gap in
     let absent = pointer_of-gap _ _ _ gap in
     rw c.in-Insert-Err.is-0 (rw (rw (c.key.ensures, c.in-Insert-Err.is-0) at absent) refl)
+
+-- only its entry asks for room
+pub returns-in_err-insert-in-Insert-Err-clause-growth : goal.returns-in_err-insert-in-Insert-Err-clause-growth
+returns-in_err-insert-in-Insert-Err-clause-growth c =
+    let gap = rw c.in-Insert-Err.is-1 at c.place-place.ensures.gap in
+    let absent = pointer_of-gap _ _ _ gap in
+    let told = err_from_is_err_and c.from_residual.result c.from_residual.ensures.1 in
+    rw (told.1, c.in-Insert-Err.is-0) (rw (rw (c.key.ensures, c.in-Insert-Err.is-0) at absent) refl)
 
 pub returns-in_ok-insert-in-Insert-Err-clause-map : goal.returns-in_ok-insert-in-Insert-Err-clause-map
 returns-in_ok-insert-in-Insert-Err-clause-map c =

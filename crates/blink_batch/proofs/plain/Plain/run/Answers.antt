@@ -1,5 +1,9 @@
-use Rattle.std.proofs.Common.{sym, arith}
+use Rattle.std.proofs.Common.{get_or, subst, sym, arith, ◌∙◌}
+use Rattle.std.proofs.lemmas.Option.{slice_get-get_or}
+use Rattle.std.proofs.lemmas.Result.{err_from_is_err_and}
 use Rattle.blink_batch.specs.declared.operation.Op.TheVariants.{Find}
+use Rattle.blink_batch.specs.Operation.{AddsEntry}
+use Rattle.blink_batch.specs.Operation.StopsForMemory.{for_entry}
 use Rattle.blink_batch.proofs.RunOfOneMore.{answers-take_more, map_after_all-take_more}
 use Rattle.blink_batch.proofs.plain.Plain.run.Goals as goal
 
@@ -13,3 +17,13 @@ loop-op-preserved c = record {
   carried_out = rw (c.in_ok-answer.ensures.map, c.loop-op.invariant.carried_out)
       (sym (map_after_all-take_more c.args.self.now c.args.ops.now c.loop-op.op-index (Find 0) c.loop-op-test.true));
 }
+
+-- the operation next to those carried out adds an entry
+pub returns-in_err-answer-clause-growth : goal.returns-in_err-answer-clause-growth
+returns-in_err-answer-clause-growth c =
+    let same = c.in_err-answer.ensures.unchanged in
+    let next = get_or c.args.ops.now c.loop-op.op-index (Find 0) in
+    let told = err_from_is_err_and c.from_residual-in_err-answer.result c.from_residual-in_err-answer.ensures.1 in
+    rw told.1 (for_entry c.loop-op.op-index next (slice_get-get_or c.args.ops.now c.loop-op.op-index (Find 0) c.loop-op-test.true)
+    (same ∙ c.loop-op.invariant.carried_out)
+    (subst (λ left. AddsEntry left next) (sym same) c.in_err-answer.ensures.growth))

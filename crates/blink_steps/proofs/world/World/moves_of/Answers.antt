@@ -1,7 +1,8 @@
-use Rattle.std.proofs.Common.{◌<◌, ℕ, List, length, get_or, ap, sym, subst, ◌∙◌, arith}
+use Rattle.std.proofs.Common.{◌<◌, ◌≤◌, ℕ, List, length, get_or, ap, sym, subst, ◌∙◌, arith}
 use Rattle.std.proofs.lemmas.Option.{get_or_from_slice_get}
-use Rattle.blink_steps.specs.World.{PlainWorld}
-use Rattle.blink_steps.proofs.worlds.WorldPromises.{counted, promises, shaped}
+use Rattle.blink_steps.specs.Ways.{steps_at_most_with}
+use Rattle.blink_steps.specs.World.{PlainWorld, IsWorld}
+use Rattle.blink_steps.proofs.worlds.WorldPromises.{counted, promises, shaped, short}
 use Rattle.blink_steps.proofs.world.World.moves_of.Goals as goal
 
 pub bounds-moves-op : goal.bounds-moves-op
@@ -17,3 +18,9 @@ returns-clause-count c start is_world =
 
 pub returns-clause-promised : goal.returns-clause-promised
 returns-clause-promised c start is_world = promises start _ is_world
+
+pub returns-clause-at_most : goal.returns-clause-at_most
+returns-clause-at_most c =
+    let is = subst IsWorld c.self.view_is c.self.invariant in
+    subst (λ count. count ≤ steps_at_most_with (length c.args.self.now.run.shared.store.pages)) (sym (returns-clause-count c is.0 is.1))
+    ((short is.0 c.args.self.now is.1).moves c.args.op)
