@@ -16,7 +16,7 @@ trap 'exit 1' HUP INT TERM
 cd "$work"
 # The library asks the program for the time, by a C function that it declares.
 mkdir -p "crates/${name}_bench/src" "crates/${name}_bench/c"
-for crate in blink_batch blink_page blink_store blink_rest blink_steps blink_index; do
+for crate in blink_batch blink_page blink_store blink_rest blink_machine blink_steps blink_index; do
     cp -R "$repository/crates/$crate" crates
     grep "^$crate[ :]" "$repository/crates.txt" >>crates.txt
 done
