@@ -130,6 +130,7 @@ module _ (book : PlainBook) (is : IsBook book) (promised : IsPromised book.world
           all_moved = is.all_moved;
           all_ended = ended;
           same_tree = refl;
+          reached = kept.reached_throughout;
         };
         same_answers = all_given;
         one_thread = kept.one_thread cut ended;

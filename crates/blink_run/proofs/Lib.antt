@@ -5,6 +5,7 @@ pub mod LinesOfEntries
 pub mod ReplayOfBatch
 pub mod PartsAreServed
 pub mod ReplayOfParts
+pub mod PartsRunBySettings
 pub mod FirstThatIsNoWorker
 pub mod LaneSoFar
 pub mod CallsOfPass

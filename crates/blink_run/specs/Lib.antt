@@ -6,6 +6,7 @@ pub mod Outlet
 pub mod Text
 pub mod Trace
 pub mod Replay
+pub mod BySettings
 pub mod Served
 pub mod ServedReplay
 pub mod Lanes

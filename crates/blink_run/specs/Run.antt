@@ -5,7 +5,7 @@ use Rattle.blink_batch.specs.declared.Op.{Op}
 use Rattle.blink_batch.specs.Cut.{Assignment}
 use Rattle.blink_rest.specs.Rest.{IsStoreAtRest}
 use Rattle.blink_store.specs.Store.{PlainStore}
-use Rattle.blink_steps.specs.Headline.{IsOneThread}
+use Rattle.blink_steps.specs.Headline.{IsOneThread, IsReachedThroughout}
 use Rattle.blink_steps.specs.World.{PlainWorld, IsReplay, HasEnded}
 use Rattle.blink_run.specs.Book.{AllMoved}
 
@@ -17,6 +17,8 @@ pub record IsReplayed (before : PlainStore) (ops : List Op) (assignment : Assign
   pub all_moved : AllMoved replay.is_world.history
   pub all_ended : HasEnded world.run
   pub same_tree : world.run.shared.store ≡ after
+  -- at every moment on the way each key then present is reached from the root
+  pub reached : IsReachedThroughout before world replay.is_world
 
 -- these are its answers, place by place; they and the entries are those of one thread, and the tree is at rest
 pub record IsSettled (before : PlainStore) (ops : List Op) (assignment : Assignment) (after : PlainStore) (given : List Answer) : Type 0 where

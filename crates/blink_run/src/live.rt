@@ -5,6 +5,7 @@ ghost use Rattle.blink_batch.specs.Operation.{answers, map_after_all};
 ghost use Rattle.blink_batch.specs.Batch.{is_insert};
 ghost use Rattle.blink_batch.specs.PlainMap.{IsAscending};
 ghost use Rattle.blink_index.specs.Index.{map_of};
+ghost use Rattle.blink_live.specs.Gathered.{IsNumberedInOrder};
 ghost use Rattle.blink_run.specs.Lanes.{uses_deletion};
 ghost use Rattle.blink_steps.specs.World.{IsTooLarge};
 
@@ -40,6 +41,7 @@ pub(crate) fn run_live<R: Threads + Wait + Sync, G: Gate + Sync>(
     ensures answers { IfOk result (λ given. given.items ≡ answers (map_of index.old) batch.now) }
     ensures map { IfOk result
         (λ given. map_of index.new ≡ map_after_all (map_of index.old) batch.now) }
+    ensures numbered { IfOk result (λ given. IsNumberedInOrder index.new) }
     ensures too_large { IsErrOf result RunError.TooLarge ↔ IsTooLarge index.old batch.now }
     ensures unchanged { OnErr result (index.new ≡ index.old) }
 {

@@ -4,6 +4,7 @@ ghost use Rattle.blink_batch.specs.Cut.{IsLawfulCut};
 ghost use Rattle.blink_batch.specs.Operation.{answers, map_after_all};
 ghost use Rattle.blink_index.specs.Index.{map_of};
 ghost use Rattle.blink_steps.specs.World.{IsTooLarge};
+ghost use Rattle.blink_live.specs.Gathered.{IsNumberedInOrder};
 ghost use Rattle.blink_run.specs.Run.{IsReplayed};
 
 use crate::book::Book;
@@ -23,7 +24,8 @@ use std::thread::{self, Threads};
 pub enum Driver {
     /// Each step is taken under one lock.
     Locked,
-    /// Without a lock, at one table of atomic words. Before the threads begin it takes 25 KB of memory for each insertion.
+    /// Without a lock, at one table of atomic words. The table has 25 KB for each insertion, and takes twice as much while
+    /// it is opened, before the threads begin.
     Live,
 }
 
@@ -49,9 +51,10 @@ pub fn run_batch<R: Threads + Wait + Sync, G: Gate + Sync>(
     ensures too_large { IsErrOf result RunError.TooLarge ↔ IsTooLarge index.old batch.now }
     ensures unchanged { OnErr result (index.new ≡ index.old) }
 
-    // What is so of the driver `Locked` alone.
+    // What is so of the driver `Locked` alone, and what of `Live`.
     ensures replayed { driver ≡ Driver.Locked
         → IfOk result (λ given. IsReplayed index.old batch.now cut.now index.new) }
+    ensures numbered { driver ≡ Driver.Live → IfOk result (λ given. IsNumberedInOrder index.new) }
 {
     match driver {
         Driver::Locked => run_locked(rt, alloc, index, batch, cut, gate),

@@ -4,6 +4,7 @@ ghost use Rattle.blink_batch.specs.Operation.{answers, map_after_all};
 ghost use Rattle.blink_batch.specs.Text.{text_of};
 ghost use Rattle.blink_index.specs.Index.{map_of};
 ghost use Rattle.blink_store.specs.Store.{new_store};
+ghost use Rattle.blink_run.specs.BySettings.{RunsBatchBy, RunsPartBy, RunsPartsBy, ServesBy};
 ghost use Rattle.blink_run.specs.Outlet.{GoesOut, Pours};
 ghost use Rattle.blink_run.specs.Text.{scan_text};
 ghost use Rattle.blink_run.specs.Served.{IsBatchFault, IsPartFault, LeavesFlushed, LeavesFront, LeavesLines, LeavesPart, Serves, TellsFault, is_batch, part_after, part_text, script_text};
@@ -41,6 +42,7 @@ pub fn serve<T: Threads + Wait + Sync, R: Read, W: Write, G: Gate + Sync>(
 ) -> Result<(), ServeError>
     ensures served { OnOk result
         (Serves (R.remaining reader.old) (W.contents writer.old) (W.contents writer.new)) }
+    ensures by_settings { OnOk result (ServesBy settings.now (R.remaining reader.old)) }
     ensures fault { IfErr result (TellsFault (R.remaining reader.old)) }
     ensures left { IfErr result (λ error.
         LeavesLines (R.remaining reader.old) error (W.contents writer.old) (W.contents writer.new)) }
@@ -73,6 +75,7 @@ fn serve_script<T: Threads + Wait + Sync, O: Outlet, G: Gate + Sync>(
 ) -> Result<(), ServeError>
     ensures served { OnOk result
         (GoesOut O.offered O.settled outlet.old (script_text (map_of index.old) parts.now) outlet.new) }
+    ensures by_settings { OnOk result (RunsPartsBy settings.now index.old parts.now index.new) }
     ensures left { IfErr result (λ error.
         LeavesFlushed O.offered O.settled (map_of index.old) parts.now error outlet.old outlet.new) }
 {
@@ -96,6 +99,7 @@ fn serve_parts<T: Threads + Wait + Sync, O: Outlet, G: Gate + Sync>(
 ) -> Result<(), ServeError>
     ensures served { OnOk result
         (Pours O.offered outlet.old (script_text (map_of index.old) parts.now) outlet.new) }
+    ensures by_settings { OnOk result (RunsPartsBy settings.now index.old parts.now index.new) }
     ensures left { IfErr result (λ error.
         LeavesFront O.offered O.settled (map_of index.old) parts.now error outlet.old outlet.new) }
 {
@@ -133,6 +137,7 @@ fn serve_part<T: Threads + Wait + Sync, O: Outlet, G: Gate + Sync>(
     ensures served { OnOk result
         (Pours O.offered outlet.old (part_text (map_of index.old) part.now) outlet.new) }
     ensures map { OnOk result (map_of index.new ≡ part_after (map_of index.old) part.now) }
+    ensures by_settings { OnOk result (RunsPartBy settings.now index.old part.now index.new) }
     ensures fault { IfErr result (IsPartFault part.now number) }
     ensures left { IfErr result (λ error. LeavesPart O.offered O.settled
         (part_text (map_of index.old) part.now) error outlet.old outlet.new) }
@@ -159,6 +164,8 @@ fn batch_text<T: Threads + Wait + Sync, G: Gate + Sync>(
         (λ text. string_bytes text ≡ text_of (answers (map_of index.old) batch.now)) }
     ensures map { IfOk result
         (λ _. map_of index.new ≡ map_after_all (map_of index.old) batch.now) }
+    ensures by_settings { IfOk result
+        (λ _. RunsBatchBy settings.now index.old batch.now index.new) }
     ensures fault { IfErr result (IsBatchFault number) }
 {
     let cut = settings.cut_batch(alloc, batch)?;
