@@ -1,12 +1,14 @@
 -- A world's trace, turn by turn.
-use Rattle.std.proofs.Common.{◌≡◌, ℕ, List, [], ◌∷◌, ◌++◌, refl, ap, sym, ◌∙◌, append_assoc, reverse}
+use Rattle.std.proofs.Common.{◌≡◌, ◌<◌, ℕ, List, [], ◌∷◌, ◌++◌, refl, ap, sym, ◌∙◌, append_assoc, reverse, arith}
 use Rattle.std.proofs.lemmas.Grind.{flat_map-append}
 use Rattle.std.proofs.lemmas.List.{append-nil, reverse-append}
 use Rattle.std.specs.List.{flat_map}
 use Rattle.blink_store.specs.Store.{PlainStore}
 use Rattle.blink_machine.specs.declared.Step.{Step}
+use Rattle.blink_steps.specs.declared.StepError.{StepError}
+use Rattle.blink_steps.specs.declared.StepError.TheVariants as step
 use Rattle.blink_steps.specs.Run.{Taken}
-use Rattle.blink_steps.specs.World.{PlainWorld, GoesOnBy, IsWorldOf, SameBatch, TakesStep}
+use Rattle.blink_steps.specs.World.{PlainWorld, GoesOnBy, IsStepRefusal, IsWorldOf, SameBatch, TakesStep}
 use Rattle.blink_run.specs.Replay.{HasTurnsMore, IsTraced}
 use Rattle.blink_run.specs.Trace.{trace_of, turn_line}
 
@@ -44,3 +46,9 @@ module _ (old world new : PlainWorld) (schedule : List ℕ) (trace : List ℕ) (
             more = more.one_more ∙ ap (λ (history : List Taken). more.taken ∷ history) before.more;
             traced = rw before.traced (rw (← line) (sym (trace_of-cons more.taken before.turns)));
           }
+
+-- nothing but memory is refused to a worker
+pub only_memory : (workers worker : ℕ) (error : StepError) → worker < workers → IsStepRefusal workers worker error → error ≡ step.OutOfMemory
+only_memory workers worker step.OutOfMemory below refusal = refl
+only_memory workers worker (step.NoWorker number) below refusal = absurd (omega (arith, refusal.1))
+only_memory workers worker step.TooLarge below refusal = absurd refusal

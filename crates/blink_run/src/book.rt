@@ -219,9 +219,7 @@ pub(crate) fn all_of(alloc: Global, given: &[Option<Answer>]) -> Result<Vec<Answ
 {
     let mut answers = Vec::with_capacity(alloc, given.len())?;
     for answer in given {
-        if let Some(answer) = answer {
-            answers.push_reserved(*answer);
-        }
+        answers.push_reserved(answer.unwrap());
     }
     Ok(answers)
 }
