@@ -1,4 +1,5 @@
 //! Batches.
+use crate::fixtures::same;
 use crate::fixtures::worlds::batch_of;
 use blink_batch::{Batch, BatchError, Op};
 use std::alloc::Global;
@@ -8,8 +9,8 @@ use std::test::Fail;
 // The batch of these operations has them, and so many insertions.
 fn has_inserts(rt: &impl Abort, alloc: Global, ops: &[Op], inserts: usize) -> Result<(), Fail> {
     let batch = batch_of(alloc, ops)?;
-    assert_eq!(rt; batch.ops(), ops);
-    assert_eq!(rt; (batch.len(), batch.inserts()), (ops.len(), inserts));
+    same(rt, &batch.ops(), &ops);
+    same(rt, &(batch.len(), batch.inserts()), &(ops.len(), inserts));
     assert!(rt; !batch.is_empty());
     Ok(())
 }
@@ -18,8 +19,8 @@ fn has_inserts(rt: &impl Abort, alloc: Global, ops: &[Op], inserts: usize) -> Re
 fn is_taken(rt: &impl Abort, alloc: Global, count: usize, expected: bool) -> Result<(), Fail> {
     let batch = Batch::new(vec![in alloc; Op::Find(1); count]?);
     match batch {
-        Ok(batch) => assert_eq!(rt; (true, batch.len()), (expected, count)),
-        Err(refusal) => assert_eq!(rt; (false, refusal), (expected, BatchError::TooMany)),
+        Ok(batch) => same(rt, &(true, batch.len()), &(expected, count)),
+        Err(refusal) => same(rt, &(false, refusal), &(expected, BatchError::TooMany)),
     }
     Ok(())
 }
@@ -32,8 +33,14 @@ fn batches_have_a_limit(rt: HostRuntime) -> Result<(), Fail> {
     is_taken(&rt, alloc, 4097, true)?;
     is_taken(&rt, alloc, 8192, true)?;
     is_taken(&rt, alloc, 8193, false)?;
-    assert_eq!(rt; BatchError::TooMany.code(), 1);
+    same(&rt, &BatchError::TooMany.code(), &1);
     Ok(())
+}
+
+// Whether the two batches are equal.
+fn are_equal(rt: &impl Abort, batch: &Batch, other: &Batch, expected: bool) {
+    let equal = batch == other;
+    same(rt, &equal, &expected);
 }
 
 // Whether the batch is equal to the one of these operations.
@@ -45,7 +52,7 @@ fn is_equal(
     expected: bool,
 ) -> Result<(), Fail> {
     let other = batch_of(alloc, ops)?;
-    assert_eq!(rt; *batch == other, expected, "{ops:?}");
+    are_equal(rt, batch, &other, expected);
     Ok(())
 }
 
@@ -54,16 +61,22 @@ fn batches_are_equal_by_their_operations(rt: HostRuntime) -> Result<(), Fail> {
     let alloc = rt.alloc();
     let batch = batch_of(alloc, &[Op::Insert(5, 50), Op::Find(6)])?;
     is_equal(&rt, alloc, &batch, &[Op::Insert(5, 50), Op::Find(6)], true)?;
-    let others = [
-        [Op::Insert(5, 50), Op::Find(7)].as_slice(),
-        [Op::Insert(5, 51), Op::Find(6)].as_slice(),
-        [Op::Insert(5, 50), Op::Delete(6)].as_slice(),
-        [Op::Replace(5, 50), Op::Find(6)].as_slice(),
-        [Op::Find(6), Op::Insert(5, 50)].as_slice(),
-        [Op::Insert(5, 50)].as_slice(),
-    ];
-    for ops in others {
-        is_equal(&rt, alloc, &batch, ops, false)?;
-    }
-    Ok(())
+    is_equal(&rt, alloc, &batch, &[Op::Insert(5, 50), Op::Find(7)], false)?;
+    is_equal(&rt, alloc, &batch, &[Op::Insert(5, 51), Op::Find(6)], false)?;
+    is_equal(
+        &rt,
+        alloc,
+        &batch,
+        &[Op::Insert(5, 50), Op::Delete(6)],
+        false,
+    )?;
+    is_equal(
+        &rt,
+        alloc,
+        &batch,
+        &[Op::Replace(5, 50), Op::Find(6)],
+        false,
+    )?;
+    is_equal(&rt, alloc, &batch, &[Op::Find(6), Op::Insert(5, 50)], false)?;
+    is_equal(&rt, alloc, &batch, &[Op::Insert(5, 50)], false)
 }

@@ -1,5 +1,6 @@
 //! Lanes, and cuts of batches.
 use crate::fixtures::worlds::batch_of;
+use crate::fixtures::{is_shown, same, same_for};
 use blink_batch::{Batch, Cut, CutError, Lanes, Op};
 use std::alloc::Global;
 use std::process::Abort;
@@ -15,7 +16,8 @@ fn is_equal(
     expected: bool,
 ) -> Result<(), Fail> {
     let other = Lanes::new(batch, workers, others.to_vec(alloc)?)?;
-    assert_eq!(rt; *lanes == other, expected, "{workers} {others:?}");
+    let equal = *lanes == other;
+    same_for(rt, &equal, &expected, &(workers, others));
     Ok(())
 }
 
@@ -31,8 +33,8 @@ fn lanes_are_equal_with_their_workers(rt: HostRuntime) -> Result<(), Fail> {
 
 // The batch has these lanes under the cut, and so many workers.
 fn is_cut(rt: &impl Abort, cut: &Cut, lanes: &[u8], workers: u8) {
-    assert_eq!(rt; cut.lanes(), lanes);
-    assert_eq!(rt; cut.workers(), workers);
+    same(rt, &cut.lanes(), &lanes);
+    same(rt, &cut.workers(), &workers);
 }
 
 // The batch is cut among so many workers, by the remainder of each key, into these lanes.
@@ -56,10 +58,10 @@ fn cuts_by_the_remainder_of_the_key(rt: HostRuntime) -> Result<(), Fail> {
     cuts_by_residue(&rt, alloc, &batch, 64, &[5, 8, 5])?;
     for workers in [0, 65] {
         let refused = Cut::by_residue(alloc, &batch, workers).err();
-        assert_eq!(rt; refused, Some(CutError::BadWorkers));
+        same(&rt, &refused, &Some(CutError::BadWorkers));
     }
-    assert_eq!(rt; CutError::BadWorkers.code(), 2);
-    assert_eq!(rt; CutError::OutOfMemory.code(), 7);
+    same(&rt, &CutError::BadWorkers.code(), &2);
+    same(&rt, &CutError::OutOfMemory.code(), &7);
     Ok(())
 }
 
@@ -72,8 +74,12 @@ fn cuts_by_ranges(
     lanes: &[u8],
 ) -> Result<(), Fail> {
     let cut = Cut::by_ranges(alloc, batch, bounds)?;
-    assert_eq!(rt; cut.lanes(), lanes, "{bounds:?}");
-    assert_eq!(rt; usize::from(cut.workers()), bounds.len().wrapping_add(1));
+    same_for(rt, &cut.lanes(), &lanes, &bounds);
+    same(
+        rt,
+        &usize::from(cut.workers()),
+        &bounds.len().wrapping_add(1),
+    );
     Ok(())
 }
 
@@ -86,7 +92,7 @@ fn refuses_ranges(
     refusal: CutError,
 ) {
     let refused = Cut::by_ranges(alloc, batch, bounds).err();
-    assert_eq!(rt; refused, Some(refusal), "{bounds:?}");
+    same_for(rt, &refused, &Some(refusal), &bounds);
 }
 
 #[test]
@@ -130,8 +136,8 @@ fn takes_lanes(
     given: &[u8],
 ) -> Result<(), Fail> {
     let lanes = Lanes::new(batch, workers, given.to_vec(alloc)?)?;
-    assert_eq!(rt; lanes.lanes(), given);
-    assert_eq!(rt; lanes.workers(), workers);
+    same(rt, &lanes.lanes(), &given);
+    same(rt, &lanes.workers(), &workers);
     Ok(())
 }
 
@@ -144,7 +150,7 @@ fn refuses_lanes(
     refusal: CutError,
 ) -> Result<(), Fail> {
     let refused = Lanes::new(batch, workers, lanes.to_vec(alloc)?).err();
-    assert_eq!(rt; refused, Some(refusal), "{workers} {lanes:?}");
+    same_for(rt, &refused, &Some(refusal), &(workers, lanes));
     Ok(())
 }
 
@@ -170,9 +176,8 @@ fn is_told(
     code: u8,
     text: &str,
 ) -> Result<(), Fail> {
-    assert_eq!(rt; error.code(), code, "{text}");
-    assert_eq!(rt; error.to_string(alloc)?.as_str(), text);
-    Ok(())
+    same(rt, &error.code(), &code);
+    is_shown(rt, alloc, &error, text)
 }
 
 #[test]
@@ -206,7 +211,7 @@ fn refuses_cut(
     refusal: CutError,
 ) -> Result<(), Fail> {
     let refused = Cut::from_lanes(batch, workers, lanes.to_vec(alloc)?).err();
-    assert_eq!(rt; refused, Some(refusal), "{workers} {lanes:?}");
+    same_for(rt, &refused, &Some(refusal), &(workers, lanes));
     Ok(())
 }
 
@@ -219,10 +224,10 @@ fn is_cut_from(
     given: &[u8],
 ) -> Result<(), Fail> {
     let cut = Cut::from_lanes(batch, workers, given.to_vec(alloc)?)?;
-    assert_eq!(rt; (cut.workers(), cut.is_for(batch)), (workers, true));
+    same(rt, &(cut.workers(), cut.is_for(batch)), &(workers, true));
     let lanes = cut.into_lanes();
-    assert_eq!(rt; lanes.lanes(), given);
-    assert_eq!(rt; lanes.workers(), workers);
+    same(rt, &lanes.lanes(), &given);
+    same(rt, &lanes.workers(), &workers);
     Ok(())
 }
 
@@ -263,11 +268,14 @@ fn the_first_split_key_is_told(rt: HostRuntime) -> Result<(), Fail> {
     Ok(())
 }
 
-// Two finds on each of 2,047 keys, most of which share a bucket, and then one more on the first key.
+// How many keys the full batch has.
+const KEYS: u64 = 2047;
+
+// Two finds on each of those keys, most of which share a bucket, and then two more on the first key.
 fn full_batch(alloc: Global) -> Result<Batch, Fail> {
     let mut ops = Vec::new(alloc);
-    for n in 0..4095 {
-        ops.push(Op::Find(n % 2047 * 4181))?;
+    for n in 0..4095u64 {
+        ops.push(Op::Find((n % KEYS).wrapping_mul(4181)))?;
     }
     ops.push(Op::Find(0))?;
     Ok(Batch::new(ops)?)
@@ -276,8 +284,8 @@ fn full_batch(alloc: Global) -> Result<Batch, Fail> {
 // The lanes of those finds by their keys, but the last, which is given.
 fn lanes_with(alloc: Global, last: u8) -> Result<Vec<u8>, Fail> {
     let mut lanes = Vec::new(alloc);
-    for n in 0..4095 {
-        lanes.push((n % 2047 % 2) as u8)?;
+    for n in 0..4095u64 {
+        lanes.push(u8::from(n % KEYS % 2 == 1))?;
     }
     lanes.push(last)?;
     Ok(lanes)
@@ -302,7 +310,7 @@ fn is_for(
     expected: bool,
 ) -> Result<(), Fail> {
     let batch = batch_of(alloc, ops)?;
-    assert_eq!(rt; cut.is_for(&batch), expected, "{ops:?}");
+    same_for(rt, &cut.is_for(&batch), &expected, &ops);
     Ok(())
 }
 

@@ -1,9 +1,9 @@
 //! The index at rest.
 mod schedules;
 
-use crate::fixtures::are_entries;
 use crate::fixtures::stores::{has_leftmost, has_pages, page_at};
 use crate::fixtures::worlds::{after, full_leaf, two_leaves};
+use crate::fixtures::{are_entries, is_shown, same, same_for};
 use blink_batch::{Entry, Op};
 use blink_index::{Index, IndexError, OrDash, push_entries};
 use blink_rest::Rest;
@@ -41,7 +41,7 @@ fn two(rt: &impl Abort, alloc: Global) -> Result<Index, Fail> {
 
 // The index is this text.
 fn is_text(rt: &impl Abort, alloc: Global, index: &Index, text: &str) -> Result<(), Fail> {
-    assert_eq!(rt; index.dump(alloc)?.as_str(), text);
+    same(rt, &index.dump(alloc)?.as_str(), &text);
     Ok(())
 }
 
@@ -54,14 +54,14 @@ fn a_new_index_is_an_empty_leaf(rt: HostRuntime) -> Result<(), Fail> {
 #[test]
 fn four_entries_fit_one_page(rt: HostRuntime) -> Result<(), Fail> {
     let index = Index::from_rest(full_leaf(&rt, rt.alloc())?);
-    assert_eq!(rt; index.page_count(), 1);
+    same(&rt, &index.page_count(), &1);
     Ok(())
 }
 
 #[test]
 fn five_entries_take_three_pages(rt: HostRuntime) -> Result<(), Fail> {
     let index = five(&rt, rt.alloc())?;
-    assert_eq!(rt; index.page_count(), 3);
+    same(&rt, &index.page_count(), &3);
     is_text(&rt, rt.alloc(), &index, FIVE)
 }
 
@@ -76,7 +76,7 @@ fn an_empty_leaf_has_its_line(rt: HostRuntime) -> Result<(), Fail> {
 // The pointers of these keys.
 fn finds(rt: &impl Abort, index: &Index, pointers: &[(u64, Option<u64>)]) {
     for &(key, pointer) in pointers {
-        assert_eq!(rt; index.find(key), pointer, "at {key}");
+        same_for(rt, &index.find(key), &pointer, &key);
     }
 }
 
@@ -172,8 +172,9 @@ fn pages_first(
 ) -> Result<(), Fail> {
     let entries = paged(alloc, index, lo, n)?;
     let all = scanned(alloc, index, lo, u64::MAX)?;
-    assert_eq!(rt; entries.len(), count, "{n} from {lo}");
-    assert!(rt; all.as_slice().starts_with(&entries), "{n} from {lo}");
+    same_for(rt, &entries.len(), &count, &(lo, n));
+    let are_first = all.as_slice().starts_with(&entries);
+    same_for(rt, &are_first, &true, &(lo, n));
     Ok(())
 }
 
@@ -205,20 +206,20 @@ fn all_entries_are_given(rt: HostRuntime) -> Result<(), Fail> {
     let index = five(&rt, rt.alloc())?;
     let entries = index.entries(rt.alloc())?;
     let scanned = scanned(rt.alloc(), &index, 0, u64::MAX)?;
-    assert_eq!(rt; entries.len(), 5);
-    assert_eq!(rt; entries, scanned);
+    same(&rt, &entries.len(), &5);
+    same(&rt, &entries, &scanned);
     Ok(())
 }
 
 // Compares two trees of fan 4 with three pages, of which the last is the root: the prime blocks and the pages.
 fn compare(rt: &impl Abort, store: &Store, other: &Store) {
-    assert_eq!(rt; (store.fan(), other.fan()), (4, 4));
-    assert_eq!(rt; *store.prime(), *other.prime());
+    same(rt, &(store.fan(), other.fan()), &(4, 4));
+    same(rt, store.prime(), other.prime());
     has_leftmost(rt, store, &[1, 3]);
     has_pages(rt, store, 3);
     has_pages(rt, other, 3);
     for number in 1..4 {
-        assert_eq!(rt; *page_at(rt, store, number), *page_at(rt, other, number));
+        same(rt, page_at(rt, store, number), page_at(rt, other, number));
     }
     assert!(rt; store.is_same(other));
 }
@@ -255,7 +256,7 @@ fn a_fan_is_from_4_to_32(rt: HostRuntime) -> Result<(), Fail> {
     }
     for fan in [4, 32] {
         let index = Index::new(rt.alloc(), fan)?;
-        assert_eq!(rt; index.rest().store().fan(), fan);
+        same(&rt, &index.rest().store().fan(), &fan);
     }
     Ok(())
 }
@@ -268,10 +269,8 @@ fn is_told(
     code: u8,
     text: &str,
 ) -> Result<(), Fail> {
-    assert_eq!(rt; error.code(), code);
-    let shown = format!(in alloc; "{error}")?;
-    assert_eq!(rt; shown.as_str(), text);
-    Ok(())
+    same(rt, &error.code(), &code);
+    is_shown(rt, alloc, &error, text)
 }
 
 #[test]
@@ -285,6 +284,6 @@ fn refusals_are_told(rt: HostRuntime) -> Result<(), Fail> {
 fn words_of_a_line(rt: HostRuntime) -> Result<(), Fail> {
     let mut text = format!(in rt.alloc(); "{} {}", OrDash(Some(5)), OrDash(None))?;
     push_entries(&mut text, &[(3, 1), (9, 2)])?;
-    assert_eq!(rt; text.as_str(), "5 - 3:1 9:2");
+    same(&rt, &text.as_str(), &"5 - 3:1 9:2");
     Ok(())
 }

@@ -4,6 +4,7 @@ ghost use Rattle.blink_page.specs.declared.limits.TheConstants.{GREATEST_KEY};
 ghost use Rattle.blink_machine.specs.Machine.{fresh, at_state};
 
 use crate::fixtures::pages::{Bounds, has_bounds, has_entries, leaf_of};
+use crate::fixtures::same;
 use blink_batch::{Answer, Op};
 use blink_page::{GREATEST_KEY, MAX_PAGE, Page, Prime, Way};
 use blink_steps::{Machine, Need, State};
@@ -35,11 +36,11 @@ fn holds_leaf(rt: &impl Abort, prime: &Prime, leaf: &Page) -> Machine
     ensures { result ≡ at_state (fresh 4 (Op.Insert 5 50)) (State.Held 1) }
 {
     let mut machine = Machine::new(Op::Insert(5, 50), 4);
-    assert_eq!(rt; machine.need(), Need::ReadPrime);
+    same(rt, &machine.need(), &Need::ReadPrime);
     assert!(rt; machine.saw_prime(prime));
-    assert_eq!(rt; machine.need(), Need::ReadPage(1));
+    same(rt, &machine.need(), &Need::ReadPage(1));
     machine.saw_page(leaf);
-    assert_eq!(rt; machine.need(), Need::Latch(1));
+    same(rt, &machine.need(), &Need::Latch(1));
     machine.done(0);
     machine
 }
@@ -50,7 +51,7 @@ fn has_read_full_leaf(rt: &impl Abort, prime: &Prime) -> Machine
 {
     let leaf = full_leaf(rt);
     let mut machine = holds_leaf(rt, prime, &leaf);
-    assert_eq!(rt; machine.need(), Need::ReadPage(1));
+    same(rt, &machine.need(), &Need::ReadPage(1));
     machine.saw_page(&leaf);
     machine
 }
@@ -107,9 +108,9 @@ fn an_insertion_splits_a_leaf(rt: HostRuntime) {
     let of_right: Bounds = (Some(3), GREATEST_KEY, None);
     is_written(&rt, &right, 0, &[(4, 40), (5, 50)], of_right);
 
-    assert_eq!(rt; machine.answer(), None);
+    same(&rt, &machine.answer(), &None);
     let left = writes_over(&rt, &mut machine, 1);
-    assert_eq!(rt; machine.answer(), Some(Answer::Inserted));
+    same(&rt, &machine.answer(), &Some(Answer::Inserted));
     let of_left: Bounds = (None, 3, Some(2));
     is_written(&rt, &left, 0, &[(1, 10), (2, 20), (3, 30)], of_left);
 
@@ -119,18 +120,18 @@ fn an_insertion_splits_a_leaf(rt: HostRuntime) {
     is_written(&rt, &root, 1, &[(3, 1), (GREATEST_KEY, 2)], of_root);
 
     let grown = writes_prime(&rt, &mut machine);
-    assert_eq!(rt; grown.leftmost.as_slice(), [1, 3].as_slice());
+    same(&rt, &grown.leftmost.as_slice(), &[1, 3].as_slice());
     unlatches(&rt, &mut machine, 1);
-    assert_eq!(rt; machine.need(), Need::End);
+    same(&rt, &machine.need(), &Need::End);
     assert!(rt; machine.ended());
 }
 
 #[test]
 fn a_find_begins_at_the_root(rt: HostRuntime) {
     let mut machine = Machine::new(Op::Find(3), 4);
-    assert_eq!(rt; machine.target(), 3);
+    same(&rt, &machine.target(), &3);
     machine.saw_top(2, 7);
-    assert_eq!(rt; machine.need(), Need::ReadPage(7));
+    same(&rt, &machine.need(), &Need::ReadPage(7));
 }
 
 #[test]
@@ -138,10 +139,10 @@ fn a_find_is_told_its_way(rt: HostRuntime) {
     let leaf = full_leaf(&rt);
     let mut machine = Machine::new(Op::Find(3), 4);
     assert!(rt; machine.saw_prime(&Prime::new()));
-    assert_eq!(rt; machine.need(), Need::ReadPage(1));
+    same(&rt, &machine.need(), &Need::ReadPage(1));
     let way = leaf.way(3);
-    assert_eq!(rt; way, Way::Here);
+    same(&rt, &way, &Way::Here);
     machine.saw_way(way, leaf.look(3));
-    assert_eq!(rt; machine.answer(), Some(Answer::Found(30)));
+    same(&rt, &machine.answer(), &Some(Answer::Found(30)));
     assert!(rt; machine.ended());
 }

@@ -3,6 +3,7 @@ use crate::fixtures::pages::{
     Bounds, halves, halves_one_by_one, has_bounds, has_entries, leaf_of, post_to, put_into,
     swap_in, take_from,
 };
+use crate::fixtures::{same, same_for};
 use blink_page::{GREATEST_KEY, Page, Post, Prime, Put, Way};
 use std::process::Abort;
 
@@ -21,7 +22,7 @@ struct Split<'a> {
 // A page of fan 4 splits so.
 fn splits_into(rt: &impl Abort, page: &Page, expected: &Split) -> Page {
     let (lower, upper, separator) = halves(rt, page, 4, expected.entry, expected.new);
-    assert_eq!(rt; separator, expected.separator);
+    same(rt, &separator, &expected.separator);
     has_entries(rt, &lower, expected.lower);
     has_entries(rt, &upper, expected.upper);
     let of_lower: Bounds = (None, separator, Some(expected.new));
@@ -34,8 +35,8 @@ fn splits_into(rt: &impl Abort, page: &Page, expected: &Split) -> Page {
 #[test]
 fn a_full_leaf_splits(rt: HostRuntime) {
     let mut leaf = leaf_of(&rt, &[1, 2, 3, 4]);
-    assert_eq!(rt; put_into(&rt, &mut leaf, 4, 4, 7), Put::Present(40));
-    assert_eq!(rt; put_into(&rt, &mut leaf, 4, 5, 50), Put::Full);
+    same(&rt, &put_into(&rt, &mut leaf, 4, 4, 7), &Put::Present(40));
+    same(&rt, &put_into(&rt, &mut leaf, 4, 5, 50), &Put::Full);
     let expected = Split {
         level: 0,
         entry: (5, 50),
@@ -45,9 +46,9 @@ fn a_full_leaf_splits(rt: HostRuntime) {
         upper: &[(4, 40), (5, 50)],
     };
     let lower = splits_into(&rt, &leaf, &expected);
-    assert_eq!(rt; lower.way(3), Way::Here);
-    assert_eq!(rt; lower.way(4), Way::Right(2));
-    assert_eq!(rt; lower.way(0), Way::Here);
+    same(&rt, &lower.way(3), &Way::Here);
+    same(&rt, &lower.way(4), &Way::Right(2));
+    same(&rt, &lower.way(0), &Way::Here);
 }
 
 #[test]
@@ -61,15 +62,19 @@ fn halves_are_the_same_one_by_one(rt: HostRuntime) {
 #[test]
 fn the_least_and_the_greatest_key_are_found(rt: HostRuntime) {
     let mut page = Page::leaf();
-    assert_eq!(rt; put_into(&rt, &mut page, 4, GREATEST_KEY, 2), Put::Done);
-    assert_eq!(rt; put_into(&rt, &mut page, 4, 0, 1), Put::Done);
-    assert_eq!(rt; page.look(0), Some(1));
-    assert_eq!(rt; page.look(GREATEST_KEY), Some(2));
+    same(
+        &rt,
+        &put_into(&rt, &mut page, 4, GREATEST_KEY, 2),
+        &Put::Done,
+    );
+    same(&rt, &put_into(&rt, &mut page, 4, 0, 1), &Put::Done);
+    same(&rt, &page.look(0), &Some(1));
+    same(&rt, &page.look(GREATEST_KEY), &Some(2));
 
     let before = page.copy();
-    assert_eq!(rt; take_from(&rt, &mut page, 7), None);
-    assert_eq!(rt; page, before);
-    assert_eq!(rt; take_from(&rt, &mut page, 0), Some(1));
+    same(&rt, &take_from(&rt, &mut page, 7), &None);
+    same(&rt, &page, &before);
+    same(&rt, &take_from(&rt, &mut page, 0), &Some(1));
     has_entries(&rt, &page, &[(GREATEST_KEY, 2)]);
 }
 
@@ -77,29 +82,29 @@ fn the_least_and_the_greatest_key_are_found(rt: HostRuntime) {
 fn a_value_is_swapped_in_its_place(rt: HostRuntime) {
     let mut page = leaf_of(&rt, &[1, 2, 3]);
     for (value, before) in [(21, 20), (22, 21), (22, 22)] {
-        assert_eq!(rt; swap_in(&rt, &mut page, 2, value), Some(before));
+        same(&rt, &swap_in(&rt, &mut page, 2, value), &Some(before));
         has_entries(&rt, &page, &[(1, 10), (2, value), (3, 30)]);
     }
     let before = page.copy();
     for absent in [0, 4] {
-        assert_eq!(rt; swap_in(&rt, &mut page, absent, 7), None);
-        assert_eq!(rt; page, before);
+        same(&rt, &swap_in(&rt, &mut page, absent, 7), &None);
+        same(&rt, &page, &before);
     }
 }
 
 #[test]
 fn a_full_inner_page_splits(rt: HostRuntime) {
     let mut page = Page::root(1, 3, 1, 2);
-    assert_eq!(rt; post_to(&rt, &mut page, 6, 4), Post::Done);
-    assert_eq!(rt; post_to(&rt, &mut page, 9, 5), Post::Done);
+    same(&rt, &post_to(&rt, &mut page, 6, 4), &Post::Done);
+    same(&rt, &post_to(&rt, &mut page, 9, 5), &Post::Done);
     let entries = [(3, 1), (6, 2), (9, 4), (GREATEST_KEY, 5)];
     has_entries(&rt, &page, &entries);
-    assert_eq!(rt; page.way(3), Way::Down(1));
-    assert_eq!(rt; page.way(4), Way::Down(2));
-    assert_eq!(rt; page.way(10), Way::Down(5));
+    same(&rt, &page.way(3), &Way::Down(1));
+    same(&rt, &page.way(4), &Way::Down(2));
+    same(&rt, &page.way(10), &Way::Down(5));
 
-    assert_eq!(rt; post_to(&rt, &mut page, 9, 6), Post::Already);
-    assert_eq!(rt; post_to(&rt, &mut page, 12, 6), Post::Full);
+    same(&rt, &post_to(&rt, &mut page, 9, 6), &Post::Already);
+    same(&rt, &post_to(&rt, &mut page, 12, 6), &Post::Full);
     let expected = Split {
         level: 1,
         entry: (12, 6),
@@ -116,7 +121,7 @@ fn one_posting_overtakes_another(rt: HostRuntime) {
     for postings in [[(6, 7), (3, 8)], [(3, 8), (6, 7)]] {
         let mut page = Page::root(1, 1, 9, 5);
         for (separator, child) in postings {
-            assert_eq!(rt; post_to(&rt, &mut page, separator, child), Post::Done);
+            same(&rt, &post_to(&rt, &mut page, separator, child), &Post::Done);
         }
         let entries = [(1, 9), (3, 5), (6, 8), (GREATEST_KEY, 7)];
         has_entries(&rt, &page, &entries);
@@ -127,7 +132,7 @@ fn one_posting_overtakes_another(rt: HostRuntime) {
 fn full_leaf(rt: &impl Abort, fan: u8) -> Page {
     let mut page = Page::leaf();
     for key in 0..u64::from(fan) {
-        assert_eq!(rt; put_into(rt, &mut page, fan, key, key), Put::Done);
+        same(rt, &put_into(rt, &mut page, fan, key, key), &Put::Done);
     }
     page
 }
@@ -137,7 +142,7 @@ fn parts_into(rt: &impl Abort, fan: u8, stay: usize, go: usize) {
     let page = full_leaf(rt, fan);
     let (lower, upper, _separator) = halves(rt, &page, fan, (100, 1), 2);
     let parts = (lower.items.len(), upper.items.len());
-    assert_eq!(rt; parts, (stay, go), "fan {fan}");
+    same_for(rt, &parts, &(stay, go), &fan);
 }
 
 #[test]
@@ -162,6 +167,6 @@ fn a_split_keeps_the_greater_part(rt: HostRuntime) {
 fn the_prime_block_grows(rt: HostRuntime) {
     let mut prime = Prime::new();
     prime.grow(3);
-    assert_eq!(rt; prime.leftmost.as_slice(), [1, 3].as_slice());
-    assert_eq!(rt; prime.copy(), prime);
+    same(&rt, &prime.leftmost.as_slice(), &[1, 3].as_slice());
+    same(&rt, &prime.copy(), &prime);
 }

@@ -1,5 +1,5 @@
 //! One thread's map, and the words of answers.
-use crate::fixtures::are_entries;
+use crate::fixtures::{are_entries, is_shown, same, same_for};
 use blink_batch::{Answer, Op, Plain};
 use std::alloc::Global;
 use std::process::Abort;
@@ -14,7 +14,7 @@ fn runs(
     expected: &[Answer],
 ) -> Result<(), Fail> {
     let answers = plain.run(alloc, ops)?;
-    assert_eq!(rt; answers.as_slice(), expected);
+    same(rt, &answers.as_slice(), &expected);
     Ok(())
 }
 
@@ -25,9 +25,9 @@ fn applies(
     ops: &[Op],
     expected: &[Answer],
 ) -> Result<(), Fail> {
-    assert_eq!(rt; ops.len(), expected.len());
+    same(rt, &ops.len(), &expected.len());
     for (op, answer) in ops.iter().zip(expected.iter()) {
-        assert_eq!(rt; plain.apply(*op)?, *answer, "{op:?}");
+        same_for(rt, &plain.apply(*op)?, answer, op);
     }
     Ok(())
 }
@@ -48,7 +48,7 @@ fn answers_alike(
     runs(rt, alloc, &mut at_once, ops, expected)?;
     let mut in_turn = Plain::new(alloc);
     applies(rt, &mut in_turn, ops, expected)?;
-    assert_eq!(rt; in_turn.entries(), at_once.entries());
+    same(rt, &in_turn.entries(), &at_once.entries());
     Ok(())
 }
 
@@ -137,20 +137,14 @@ fn replacements_change_what_is_there(rt: HostRuntime) -> Result<(), Fail> {
     Ok(())
 }
 
-// The words of an answer.
-fn has_words(rt: &impl Abort, alloc: Global, answer: Answer, words: &str) -> Result<(), Fail> {
-    assert_eq!(rt; answer.to_string(alloc)?.as_str(), words);
-    Ok(())
-}
-
 #[test]
 fn answers_have_their_words(rt: HostRuntime) -> Result<(), Fail> {
     let alloc = rt.alloc();
-    has_words(&rt, alloc, Answer::Found(7), "found 7")?;
-    has_words(&rt, alloc, Answer::Absent, "absent")?;
-    has_words(&rt, alloc, Answer::Inserted, "inserted")?;
-    has_words(&rt, alloc, Answer::Exists(7), "exists 7")?;
-    has_words(&rt, alloc, Answer::Removed(0), "removed 0")?;
+    is_shown(&rt, alloc, &Answer::Found(7), "found 7")?;
+    is_shown(&rt, alloc, &Answer::Absent, "absent")?;
+    is_shown(&rt, alloc, &Answer::Inserted, "inserted")?;
+    is_shown(&rt, alloc, &Answer::Exists(7), "exists 7")?;
+    is_shown(&rt, alloc, &Answer::Removed(0), "removed 0")?;
     let greatest = "replaced 18446744073709551615";
-    has_words(&rt, alloc, Answer::Replaced(u64::MAX), greatest)
+    is_shown(&rt, alloc, &Answer::Replaced(u64::MAX), greatest)
 }

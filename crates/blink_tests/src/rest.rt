@@ -1,7 +1,9 @@
 //! Trees at rest.
 use crate::fixtures::pages::{halves, leaf_of};
+use crate::fixtures::same;
 use crate::fixtures::stores::{
-    add_as, has_leftmost, has_pages, name_root, page_at, tree_of, write_over,
+    add_as, empty_store, empty_tree, has_leftmost, has_pages, name_root, page_at, tree_of,
+    write_over,
 };
 use blink_page::Page;
 use blink_rest::{Rest, at_rest};
@@ -12,35 +14,35 @@ use std::test::Fail;
 
 // The store is one of a new tree of this fan.
 fn is_new(rt: &impl Abort, store: &Store, fan: u8) {
-    assert_eq!(rt; store.fan(), fan);
+    same(rt, &store.fan(), &fan);
     has_pages(rt, store, 1);
     has_leftmost(rt, store, &[1]);
-    assert_eq!(rt; *page_at(rt, store, 1), Page::leaf());
+    same(rt, page_at(rt, store, 1), &Page::leaf());
 }
 
 // Whether the tree of the store is told to be at rest.
 fn is_at_rest(rt: &impl Abort, store: &Store, expected: bool) {
-    assert_eq!(rt; at_rest(store), expected);
+    same(rt, &at_rest(store), &expected);
 }
 
 #[test]
 fn an_empty_tree_has_one_page(rt: HostRuntime) -> Result<(), Fail> {
-    let rest = Rest::empty(rt.alloc(), 4)?;
+    let rest = empty_tree(&rt, rt.alloc(), 4)?;
     is_new(&rt, rest.store(), 4);
     Ok(())
 }
 
 #[test]
 fn a_new_store_is_at_rest(rt: HostRuntime) -> Result<(), Fail> {
-    is_at_rest(&rt, &Store::new(rt.alloc(), 4)?, true);
-    let rest = tree_of(&rt, Store::new(rt.alloc(), 16)?);
+    is_at_rest(&rt, &empty_store(&rt, rt.alloc(), 4)?, true);
+    let rest = tree_of(&rt, empty_store(&rt, rt.alloc(), 16)?);
     is_new(&rt, rest.store(), 16);
     Ok(())
 }
 
 #[test]
 fn a_copy_is_the_same_tree(rt: HostRuntime) -> Result<(), Fail> {
-    let rest = Rest::empty(rt.alloc(), 7)?;
+    let rest = empty_tree(&rt, rt.alloc(), 7)?;
     let copy = rest.copy(rt.alloc())?;
     assert!(rt; copy.is_same(&rest));
     is_new(&rt, copy.store(), 7);
@@ -53,7 +55,7 @@ fn two_leaves(rt: &impl Abort, alloc: Global, floor: bool, root: Page) -> Result
     let page = leaf_of(rt, &[1, 2, 3, 4]);
     let (lower, upper, _separator) = halves(rt, &page, 4, (5, 50), 2);
     let second = if floor { upper } else { leaf_of(rt, &[4, 5]) };
-    let mut store = Store::new(alloc, 4)?;
+    let mut store = empty_store(rt, alloc, 4)?;
     add_as(rt, &mut store, second, 2);
     add_as(rt, &mut store, root, 3);
     write_over(rt, &mut store, 1, lower);
@@ -75,8 +77,8 @@ fn a_tree_is_at_rest_once_its_root_is_named(rt: HostRuntime) -> Result<(), Fail>
 
 #[test]
 fn a_tree_with_an_entry_is_another_tree(rt: HostRuntime) -> Result<(), Fail> {
-    let rest = Rest::empty(rt.alloc(), 4)?;
-    let mut store = Store::new(rt.alloc(), 4)?;
+    let rest = empty_tree(&rt, rt.alloc(), 4)?;
+    let mut store = empty_store(&rt, rt.alloc(), 4)?;
     write_over(&rt, &mut store, 1, leaf_of(&rt, &[1]));
     let other = tree_of(&rt, store);
     assert!(rt; !other.is_same(&rest));

@@ -1,4 +1,5 @@
 //! Pages and prime blocks as rows of words.
+use crate::fixtures::{same, same_for};
 use arrayvec::ArrayVec;
 use blink_page::{GREATEST_KEY, Page, Prime};
 use blink_rows::{Allowance, Counts, ROW_WORDS, Span, page_row, prime_row, row_page, row_prime};
@@ -42,16 +43,16 @@ fn leaf_row(rt: &impl Abort) -> [u64; ROW_WORDS] {
 
 #[test]
 fn a_span_has_the_numbers_below_its_stop(rt: HostRuntime) {
-    assert_eq!(rt; Span { next: 3, stop: 24 }.len(), 21);
-    assert_eq!(rt; Span { next: 24, stop: 24 }.len(), 0);
-    assert_eq!(rt; Span { next: 25, stop: 24 }.len(), 0);
+    same(&rt, &Span { next: 3, stop: 24 }.len(), &21);
+    same(&rt, &Span { next: 24, stop: 24 }.len(), &0);
+    same(&rt, &Span { next: 25, stop: 24 }.len(), &0);
 }
 
 // A table for so many pages and such an allowance has these counts.
 fn has_counts(rt: &impl Abort, pages: u32, inserts: u32, deletes: u32, counts: Counts) {
     assert!(rt; pages <= 3 && inserts <= 2);
     let allowance = Allowance { inserts, deletes };
-    assert_eq!(rt; Counts::of(pages, allowance), counts);
+    same(rt, &Counts::of(pages, allowance), &counts);
 }
 
 #[test]
@@ -66,15 +67,15 @@ fn a_table_has_room_for_its_allowance(rt: HostRuntime) {
         rows: 46,
     };
     has_counts(&rt, 1, 1, 0, of_one_page);
-    assert_eq!(rt; of_one_page.row_start(1), 48);
-    assert_eq!(rt; of_one_page.row_start(2), 118);
-    assert_eq!(rt; of_one_page.row_start(46), 3198);
+    same(&rt, &of_one_page.row_start(1), &48);
+    same(&rt, &of_one_page.row_start(2), &118);
+    same(&rt, &of_one_page.row_start(46), &3198);
 }
 
 // The row of the page is these words, and they are read as the page.
 fn is_row_of(rt: &impl Abort, page: Page, words: &[u64; ROW_WORDS]) {
-    assert_eq!(rt; page_row(&page), *words);
-    assert_eq!(rt; row_page(words), Some(page));
+    same(rt, &page_row(&page), words);
+    same(rt, &row_page(words), &Some(page));
 }
 
 #[test]
@@ -100,15 +101,15 @@ fn a_prime_block_has_its_leftmost_pages(rt: HostRuntime) {
     prime.grow(6);
     prime.grow(8);
     let words = row_with(&rt, &[0, 0, 0, 0, 0, 3, 1, 6, 8]);
-    assert_eq!(rt; prime_row(&prime), words);
-    assert_eq!(rt; row_prime(&words), Some(prime));
+    same(&rt, &prime_row(&prime), &words);
+    same(&rt, &row_prime(&words), &Some(prime));
 }
 
 // The row is none of a page with any of these words alone changed.
 fn are_no_page(rt: &impl Abort, row: &[u64; ROW_WORDS], changes: &[(usize, u64)]) {
     for &(at, word) in changes {
         let words = row_but(rt, row, at, word);
-        assert!(rt; row_page(&words).is_none(), "word {at} is {word}");
+        same_for(rt, &row_page(&words), &None, &(at, word));
     }
 }
 
@@ -163,7 +164,7 @@ fn words_that_are_no_inner_page(rt: HostRuntime) {
 fn are_no_prime_block(rt: &impl Abort, row: &[u64; ROW_WORDS], changes: &[(usize, u64)]) {
     for &(at, word) in changes {
         let words = row_but(rt, row, at, word);
-        assert!(rt; row_prime(&words).is_none(), "word {at} is {word}");
+        same_for(rt, &row_prime(&words), &None, &(at, word));
     }
 }
 

@@ -1,4 +1,5 @@
 //! Numbers and scripts.
+use crate::fixtures::{is_shown, same, same_for};
 use blink_batch::{Op, Part, RecordError, ScriptError, read_number, read_script};
 use std::alloc::{AllocError, Global};
 use std::io;
@@ -9,7 +10,7 @@ use std::test::Fail;
 // The texts are the spellings of these numbers, or of none.
 fn spell(rt: &impl Abort, number: Option<u64>, texts: &[&[u8]]) {
     for text in texts {
-        assert_eq!(rt; read_number(text), number, "{text:?}");
+        same_for(rt, &read_number(text), &number, text);
     }
 }
 
@@ -44,9 +45,9 @@ fn is_wanted(part: &Part, wanted: &Wanted) -> bool {
 // The text is a script of these parts.
 fn reads_as(rt: &impl Abort, alloc: Global, text: &[u8], expected: &[Wanted]) -> Result<(), Fail> {
     let script = read_script(alloc, text)?;
-    assert_eq!(rt; script.parts.len(), expected.len(), "{text:?}");
+    same_for(rt, &script.parts.len(), &expected.len(), &text);
     for (part, wanted) in script.parts.iter().zip(expected.iter()) {
-        assert!(rt; is_wanted(part, wanted), "{wanted:?}");
+        same_for(rt, &is_wanted(part, wanted), &true, wanted);
     }
     Ok(())
 }
@@ -122,7 +123,7 @@ fn pages_stand_between_batches(rt: HostRuntime) -> Result<(), Fail> {
 // The text is refused.
 fn refuses(rt: &impl Abort, alloc: Global, text: &[u8], refusal: ScriptError) {
     let refused = read_script(alloc, text).err();
-    assert_eq!(rt; refused, Some(refusal), "{text:?}");
+    same_for(rt, &refused, &Some(refusal), &text);
 }
 
 // Each text is refused for its first record.
@@ -229,7 +230,7 @@ fn refuses_long(
 ) -> Result<(), Fail> {
     let text = long_script(alloc, finds, last)?;
     let refused = read_script(alloc, text.as_bytes()).err();
-    assert_eq!(rt; refused, Some(refusal), "{last}");
+    same_for(rt, &refused, &Some(refusal), &last);
     Ok(())
 }
 
@@ -286,9 +287,8 @@ fn is_told(
     code: u8,
     text: &str,
 ) -> Result<(), Fail> {
-    assert_eq!(rt; error.code(), code, "{text}");
-    assert_eq!(rt; error.to_string(alloc)?.as_str(), text);
-    Ok(())
+    same(rt, &error.code(), &code);
+    is_shown(rt, alloc, &error, text)
 }
 
 #[test]
@@ -311,7 +311,7 @@ fn refusals_have_their_codes_and_texts(rt: HostRuntime) -> Result<(), Fail> {
     is_told(&rt, alloc, many, 14, "row 8193: too many operations")?;
     is_told(&rt, alloc, ScriptError::Read, 15, "read failed")?;
     is_told(&rt, alloc, ScriptError::OutOfMemory, 16, "out of memory")?;
-    assert_eq!(rt; RecordError::BadNumber.code(), 12);
+    same(&rt, &RecordError::BadNumber.code(), &12);
     Ok(())
 }
 
@@ -344,11 +344,8 @@ fn a_reader_that_fails_is_told(rt: HostRuntime) -> Result<(), Fail> {
     let text = b"insert,5,50\nfind,5,\n";
     for calls in 0..=text.len() {
         let reader = Failing { text, calls };
-        assert_eq!(rt;
-            read_script(rt.alloc(), reader).err(),
-            Some(ScriptError::Read),
-            "{calls}"
-        );
+        let refused = read_script(rt.alloc(), reader).err();
+        same_for(&rt, &refused, &Some(ScriptError::Read), &calls);
     }
     Ok(())
 }

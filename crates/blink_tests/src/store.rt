@@ -1,6 +1,9 @@
 //! Stores and latches.
 use crate::fixtures::pages::{halves, leaf_of};
-use crate::fixtures::stores::{add_as, has_leftmost, has_pages, name_root, page_at, write_over};
+use crate::fixtures::stores::{
+    add_as, empty_store, has_leftmost, has_pages, name_root, page_at, write_over,
+};
+use crate::fixtures::{is_shown, same};
 use blink_page::{MAX_PAGE, Page};
 use blink_store::{Latches, Store, StoreError};
 use std::alloc::Global;
@@ -9,13 +12,13 @@ use std::test::Fail;
 
 // Page `number` of the store is this one.
 fn is_page(rt: &impl Abort, store: &Store, number: u32, page: &Page) {
-    assert_eq!(rt; *page_at(rt, store, number), *page);
+    same(rt, page_at(rt, store, number), page);
 }
 
 #[test]
 fn a_new_store_has_an_empty_leaf(rt: HostRuntime) -> Result<(), Fail> {
-    let store = Store::new(rt.alloc(), 4)?;
-    assert_eq!(rt; store.fan(), 4);
+    let store = empty_store(&rt, rt.alloc(), 4)?;
+    same(&rt, &store.fan(), &4);
     has_pages(&rt, &store, 1);
     has_leftmost(&rt, &store, &[1]);
     is_page(&rt, &store, 1, &Page::leaf());
@@ -24,7 +27,7 @@ fn a_new_store_has_an_empty_leaf(rt: HostRuntime) -> Result<(), Fail> {
 
 #[test]
 fn a_split_page_is_written_in_two(rt: HostRuntime) -> Result<(), Fail> {
-    let mut store = Store::new(rt.alloc(), 4)?;
+    let mut store = empty_store(&rt, rt.alloc(), 4)?;
     let page = leaf_of(&rt, &[1, 2, 3, 4]);
     let (lower, upper, _separator) = halves(&rt, &page, 4, (5, 50), 2);
     add_as(&rt, &mut store, upper.copy(), 2);
@@ -44,7 +47,7 @@ fn a_split_page_is_written_in_two(rt: HostRuntime) -> Result<(), Fail> {
 
 // A store of fan 5 with three pages.
 fn three_pages(rt: &impl Abort, alloc: Global) -> Result<Store, Fail> {
-    let mut store = Store::new(alloc, 5)?;
+    let mut store = empty_store(rt, alloc, 5)?;
     add_as(rt, &mut store, Page::leaf(), 2);
     add_as(rt, &mut store, Page::root(1, 3, 1, 2), 3);
     name_root(rt, &mut store, 3);
@@ -56,8 +59,8 @@ fn a_copy_has_the_same_pages(rt: HostRuntime) -> Result<(), Fail> {
     let store = three_pages(&rt, rt.alloc())?;
     let copy = store.copy(rt.alloc())?;
     assert!(rt; copy.is_same(&store));
-    assert_eq!(rt; (copy.fan(), copy.pages()), (5, 3));
-    assert_eq!(rt; *copy.prime(), *store.prime());
+    same(&rt, &(copy.fan(), copy.pages()), &(5, 3));
+    same(&rt, copy.prime(), store.prime());
     for number in 1..4 {
         is_page(&rt, &copy, number, page_at(&rt, &store, number));
     }
@@ -66,13 +69,13 @@ fn a_copy_has_the_same_pages(rt: HostRuntime) -> Result<(), Fail> {
 
 // Whether the two are the same store.
 fn is_same(rt: &impl Abort, store: &Store, other: &Store, expected: bool) {
-    assert_eq!(rt; store.is_same(other), expected);
+    same(rt, &store.is_same(other), &expected);
 }
 
 #[test]
 fn stores_that_differ_are_told_apart(rt: HostRuntime) -> Result<(), Fail> {
-    let mut store = Store::new(rt.alloc(), 4)?;
-    is_same(&rt, &store, &Store::new(rt.alloc(), 5)?, false);
+    let mut store = empty_store(&rt, rt.alloc(), 4)?;
+    is_same(&rt, &store, &empty_store(&rt, rt.alloc(), 5)?, false);
 
     let mut other = store.copy(rt.alloc())?;
     name_root(&rt, &mut other, 1);
@@ -89,13 +92,13 @@ fn stores_that_differ_are_told_apart(rt: HostRuntime) -> Result<(), Fail> {
 
 #[test]
 fn the_numbers_run_out(rt: HostRuntime) -> Result<(), Fail> {
-    let mut store = Store::new(rt.alloc(), 4)?;
+    let mut store = empty_store(&rt, rt.alloc(), 4)?;
     for _ in 1..MAX_PAGE {
         let page = store.add(Page::leaf());
         assert!(rt; page.is_ok());
     }
     has_pages(&rt, &store, MAX_PAGE);
-    assert_eq!(rt; store.add(Page::leaf()), Err(StoreError::OutOfPages));
+    same(&rt, &store.add(Page::leaf()), &Err(StoreError::OutOfPages));
     has_pages(&rt, &store, MAX_PAGE);
     Ok(())
 }
@@ -103,17 +106,17 @@ fn the_numbers_run_out(rt: HostRuntime) -> Result<(), Fail> {
 #[test]
 fn a_latch_has_one_holder(rt: HostRuntime) {
     let mut latches = Latches::new();
-    assert_eq!(rt; latches.holder(1), None);
+    same(&rt, &latches.holder(1), &None);
     assert!(rt; latches.try_latch(1, 0));
-    assert_eq!(rt; latches.holder(1), Some(0));
+    same(&rt, &latches.holder(1), &Some(0));
     assert!(rt; !latches.try_latch(1, 1));
-    assert_eq!(rt; latches.holder(1), Some(0));
+    same(&rt, &latches.holder(1), &Some(0));
     latches.unlatch(1, 0);
-    assert_eq!(rt; latches.holder(1), None);
+    same(&rt, &latches.holder(1), &None);
     assert!(rt; latches.try_latch(1, 1));
-    assert_eq!(rt; latches.holder(1), Some(1));
+    same(&rt, &latches.holder(1), &Some(1));
     assert!(rt; latches.try_latch(1_048_575, 63));
-    assert_eq!(rt; latches.holder(1_048_575), Some(63));
+    same(&rt, &latches.holder(1_048_575), &Some(63));
 }
 
 // The code and the text of a refusal.
@@ -124,10 +127,8 @@ fn is_told(
     code: u8,
     text: &str,
 ) -> Result<(), Fail> {
-    assert_eq!(rt; error.code(), code);
-    let shown = format!(in alloc; "{error}")?;
-    assert_eq!(rt; shown.as_str(), text);
-    Ok(())
+    same(rt, &error.code(), &code);
+    is_shown(rt, alloc, &error, text)
 }
 
 #[test]

@@ -1,5 +1,6 @@
 //! Batches of two workers under each schedule of their first twelve turns.
-use crate::fixtures::worlds::{full_leaf, has_answers, has_order, tree_after, world_of};
+use crate::fixtures::same_for;
+use crate::fixtures::worlds::{finish, full_leaf, has_answers, has_order, tree_after, world_of};
 use blink_batch::{Answer, Op};
 use blink_index::Index;
 use blink_steps::World;
@@ -34,7 +35,7 @@ fn ended(
 ) -> Result<World, Fail> {
     let tree = index.copy(alloc)?.into_rest();
     let mut world = world_of(alloc, tree, ops, 2, lanes, &schedule_of(number))?;
-    world.finish()?;
+    finish(&mut world)?;
     Ok(world)
 }
 
@@ -72,7 +73,7 @@ fn gives_the_same_pages(
     let world = ended(alloc, index, &ops, &[0, 1, 0, 1, 1], number)?;
     has_answers(rt, &world, &answers);
     let after = index_after(rt, world);
-    assert_eq!(rt; after.dump(alloc)?.as_str(), dump, "schedule {number}");
+    same_for(rt, &after.dump(alloc)?.as_str(), &dump, &number);
     Ok(())
 }
 
@@ -131,7 +132,7 @@ fn replaces_in_order(
     };
     has_answers(rt, &world, &[Some(Answer::Inserted), Some(replaced)]);
     let after = index_after(rt, world);
-    assert_eq!(rt; after.find(5), Some(pointer), "schedule {number}");
+    same_for(rt, &after.find(5), &Some(pointer), &number);
     Ok(in_order)
 }
 

@@ -1,11 +1,11 @@
 //! Examples in which no page splits.
-use crate::fixtures::stores::{has_pages, keeps_entries, page_at};
+use crate::fixtures::stores::{empty_tree, has_pages, keeps_entries, page_at};
 use crate::fixtures::worlds::{
-    has_answers, has_order, has_schedule, is_at_end, takes, tree_after, turns_to, two_leaves,
-    world_of,
+    finish, has_answers, has_order, has_schedule, is_at_end, takes, tree_after, turns_to,
+    two_leaves, world_of,
 };
+use crate::fixtures::{is_shown, same};
 use blink_batch::{Answer, Op};
-use blink_rest::Rest;
 use blink_steps::Kind::{Latch, ReadPage, ReadPrime, Unlatch, WritePage};
 use blink_steps::{Step, StepError, World};
 use std::alloc::Global;
@@ -14,7 +14,7 @@ use std::test::Fail;
 
 #[test]
 fn an_insertion_takes_six_steps(rt: HostRuntime) -> Result<(), Fail> {
-    let rest = Rest::empty(rt.alloc(), 4)?;
+    let rest = empty_tree(&rt, rt.alloc(), 4)?;
     let mut world = world_of(rt.alloc(), rest, &[Op::Insert(1, 1)], 1, &[0], &[])?;
     let steps = [
         ReadPrime,
@@ -34,7 +34,7 @@ fn an_insertion_takes_six_steps(rt: HostRuntime) -> Result<(), Fail> {
 
 #[test]
 fn a_second_worker_waits_for_the_latch(rt: HostRuntime) -> Result<(), Fail> {
-    let rest = Rest::empty(rt.alloc(), 4)?;
+    let rest = empty_tree(&rt, rt.alloc(), 4)?;
     let ops = [Op::Insert(1, 1), Op::Insert(2, 2)];
     let mut world = world_of(rt.alloc(), rest, &ops, 2, &[0, 1], &[])?;
     takes(&rt, &mut world, 0, &[ReadPrime, ReadPage(1), Latch(1)]);
@@ -59,7 +59,7 @@ fn an_empty_leaf_stays(rt: HostRuntime) -> Result<(), Fail> {
     let ops = [Op::Delete(1), Op::Delete(2), Op::Delete(3), Op::Find(3)];
     let rest = two_leaves(&rt, rt.alloc())?;
     let mut world = world_of(rt.alloc(), rest, &ops, 1, &[0; 4], &[])?;
-    world.finish()?;
+    finish(&mut world)?;
     let answers = [
         Some(Answer::Removed(10)),
         Some(Answer::Removed(20)),
@@ -70,7 +70,7 @@ fn an_empty_leaf_stays(rt: HostRuntime) -> Result<(), Fail> {
     let rest = tree_after(&rt, world);
     has_pages(&rt, rest.store(), 3);
     keeps_entries(&rt, rest.store(), 1, &[]);
-    assert_eq!(rt; page_at(&rt, rest.store(), 1).high, 3);
+    same(&rt, &page_at(&rt, rest.store(), 1).high, &3);
     Ok(())
 }
 
@@ -136,9 +136,9 @@ fn a_replacement_writes_its_leaf_once(rt: HostRuntime) -> Result<(), Fail> {
 
 #[test]
 fn a_number_that_is_no_workers_takes_no_turn(rt: HostRuntime) -> Result<(), Fail> {
-    let rest = Rest::empty(rt.alloc(), 4)?;
+    let rest = empty_tree(&rt, rt.alloc(), 4)?;
     let mut world = world_of(rt.alloc(), rest, &[Op::Find(7)], 1, &[0], &[])?;
-    assert_eq!(rt; world.step(1), Err(StepError::NoWorker(1)));
+    same(&rt, &world.step(1), &Err(StepError::NoWorker(1)));
     has_schedule(&rt, &world, &[]);
     takes(&rt, &mut world, 0, &[ReadPrime, ReadPage(1)]);
     has_answers(&rt, &world, &[Some(Answer::Absent)]);
@@ -154,10 +154,8 @@ fn is_told(
     code: u8,
     text: &str,
 ) -> Result<(), Fail> {
-    assert_eq!(rt; error.code(), code);
-    let shown = format!(in alloc; "{error}")?;
-    assert_eq!(rt; shown.as_str(), text);
-    Ok(())
+    same(rt, &error.code(), &code);
+    is_shown(rt, alloc, &error, text)
 }
 
 #[test]

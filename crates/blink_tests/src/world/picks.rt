@@ -1,9 +1,9 @@
 //! Examples of picked turns and of waits.
-use crate::fixtures::stores::{has_leftmost, has_pages, keeps_entries};
-use crate::fixtures::worlds::{full_leaf, has_answers, tree_after, world_of};
+use crate::fixtures::same;
+use crate::fixtures::stores::{empty_tree, has_leftmost, has_pages, keeps_entries};
+use crate::fixtures::worlds::{finish, full_leaf, has_answers, tree_after, world_of};
 use blink_batch::{Answer, Op};
 use blink_page::GREATEST_KEY;
-use blink_rest::Rest;
 use blink_steps::World;
 use std::alloc::Global;
 use std::process::Abort;
@@ -12,31 +12,40 @@ use std::test::Fail;
 // Whether the worker's next turn would be a wait, and whether it is idle.
 fn is_seen(rt: &impl Abort, world: &World, worker: u8, waits: bool, idle: bool) {
     assert!(rt; worker < world.workers());
-    assert_eq!(rt; (world.waits(worker), world.is_idle(worker)), (waits, idle));
+    same(
+        rt,
+        &(world.waits(worker), world.is_idle(worker)),
+        &(waits, idle),
+    );
 }
 
 // The worker whose turn is next.
 fn picks(rt: &impl Abort, world: &World, picked: Option<u8>) {
-    assert_eq!(rt; world.pick(), picked);
+    same(rt, &world.pick(), &picked);
+}
+
+// The operation at this place has taken so many steps.
+fn has_moved(rt: &impl Abort, world: &World, place: u32, moves: u64) {
+    assert!(rt; (place as usize) < world.answers().len());
+    same(rt, &world.moves_of(place), &moves);
 }
 
 // The operations have taken so many steps, each at its place.
-fn has_moves(rt: &impl Abort, world: &World, moves: &[u64]) {
-    for (place, expected) in (0u32..).zip(moves.iter()) {
-        assert!(rt; (place as usize) < world.answers().len());
-        assert_eq!(rt; world.moves_of(place), *expected);
+fn have_moved(rt: &impl Abort, world: &World, moves: &[u64]) {
+    for (place, count) in (0u32..).zip(moves.iter()) {
+        has_moved(rt, world, place, *count);
     }
 }
 
 // Two workers with an insertion each into an empty tree, after these turns.
-fn two_insertions(alloc: Global, schedule: &[u8]) -> Result<World, Fail> {
+fn two_insertions(rt: &impl Abort, alloc: Global, schedule: &[u8]) -> Result<World, Fail> {
     let ops = [Op::Insert(1, 1), Op::Insert(2, 2)];
-    world_of(alloc, Rest::empty(alloc, 4)?, &ops, 2, &[0, 1], schedule)
+    world_of(alloc, empty_tree(rt, alloc, 4)?, &ops, 2, &[0, 1], schedule)
 }
 
 #[test]
 fn nobody_waits_at_the_start(rt: HostRuntime) -> Result<(), Fail> {
-    let world = two_insertions(rt.alloc(), &[])?;
+    let world = two_insertions(&rt, rt.alloc(), &[])?;
     picks(&rt, &world, Some(0));
     is_seen(&rt, &world, 0, false, true);
     is_seen(&rt, &world, 1, false, true);
@@ -45,13 +54,13 @@ fn nobody_waits_at_the_start(rt: HostRuntime) -> Result<(), Fail> {
 
 #[test]
 fn a_worker_waits_for_a_latch(rt: HostRuntime) -> Result<(), Fail> {
-    let mut world = two_insertions(rt.alloc(), &[0, 0, 0, 1, 1, 1])?;
+    let mut world = two_insertions(&rt, rt.alloc(), &[0, 0, 0, 1, 1, 1])?;
     picks(&rt, &world, Some(0));
     is_seen(&rt, &world, 0, false, false);
     is_seen(&rt, &world, 1, true, false);
-    has_moves(&rt, &world, &[3, 2]);
+    have_moved(&rt, &world, &[3, 2]);
 
-    world.finish()?;
+    finish(&mut world)?;
     picks(&rt, &world, None);
     is_seen(&rt, &world, 0, false, true);
     is_seen(&rt, &world, 1, false, true);
@@ -82,11 +91,11 @@ fn a_worker_waits_for_a_level(rt: HostRuntime) -> Result<(), Fail> {
     is_seen(&rt, &world, 0, false, false);
     is_seen(&rt, &world, 1, true, false);
     picks(&rt, &world, Some(0));
-    has_moves(&rt, &world, &[6, 7, 7, 9]);
+    have_moved(&rt, &world, &[6, 7, 7, 9]);
 
-    world.finish()?;
+    finish(&mut world)?;
     picks(&rt, &world, None);
-    has_moves(&rt, &world, &[10, 7, 7, 14]);
+    have_moved(&rt, &world, &[10, 7, 7, 14]);
     let picked = [0, 0, 0, 0, 1, 1, 1, 1, 1];
     assert!(rt; world.schedule().ends_with(picked.as_slice()));
     let rest = tree_after(&rt, world);

@@ -1,7 +1,10 @@
 //! Examples of one batch under several schedules.
-use crate::fixtures::worlds::{batch_of, full_leaf, has_answers, has_order, two_leaves, world_of};
+use crate::fixtures::same;
+use crate::fixtures::stores::empty_tree;
+use crate::fixtures::worlds::{
+    batch_of, finish, full_leaf, has_answers, has_order, two_leaves, world_of,
+};
 use blink_batch::{Answer, Lanes, Op};
-use blink_rest::Rest;
 use blink_steps::{StepError, replay};
 use std::alloc::Global;
 use std::process::Abort;
@@ -25,7 +28,7 @@ fn answers_alike(rt: &impl Abort, alloc: Global, schedule: &[u8]) -> Result<(), 
     ];
     let rest = two_leaves(rt, alloc)?;
     let mut world = world_of(alloc, rest, &ops, 2, &[0, 1, 1, 0, 0], schedule)?;
-    world.finish()?;
+    finish(&mut world)?;
     has_answers(rt, &world, &answers);
     Ok(())
 }
@@ -48,7 +51,7 @@ fn decides(
     let ops = [Op::Insert(5, 50), Op::Delete(5)];
     let rest = full_leaf(rt, alloc)?;
     let mut world = world_of(alloc, rest, &ops, 2, &[0, 1], schedule)?;
-    world.finish()?;
+    finish(&mut world)?;
     has_order(rt, &world, order);
     has_answers(rt, &world, &[Some(Answer::Inserted), Some(deleted)]);
     Ok(())
@@ -66,11 +69,11 @@ fn a_key_of_two_workers_is_answered_in_the_order_of_deciding(rt: HostRuntime) ->
 
 #[test]
 fn a_schedule_names_no_worker(rt: HostRuntime) -> Result<(), Fail> {
-    let rest = Rest::empty(rt.alloc(), 4)?;
+    let rest = empty_tree(&rt, rt.alloc(), 4)?;
     let batch = batch_of(rt.alloc(), &[Op::Find(7)])?;
     let lanes = Lanes::new(&batch, 1, [0].to_vec(rt.alloc())?)?;
     match replay(rt.alloc(), rest, batch, lanes, &[0, 3, 5]) {
-        Err(refusal) => assert_eq!(rt; refusal, StepError::NoWorker(3)),
+        Err(refusal) => same(&rt, &refusal, &StepError::NoWorker(3)),
         Ok(_) => panic!(rt; "a number that is no worker's took a turn"),
     }
     Ok(())

@@ -1,4 +1,5 @@
 //! What is to be seen of a world between two turns.
+use crate::fixtures::same;
 use crate::fixtures::stores::has_pages;
 use crate::fixtures::worlds::{full_leaf, world_of};
 use blink_batch::Op;
@@ -19,15 +20,15 @@ fn half_split(rt: &impl Abort, alloc: Global) -> Result<World, Fail> {
 fn the_latch_of_a_split_page_is_seen(rt: HostRuntime) -> Result<(), Fail> {
     let world = half_split(&rt, rt.alloc())?;
     has_pages(&rt, world.store(), 2);
-    assert_eq!(rt; world.latches().holder(1), Some(0));
-    assert_eq!(rt; world.latches().holder(2), None);
+    same(&rt, &world.latches().holder(1), &Some(0));
+    same(&rt, &world.latches().holder(2), &None);
     Ok(())
 }
 
 #[test]
 fn a_split_is_seen_half_finished(rt: HostRuntime) -> Result<(), Fail> {
     let world = half_split(&rt, rt.alloc())?;
-    assert_eq!(rt; world.workers(), 3);
+    same(&rt, &world.workers(), &3);
     assert!(rt; world.working(1).is_none());
     let Some(working) = world.working(0) else {
         return Err(Fail::new("worker 0 is idle"));
@@ -37,9 +38,9 @@ fn a_split_is_seen_half_finished(rt: HostRuntime) -> Result<(), Fail> {
         separator: 3,
         page: 2,
     };
-    assert_eq!(rt; working.place, 0);
+    same(&rt, &working.place, &0);
     assert!(rt; matches!(working.machine.state(), State::SplitOld(1, _, debt) if *debt == owed));
-    assert_eq!(rt; working.machine.job(), Job::Leaf);
+    same(&rt, &working.machine.job(), &Job::Leaf);
     assert!(rt; working.machine.remembered().is_empty());
     Ok(())
 }
@@ -50,7 +51,11 @@ fn a_split_goes_on(rt: HostRuntime) -> Result<(), Fail> {
     let Some(worker) = world.pick() else {
         return Err(Fail::new("nobody is picked"));
     };
-    assert_eq!(rt; worker, 0);
-    assert_eq!(rt; world.advance(worker)?, Step::Moved(Kind::WritePage(1)));
+    same(&rt, &worker, &0);
+    same(
+        &rt,
+        &world.advance(worker)?,
+        &Step::Moved(Kind::WritePage(1)),
+    );
     Ok(())
 }

@@ -1,5 +1,6 @@
 //! Examples in which pages split and roots grow.
 use crate::fixtures::pages::{Bounds, has_bounds};
+use crate::fixtures::same;
 use crate::fixtures::stores::{has_leftmost, has_pages, keeps_entries, page_at};
 use crate::fixtures::worlds::{
     full_leaf, has_answers, has_order, has_schedule, is_at_end, keys_to, takes, tree_after,
@@ -61,7 +62,7 @@ fn a_find_passes_a_half_finished_split(rt: HostRuntime) -> Result<(), Fail> {
     has_answers(&rt, &world, &answers);
     has_order(&rt, &world, &[0, 1]);
     assert!(rt; world.answers().len() == 2);
-    assert_eq!(rt; world.reads_of(1), 2);
+    same(&rt, &world.reads_of(1), &2);
     is_at_end(&rt, &world, false);
     Ok(())
 }
@@ -143,7 +144,7 @@ fn postings_overtake_each_other(rt: HostRuntime) -> Result<(), Fail> {
     takes(&rt, &mut world, 0, &growth);
     let posting = [ReadPrime, Latch(4), ReadPage(4), WritePage(4), Unlatch(4)];
     takes(&rt, &mut world, 1, &posting);
-    assert_eq!(rt; world.schedule().len(), 39);
+    same(&rt, &world.schedule().len(), &39);
     has_order(&rt, &world, &[0, 1, 2, 3]);
     has_both_postings(&rt, &tree_after(&rt, world));
     Ok(())
@@ -212,8 +213,12 @@ fn splits_at(
     has_pages(rt, store, 3);
     has_leftmost(rt, store, &[1, 3]);
     let (left, right) = (page_at(rt, store, 1), page_at(rt, store, 2));
-    assert_eq!(rt; (left.items.len(), left.high), (stay, separator));
-    assert_eq!(rt; (right.items.len(), right.floor), (go, Some(separator)));
+    same(rt, &(left.items.len(), left.high), &(stay, separator));
+    same(
+        rt,
+        &(right.items.len(), right.floor),
+        &(go, Some(separator)),
+    );
     keeps_entries(rt, store, 3, &[(separator, 1), (GREATEST_KEY, 2)]);
     Ok(())
 }
