@@ -1,10 +1,9 @@
 //! Lanes, and cuts of batches.
 use crate::fixtures::worlds::batch_of;
-use crate::fixtures::{is_shown, same, same_for};
+use crate::fixtures::{given, is_shown, same, same_for};
 use blink_batch::{Batch, Cut, CutError, Lanes, Op};
 use std::alloc::Global;
 use std::process::Abort;
-use std::test::Fail;
 
 // Whether the lanes are equal to these.
 fn is_equal(
@@ -14,20 +13,22 @@ fn is_equal(
     lanes: &Lanes,
     (workers, others): (u8, &[u8]),
     expected: bool,
-) -> Result<(), Fail> {
-    let other = Lanes::new(batch, workers, others.to_vec(alloc)?)?;
+) {
+    let other = given(
+        rt,
+        Lanes::new(batch, workers, given(rt, others.to_vec(alloc))),
+    );
     let equal = *lanes == other;
     same_for(rt, &equal, &expected, &(workers, others));
-    Ok(())
 }
 
 #[test]
-fn lanes_are_equal_with_their_workers(rt: HostRuntime) -> Result<(), Fail> {
+fn lanes_are_equal_with_their_workers(rt: HostRuntime) {
     let alloc = rt.alloc();
-    let batch = batch_of(alloc, &[Op::Insert(5, 50), Op::Find(6)])?;
-    let lanes = Lanes::new(&batch, 2, [0, 1].to_vec(alloc)?)?;
-    is_equal(&rt, alloc, &batch, &lanes, (2, &[0, 1]), true)?;
-    is_equal(&rt, alloc, &batch, &lanes, (3, &[0, 1]), false)?;
+    let batch = batch_of(&rt, alloc, &[Op::Insert(5, 50), Op::Find(6)]);
+    let lanes = given(&rt, Lanes::new(&batch, 2, given(&rt, [0, 1].to_vec(alloc))));
+    is_equal(&rt, alloc, &batch, &lanes, (2, &[0, 1]), true);
+    is_equal(&rt, alloc, &batch, &lanes, (3, &[0, 1]), false);
     is_equal(&rt, alloc, &batch, &lanes, (2, &[1, 1]), false)
 }
 
@@ -38,49 +39,34 @@ fn is_cut(rt: &impl Abort, cut: &Cut, lanes: &[u8], workers: u8) {
 }
 
 // The batch is cut among so many workers, by the remainder of each key, into these lanes.
-fn cuts_by_residue(
-    rt: &impl Abort,
-    alloc: Global,
-    batch: &Batch,
-    workers: u8,
-    lanes: &[u8],
-) -> Result<(), Fail> {
-    let cut = Cut::by_residue(alloc, batch, workers)?;
+fn cuts_by_residue(rt: &impl Abort, alloc: Global, batch: &Batch, workers: u8, lanes: &[u8]) {
+    let cut = given(rt, Cut::by_residue(alloc, batch, workers));
     is_cut(rt, &cut, lanes, workers);
-    Ok(())
 }
 
 #[test]
-fn cuts_by_the_remainder_of_the_key(rt: HostRuntime) -> Result<(), Fail> {
+fn cuts_by_the_remainder_of_the_key(rt: HostRuntime) {
     let alloc = rt.alloc();
-    let batch = batch_of(alloc, &[Op::Insert(5, 6), Op::Find(8), Op::Find(5)])?;
-    cuts_by_residue(&rt, alloc, &batch, 3, &[2, 2, 2])?;
-    cuts_by_residue(&rt, alloc, &batch, 64, &[5, 8, 5])?;
+    let batch = batch_of(&rt, alloc, &[Op::Insert(5, 6), Op::Find(8), Op::Find(5)]);
+    cuts_by_residue(&rt, alloc, &batch, 3, &[2, 2, 2]);
+    cuts_by_residue(&rt, alloc, &batch, 64, &[5, 8, 5]);
     for workers in [0, 65] {
         let refused = Cut::by_residue(alloc, &batch, workers).err();
         same(&rt, &refused, &Some(CutError::BadWorkers));
     }
     same(&rt, &CutError::BadWorkers.code(), &2);
     same(&rt, &CutError::OutOfMemory.code(), &7);
-    Ok(())
 }
 
 // The batch is cut at these bounds into these lanes.
-fn cuts_by_ranges(
-    rt: &impl Abort,
-    alloc: Global,
-    batch: &Batch,
-    bounds: &[u64],
-    lanes: &[u8],
-) -> Result<(), Fail> {
-    let cut = Cut::by_ranges(alloc, batch, bounds)?;
+fn cuts_by_ranges(rt: &impl Abort, alloc: Global, batch: &Batch, bounds: &[u64], lanes: &[u8]) {
+    let cut = given(rt, Cut::by_ranges(alloc, batch, bounds));
     same_for(rt, &cut.lanes(), &lanes, &bounds);
     same(
         rt,
         &usize::from(cut.workers()),
         &bounds.len().wrapping_add(1),
     );
-    Ok(())
 }
 
 // The bounds are refused for this batch.
@@ -96,49 +82,43 @@ fn refuses_ranges(
 }
 
 #[test]
-fn cuts_by_ranges_of_keys(rt: HostRuntime) -> Result<(), Fail> {
+fn cuts_by_ranges_of_keys(rt: HostRuntime) {
     let alloc = rt.alloc();
-    let batch = batch_of(alloc, &[Op::Insert(9, 1), Op::Insert(10, 1)])?;
-    cuts_by_ranges(&rt, alloc, &batch, &[9], &[0, 1])?;
+    let batch = batch_of(&rt, alloc, &[Op::Insert(9, 1), Op::Insert(10, 1)]);
+    cuts_by_ranges(&rt, alloc, &batch, &[9], &[0, 1]);
     let ops = [Op::Find(0), Op::Delete(3), Op::Find(4), Op::Find(u64::MAX)];
-    let batch = batch_of(alloc, &ops)?;
-    cuts_by_ranges(&rt, alloc, &batch, &[], &[0, 0, 0, 0])?;
-    cuts_by_ranges(&rt, alloc, &batch, &[3], &[0, 0, 1, 1])?;
-    cuts_by_ranges(&rt, alloc, &batch, &[0, 3, 7], &[0, 1, 2, 3])?;
-    cuts_by_ranges(&rt, alloc, &batch, &[1, 2, u64::MAX], &[0, 2, 2, 2])?;
+    let batch = batch_of(&rt, alloc, &ops);
+    cuts_by_ranges(&rt, alloc, &batch, &[], &[0, 0, 0, 0]);
+    cuts_by_ranges(&rt, alloc, &batch, &[3], &[0, 0, 1, 1]);
+    cuts_by_ranges(&rt, alloc, &batch, &[0, 3, 7], &[0, 1, 2, 3]);
+    cuts_by_ranges(&rt, alloc, &batch, &[1, 2, u64::MAX], &[0, 2, 2, 2]);
     refuses_ranges(&rt, alloc, &batch, &[9, 9], CutError::BadBounds);
     refuses_ranges(&rt, alloc, &batch, &[2, 4, 3], CutError::BadBounds);
-    Ok(())
 }
 
 // With 63 bounds there are 64 workers; with one bound more there would be too many, which is told before the order of the bounds.
 #[test]
-fn cuts_by_ranges_have_64_workers_at_most(rt: HostRuntime) -> Result<(), Fail> {
+fn cuts_by_ranges_have_64_workers_at_most(rt: HostRuntime) {
     let alloc = rt.alloc();
     let ops = [Op::Find(0), Op::Delete(3), Op::Find(4), Op::Find(u64::MAX)];
-    let batch = batch_of(alloc, &ops)?;
+    let batch = batch_of(&rt, alloc, &ops);
     let mut most = Vec::new(alloc);
     for bound in 0..63 {
-        most.push(bound)?;
+        given(&rt, most.push(bound));
     }
-    cuts_by_ranges(&rt, alloc, &batch, &most, &[0, 3, 4, 63])?;
-    most.push(5)?;
+    cuts_by_ranges(&rt, alloc, &batch, &most, &[0, 3, 4, 63]);
+    given(&rt, most.push(5));
     refuses_ranges(&rt, alloc, &batch, &most, CutError::BadWorkers);
-    Ok(())
 }
 
 // The lanes are taken, split keys or not.
-fn takes_lanes(
-    rt: &impl Abort,
-    alloc: Global,
-    batch: &Batch,
-    workers: u8,
-    given: &[u8],
-) -> Result<(), Fail> {
-    let lanes = Lanes::new(batch, workers, given.to_vec(alloc)?)?;
-    same(rt, &lanes.lanes(), &given);
+fn takes_lanes(rt: &impl Abort, alloc: Global, batch: &Batch, workers: u8, expected: &[u8]) {
+    let lanes = given(
+        rt,
+        Lanes::new(batch, workers, given(rt, expected.to_vec(alloc))),
+    );
+    same(rt, &lanes.lanes(), &expected);
     same(rt, &lanes.workers(), &workers);
-    Ok(())
 }
 
 // The lanes are refused, as lanes of any assignment.
@@ -148,57 +128,50 @@ fn refuses_lanes(
     batch: &Batch,
     (workers, lanes): (u8, &[u8]),
     refusal: CutError,
-) -> Result<(), Fail> {
-    let refused = Lanes::new(batch, workers, lanes.to_vec(alloc)?).err();
+) {
+    let refused = Lanes::new(batch, workers, given(rt, lanes.to_vec(alloc))).err();
     same_for(rt, &refused, &Some(refusal), &(workers, lanes));
-    Ok(())
 }
 
 #[test]
-fn lanes_may_split_a_key(rt: HostRuntime) -> Result<(), Fail> {
+fn lanes_may_split_a_key(rt: HostRuntime) {
     let alloc = rt.alloc();
-    let batch = batch_of(alloc, &[Op::Insert(5, 6), Op::Delete(5)])?;
-    takes_lanes(&rt, alloc, &batch, 2, &[1, 0])?;
-    takes_lanes(&rt, alloc, &batch, 64, &[63, 63])?;
-    refuses_lanes(&rt, alloc, &batch, (2, &[0, 2]), CutError::BadLane(1))?;
-    refuses_lanes(&rt, alloc, &batch, (2, &[2, 2]), CutError::BadLane(0))?;
-    refuses_lanes(&rt, alloc, &batch, (2, &[2]), CutError::WrongLength)?;
-    refuses_lanes(&rt, alloc, &batch, (2, &[0, 0, 0]), CutError::WrongLength)?;
-    refuses_lanes(&rt, alloc, &batch, (0, &[2]), CutError::BadWorkers)?;
+    let batch = batch_of(&rt, alloc, &[Op::Insert(5, 6), Op::Delete(5)]);
+    takes_lanes(&rt, alloc, &batch, 2, &[1, 0]);
+    takes_lanes(&rt, alloc, &batch, 64, &[63, 63]);
+    refuses_lanes(&rt, alloc, &batch, (2, &[0, 2]), CutError::BadLane(1));
+    refuses_lanes(&rt, alloc, &batch, (2, &[2, 2]), CutError::BadLane(0));
+    refuses_lanes(&rt, alloc, &batch, (2, &[2]), CutError::WrongLength);
+    refuses_lanes(&rt, alloc, &batch, (2, &[0, 0, 0]), CutError::WrongLength);
+    refuses_lanes(&rt, alloc, &batch, (0, &[2]), CutError::BadWorkers);
     refuses_lanes(&rt, alloc, &batch, (65, &[0, 0]), CutError::BadWorkers)
 }
 
 // The code and the text of a refusal.
-fn is_told(
-    rt: &impl Abort,
-    alloc: Global,
-    error: CutError,
-    code: u8,
-    text: &str,
-) -> Result<(), Fail> {
+fn is_told(rt: &impl Abort, alloc: Global, error: CutError, code: u8, text: &str) {
     same(rt, &error.code(), &code);
     is_shown(rt, alloc, &error, text)
 }
 
 #[test]
-fn refusals_are_told(rt: HostRuntime) -> Result<(), Fail> {
+fn refusals_are_told(rt: HostRuntime) {
     let alloc = rt.alloc();
-    is_told(&rt, alloc, CutError::BadWorkers, 2, "bad number of workers")?;
+    is_told(&rt, alloc, CutError::BadWorkers, 2, "bad number of workers");
     is_told(
         &rt,
         alloc,
         CutError::WrongLength,
         3,
         "wrong number of lanes",
-    )?;
-    is_told(&rt, alloc, CutError::BadLane(1), 4, "operation 1: bad lane")?;
+    );
+    is_told(&rt, alloc, CutError::BadLane(1), 4, "operation 1: bad lane");
     is_told(
         &rt,
         alloc,
         CutError::SplitKey(1),
         5,
         "operation 1: split key",
-    )?;
+    );
     is_told(&rt, alloc, CutError::BadBounds, 6, "bad bounds")
 }
 
@@ -209,44 +182,44 @@ fn refuses_cut(
     batch: &Batch,
     (workers, lanes): (u8, &[u8]),
     refusal: CutError,
-) -> Result<(), Fail> {
-    let refused = Cut::from_lanes(batch, workers, lanes.to_vec(alloc)?).err();
+) {
+    let refused = Cut::from_lanes(batch, workers, given(rt, lanes.to_vec(alloc))).err();
     same_for(rt, &refused, &Some(refusal), &(workers, lanes));
-    Ok(())
 }
 
 // The lanes are a cut of the batch, and the cut gives them back.
-fn is_cut_from(
-    rt: &impl Abort,
-    alloc: Global,
-    batch: &Batch,
-    workers: u8,
-    given: &[u8],
-) -> Result<(), Fail> {
-    let cut = Cut::from_lanes(batch, workers, given.to_vec(alloc)?)?;
+fn is_cut_from(rt: &impl Abort, alloc: Global, batch: &Batch, workers: u8, expected: &[u8]) {
+    let cut = given(
+        rt,
+        Cut::from_lanes(batch, workers, given(rt, expected.to_vec(alloc))),
+    );
     same(rt, &(cut.workers(), cut.is_for(batch)), &(workers, true));
     let lanes = cut.into_lanes();
-    same(rt, &lanes.lanes(), &given);
+    same(rt, &lanes.lanes(), &expected);
     same(rt, &lanes.workers(), &workers);
-    Ok(())
 }
 
 #[test]
-fn cuts_from_lanes_split_no_key(rt: HostRuntime) -> Result<(), Fail> {
+fn cuts_from_lanes_split_no_key(rt: HostRuntime) {
     let alloc = rt.alloc();
-    let batch = batch_of(alloc, &[Op::Insert(5, 50), Op::Find(5)])?;
-    refuses_cut(&rt, alloc, &batch, (2, &[0, 1]), CutError::SplitKey(1))?;
-    takes_lanes(&rt, alloc, &batch, 2, &[0, 1])?;
-    refuses_cut(&rt, alloc, &batch, (2, &[0, 2]), CutError::BadLane(1))?;
-    refuses_cut(&rt, alloc, &batch, (2, &[0]), CutError::WrongLength)?;
-    refuses_cut(&rt, alloc, &batch, (2, &[0, 0, 0]), CutError::WrongLength)?;
-    refuses_cut(&rt, alloc, &batch, (0, &[0]), CutError::BadWorkers)?;
-    refuses_cut(&rt, alloc, &batch, (65, &[0, 1]), CutError::BadWorkers)?;
+    let batch = batch_of(&rt, alloc, &[Op::Insert(5, 50), Op::Find(5)]);
+    refuses_cut(&rt, alloc, &batch, (2, &[0, 1]), CutError::SplitKey(1));
+    takes_lanes(&rt, alloc, &batch, 2, &[0, 1]);
+    refuses_cut(&rt, alloc, &batch, (2, &[0, 2]), CutError::BadLane(1));
+    refuses_cut(&rt, alloc, &batch, (2, &[0]), CutError::WrongLength);
+    refuses_cut(&rt, alloc, &batch, (2, &[0, 0, 0]), CutError::WrongLength);
+    refuses_cut(&rt, alloc, &batch, (0, &[0]), CutError::BadWorkers);
+    refuses_cut(&rt, alloc, &batch, (65, &[0, 1]), CutError::BadWorkers);
     is_cut_from(&rt, alloc, &batch, 2, &[0, 0])
 }
 
+// The lanes of 64 workers split a key, which is seen at this place.
+fn splits_at(rt: &impl Abort, alloc: Global, batch: &Batch, lanes: &[u8], place: u32) {
+    refuses_cut(rt, alloc, batch, (64, lanes), CutError::SplitKey(place))
+}
+
 #[test]
-fn the_first_split_key_is_told(rt: HostRuntime) -> Result<(), Fail> {
+fn the_first_split_key_is_told(rt: HostRuntime) {
     let ops = [
         Op::Find(7),
         Op::Insert(5, 1),
@@ -256,73 +229,64 @@ fn the_first_split_key_is_told(rt: HostRuntime) -> Result<(), Fail> {
         Op::Insert(7, 2),
     ];
     let alloc = rt.alloc();
-    let batch = batch_of(alloc, &ops)?;
-    for (lanes, place) in [
-        ([0, 1, 0, 2, 1, 0].as_slice(), 3),
-        ([0, 1, 0, 1, 1, 2].as_slice(), 4),
-        ([0, 1, 0, 1, 0, 63].as_slice(), 5),
-        ([0, 0, 1, 1, 0, 0].as_slice(), 2),
-    ] {
-        refuses_cut(&rt, alloc, &batch, (64, lanes), CutError::SplitKey(place))?;
-    }
-    Ok(())
+    let batch = batch_of(&rt, alloc, &ops);
+    splits_at(&rt, alloc, &batch, &[0, 1, 0, 2, 1, 0], 3);
+    splits_at(&rt, alloc, &batch, &[0, 1, 0, 1, 1, 2], 4);
+    splits_at(&rt, alloc, &batch, &[0, 1, 0, 1, 0, 63], 5);
+    splits_at(&rt, alloc, &batch, &[0, 0, 1, 1, 0, 0], 2)
 }
 
 // How many keys the full batch has.
 const KEYS: u64 = 2047;
 
 // Two finds on each of those keys, most of which share a bucket, and then two more on the first key.
-fn full_batch(alloc: Global) -> Result<Batch, Fail> {
+fn full_batch(rt: &impl Abort, alloc: Global) -> Batch {
     let mut ops = Vec::new(alloc);
     for n in 0..4095u64 {
-        ops.push(Op::Find((n % KEYS).wrapping_mul(4181)))?;
+        given(rt, ops.push(Op::Find((n % KEYS).wrapping_mul(4181))));
     }
-    ops.push(Op::Find(0))?;
-    Ok(Batch::new(ops)?)
+    given(rt, ops.push(Op::Find(0)));
+    given(rt, Batch::new(ops))
 }
 
 // The lanes of those finds by their keys, but the last, which is given.
-fn lanes_with(alloc: Global, last: u8) -> Result<Vec<u8>, Fail> {
+fn lanes_with(rt: &impl Abort, alloc: Global, last: u8) -> Vec<u8> {
     let mut lanes = Vec::new(alloc);
     for n in 0..4095u64 {
-        lanes.push(u8::from(n % KEYS % 2 == 1))?;
+        given(rt, lanes.push((n % KEYS % 2) as u8));
     }
-    lanes.push(last)?;
-    Ok(lanes)
+    given(rt, lanes.push(last));
+    lanes
 }
 
 #[test]
-fn split_keys_are_told_in_a_full_batch(rt: HostRuntime) -> Result<(), Fail> {
+fn split_keys_are_told_in_a_full_batch(rt: HostRuntime) {
     let alloc = rt.alloc();
-    let batch = full_batch(alloc)?;
-    let lanes = lanes_with(alloc, 0)?;
-    is_cut_from(&rt, alloc, &batch, 2, &lanes)?;
-    let lanes = lanes_with(alloc, 1)?;
+    let batch = full_batch(&rt, alloc);
+    let lanes = lanes_with(&rt, alloc, 0);
+    is_cut_from(&rt, alloc, &batch, 2, &lanes);
+    let lanes = lanes_with(&rt, alloc, 1);
     refuses_cut(&rt, alloc, &batch, (2, &lanes), CutError::SplitKey(4095))
 }
 
 // Whether a cut is one for the batch of these operations, too.
-fn is_for(
-    rt: &impl Abort,
-    alloc: Global,
-    cut: &Cut,
-    ops: &[Op],
-    expected: bool,
-) -> Result<(), Fail> {
-    let batch = batch_of(alloc, ops)?;
+fn is_for(rt: &impl Abort, alloc: Global, cut: &Cut, ops: &[Op], expected: bool) {
+    let batch = batch_of(rt, alloc, ops);
     same_for(rt, &cut.is_for(&batch), &expected, &ops);
-    Ok(())
 }
 
 #[test]
-fn cuts_are_for_batches(rt: HostRuntime) -> Result<(), Fail> {
+fn cuts_are_for_batches(rt: HostRuntime) {
     let alloc = rt.alloc();
-    let batch = batch_of(alloc, &[Op::Insert(5, 50), Op::Find(6)])?;
-    let cut = Cut::from_lanes(&batch, 2, [0, 1].to_vec(alloc)?)?;
-    is_for(&rt, alloc, &cut, &[Op::Insert(5, 50), Op::Find(6)], true)?;
-    is_for(&rt, alloc, &cut, &[Op::Delete(6), Op::Find(5)], true)?;
-    is_for(&rt, alloc, &cut, &[Op::Insert(5, 50), Op::Find(5)], false)?;
-    is_for(&rt, alloc, &cut, &[Op::Insert(5, 50)], false)?;
+    let batch = batch_of(&rt, alloc, &[Op::Insert(5, 50), Op::Find(6)]);
+    let cut = given(
+        &rt,
+        Cut::from_lanes(&batch, 2, given(&rt, [0, 1].to_vec(alloc))),
+    );
+    is_for(&rt, alloc, &cut, &[Op::Insert(5, 50), Op::Find(6)], true);
+    is_for(&rt, alloc, &cut, &[Op::Delete(6), Op::Find(5)], true);
+    is_for(&rt, alloc, &cut, &[Op::Insert(5, 50), Op::Find(5)], false);
+    is_for(&rt, alloc, &cut, &[Op::Insert(5, 50)], false);
     is_for(
         &rt,
         alloc,

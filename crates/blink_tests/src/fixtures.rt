@@ -11,7 +11,11 @@ use blink_batch::Entry;
 use std::alloc::Global;
 use std::fmt::{Debug, Display};
 use std::process::Abort;
-use std::test::Fail;
+
+// What a call gives, which is to succeed.
+pub fn given<T, E: Debug + Drop>(rt: &impl Abort, answer: Result<T, E>) -> T {
+    answer.expect(rt, "a call is refused")
+}
 
 // The two are equal.
 pub fn same<T: PartialEq + Debug>(rt: &impl Abort, value: &T, expected: &T) {
@@ -29,15 +33,9 @@ pub fn same_for<T: PartialEq + Debug, C: Debug>(
 }
 
 // The value is shown as this text.
-pub fn is_shown<T: Display>(
-    rt: &impl Abort,
-    alloc: Global,
-    value: &T,
-    text: &str,
-) -> Result<(), Fail> {
-    let shown = format!(in alloc; "{value}")?;
+pub fn is_shown<T: Display>(rt: &impl Abort, alloc: Global, value: &T, text: &str) {
+    let shown = given(rt, format!(in alloc; "{value}"));
     assert_eq!(rt; shown.as_str(), text);
-    Ok(())
 }
 
 // The entries are these keys with these pointers.

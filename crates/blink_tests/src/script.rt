@@ -1,11 +1,10 @@
 //! Numbers and scripts.
-use crate::fixtures::{is_shown, same, same_for};
+use crate::fixtures::{given, is_shown, same, same_for};
 use blink_batch::{Op, Part, RecordError, ScriptError, read_number, read_script};
-use std::alloc::{AllocError, Global};
+use std::alloc::Global;
 use std::io;
 use std::io::Read;
 use std::process::Abort;
-use std::test::Fail;
 
 // The texts are the spellings of these numbers, or of none.
 fn spell(rt: &impl Abort, number: Option<u64>, texts: &[&[u8]]) {
@@ -43,25 +42,23 @@ fn is_wanted(part: &Part, wanted: &Wanted) -> bool {
 }
 
 // The text is a script of these parts.
-fn reads_as(rt: &impl Abort, alloc: Global, text: &[u8], expected: &[Wanted]) -> Result<(), Fail> {
-    let script = read_script(alloc, text)?;
+fn reads_as(rt: &impl Abort, alloc: Global, text: &[u8], expected: &[Wanted]) {
+    let script = given(rt, read_script(alloc, text));
     same_for(rt, &script.parts.len(), &expected.len(), &text);
     for (part, wanted) in script.parts.iter().zip(expected.iter()) {
         same_for(rt, &is_wanted(part, wanted), &true, wanted);
     }
-    Ok(())
 }
 
 // The texts are scripts of one batch, of these operations.
-fn read_alike(rt: &impl Abort, alloc: Global, texts: &[&str], ops: &[Op]) -> Result<(), Fail> {
+fn read_alike(rt: &impl Abort, alloc: Global, texts: &[&str], ops: &[Op]) {
     for text in texts {
-        reads_as(rt, alloc, text.as_bytes(), &[Wanted::Batch(ops)])?;
+        reads_as(rt, alloc, text.as_bytes(), &[Wanted::Batch(ops)]);
     }
-    Ok(())
 }
 
 #[test]
-fn scripts_are_read_record_by_record(rt: HostRuntime) -> Result<(), Fail> {
+fn scripts_are_read_record_by_record(rt: HostRuntime) {
     let alloc = rt.alloc();
     let texts = [
         "insert,5,50\nfind,5,\n",
@@ -69,19 +66,19 @@ fn scripts_are_read_record_by_record(rt: HostRuntime) -> Result<(), Fail> {
         "insert,5,50\r\nfind,5,\r\n",
         "\"insert\",\"5\",\"50\"\n\n\"find\",\"5\",\"\"\n",
     ];
-    read_alike(&rt, alloc, &texts, &[Op::Insert(5, 50), Op::Find(5)])?;
+    read_alike(&rt, alloc, &texts, &[Op::Insert(5, 50), Op::Find(5)]);
     let greatest = "insert,18446744073709551615,0\n";
-    read_alike(&rt, alloc, &[greatest], &[Op::Insert(u64::MAX, 0)])?;
+    read_alike(&rt, alloc, &[greatest], &[Op::Insert(u64::MAX, 0)]);
     let deleted = "insert,7,1\ndelete,7,\n";
-    read_alike(&rt, alloc, &[deleted], &[Op::Insert(7, 1), Op::Delete(7)])?;
+    read_alike(&rt, alloc, &[deleted], &[Op::Insert(7, 1), Op::Delete(7)]);
     let replaced = "replace,7,2\nreplace,8,18446744073709551615";
     let ops = [Op::Replace(7, 2), Op::Replace(8, u64::MAX)];
-    read_alike(&rt, alloc, &[replaced], &ops)?;
+    read_alike(&rt, alloc, &[replaced], &ops);
     reads_as(&rt, alloc, b"", &[])
 }
 
 #[test]
-fn scans_stand_between_batches(rt: HostRuntime) -> Result<(), Fail> {
+fn scans_stand_between_batches(rt: HostRuntime) {
     let text = b"insert,5,50\nscan,9,1\nscan,0,9\ninsert,6,60\n".as_slice();
     let parts = [
         Wanted::Batch(&[Op::Insert(5, 50)]),
@@ -89,7 +86,7 @@ fn scans_stand_between_batches(rt: HostRuntime) -> Result<(), Fail> {
         Wanted::Scan(0, 9),
         Wanted::Batch(&[Op::Insert(6, 60)]),
     ];
-    reads_as(&rt, rt.alloc(), text, &parts)?;
+    reads_as(&rt, rt.alloc(), text, &parts);
     let text = b"scan,0,18446744073709551615\nfind,7,\nfind,8,\nscan,5,5".as_slice();
     let parts = [
         Wanted::Scan(0, u64::MAX),
@@ -100,7 +97,7 @@ fn scans_stand_between_batches(rt: HostRuntime) -> Result<(), Fail> {
 }
 
 #[test]
-fn pages_stand_between_batches(rt: HostRuntime) -> Result<(), Fail> {
+fn pages_stand_between_batches(rt: HostRuntime) {
     let text = b"insert,5,50\npage,9,1\nscan,0,9\npage,0,0\ninsert,6,60\n".as_slice();
     let parts = [
         Wanted::Batch(&[Op::Insert(5, 50)]),
@@ -109,7 +106,7 @@ fn pages_stand_between_batches(rt: HostRuntime) -> Result<(), Fail> {
         Wanted::Page(0, 0),
         Wanted::Batch(&[Op::Insert(6, 60)]),
     ];
-    reads_as(&rt, rt.alloc(), text, &parts)?;
+    reads_as(&rt, rt.alloc(), text, &parts);
     let text =
         b"page,18446744073709551615,18446744073709551615\nfind,7,\nfind,8,\n\"page\",5,5".as_slice();
     let parts = [
@@ -205,72 +202,63 @@ fn the_first_refusal_is_the_answer(rt: HostRuntime) {
 }
 
 // So many records of one find, and then a last one.
-fn long_script(alloc: Global, finds: usize, last: &str) -> Result<String, AllocError> {
+fn long_script(rt: &impl Abort, alloc: Global, finds: usize, last: &str) -> String {
     let mut text = String::new(alloc);
-    push_finds(&mut text, finds, "find,1,\n")?;
-    text.push_str(last)?;
-    Ok(text)
+    push_finds(rt, &mut text, finds, "find,1,\n");
+    given(rt, text.push_str(last));
+    text
 }
 
 // Adds so many records of this find.
-fn push_finds(text: &mut String, finds: usize, find: &str) -> Result<(), AllocError> {
+fn push_finds(rt: &impl Abort, text: &mut String, finds: usize, find: &str) {
     for _ in 0..finds {
-        text.push_str(find)?;
+        given(rt, text.push_str(find));
     }
-    Ok(())
 }
 
 // So many finds and then a last record are refused.
-fn refuses_long(
-    rt: &impl Abort,
-    alloc: Global,
-    finds: usize,
-    last: &str,
-    refusal: ScriptError,
-) -> Result<(), Fail> {
-    let text = long_script(alloc, finds, last)?;
+fn refuses_long(rt: &impl Abort, alloc: Global, finds: usize, last: &str, refusal: ScriptError) {
+    let text = long_script(rt, alloc, finds, last);
     let refused = read_script(alloc, text.as_bytes()).err();
     same_for(rt, &refused, &Some(refusal), &last);
-    Ok(())
 }
 
 #[test]
-fn one_operation_too_many_is_told_after_its_own_checks(rt: HostRuntime) -> Result<(), Fail> {
+fn one_operation_too_many_is_told_after_its_own_checks(rt: HostRuntime) {
     let alloc = rt.alloc();
-    let full = long_script(alloc, 8191, "find,1,")?;
-    let ops = vec![in alloc; Op::Find(1); 8192]?;
-    reads_as(&rt, alloc, full.as_bytes(), &[Wanted::Batch(&ops)])?;
+    let full = long_script(&rt, alloc, 8191, "find,1,");
+    let ops = given(&rt, vec![in alloc; Op::Find(1); 8192]);
+    reads_as(&rt, alloc, full.as_bytes(), &[Wanted::Batch(&ops)]);
     let bad_number = ScriptError::Row(8193, RecordError::BadNumber);
-    refuses_long(&rt, alloc, 8192, "find,1,", ScriptError::TooMany(8193))?;
-    refuses_long(&rt, alloc, 8192, "find,x,", bad_number)?;
+    refuses_long(&rt, alloc, 8192, "find,1,", ScriptError::TooMany(8193));
+    refuses_long(&rt, alloc, 8192, "find,x,", bad_number);
     let unknown_behind = "find,1,\nput,1,1";
     refuses_long(&rt, alloc, 8192, unknown_behind, ScriptError::TooMany(8193))
 }
 
 #[test]
-fn a_scan_makes_room_for_another_batch(rt: HostRuntime) -> Result<(), Fail> {
+fn a_scan_makes_room_for_another_batch(rt: HostRuntime) {
     let alloc = rt.alloc();
-    let mut text = long_script(alloc, 8192, "scan,3,8\n")?;
-    push_finds(&mut text, 8192, "find,2,\n")?;
-    let first = vec![in alloc; Op::Find(1); 8192]?;
-    let second = vec![in alloc; Op::Find(2); 8192]?;
+    let mut text = long_script(&rt, alloc, 8192, "scan,3,8\n");
+    push_finds(&rt, &mut text, 8192, "find,2,\n");
+    let first = given(&rt, vec![in alloc; Op::Find(1); 8192]);
+    let second = given(&rt, vec![in alloc; Op::Find(2); 8192]);
     let parts = [
         Wanted::Batch(&first),
         Wanted::Scan(3, 8),
         Wanted::Batch(&second),
     ];
-    reads_as(&rt, alloc, text.as_bytes(), &parts)?;
-    text.push_str("find,1,\n")?;
+    reads_as(&rt, alloc, text.as_bytes(), &parts);
+    given(&rt, text.push_str("find,1,\n"));
     refuses(&rt, alloc, text.as_bytes(), ScriptError::TooMany(16386));
-    Ok(())
 }
 
 #[test]
-fn a_page_makes_room_for_another_batch(rt: HostRuntime) -> Result<(), Fail> {
+fn a_page_makes_room_for_another_batch(rt: HostRuntime) {
     let alloc = rt.alloc();
-    let mut text = long_script(alloc, 4096, "page,3,8\n")?;
-    text.push_str("find,2,\n")?;
-    let first = vec![in alloc; Op::Find(1); 4096]?;
+    let mut text = long_script(&rt, alloc, 4096, "page,3,8\n");
+    given(&rt, text.push_str("find,2,\n"));
+    let first = given(&rt, vec![in alloc; Op::Find(1); 4096]);
     let parts = [
         Wanted::Batch(&first),
         Wanted::Page(3, 8),
@@ -280,39 +268,32 @@ fn a_page_makes_room_for_another_batch(rt: HostRuntime) -> Result<(), Fail> {
 }
 
 // The code and the text of a refusal.
-fn is_told(
-    rt: &impl Abort,
-    alloc: Global,
-    error: ScriptError,
-    code: u8,
-    text: &str,
-) -> Result<(), Fail> {
+fn is_told(rt: &impl Abort, alloc: Global, error: ScriptError, code: u8, text: &str) {
     same(rt, &error.code(), &code);
     is_shown(rt, alloc, &error, text)
 }
 
 #[test]
-fn refusals_have_their_codes_and_texts(rt: HostRuntime) -> Result<(), Fail> {
+fn refusals_have_their_codes_and_texts(rt: HostRuntime) {
     let alloc = rt.alloc();
     let shape = ScriptError::Row(5, RecordError::BadShape);
     let unknown = ScriptError::Row(5, RecordError::UnknownOperation);
     let number = ScriptError::Row(5, RecordError::BadNumber);
     let many = ScriptError::TooMany(8193);
-    is_told(&rt, alloc, shape, 10, "row 5: bad shape")?;
-    is_told(&rt, alloc, unknown, 11, "row 5: unknown operation")?;
-    is_told(&rt, alloc, number, 12, "row 5: bad number")?;
+    is_told(&rt, alloc, shape, 10, "row 5: bad shape");
+    is_told(&rt, alloc, unknown, 11, "row 5: unknown operation");
+    is_told(&rt, alloc, number, 12, "row 5: bad number");
     is_told(
         &rt,
         alloc,
         ScriptError::Csv(5),
         13,
         "row 5: unreadable record",
-    )?;
-    is_told(&rt, alloc, many, 14, "row 8193: too many operations")?;
-    is_told(&rt, alloc, ScriptError::Read, 15, "read failed")?;
-    is_told(&rt, alloc, ScriptError::OutOfMemory, 16, "out of memory")?;
+    );
+    is_told(&rt, alloc, many, 14, "row 8193: too many operations");
+    is_told(&rt, alloc, ScriptError::Read, 15, "read failed");
+    is_told(&rt, alloc, ScriptError::OutOfMemory, 16, "out of memory");
     same(&rt, &RecordError::BadNumber.code(), &12);
-    Ok(())
 }
 
 // Gives a byte of its text at each call, and fails at the call after `calls` of them.
@@ -340,12 +321,11 @@ impl Read for Failing<'_> {
 }
 
 #[test]
-fn a_reader_that_fails_is_told(rt: HostRuntime) -> Result<(), Fail> {
+fn a_reader_that_fails_is_told(rt: HostRuntime) {
     let text = b"insert,5,50\nfind,5,\n";
     for calls in 0..=text.len() {
         let reader = Failing { text, calls };
         let refused = read_script(rt.alloc(), reader).err();
         same_for(&rt, &refused, &Some(ScriptError::Read), &calls);
     }
-    Ok(())
 }

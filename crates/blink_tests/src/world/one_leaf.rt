@@ -10,12 +10,11 @@ use blink_steps::Kind::{Latch, ReadPage, ReadPrime, Unlatch, WritePage};
 use blink_steps::{Step, StepError, World};
 use std::alloc::Global;
 use std::process::Abort;
-use std::test::Fail;
 
 #[test]
-fn an_insertion_takes_six_steps(rt: HostRuntime) -> Result<(), Fail> {
-    let rest = empty_tree(&rt, rt.alloc(), 4)?;
-    let mut world = world_of(rt.alloc(), rest, &[Op::Insert(1, 1)], 1, &[0], &[])?;
+fn an_insertion_takes_six_steps(rt: HostRuntime) {
+    let rest = empty_tree(&rt, rt.alloc(), 4);
+    let mut world = world_of(&rt, rt.alloc(), rest, &[Op::Insert(1, 1)], 1, &[0], &[]);
     let steps = [
         ReadPrime,
         ReadPage(1),
@@ -29,14 +28,13 @@ fn an_insertion_takes_six_steps(rt: HostRuntime) -> Result<(), Fail> {
     has_answers(&rt, &world, &[Some(Answer::Inserted)]);
     has_schedule(&rt, &world, &[0; 7]);
     has_order(&rt, &world, &[0]);
-    Ok(())
 }
 
 #[test]
-fn a_second_worker_waits_for_the_latch(rt: HostRuntime) -> Result<(), Fail> {
-    let rest = empty_tree(&rt, rt.alloc(), 4)?;
+fn a_second_worker_waits_for_the_latch(rt: HostRuntime) {
+    let rest = empty_tree(&rt, rt.alloc(), 4);
     let ops = [Op::Insert(1, 1), Op::Insert(2, 2)];
-    let mut world = world_of(rt.alloc(), rest, &ops, 2, &[0, 1], &[])?;
+    let mut world = world_of(&rt, rt.alloc(), rest, &ops, 2, &[0, 1], &[]);
     takes(&rt, &mut world, 0, &[ReadPrime, ReadPage(1), Latch(1)]);
     takes(&rt, &mut world, 1, &[ReadPrime, ReadPage(1)]);
     turns_to(&rt, &mut world, 1, Step::Waited);
@@ -51,15 +49,14 @@ fn a_second_worker_waits_for_the_latch(rt: HostRuntime) -> Result<(), Fail> {
     let rest = tree_after(&rt, world);
     has_pages(&rt, rest.store(), 1);
     keeps_entries(&rt, rest.store(), 1, &[(1, 1), (2, 2)]);
-    Ok(())
 }
 
 #[test]
-fn an_empty_leaf_stays(rt: HostRuntime) -> Result<(), Fail> {
+fn an_empty_leaf_stays(rt: HostRuntime) {
     let ops = [Op::Delete(1), Op::Delete(2), Op::Delete(3), Op::Find(3)];
-    let rest = two_leaves(&rt, rt.alloc())?;
-    let mut world = world_of(rt.alloc(), rest, &ops, 1, &[0; 4], &[])?;
-    finish(&mut world)?;
+    let rest = two_leaves(&rt, rt.alloc());
+    let mut world = world_of(&rt, rt.alloc(), rest, &ops, 1, &[0; 4], &[]);
+    finish(&rt, &mut world);
     let answers = [
         Some(Answer::Removed(10)),
         Some(Answer::Removed(20)),
@@ -71,19 +68,18 @@ fn an_empty_leaf_stays(rt: HostRuntime) -> Result<(), Fail> {
     has_pages(&rt, rest.store(), 3);
     keeps_entries(&rt, rest.store(), 1, &[]);
     same(&rt, &page_at(&rt, rest.store(), 1).high, &3);
-    Ok(())
 }
 
 #[test]
-fn an_empty_leaf_takes_a_key(rt: HostRuntime) -> Result<(), Fail> {
+fn an_empty_leaf_takes_a_key(rt: HostRuntime) {
     let ops = [
         Op::Delete(1),
         Op::Delete(2),
         Op::Delete(3),
         Op::Insert(2, 21),
     ];
-    let rest = two_leaves(&rt, rt.alloc())?;
-    let mut world = world_of(rt.alloc(), rest, &ops, 1, &[0; 4], &[0; 21])?;
+    let rest = two_leaves(&rt, rt.alloc());
+    let mut world = world_of(&rt, rt.alloc(), rest, &ops, 1, &[0; 4], &[0; 21]);
     let steps = [
         ReadPrime,
         ReadPage(3),
@@ -97,7 +93,6 @@ fn an_empty_leaf_takes_a_key(rt: HostRuntime) -> Result<(), Fail> {
     let rest = tree_after(&rt, world);
     has_pages(&rt, rest.store(), 3);
     keeps_entries(&rt, rest.store(), 1, &[(2, 21)]);
-    Ok(())
 }
 
 // Worker 0 comes to page 2 of the two leaves, latches it and reads it again.
@@ -107,14 +102,14 @@ fn comes_to_second_leaf(rt: &impl Abort, world: &mut World) {
 }
 
 // The world of one worker that replaces the pointer of 4 twice by the same one, and then that of 6, which isn't there.
-fn replacing(rt: &impl Abort, alloc: Global) -> Result<World, Fail> {
+fn replacing(rt: &impl Abort, alloc: Global) -> World {
     let ops = [Op::Replace(4, 41), Op::Replace(4, 41), Op::Replace(6, 60)];
-    world_of(alloc, two_leaves(rt, alloc)?, &ops, 1, &[0; 3], &[])
+    world_of(rt, alloc, two_leaves(rt, alloc), &ops, 1, &[0; 3], &[])
 }
 
 #[test]
-fn a_replacement_writes_its_leaf_once(rt: HostRuntime) -> Result<(), Fail> {
-    let mut world = replacing(&rt, rt.alloc())?;
+fn a_replacement_writes_its_leaf_once(rt: HostRuntime) {
+    let mut world = replacing(&rt, rt.alloc());
     // The second writes too, though the pointers are the same; the third finds nothing to replace.
     for _ in 0..2 {
         comes_to_second_leaf(&rt, &mut world);
@@ -131,37 +126,29 @@ fn a_replacement_writes_its_leaf_once(rt: HostRuntime) -> Result<(), Fail> {
     let rest = tree_after(&rt, world);
     has_pages(&rt, rest.store(), 3);
     keeps_entries(&rt, rest.store(), 2, &[(4, 41), (5, 50)]);
-    Ok(())
 }
 
 #[test]
-fn a_number_that_is_no_workers_takes_no_turn(rt: HostRuntime) -> Result<(), Fail> {
-    let rest = empty_tree(&rt, rt.alloc(), 4)?;
-    let mut world = world_of(rt.alloc(), rest, &[Op::Find(7)], 1, &[0], &[])?;
+fn a_number_that_is_no_workers_takes_no_turn(rt: HostRuntime) {
+    let rest = empty_tree(&rt, rt.alloc(), 4);
+    let mut world = world_of(&rt, rt.alloc(), rest, &[Op::Find(7)], 1, &[0], &[]);
     same(&rt, &world.step(1), &Err(StepError::NoWorker(1)));
     has_schedule(&rt, &world, &[]);
     takes(&rt, &mut world, 0, &[ReadPrime, ReadPage(1)]);
     has_answers(&rt, &world, &[Some(Answer::Absent)]);
     is_at_end(&rt, &world, true);
-    Ok(())
 }
 
 // The code and the text of a refusal.
-fn is_told(
-    rt: &impl Abort,
-    alloc: Global,
-    error: StepError,
-    code: u8,
-    text: &str,
-) -> Result<(), Fail> {
+fn is_told(rt: &impl Abort, alloc: Global, error: StepError, code: u8, text: &str) {
     same(rt, &error.code(), &code);
     is_shown(rt, alloc, &error, text)
 }
 
 #[test]
-fn refusals_are_told(rt: HostRuntime) -> Result<(), Fail> {
+fn refusals_are_told(rt: HostRuntime) {
     let alloc = rt.alloc();
-    is_told(&rt, alloc, StepError::OutOfMemory, 30, "out of memory")?;
-    is_told(&rt, alloc, StepError::NoWorker(7), 31, "no worker 7")?;
+    is_told(&rt, alloc, StepError::OutOfMemory, 30, "out of memory");
+    is_told(&rt, alloc, StepError::NoWorker(7), 31, "no worker 7");
     is_told(&rt, alloc, StepError::TooLarge, 32, "too large")
 }

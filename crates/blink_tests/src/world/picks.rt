@@ -7,7 +7,6 @@ use blink_page::GREATEST_KEY;
 use blink_steps::World;
 use std::alloc::Global;
 use std::process::Abort;
-use std::test::Fail;
 
 // Whether the worker's next turn would be a wait, and whether it is idle.
 fn is_seen(rt: &impl Abort, world: &World, worker: u8, waits: bool, idle: bool) {
@@ -38,34 +37,40 @@ fn have_moved(rt: &impl Abort, world: &World, moves: &[u64]) {
 }
 
 // Two workers with an insertion each into an empty tree, after these turns.
-fn two_insertions(rt: &impl Abort, alloc: Global, schedule: &[u8]) -> Result<World, Fail> {
+fn two_insertions(rt: &impl Abort, alloc: Global, schedule: &[u8]) -> World {
     let ops = [Op::Insert(1, 1), Op::Insert(2, 2)];
-    world_of(alloc, empty_tree(rt, alloc, 4)?, &ops, 2, &[0, 1], schedule)
+    world_of(
+        rt,
+        alloc,
+        empty_tree(rt, alloc, 4),
+        &ops,
+        2,
+        &[0, 1],
+        schedule,
+    )
 }
 
 #[test]
-fn nobody_waits_at_the_start(rt: HostRuntime) -> Result<(), Fail> {
-    let world = two_insertions(&rt, rt.alloc(), &[])?;
+fn nobody_waits_at_the_start(rt: HostRuntime) {
+    let world = two_insertions(&rt, rt.alloc(), &[]);
     picks(&rt, &world, Some(0));
     is_seen(&rt, &world, 0, false, true);
     is_seen(&rt, &world, 1, false, true);
-    Ok(())
 }
 
 #[test]
-fn a_worker_waits_for_a_latch(rt: HostRuntime) -> Result<(), Fail> {
-    let mut world = two_insertions(&rt, rt.alloc(), &[0, 0, 0, 1, 1, 1])?;
+fn a_worker_waits_for_a_latch(rt: HostRuntime) {
+    let mut world = two_insertions(&rt, rt.alloc(), &[0, 0, 0, 1, 1, 1]);
     picks(&rt, &world, Some(0));
     is_seen(&rt, &world, 0, false, false);
     is_seen(&rt, &world, 1, true, false);
     have_moved(&rt, &world, &[3, 2]);
 
-    finish(&mut world)?;
+    finish(&rt, &mut world);
     picks(&rt, &world, None);
     is_seen(&rt, &world, 0, false, true);
     is_seen(&rt, &world, 1, false, true);
     has_answers(&rt, &world, &[Some(Answer::Inserted); 2]);
-    Ok(())
 }
 
 // Worker 0 has split the full leaf; worker 1 has split its right half, and asks for the level above, which isn't there yet.
@@ -74,26 +79,26 @@ const OVERTAKING: [u8; 30] = [
 ];
 
 // The world of those turns.
-fn overtaking(rt: &impl Abort, alloc: Global) -> Result<World, Fail> {
+fn overtaking(rt: &impl Abort, alloc: Global) -> World {
     let ops = [
         Op::Insert(5, 50),
         Op::Insert(6, 60),
         Op::Insert(7, 70),
         Op::Insert(8, 80),
     ];
-    let leaf = full_leaf(rt, alloc)?;
-    world_of(alloc, leaf, &ops, 2, &[0, 1, 1, 1], &OVERTAKING)
+    let leaf = full_leaf(rt, alloc);
+    world_of(rt, alloc, leaf, &ops, 2, &[0, 1, 1, 1], &OVERTAKING)
 }
 
 #[test]
-fn a_worker_waits_for_a_level(rt: HostRuntime) -> Result<(), Fail> {
-    let mut world = overtaking(&rt, rt.alloc())?;
+fn a_worker_waits_for_a_level(rt: HostRuntime) {
+    let mut world = overtaking(&rt, rt.alloc());
     is_seen(&rt, &world, 0, false, false);
     is_seen(&rt, &world, 1, true, false);
     picks(&rt, &world, Some(0));
     have_moved(&rt, &world, &[6, 7, 7, 9]);
 
-    finish(&mut world)?;
+    finish(&rt, &mut world);
     picks(&rt, &world, None);
     have_moved(&rt, &world, &[10, 7, 7, 14]);
     let picked = [0, 0, 0, 0, 1, 1, 1, 1, 1];
@@ -103,5 +108,4 @@ fn a_worker_waits_for_a_level(rt: HostRuntime) -> Result<(), Fail> {
     has_leftmost(&rt, rest.store(), &[1, 4]);
     let root = [(3, 1), (6, 2), (GREATEST_KEY, 3)];
     keeps_entries(&rt, rest.store(), 4, &root);
-    Ok(())
 }

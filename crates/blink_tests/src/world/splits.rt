@@ -13,7 +13,6 @@ use blink_steps::Kind::{Latch, ReadPage, ReadPrime, Unlatch, WritePage, WritePri
 use blink_steps::{Step, World};
 use std::alloc::Global;
 use std::process::Abort;
-use std::test::Fail;
 
 // The full leaf with 5 inserted: its halves are pages 1 and 2, and their root is page 3.
 fn has_halves(rt: &impl Abort, rest: &Rest) {
@@ -30,10 +29,10 @@ fn has_halves(rt: &impl Abort, rest: &Rest) {
 }
 
 #[test]
-fn a_full_leaf_splits_and_the_root_grows(rt: HostRuntime) -> Result<(), Fail> {
-    let rest = full_leaf(&rt, rt.alloc())?;
+fn a_full_leaf_splits_and_the_root_grows(rt: HostRuntime) {
+    let rest = full_leaf(&rt, rt.alloc());
     has_pages(&rt, rest.store(), 1);
-    let mut world = world_of(rt.alloc(), rest, &[Op::Insert(5, 50)], 1, &[0], &[])?;
+    let mut world = world_of(&rt, rt.alloc(), rest, &[Op::Insert(5, 50)], 1, &[0], &[]);
     let steps = [
         ReadPrime,
         ReadPage(1),
@@ -48,15 +47,14 @@ fn a_full_leaf_splits_and_the_root_grows(rt: HostRuntime) -> Result<(), Fail> {
     ];
     takes(&rt, &mut world, 0, &steps);
     has_halves(&rt, &tree_after(&rt, world));
-    Ok(())
 }
 
 #[test]
-fn a_find_passes_a_half_finished_split(rt: HostRuntime) -> Result<(), Fail> {
+fn a_find_passes_a_half_finished_split(rt: HostRuntime) {
     let ops = [Op::Insert(5, 50), Op::Find(4)];
     let schedule = [1, 0, 0, 0, 0, 0, 0, 1, 1];
-    let rest = full_leaf(&rt, rt.alloc())?;
-    let world = world_of(rt.alloc(), rest, &ops, 2, &[0, 1], &schedule)?;
+    let rest = full_leaf(&rt, rt.alloc());
+    let world = world_of(&rt, rt.alloc(), rest, &ops, 2, &[0, 1], &schedule);
     has_schedule(&rt, &world, &schedule);
     let answers = [Some(Answer::Inserted), Some(Answer::Found(40))];
     has_answers(&rt, &world, &answers);
@@ -64,18 +62,17 @@ fn a_find_passes_a_half_finished_split(rt: HostRuntime) -> Result<(), Fail> {
     assert!(rt; world.answers().len() == 2);
     same(&rt, &world.reads_of(1), &2);
     is_at_end(&rt, &world, false);
-    Ok(())
 }
 
 // Two workers over the full leaf: worker 0 has the insertion of 5, worker 1 those of 6, 7 and 8.
-fn four_insertions(rt: &impl Abort, alloc: Global) -> Result<World, Fail> {
+fn four_insertions(rt: &impl Abort, alloc: Global) -> World {
     let ops = [
         Op::Insert(5, 50),
         Op::Insert(6, 60),
         Op::Insert(7, 70),
         Op::Insert(8, 80),
     ];
-    world_of(alloc, full_leaf(rt, alloc)?, &ops, 2, &[0, 1, 1, 1], &[])
+    world_of(rt, alloc, full_leaf(rt, alloc), &ops, 2, &[0, 1, 1, 1], &[])
 }
 
 // Worker 0 splits the full leaf, and writes both halves.
@@ -133,8 +130,8 @@ fn has_both_postings(rt: &impl Abort, rest: &Rest) {
 
 // Worker 0 splits the full leaf; worker 1 splits its right half, and is ready to post it before there is a root.
 #[test]
-fn postings_overtake_each_other(rt: HostRuntime) -> Result<(), Fail> {
-    let mut world = four_insertions(&rt, rt.alloc())?;
+fn postings_overtake_each_other(rt: HostRuntime) {
+    let mut world = four_insertions(&rt, rt.alloc());
     splits_leaf(&rt, &mut world);
     inserts_into_second(&rt, &mut world);
     inserts_into_second(&rt, &mut world);
@@ -147,16 +144,15 @@ fn postings_overtake_each_other(rt: HostRuntime) -> Result<(), Fail> {
     same(&rt, &world.schedule().len(), &39);
     has_order(&rt, &world, &[0, 1, 2, 3]);
     has_both_postings(&rt, &tree_after(&rt, world));
-    Ok(())
 }
 
 // The tree of the keys 1 to 13, whose root, page 3, is full.
-fn full_root(rt: &impl Abort, alloc: Global) -> Result<Rest, Fail> {
-    let rest = keys_to(rt, alloc, 4, 13)?;
+fn full_root(rt: &impl Abort, alloc: Global) -> Rest {
+    let rest = keys_to(rt, alloc, 4, 13);
     has_pages(rt, rest.store(), 5);
     let root = [(3, 1), (6, 2), (9, 4), (GREATEST_KEY, 5)];
     keeps_entries(rt, rest.store(), 3, &root);
-    Ok(rest)
+    rest
 }
 
 // The tree with 14 inserted, by which the root split.
@@ -172,9 +168,9 @@ fn has_split_root(rt: &impl Abort, rest: &Rest) {
 }
 
 #[test]
-fn an_inner_page_splits(rt: HostRuntime) -> Result<(), Fail> {
-    let rest = full_root(&rt, rt.alloc())?;
-    let mut world = world_of(rt.alloc(), rest, &[Op::Insert(14, 14)], 1, &[0], &[])?;
+fn an_inner_page_splits(rt: HostRuntime) {
+    let rest = full_root(&rt, rt.alloc());
+    let mut world = world_of(&rt, rt.alloc(), rest, &[Op::Insert(14, 14)], 1, &[0], &[]);
     let steps = [
         ReadPrime,
         ReadPage(3),
@@ -196,19 +192,12 @@ fn an_inner_page_splits(rt: HostRuntime) -> Result<(), Fail> {
     ];
     takes(&rt, &mut world, 0, &steps);
     has_split_root(&rt, &tree_after(&rt, world));
-    Ok(())
 }
 
 // A tree of this fan with one key more than fit a leaf: so many entries are in its left leaf, up to the separator of the same
 // number, and so many in its right one.
-fn splits_at(
-    rt: &impl Abort,
-    alloc: Global,
-    fan: u8,
-    separator: u64,
-    (stay, go): (usize, usize),
-) -> Result<(), Fail> {
-    let rest = keys_to(rt, alloc, fan, u64::from(fan) + 1)?;
+fn splits_at(rt: &impl Abort, alloc: Global, fan: u8, separator: u64, (stay, go): (usize, usize)) {
+    let rest = keys_to(rt, alloc, fan, u64::from(fan) + 1);
     let store = rest.store();
     has_pages(rt, store, 3);
     has_leftmost(rt, store, &[1, 3]);
@@ -220,15 +209,14 @@ fn splits_at(
         &(go, Some(separator)),
     );
     keeps_entries(rt, store, 3, &[(separator, 1), (GREATEST_KEY, 2)]);
-    Ok(())
 }
 
 #[test]
-fn the_greatest_fan_splits_into_seventeen_and_sixteen(rt: HostRuntime) -> Result<(), Fail> {
+fn the_greatest_fan_splits_into_seventeen_and_sixteen(rt: HostRuntime) {
     splits_at(&rt, rt.alloc(), 32, 17, (17, 16))
 }
 
 #[test]
-fn a_fan_of_sixteen_splits_into_nine_and_eight(rt: HostRuntime) -> Result<(), Fail> {
+fn a_fan_of_sixteen_splits_into_nine_and_eight(rt: HostRuntime) {
     splits_at(&rt, rt.alloc(), 16, 9, (9, 8))
 }
