@@ -1,10 +1,10 @@
 //! Examples of one batch under several schedules.
+use crate::fixtures::same;
 use crate::fixtures::stores::empty_tree;
 use crate::fixtures::worlds::{
-    batch_of, finish, full_leaf, has_answers, has_order, two_leaves, world_of,
+    batch_of, finish, full_leaf, has_answers, has_order, lanes_of, two_leaves, world_of,
 };
-use crate::fixtures::{given, same};
-use blink_batch::{Answer, Lanes, Op};
+use blink_batch::{Answer, Op};
 use blink_steps::{StepError, replay};
 use std::alloc::Global;
 use std::process::Abort;
@@ -62,10 +62,7 @@ fn a_key_of_two_workers_is_answered_in_the_order_of_deciding(rt: HostRuntime) {
 fn a_schedule_names_no_worker(rt: HostRuntime) {
     let rest = empty_tree(&rt, rt.alloc(), 4);
     let batch = batch_of(&rt, rt.alloc(), &[Op::Find(7)]);
-    let lanes = given(
-        &rt,
-        Lanes::new(&batch, 1, given(&rt, [0].to_vec(rt.alloc()))),
-    );
+    let lanes = lanes_of(&rt, rt.alloc(), &batch, 1, &[0]);
     match replay(rt.alloc(), rest, batch, lanes, &[0, 3, 5]) {
         Err(refusal) => same(&rt, &refusal, &StepError::NoWorker(3)),
         Ok(_) => panic!(rt; "a number that is no worker's took a turn"),
