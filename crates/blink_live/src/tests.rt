@@ -1,13 +1,9 @@
-//! Examples, worked by hand.
-mod closing;
+//! Examples, worked by hand, of what no public call shows: the table's words, and what a keeper and a pass have. Those of public
+//! calls are in `blink_live_tests`.
+mod alone;
 mod dealing;
-mod deleting;
-mod finding;
-mod glancing;
-mod inserting;
 mod opening;
-mod replacing;
-mod watching;
+mod rows;
 
 use blink_batch::{Batch, Lanes, Op};
 use blink_index::Index;
@@ -16,31 +12,21 @@ use std::alloc::Global;
 use std::test::Fail;
 
 // The index after these operations, run by one worker in their order.
-fn after(alloc: Global, index: Index, ops: &[Op]) -> Result<Index, Fail> {
-    let mut batch = Vec::new(alloc);
-    let mut lanes = Vec::new(alloc);
-    for op in ops {
-        batch.push(*op)?;
-        lanes.push(0)?;
-    }
-    let batch = Batch::new(batch)?;
+fn after(alloc: Global, ops: &[Op]) -> Result<Index, Fail> {
+    let lanes = vec![in alloc; 0u8; ops.len()]?;
+    let batch = Batch::new(ops.to_vec(alloc)?)?;
     let lanes = Lanes::new(&batch, 1, lanes)?;
-    let mut world = World::start(alloc, index.into_rest(), batch, lanes)?;
-    for _ in 0..10_000 {
-        if world.ended() {
-            return Ok(Index::from_rest(world.into_rest()));
-        }
-        world.step(0)?;
-    }
-    Err(Fail::new("the run has no end"))
+    let rest = Index::new(alloc, 4)?.into_rest();
+    let mut world = World::start(alloc, rest, batch, lanes)?;
+    world.finish()?;
+    Ok(Index::from_rest(world.into_rest()))
 }
 
-// The index of the keys 1 to 14, inserted in this order, each with ten times the key: three levels, and pages numbered in the
-// order in which they were split off.
-fn fourteen(alloc: Global) -> Result<Index, Fail> {
+// The index of the keys from 1 to this one, inserted in this order, each with ten times the key.
+fn filled(alloc: Global, last: u64) -> Result<Index, Fail> {
     let mut ops = Vec::new(alloc);
-    for key in 1..15 {
-        ops.push(Op::Insert(key, 10 * key))?;
+    for key in 1..=last {
+        ops.push(Op::Insert(key, key.wrapping_mul(10)))?;
     }
-    after(alloc, Index::new(alloc, 4)?, ops.as_slice())
+    after(alloc, ops.as_slice())
 }

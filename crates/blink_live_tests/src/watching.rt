@@ -1,9 +1,11 @@
 //! Threads that insert, delete, and look at each other's keys meanwhile.
 ghost use Rattle.blink_live.specs.Handles.{IsPassOf};
 
-use crate::tests::inserting::{Shared, has_exactly};
-use crate::{Live, Pass};
+use crate::inserting::has_exactly;
+use crate::shared::Shared;
 use blink_batch::Answer;
+use blink_index::Index;
+use blink_live::{Live, Pass};
 use std::process::Abort;
 use std::sync::Wait;
 use std::test::Fail;
@@ -77,10 +79,10 @@ impl Shared {
 #[test]
 fn eight_threads_look_at_each_others_keys(rt: HostRuntime) -> Result<(), Fail> {
     let alloc = rt.alloc();
-    let mut table = Shared::open(alloc, 512, 256)?;
+    let mut table = Shared::open(alloc, &Index::new(alloc, 4)?, 512, 256)?;
     for eighth in 0..8 {
-        let keys = (0..64).map(|place| 8 * place + eighth).collect(alloc)?;
-        table.deal(keys, 64, if eighth % 2 == 1 { 64 } else { 0 })?;
+        let keys: Vec<u64> = (0..64).map(|place| 8 * place + eighth).collect(alloc)?;
+        table.deal(alloc, &keys, 64, if eighth % 2 == 1 { 64 } else { 0 })?;
     }
     table.change_all(&rt);
     let closed = table.close(alloc)?;

@@ -1,5 +1,5 @@
 use Rattle.blink_live.specs.Handles.{IsPassOf}
-use Rattle.blink_live.proofs.tests.watching.insert_all.Given as goal
+use Rattle.blink_live_tests.proofs.glancing.insert_upwards.Given as goal
 
 abbrev pub invariant-loop-key : goal.invariant-loop-key
 invariant-loop-key g l = IsPassOf l.live l.pass

@@ -1,8 +1,6 @@
 //! Tables that close.
-use crate::tests::fourteen;
-use crate::{Live, LiveError};
-use blink_index::Index;
-use blink_rows::Allowance;
+use crate::indexes::filled;
+use crate::shared::Shared;
 use std::test::Fail;
 
 // The tree of fourteen keys with its pages numbered level by level.
@@ -19,13 +17,9 @@ pub(crate) const FOURTEEN: &str = "\
 
 #[test]
 fn pages_are_numbered_anew(rt: HostRuntime) -> Result<(), Fail> {
-    let index = fourteen(rt.alloc())?;
-    let allowance = Allowance {
-        inserts: 0,
-        deletes: 0,
-    };
-    let (live, keeper) = Live::open(rt.alloc(), &index, allowance)?;
-    let closed = live.close(rt.alloc(), keeper, Vec::new(rt.alloc()))?;
-    assert_eq!(rt; closed.dump(rt.alloc())?.as_str(), FOURTEEN);
+    let alloc = rt.alloc();
+    let table = Shared::open(alloc, &filled(alloc, 14)?, 0, 0)?;
+    let closed = table.close(alloc)?;
+    assert_eq!(rt; closed.dump(alloc)?.as_str(), FOURTEEN);
     Ok(())
 }

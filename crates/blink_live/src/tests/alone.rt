@@ -1,0 +1,42 @@
+//! A table with one pass, whose calls have no condition: what is so of it is in its type.
+ghost use Rattle.blink_live.specs.Handles.{IsPassOf};
+
+use crate::{Live, Pass, PassError};
+use blink_batch::{Answer, Op};
+use blink_index::Index;
+use blink_rows::Allowance;
+use std::alloc::Global;
+use std::sync::Wait;
+use std::test::Fail;
+
+#[derive(Drop)]
+pub(super) struct Alone {
+    pub(super) live: Live,
+    pub(super) pass: Pass,
+    ghost its_own: { IsPassOf live pass },
+}
+
+impl Alone {
+    // The pass has these keys, and all that is allowed.
+    pub(super) fn open(
+        alloc: Global,
+        index: &Index,
+        allowance: Allowance,
+        keys: &[u64],
+    ) -> Result<Alone, Fail> {
+        let Allowance { inserts, deletes } = allowance;
+        let (live, mut keeper) = Live::open(alloc, index, allowance)?;
+        let pass = live.deal(&mut keeper, keys.to_vec(alloc)?, inserts, deletes)?;
+        Ok(Alone { live, pass })
+    }
+
+    pub(super) fn call<R: Wait>(&mut self, rt: &R, op: Op) -> Result<Answer, PassError> {
+        let Alone { live, pass } = self;
+        match op {
+            Op::Find(key) => live.find(pass, key),
+            Op::Insert(key, pointer) => live.insert(rt, pass, key, pointer),
+            Op::Delete(key) => live.delete(rt, pass, key),
+            Op::Replace(key, pointer) => live.replace(rt, pass, key, pointer),
+        }
+    }
+}

@@ -1,0 +1,27 @@
+//! Tests of the calls that `blink_live` offers, all of them through what it makes public.
+#![tactic(auto)]
+
+#[cfg(test)]
+mod closing;
+#[cfg(test)]
+mod dealing;
+#[cfg(test)]
+mod deleting;
+#[cfg(test)]
+mod finding;
+#[cfg(test)]
+mod glancing;
+#[cfg(test)]
+mod indexes;
+#[cfg(test)]
+mod inserting;
+#[cfg(test)]
+mod opening;
+#[cfg(test)]
+mod replacing;
+#[cfg(test)]
+mod shared;
+#[cfg(test)]
+mod steps;
+#[cfg(test)]
+mod watching;

@@ -1,0 +1,52 @@
+//! What a pass does, and what each call has to give.
+ghost use Rattle.blink_live.specs.Handles.{IsPassOf};
+
+use blink_batch::{Answer, Op};
+use blink_live::{Live, Pass, PassError};
+use std::process::Abort;
+use std::sync::Wait;
+
+// A call with a pass, and what it has to give.
+#[derive(Clone, Copy)]
+pub(crate) enum Step {
+    Call(Op, Result<Answer, PassError>),
+    Glance(u64, Option<u64>),
+}
+
+fn call<R: Wait>(rt: &R, live: &Live, pass: &mut Pass, op: Op) -> Result<Answer, PassError>
+    requires { IsPassOf live.now pass.old }
+    ensures { IsPassOf live.now pass.new }
+{
+    match op {
+        Op::Find(key) => live.find(pass, key),
+        Op::Insert(key, pointer) => live.insert(rt, pass, key, pointer),
+        Op::Delete(key) => live.delete(rt, pass, key),
+        Op::Replace(key, pointer) => live.replace(rt, pass, key, pointer),
+    }
+}
+
+fn take<R: Wait + Abort>(rt: &R, live: &Live, pass: &mut Pass, step: Step)
+    requires { IsPassOf live.now pass.old }
+    ensures { IsPassOf live.now pass.new }
+{
+    match step {
+        Step::Call(op, expected) => {
+            let given = call(rt, live, pass, op);
+            assert!(rt; given == expected, "{op:?} gave {given:?}");
+        }
+        Step::Glance(key, expected) => {
+            let given = live.glance(pass, key);
+            assert!(rt; given == expected, "a glance at {key} gave {given:?}");
+        }
+    }
+}
+
+// Takes the steps in their order.
+pub(crate) fn take_all<R: Wait + Abort>(rt: &R, live: &Live, pass: &mut Pass, steps: &[Step])
+    requires { IsPassOf live.now pass.old }
+    ensures { IsPassOf live.now pass.new }
+{
+    for &step in steps {
+        take(rt, live, pass, step);
+    }
+}
