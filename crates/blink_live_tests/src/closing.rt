@@ -1,7 +1,6 @@
 //! Tables that close.
-use crate::indexes::filled;
+use crate::indexes::assert_dump;
 use crate::shared::Shared;
-use std::test::Fail;
 
 // The tree of fourteen keys with its pages numbered level by level.
 pub(crate) const FOURTEEN: &str = "\
@@ -16,10 +15,8 @@ pub(crate) const FOURTEEN: &str = "\
 ";
 
 #[test]
-fn pages_are_numbered_anew(rt: HostRuntime) -> Result<(), Fail> {
-    let alloc = rt.alloc();
-    let table = Shared::open(alloc, &filled(alloc, 14)?, 0, 0)?;
-    let closed = table.close(alloc)?;
-    assert_eq!(rt; closed.dump(alloc)?.as_str(), FOURTEEN);
-    Ok(())
+fn pages_are_numbered_anew(rt: HostRuntime) {
+    let table = Shared::filled(&rt, rt.alloc(), 14, 0, 0);
+    let closed = table.close(&rt);
+    assert_dump(&rt, rt.alloc(), &closed, FOURTEEN);
 }

@@ -1,8 +1,8 @@
 //! Deletions with passes.
-use crate::indexes::filled;
+use crate::indexes::{assert_dump, assert_keys};
 use crate::shared::Shared;
 use crate::steps::Step::{self, Call};
-use blink_batch::{Answer, Entry, Op};
+use blink_batch::{Answer, Op};
 use blink_live::PassError;
 use std::test::Fail;
 
@@ -16,12 +16,10 @@ const TWO_DELETIONS: [Step; 6] = [
 ];
 
 #[test]
-fn each_accepted_call_uses_a_deletion(rt: HostRuntime) -> Result<(), Fail> {
-    let alloc = rt.alloc();
-    let mut table = Shared::open(alloc, &filled(alloc, 4)?, 0, 2)?;
-    table.deal(alloc, &[1, 2], 0, 2)?;
+fn each_accepted_call_uses_a_deletion(rt: HostRuntime) {
+    let mut table = Shared::filled(&rt, rt.alloc(), 4, 0, 2);
+    table.deal(&rt, &[1, 2], 0, 2);
     table.take(&rt, 0, &TWO_DELETIONS);
-    Ok(())
 }
 
 const ODD: [Step; 2] = [
@@ -38,16 +36,14 @@ const EVEN: [Step; 2] = [
 const NONE: &str = "0 1 - 18446744073709551615 -\n";
 
 #[test]
-fn two_threads_empty_a_leaf(rt: HostRuntime) -> Result<(), Fail> {
-    let alloc = rt.alloc();
-    let mut table = Shared::open(alloc, &filled(alloc, 4)?, 0, 4)?;
-    table.deal(alloc, &[1, 3], 0, 2)?;
-    table.deal(alloc, &[2, 4], 0, 2)?;
-    table.run(&rt, &[&ODD, &EVEN]);
-    let closed = table.close(alloc)?;
+fn two_threads_empty_a_leaf(rt: HostRuntime) {
+    let mut table = Shared::filled(&rt, rt.alloc(), 4, 0, 4);
+    table.deal_for(&rt, &[1, 3], 0, 2, &ODD);
+    table.deal_for(&rt, &[2, 4], 0, 2, &EVEN);
+    table.run(&rt);
+    let closed = table.close(&rt);
     assert_eq!(rt; closed.page_count(), 1);
-    assert_eq!(rt; closed.dump(alloc)?.as_str(), NONE);
-    Ok(())
+    assert_dump(&rt, rt.alloc(), &closed, NONE);
 }
 
 const FOUR_TEN: [Step; 2] = [
@@ -82,32 +78,18 @@ const SIX: &str = "\
 0 5 12 18446744073709551615 -
 ";
 
-const ACROSS: [Entry; 2] = [
-    Entry {
-        key: 3,
-        pointer: 30,
-    },
-    Entry {
-        key: 7,
-        pointer: 70,
-    },
-];
-
 // Three leaves lose all their entries, two of them to three threads at once, and stay where they are.
 #[test]
-fn four_threads_empty_leaves(rt: HostRuntime) -> Result<(), Fail> {
-    let alloc = rt.alloc();
-    let mut table = Shared::open(alloc, &filled(alloc, 14)?, 0, 8)?;
-    table.deal(alloc, &[4, 10], 0, 2)?;
-    table.deal(alloc, &[5, 11], 0, 2)?;
-    table.deal(alloc, &[6, 12], 0, 2)?;
-    table.deal(alloc, &[13, 14], 0, 2)?;
-    table.run(&rt, &[&FOUR_TEN, &ELEVEN_FIVE, &SIX_TWELVE, &LAST_TWO]);
-    let closed = table.close(alloc)?;
-    assert_eq!(rt; closed.dump(alloc)?.as_str(), SIX);
-    let across: Vec<Entry> = closed.scan(3, 7).collect(alloc)?;
-    assert_eq!(rt; across.as_slice(), ACROSS.as_slice());
-    Ok(())
+fn four_threads_empty_leaves(rt: HostRuntime) {
+    let mut table = Shared::filled(&rt, rt.alloc(), 14, 0, 8);
+    table.deal_for(&rt, &[4, 10], 0, 2, &FOUR_TEN);
+    table.deal_for(&rt, &[5, 11], 0, 2, &ELEVEN_FIVE);
+    table.deal_for(&rt, &[6, 12], 0, 2, &SIX_TWELVE);
+    table.deal_for(&rt, &[13, 14], 0, 2, &LAST_TWO);
+    table.run(&rt);
+    let closed = table.close(&rt);
+    assert_dump(&rt, rt.alloc(), &closed, SIX);
+    assert_keys(&rt, rt.alloc(), &closed, (3, 7), &[3, 7]);
 }
 
 #[test]

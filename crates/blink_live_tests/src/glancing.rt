@@ -4,12 +4,11 @@ ghost use Rattle.blink_live.specs.Handles.{IsPassOf};
 use crate::indexes::after;
 use crate::shared::Shared;
 use crate::steps::Step::{self, Call, Glance};
+use crate::steps::every;
 use blink_batch::{Answer, Op};
-use blink_index::Index;
 use blink_live::{Live, LiveError, Pass, PassError};
 use std::process::Abort;
 use std::sync::Wait;
-use std::test::Fail;
 use std::thread::{self, Threads};
 
 const NOT_ITS_OWN: [Step; 1] = [Call(Op::Find(5), Err(PassError::NotYours))];
@@ -17,19 +16,17 @@ const NOT_ITS_OWN: [Step; 1] = [Call(Op::Find(5), Err(PassError::NotYours))];
 const FIVE_INSERTED: [Step; 1] = [Call(Op::Insert(5, 50), Ok(Answer::Inserted))];
 
 #[test]
-fn a_pass_is_told_what_another_has_seen(rt: HostRuntime) -> Result<(), Fail> {
-    let alloc = rt.alloc();
-    let mut table = Shared::open(alloc, &Index::new(alloc, 4)?, 2, 0)?;
-    table.deal(alloc, &[5], 1, 0)?;
-    table.deal(alloc, &[6], 1, 0)?;
-    assert!(rt; table.deal(alloc, &[7, 5], 0, 0) == Err(LiveError::Taken(5)));
+fn a_pass_is_told_what_another_has_seen(rt: HostRuntime) {
+    let mut table = Shared::new(&rt, rt.alloc(), 2, 0);
+    table.deal(&rt, &[5], 1, 0);
+    table.deal(&rt, &[6], 1, 0);
+    table.refuse_deal(&rt, &[7, 5], 0, 0, LiveError::Taken(5));
     table.take(&rt, 1, &NOT_ITS_OWN);
     table.take(&rt, 0, &FIVE_INSERTED);
-    table.tell_next(&rt, 0);
+    table.tell_last(&rt, 0);
     table.take(&rt, 1, &[Glance(5, Some(50))]);
     table.lose_first(&rt);
-    assert!(rt; matches!(table.close(alloc), Err(LiveError::Missing)));
-    Ok(())
+    table.refuse_close(&rt, LiveError::Missing);
 }
 
 // Key 5 is inserted, deleted, and inserted with another pointer.
@@ -44,32 +41,29 @@ const FIVE_CHANGED: [Step; 4] = [
 const WHAT_IS_KEPT: [Step; 3] = [Glance(5, Some(51)), Glance(7, Some(70)), Glance(8, None)];
 
 #[test]
-fn what_was_told_is_told_on(rt: HostRuntime) -> Result<(), Fail> {
-    let alloc = rt.alloc();
-    let index = after(alloc, &[Op::Insert(7, 70)])?;
-    let mut table = Shared::open(alloc, &index, 2, 1)?;
-    table.deal(alloc, &[5], 2, 1)?;
-    table.deal(alloc, &[6], 0, 0)?;
-    table.deal(alloc, &[], 0, 0)?;
-    table.take(&rt, 0, &FIVE_CHANGED);
-    table.tell_next(&rt, 0);
-    table.take(&rt, 1, &WHAT_IS_KEPT);
-    table.tell_next(&rt, 1);
-    table.take(&rt, 2, &WHAT_IS_KEPT);
-    table.take(&rt, 0, &WHAT_IS_KEPT);
-    Ok(())
+fn what_was_told_is_told_on(rt: HostRuntime) {
+    let index = after(&rt, rt.alloc(), &[Op::Insert(7, 70)]);
+    let mut table = Shared::open(&rt, rt.alloc(), &index, 2, 1);
+    let (first, third, second) = (0, 1, 2);
+    table.deal(&rt, &[5], 2, 1);
+    table.deal(&rt, &[], 0, 0);
+    table.deal(&rt, &[6], 0, 0);
+    table.take(&rt, first, &FIVE_CHANGED);
+    table.tell_last(&rt, first);
+    table.take(&rt, second, &WHAT_IS_KEPT);
+    table.hear_last(&rt, third);
+    table.take(&rt, third, &WHAT_IS_KEPT);
+    table.take(&rt, first, &WHAT_IS_KEPT);
 }
 
 #[test]
-fn a_glance_sees_without_being_told(rt: HostRuntime) -> Result<(), Fail> {
-    let alloc = rt.alloc();
-    let mut table = Shared::open(alloc, &Index::new(alloc, 4)?, 1, 0)?;
-    table.deal(alloc, &[5], 1, 0)?;
-    table.deal(alloc, &[], 0, 0)?;
+fn a_glance_sees_without_being_told(rt: HostRuntime) {
+    let mut table = Shared::new(&rt, rt.alloc(), 1, 0);
+    table.deal(&rt, &[5], 1, 0);
+    table.deal(&rt, &[], 0, 0);
     table.take(&rt, 1, &[Glance(5, None)]);
     table.take(&rt, 0, &FIVE_INSERTED);
     table.take(&rt, 1, &[Glance(5, Some(50))]);
-    Ok(())
 }
 
 // Inserts the keys 0 to 255 upwards, each with itself.
@@ -119,12 +113,10 @@ impl Shared {
 }
 
 #[test]
-fn a_reader_never_unsees(rt: HostRuntime) -> Result<(), Fail> {
-    let alloc = rt.alloc();
-    let mut table = Shared::open(alloc, &Index::new(alloc, 4)?, 256, 0)?;
-    let keys: Vec<u64> = (0..256).collect(alloc)?;
-    table.deal(alloc, &keys, 256, 0)?;
-    table.deal(alloc, &[], 0, 0)?;
+fn a_reader_never_unsees(rt: HostRuntime) {
+    let mut table = Shared::new(&rt, rt.alloc(), 256, 0);
+    let keys = every(rt.alloc(), 1, 0, 256).expect(&rt, "no keys");
+    table.deal(&rt, &keys, 256, 0);
+    table.deal(&rt, &[], 0, 0);
     table.insert_and_glance(&rt);
-    Ok(())
 }

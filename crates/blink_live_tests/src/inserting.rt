@@ -1,13 +1,13 @@
 //! Insertions with passes.
 use crate::closing::FOURTEEN;
-use crate::indexes::filled;
+use crate::indexes::{assert_dump, assert_finds, assert_keys};
 use crate::shared::Shared;
 use crate::steps::Step::{self, Call};
-use blink_batch::{Answer, Entry, Op};
-use blink_index::Index;
+use crate::steps::every;
+use blink_batch::{Answer, Op};
 use blink_live::PassError;
 use std::alloc::{AllocError, Global};
-use std::test::Fail;
+use std::process::Abort;
 
 // ---- one thread
 
@@ -21,14 +21,12 @@ const SPLIT: &str = "\
 ";
 
 #[test]
-fn a_full_leaf_is_split(rt: HostRuntime) -> Result<(), Fail> {
-    let alloc = rt.alloc();
-    let mut table = Shared::open(alloc, &filled(alloc, 4)?, 1, 0)?;
-    table.deal(alloc, &[5], 1, 0)?;
+fn a_full_leaf_is_split(rt: HostRuntime) {
+    let mut table = Shared::filled(&rt, rt.alloc(), 4, 1, 0);
+    table.deal(&rt, &[5], 1, 0);
     table.take(&rt, 0, &ONE_MORE);
-    let closed = table.close(alloc)?;
-    assert_eq!(rt; closed.dump(alloc)?.as_str(), SPLIT);
-    Ok(())
+    let closed = table.close(&rt);
+    assert_dump(&rt, rt.alloc(), &closed, SPLIT);
 }
 
 const SPENT: [Step; 6] = [
@@ -48,16 +46,14 @@ const NOT_SPENT: [Step; 4] = [
 ];
 
 #[test]
-fn a_spent_pass_inserts_no_more(rt: HostRuntime) -> Result<(), Fail> {
-    let alloc = rt.alloc();
-    let mut table = Shared::open(alloc, &filled(alloc, 4)?, 2, 0)?;
-    table.deal(alloc, &[5, 9], 1, 0)?;
-    table.deal(alloc, &[2, 7], 1, 0)?;
+fn a_spent_pass_inserts_no_more(rt: HostRuntime) {
+    let mut table = Shared::filled(&rt, rt.alloc(), 4, 2, 0);
+    table.deal(&rt, &[5, 9], 1, 0);
+    table.deal(&rt, &[2, 7], 1, 0);
     table.take(&rt, 0, &SPENT);
     table.take(&rt, 1, &NOT_SPENT);
-    let closed = table.close(alloc)?;
-    assert!(rt; closed.find(5) == Some(50) && closed.find(7) == Some(70) && closed.find(9) == None);
-    Ok(())
+    let closed = table.close(&rt);
+    assert_finds(&rt, &closed, &[(5, Some(50)), (7, Some(70)), (9, None)]);
 }
 
 const THERE: [Step; 5] = [
@@ -69,14 +65,12 @@ const THERE: [Step; 5] = [
 ];
 
 #[test]
-fn a_key_that_is_there_keeps_its_pointer(rt: HostRuntime) -> Result<(), Fail> {
-    let alloc = rt.alloc();
-    let mut table = Shared::open(alloc, &filled(alloc, 4)?, 1, 0)?;
-    table.deal(alloc, &[3, 8], 1, 0)?;
+fn a_key_that_is_there_keeps_its_pointer(rt: HostRuntime) {
+    let mut table = Shared::filled(&rt, rt.alloc(), 4, 1, 0);
+    table.deal(&rt, &[3, 8], 1, 0);
     table.take(&rt, 0, &THERE);
-    let closed = table.close(alloc)?;
-    assert!(rt; closed.find(3) == Some(30) && closed.find(8) == None);
-    Ok(())
+    let closed = table.close(&rt);
+    assert_finds(&rt, &closed, &[(3, Some(30)), (8, None)]);
 }
 
 // The steps of inserting these keys in this order, each with ten times the key.
@@ -90,46 +84,37 @@ fn insertions(alloc: Global, keys: &[u64]) -> Result<Vec<Step>, AllocError> {
 }
 
 #[test]
-fn one_pass_builds_three_levels(rt: HostRuntime) -> Result<(), Fail> {
-    let alloc = rt.alloc();
-    let keys: Vec<u64> = (1..15).collect(alloc)?;
-    let mut table = Shared::open(alloc, &Index::new(alloc, 4)?, 14, 0)?;
-    table.deal(alloc, &keys, 14, 0)?;
-    table.take(&rt, 0, &insertions(alloc, &keys)?);
-    let closed = table.close(alloc)?;
-    assert_eq!(rt; closed.dump(alloc)?.as_str(), FOURTEEN);
-    Ok(())
+fn one_pass_builds_three_levels(rt: HostRuntime) {
+    let keys = every(rt.alloc(), 1, 1, 14).expect(&rt, "no keys");
+    let steps = insertions(rt.alloc(), &keys).expect(&rt, "no steps");
+    let mut table = Shared::new(&rt, rt.alloc(), 14, 0);
+    table.deal(&rt, &keys, 14, 0);
+    table.take(&rt, 0, &steps);
+    let closed = table.close(&rt);
+    assert_dump(&rt, rt.alloc(), &closed, FOURTEEN);
 }
 
 // ---- several threads
 
-// Whether the index has exactly these keys, each with ten times the key.
-pub(crate) fn has_exactly(alloc: Global, index: &Index, keys: &[u64]) -> Result<bool, AllocError> {
-    let mut expected = Vec::new(alloc);
-    for &key in keys {
-        let pointer = key.wrapping_mul(10);
-        expected.push(Entry { key, pointer })?;
+impl Shared {
+    // One of four threads inserts each fourth key below 1,024, from this one on.
+    fn deal_fourth<R: Abort>(&mut self, rt: &R, alloc: Global, first: u64) {
+        let keys = every(alloc, 4, first, 256).expect(rt, "no keys");
+        let steps = insertions(alloc, &keys).expect(rt, "no steps");
+        self.deal_for(rt, &keys, 256, 0, &steps);
     }
-    let entries: Vec<Entry> = index.scan(0, u64::MAX).collect(alloc)?;
-    Ok(entries.as_slice() == expected.as_slice())
 }
 
 #[test]
-fn four_threads_insert_neighbours(rt: HostRuntime) -> Result<(), Fail> {
-    let alloc = rt.alloc();
-    let mut table = Shared::open(alloc, &Index::new(alloc, 4)?, 1_024, 0)?;
-    let mut works = Vec::new(alloc);
+fn four_threads_insert_neighbours(rt: HostRuntime) {
+    let mut table = Shared::new(&rt, rt.alloc(), 1_024, 0);
     for thread in 0..4 {
-        let keys: Vec<u64> = (0..256).map(|place| 4 * place + thread).collect(alloc)?;
-        works.push(insertions(alloc, &keys)?)?;
-        table.deal(alloc, &keys, 256, 0)?;
+        table.deal_fourth(&rt, rt.alloc(), thread);
     }
-    let works: Vec<&[Step]> = works.iter().map(|steps| steps.as_slice()).collect(alloc)?;
-    table.run(&rt, &works);
-    let closed = table.close(alloc)?;
-    let all: Vec<u64> = (0..1_024).collect(alloc)?;
-    assert!(rt; has_exactly(alloc, &closed, &all)?);
-    Ok(())
+    table.run(&rt);
+    let closed = table.close(&rt);
+    let all = every(rt.alloc(), 1, 0, 1_024).expect(&rt, "no keys");
+    assert_keys(&rt, rt.alloc(), &closed, (0, u64::MAX), &all);
 }
 
 // The keys of one of eight threads: two threads each go up, go down, and go in either of two mixed orders.
@@ -166,22 +151,24 @@ fn changes(alloc: Global, keys: &[u64], go: bool) -> Result<Vec<Step>, AllocErro
     Ok(steps)
 }
 
-// The odd threads delete their keys again, while others still insert.
-#[test]
-fn eight_threads_insert_and_half_of_them_delete(rt: HostRuntime) -> Result<(), Fail> {
-    let alloc = rt.alloc();
-    let mut table = Shared::open(alloc, &Index::new(alloc, 4)?, 512, 256)?;
-    let mut works = Vec::new(alloc);
-    for thread in 0..8 {
-        let keys = keys_of_eighth(alloc, thread)?;
+impl Shared {
+    // One of eight threads. The odd ones delete their keys again, while others still insert.
+    fn deal_eighth<R: Abort>(&mut self, rt: &R, alloc: Global, thread: u64) {
         let odd = thread % 2 == 1;
-        works.push(changes(alloc, &keys, odd)?)?;
-        table.deal(alloc, &keys, 64, if odd { 64 } else { 0 })?;
+        let keys = keys_of_eighth(alloc, thread).expect(rt, "no keys");
+        let steps = changes(alloc, &keys, odd).expect(rt, "no steps");
+        self.deal_for(rt, &keys, 64, if odd { 64 } else { 0 }, &steps);
     }
-    let works: Vec<&[Step]> = works.iter().map(|steps| steps.as_slice()).collect(alloc)?;
-    table.run(&rt, &works);
-    let closed = table.close(alloc)?;
-    let even: Vec<u64> = (0..256).map(|half| 2 * half).collect(alloc)?;
-    assert!(rt; has_exactly(alloc, &closed, &even)?);
-    Ok(())
+}
+
+#[test]
+fn eight_threads_insert_and_half_of_them_delete(rt: HostRuntime) {
+    let mut table = Shared::new(&rt, rt.alloc(), 512, 256);
+    for thread in 0..8 {
+        table.deal_eighth(&rt, rt.alloc(), thread);
+    }
+    table.run(&rt);
+    let closed = table.close(&rt);
+    let even = every(rt.alloc(), 2, 0, 256).expect(&rt, "no keys");
+    assert_keys(&rt, rt.alloc(), &closed, (0, u64::MAX), &even);
 }

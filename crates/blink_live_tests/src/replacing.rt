@@ -1,11 +1,9 @@
 //! Replacements with passes.
-use crate::indexes::{after, filled};
+use crate::indexes::{after, assert_dump};
 use crate::shared::Shared;
 use crate::steps::Step::{self, Call, Glance};
 use blink_batch::{Answer, Op};
-use blink_index::Index;
 use blink_live::PassError;
-use std::test::Fail;
 
 const ONE_REPLACEMENT: [Step; 4] = [
     Call(Op::Insert(5, 50), Ok(Answer::Inserted)),
@@ -15,15 +13,13 @@ const ONE_REPLACEMENT: [Step; 4] = [
 ];
 
 #[test]
-fn a_replacement_uses_a_deletion(rt: HostRuntime) -> Result<(), Fail> {
-    let alloc = rt.alloc();
-    let mut table = Shared::open(alloc, &Index::new(alloc, 4)?, 1, 1)?;
-    table.deal(alloc, &[5], 1, 1)?;
-    table.deal(alloc, &[], 0, 0)?;
+fn a_replacement_uses_a_deletion(rt: HostRuntime) {
+    let mut table = Shared::new(&rt, rt.alloc(), 1, 1);
+    table.deal(&rt, &[5], 1, 1);
+    table.deal(&rt, &[], 0, 0);
     table.take(&rt, 0, &ONE_REPLACEMENT);
-    table.tell_next(&rt, 0);
+    table.tell_last(&rt, 0);
     table.take(&rt, 1, &[Glance(5, Some(51))]);
-    Ok(())
 }
 
 const THREE_REPLACEMENTS: [Step; 6] = [
@@ -36,18 +32,18 @@ const THREE_REPLACEMENTS: [Step; 6] = [
 ];
 
 #[test]
-fn each_accepted_call_uses_a_deletion(rt: HostRuntime) -> Result<(), Fail> {
-    let alloc = rt.alloc();
-    let index = after(alloc, &[Op::Insert(5, 50)])?;
-    let mut table = Shared::open(alloc, &index, 0, 3)?;
-    table.deal(alloc, &[5, 6], 0, 3)?;
+fn each_accepted_call_uses_a_deletion(rt: HostRuntime) {
+    let index = after(&rt, rt.alloc(), &[Op::Insert(5, 50)]);
+    let mut table = Shared::open(&rt, rt.alloc(), &index, 0, 3);
+    table.deal(&rt, &[5, 6], 0, 3);
     table.take(&rt, 0, &THREE_REPLACEMENTS);
-    let closed = table.close(alloc)?;
-    assert_eq!(rt;
-        closed.dump(alloc)?.as_str(),
-        "0 1 - 18446744073709551615 - 5:51\n"
+    let closed = table.close(&rt);
+    assert_dump(
+        &rt,
+        rt.alloc(),
+        &closed,
+        "0 1 - 18446744073709551615 - 5:51\n",
     );
-    Ok(())
 }
 
 const ODD: [Step; 2] = [
@@ -64,13 +60,11 @@ const EVEN: [Step; 2] = [
 const OTHERS: &str = "0 1 - 18446744073709551615 - 1:11 2:22 3:33 4:44\n";
 
 #[test]
-fn two_threads_replace_in_a_leaf(rt: HostRuntime) -> Result<(), Fail> {
-    let alloc = rt.alloc();
-    let mut table = Shared::open(alloc, &filled(alloc, 4)?, 0, 4)?;
-    table.deal(alloc, &[1, 3], 0, 2)?;
-    table.deal(alloc, &[2, 4], 0, 2)?;
-    table.run(&rt, &[&ODD, &EVEN]);
-    let closed = table.close(alloc)?;
-    assert_eq!(rt; closed.dump(alloc)?.as_str(), OTHERS);
-    Ok(())
+fn two_threads_replace_in_a_leaf(rt: HostRuntime) {
+    let mut table = Shared::filled(&rt, rt.alloc(), 4, 0, 4);
+    table.deal_for(&rt, &[1, 3], 0, 2, &ODD);
+    table.deal_for(&rt, &[2, 4], 0, 2, &EVEN);
+    table.run(&rt);
+    let closed = table.close(&rt);
+    assert_dump(&rt, rt.alloc(), &closed, OTHERS);
 }

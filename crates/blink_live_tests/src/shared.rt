@@ -2,11 +2,12 @@
 ghost use Rattle.std.specs.Prelude.{All};
 ghost use Rattle.blink_live.specs.Handles.{IsKeeperOf, IsPassOf};
 
+use crate::indexes::{after, filled};
 use crate::steps::{Step, take_all};
 use blink_index::Index;
 use blink_live::{Keeper, Live, LiveError, Pass};
 use blink_rows::Allowance;
-use std::alloc::Global;
+use std::alloc::{AllocError, Global};
 use std::process::Abort;
 use std::sync::Wait;
 use std::thread::{self, Threads};
@@ -14,38 +15,62 @@ use std::thread::{self, Threads};
 // A table with its keeper and the passes that were dealt, in the order of the deals.
 #[derive(Drop)]
 pub(crate) struct Shared {
+    alloc: Global,
     pub(crate) live: Live,
     keeper: Keeper,
     pub(crate) passes: Vec<Pass>,
+    // The steps of each pass in `run`.
+    works: Vec<Vec<Step>>,
     ghost its_keeper: { IsKeeperOf live keeper },
     ghost its_passes: { All (IsPassOf live) passes.items },
 }
 
 impl Shared {
     // With room for so many insertions and deletions.
-    pub(crate) fn open(
+    fn try_open(
         alloc: Global,
         index: &Index,
         inserts: u32,
         deletes: u32,
     ) -> Result<Shared, LiveError> {
         let (live, keeper) = Live::open(alloc, index, Allowance { inserts, deletes })?;
-        let passes = Vec::new(alloc);
         Ok(Shared {
+            alloc,
             live,
             keeper,
-            passes,
+            passes: Vec::new(alloc),
+            works: Vec::new(alloc),
         })
     }
 
-    pub(crate) fn deal(
-        &mut self,
+    pub(crate) fn open<R: Abort>(
+        rt: &R,
         alloc: Global,
-        keys: &[u64],
+        index: &Index,
         inserts: u32,
         deletes: u32,
-    ) -> Result<(), LiveError> {
-        let Ok(keys) = keys.to_vec(alloc) else {
+    ) -> Shared {
+        Shared::try_open(alloc, index, inserts, deletes).expect(rt, "not opened")
+    }
+
+    // Over an index without keys.
+    pub(crate) fn new<R: Abort>(rt: &R, alloc: Global, inserts: u32, deletes: u32) -> Shared {
+        Shared::open(rt, alloc, &after(rt, alloc, &[]), inserts, deletes)
+    }
+
+    // Over the index of the keys 1 to this one.
+    pub(crate) fn filled<R: Abort>(
+        rt: &R,
+        alloc: Global,
+        last: u64,
+        inserts: u32,
+        deletes: u32,
+    ) -> Shared {
+        Shared::open(rt, alloc, &filled(rt, alloc, last), inserts, deletes)
+    }
+
+    fn try_deal(&mut self, keys: &[u64], inserts: u32, deletes: u32) -> Result<(), LiveError> {
+        let Ok(keys) = keys.to_vec(self.alloc) else {
             return Err(LiveError::DealOutOfMemory);
         };
         let pass = self.live.deal(&mut self.keeper, keys, inserts, deletes)?;
@@ -55,17 +80,54 @@ impl Shared {
         }
     }
 
+    pub(crate) fn deal<R: Abort>(&mut self, rt: &R, keys: &[u64], inserts: u32, deletes: u32) {
+        self.try_deal(keys, inserts, deletes)
+            .expect(rt, "not dealt");
+    }
+
+    // The deal is refused with this.
+    pub(crate) fn refuse_deal<R: Abort>(
+        &mut self,
+        rt: &R,
+        keys: &[u64],
+        inserts: u32,
+        deletes: u32,
+        refusal: LiveError,
+    ) {
+        let given = self.try_deal(keys, inserts, deletes);
+        assert!(rt; given == Err(refusal), "{given:?}");
+    }
+
     // The pass at this place takes these steps.
     pub(crate) fn take<R: Wait + Abort>(&mut self, rt: &R, place: usize, steps: &[Step]) {
         assert!(rt; place < self.passes.len(), "no pass {place}");
         take_all(rt, &self.live, &mut self.passes[place], steps);
     }
 
-    // Each pass takes the steps at its place, in a thread of its own.
-    pub(crate) fn run<R: Threads + Wait + Abort + Sync>(&mut self, rt: &R, works: &[&[Step]]) {
-        assert_eq!(rt; works.len(), self.passes.len());
-        let live = &self.live;
-        let threads = works.len().max(1);
+    fn try_plan(&mut self, steps: &[Step]) -> Result<(), AllocError> {
+        let steps = steps.to_vec(self.alloc)?;
+        self.works.push(steps)?;
+        Ok(())
+    }
+
+    // Deals a pass for a thread that is to take these steps.
+    pub(crate) fn deal_for<R: Abort>(
+        &mut self,
+        rt: &R,
+        keys: &[u64],
+        inserts: u32,
+        deletes: u32,
+        steps: &[Step],
+    ) {
+        self.deal(rt, keys, inserts, deletes);
+        self.try_plan(steps).expect(rt, "not planned");
+    }
+
+    // Each pass takes the steps that it was dealt for, in a thread of its own.
+    pub(crate) fn run<R: Threads + Wait + Abort + Sync>(&mut self, rt: &R) {
+        let threads = self.passes.len();
+        assert_eq!(rt; self.works.len(), threads);
+        let (live, works) = (&self.live, self.works.as_slice());
         let one = |place: usize, pass: &mut Pass|
             requires { IsPassOf live.now pass.now }
             ensures { IsPassOf live.entry.now pass.exit.now }
@@ -74,14 +136,31 @@ impl Shared {
                 take_all(rt, live, pass, steps);
             }
         };
-        thread::for_each_mut(rt, &mut self.passes, threads, &one);
+        thread::for_each_mut(rt, &mut self.passes, threads.max(1), &one);
     }
 
-    // The pass at this place tells the next one what it has seen.
-    pub(crate) fn tell_next<R: Abort>(&mut self, rt: &R, place: usize) {
-        assert!(rt; place + 1 < self.passes.len(), "no pass after {place}");
-        let (front, back) = self.passes.split_at_mut(place + 1);
-        self.live.tell(&mut front[place], &mut back[0]);
+    // The pass at this place tells the last one what it has seen.
+    pub(crate) fn tell_last<R: Abort>(&mut self, rt: &R, place: usize) {
+        let mut last = self.passes.pop().expect(rt, "no pass");
+        assert!(rt;
+            place < self.passes.len(),
+            "no pass {place} before the last"
+        );
+        self.live.tell(&mut self.passes[place], &mut last);
+        let pushed = self.passes.push(last);
+        assert!(rt; pushed.is_ok(), "no memory");
+    }
+
+    // The last pass tells the one at this place what it has seen.
+    pub(crate) fn hear_last<R: Abort>(&mut self, rt: &R, place: usize) {
+        let mut last = self.passes.pop().expect(rt, "no pass");
+        assert!(rt;
+            place < self.passes.len(),
+            "no pass {place} before the last"
+        );
+        self.live.tell(&mut last, &mut self.passes[place]);
+        let pushed = self.passes.push(last);
+        assert!(rt; pushed.is_ok(), "no memory");
     }
 
     // The first pass is dropped.
@@ -90,12 +169,39 @@ impl Shared {
         let _lost = self.passes.remove(0);
     }
 
-    pub(crate) fn close(self, alloc: Global) -> Result<Index, LiveError> {
+    fn try_close(self) -> Result<Index, LiveError> {
         let Shared {
+            alloc,
             live,
             keeper,
             passes,
+            works: _works,
         } = self;
         live.close(alloc, keeper, passes)
+    }
+
+    pub(crate) fn close<R: Abort>(self, rt: &R) -> Index {
+        self.try_close().expect(rt, "not closed")
+    }
+
+    // The close is refused with this.
+    pub(crate) fn refuse_close<R: Abort>(self, rt: &R, refusal: LiveError) {
+        let given = self.try_close().expect_err(rt, "closed");
+        assert_eq!(rt; given, refusal);
+    }
+}
+
+// Opening over this index is refused with this.
+pub(crate) fn refuse_open<R: Abort>(
+    rt: &R,
+    alloc: Global,
+    index: &Index,
+    inserts: u32,
+    deletes: u32,
+    refusal: LiveError,
+) {
+    match Shared::try_open(alloc, index, inserts, deletes) {
+        Ok(_) => rt.panic("opened"),
+        Err(given) => assert_eq!(rt; given, refusal),
     }
 }

@@ -3,6 +3,7 @@ ghost use Rattle.blink_live.specs.Handles.{IsPassOf};
 
 use blink_batch::{Answer, Op};
 use blink_live::{Live, Pass, PassError};
+use std::alloc::{AllocError, Global};
 use std::process::Abort;
 use std::sync::Wait;
 
@@ -49,4 +50,18 @@ pub(crate) fn take_all<R: Wait + Abort>(rt: &R, live: &Live, pass: &mut Pass, st
     for &step in steps {
         take(rt, live, pass, step);
     }
+}
+
+// So many keys, each by this step above the one before.
+pub(crate) fn every(
+    alloc: Global,
+    step: u64,
+    first: u64,
+    count: u64,
+) -> Result<Vec<u64>, AllocError> {
+    let mut keys = Vec::new(alloc);
+    for place in 0..count {
+        keys.push(place.wrapping_mul(step).wrapping_add(first))?;
+    }
+    Ok(keys)
 }

@@ -1,14 +1,14 @@
 //! Threads that insert, delete, and look at each other's keys meanwhile.
 ghost use Rattle.blink_live.specs.Handles.{IsPassOf};
 
-use crate::inserting::has_exactly;
+use crate::indexes::assert_keys;
 use crate::shared::Shared;
+use crate::steps::every;
 use blink_batch::Answer;
-use blink_index::Index;
 use blink_live::{Live, Pass};
+use std::alloc::Global;
 use std::process::Abort;
 use std::sync::Wait;
-use std::test::Fail;
 use std::thread::{self, Threads};
 
 // Which keys a thread has seen.
@@ -76,17 +76,22 @@ impl Shared {
     }
 }
 
+impl Shared {
+    // One of eight threads. The odd ones delete their keys again.
+    fn deal_eighth_to_watch<R: Abort>(&mut self, rt: &R, alloc: Global, eighth: u64) {
+        let keys = every(alloc, 8, eighth, 64).expect(rt, "no keys");
+        self.deal(rt, &keys, 64, if eighth % 2 == 1 { 64 } else { 0 });
+    }
+}
+
 #[test]
-fn eight_threads_look_at_each_others_keys(rt: HostRuntime) -> Result<(), Fail> {
-    let alloc = rt.alloc();
-    let mut table = Shared::open(alloc, &Index::new(alloc, 4)?, 512, 256)?;
+fn eight_threads_look_at_each_others_keys(rt: HostRuntime) {
+    let mut table = Shared::new(&rt, rt.alloc(), 512, 256);
     for eighth in 0..8 {
-        let keys: Vec<u64> = (0..64).map(|place| 8 * place + eighth).collect(alloc)?;
-        table.deal(alloc, &keys, 64, if eighth % 2 == 1 { 64 } else { 0 })?;
+        table.deal_eighth_to_watch(&rt, rt.alloc(), eighth);
     }
     table.change_all(&rt);
-    let closed = table.close(alloc)?;
-    let even: Vec<u64> = (0..256).map(|half| 2 * half).collect(alloc)?;
-    assert!(rt; has_exactly(alloc, &closed, &even)?);
-    Ok(())
+    let closed = table.close(&rt);
+    let even = every(rt.alloc(), 2, 0, 256).expect(&rt, "no keys");
+    assert_keys(&rt, rt.alloc(), &closed, (0, u64::MAX), &even);
 }

@@ -1,13 +1,14 @@
 //! A table with one pass, whose calls have no condition: what is so of it is in its type.
 ghost use Rattle.blink_live.specs.Handles.{IsPassOf};
 
+use crate::tests::{dealt, opened};
 use crate::{Live, Pass, PassError};
 use blink_batch::{Answer, Op};
 use blink_index::Index;
 use blink_rows::Allowance;
 use std::alloc::Global;
+use std::process::Abort;
 use std::sync::Wait;
-use std::test::Fail;
 
 #[derive(Drop)]
 pub(super) struct Alone {
@@ -18,16 +19,16 @@ pub(super) struct Alone {
 
 impl Alone {
     // The pass has these keys, and all that is allowed.
-    pub(super) fn open(
+    pub(super) fn open<R: Abort>(
+        rt: &R,
         alloc: Global,
         index: &Index,
         allowance: Allowance,
         keys: &[u64],
-    ) -> Result<Alone, Fail> {
-        let Allowance { inserts, deletes } = allowance;
-        let (live, mut keeper) = Live::open(alloc, index, allowance)?;
-        let pass = live.deal(&mut keeper, keys.to_vec(alloc)?, inserts, deletes)?;
-        Ok(Alone { live, pass })
+    ) -> Alone {
+        let (live, mut keeper) = opened(rt, alloc, index, allowance);
+        let pass = dealt(rt, alloc, &live, &mut keeper, keys, allowance);
+        Alone { live, pass }
     }
 
     pub(super) fn call<R: Wait>(&mut self, rt: &R, op: Op) -> Result<Answer, PassError> {

@@ -1,87 +1,58 @@
 //! Which rows calls write, and which they use.
+use crate::PassError;
 use crate::tests::alone::Alone;
-use crate::tests::{after, filled};
-use crate::{Live, PassError};
+use crate::tests::{FIVE, after, assert_words};
 use blink_batch::{Answer, Op};
 use blink_rows::{Allowance, Counts, Span};
-use std::process::Abort;
-use std::test::Fail;
 
 // ---- an insertion
 
 // The 24 page words and the 24 latch words once key 5 has split the leaf of the keys 1 to 4: the new right page, 2, was written
 // first, in row 3; then page 1 in row 4, the root, page 3, in row 5, and the prime block in row 6. No page is latched any more.
-fn word_after_split(place: usize) -> u64 {
-    match place {
-        0 => 6,
-        1 => 4,
-        2 => 3,
-        3 => 5,
-        _ => 0,
-    }
-}
+const AFTER_SPLIT: [(usize, u64); 4] = [(0, 6), (1, 4), (2, 3), (3, 5)];
 
 #[test]
-fn a_split_is_written_right_page_first(rt: HostRuntime) -> Result<(), Fail> {
+fn a_split_is_written_right_page_first(rt: HostRuntime) {
     let alloc = rt.alloc();
     let allowance = Allowance {
         inserts: 1,
         deletes: 0,
     };
-    let mut table = Alone::open(alloc, &filled(alloc, 4)?, allowance, &[5])?;
+    let index = after(&rt, alloc, &FIVE[..4]);
+    let mut table = Alone::open(&rt, alloc, &index, allowance, &[5]);
     assert!(rt; table.call(&rt, Op::Insert(5, 50)) == Ok(Answer::Inserted));
-    let live = &table.live;
-    assert!(rt; live.table.word_count() == 3_268);
-    for place in 0..48 {
-        assert_eq!(rt;
-            live.table.shared.peek(place),
-            word_after_split(place),
-            "word {place}"
-        );
-    }
-    Ok(())
+    assert!(rt; table.live.table.word_count() == 3_268);
+    assert_words(&rt, &table.live, 48, &AFTER_SPLIT);
 }
 
 // ---- deletions
 
 // The words of the table of the keys 1 to 4 once key 1 is deleted: page 1 was in row 2, from word 74 on, and is in row 3, from
 // word 144 on. Nobody has its latch, which is word 3.
-fn word_without_key_1(place: usize) -> u64 {
-    match place {
-        0 => 1,
-        1 => 3,
-        9 | 10 => 1,
-        77 => u64::MAX,
-        79 => 4,
-        80 => 1,
-        81 => 10,
-        82 => 2,
-        83 => 20,
-        84 => 3,
-        85 => 30,
-        86 => 4,
-        87 => 40,
-        147 => u64::MAX,
-        149 => 3,
-        150 => 2,
-        151 => 20,
-        152 => 3,
-        153 => 30,
-        154 => 4,
-        155 => 40,
-        _ => 0,
-    }
-}
-
-// Asserts that those are the table's words.
-fn has_lost_key_1<R: Abort>(rt: &R, live: &Live) {
-    for place in 0..live.table.word_count() {
-        assert!(rt;
-            live.table.shared.peek(place) == word_without_key_1(place),
-            "at {place}"
-        );
-    }
-}
+const WITHOUT_KEY_1: [(usize, u64); 22] = [
+    (0, 1),
+    (1, 3),
+    (9, 1),
+    (10, 1),
+    (77, u64::MAX),
+    (79, 4),
+    (80, 1),
+    (81, 10),
+    (82, 2),
+    (83, 20),
+    (84, 3),
+    (85, 30),
+    (86, 4),
+    (87, 40),
+    (147, u64::MAX),
+    (149, 3),
+    (150, 2),
+    (151, 20),
+    (152, 3),
+    (153, 30),
+    (154, 4),
+    (155, 40),
+];
 
 // Each with what it gives, and the pass's next row then. The second accepted one uses its row, which stays 0.
 const DELETIONS: [(Op, Result<Answer, PassError>, u64); 5] = [
@@ -93,13 +64,14 @@ const DELETIONS: [(Op, Result<Answer, PassError>, u64); 5] = [
 ];
 
 #[test]
-fn each_accepted_deletion_uses_a_row(rt: HostRuntime) -> Result<(), Fail> {
+fn each_accepted_deletion_uses_a_row(rt: HostRuntime) {
     let alloc = rt.alloc();
     let allowance = Allowance {
         inserts: 0,
         deletes: 2,
     };
-    let mut table = Alone::open(alloc, &filled(alloc, 4)?, allowance, &[1, 2])?;
+    let index = after(&rt, alloc, &FIVE[..4]);
+    let mut table = Alone::open(&rt, alloc, &index, allowance, &[1, 2]);
     assert!(rt;
         table.live.counts
             == Counts {
@@ -113,9 +85,8 @@ fn each_accepted_deletion_uses_a_row(rt: HostRuntime) -> Result<(), Fail> {
     for (op, expected, next) in DELETIONS {
         assert!(rt; table.call(&rt, op) == expected, "{op:?}");
         assert!(rt; table.pass.rows == Span { next, stop: 5 }, "{op:?}");
-        has_lost_key_1(&rt, &table.live);
+        assert_words(&rt, &table.live, 284, &WITHOUT_KEY_1);
     }
-    Ok(())
 }
 
 // ---- replacements
@@ -132,18 +103,17 @@ const REPLACEMENTS: [(Op, Result<Answer, PassError>, u64, u64); 6] = [
 ];
 
 #[test]
-fn each_accepted_replacement_uses_a_row(rt: HostRuntime) -> Result<(), Fail> {
+fn each_accepted_replacement_uses_a_row(rt: HostRuntime) {
     let alloc = rt.alloc();
     let allowance = Allowance {
         inserts: 0,
         deletes: 3,
     };
-    let index = after(alloc, &[Op::Insert(5, 50)])?;
-    let mut table = Alone::open(alloc, &index, allowance, &[5, 6])?;
+    let index = after(&rt, alloc, &FIVE[4..]);
+    let mut table = Alone::open(&rt, alloc, &index, allowance, &[5, 6]);
     for (op, expected, row, next) in REPLACEMENTS {
         assert!(rt; table.call(&rt, op) == expected, "{op:?}");
         assert_eq!(rt; table.live.table.shared.peek(1), row, "{op:?}");
         assert!(rt; table.pass.rows == Span { next, stop: 6 }, "{op:?}");
     }
-    Ok(())
 }
