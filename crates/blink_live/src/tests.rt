@@ -8,26 +8,30 @@ mod opening;
 mod rows;
 
 use crate::{Keeper, Live, Pass};
-use blink_batch::{Batch, Lanes, Op};
+use alone::Alone;
+use blink_batch::{Answer, Op};
 use blink_index::Index;
 use blink_rows::Allowance;
-use blink_steps::World;
 use std::alloc::Global;
 use std::process::Abort;
+use std::sync::Wait;
 
-fn run_by_one(alloc: Global, ops: &[Op]) -> Option<Index> {
-    let lanes = vec![in alloc; 0u8; ops.len()].ok()?;
-    let batch = Batch::new(ops.to_vec(alloc).ok()?).ok()?;
-    let lanes = Lanes::new(&batch, 1, lanes).ok()?;
-    let rest = Index::new(alloc, 4).ok()?.into_rest();
-    let mut world = World::start(alloc, rest, batch, lanes).ok()?;
-    world.finish().ok()?;
-    Some(Index::from_rest(world.into_rest()))
-}
-
-// The index after these operations, run by one worker in their order. Its pages have at most 4 entries.
-fn after<R: Abort>(rt: &R, alloc: Global, ops: &[Op]) -> Index {
-    run_by_one(alloc, ops).expect(rt, "no index")
+// The index that a table over an empty one closes to, once these operations, insertions, were called. Its pages have at most 4 entries.
+fn after<R: Wait + Abort>(rt: &R, alloc: Global, ops: &[Op]) -> Index {
+    let empty = Index::new(alloc, 4).expect(rt, "no index");
+    let mut keys = Vec::new(alloc);
+    for op in ops {
+        keys.push(op.key()).expect(rt, "no keys");
+    }
+    let allowance = Allowance {
+        inserts: 5,
+        deletes: 0,
+    };
+    let mut table = Alone::open(rt, alloc, &empty, allowance, &keys);
+    for &op in ops {
+        assert!(rt; table.call(rt, op) == Ok(Answer::Inserted), "{op:?}");
+    }
+    table.close(rt, alloc)
 }
 
 // The keys 1 to 4 fill a leaf, which key 5 splits.

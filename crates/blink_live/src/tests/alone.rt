@@ -1,8 +1,8 @@
 //! A table with one pass, whose calls have no condition: what is so of it is in its type.
-ghost use Rattle.blink_live.specs.Handles.{IsPassOf};
+ghost use Rattle.blink_live.specs.Handles.{IsKeeperOf, IsPassOf};
 
 use crate::tests::{dealt, opened};
-use crate::{Live, Pass, PassError};
+use crate::{Keeper, Live, Pass, PassError};
 use blink_batch::{Answer, Op};
 use blink_index::Index;
 use blink_rows::Allowance;
@@ -13,7 +13,9 @@ use std::sync::Wait;
 #[derive(Drop)]
 pub(super) struct Alone {
     pub(super) live: Live,
+    keeper: Keeper,
     pub(super) pass: Pass,
+    ghost its_keeper: { IsKeeperOf live keeper },
     ghost its_own: { IsPassOf live pass },
 }
 
@@ -28,16 +30,22 @@ impl Alone {
     ) -> Alone {
         let (live, mut keeper) = opened(rt, alloc, index, allowance);
         let pass = dealt(rt, alloc, &live, &mut keeper, keys, allowance);
-        Alone { live, pass }
+        Alone { live, keeper, pass }
     }
 
     pub(super) fn call<R: Wait>(&mut self, rt: &R, op: Op) -> Result<Answer, PassError> {
-        let Alone { live, pass } = self;
+        let Alone { live, pass, .. } = self;
         match op {
             Op::Find(key) => live.find(pass, key),
             Op::Insert(key, pointer) => live.insert(rt, pass, key, pointer),
             Op::Delete(key) => live.delete(rt, pass, key),
             Op::Replace(key, pointer) => live.replace(rt, pass, key, pointer),
         }
+    }
+
+    pub(super) fn close<R: Abort>(self, rt: &R, alloc: Global) -> Index {
+        let Alone { live, keeper, pass } = self;
+        let passes = vec![in alloc; pass].expect(rt, "no list");
+        live.close(alloc, keeper, passes).expect(rt, "not closed")
     }
 }
