@@ -3,7 +3,7 @@ use crate::fixtures::stores::has_pages;
 use crate::fixtures::worlds::{full_leaf, world_of};
 use crate::fixtures::{given, same};
 use blink_batch::Op;
-use blink_steps::{Debt, Job, Kind, State, Step, World};
+use blink_steps::{Debt, Job, Kind, State, Step, Working, World};
 use std::alloc::Global;
 use std::process::Abort;
 
@@ -23,23 +23,42 @@ fn the_latch_of_a_split_page_is_seen(rt: HostRuntime) {
     same(&rt, &world.latches().holder(2), &None);
 }
 
-#[test]
-fn a_split_is_seen_half_finished(rt: HostRuntime) {
-    let world = half_split(&rt, rt.alloc());
-    assert!(rt; world.workers() == 3);
-    assert!(rt; world.working(1).is_none());
-    let Some(working) = world.working(0) else {
-        panic!(rt; "worker 0 is idle");
-    };
+// The worker has no operation under way.
+fn is_without_work(rt: &impl Abort, world: &World, worker: u8) {
+    assert!(rt; worker < world.workers());
+    assert!(rt; world.working(worker).is_none());
+}
+
+// What the worker has under way.
+fn work_of<'a>(rt: &impl Abort, world: &'a World, worker: u8) -> &'a Working {
+    assert!(rt; worker < world.workers());
+    world.working(worker).expect(rt, "the worker is idle")
+}
+
+// Whether page 1 is to be written next, by an operation that owes this.
+fn is_to_write_first(state: &State, owed: Debt) -> bool {
+    matches!(state, State::SplitOld(1, _, debt) if *debt == owed)
+}
+
+// The first operation has written the new page, and is to write the old one.
+fn is_half_split(rt: &impl Abort, working: &Working) {
     let owed = Debt {
         level: 0,
         separator: 3,
         page: 2,
     };
-    same(&rt, &working.place, &0);
-    assert!(rt; matches!(working.machine.state(), State::SplitOld(1, _, debt) if *debt == owed));
-    same(&rt, &working.machine.job(), &Job::Leaf);
-    assert!(rt; working.machine.remembered().is_empty());
+    same(rt, &working.place, &0);
+    same(rt, &is_to_write_first(working.machine.state(), owed), &true);
+    same(rt, &working.machine.job(), &Job::Leaf);
+    same(rt, &working.machine.remembered().is_empty(), &true);
+}
+
+#[test]
+fn a_split_is_seen_half_finished(rt: HostRuntime) {
+    let world = half_split(&rt, rt.alloc());
+    same(&rt, &world.workers(), &3);
+    is_without_work(&rt, &world, 1);
+    is_half_split(&rt, work_of(&rt, &world, 0));
 }
 
 #[test]
