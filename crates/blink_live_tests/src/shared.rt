@@ -1,5 +1,5 @@
 //! A table that threads share, whose calls have no condition: what is so of it is in its type.
-ghost use Rattle.std.specs.Prelude.{All};
+ghost use Rattle.std.specs.Prelude.{All, ◌<◌, vec_len};
 ghost use Rattle.blink_live.specs.Handles.{IsKeeperOf, IsPassOf};
 
 use crate::indexes::{after, filled};
@@ -141,26 +141,20 @@ impl Shared {
 
     // The pass at this place tells the last one what it has seen.
     pub(crate) fn tell_last<R: Abort>(&mut self, rt: &R, place: usize) {
-        let mut last = self.passes.pop().expect(rt, "no pass");
-        assert!(rt;
-            place < self.passes.len(),
-            "no pass {place} before the last"
-        );
-        self.live.tell(&mut self.passes[place], &mut last);
-        let pushed = self.passes.push(last);
-        assert!(rt; pushed.is_ok(), "no memory");
+        let (live, passes) = (&self.live, &mut self.passes);
+        let mut last = without_last(rt, live, passes);
+        assert!(rt; place < passes.len(), "no pass {place} before the last");
+        tell_from(live, passes, place, &mut last);
+        with_last(rt, live, passes, last);
     }
 
     // The last pass tells the one at this place what it has seen.
     pub(crate) fn hear_last<R: Abort>(&mut self, rt: &R, place: usize) {
-        let mut last = self.passes.pop().expect(rt, "no pass");
-        assert!(rt;
-            place < self.passes.len(),
-            "no pass {place} before the last"
-        );
-        self.live.tell(&mut last, &mut self.passes[place]);
-        let pushed = self.passes.push(last);
-        assert!(rt; pushed.is_ok(), "no memory");
+        let (live, passes) = (&self.live, &mut self.passes);
+        let mut last = without_last(rt, live, passes);
+        assert!(rt; place < passes.len(), "no pass {place} before the last");
+        tell_to(live, &mut last, passes, place);
+        with_last(rt, live, passes, last);
     }
 
     // The first pass is dropped.
@@ -204,4 +198,43 @@ pub(crate) fn refuse_open<R: Abort>(
         Ok(_) => rt.panic("opened"),
         Err(given) => assert_eq!(rt; given, refusal),
     }
+}
+
+// ---- passes that tell each other, a step a function: the facts of all passes are then carried by its clauses
+
+fn without_last<R: Abort>(rt: &R, live: &Live, passes: &mut Vec<Pass>) -> Pass
+    requires { All (IsPassOf live.now) passes.old.items }
+    ensures last { IsPassOf live.now result }
+    ensures others { All (IsPassOf live.now) passes.new.items }
+{
+    passes.pop().expect(rt, "no pass")
+}
+
+fn with_last<R: Abort>(rt: &R, live: &Live, passes: &mut Vec<Pass>, last: Pass)
+    requires last { IsPassOf live.now last }
+    requires others { All (IsPassOf live.now) passes.old.items }
+    ensures { All (IsPassOf live.now) passes.new.items }
+{
+    let pushed = passes.push(last);
+    assert!(rt; pushed.is_ok(), "no memory");
+}
+
+fn tell_from(live: &Live, passes: &mut Vec<Pass>, place: usize, to: &mut Pass)
+    requires place { place < vec_len passes.old }
+    requires all { All (IsPassOf live.now) passes.old.items }
+    requires to { IsPassOf live.now to.old }
+    ensures all { All (IsPassOf live.now) passes.new.items }
+    ensures to { IsPassOf live.now to.new }
+{
+    live.tell(&mut passes[place], to);
+}
+
+fn tell_to(live: &Live, from: &mut Pass, passes: &mut Vec<Pass>, place: usize)
+    requires place { place < vec_len passes.old }
+    requires all { All (IsPassOf live.now) passes.old.items }
+    requires from { IsPassOf live.now from.old }
+    ensures all { All (IsPassOf live.now) passes.new.items }
+    ensures from { IsPassOf live.now from.new }
+{
+    live.tell(from, &mut passes[place]);
 }
