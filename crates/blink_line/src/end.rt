@@ -9,9 +9,6 @@ use crate::line::LineError;
 use blink_run::ServeError;
 use std::alloc::{AllocError, Global};
 
-#[cfg(test)]
-mod tests;
-
 /// The exit status where the command line asks for nothing.
 pub const USAGE: u8 = 2;
 

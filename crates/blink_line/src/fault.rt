@@ -6,9 +6,6 @@ ghost use Rattle.blink_line.specs.End.{IsFixedLine};
 use blink_run::ServeError;
 use std::alloc::{AllocError, Global};
 
-#[cfg(test)]
-mod tests;
-
 /// The exit status where the text is no script.
 pub const SCRIPT: u8 = 3;
 

@@ -14,9 +14,6 @@ use clap::error::ErrorKind;
 use std::alloc::{AllocError, Global};
 use thiserror::Error;
 
-#[cfg(test)]
-mod tests;
-
 /// What the command line asks for.
 #[derive(Debug, PartialEq, Eq, Drop)]
 pub enum Line {

@@ -16,8 +16,6 @@ mod replay;
 mod run;
 mod script;
 mod settings;
-#[cfg(test)]
-mod tests;
 mod text;
 mod trace;
 

@@ -5,9 +5,6 @@ ghost use Rattle.blink_run.specs.Outlet.{BreaksOff, Pours};
 use crate::error::ServeError;
 use std::io::Write;
 
-#[cfg(test)]
-mod tests;
-
 /// A writer, without the kinds of its errors. Its contracts tell one call from another, so that the functions that use it can say
 /// which calls it has seen.
 pub trait Outlet {

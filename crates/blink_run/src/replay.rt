@@ -24,11 +24,6 @@ use blink_steps::{StepError, World};
 use std::alloc::{AllocError, Global};
 use std::io::{Read, Write};
 
-#[cfg(test)]
-mod fronts;
-#[cfg(test)]
-mod tests;
-
 /// Reads a whole script and runs its parts one after another on one new index, without threads: each batch is cut by the
 /// remainders of the keys, whatever the settings say, and no driver is used. The script's last batch takes a turn for each
 /// number of the schedule, and is then finished, as [`World::finish`] does it; the batches before it are finished at once.

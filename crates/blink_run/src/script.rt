@@ -22,9 +22,6 @@ use std::io::{Read, Write};
 use std::sync::Wait;
 use std::thread::Threads;
 
-#[cfg(test)]
-mod tests;
-
 /// Reads a whole script, runs its parts one after another on one new index, and writes what they answer: a line for each
 /// operation, in the order of its batch, and for a scan or a page a line for each entry that it shows, in ascending order,
 /// and then their number. Each batch is run by the workers of the settings, in threads of their own.

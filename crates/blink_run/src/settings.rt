@@ -13,9 +13,6 @@ use std::alloc::{AllocError, Global};
 use std::marker::Model;
 use thiserror::Error;
 
-#[cfg(test)]
-mod tests;
-
 /// How each batch of a script is cut among workers.
 #[derive(Clone, Copy, Debug, PartialEq, Eq)]
 pub enum CutKind {

@@ -6,8 +6,6 @@ mod batch;
 mod frame;
 mod line;
 mod show;
-#[cfg(test)]
-mod tests;
 mod turns;
 mod words;
 

@@ -1,5 +1,5 @@
 use super::carry_out;
-use blink_line::{End, Line, ProgramError, end_of, read_line};
+use blink_line::{End, Line, ProgramError, end_of};
 use blink_run::{CutKind, Driver, Settings};
 use std::alloc::Global;
 use std::io;
@@ -37,106 +37,6 @@ fn all_lines_leave_the_program(rt: HostRuntime) -> Result<(), Fail> {
         let end = carry_out(&rt, alloc, &line, &mut script, &mut output);
         assert!(rt; end.is_ok());
         assert_eq!(rt; output.get_ref().as_slice(), expected.as_bytes());
-    }
-    Ok(())
-}
-
-// What leaves the program where a script is run by this driver, and how the program ends.
-fn run_by<T: Threads + Wait + Sync>(
-    rt: &T,
-    alloc: Global,
-    workers: &str,
-    driver: &str,
-    script: &str,
-) -> Result<(Vec<u8>, End), Fail> {
-    let words = [
-        "blink",
-        "run",
-        "--workers",
-        workers,
-        "--fan",
-        "4",
-        "--driver",
-        driver,
-    ];
-    let line = read_line(alloc, &words)?;
-    let mut text = script.as_bytes();
-    let mut output = BufWriter::new(alloc, Vec::new(alloc))?;
-    let outcome = carry_out(rt, alloc, &line, &mut text, &mut output);
-    let written = output.get_ref().to_vec(alloc)?;
-    Ok((written, end_of(alloc, outcome.map_err(ProgramError::Serve))))
-}
-
-#[test]
-fn each_driver_writes_the_answers(rt: HostRuntime) -> Result<(), Fail> {
-    let cases = [
-        ("insert,5,50\nfind,5,\n", "inserted\nfound 50\n"),
-        ("", ""),
-        (
-            "insert,0,1\ninsert,18446744073709551615,2\nscan,0,18446744073709551615\n",
-            "inserted\ninserted\n0 1\n18446744073709551615 2\nend 2\n",
-        ),
-        (
-            "insert,7,1\ninsert,7,2\nfind,7,\n",
-            "inserted\nexists 1\nfound 1\n",
-        ),
-        (
-            "insert,7,1\ndelete,7,\ndelete,7,\ninsert,7,3\nfind,7,\n",
-            "inserted\nremoved 1\nabsent\ninserted\nfound 3\n",
-        ),
-        (
-            "insert,5,50\nscan,9,1\nscan,0,9\ninsert,6,60\n",
-            "inserted\nend 0\n5 50\nend 1\ninserted\n",
-        ),
-        (
-            "insert,7,1\nreplace,7,2\nfind,7,\nreplace,8,1\n",
-            "inserted\nreplaced 1\nfound 2\nabsent\n",
-        ),
-        (
-            "insert,1,10\ninsert,2,20\ninsert,3,30\ninsert,4,40\ninsert,5,50\npage,2,2\npage,0,0\npage,9,3\n",
-            "inserted\ninserted\ninserted\ninserted\ninserted\n2 20\n3 30\nend 2\nend 0\nend 0\n",
-        ),
-        (
-            "insert,18446744073709551615,2\npage,18446744073709551615,18446744073709551615\n",
-            "inserted\n18446744073709551615 2\nend 1\n",
-        ),
-        // A leaf of four entries splits, and the next batch finds what each half has.
-        (
-            "insert,1,10\ninsert,2,20\ninsert,3,30\ninsert,4,40\ninsert,5,50\nscan,2,4\ndelete,3,\nfind,5,\n",
-            "inserted\ninserted\ninserted\ninserted\ninserted\n2 20\n3 30\n4 40\nend 3\nremoved 30\nfound 50\n",
-        ),
-    ];
-    for driver in ["locked", "live"] {
-        for workers in ["1", "2", "64"] {
-            for (script, expected) in cases {
-                let (output, end) = run_by(&rt, rt.alloc(), workers, driver, script)?;
-                assert_eq!(rt; (end.status, end.lines()), (0, None), "{driver} {script}");
-                assert_eq!(rt; output.as_slice(), expected.as_bytes(), "{driver} {script}");
-            }
-        }
-    }
-    Ok(())
-}
-
-#[test]
-fn each_driver_refuses_what_is_no_script(rt: HostRuntime) -> Result<(), Fail> {
-    let cases = [
-        ("insert,05,1\n", "script: row 1: bad number"),
-        (
-            "insert,18446744073709551616,1\n",
-            "script: row 1: bad number",
-        ),
-        ("find,5,1\n", "script: row 1: bad shape"),
-        ("replace,7,\n", "script: row 1: bad number"),
-        ("replace,7\n", "script: row 1: bad shape"),
-        ("put,1,1\n", "script: row 1: unknown operation"),
-    ];
-    for driver in ["locked", "live"] {
-        for (script, expected) in cases {
-            let (output, end) = run_by(&rt, rt.alloc(), "4", driver, script)?;
-            assert_eq!(rt; (end.status, end.lines()), (3, Some(expected)), "{driver}");
-            assert_eq!(rt; output.len(), 0, "{driver} {script}");
-        }
     }
     Ok(())
 }

@@ -1,18 +1,15 @@
-//! Texts of replays, worked by hand from the machine's table of states.
-use crate::serve_show;
-use blink_run::{CutKind, Driver, ServeError, Settings};
+//! Texts of replays that are to be looked at, worked by hand from the machine's table of states.
+use crate::calls::{Outcome, locked};
+use blink_batch::{RecordError, ScriptError};
+use blink_run::{CutKind, ServeError};
+use blink_show::serve_show;
 use blink_steps::StepError;
 use std::alloc::Global;
 use std::test::Fail;
 
-// What is written of a script's replay between `<` and `>`, how it ended, and how much of the script is left.
-fn shown(
-    alloc: Global,
-    script: &str,
-    workers: u8,
-    schedule: &[u8],
-) -> Result<(Vec<u8>, Result<(), ServeError>, usize), Fail> {
-    let settings = Settings::new(workers, 4, CutKind::Residue, Driver::Locked)?;
+// What is written of a script's replay between `<` and `>`.
+fn shown(alloc: Global, script: &str, workers: u8, schedule: &[u8]) -> Result<Outcome, Fail> {
+    let settings = locked(workers, 4, CutKind::Residue)?;
     let mut text = script.as_bytes();
     let mut output = Vec::new(alloc);
     let end = serve_show(
@@ -24,16 +21,14 @@ fn shown(
         "<\n",
         ">\n",
     );
-    Ok((output, end, text.len()))
+    Ok(Outcome {
+        output,
+        end,
+        unread: text.len(),
+    })
 }
 
-// A worker finds a key that a split, half finished by the other, has moved to a new page: all moments, byte for byte.
-#[test]
-fn half_a_split(rt: HostRuntime) -> Result<(), Fail> {
-    let script =
-        "insert,1,10\ninsert,2,20\ninsert,3,30\ninsert,5,50\nscan,1,0\ninsert,6,60\nfind,5,\nscan,0,9\n";
-    let schedule = [1, 0, 0, 0, 0, 0, 0, 1, 1];
-    let expected = "<
+const HALF_A_SPLIT: &str = "<
 workers 2
 fan 4
 op 0 0 insert 6 60
@@ -79,20 +74,20 @@ worker 0 -
 page 1 - 0 - 3 2 1:10 2:20 3:30
 >
 ";
-    let (output, end, left) = shown(rt.alloc(), script, 2, &schedule)?;
-    assert!(rt; end.is_ok());
-    assert_eq!(rt; output.as_slice(), expected.as_bytes());
-    assert_eq!(rt; left, 0);
+
+// A worker finds a key that a split, half finished by the other, has moved to a new page: all moments, byte for byte.
+#[test]
+fn half_a_split(rt: HostRuntime) -> Result<(), Fail> {
+    let script =
+        "insert,1,10\ninsert,2,20\ninsert,3,30\ninsert,5,50\nscan,1,0\ninsert,6,60\nfind,5,\nscan,0,9\n";
+    let schedule = [1, 0, 0, 0, 0, 0, 0, 1, 1];
+    let outcome = shown(rt.alloc(), script, 2, &schedule)?;
+    outcome.expect_text(&rt, HALF_A_SPLIT);
+    assert_eq!(rt; outcome.unread, 0);
     Ok(())
 }
 
-// A split is posted to the page that was remembered; a wait and an idle turn change nothing; the answers of each kind.
-#[test]
-fn a_posting(rt: HostRuntime) -> Result<(), Fail> {
-    let script =
-        "insert,1,1\ninsert,2,2\ninsert,3,3\ninsert,4,4\nscan,1,0\ninsert,5,5\ninsert,6,6\ninsert,7,7\npage,0,1\ninsert,9,9\ndelete,7,\nreplace,1,5\n";
-    let schedule = [0, 0, 0, 0, 1, 1, 1, 1, 2, 0, 0, 0, 0, 0, 0, 0, 0, 0];
-    let expected = "<
+const A_POSTING: &str = "<
 workers 3
 fan 4
 op 0 0 insert 9 9
@@ -188,30 +183,38 @@ worker 1 -
 page 1 - 0 - 3 2 1:5 2:2 3:3
 >
 ";
-    let (output, end, _) = shown(rt.alloc(), script, 3, &schedule)?;
-    assert!(rt; end.is_ok());
-    assert_eq!(rt; output.as_slice(), expected.as_bytes());
+
+// A split is posted to the page that was remembered; a wait and an idle turn change nothing; the answers of each kind.
+#[test]
+fn a_posting(rt: HostRuntime) -> Result<(), Fail> {
+    let script =
+        "insert,1,1\ninsert,2,2\ninsert,3,3\ninsert,4,4\nscan,1,0\ninsert,5,5\ninsert,6,6\ninsert,7,7\npage,0,1\ninsert,9,9\ndelete,7,\nreplace,1,5\n";
+    let schedule = [0, 0, 0, 0, 1, 1, 1, 1, 2, 0, 0, 0, 0, 0, 0, 0, 0, 0];
+    shown(rt.alloc(), script, 3, &schedule)?.expect_text(&rt, A_POSTING);
     Ok(())
 }
 
 #[test]
 fn scripts_without_operations_have_no_frame(rt: HostRuntime) -> Result<(), Fail> {
     for script in ["", "scan,0,9\n", "page,0,1\nscan,1,0\n"] {
-        let (output, end, _) = shown(rt.alloc(), script, 3, &[2, 0])?;
-        assert!(rt; end.is_ok());
-        assert_eq!(rt; output.as_slice(), b"<\nworkers 3\nfan 4\n>\n".as_slice());
+        let outcome = shown(rt.alloc(), script, 3, &[2, 0])?;
+        outcome.expect_text(&rt, "<\nworkers 3\nfan 4\n>\n");
     }
     Ok(())
 }
 
 #[test]
-fn refusals(rt: HostRuntime) -> Result<(), Fail> {
-    let (output, end, left) = shown(rt.alloc(), "find,1,\n", 3, &[2, 3, 4])?;
-    assert!(rt; end == Err(ServeError::Step(StepError::NoWorker(3))));
-    assert!(rt; output.is_empty());
-    assert_eq!(rt; left, 8);
-    let (output, end, _) = shown(rt.alloc(), "find,1,\nfind,x,\n", 3, &[2])?;
-    assert!(rt; matches!(end, Err(ServeError::Script(_))));
-    assert!(rt; output.is_empty());
+fn a_number_that_is_no_worker_is_told_before_anything_is_read(rt: HostRuntime) -> Result<(), Fail> {
+    let outcome = shown(rt.alloc(), "find,1,\n", 3, &[2, 3, 4])?;
+    outcome.expect_refusal(&rt, ServeError::Step(StepError::NoWorker(3)));
+    assert_eq!(rt; outcome.unread, 8);
+    Ok(())
+}
+
+#[test]
+fn refused_scripts_are_not_shown(rt: HostRuntime) -> Result<(), Fail> {
+    let row = ScriptError::Row(2, RecordError::BadNumber);
+    let outcome = shown(rt.alloc(), "find,1,\nfind,x,\n", 3, &[2])?;
+    outcome.expect_refusal(&rt, ServeError::Script(row));
     Ok(())
 }

@@ -1,0 +1,170 @@
+//! Gates that count the operations which pass them, or keep some waiting for others.
+use crate::batches::{insertions, run_on_new};
+use crate::calls::DRIVERS;
+use blink_batch::{Answer, Op};
+use blink_run::{Driver, Gate};
+use std::alloc::Global;
+use std::process::Abort;
+use std::rt::Clock;
+use std::sync::Wait;
+use std::sync::atomic::{AtomicU64, Ordering};
+use std::test::Fail;
+use std::thread::{self, Threads};
+use std::time::Duration;
+
+// How often a gate looks for other operations before it gives up.
+const LOOKS: u32 = 100_000;
+
+// How often the gate was passed before and after an operation.
+#[derive(Drop)]
+struct CountingGate {
+    before: AtomicU64,
+    after: AtomicU64,
+}
+
+impl Gate for CountingGate {
+    fn before(&self, _worker: u8, _op: u32) {
+        self.before.fetch_add(1, Ordering::SeqCst);
+    }
+
+    fn after(&self, _worker: u8, _op: u32) {
+        self.after.fetch_add(1, Ordering::SeqCst);
+    }
+}
+
+// Three workers insert ten keys.
+fn expect_passed_twice<R: Threads + Wait + Abort + Sync>(
+    rt: &R,
+    alloc: Global,
+    driver: Driver,
+) -> Result<(), Fail> {
+    let ops = insertions(alloc, 10)?;
+    let gate = CountingGate {
+        before: AtomicU64::new(0),
+        after: AtomicU64::new(0),
+    };
+    run_on_new(rt, alloc, driver, &ops, 3, &gate)?;
+    assert_eq!(rt; gate.before.load(Ordering::SeqCst), 10);
+    assert_eq!(rt; gate.after.load(Ordering::SeqCst), 10);
+    Ok(())
+}
+
+#[test]
+fn each_operation_passes_the_gate_twice(rt: HostRuntime) -> Result<(), Fail> {
+    for driver in DRIVERS {
+        expect_passed_twice(&rt, rt.alloc(), driver)?;
+    }
+    Ok(())
+}
+
+// Each operation waits, before its first step, until the other has come to its own. One thread can't pass, in either order.
+#[derive(Drop)]
+struct MeetingGate {
+    come: [AtomicU64; 2],
+    alone: AtomicU64,
+}
+
+impl Gate for MeetingGate {
+    fn before(&self, _worker: u8, op: u32) {
+        let (own, other) = if op == 0 { (0, 1) } else { (1, 0) };
+        self.come[own].store(1, Ordering::SeqCst);
+        for _ in 0..LOOKS {
+            if self.come[other].load(Ordering::SeqCst) == 1 {
+                return;
+            }
+            thread::yield_now();
+        }
+        self.alone.store(1, Ordering::SeqCst);
+    }
+
+    fn after(&self, _worker: u8, _op: u32) {}
+}
+
+// Two insertions into an empty index, one by each worker.
+fn expect_meeting<R: Threads + Wait + Abort + Sync>(
+    rt: &R,
+    alloc: Global,
+    driver: Driver,
+) -> Result<(), Fail> {
+    let ops = [Op::Insert(1, 10), Op::Insert(2, 20)];
+    let gate = MeetingGate {
+        come: [AtomicU64::new(0), AtomicU64::new(0)],
+        alone: AtomicU64::new(0),
+    };
+    let ran = run_on_new(rt, alloc, driver, &ops, 2, &gate)?;
+    assert_eq!(rt; gate.alone.load(Ordering::SeqCst), 0, "{driver:?}");
+    assert_eq!(rt; ran.answers.as_slice(), [Answer::Inserted; 2].as_slice());
+    Ok(())
+}
+
+#[test]
+fn two_workers_run_at_once(rt: HostRuntime) -> Result<(), Fail> {
+    for driver in DRIVERS {
+        expect_meeting(&rt, rt.alloc(), driver)?;
+    }
+    Ok(())
+}
+
+// The operation of one of three workers waits, before its first step, until those of the two others have ended. If either of
+// them needed it to begin, it would give up.
+#[derive(Drop)]
+struct LastInGate<'a, R: Clock> {
+    clock: &'a R,
+    last: u8,
+    ended: AtomicU64,
+    given_up: AtomicU64,
+}
+
+impl<R: Clock> Gate for LastInGate<'_, R> {
+    fn before(&self, worker: u8, _op: u32) {
+        if worker != self.last {
+            return;
+        }
+        for _ in 0..LOOKS {
+            if self.ended.load(Ordering::SeqCst) == 2 {
+                return;
+            }
+            thread::sleep(self.clock, Duration::from_micros(10));
+        }
+        self.given_up.store(1, Ordering::SeqCst);
+    }
+
+    fn after(&self, _worker: u8, _op: u32) {
+        self.ended.fetch_add(1, Ordering::SeqCst);
+    }
+}
+
+// Three insertions into an empty index, one by each worker, of which this one is the last to begin.
+fn expect_nobody_waits<R: Threads + Wait + Clock + Abort + Sync>(
+    rt: &R,
+    alloc: Global,
+    driver: Driver,
+    last: u8,
+) -> Result<(), Fail> {
+    let ops = [Op::Insert(0, 1), Op::Insert(1, 1), Op::Insert(2, 1)];
+    let gate = LastInGate {
+        clock: rt,
+        last,
+        ended: AtomicU64::new(0),
+        given_up: AtomicU64::new(0),
+    };
+    let ran = run_on_new(rt, alloc, driver, &ops, 3, &gate)?;
+    assert_eq!(rt;
+        gate.given_up.load(Ordering::SeqCst),
+        0,
+        "{driver:?}, {last}"
+    );
+    assert_eq!(rt; gate.ended.load(Ordering::SeqCst), 3);
+    assert_eq!(rt; ran.answers.as_slice(), [Answer::Inserted; 3].as_slice());
+    Ok(())
+}
+
+#[test]
+fn whoever_begins_last_keeps_nobody_waiting(rt: HostRuntime) -> Result<(), Fail> {
+    for driver in DRIVERS {
+        for last in 0..3 {
+            expect_nobody_waits(&rt, rt.alloc(), driver, last)?;
+        }
+    }
+    Ok(())
+}

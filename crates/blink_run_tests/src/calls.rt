@@ -1,0 +1,76 @@
+//! The calls that many tests make, and what is compared of them.
+use blink_run::{CutKind, Driver, Open, ServeError, Settings, serve, serve_replay};
+use std::alloc::Global;
+use std::process::Abort;
+use std::sync::Wait;
+use std::test::Fail;
+use std::thread::Threads;
+
+/// Both drivers.
+pub(crate) const DRIVERS: [Driver; 2] = [Driver::Locked, Driver::Live];
+
+/// What a call wrote, how it ended, and how many bytes of the script it left unread.
+#[derive(Drop)]
+pub(crate) struct Outcome {
+    pub(crate) output: Vec<u8>,
+    pub(crate) end: Result<(), ServeError>,
+    pub(crate) unread: usize,
+}
+
+impl Outcome {
+    /// The call went well, and wrote this text.
+    pub(crate) fn expect_text<R: Abort>(&self, rt: &R, expected: &str) {
+        assert_eq!(rt; self.end, Ok(()), "where this is expected: {expected}");
+        assert_eq!(rt; self.output.as_slice(), expected.as_bytes());
+    }
+
+    /// The call was refused so, and wrote nothing.
+    pub(crate) fn expect_refusal<R: Abort>(&self, rt: &R, error: ServeError) {
+        assert_eq!(rt; self.end, Err(error));
+        assert!(rt; self.output.is_empty(), "{error}");
+    }
+}
+
+/// Settings with the driver `Locked`.
+pub(crate) fn locked(workers: u8, fan: u8, cut: CutKind) -> Result<Settings, Fail> {
+    Ok(Settings::new(workers, fan, cut, Driver::Locked)?)
+}
+
+/// Settings with the driver `Live`.
+pub(crate) fn live(workers: u8, fan: u8, cut: CutKind) -> Result<Settings, Fail> {
+    Ok(Settings::new(workers, fan, cut, Driver::Live)?)
+}
+
+/// Serves a script.
+pub(crate) fn served<R: Threads + Wait + Sync>(
+    rt: &R,
+    alloc: Global,
+    script: &[u8],
+    settings: &Settings,
+) -> Outcome {
+    let mut text = script;
+    let mut output = Vec::new(alloc);
+    let end = serve(rt, alloc, &mut text, &mut output, settings, &Open);
+    Outcome {
+        output,
+        end,
+        unread: text.len(),
+    }
+}
+
+/// Replays a script.
+pub(crate) fn replayed(
+    alloc: Global,
+    script: &[u8],
+    settings: &Settings,
+    schedule: &[u8],
+) -> Outcome {
+    let mut text = script;
+    let mut output = Vec::new(alloc);
+    let end = serve_replay(alloc, &mut text, &mut output, settings, schedule);
+    Outcome {
+        output,
+        end,
+        unread: text.len(),
+    }
+}
