@@ -1,4 +1,6 @@
 //! Batches run on an index, worked by hand. Their trees have at most 4 entries a page.
+ghost use Rattle.blink_batch.specs.Cut.{IsLawfulCut};
+
 mod gates;
 
 use crate::calls::DRIVERS;
@@ -10,6 +12,22 @@ use std::process::Abort;
 use std::sync::Wait;
 use std::test::Fail;
 use std::thread::Threads;
+
+// A batch, and its cut by the remainders of the keys.
+#[derive(Drop)]
+struct CutBatch {
+    batch: Batch,
+    cut: Cut,
+    ghost lawful: { IsLawfulCut batch cut.workers cut.lanes },
+}
+
+impl CutBatch {
+    fn new(alloc: Global, ops: &[Op], workers: u8) -> Result<CutBatch, Fail> {
+        let batch = Batch::new(ops.to_vec(alloc)?)?;
+        let cut = Cut::by_residue(alloc, &batch, workers)?;
+        Ok(CutBatch { batch, cut })
+    }
+}
 
 // The index after a batch, and the answers of the batch.
 #[derive(Drop)]
@@ -28,9 +46,8 @@ fn run_on<R: Threads + Wait + Sync, G: Gate + Sync>(
     workers: u8,
     gate: &G,
 ) -> Result<Ran, Fail> {
-    let batch = Batch::new(ops.to_vec(alloc)?)?;
-    let cut = Cut::by_residue(alloc, &batch, workers)?;
-    let answers = run_batch(rt, alloc, &mut index, &batch, &cut, driver, gate)?;
+    let work = CutBatch::new(alloc, ops, workers)?;
+    let answers = run_batch(rt, alloc, &mut index, &work.batch, &work.cut, driver, gate)?;
     Ok(Ran { index, answers })
 }
 
@@ -63,8 +80,9 @@ fn index_to<R: Threads + Wait + Sync>(
     driver: Driver,
     last: u64,
 ) -> Result<Index, Fail> {
+    let index = Index::new(alloc, 4)?;
     let ops = insertions(alloc, last)?;
-    Ok(run_on_new(rt, alloc, driver, &ops, 1, &Open)?.index)
+    Ok(run_on(rt, alloc, driver, index, &ops, 1, &Open)?.index)
 }
 
 // A batch that so many workers run on the index of the keys 1 to `last`, its answers, and the text of the pages after it.

@@ -20,8 +20,8 @@ pub(crate) struct Outcome {
 impl Outcome {
     /// The call went well, and wrote this text.
     pub(crate) fn expect_text<R: Abort>(&self, rt: &R, expected: &str) {
-        assert_eq!(rt; self.end, Ok(()), "where this is expected: {expected}");
-        assert_eq!(rt; self.output.as_slice(), expected.as_bytes());
+        assert!(rt; self.end.is_ok(), "{expected}");
+        assert!(rt; self.output.as_slice() == expected.as_bytes(), "{expected}");
     }
 
     /// The call was refused so, and wrote nothing.

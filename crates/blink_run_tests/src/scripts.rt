@@ -2,10 +2,10 @@
 mod prefixes;
 mod reading;
 
-use crate::calls::{DRIVERS, locked, served};
+use crate::calls::{DRIVERS, Outcome, locked, served};
 use blink_batch::{RecordError, ScriptError};
 use blink_run::{CutKind, Driver, ServeError, Settings};
-use std::alloc::{AllocError, Global};
+use std::alloc::Global;
 use std::process::Abort;
 use std::sync::Wait;
 use std::test::Fail;
@@ -14,7 +14,7 @@ use std::thread::Threads;
 // From one worker to all.
 const WORKERS: [u8; 3] = [1, 2, 64];
 
-// Serves a script by so many workers, whose driver and cut these are, and compares what is written.
+// A script is served so, and this is written.
 fn expect_text<R: Threads + Wait + Abort + Sync>(
     rt: &R,
     alloc: Global,
@@ -150,19 +150,23 @@ fn refused_scripts_write_nothing(rt: HostRuntime) -> Result<(), Fail> {
     Ok(())
 }
 
-// Two batches of 8,192 finds with a scan between them, and as many finds of a third batch's as this behind them.
-fn two_batches(alloc: Global, more: usize) -> Result<String, AllocError> {
+// Serves two batches of 8,192 finds with a scan between them, and so many finds more behind them.
+fn served_two_batches<R: Threads + Wait + Sync>(
+    rt: &R,
+    alloc: Global,
+    more: usize,
+) -> Result<Outcome, Fail> {
     let batch = "find,5,\n".repeat(alloc, 8192)?;
     let more = "find,5,\n".repeat(alloc, more)?;
-    format!(in alloc; "{batch}scan,0,9\n{batch}{more}")
+    let script = format!(in alloc; "{batch}scan,0,9\n{batch}{more}")?;
+    let settings = locked(4, 16, CutKind::Residue)?;
+    Ok(served(rt, alloc, script.as_bytes(), &settings))
 }
 
 #[test]
 fn a_scan_makes_room_for_another_batch(rt: HostRuntime) -> Result<(), Fail> {
-    let settings = locked(4, 16, CutKind::Residue)?;
-    let script = two_batches(rt.alloc(), 0)?;
-    let outcome = served(&rt, rt.alloc(), script.as_bytes(), &settings);
-    assert_eq!(rt; outcome.end, Ok(()));
+    let outcome = served_two_batches(&rt, rt.alloc(), 0)?;
+    assert!(rt; outcome.end.is_ok());
     // Each find is answered by `absent`, and the scan by `end 0`.
     assert_eq!(rt; outcome.output.len(), 2 * 8192 * 7 + 6);
     Ok(())
@@ -170,9 +174,7 @@ fn a_scan_makes_room_for_another_batch(rt: HostRuntime) -> Result<(), Fail> {
 
 #[test]
 fn a_batch_of_one_operation_too_many_is_refused(rt: HostRuntime) -> Result<(), Fail> {
-    let settings = locked(4, 16, CutKind::Residue)?;
-    let script = two_batches(rt.alloc(), 1)?;
-    let outcome = served(&rt, rt.alloc(), script.as_bytes(), &settings);
+    let outcome = served_two_batches(&rt, rt.alloc(), 1)?;
     outcome.expect_refusal(&rt, ServeError::Script(ScriptError::TooMany(16386)));
     Ok(())
 }

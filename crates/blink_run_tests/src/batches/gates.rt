@@ -60,16 +60,21 @@ fn each_operation_passes_the_gate_twice(rt: HostRuntime) -> Result<(), Fail> {
 // Each operation waits, before its first step, until the other has come to its own. One thread can't pass, in either order.
 #[derive(Drop)]
 struct MeetingGate {
-    come: [AtomicU64; 2],
+    first: AtomicU64,
+    second: AtomicU64,
     alone: AtomicU64,
 }
 
 impl Gate for MeetingGate {
     fn before(&self, _worker: u8, op: u32) {
-        let (own, other) = if op == 0 { (0, 1) } else { (1, 0) };
-        self.come[own].store(1, Ordering::SeqCst);
+        let (own, other) = if op == 0 {
+            (&self.first, &self.second)
+        } else {
+            (&self.second, &self.first)
+        };
+        own.store(1, Ordering::SeqCst);
         for _ in 0..LOOKS {
-            if self.come[other].load(Ordering::SeqCst) == 1 {
+            if other.load(Ordering::SeqCst) == 1 {
                 return;
             }
             thread::yield_now();
@@ -88,7 +93,8 @@ fn expect_meeting<R: Threads + Wait + Abort + Sync>(
 ) -> Result<(), Fail> {
     let ops = [Op::Insert(1, 10), Op::Insert(2, 20)];
     let gate = MeetingGate {
-        come: [AtomicU64::new(0), AtomicU64::new(0)],
+        first: AtomicU64::new(0),
+        second: AtomicU64::new(0),
         alone: AtomicU64::new(0),
     };
     let ran = run_on_new(rt, alloc, driver, &ops, 2, &gate)?;
