@@ -89,9 +89,20 @@ fn start<'s, E, R: Threads + Wait + Sync, G: Gate + Sync>(
     ensures promise { IfOk result (λ handle. handle.promise ≡ lane.entry) }
     ensures refused { IfErr result (λ error. error ≡ RunError.Worker lane.entry.worker) }
 {
-    match scope.spawn_with(lane, move || {
-        run.to_end(rt, lane.live, gate, lane.batch, lane.lanes, lane.worker)
-    }) {
+    let RunsLane {
+        live,
+        batch,
+        lanes,
+        worker,
+    } = lane;
+    match scope.spawn_with(
+        lane,
+        move || -> LaneRun
+            requires a_lane_each { length lanes.now ≡ length batch.now }
+            requires may { MayRun live.now (lane_ops batch.now lanes.now worker) run }
+            ensures { HasRun live.entry.now (lane_ops batch.entry.now lanes.entry.now worker) result }
+        { run.to_end(rt, live, gate, batch, lanes, worker) },
+    ) {
         Ok(handle) => Ok(handle),
         Err(_) => Err(RunError::Worker(lane.worker)),
     }
