@@ -237,13 +237,18 @@ fn the_first_split_key_is_told(rt: HostRuntime) {
 }
 
 // How many keys the full batch has.
-const KEYS: u64 = 2047;
+const KEYS: u64 = 4095;
 
-// Two finds on each of those keys, most of which share a bucket, and then two more on the first key.
+// Each key is a number times this, the inverse modulo 2 ^ 64 of what a key's bucket multiplies it by: so all fall into one bucket,
+// whose chain has every operation.
+const INTO_ONE_BUCKET: u64 = 0xF1DE_83E1_9937_733D;
+
+// Two finds on each of those keys, and then two more on the first key: 8,192, as many as a batch may have.
 fn full_batch(rt: &impl Abort, alloc: Global) -> Batch {
     let mut ops = Vec::new(alloc);
-    for n in 0..4095u64 {
-        given(rt, ops.push(Op::Find((n % KEYS).wrapping_mul(4181))));
+    for n in 0..8191u64 {
+        let key = (n % KEYS).wrapping_mul(INTO_ONE_BUCKET);
+        given(rt, ops.push(Op::Find(key)));
     }
     given(rt, ops.push(Op::Find(0)));
     given(rt, Batch::new(ops))
@@ -252,7 +257,7 @@ fn full_batch(rt: &impl Abort, alloc: Global) -> Batch {
 // The lanes of those finds by their keys, but the last, which is given.
 fn lanes_with(rt: &impl Abort, alloc: Global, last: u8) -> Vec<u8> {
     let mut lanes = Vec::new(alloc);
-    for n in 0..4095u64 {
+    for n in 0..8191u64 {
         given(rt, lanes.push((n % KEYS % 2) as u8));
     }
     given(rt, lanes.push(last));
@@ -266,7 +271,7 @@ fn split_keys_are_told_in_a_full_batch(rt: HostRuntime) {
     let lanes = lanes_with(&rt, alloc, 0);
     is_cut_from(&rt, alloc, &batch, 2, &lanes);
     let lanes = lanes_with(&rt, alloc, 1);
-    refuses_cut(&rt, alloc, &batch, (2, &lanes), CutError::SplitKey(4095))
+    refuses_cut(&rt, alloc, &batch, (2, &lanes), CutError::SplitKey(8191))
 }
 
 // Whether a cut is one for the batch of these operations, too.

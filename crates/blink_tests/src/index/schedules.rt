@@ -44,28 +44,26 @@ fn index_after(rt: &impl Abort, world: World) -> Index {
     Index::from_rest(tree_after(rt, world))
 }
 
-// Two workers with five operations on keys of their own: the same answers and pages, whatever the schedule.
+// Two workers with four operations on keys of their own: the same answers and pages, whatever the schedule.
 fn gives_the_same_pages(rt: &impl Abort, alloc: Global, index: &Index, number: u64) {
     let ops = [
         Op::Insert(5, 50),
         Op::Insert(6, 60),
         Op::Find(5),
         Op::Delete(4),
-        Op::Replace(3, 31),
     ];
     let answers = [
         Some(Answer::Inserted),
         Some(Answer::Inserted),
         Some(Answer::Found(50)),
         Some(Answer::Removed(40)),
-        Some(Answer::Replaced(30)),
     ];
     let dump = "\
 1 3 - 18446744073709551615 - 3:1 18446744073709551615:2
-0 1 - 3 2 1:10 2:20 3:31
+0 1 - 3 2 1:10 2:20 3:30
 0 2 3 18446744073709551615 - 5:50 6:60
 ";
-    let world = ended(rt, alloc, index, &ops, &[0, 1, 0, 1, 1], number);
+    let world = ended(rt, alloc, index, &ops, &[0, 1, 0, 1], number);
     has_answers(rt, &world, &answers);
     let after = index_after(rt, world);
     same_for(rt, &given(rt, after.dump(alloc)).as_str(), &dump, &number);

@@ -1,7 +1,9 @@
 //! Examples of picked turns and of waits.
 use crate::fixtures::same;
 use crate::fixtures::stores::{empty_tree, has_leftmost, has_pages, keeps_entries};
-use crate::fixtures::worlds::{finish, full_leaf, has_answers, tree_after, world_of};
+use crate::fixtures::worlds::{
+    finish, full_leaf, has_answers, has_moved, has_schedule, tree_after, world_of,
+};
 use blink_batch::{Answer, Op};
 use blink_page::GREATEST_KEY;
 use blink_steps::World;
@@ -21,12 +23,6 @@ fn is_seen(rt: &impl Abort, world: &World, worker: u8, waits: bool, idle: bool) 
 // The worker whose turn is next.
 fn picks(rt: &impl Abort, world: &World, picked: Option<u8>) {
     same(rt, &world.pick(), &picked);
-}
-
-// The operation at this place has taken so many steps.
-fn has_moved(rt: &impl Abort, world: &World, place: u32, moves: u64) {
-    assert!(rt; (place as usize) < world.answers().len());
-    same(rt, &world.moves_of(place), &moves);
 }
 
 // The operations have taken so many steps, each at its place.
@@ -71,6 +67,51 @@ fn a_worker_waits_for_a_latch(rt: HostRuntime) {
     is_seen(&rt, &world, 0, false, true);
     is_seen(&rt, &world, 1, false, true);
     has_answers(&rt, &world, &[Some(Answer::Inserted); 2]);
+}
+
+// What the worlds show of a worker and of its operation, and of the latch of page 1.
+fn shows_the_same_worker(rt: &impl Abort, world: &World, other: &World, worker: u8) {
+    assert!(rt; worker < world.workers() && worker < other.workers());
+    let (seen, is) = (world.is_idle(worker), other.is_idle(worker));
+    same(rt, &seen, &is);
+    same(rt, &world.waits(worker), &other.waits(worker));
+    let (working, also) = (world.working(worker), other.working(worker));
+    let place = working.map(|of| of.place);
+    same(rt, &place, &also.map(|of| of.place));
+    let need = working.map(|of| of.machine.need());
+    same(rt, &need, &also.map(|of| of.machine.need()));
+}
+
+// What the worlds show of the operation at this place.
+fn shows_the_same_counts(rt: &impl Abort, world: &World, other: &World, place: u32) {
+    assert!(rt; (place as usize) < world.answers().len());
+    assert!(rt; (place as usize) < other.answers().len());
+    same(rt, &world.reads_of(place), &other.reads_of(place));
+    same(rt, &world.moves_of(place), &other.moves_of(place));
+}
+
+// The worlds of two workers with an operation each differ in nothing but their schedules.
+fn shows_the_same(rt: &impl Abort, world: &World, other: &World) {
+    same(rt, &world.answers(), &other.answers());
+    same(rt, &world.order(), &other.order());
+    assert!(rt; world.store().is_same(other.store()));
+    same(rt, &world.latches().holder(1), &other.latches().holder(1));
+    same(rt, &world.ended(), &other.ended());
+    same(rt, &world.pick(), &other.pick());
+    for of in 0..2 {
+        shows_the_same_worker(rt, world, other, of);
+        shows_the_same_counts(rt, world, other, u32::from(of));
+    }
+}
+
+#[test]
+fn a_wait_changes_the_schedule_alone(rt: HostRuntime) {
+    let five = two_insertions(&rt, rt.alloc(), &[0, 0, 0, 1, 1]);
+    let six = two_insertions(&rt, rt.alloc(), &[0, 0, 0, 1, 1, 1]);
+    shows_the_same(&rt, &five, &six);
+    has_schedule(&rt, &five, &[0, 0, 0, 1, 1]);
+    has_schedule(&rt, &six, &[0, 0, 0, 1, 1, 1]);
+    picks(&rt, &six, Some(0));
 }
 
 // Worker 0 has split the full leaf; worker 1 has split its right half, and asks for the level above, which isn't there yet.

@@ -1,16 +1,17 @@
 //! Examples in which pages split and roots grow.
 use crate::fixtures::pages::{Bounds, has_bounds};
-use crate::fixtures::same;
 use crate::fixtures::stores::{has_leftmost, has_pages, keeps_entries, page_at};
 use crate::fixtures::worlds::{
-    full_leaf, has_answers, has_order, has_schedule, is_at_end, keys_to, takes, tree_after,
-    turns_to, world_of,
+    full_leaf, has_answers, has_moved, has_order, has_schedule, is_at_end, keys_to, takes,
+    tree_after, turns_to, world_of,
 };
+use crate::fixtures::{same, same_for};
 use blink_batch::{Answer, Op};
 use blink_page::GREATEST_KEY;
 use blink_rest::Rest;
 use blink_steps::Kind::{Latch, ReadPage, ReadPrime, Unlatch, WritePage, WritePrime};
 use blink_steps::{Step, World};
+use blink_store::Store;
 use std::alloc::Global;
 use std::process::Abort;
 
@@ -49,19 +50,41 @@ fn a_full_leaf_splits_and_the_root_grows(rt: HostRuntime) {
     has_halves(&rt, &tree_after(&rt, world));
 }
 
+// The find of 4 has answered by page 2, and the insertion of 5 has decided and not ended.
+fn has_passed_the_split(rt: &impl Abort, world: &World) {
+    let answers = [Some(Answer::Inserted), Some(Answer::Found(40))];
+    has_answers(rt, world, &answers);
+    has_order(rt, world, &[0, 1]);
+    assert!(rt; world.answers().len() == 2);
+    same(rt, &world.reads_of(1), &2);
+    assert!(rt; world.workers() == 2);
+    same(rt, &(world.is_idle(0), world.is_idle(1)), &(false, true));
+    is_at_end(rt, world, false);
+}
+
 #[test]
 fn a_find_passes_a_half_finished_split(rt: HostRuntime) {
     let ops = [Op::Insert(5, 50), Op::Find(4)];
-    let schedule = [1, 0, 0, 0, 0, 0, 0, 1, 1];
     let rest = full_leaf(&rt, rt.alloc());
-    let world = world_of(&rt, rt.alloc(), rest, &ops, 2, &[0, 1], &schedule);
-    has_schedule(&rt, &world, &schedule);
-    let answers = [Some(Answer::Inserted), Some(Answer::Found(40))];
-    has_answers(&rt, &world, &answers);
-    has_order(&rt, &world, &[0, 1]);
-    assert!(rt; world.answers().len() == 2);
-    same(&rt, &world.reads_of(1), &2);
-    is_at_end(&rt, &world, false);
+    let mut world = world_of(&rt, rt.alloc(), rest, &ops, 2, &[0, 1], &[]);
+    takes(&rt, &mut world, 1, &[ReadPrime]);
+    splits_leaf(&rt, &mut world);
+    same(&rt, &page_at(&rt, world.store(), 1).high, &3);
+    takes(&rt, &mut world, 1, &[ReadPage(1), ReadPage(2)]);
+    has_schedule(&rt, &world, &HALF_SPLIT);
+    has_passed_the_split(&rt, &world);
+}
+
+// The same turns as a schedule.
+const HALF_SPLIT: [u8; 9] = [1, 0, 0, 0, 0, 0, 0, 1, 1];
+
+#[test]
+fn a_schedule_passes_a_half_finished_split(rt: HostRuntime) {
+    let ops = [Op::Insert(5, 50), Op::Find(4)];
+    let rest = full_leaf(&rt, rt.alloc());
+    let world = world_of(&rt, rt.alloc(), rest, &ops, 2, &[0, 1], &HALF_SPLIT);
+    has_schedule(&rt, &world, &HALF_SPLIT);
+    has_passed_the_split(&rt, &world);
 }
 
 // Two workers over the full leaf: worker 0 has the insertion of 5, worker 1 those of 6, 7 and 8.
@@ -118,6 +141,13 @@ fn splits_second(rt: &impl Abort, world: &mut World) {
     takes(rt, world, 1, &split_of_second);
 }
 
+// Worker 0 makes a root over the halves of its split. The later split isn't posted to it yet.
+fn grows_a_root(rt: &impl Abort, world: &mut World) {
+    let growth = [ReadPrime, WritePage(4), WritePrime, Unlatch(1)];
+    takes(rt, world, 0, &growth);
+    keeps_entries(rt, world.store(), 4, &[(3, 1), (GREATEST_KEY, 2)]);
+}
+
 // The tree in which both splits are posted.
 fn has_both_postings(rt: &impl Abort, rest: &Rest) {
     let store = rest.store();
@@ -136,13 +166,17 @@ fn postings_overtake_each_other(rt: HostRuntime) {
     inserts_into_second(&rt, &mut world);
     inserts_into_second(&rt, &mut world);
     splits_second(&rt, &mut world);
+    keeps_entries(&rt, world.store(), 2, &[(4, 40), (5, 50), (6, 60)]);
+    keeps_entries(&rt, world.store(), 3, &[(7, 70), (8, 80)]);
     turns_to(&rt, &mut world, 1, Step::Waited);
-    let growth = [ReadPrime, WritePage(4), WritePrime, Unlatch(1)];
-    takes(&rt, &mut world, 0, &growth);
+    same(&rt, &world.pick(), &Some(0));
+    grows_a_root(&rt, &mut world);
     let posting = [ReadPrime, Latch(4), ReadPage(4), WritePage(4), Unlatch(4)];
     takes(&rt, &mut world, 1, &posting);
     same(&rt, &world.schedule().len(), &39);
+    same(&rt, &world.pick(), &None);
     has_order(&rt, &world, &[0, 1, 2, 3]);
+    has_moved(&rt, &world, 3, 14);
     has_both_postings(&rt, &tree_after(&rt, world));
 }
 
@@ -194,29 +228,37 @@ fn an_inner_page_splits(rt: HostRuntime) {
     has_split_root(&rt, &tree_after(&rt, world));
 }
 
-// A tree of this fan with one key more than fit a leaf: so many entries are in its left leaf, up to the separator of the same
-// number, and so many in its right one.
-fn splits_at(rt: &impl Abort, alloc: Global, fan: u8, separator: u64, (stay, go): (usize, usize)) {
-    let rest = keys_to(rt, alloc, fan, u64::from(fan) + 1);
+// Page `number` has the keys from `first` to `last`.
+fn has_keys(rt: &impl Abort, store: &Store, number: u32, (first, last): (u64, u64)) {
+    let mut key = first;
+    for &(found, _) in &page_at(rt, store, number).items {
+        same_for(rt, &found, &key, &number);
+        key = key.saturating_add(1);
+    }
+    same_for(rt, &key, &last.saturating_add(1), &number);
+}
+
+// A tree of this fan with one key more than fit a leaf: the keys up to the separator are in its left leaf, and the others in its
+// right one.
+fn splits_at(rt: &impl Abort, alloc: Global, fan: u8, separator: u64) {
+    let greatest = u64::from(fan) + 1;
+    let rest = keys_to(rt, alloc, fan, greatest);
     let store = rest.store();
     has_pages(rt, store, 3);
     has_leftmost(rt, store, &[1, 3]);
+    has_keys(rt, store, 1, (1, separator));
+    has_keys(rt, store, 2, (separator.saturating_add(1), greatest));
     let (left, right) = (page_at(rt, store, 1), page_at(rt, store, 2));
-    same(rt, &(left.items.len(), left.high), &(stay, separator));
-    same(
-        rt,
-        &(right.items.len(), right.floor),
-        &(go, Some(separator)),
-    );
+    same(rt, &(left.high, right.floor), &(separator, Some(separator)));
     keeps_entries(rt, store, 3, &[(separator, 1), (GREATEST_KEY, 2)]);
 }
 
 #[test]
 fn the_greatest_fan_splits_into_seventeen_and_sixteen(rt: HostRuntime) {
-    splits_at(&rt, rt.alloc(), 32, 17, (17, 16))
+    splits_at(&rt, rt.alloc(), 32, 17)
 }
 
 #[test]
 fn a_fan_of_sixteen_splits_into_nine_and_eight(rt: HostRuntime) {
-    splits_at(&rt, rt.alloc(), 16, 9, (9, 8))
+    splits_at(&rt, rt.alloc(), 16, 9)
 }

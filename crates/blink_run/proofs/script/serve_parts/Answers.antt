@@ -20,12 +20,13 @@ loop-part-preserved g c =
     let offered = g.O.Outlet.offered in
     let front : List Part = take c.loop-part.part-index c.args.parts.now in
     let more : front ++ c.part-item.result ∷ [] ≡ take (c.loop-part.part-index + 1) c.args.parts.now =
-    ap (λ (p : Part). front ++ p ∷ []) c.part-item.is ∙ sym (take_more c.args.parts.now c.loop-part.part-index c.part-item.result (omega (arith, c.loop-part-test.true))) in
-    (subst (λ (n : ℕ). HasServed offered (map_of c.args.index.now) (take (c.loop-part.part-index + 1) c.args.parts.now) c.args.outlet.now c.serve_part.new.outlet (map_of c.serve_part.new.index) n) (sym c.batches_with-batches.ensures)
-    (subst (λ (parts : List Part). HasServed offered (map_of c.args.index.now) parts c.args.outlet.now c.serve_part.new.outlet (map_of c.serve_part.new.index) (c.loop-part.batches + count_by is_batch (c.part-item.result ∷ []))) more
-    (serves_more offered (map_of c.args.index.now) front c.part-item.result _ c.loop-part.outlet _ (map_of c.loop-part.index) _ c.loop-part.batches c.loop-part.invariant.0 c.in_ok-serve_part.ensures.served c.in_ok-serve_part.ensures.map)),
-    subst (λ (parts : List Part). RunsPartsBy c.args.settings.now c.args.index.now parts c.serve_part.new.index) more
-    (runs_one_more c.args.settings.now c.args.index.now c.loop-part.index c.serve_part.new.index front c.part-item.result c.loop-part.invariant.1 c.in_ok-serve_part.ensures.by_settings))
+    ap (λ (p : Part). front ++ p ∷ []) c.part-item.is ∙ sym (take_more c.args.parts.now c.loop-part.part-index c.part-item.result (omega (arith, c.loop-part-test.true))) in (
+      subst (λ (n : ℕ). HasServed offered (map_of c.args.index.now) (take (c.loop-part.part-index + 1) c.args.parts.now) c.args.outlet.now c.serve_part.new.outlet (map_of c.serve_part.new.index) n) (sym c.batches_with-batches.ensures)
+          (subst (λ (parts : List Part). HasServed offered (map_of c.args.index.now) parts c.args.outlet.now c.serve_part.new.outlet (map_of c.serve_part.new.index) (c.loop-part.batches + count_by is_batch (c.part-item.result ∷ []))) more
+          (serves_more offered (map_of c.args.index.now) front c.part-item.result _ c.loop-part.outlet _ (map_of c.loop-part.index) _ c.loop-part.batches c.loop-part.invariant.0 c.in_ok-serve_part.ensures.served c.in_ok-serve_part.ensures.map)),
+      subst (λ (parts : List Part). RunsPartsBy c.args.settings.now c.args.index.now parts c.serve_part.new.index) more
+          (runs_one_more c.args.settings.now c.args.index.now c.loop-part.index c.serve_part.new.index front c.part-item.result c.loop-part.invariant.1 c.in_ok-serve_part.ensures.by_settings),
+    )
 
 -- a part that isn't served
 pub returns-in_err-serve_part-clause-left : goal.returns-in_err-serve_part-clause-left
