@@ -39,6 +39,17 @@ stage() {
     fi
 }
 
+# Proves and builds the crates that the program stands on, those that don't stand on each other side by side, the lowest first. What
+# fails here fails again below, where it is told.
+build_side_by_side() {
+    for wave in 'blink_batch blink_page' 'blink_store blink_rows' blink_rest blink_machine 'blink_steps blink_live'; do
+        for it in $wave; do
+            (cd "$top/crates/$it" && rt lib) &
+        done
+        wait
+    done
+}
+
 # How the build gets on, told on standard error: each crate that it comes to, and every half minute how long it has taken.
 # The program is run on nothing once it is built, which is how it gets built. A build that is stopped goes on with the crate that it
 # had come to.
@@ -49,7 +60,10 @@ build() {
     echo "$name: proving and building the program, $crates crates, which takes some minutes the first time" >&2
     # A process group of its own, where the shell can make one, so that all of it can be stopped.
     { set -m; } 2>/dev/null
-    (cd "$top/crates/$crate" && exec rt run -- "$@") </dev/null >"$log" 2>&1 &
+    (
+        build_side_by_side
+        cd "$top/crates/$crate" && exec rt run -- "$@"
+    ) </dev/null >"$log" 2>&1 &
     building=$!
     set +m
     trap 'kill -- -$building 2>/dev/null || kill $building 2>/dev/null || true; rm -f "$log"; exit 130' HUP INT TERM
