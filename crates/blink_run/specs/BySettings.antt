@@ -1,5 +1,5 @@
 -- A script that is run as its settings say: over pages of their fan, each batch cut among their workers in their way, by their driver.
-use Rattle.std.specs.Prelude.{ℕ, ◌≡◌, List, [], ◌∷◌, Option, Some, Ok}
+use Rattle.std.specs.Prelude.{ℕ, ◌≡◌, ◌↔◌, List, [], ◌∷◌, ◌++◌, Option, Some, Ok, ⊤}
 use Rattle.blink_batch.specs.declared.Op.{Op}
 use Rattle.blink_batch.specs.declared.Part.{Part}
 use Rattle.blink_batch.specs.declared.Part.TheVariants.{Batch}
@@ -7,6 +7,10 @@ use Rattle.blink_batch.specs.Cut.{Assignment}
 use Rattle.blink_batch.specs.Script.{records_of, script_of}
 use Rattle.blink_live.specs.Gathered.{IsNumberedInOrder}
 use Rattle.blink_store.specs.Store.{PlainStore, new_store}
+use Rattle.blink_steps.specs.World.{IsTooLarge}
+use Rattle.blink_run.specs.declared.error.RunError.TheVariants.{TooLarge}
+use Rattle.blink_run.specs.declared.error.ServeError.{ServeError}
+use Rattle.blink_run.specs.declared.error.ServeError.TheVariants as serve
 use Rattle.blink_run.specs.declared.run.Driver.TheVariants.{Locked, Live}
 use Rattle.blink_run.specs.Run.{IsReplayed}
 use Rattle.blink_run.specs.Settings.{PlainSettings, lanes_by}
@@ -34,3 +38,31 @@ RunsPartsBy settings before (part ∷ parts) after = (between : PlainStore) × R
 abbrev pub ServesBy : PlainSettings → Option (List ℕ) → Type 0
 ServesBy settings to_read = (read : List ℕ) → to_read ≡ Some read
     → (parts : List Part) × (script_of (records_of read) ≡ Ok parts) × (after : PlainStore) × RunsPartsBy settings (new_store settings.fan) parts after
+
+-- ---- which fault of a batch is told
+
+-- a batch that isn't run is told as too large exactly where it is, on the tree before it
+abbrev pub TellsTooLarge : PlainStore → Part → ServeError → Type 0
+TellsTooLarge before (Batch ops) (serve.Run number error) = (error ≡ TooLarge) ↔ IsTooLarge before ops
+TellsTooLarge before part error = ⊤
+
+-- the part that wasn't served, after others that were run as the settings say
+pub record StopsAt (settings : PlainSettings) (before : PlainStore) (parts : List Part) (error : ServeError) : Type 0 where
+  pub front : List Part
+  pub part : Part
+  pub rest : List Part
+  pub in_order : parts ≡ front ++ part ∷ rest
+  pub between : PlainStore
+  pub ran : RunsPartsBy settings before front between
+  pub tells : TellsTooLarge between part error
+
+-- so it is with each refusal of a run
+abbrev pub TellsRun : PlainSettings → PlainStore → List Part → ServeError → Type 0
+TellsRun settings before parts (serve.Run number error) = StopsAt settings before parts (serve.Run number error)
+TellsRun settings before parts error = ⊤
+
+-- of the parts of what was read
+abbrev pub TellsRunOf : PlainSettings → Option (List ℕ) → ServeError → Type 0
+TellsRunOf settings to_read (serve.Run number error) = (read : List ℕ) → to_read ≡ Some read
+    → (parts : List Part) × (script_of (records_of read) ≡ Ok parts) × StopsAt settings (new_store settings.fan) parts (serve.Run number error)
+TellsRunOf settings to_read error = ⊤
