@@ -39,15 +39,40 @@ stage() {
     fi
 }
 
-# Proves and builds the crates that the program stands on, those that don't stand on each other side by side, the lowest first. What
-# fails here fails again below, where it is told.
-build_side_by_side() {
-    for wave in 'blink_batch blink_page' 'blink_store blink_rows' blink_rest blink_machine 'blink_steps blink_live'; do
-        for it in $wave; do
-            (cd "$top/crates/$it" && rt lib) &
-        done
-        wait
+# The crates of the repository that one stands on, as crates.txt has them.
+below() {
+    for it in $(sed -n "s/^$1: //p" "$top/crates.txt"); do
+        if [ -d "$top/crates/$it" ]; then
+            echo "$it"
+        fi
     done
+}
+
+# All crates that one stands on, and what these stand on, each once.
+all_below() {
+    for it in $(below "$1"); do
+        echo "$it"
+        all_below "$it"
+    done | sort -u
+}
+
+# Proves and builds each crate below the program as soon as those that it stands on are built, side by side. What fails here fails
+# again below, where it is told.
+build_side_by_side() {
+    built=$(mktemp -d)
+    for it in $(all_below "$crate"); do
+        (
+            for under in $(below "$it"); do
+                while [ ! -e "$built/$under" ]; do
+                    sleep 1
+                done
+            done
+            (cd "$top/crates/$it" && rt lib) || true
+            : >"$built/$it"
+        ) &
+    done
+    wait
+    rm -r "$built"
 }
 
 # How the build gets on, told on standard error: each crate that it comes to, and every half minute how long it has taken.

@@ -1,7 +1,7 @@
 -- The number of each refusal, and the exit status that tells of it.
 use Rattle.std.specs.Prelude.{ℕ, Result, Ok, Err}
-use Rattle.blink_run.specs.declared.error.ServeError.{ServeError}
-use Rattle.blink_run.specs.declared.error.ServeError.TheVariants as serve
+use Rattle.blink_settings.specs.declared.error.ServeError.{ServeError}
+use Rattle.blink_settings.specs.declared.error.ServeError.TheVariants as serve
 use Rattle.blink_line.specs.declared.end.ProgramError.{ProgramError}
 use Rattle.blink_line.specs.declared.end.ProgramError.TheVariants as program
 use Rattle.blink_line.specs.declared.line.LineError.{LineError}

@@ -1,8 +1,8 @@
 -- How the program ends, and what standard error is told.
 use Rattle.std.specs.Prelude.{◌≡◌, ◌⊎◌, ⊤, ℕ, List, Option, Some, None, Result, Ok, Err, codes, string_bytes}
 use Rattle.std.specs.Str.{trim_end}
-use Rattle.blink_run.specs.declared.error.ServeError.{ServeError}
-use Rattle.blink_run.specs.declared.error.ServeError.TheVariants as serve
+use Rattle.blink_settings.specs.declared.error.ServeError.{ServeError}
+use Rattle.blink_settings.specs.declared.error.ServeError.TheVariants as serve
 use Rattle.blink_line.specs.Codes.{status_of}
 use Rattle.blink_line.specs.declared.end.End.{End}
 use Rattle.blink_line.specs.declared.end.ProgramError.{ProgramError}

@@ -6,10 +6,10 @@ use Rattle.clap.specs.Words.{Text}
 use Rattle.blink_batch.specs.Number.{number_of}
 use Rattle.blink_batch.specs.declared.cut.TheConstants.{WORKER_LIMIT}
 use Rattle.blink_page.specs.declared.limits.TheConstants.{MIN_FAN, MAX_FAN}
-use Rattle.blink_run.specs.declared.run.Driver.{Driver}
-use Rattle.blink_run.specs.declared.run.Driver.TheVariants.{Locked, Live}
-use Rattle.blink_run.specs.declared.settings.CutKind.{CutKind}
-use Rattle.blink_run.specs.declared.settings.CutKind.TheVariants.{Residue, Ranges}
+use Rattle.blink_settings.specs.declared.settings.Driver.{Driver}
+use Rattle.blink_settings.specs.declared.settings.Driver.TheVariants.{Locked, Live}
+use Rattle.blink_settings.specs.declared.settings.CutKind.{CutKind}
+use Rattle.blink_settings.specs.declared.settings.CutKind.TheVariants.{Residue, Ranges}
 
 -- the number, if it lies between the limits
 abbrev pub between : ℕ → ℕ → ℕ → Option ℕ

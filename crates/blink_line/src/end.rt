@@ -6,7 +6,7 @@ ghost use Rattle.blink_line.specs.End.{IsEnd, IsUnserved, lines_of, out_of_memor
 
 use crate::fault::{OUT_OF_MEMORY, RUN, fault};
 use crate::line::LineError;
-use blink_run::ServeError;
+use blink_settings::ServeError;
 use std::alloc::{AllocError, Global};
 
 /// The exit status where the command line asks for nothing.

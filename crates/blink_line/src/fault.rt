@@ -3,7 +3,7 @@ ghost use Rattle.std.specs.Prelude.{◌≡◌, IfOk, string_bytes};
 ghost use Rattle.blink_line.specs.Codes.{status_of};
 ghost use Rattle.blink_line.specs.End.{IsFixedLine};
 
-use blink_run::ServeError;
+use blink_settings::ServeError;
 use std::alloc::{AllocError, Global};
 
 /// The exit status where the text is no script.

@@ -2,13 +2,13 @@
 ghost use Rattle.std.specs.Prelude.{◌≡◌, List, ℕ, codes, option_map, IfOk, IfErr, IfSome, MatchOption};
 ghost use Rattle.clap.specs.Walk.{texts};
 ghost use Rattle.clap.specs.Words.{first_of, found_of, kind_of, rows_of, subcommand_rows_of};
-ghost use Rattle.blink_run.specs.Settings.{IsAllowed, PlainSettings};
+ghost use Rattle.blink_settings.specs.Settings.{IsAllowed, PlainSettings};
 ghost use Rattle.blink_line.specs.Codes.{code_of_line_error};
 ghost use Rattle.blink_line.specs.Line.{as_replay, Asks, AsksToReplay, AsksToRun, HasAllowedSizes, HasSizes, IsBadValue, IsTaken, Means, SubcommandMeans, value};
 
 use crate::command::matches_of;
 use crate::value::{cut_of, driver_of, fan_of, schedule_of, workers_of};
-use blink_run::{CutKind, Driver, Settings};
+use blink_settings::{CutKind, Driver, Settings};
 use clap::ArgMatches;
 use clap::error::ErrorKind;
 use std::alloc::{AllocError, Global};

@@ -6,7 +6,7 @@ ghost use Rattle.blink_line.specs.Value.{IsSchedule, cut_of, driver_of, fan_of, 
 
 use blink_batch::{WORKER_LIMIT, read_number};
 use blink_page::{MAX_FAN, MIN_FAN};
-use blink_run::{CutKind, Driver};
+use blink_settings::{CutKind, Driver};
 use std::alloc::{AllocError, Global};
 
 /// The number of workers that a text spells, if a run may have so many.

@@ -7,8 +7,8 @@ use Rattle.std.proofs.lemmas.List.{take-append-drop, drop_more}
 use Rattle.std.proofs.lemmas.List.Sums.{sum_by-append}
 use Rattle.blink_run.specs.Outlet.{BreaksOff, Pours, is_not_flushed}
 use Rattle.blink_run.specs.Served.{IsFrontOf, IsPartFault, IsTextBefore, IsTextOf, LeavesFront, LeavesPart, WroteBefore, WroteBeforeBatch, is_batch, map_after_parts, part_after, part_text, script_text}
-use Rattle.blink_run.specs.declared.error.ServeError.{ServeError}
-use Rattle.blink_run.specs.declared.error.ServeError.TheVariants as serve
+use Rattle.blink_settings.specs.declared.error.ServeError.{ServeError}
+use Rattle.blink_settings.specs.declared.error.ServeError.TheVariants as serve
 use Rattle.blink_run.proofs.OutletsTake.{breaks_after, breaks_before, breaks_here, breaks_unflushed, pours_both}
 
 -- the text of some parts and others

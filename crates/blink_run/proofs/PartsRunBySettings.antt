@@ -4,9 +4,9 @@ use Rattle.std.proofs.lemmas.List.{take-append-drop, drop_more}
 use Rattle.blink_batch.specs.declared.Part.{Part}
 use Rattle.blink_store.specs.Store.{PlainStore}
 use Rattle.blink_run.specs.BySettings.{RunsPartBy, RunsPartsBy, TellsRun, TellsTooLarge}
-use Rattle.blink_run.specs.Settings.{PlainSettings}
-use Rattle.blink_run.specs.declared.error.ServeError.{ServeError}
-use Rattle.blink_run.specs.declared.error.ServeError.TheVariants as serve
+use Rattle.blink_settings.specs.Settings.{PlainSettings}
+use Rattle.blink_settings.specs.declared.error.ServeError.{ServeError}
+use Rattle.blink_settings.specs.declared.error.ServeError.TheVariants as serve
 
 pub runs_one_more : (settings : PlainSettings) (before between after : PlainStore) (parts : List Part) (part : Part) → RunsPartsBy settings before parts between
     → RunsPartBy settings between part after → RunsPartsBy settings before (parts ++ part ∷ []) after

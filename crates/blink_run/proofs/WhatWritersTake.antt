@@ -6,8 +6,8 @@ use Rattle.blink_batch.specs.declared.Part.TheVariants.{Batch}
 use Rattle.blink_batch.specs.Script.{ReadsAs, records_of}
 use Rattle.blink_run.specs.Outlet.{BreaksOff, GoesOut, KeepsFlushed, TakesOffered}
 use Rattle.blink_run.specs.Served.{IsFrontOf, IsTextOf, IsTextBefore, LeavesFlushed, LeavesLines, Serves, WritesText, WroteBefore, script_text}
-use Rattle.blink_run.specs.declared.error.ServeError.{ServeError}
-use Rattle.blink_run.specs.declared.error.ServeError.TheVariants as serve
+use Rattle.blink_settings.specs.declared.error.ServeError.{ServeError}
+use Rattle.blink_settings.specs.declared.error.ServeError.TheVariants as serve
 use Rattle.blink_run.proofs.OutletsTake.{appends_kept, takes_front, takes_poured, takes_whole}
 
 -- known bytes that grow by a text

@@ -9,8 +9,8 @@ use Rattle.blink_steps.specs.Pick.{IsIdleWorker, WouldWait}
 use Rattle.blink_steps.specs.Promises.{HasAnswerAt}
 use Rattle.blink_steps.specs.Run.{PlainRun, Taken}
 use Rattle.blink_steps.specs.World.{PlainWorld, IsWorldOf, TakesStep}
-use Rattle.blink_run.specs.declared.error.RunError.{RunError}
-use Rattle.blink_run.specs.declared.error.RunError.TheVariants.{TooLarge, OutOfMemory, Foreign}
+use Rattle.blink_settings.specs.declared.error.RunError.{RunError}
+use Rattle.blink_settings.specs.declared.error.RunError.TheVariants.{TooLarge, OutOfMemory, Foreign}
 use Rattle.blink_run.specs.declared.book.Turn.{Turn}
 use Rattle.blink_run.specs.declared.book.Turn.TheVariants.{Took, Over, Waits, Stopped}
 

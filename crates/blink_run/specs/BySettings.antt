@@ -8,12 +8,12 @@ use Rattle.blink_batch.specs.Script.{records_of, script_of}
 use Rattle.blink_live.specs.Gathered.{IsNumberedInOrder}
 use Rattle.blink_store.specs.Store.{PlainStore, new_store}
 use Rattle.blink_steps.specs.World.{IsTooLarge}
-use Rattle.blink_run.specs.declared.error.RunError.TheVariants.{TooLarge}
-use Rattle.blink_run.specs.declared.error.ServeError.{ServeError}
-use Rattle.blink_run.specs.declared.error.ServeError.TheVariants as serve
-use Rattle.blink_run.specs.declared.run.Driver.TheVariants.{Locked, Live}
+use Rattle.blink_settings.specs.declared.error.RunError.TheVariants.{TooLarge}
+use Rattle.blink_settings.specs.declared.error.ServeError.{ServeError}
+use Rattle.blink_settings.specs.declared.error.ServeError.TheVariants as serve
+use Rattle.blink_settings.specs.declared.settings.Driver.TheVariants.{Locked, Live}
 use Rattle.blink_run.specs.Run.{IsReplayed}
-use Rattle.blink_run.specs.Settings.{PlainSettings, lanes_by}
+use Rattle.blink_settings.specs.Settings.{PlainSettings, lanes_by}
 
 -- whose operation each is
 abbrev pub assignment_by : PlainSettings → List Op → Assignment

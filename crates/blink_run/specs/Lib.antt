@@ -1,7 +1,7 @@
-pub mod Codes
+pub use Rattle.blink_settings.specs.Settings
+pub use Rattle.blink_settings.specs.Codes
 pub mod Book
 pub mod Run
-pub mod Settings
 pub mod Outlet
 pub mod Text
 pub mod Trace

@@ -7,9 +7,9 @@ use Rattle.blink_steps.specs.Pick.{GoesOnPicked}
 use Rattle.blink_steps.specs.Run.{Taken}
 use Rattle.blink_steps.specs.World.{PlainWorld, IsReplay, IsWorldOf, HasEnded, IsTooLarge, SameBatch}
 use Rattle.blink_steps.specs.declared.StepError.TheVariants as step
-use Rattle.blink_run.specs.declared.error.ServeError.{ServeError}
-use Rattle.blink_run.specs.declared.error.ServeError.TheVariants.{Step, OutOfMemory}
-use Rattle.blink_run.specs.Settings.{lanes_by_residue}
+use Rattle.blink_settings.specs.declared.error.ServeError.{ServeError}
+use Rattle.blink_settings.specs.declared.error.ServeError.TheVariants.{Step, OutOfMemory}
+use Rattle.blink_settings.specs.Settings.{lanes_by_residue}
 use Rattle.blink_run.specs.Trace.{trace_of}
 
 -- the worker of each operation is the remainder of its key

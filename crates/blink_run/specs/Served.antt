@@ -11,9 +11,9 @@ use Rattle.blink_batch.specs.Text.{text_of}
 use Rattle.blink_index.specs.Scan.{is_from, is_within}
 use Rattle.blink_run.specs.Outlet.{BreaksOff, Pours}
 use Rattle.blink_run.specs.Text.{scan_text}
-use Rattle.blink_run.specs.declared.error.RunError.{RunError}
-use Rattle.blink_run.specs.declared.error.ServeError.{ServeError}
-use Rattle.blink_run.specs.declared.error.ServeError.TheVariants as serve
+use Rattle.blink_settings.specs.declared.error.RunError.{RunError}
+use Rattle.blink_settings.specs.declared.error.ServeError.{ServeError}
+use Rattle.blink_settings.specs.declared.error.ServeError.TheVariants as serve
 
 -- ---- the text of parts
 

@@ -10,8 +10,8 @@ use Rattle.blink_steps.specs.declared.StepError.TheVariants as step
 use Rattle.blink_steps.specs.World.{IsFirstNoWorker}
 use Rattle.blink_run.specs.Replay.{IsRefusedMemory, RunsBatch, TellsBatch}
 use Rattle.blink_run.specs.Served.{IsFrontOf, WritesText, is_batch, script_text}
-use Rattle.blink_run.specs.declared.error.ServeError.{ServeError}
-use Rattle.blink_run.specs.declared.error.ServeError.TheVariants as serve
+use Rattle.blink_settings.specs.declared.error.ServeError.{ServeError}
+use Rattle.blink_settings.specs.declared.error.ServeError.TheVariants as serve
 
 -- what a batch takes of the schedule, where so many batches come after it: the last takes it whole, and those before take none
 abbrev pub taken_where : ℕ → List ℕ → List ℕ

@@ -6,7 +6,7 @@ ghost use Rattle.blink_steps.specs.World.{IsAtLanesEnd, IsTooLarge};
 ghost use Rattle.blink_run.specs.Book.{HasEndedOp, IsBookRefusal, IsNewBook, IsRunOf, IsSettleRefusal, TurnsPage, stopped_book};
 ghost use Rattle.blink_run.specs.Run.{IsSettled};
 
-use crate::error::RunError;
+use blink_settings::RunError;
 use blink_batch::{Answer, Batch, Cut, Lanes};
 use blink_rest::Rest;
 use blink_steps::{Kind, Step, StepError, World, is_too_large};

@@ -8,22 +8,19 @@
 
 mod book;
 mod desk;
-mod error;
 mod gate;
 mod live;
 mod outlet;
 mod replay;
 mod run;
 mod script;
-mod settings;
 mod text;
 mod trace;
 
-pub use error::{RunError, ServeError};
+pub use blink_settings::{CutKind, Driver, RunError, ServeError, Settings, SettingsError};
 pub use gate::{Gate, Open};
 pub use outlet::{Outlet, flush_out, write_out};
 pub use replay::{first_of_no_worker, lanes_by_residue, run_parts, serve_replay, write_replay};
-pub use run::{Driver, run_batch};
+pub use run::run_batch;
 pub use script::{new_index, serve};
-pub use settings::{CutKind, Settings, SettingsError};
 pub use trace::push_turn;

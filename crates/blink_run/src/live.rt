@@ -15,7 +15,7 @@ mod lane;
 mod needs;
 mod threads;
 
-use crate::error::RunError;
+use blink_settings::RunError;
 use crate::gate::Gate;
 use blink_batch::{Answer, Batch, Cut, Op};
 use blink_index::Index;

@@ -2,7 +2,7 @@
 ghost use Rattle.std.specs.Prelude.{◌≡◌, ℕ, ◌≤◌, Bool, true, false, List, Option, length, IfErr, IfSome, OnOk};
 ghost use Rattle.blink_run.specs.Outlet.{BreaksOff, Pours};
 
-use crate::error::ServeError;
+use blink_settings::ServeError;
 use std::io::Write;
 
 /// A writer, without the kinds of its errors. Its contracts tell one call from another, so that the functions that use it can say

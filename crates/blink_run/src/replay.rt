@@ -11,10 +11,10 @@ ghost use Rattle.blink_run.specs.Served.{is_batch, part_after, part_text, script
 ghost use Rattle.blink_run.specs.ServedReplay.{HaveRunParts, IsPartsFault, LeavesReplay, Replays, TellsPart, TellsParts, TellsReplayFault, TellsWorkersFault, taken_where};
 
 use crate::book::all_of;
-use crate::error::ServeError;
+use blink_settings::ServeError;
 use crate::outlet::{Outlet, flush_out, write_out};
 use crate::script::{batches_with, new_index};
-use crate::settings::Settings;
+use blink_settings::Settings;
 use crate::text::{push_answers, push_scan};
 use crate::trace::trace_steps;
 use blink_batch::{Batch, Cut, Lanes, Part, read_script};

@@ -9,25 +9,15 @@ ghost use Rattle.blink_run.specs.Run.{IsReplayed};
 
 use crate::book::Book;
 use crate::desk::Desk;
-use crate::error::RunError;
 use crate::gate::Gate;
 use crate::live::run_live;
 use blink_batch::{Answer, Batch, Cut};
 use blink_index::Index;
 use blink_index::laws::no_other_map_is_kept;
+use blink_settings::{Driver, RunError};
 use std::alloc::Global;
 use std::sync::Wait;
 use std::thread::{self, Threads};
-
-/// How the workers share the tree.
-#[derive(Clone, Copy, Debug, PartialEq, Eq)]
-pub enum Driver {
-    /// Each step is taken under one lock.
-    Locked,
-    /// Without a lock, at one table of atomic words. The table has 25 KB for each insertion, and takes twice as much while
-    /// it is opened, before the threads begin.
-    Live,
-}
 
 /// Runs a batch on an index: each worker's lane, an empty one too, in a thread of its own. The answers are those of one thread
 /// that runs the batch in order on the plain map of the index, place by place, and the index keeps that map afterwards.

@@ -10,11 +10,11 @@ ghost use Rattle.blink_run.specs.Outlet.{GoesOut, Pours};
 ghost use Rattle.blink_run.specs.Text.{scan_text};
 ghost use Rattle.blink_run.specs.Served.{IsBatchFault, IsPartFault, LeavesFlushed, LeavesFront, LeavesLines, LeavesPart, Serves, TellsFault, is_batch, part_after, part_text, script_text};
 
-use crate::error::ServeError;
+use blink_settings::ServeError;
 use crate::gate::Gate;
 use crate::outlet::{Outlet, flush_out, write_out};
 use crate::run::run_batch;
-use crate::settings::Settings;
+use blink_settings::Settings;
 use crate::text::{push_answers, push_scan};
 use blink_batch::{Batch, Part, read_script};
 use blink_index::{Index, Scan};

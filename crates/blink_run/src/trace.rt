@@ -3,7 +3,7 @@ ghost use Rattle.std.specs.Prelude.{◌≡◌, ◌<◌, ◌++◌, All, Some, OnO
 ghost use Rattle.blink_run.specs.Replay.{IsRefusedMemory, TellsSteps};
 ghost use Rattle.blink_run.specs.Trace.{turn_line, words_of_step};
 
-use crate::error::ServeError;
+use blink_settings::ServeError;
 use blink_steps::{Kind, Step, World};
 use std::alloc::AllocError;
 use std::fmt;

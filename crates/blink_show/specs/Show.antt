@@ -8,8 +8,8 @@ use Rattle.blink_batch.specs.declared.Part.TheVariants.{Batch}
 use Rattle.blink_batch.specs.Script.{script_of}
 use Rattle.blink_run.specs.Served.{IsFrontOf, WritesText, is_batch}
 use Rattle.blink_run.specs.ServedReplay.{HaveRunParts}
-use Rattle.blink_run.specs.declared.error.ServeError.{ServeError}
-use Rattle.blink_run.specs.declared.error.ServeError.TheVariants as serve
+use Rattle.blink_settings.specs.declared.error.ServeError.{ServeError}
+use Rattle.blink_settings.specs.declared.error.ServeError.TheVariants as serve
 use Rattle.blink_store.specs.Store.{PlainStore, new_store}
 use Rattle.blink_show.specs.Batch.{ShowsBatch}
 

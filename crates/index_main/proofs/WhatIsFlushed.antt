@@ -5,8 +5,8 @@ use Rattle.blink_batch.specs.declared.Part.TheVariants.{Batch}
 use Rattle.blink_batch.specs.Script.{records_of}
 use Rattle.blink_run.specs.Served.{IsFrontOf, IsTextBeforeBatch, IsTextOf, IsTextOfFront, LeavesLines, WritesText}
 use Rattle.blink_run.specs.ServedReplay.{IsReplayText, LeavesReplay}
-use Rattle.blink_run.specs.declared.error.ServeError.{ServeError}
-use Rattle.blink_run.specs.declared.error.ServeError.TheVariants as serve
+use Rattle.blink_settings.specs.declared.error.ServeError.{ServeError}
+use Rattle.blink_settings.specs.declared.error.ServeError.TheVariants as serve
 use Rattle.blink_run.proofs.Offered.{front_of_text}
 use Rattle.index_main.specs.Program.{HasLeftFront, IsText, Leaves, LetsOut, Writes}
 use Rattle.blink_line.specs.declared.line.Line.{Line}

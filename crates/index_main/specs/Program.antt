@@ -3,8 +3,8 @@ use Rattle.std.specs.Prelude.{◌≡◌, ◌⊎◌, ⊤, ℕ, List, [], ◌++◌
 use Rattle.blink_batch.specs.Script.{records_of}
 use Rattle.blink_run.specs.Served.{IsTextOf, LeavesLines, Serves}
 use Rattle.blink_run.specs.ServedReplay.{IsReplayText, LeavesReplay, Replays}
-use Rattle.blink_run.specs.declared.error.ServeError.{ServeError}
-use Rattle.blink_run.specs.declared.error.ServeError.TheVariants as serve
+use Rattle.blink_settings.specs.declared.error.ServeError.{ServeError}
+use Rattle.blink_settings.specs.declared.error.ServeError.TheVariants as serve
 use Rattle.blink_line.specs.declared.line.Line.{Line}
 use Rattle.blink_line.specs.declared.line.Line.TheVariants.{Run, Replay}
 

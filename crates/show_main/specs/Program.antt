@@ -11,7 +11,7 @@ use Rattle.blink_line.specs.declared.line.LineError.{LineError}
 use Rattle.blink_line.specs.declared.line.LineError.TheVariants.{OutOfMemory}
 use Rattle.blink_run.specs.Served.{WritesText}
 use Rattle.blink_run.specs.ServedReplay.{TellsReplayFault}
-use Rattle.blink_run.specs.declared.error.ServeError.{ServeError}
+use Rattle.blink_settings.specs.declared.error.ServeError.{ServeError}
 use Rattle.blink_show.specs.Show.{IsShowText, LeavesShow}
 
 -- the page of some records, where they are a script, for a line that asks for a replay

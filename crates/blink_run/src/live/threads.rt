@@ -3,7 +3,7 @@ ghost use Rattle.std.specs.Prelude.{◌≡◌, ◌<◌, ◌≤◌, ◌⊎◌, �
 ghost use Rattle.std.specs.List.{AllZip};
 ghost use Rattle.blink_run.specs.Lanes.{HasRun, HaveRun, MayRun, MayRunAll, lane_ops};
 
-use crate::error::RunError;
+use blink_settings::RunError;
 use crate::gate::Gate;
 use crate::live::lane::LaneRun;
 use blink_batch::{Batch, Cut};

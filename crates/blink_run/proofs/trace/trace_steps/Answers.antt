@@ -4,7 +4,7 @@ use Rattle.std.proofs.lemmas.List.Elements.{All-get_or}
 use Rattle.std.proofs.lemmas.Result.{err_from_is_err_and}
 use Rattle.blink_run.specs.Replay.{IsTraced}
 use Rattle.blink_run.specs.Trace.{turn_line}
-use Rattle.blink_run.specs.declared.error.ServeError.TheVariants as serve
+use Rattle.blink_settings.specs.declared.error.ServeError.TheVariants as serve
 use Rattle.blink_run.proofs.TraceOfTurns.{no_turn, one_turn, only_memory}
 use Rattle.blink_run.proofs.trace.trace_steps.Goals as goal
 

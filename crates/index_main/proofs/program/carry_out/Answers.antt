@@ -2,7 +2,7 @@ use Rattle.std.proofs.Common.{◌≡◌, List, ℕ, Err, subst}
 use Rattle.std.proofs.lemmas.Result.{IfErr-weaker, on_ok_weaker}
 use Rattle.std.specs.Io.Buffered.{writer_buffer, writer_contents, writer_inner}
 use Rattle.std.specs.Io.KnownBytes.{Keeps, append_known}
-use Rattle.blink_run.specs.declared.error.ServeError.TheVariants as serve
+use Rattle.blink_settings.specs.declared.error.ServeError.TheVariants as serve
 use Rattle.index_main.specs.Program.{Leaves, Writes}
 use Rattle.index_main.proofs.WhatIsFlushed.{flush_failed, refusals_left, write_failed, writes_left}
 use Rattle.index_main.proofs.program.carry_out.Goals as goal

@@ -1,7 +1,7 @@
 use Rattle.std.proofs.Common.{◌≡◌, ◌≤◌, ◌+◌, ◌*◌, map}
 use Rattle.std.specs.List.{range_with_len}
 use Rattle.std.specs.Vec.{vec_capacity, vec_len}
-use Rattle.blink_run.proofs.settings.even_bounds.Given as goal
+use Rattle.blink_settings.proofs.settings.even_bounds.Given as goal
 
 -- the bounds so far are of the ranges so far, and the others have their room
 abbrev pub invariant-loop-number : goal.invariant-loop-number

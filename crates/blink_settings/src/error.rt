@@ -1,6 +1,6 @@
 //! Why a batch isn't run, and why a script isn't served.
 ghost use Rattle.std.specs.Prelude.{◌≡◌};
-ghost use Rattle.blink_run.specs.Codes.{code_of, code_of_serve_error};
+ghost use Rattle.blink_settings.specs.Codes.{code_of, code_of_serve_error};
 
 use blink_batch::ScriptError;
 use blink_steps::StepError;
@@ -75,7 +75,7 @@ impl ServeError {
 
 impl From<ScriptError> for ServeError {
     ghost use Rattle.std.specs.Prelude.{◌≡◌};
-    ghost use Rattle.blink_run.specs.declared.error.ServeError.TheVariants.{Script};
+    ghost use Rattle.blink_settings.specs.declared.error.ServeError.TheVariants.{Script};
 
     ghost from_gives = { λ error told. told ≡ Script error };
 
@@ -86,7 +86,7 @@ impl From<ScriptError> for ServeError {
 
 impl From<StepError> for ServeError {
     ghost use Rattle.std.specs.Prelude.{◌≡◌};
-    ghost use Rattle.blink_run.specs.declared.error.ServeError.TheVariants.{Step};
+    ghost use Rattle.blink_settings.specs.declared.error.ServeError.TheVariants.{Step};
 
     ghost from_gives = { λ error told. told ≡ Step error };
 
@@ -97,7 +97,7 @@ impl From<StepError> for ServeError {
 
 impl From<AllocError> for ServeError {
     ghost use Rattle.std.specs.Prelude.{◌≡◌};
-    ghost use Rattle.blink_run.specs.declared.error.ServeError.TheVariants.{OutOfMemory};
+    ghost use Rattle.blink_settings.specs.declared.error.ServeError.TheVariants.{OutOfMemory};
 
     ghost from_gives = { λ _ told. told ≡ OutOfMemory };
 

@@ -3,7 +3,7 @@ use Rattle.std.specs.List.{range_with_len}
 use Rattle.std.specs.Vec.{vec_len}
 use Rattle.std.proofs.lemmas.List.FromFn.{map-range_with_len_more}
 use Rattle.std.proofs.lemmas.Nat.{mul-le}
-use Rattle.blink_run.proofs.settings.even_bounds.Goals as goal
+use Rattle.blink_settings.proofs.settings.even_bounds.Goals as goal
 
 -- one range more
 pub loop-number-preserved : goal.loop-number-preserved

@@ -6,9 +6,9 @@ use Rattle.blink_batch.specs.Cut.{MayWork}
 use Rattle.blink_batch.specs.Operation.{key_of}
 use Rattle.blink_batch.specs.Ranges.{lanes_by_ranges}
 use Rattle.blink_index.specs.Codes.{IsBadFan}
-use Rattle.blink_run.specs.declared.run.Driver.{Driver}
-use Rattle.blink_run.specs.declared.settings.CutKind.{CutKind}
-use Rattle.blink_run.specs.declared.settings.CutKind.TheVariants.{Residue, Ranges}
+use Rattle.blink_settings.specs.declared.settings.Driver.{Driver}
+use Rattle.blink_settings.specs.declared.settings.CutKind.{CutKind}
+use Rattle.blink_settings.specs.declared.settings.CutKind.TheVariants.{Residue, Ranges}
 
 -- the workers, the greatest number of entries in a page, how batches are cut, and how the tree is shared
 pub record PlainSettings : Type 0 where

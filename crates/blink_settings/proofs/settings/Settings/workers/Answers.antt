@@ -1,7 +1,7 @@
 use Rattle.std.proofs.Common.{ap, subst}
 use Rattle.blink_batch.specs.Cut.{MayWork}
-use Rattle.blink_run.specs.Settings.{PlainSettings}
-use Rattle.blink_run.proofs.settings.Settings.workers.Goals as goal
+use Rattle.blink_settings.specs.Settings.{PlainSettings}
+use Rattle.blink_settings.proofs.settings.Settings.workers.Goals as goal
 
 pub returns-clause-workers : goal.returns-clause-workers
 returns-clause-workers c = ap (λ (settings : PlainSettings). settings.workers) c.self.view_is

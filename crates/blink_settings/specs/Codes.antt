@@ -2,12 +2,12 @@
 use Rattle.std.specs.Prelude.{ℕ}
 use Rattle.blink_batch.specs.Codes.{code_of_script_error}
 use Rattle.blink_steps.specs.Codes as step
-use Rattle.blink_run.specs.declared.error.ServeError.{ServeError}
-use Rattle.blink_run.specs.declared.error.ServeError.TheVariants as serve
-use Rattle.blink_run.specs.declared.error.RunError.{RunError}
-use Rattle.blink_run.specs.declared.error.RunError.TheVariants.{TooLarge, OutOfMemory, Worker, Foreign}
-use Rattle.blink_run.specs.declared.settings.SettingsError.{SettingsError}
-use Rattle.blink_run.specs.declared.settings.SettingsError.TheVariants.{BadWorkers, BadFan}
+use Rattle.blink_settings.specs.declared.error.ServeError.{ServeError}
+use Rattle.blink_settings.specs.declared.error.ServeError.TheVariants as serve
+use Rattle.blink_settings.specs.declared.error.RunError.{RunError}
+use Rattle.blink_settings.specs.declared.error.RunError.TheVariants.{TooLarge, OutOfMemory, Worker, Foreign}
+use Rattle.blink_settings.specs.declared.settings.SettingsError.{SettingsError}
+use Rattle.blink_settings.specs.declared.settings.SettingsError.TheVariants.{BadWorkers, BadFan}
 
 abbrev pub code_of : RunError → ℕ
 code_of TooLarge = 60

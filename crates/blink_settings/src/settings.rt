@@ -3,10 +3,9 @@ ghost use Rattle.std.specs.Prelude.{◌≡◌, ◌+◌, ◌<◌, ◌↔◌, IfOk
 ghost use Rattle.blink_batch.specs.Cut.{IsLawfulCut, MayWork};
 ghost use Rattle.blink_batch.specs.Ranges.{lanes_by_ranges};
 ghost use Rattle.blink_index.specs.Codes.{IsBadFan};
-ghost use Rattle.blink_run.specs.Codes.{code_of_settings_error};
-ghost use Rattle.blink_run.specs.Settings.{IsAllowed, even_bounds, lanes_by};
+ghost use Rattle.blink_settings.specs.Codes.{code_of_settings_error};
+ghost use Rattle.blink_settings.specs.Settings.{IsAllowed, even_bounds, lanes_by};
 
-use crate::run::Driver;
 use blink_batch::{Batch, Cut, WORKER_LIMIT};
 use blink_page::{MAX_FAN, MIN_FAN};
 use std::alloc::{AllocError, Global};
@@ -21,6 +20,16 @@ pub enum CutKind {
     /// By ranges of keys. The greatest key of range i, counted from 1, is `i * (MAX / workers)`, where MAX is the greatest
     /// key; the last range goes up to MAX.
     Ranges,
+}
+
+/// How the workers share the tree.
+#[derive(Clone, Copy, Debug, PartialEq, Eq)]
+pub enum Driver {
+    /// Each step is taken under one lock.
+    Locked,
+    /// Without a lock, at one table of atomic words. The table has 25 KB for each insertion, and takes twice as much while
+    /// it is opened, before the threads begin.
+    Live,
 }
 
 /// Why settings are refused.
@@ -57,7 +66,7 @@ pub struct Settings {
 }
 
 impl Model for Settings {
-    ghost use Rattle.blink_run.specs.Settings.{PlainSettings, IsAllowed};
+    ghost use Rattle.blink_settings.specs.Settings.{PlainSettings, IsAllowed};
 
     ghost Value = { PlainSettings };
 
@@ -127,8 +136,8 @@ impl Settings {
         self.cut
     }
 
-    // The cut of a batch among the workers.
-    pub(crate) fn cut_batch(&self, alloc: Global, batch: &Batch) -> Result<Cut, AllocError>
+    /// The cut of a batch among the workers. An error is a refusal of memory.
+    pub fn cut_batch(&self, alloc: Global, batch: &Batch) -> Result<Cut, AllocError>
         ensures workers { IfOk result (λ cut. cut.workers ≡ self.now.workers) }
         ensures lanes { IfOk result
             (λ cut. cut.lanes ≡ lanes_by self.now.cut self.now.workers batch.now) }
