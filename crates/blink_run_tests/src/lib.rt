@@ -1,4 +1,4 @@
-//! Tests of the public calls of `blink_run`, `blink_line` and `blink_show`, and of these together as the programs make them.
+//! Tests of the public calls of `blink_run`.
 #![tactic(auto)]
 
 #[cfg(test)]
@@ -6,18 +6,10 @@ mod batches;
 #[cfg(test)]
 mod calls;
 #[cfg(test)]
-mod command_lines;
-#[cfg(test)]
-mod ends;
-#[cfg(test)]
 mod replays;
-#[cfg(test)]
-mod runs;
 #[cfg(test)]
 mod scripts;
 #[cfg(test)]
 mod settings;
-#[cfg(test)]
-mod shows;
 #[cfg(test)]
 mod writers;

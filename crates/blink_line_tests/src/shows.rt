@@ -1,14 +1,37 @@
 //! Texts of replays that are to be looked at, worked by hand from the machine's table of states.
-use crate::calls::{Outcome, locked};
+use crate::sets::locked;
 use blink_batch::{RecordError, ScriptError};
 use blink_run::{CutKind, ServeError};
 use blink_show::serve_show;
 use blink_steps::StepError;
 use std::alloc::Global;
+use std::process::Abort;
 use std::test::Fail;
 
+// What is written of a replay, how it ended, and how many bytes of the script it left unread.
+#[derive(Drop)]
+struct Shown {
+    output: Vec<u8>,
+    end: Result<(), ServeError>,
+    unread: usize,
+}
+
+impl Shown {
+    // All was shown, in this text.
+    fn expect_text<R: Abort>(&self, rt: &R, expected: &str) {
+        assert_eq!(rt; self.end, Ok(()));
+        assert!(rt; self.output.as_slice() == expected.as_bytes(), "{expected}");
+    }
+
+    // Nothing is shown, for this reason.
+    fn expect_refusal<R: Abort>(&self, rt: &R, error: ServeError) {
+        assert_eq!(rt; self.end, Err(error));
+        assert!(rt; self.output.is_empty(), "{error}");
+    }
+}
+
 // What is written of a script's replay between `<` and `>`.
-fn shown(alloc: Global, script: &str, workers: u8, schedule: &[u8]) -> Result<Outcome, Fail> {
+fn shown(alloc: Global, script: &str, workers: u8, schedule: &[u8]) -> Result<Shown, Fail> {
     let settings = locked(workers, 4, CutKind::Residue)?;
     let mut text = script.as_bytes();
     let mut output = Vec::new(alloc);
@@ -21,7 +44,7 @@ fn shown(alloc: Global, script: &str, workers: u8, schedule: &[u8]) -> Result<Ou
         "<\n",
         ">\n",
     );
-    Ok(Outcome {
+    Ok(Shown {
         output,
         end,
         unread: text.len(),

@@ -1,7 +1,7 @@
 //! What the words of a command line ask for.
 mod usage;
 
-use crate::calls::{live, locked};
+use crate::sets::{live, locked};
 use blink_line::{Line, LineError, read_line, read_replay};
 use blink_run::{CutKind, Settings};
 use std::alloc::Global;

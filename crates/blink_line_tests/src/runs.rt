@@ -1,5 +1,5 @@
 //! Scripts run as the program `blink` runs them: by the words of a command line, and with the end that is told.
-use crate::calls::locked;
+use crate::sets::locked;
 use blink_line::{End, Line, LineError, ProgramError, end_of, read_line};
 use blink_run::{CutKind, Open, serve, serve_replay};
 use std::alloc::Global;

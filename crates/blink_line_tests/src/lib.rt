@@ -1,0 +1,13 @@
+//! Tests of the public calls of `blink_line` and `blink_show`, and of these together with `blink_run`'s as the programs make them.
+#![tactic(auto)]
+
+#[cfg(test)]
+mod command_lines;
+#[cfg(test)]
+mod ends;
+#[cfg(test)]
+mod runs;
+#[cfg(test)]
+mod sets;
+#[cfg(test)]
+mod shows;
