@@ -1,5 +1,6 @@
 //! How the program ends.
 ghost use Rattle.std.specs.Prelude.{◌≡◌, ◌⊎◌, option_map};
+ghost use Rattle.std.specs.Process.{exit_status};
 ghost use Rattle.blink_line.specs.Codes.{status_of_end};
 ghost use Rattle.blink_line.specs.declared.end.ProgramError.TheVariants.{Memory};
 ghost use Rattle.blink_line.specs.End.{IsEnd, IsUnserved, lines_of, out_of_memory};
@@ -8,6 +9,7 @@ use crate::fault::{OUT_OF_MEMORY, RUN, fault};
 use crate::line::LineError;
 use blink_settings::ServeError;
 use std::alloc::{AllocError, Global};
+use std::process::ExitCode;
 
 /// The exit status where the command line asks for nothing.
 pub const USAGE: u8 = 2;
@@ -61,6 +63,17 @@ impl End {
             Told::Text(text) => Some(text.as_str().trim_end()),
             Told::OutOfMemory => Some(OUT_OF_MEMORY),
         }
+    }
+
+    /// Tells standard error its lines, where there are any, and gives the status for the process to end with. Lines that can't be
+    /// written are lost.
+    pub fn tell<R: Eprint>(&self, rt: &R) -> ExitCode
+        ensures { exit_status result ≡ self.now.status }
+    {
+        if let Some(lines) = self.lines() {
+            let _ = eprintln!(rt; "{lines}");
+        }
+        ExitCode::from(self.status)
     }
 }
 

@@ -36,11 +36,6 @@ pub(crate) fn locked(workers: u8, fan: u8, cut: CutKind) -> Result<Settings, Fai
     Ok(Settings::new(workers, fan, cut, Driver::Locked)?)
 }
 
-/// Settings with the driver `Live`.
-pub(crate) fn live(workers: u8, fan: u8, cut: CutKind) -> Result<Settings, Fail> {
-    Ok(Settings::new(workers, fan, cut, Driver::Live)?)
-}
-
 /// Serves a script.
 pub(crate) fn served<R: Threads + Wait + Sync>(
     rt: &R,

@@ -36,9 +36,5 @@ fn blink(
 }
 
 fn main(rt: HostRuntime) -> ExitCode {
-    let end = end_of(rt.alloc(), blink(&rt));
-    if let Some(lines) = end.lines() {
-        let _ = eprintln!(rt; "{lines}");
-    }
-    ExitCode::from(end.status)
+    end_of(rt.alloc(), blink(&rt)).tell(&rt)
 }

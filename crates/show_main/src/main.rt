@@ -31,9 +31,5 @@ fn blink_show(rt: &(impl Env + Input + Print + AllocGlobal)) -> Result<(), Progr
 }
 
 fn main(rt: HostRuntime) -> ExitCode {
-    let end = end_of(rt.alloc(), blink_show(&rt));
-    if let Some(lines) = end.lines() {
-        let _ = eprintln!(rt; "{lines}");
-    }
-    ExitCode::from(end.status)
+    end_of(rt.alloc(), blink_show(&rt)).tell(&rt)
 }
