@@ -1,5 +1,3 @@
-pub mod BooksGoOn
-pub mod RunAtItsEnd
 pub mod TraceOfTurns
 pub mod LinesOfEntries
 pub mod ReplayOfBatch

@@ -12,8 +12,8 @@ use Rattle.blink_steps.specs.Run.{Taken}
 use Rattle.blink_steps.specs.World.{PlainWorld, HasEnded, IsStart, IsWorldOf, KeepsItsStart, SameBatch}
 use Rattle.blink_run.specs.Replay.{IsTraced, RunsBatch, by_residue}
 use Rattle.blink_run.specs.Trace.{trace_of}
-use Rattle.blink_run.proofs.BooksGoOn.{all_some, no_turn_yet}
-use Rattle.blink_run.proofs.RunAtItsEnd.{IsDone}
+use Rattle.blink_locked.proofs.Offered.{all_some, no_turn_yet}
+use Rattle.blink_locked.proofs.Offered.{IsDone}
 
 -- the worlds of a batch's replay: at its start, after its schedule, and at its end
 pub record IsReplayedToEnd (workers : ℕ) (schedule : List ℕ) (before : PlainStore) (ops : List Op) (first replayed finished : PlainWorld) (trace : List ℕ) : Type 0 where

@@ -12,7 +12,7 @@ use Rattle.blink_settings.specs.declared.error.RunError.TheVariants.{TooLarge}
 use Rattle.blink_settings.specs.declared.error.ServeError.{ServeError}
 use Rattle.blink_settings.specs.declared.error.ServeError.TheVariants as serve
 use Rattle.blink_settings.specs.declared.settings.Driver.TheVariants.{Locked, Live}
-use Rattle.blink_run.specs.Run.{IsReplayed}
+use Rattle.blink_locked.specs.Run.{IsReplayed}
 use Rattle.blink_settings.specs.Settings.{PlainSettings, lanes_by}
 
 -- whose operation each is

@@ -1,7 +1,7 @@
+pub use Rattle.blink_locked.specs.Book
+pub use Rattle.blink_locked.specs.Run
 pub use Rattle.blink_settings.specs.Settings
 pub use Rattle.blink_settings.specs.Codes
-pub mod Book
-pub mod Run
 pub mod Outlet
 pub mod Text
 pub mod Trace

@@ -6,9 +6,6 @@
 //! lock; what each has done is known by the promise that its handle carries.
 #![tactic(auto)]
 
-mod book;
-mod desk;
-mod gate;
 mod live;
 mod outlet;
 mod replay;
@@ -18,7 +15,7 @@ mod text;
 mod trace;
 
 pub use blink_settings::{CutKind, Driver, RunError, ServeError, Settings, SettingsError};
-pub use gate::{Gate, Open};
+pub use blink_locked::{Gate, Open};
 pub use outlet::{Outlet, flush_out, write_out};
 pub use replay::{first_of_no_worker, lanes_by_residue, run_parts, serve_replay, write_replay};
 pub use run::run_batch;

@@ -16,7 +16,7 @@ mod needs;
 mod threads;
 
 use blink_settings::RunError;
-use crate::gate::Gate;
+use blink_locked::Gate;
 use blink_batch::{Answer, Batch, Cut, Op};
 use blink_index::Index;
 use blink_live::{Live, LiveError};

@@ -10,7 +10,7 @@ ghost use Rattle.blink_run.specs.Replay.{IsReplayFault, TellsBatch, by_residue};
 ghost use Rattle.blink_run.specs.Served.{is_batch, part_after, part_text, script_text};
 ghost use Rattle.blink_run.specs.ServedReplay.{HaveRunParts, IsPartsFault, LeavesReplay, Replays, TellsPart, TellsParts, TellsReplayFault, TellsWorkersFault, taken_where};
 
-use crate::book::all_of;
+use blink_locked::all_of;
 use blink_settings::ServeError;
 use crate::outlet::{Outlet, flush_out, write_out};
 use crate::script::{batches_with, new_index};

@@ -11,7 +11,7 @@ ghost use Rattle.blink_run.specs.Text.{scan_text};
 ghost use Rattle.blink_run.specs.Served.{IsBatchFault, IsPartFault, LeavesFlushed, LeavesFront, LeavesLines, LeavesPart, Serves, TellsFault, is_batch, part_after, part_text, script_text};
 
 use blink_settings::ServeError;
-use crate::gate::Gate;
+use blink_locked::Gate;
 use crate::outlet::{Outlet, flush_out, write_out};
 use crate::run::run_batch;
 use blink_settings::Settings;

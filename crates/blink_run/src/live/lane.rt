@@ -6,7 +6,7 @@ ghost use Rattle.blink_live.specs.Allowed.{inserts_left, deletes_left};
 ghost use Rattle.blink_live.specs.Handles.{IsPassOf, keys_of, share_of};
 ghost use Rattle.blink_run.specs.Lanes.{CanRun, HasRun, IsPassAfter, MayRun, uses_deletion, lane_ops};
 
-use crate::gate::Gate;
+use blink_locked::Gate;
 use blink_batch::{Answer, Batch, Op};
 use blink_live::{Live, Pass, PassError};
 use std::sync::Wait;

@@ -4,7 +4,7 @@ ghost use Rattle.std.specs.List.{AllZip};
 ghost use Rattle.blink_run.specs.Lanes.{HasRun, HaveRun, MayRun, MayRunAll, lane_ops};
 
 use blink_settings::RunError;
-use crate::gate::Gate;
+use blink_locked::Gate;
 use crate::live::lane::LaneRun;
 use blink_batch::{Batch, Cut};
 use blink_live::Live;

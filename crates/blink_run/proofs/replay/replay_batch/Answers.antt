@@ -2,7 +2,7 @@ use Rattle.std.proofs.Common.{◌≡◌, ◌∙◌, List, Option, All, IsSome, l
 use Rattle.blink_batch.specs.declared.Answer.{Answer}
 use Rattle.blink_index.specs.Index.{map_of}
 use Rattle.blink_run.proofs.ReplayOfBatch.{IsReplayedToEnd, all_answered, at_rest_before, replay_done, replayed_to_end, runs_batch}
-use Rattle.blink_run.proofs.RunAtItsEnd.{IsDone, one_thread_answers, one_thread_map}
+use Rattle.blink_locked.proofs.Offered.{IsDone, one_thread_answers, one_thread_map}
 use Rattle.blink_run.proofs.replay.replay_batch.Goals as goal
 
 -- every operation has its answer

@@ -1,6 +1,6 @@
 -- The answers so far are those of the first places, and there is room for the rest.
 use Rattle.std.proofs.Common.{◌≡◌, ◌≤◌, Some, length, map, take, vec_len, vec_capacity}
-use Rattle.blink_run.proofs.book.all_of.Given as goal
+use Rattle.blink_locked.proofs.book.all_of.Given as goal
 
 abbrev pub invariant-loop-answer : goal.invariant-loop-answer
 invariant-loop-answer l = record {

@@ -1,7 +1,7 @@
 use Rattle.std.proofs.Common.{◌≡◌, ◌∙◌, List}
 use Rattle.std.proofs.lemmas.Result.{IfOk-at_ok}
 use Rattle.blink_batch.specs.declared.Op.{Op}
-use Rattle.blink_run.proofs.book.copy_of.Goals as goal
+use Rattle.blink_locked.proofs.book.copy_of.Goals as goal
 
 -- the copy is no longer than the batch
 pub unwrap-requires : goal.unwrap-requires

@@ -14,8 +14,8 @@ use Rattle.blink_steps.specs.Pick.{IsIdleWorker}
 use Rattle.blink_steps.specs.Promises.{HasAnswerAt, IsPromised, KeepsItsPromises}
 use Rattle.blink_steps.specs.Run.{PlainRun, Taken}
 use Rattle.blink_steps.specs.World.{PlainWorld, GoesOnBy, HasEnded, IsAtLanesEnd, IsStart, IsWorldOf, SameBatch}
-use Rattle.blink_run.specs.Book.{PlainBook, AllMoved, HasEndedOp, IsBook, IsRunOf}
-use Rattle.blink_run.specs.Run.{IsSettled}
+use Rattle.blink_locked.specs.Book.{PlainBook, AllMoved, HasEndedOp, IsBook, IsRunOf}
+use Rattle.blink_locked.specs.Run.{IsSettled}
 
 -- ---- the book's beginning
 

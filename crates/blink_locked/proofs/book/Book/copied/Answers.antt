@@ -2,9 +2,9 @@ use Rattle.std.proofs.Common.{List, false, sym, ◌∙◌, subst}
 use Rattle.blink_batch.specs.declared.Op.{Op}
 use Rattle.blink_batch.specs.Cut.{Assignment}
 use Rattle.blink_store.specs.Store.{PlainStore}
-use Rattle.blink_run.specs.Book.{IsBook}
-use Rattle.blink_run.proofs.BooksGoOn.{begins_book}
-use Rattle.blink_run.proofs.book.Book.copied.Goals as goal
+use Rattle.blink_locked.specs.Book.{IsBook}
+use Rattle.blink_locked.proofs.BooksGoOn.{begins_book}
+use Rattle.blink_locked.proofs.book.Book.copied.Goals as goal
 
 pub invariant_of-result : goal.invariant_of-result
 invariant_of-result c =

@@ -14,7 +14,7 @@ const TRIES: usize = 20;
 
 /// A book that one worker at a time writes: each step is taken under its lock.
 #[derive(Drop)]
-pub(crate) struct Desk {
+pub struct Desk {
     book: Mutex<Book>,
     // Told where a worker has let a latch go, has written the prime block, or has found the run stopped: nothing else is
     // waited for.
@@ -23,7 +23,7 @@ pub(crate) struct Desk {
 
 impl Desk {
     /// A desk for this book.
-    pub(crate) fn new(book: Book) -> Desk {
+    pub fn new(book: Book) -> Desk {
         Desk {
             book: Mutex::new(book),
             changed: Condvar::new(),
@@ -32,7 +32,7 @@ impl Desk {
 
     /// Runs a worker's lane, one operation after another, to its end or until the run is stopped. The gate is called between
     /// operations, when the worker has neither the lock nor a latch.
-    pub(crate) fn run_lane<R: Wait, G: Gate>(&self, rt: &R, gate: &G, worker: u8, lanes: &[u8]) {
+    pub fn run_lane<R: Wait, G: Gate>(&self, rt: &R, gate: &G, worker: u8, lanes: &[u8]) {
         for (op, &lane) in (0..u32::MAX).zip(lanes) {
             if lane == worker {
                 gate.before(worker, op);
@@ -97,13 +97,13 @@ impl Desk {
     }
 
     /// Stops the run.
-    pub(crate) fn stop<R: Wait>(&self, rt: &R) {
+    pub fn stop<R: Wait>(&self, rt: &R) {
         self.enter(rt).stop();
         self.changed.notify_all();
     }
 
     /// The book, when all workers have left.
-    pub(crate) fn into_book(self) -> Book {
+    pub fn into_book(self) -> Book {
         self.book.into_inner()
     }
 }

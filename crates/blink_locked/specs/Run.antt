@@ -7,7 +7,7 @@ use Rattle.blink_rest.specs.Rest.{IsStoreAtRest}
 use Rattle.blink_store.specs.Store.{PlainStore}
 use Rattle.blink_steps.specs.Headline.{IsOneThread, IsReachedThroughout}
 use Rattle.blink_steps.specs.World.{PlainWorld, IsReplay, HasEnded}
-use Rattle.blink_run.specs.Book.{AllMoved}
+use Rattle.blink_locked.specs.Book.{AllMoved}
 
 -- a replay of the batch and its lanes, of some schedule in which every turn moved and all operations end, leads from the tree
 -- before to the tree after

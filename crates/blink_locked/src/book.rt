@@ -3,8 +3,8 @@ ghost use Rattle.std.specs.Prelude.{◌≡◌, ◌↔◌, All, IfOk, IfErr, IsTr
 ghost use Rattle.blink_batch.specs.Cut.{IsLawfulCut};
 ghost use Rattle.std.specs.Bool.{OnFalse};
 ghost use Rattle.blink_steps.specs.World.{IsAtLanesEnd, IsTooLarge};
-ghost use Rattle.blink_run.specs.Book.{HasEndedOp, IsBookRefusal, IsNewBook, IsRunOf, IsSettleRefusal, TurnsPage, stopped_book};
-ghost use Rattle.blink_run.specs.Run.{IsSettled};
+ghost use Rattle.blink_locked.specs.Book.{HasEndedOp, IsBookRefusal, IsNewBook, IsRunOf, IsSettleRefusal, TurnsPage, stopped_book};
+ghost use Rattle.blink_locked.specs.Run.{IsSettled};
 
 use blink_settings::RunError;
 use blink_batch::{Answer, Batch, Cut, Lanes};
@@ -15,7 +15,7 @@ use std::marker::Model;
 
 /// What became of a worker's turn at the book.
 #[derive(Clone, Copy, Debug, PartialEq, Eq)]
-pub(crate) enum Turn {
+pub enum Turn {
     /// It took this step of its operation, which has ended with it or hasn't.
     Took(Kind, bool),
     /// Its operation had ended before.
@@ -31,7 +31,7 @@ pub(crate) enum Turn {
 /// Its type keeps that the world is the one that the schedule leads to from that start, and that each turn of it moved: so
 /// waiting takes no memory, and the schedule is no longer than a run's steps.
 #[derive(Debug, Drop)]
-pub(crate) struct Book {
+pub struct Book {
     start: Rest,
     batch: Batch,
     lanes: Lanes,
@@ -40,7 +40,7 @@ pub(crate) struct Book {
 }
 
 impl Model for Book {
-    ghost use Rattle.blink_run.specs.Book.{PlainBook, IsBook};
+    ghost use Rattle.blink_locked.specs.Book.{PlainBook, IsBook};
 
     ghost Value = { PlainBook };
 
@@ -65,7 +65,7 @@ impl Book {
     /// The book of a run of a batch over a tree, before its first step. Tree, batch and lanes are copied.
     ///
     /// The refusal `TooLarge` comes before memory is asked for.
-    pub(crate) fn new(
+    pub fn new(
         alloc: Global,
         start: &Rest,
         batch: &Batch,
@@ -115,7 +115,7 @@ impl Book {
 
     /// A turn of a worker, for the operation at this place of its lane: one step, unless that would be a wait, or the
     /// operation has ended. Where memory is refused the run is stopped; a worker with another's operation is told to stop.
-    pub(crate) fn turn(&mut self, worker: u8, op: u32) -> Turn
+    pub fn turn(&mut self, worker: u8, op: u32) -> Turn
         ensures { TurnsPage self.old worker op result self.new }
     {
         if self.stopped || !self.is_of(worker, op) {
@@ -154,14 +154,14 @@ impl Book {
     }
 
     /// Stops the run: each worker stops at its next turn.
-    pub(crate) fn stop(&mut self)
+    pub fn stop(&mut self)
         ensures { self.new ≡ stopped_book self.old }
     {
         self.stopped = true;
     }
 
     /// What the run has come to: its tree and its answers, place by place. The book must be that of this run, at its end.
-    pub(crate) fn settle(
+    pub fn settle(
         self,
         alloc: Global,
         start: &Rest,
@@ -213,7 +213,7 @@ fn lanes_of(alloc: Global, batch: &Batch, cut: &Cut) -> Result<Lanes, AllocError
 }
 
 /// All answers, where each place has one.
-pub(crate) fn all_of(alloc: Global, given: &[Option<Answer>]) -> Result<Vec<Answer>, AllocError>
+pub fn all_of(alloc: Global, given: &[Option<Answer>]) -> Result<Vec<Answer>, AllocError>
     requires { All (λ answer. IsSome answer) given.now }
     ensures { IfOk result (λ answers. given.now ≡ map Some answers.items) }
 {

@@ -11,8 +11,8 @@ use Rattle.blink_steps.specs.Run.{PlainRun, Taken}
 use Rattle.blink_steps.specs.World.{PlainWorld, IsWorldOf, TakesStep}
 use Rattle.blink_settings.specs.declared.error.RunError.{RunError}
 use Rattle.blink_settings.specs.declared.error.RunError.TheVariants.{TooLarge, OutOfMemory, Foreign}
-use Rattle.blink_run.specs.declared.book.Turn.{Turn}
-use Rattle.blink_run.specs.declared.book.Turn.TheVariants.{Took, Over, Waits, Stopped}
+use Rattle.blink_locked.specs.declared.book.Turn.{Turn}
+use Rattle.blink_locked.specs.declared.book.Turn.TheVariants.{Took, Over, Waits, Stopped}
 
 -- the tree, the batch and the lanes that the run began with, its world, and whether it is stopped
 pub record PlainBook : Type 0 where

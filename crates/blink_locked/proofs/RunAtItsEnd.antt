@@ -12,7 +12,7 @@ use Rattle.blink_rest.specs.Rest.{IsStoreAtRest}
 use Rattle.blink_steps.specs.Headline.{IsOneThread}
 use Rattle.blink_steps.specs.Run.{PlainRun}
 use Rattle.blink_machine.specs.TreeMap.{IsMapOf}
-use Rattle.blink_run.specs.Run.{IsSettled}
+use Rattle.blink_locked.specs.Run.{IsSettled}
 
 -- the same answers, each as one that is given
 same_given : (given other : List Answer) → map Some given ≡ map Some other → given ≡ other

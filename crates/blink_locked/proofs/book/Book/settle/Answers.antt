@@ -1,8 +1,8 @@
 use Rattle.std.proofs.Common.{All, IsSome, List, Option, length, sym, ap, ◌∙◌, subst}
 use Rattle.blink_batch.specs.declared.Answer.{Answer}
-use Rattle.blink_run.specs.Book.{PlainBook, IsRunOf}
-use Rattle.blink_run.proofs.BooksGoOn.{all_some, settled}
-use Rattle.blink_run.proofs.book.Book.settle.Goals as goal
+use Rattle.blink_locked.specs.Book.{PlainBook, IsRunOf}
+use Rattle.blink_locked.proofs.BooksGoOn.{all_some, settled}
+use Rattle.blink_locked.proofs.book.Book.settle.Goals as goal
 
 pub all_of-requires : goal.all_of-requires
 all_of-requires c =

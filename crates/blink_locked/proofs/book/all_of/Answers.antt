@@ -2,7 +2,7 @@ use Rattle.std.proofs.Common.{◌≡◌, ◌∙◌, ◌++◌, ◌∷◌, [], Lis
 use Rattle.std.proofs.lemmas.List.{map-append, take_all, take_more}
 use Rattle.std.proofs.lemmas.List.Elements.{All-get_or}
 use Rattle.blink_batch.specs.declared.Answer.{Answer}
-use Rattle.blink_run.proofs.book.all_of.Goals as goal
+use Rattle.blink_locked.proofs.book.all_of.Goals as goal
 
 -- each place has an answer
 pub unwrap-requires : goal.unwrap-requires

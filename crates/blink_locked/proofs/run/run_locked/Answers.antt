@@ -1,9 +1,9 @@
 use Rattle.std.proofs.Common.{ap, ◌∙◌, subst}
 use Rattle.blink_index.specs.Index.{map_of}
 use Rattle.blink_store.specs.Store.{PlainStore}
-use Rattle.blink_run.specs.Run.{IsSettled}
-use Rattle.blink_run.proofs.RunAtItsEnd.{one_thread_answers, one_thread_map, settled_done}
-use Rattle.blink_run.proofs.run.run_locked.Goals as goal
+use Rattle.blink_locked.specs.Run.{IsSettled}
+use Rattle.blink_locked.proofs.RunAtItsEnd.{one_thread_answers, one_thread_map, settled_done}
+use Rattle.blink_locked.proofs.run.run_locked.Goals as goal
 
 pub returns-clause-answers : goal.returns-clause-answers
 returns-clause-answers g c =

@@ -2,9 +2,9 @@ use Rattle.std.proofs.Common.{◌≡◌, true, false, is_some, List, Option, Som
 use Rattle.std.specs.Prelude.{slice_get}
 use Rattle.blink_batch.specs.declared.Answer.{Answer}
 use Rattle.blink_steps.specs.World.{IsAtLanesEnd}
-use Rattle.blink_run.specs.Book.{PlainBook, HasEndedOp}
-use Rattle.blink_run.proofs.BooksGoOn.{ended_where_idle, has_more, no_answer, own_in_world}
-use Rattle.blink_run.proofs.book.Book.has_ended.Goals as goal
+use Rattle.blink_locked.specs.Book.{PlainBook, HasEndedOp}
+use Rattle.blink_locked.proofs.BooksGoOn.{ended_where_idle, has_more, no_answer, own_in_world}
+use Rattle.blink_locked.proofs.book.Book.has_ended.Goals as goal
 
 pub returns-then-is_some-clause-ended : goal.returns-then-is_some-clause-ended
 returns-then-is_some-clause-ended c =

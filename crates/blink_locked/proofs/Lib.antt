@@ -1,0 +1,3 @@
+pub mod BooksGoOn
+pub mod RunAtItsEnd
+pub mod Offered

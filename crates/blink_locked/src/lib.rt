@@ -1,0 +1,15 @@
+//! A batch's run on an index by threads, each step under one lock.
+//!
+//! What is under the lock is a book, which keeps by its type that it is the run of a schedule in which every turn moved; the runner
+//! compares the book with what it gave to it, and so knows what the threads have done.
+#![tactic(auto)]
+
+mod book;
+mod desk;
+mod gate;
+mod run;
+
+pub use book::{Book, Turn, all_of};
+pub use desk::Desk;
+pub use gate::{Gate, Open};
+pub use run::run_locked;
