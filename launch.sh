@@ -56,23 +56,46 @@ all_below() {
     done | sort -u
 }
 
+# A copy of a folder, which shares its files where the file system can.
+copy() {
+    if ! cp -Rl "$1" "$2" 2>/dev/null; then
+        rm -rf "$2"
+        cp -R "$1" "$2"
+    fi
+}
+
+# Proves and builds one crate in a copy of the checkout, and brings what it made back. In one checkout rt works on a crate while no
+# other rt works on any that it stands on.
+build_apart() {
+    mkdir -p "$room/$1/crates"
+    cp "$top/crates.txt" "$room/$1/"
+    for it in $(all_below "$1"); do
+        copy "$top/crates/$it" "$room/$1/crates/$it"
+    done
+    cp -R "$top/crates/$1" "$room/$1/crates/$1"
+    (cd "$room/$1/crates/$1" && rt lib) || true
+    if [ -d "$room/$1/crates/$1/out" ]; then
+        rm -rf "$top/crates/$1/out"
+        mv "$room/$1/crates/$1/out" "$top/crates/$1/out"
+    fi
+    rm -rf "${room:?}/$1"
+}
+
 # Proves and builds each crate below the program as soon as those that it stands on are built, side by side. What fails here fails
 # again below, where it is told.
 build_side_by_side() {
-    built=$(mktemp -d)
     for it in $(all_below "$crate"); do
         (
             for under in $(below "$it"); do
-                while [ ! -e "$built/$under" ]; do
+                while [ ! -e "$room/$under.done" ]; do
                     sleep 1
                 done
             done
-            (cd "$top/crates/$it" && rt lib) || true
-            : >"$built/$it"
+            build_apart "$it"
+            : >"$room/$it.done"
         ) &
     done
     wait
-    rm -r "$built"
 }
 
 # How the build gets on, told on standard error: each crate that it comes to, and every half minute how long it has taken.
@@ -81,6 +104,7 @@ build_side_by_side() {
 build() {
     crates=$(grep -c '^[a-z]' "$top/crates.txt")
     log=$(mktemp)
+    room=$(mktemp -d)
     began=$(date +%s)
     echo "$name: proving and building the program, $crates crates, which takes some minutes the first time" >&2
     # A process group of its own, where the shell can make one, so that all of it can be stopped.
@@ -91,7 +115,7 @@ build() {
     ) </dev/null >"$log" 2>&1 &
     building=$!
     set +m
-    trap 'kill -- -$building 2>/dev/null || kill $building 2>/dev/null || true; rm -f "$log"; exit 130' HUP INT TERM
+    trap 'kill -- -$building 2>/dev/null || kill $building 2>/dev/null || true; rm -rf "$log" "$room"; exit 130' HUP INT TERM
     told=none
     told_at=0
     while kill -0 "$building" 2>/dev/null; do
@@ -106,12 +130,12 @@ build() {
     done
     if ! wait "$building"; then
         cat "$log" >&2
-        rm -f "$log"
+        rm -rf "$log" "$room"
         echo "$name: the program could not be built" >&2
         exit 1
     fi
     trap - HUP INT TERM
-    rm -f "$log"
+    rm -rf "$log" "$room"
     touch "$program"
 }
 

@@ -1,9 +1,7 @@
 //! Threads round the step machine: a batch runs on an index, each worker's lane in a thread of its own.
 //!
-//! The driver `Locked` takes every step under one lock. What is under it is a book, which keeps by its type that it is the
-//! run of a schedule in which every turn moved; the runner compares the book with what it gave to it, and so knows what the
-//! threads have done. The driver `Live` gives each lane a pass of one table of atomic words, which threads share without a
-//! lock; what each has done is known by the promise that its handle carries.
+//! The driver `Locked` takes every step under one lock (`blink_locked`). The driver `Live` gives each lane a pass of one table of atomic
+//! words, which threads share without a lock; what each has done is known by the promise that its handle carries.
 #![tactic(auto)]
 
 mod live;

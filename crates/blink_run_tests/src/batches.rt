@@ -1,10 +1,8 @@
 //! Batches run on an index, worked by hand. Their trees have at most 4 entries a page.
-ghost use Rattle.blink_batch.specs.Cut.{IsLawfulCut};
+pub(crate) mod gates;
 
-mod gates;
-
-use crate::calls::DRIVERS;
-use blink_batch::{Answer, Batch, Cut, Op};
+use crate::calls::{CutBatch, DRIVERS};
+use blink_batch::{Answer, Op};
 use blink_index::Index;
 use blink_run::{Driver, Gate, Open, RunError, run_batch};
 use std::alloc::Global;
@@ -12,22 +10,6 @@ use std::process::Abort;
 use std::sync::Wait;
 use std::test::Fail;
 use std::thread::Threads;
-
-// A batch, and its cut by the remainders of the keys.
-#[derive(Drop)]
-struct CutBatch {
-    batch: Batch,
-    cut: Cut,
-    ghost lawful: { IsLawfulCut batch cut.workers cut.lanes },
-}
-
-impl CutBatch {
-    fn new(alloc: Global, ops: &[Op], workers: u8) -> Result<CutBatch, Fail> {
-        let batch = Batch::new(ops.to_vec(alloc)?)?;
-        let cut = Cut::by_residue(alloc, &batch, workers)?;
-        Ok(CutBatch { batch, cut })
-    }
-}
 
 // The index after a batch, and the answers of the batch.
 #[derive(Drop)]
@@ -194,31 +176,46 @@ fn replacements_keep_their_leaf(rt: HostRuntime) -> Result<(), Fail> {
     Ok(())
 }
 
-// The levels above the leaves, where 14 keys are inserted in order.
-fn expect_top<R: Threads + Wait + Abort + Sync>(
+// All pages, where 14 keys are inserted in order by one worker.
+fn expect_pages<R: Threads + Wait + Abort + Sync>(
     rt: &R,
     alloc: Global,
     driver: Driver,
-    top: &str,
+    expected: &str,
 ) -> Result<(), Fail> {
     let index = index_to(rt, alloc, driver, 14)?;
     let pages = index.dump(alloc)?;
-    assert!(rt; pages.as_str().starts_with(top), "{driver:?}: {pages}");
+    assert!(rt; pages.as_str() == expected, "{driver:?}: {pages}");
     Ok(())
 }
 
-// A run that built a new tree from the plain map would fill its pages in another way. The numbers tell the drivers apart: the
-// steps give them in the order in which pages come to be, and a table that closes gives them level by level, the leaves first.
+// The numbers are in the order in which pages come to be.
+const OF_STEPS: &str = "2 8 - 18446744073709551615 - 9:3 18446744073709551615:7
+1 3 - 9 7 3:1 6:2 9:4
+1 7 9 18446744073709551615 - 12:5 18446744073709551615:6
+0 1 - 3 2 1:10 2:20 3:30
+0 2 3 6 4 4:40 5:50 6:60
+0 4 6 9 5 7:70 8:80 9:90
+0 5 9 12 6 10:100 11:110 12:120
+0 6 12 18446744073709551615 - 13:130 14:140
+";
+
+// A table that closes numbers its pages level by level, the leaves first.
+const OF_A_TABLE: &str = "2 8 - 18446744073709551615 - 9:6 18446744073709551615:7
+1 6 - 9 7 3:1 6:2 9:3
+1 7 9 18446744073709551615 - 12:4 18446744073709551615:5
+0 1 - 3 2 1:10 2:20 3:30
+0 2 3 6 3 4:40 5:50 6:60
+0 3 6 9 4 7:70 8:80 9:90
+0 4 9 12 5 10:100 11:110 12:120
+0 5 12 18446744073709551615 - 13:130 14:140
+";
+
+// A run that built a new tree from the plain map would fill its pages in another way. The numbers tell the drivers apart.
 #[test]
 fn the_pages_are_those_of_the_steps(rt: HostRuntime) -> Result<(), Fail> {
-    let of_steps = "2 8 - 18446744073709551615 - 9:3 18446744073709551615:7
-1 3 - 9 7 3:1 6:2 9:4
-";
-    let of_table = "2 8 - 18446744073709551615 - 9:6 18446744073709551615:7
-1 6 - 9 7 3:1 6:2 9:3
-";
-    expect_top(&rt, rt.alloc(), Driver::Locked, of_steps)?;
-    expect_top(&rt, rt.alloc(), Driver::Live, of_table)
+    expect_pages(&rt, rt.alloc(), Driver::Locked, OF_STEPS)?;
+    expect_pages(&rt, rt.alloc(), Driver::Live, OF_A_TABLE)
 }
 
 #[test]

@@ -1,4 +1,7 @@
 //! The calls that many tests make, and what is compared of them.
+ghost use Rattle.blink_batch.specs.Cut.{IsLawfulCut};
+
+use blink_batch::{Batch, Cut, Op};
 use blink_run::{CutKind, Driver, Open, ServeError, Settings, serve, serve_replay};
 use std::alloc::Global;
 use std::process::Abort;
@@ -8,6 +11,22 @@ use std::thread::Threads;
 
 /// Both drivers.
 pub(crate) const DRIVERS: [Driver; 2] = [Driver::Locked, Driver::Live];
+
+/// A batch, and its cut by the remainders of the keys.
+#[derive(Drop)]
+pub(crate) struct CutBatch {
+    pub(crate) batch: Batch,
+    pub(crate) cut: Cut,
+    ghost lawful: { IsLawfulCut batch cut.workers cut.lanes },
+}
+
+impl CutBatch {
+    pub(crate) fn new(alloc: Global, ops: &[Op], workers: u8) -> Result<CutBatch, Fail> {
+        let batch = Batch::new(ops.to_vec(alloc)?)?;
+        let cut = Cut::by_residue(alloc, &batch, workers)?;
+        Ok(CutBatch { batch, cut })
+    }
+}
 
 /// What a call wrote, how it ended, and how many bytes of the script it left unread.
 #[derive(Drop)]

@@ -1,8 +1,10 @@
-//! Tests of the public calls of `blink_run`.
+//! Tests of the public calls of `blink_run` and `blink_locked`.
 #![tactic(auto)]
 
 #[cfg(test)]
 mod batches;
+#[cfg(test)]
+mod books;
 #[cfg(test)]
 mod calls;
 #[cfg(test)]

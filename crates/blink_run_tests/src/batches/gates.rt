@@ -12,14 +12,23 @@ use std::test::Fail;
 use std::thread::{self, Threads};
 use std::time::Duration;
 
-// How often a gate looks for other operations before it gives up.
-const LOOKS: u32 = 100_000;
+/// How often a gate looks for other operations before it gives up.
+pub(crate) const LOOKS: u32 = 100_000;
 
-// How often the gate was passed before and after an operation.
+/// How often the gate was passed before and after an operation.
 #[derive(Drop)]
-struct CountingGate {
-    before: AtomicU64,
-    after: AtomicU64,
+pub(crate) struct CountingGate {
+    pub(crate) before: AtomicU64,
+    pub(crate) after: AtomicU64,
+}
+
+impl CountingGate {
+    pub(crate) fn new() -> CountingGate {
+        CountingGate {
+            before: AtomicU64::new(0),
+            after: AtomicU64::new(0),
+        }
+    }
 }
 
 impl Gate for CountingGate {
@@ -39,10 +48,7 @@ fn expect_passed_twice<R: Threads + Wait + Abort + Sync>(
     driver: Driver,
 ) -> Result<(), Fail> {
     let ops = insertions(alloc, 10)?;
-    let gate = CountingGate {
-        before: AtomicU64::new(0),
-        after: AtomicU64::new(0),
-    };
+    let gate = CountingGate::new();
     run_on_new(rt, alloc, driver, &ops, 3, &gate)?;
     assert_eq!(rt; gate.before.load(Ordering::SeqCst), 10);
     assert_eq!(rt; gate.after.load(Ordering::SeqCst), 10);
