@@ -1,18 +1,26 @@
-//! How the program ends.
-ghost use Rattle.std.specs.Prelude.{◌≡◌, ◌⊎◌, option_map};
+//! How a program ends.
+ghost use Rattle.std.specs.Prelude.{◌≡◌};
 ghost use Rattle.std.specs.Process.{exit_status};
-ghost use Rattle.blink_line.specs.Codes.{status_of_end};
-ghost use Rattle.blink_line.specs.declared.end.ProgramError.TheVariants.{Memory};
-ghost use Rattle.blink_line.specs.End.{IsEnd, IsUnserved, lines_of, out_of_memory};
+ghost use Rattle.blink_line.specs.Codes.{status_of, status_of_end};
+ghost use Rattle.blink_line.specs.End.{failure_of};
 
-use crate::fault::{OUT_OF_MEMORY, RUN, fault};
 use crate::line::LineError;
 use blink_settings::ServeError;
-use std::alloc::{AllocError, Global};
+use std::alloc::AllocError;
+use std::fmt;
 use std::process::ExitCode;
 
 /// The exit status where the command line asks for nothing.
 pub const USAGE: u8 = 2;
+
+/// The exit status where the text is no script.
+pub const SCRIPT: u8 = 3;
+
+/// The exit status where a batch wasn't run, a step wasn't taken, or memory was refused.
+pub const RUN: u8 = 4;
+
+/// The exit status where the output couldn't be written.
+pub const OUTPUT: u8 = 5;
 
 /// Why the program didn't do what it was asked for.
 #[derive(Debug, Drop)]
@@ -26,6 +34,8 @@ pub enum ProgramError {
 }
 
 impl From<AllocError> for ProgramError {
+    ghost use Rattle.blink_line.specs.declared.end.ProgramError.TheVariants.{Memory};
+
     ghost from_gives = { λ _ error. error ≡ Memory };
 
     fn from(_error: AllocError) -> ProgramError {
@@ -33,88 +43,83 @@ impl From<AllocError> for ProgramError {
     }
 }
 
-/// What standard error is told.
-#[derive(Debug, PartialEq, Eq, Drop)]
-pub enum Told {
-    /// Nothing.
-    Nothing,
-    /// A text, with or without line feeds at its end.
-    Text(String),
-    /// That memory was refused, maybe that of a text.
-    OutOfMemory,
+/// The lines that standard error is told, without the last one's line feed.
+impl fmt::Display for ProgramError {
+    ghost use Rattle.blink_line.specs.End.{lines_of};
+
+    ghost output = { lines_of };
+
+    fn fmt<W: fmt::Write>(&self, f: &mut fmt::Formatter<W>) -> fmt::Result {
+        match self {
+            ProgramError::Line(LineError::Usage(text)) => {
+                let lines = text.as_str().trim_end();
+                write!(f, "{lines}")
+            }
+            ProgramError::Line(LineError::OutOfMemory) | ProgramError::Memory => {
+                write!(f, "run: out of memory")
+            }
+            ProgramError::Serve(ServeError::Script(error)) => write!(f, "script: {error}"),
+            ProgramError::Serve(ServeError::Run(number, error)) => {
+                write!(f, "run: batch {number}: {error}")
+            }
+            ProgramError::Serve(ServeError::Step(error)) => write!(f, "run: {error}"),
+            ProgramError::Serve(ServeError::Output) => write!(f, "output: write failed"),
+            ProgramError::Serve(ServeError::OutOfMemory) => write!(f, "run: out of memory"),
+        }
+    }
 }
 
-/// How the program ends.
-#[derive(Debug, PartialEq, Eq, Drop)]
+/// How a program ends.
+#[derive(Debug, Drop)]
 pub struct End {
     /// The exit status.
     pub status: u8,
-    /// What standard error is told.
-    pub told: Told,
+    /// What standard error is told, where all didn't go well.
+    pub failure: Option<ProgramError>,
 }
 
 impl End {
-    /// The lines that standard error is told, without the last one's line feed.
-    pub fn lines(&self) -> Option<&str>
-        ensures { option_map (λ lines. lines.now) result ≡ lines_of self.now.told }
-    {
-        match &self.told {
-            Told::Nothing => None,
-            Told::Text(text) => Some(text.as_str().trim_end()),
-            Told::OutOfMemory => Some(OUT_OF_MEMORY),
-        }
-    }
-
-    /// Tells standard error its lines, where there are any, and gives the status for the process to end with. Lines that can't be
-    /// written are lost.
+    /// Tells standard error why the program didn't do what it was asked for, and gives the status for the process to end with. Lines
+    /// that can't be written are lost.
     pub fn tell<R: Eprint>(&self, rt: &R) -> ExitCode
         ensures { exit_status result ≡ self.now.status }
     {
-        if let Some(lines) = self.lines() {
-            let _ = eprintln!(rt; "{lines}");
+        if let Some(failure) = &self.failure {
+            let _ = eprintln!(rt; "{failure}");
         }
         ExitCode::from(self.status)
     }
 }
 
-/// How the program ends after this outcome. Where memory for a refusal's line is refused, that is told in its place.
-pub fn end_of(alloc: Global, outcome: Result<(), ProgramError>) -> End
-    ensures status { (result.status ≡ status_of_end outcome) ⊎ (result ≡ out_of_memory) }
-    ensures end { IsEnd outcome result }
+/// How the program ends after this outcome. It takes no memory, so each refusal is told as itself.
+pub fn end_of(outcome: Result<(), ProgramError>) -> End
+    ensures status { result.status ≡ status_of_end outcome }
+    ensures failure { result.failure ≡ failure_of outcome }
 {
     match outcome {
         Ok(()) => End {
             status: 0,
-            told: Told::Nothing,
+            failure: None,
         },
-        Err(ProgramError::Line(LineError::Usage(text))) => End {
-            status: USAGE,
-            told: Told::Text(text),
+        Err(error) => End {
+            status: status_of(&error),
+            failure: Some(error),
         },
-        Err(ProgramError::Line(LineError::OutOfMemory) | ProgramError::Memory) => out_of_memory(),
-        Err(ProgramError::Serve(error)) => unserved(alloc, &error),
     }
 }
 
-// The end where a script wasn't served.
-fn unserved(alloc: Global, error: &ServeError) -> End
-    ensures { IsUnserved error.now result }
+// The exit status after an error.
+fn status_of(error: &ProgramError) -> u8
+    ensures { result ≡ status_of error.now }
 {
-    match fault(alloc, error) {
-        Ok((status, line)) => End {
-            status,
-            told: Told::Text(line),
-        },
-        Err(_) => out_of_memory(),
-    }
-}
-
-// The end where memory was refused.
-fn out_of_memory() -> End
-    ensures { result ≡ out_of_memory }
-{
-    End {
-        status: RUN,
-        told: Told::OutOfMemory,
+    match error {
+        ProgramError::Line(LineError::Usage(_)) => USAGE,
+        ProgramError::Serve(ServeError::Script(_)) => SCRIPT,
+        ProgramError::Serve(ServeError::Output) => OUTPUT,
+        ProgramError::Line(LineError::OutOfMemory)
+        | ProgramError::Serve(
+            ServeError::Run(_, _) | ServeError::Step(_) | ServeError::OutOfMemory,
+        )
+        | ProgramError::Memory => RUN,
     }
 }

@@ -3,9 +3,8 @@
 
 mod command;
 mod end;
-mod fault;
 mod line;
 mod value;
 
-pub use end::{End, ProgramError, Told, end_of};
+pub use end::{End, ProgramError, end_of};
 pub use line::{Line, LineError, read_line, read_replay};

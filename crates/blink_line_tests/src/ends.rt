@@ -1,50 +1,62 @@
 //! The exit status and the lines of each end of a program.
 use blink_batch::{RecordError, ScriptError};
-use blink_line::{LineError, ProgramError, Told, end_of};
+use blink_line::{LineError, ProgramError, end_of};
 use blink_run::{RunError, ServeError};
 use blink_steps::StepError;
 use std::alloc::Global;
-use std::process::Abort;
+use std::process::{Abort, ExitCode};
 use std::test::Fail;
 
 #[test]
 fn all_was_written(rt: HostRuntime) {
-    let end = end_of(rt.alloc(), Ok(()));
-    assert_eq!(rt; (end.status, end.lines()), (0, None));
+    let end = end_of(Ok(()));
+    assert_eq!(rt; end.status, 0);
+    assert!(rt; end.failure.is_none());
+    assert!(rt; end.tell(&rt) == ExitCode::SUCCESS);
 }
 
 // The end after this error has a status and lines.
-fn expect_end<R: Abort>(rt: &R, alloc: Global, error: ProgramError, status: u8, lines: &str) {
-    let end = end_of(alloc, Err(error));
-    assert_eq!(rt; (end.status, end.lines()), (status, Some(lines)));
+fn expect_end<R: Abort + Eprint>(
+    rt: &R,
+    alloc: Global,
+    error: ProgramError,
+    status: u8,
+    lines: &str,
+) -> Result<(), Fail> {
+    let end = end_of(Err(error));
+    assert_eq!(rt; end.status, status);
+    let Some(failure) = &end.failure else {
+        return Err(Fail::from("nothing is told"));
+    };
+    assert_eq!(rt; format!(in alloc; "{failure}")?.as_str(), lines);
+    assert!(rt; end.tell(rt) == ExitCode::from(status));
+    Ok(())
 }
 
 #[test]
 fn each_failure_has_its_status_and_lines(rt: HostRuntime) -> Result<(), Fail> {
     let text = String::from_str(rt.alloc(), "error: one\n\nUsage: blink\n")?;
     let usage = ProgramError::Line(LineError::Usage(text));
-    expect_end(&rt, rt.alloc(), usage, 2, "error: one\n\nUsage: blink");
+    expect_end(&rt, rt.alloc(), usage, 2, "error: one\n\nUsage: blink")?;
     let memory = ProgramError::Line(LineError::OutOfMemory);
-    expect_end(&rt, rt.alloc(), memory, 4, "run: out of memory");
-    expect_end(
-        &rt,
-        rt.alloc(),
-        ProgramError::Memory,
-        4,
-        "run: out of memory",
-    );
-    Ok(())
+    expect_end(&rt, rt.alloc(), memory, 4, "run: out of memory")?;
+    let memory = ProgramError::Memory;
+    expect_end(&rt, rt.alloc(), memory, 4, "run: out of memory")
 }
 
 // Why a script wasn't served is told so, in a text of its own.
-fn expect_fault<R: Abort>(rt: &R, alloc: Global, error: ServeError, status: u8, line: &str) {
-    let end = end_of(alloc, Err(ProgramError::Serve(error)));
-    assert_eq!(rt; (end.status, end.lines()), (status, Some(line)));
-    assert!(rt; matches!(end.told, Told::Text(_)), "{line}");
+fn expect_fault<R: Abort + Eprint>(
+    rt: &R,
+    alloc: Global,
+    error: ServeError,
+    status: u8,
+    line: &str,
+) -> Result<(), Fail> {
+    expect_end(rt, alloc, ProgramError::Serve(error), status, line)
 }
 
 #[test]
-fn scripts_that_are_refused(rt: HostRuntime) {
+fn scripts_that_are_refused(rt: HostRuntime) -> Result<(), Fail> {
     let cases = [
         (
             ScriptError::Row(1, RecordError::BadShape),
@@ -67,12 +79,13 @@ fn scripts_that_are_refused(rt: HostRuntime) {
         (ScriptError::OutOfMemory, "script: out of memory"),
     ];
     for (error, line) in cases {
-        expect_fault(&rt, rt.alloc(), ServeError::Script(error), 3, line);
+        expect_fault(&rt, rt.alloc(), ServeError::Script(error), 3, line)?;
     }
+    Ok(())
 }
 
 #[test]
-fn batches_that_are_not_run(rt: HostRuntime) {
+fn batches_that_are_not_run(rt: HostRuntime) -> Result<(), Fail> {
     let cases = [
         (12, RunError::TooLarge, "run: batch 12: too large"),
         (1, RunError::OutOfMemory, "run: batch 1: out of memory"),
@@ -84,26 +97,28 @@ fn batches_that_are_not_run(rt: HostRuntime) {
         (2, RunError::Foreign, "run: batch 2: foreign book"),
     ];
     for (number, error, line) in cases {
-        expect_fault(&rt, rt.alloc(), ServeError::Run(number, error), 4, line);
+        expect_fault(&rt, rt.alloc(), ServeError::Run(number, error), 4, line)?;
     }
+    Ok(())
 }
 
 #[test]
-fn steps_that_are_not_taken(rt: HostRuntime) {
+fn steps_that_are_not_taken(rt: HostRuntime) -> Result<(), Fail> {
     let cases = [
         (StepError::OutOfMemory, "run: out of memory"),
         (StepError::NoWorker(63), "run: no worker 63"),
         (StepError::TooLarge, "run: too large"),
     ];
     for (error, line) in cases {
-        expect_fault(&rt, rt.alloc(), ServeError::Step(error), 4, line);
+        expect_fault(&rt, rt.alloc(), ServeError::Step(error), 4, line)?;
     }
+    Ok(())
 }
 
 #[test]
-fn other_faults(rt: HostRuntime) {
+fn other_faults(rt: HostRuntime) -> Result<(), Fail> {
     let output = ServeError::Output;
-    expect_fault(&rt, rt.alloc(), output, 5, "output: write failed");
+    expect_fault(&rt, rt.alloc(), output, 5, "output: write failed")?;
     let memory = ServeError::OutOfMemory;
-    expect_fault(&rt, rt.alloc(), memory, 4, "run: out of memory");
+    expect_fault(&rt, rt.alloc(), memory, 4, "run: out of memory")
 }

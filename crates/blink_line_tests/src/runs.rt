@@ -20,14 +20,19 @@ struct Run {
 impl Run {
     // All was done, and this was written.
     fn expect_text<R: Abort>(&self, rt: &R, expected: &str) {
-        assert_eq!(rt; (self.end.status, self.end.lines()), (0, None));
+        assert_eq!(rt; self.end.status, 0);
         assert_eq!(rt; self.output.as_slice(), expected.as_bytes());
     }
 
     // The text was no script, as this line tells, and nothing was written.
-    fn expect_no_script<R: Abort>(&self, rt: &R, line: &str) {
-        assert_eq!(rt; (self.end.status, self.end.lines()), (3, Some(line)));
+    fn expect_no_script<R: Abort>(&self, rt: &R, alloc: Global, line: &str) -> Result<(), Fail> {
+        assert_eq!(rt; self.end.status, 3);
+        let Some(failure) = &self.end.failure else {
+            return Err(Fail::from("nothing is told"));
+        };
+        assert_eq!(rt; format!(in alloc; "{failure}")?.as_str(), line);
         assert_eq!(rt; self.output.len(), 0, "{line}");
+        Ok(())
     }
 }
 
@@ -45,7 +50,7 @@ fn carried_out<R: Threads + Wait + Sync, I: Read>(
             serve_replay(alloc, reader, &mut output, settings, schedule)
         }
     };
-    let end = end_of(alloc, outcome.map_err(ProgramError::Serve));
+    let end = end_of(outcome.map_err(ProgramError::Serve));
     Run { output, end }
 }
 
@@ -130,8 +135,8 @@ fn expect_no_script<R: Threads + Wait + Abort + Sync>(
     line: &Line,
     script: &str,
     told: &str,
-) {
-    carried_out(rt, alloc, line, &mut script.as_bytes()).expect_no_script(rt, told);
+) -> Result<(), Fail> {
+    carried_out(rt, alloc, line, &mut script.as_bytes()).expect_no_script(rt, alloc, told)
 }
 
 #[test]
@@ -150,7 +155,7 @@ fn each_driver_refuses_what_is_no_script(rt: HostRuntime) -> Result<(), Fail> {
     for driver in ["locked", "live"] {
         let line = line_of(rt.alloc(), "4", driver)?;
         for (script, told) in cases {
-            expect_no_script(&rt, rt.alloc(), &line, script, told);
+            expect_no_script(&rt, rt.alloc(), &line, script, told)?;
         }
     }
     Ok(())

@@ -36,5 +36,5 @@ fn blink(
 }
 
 fn main(rt: HostRuntime) -> ExitCode {
-    end_of(rt.alloc(), blink(&rt)).tell(&rt)
+    end_of(blink(&rt)).tell(&rt)
 }

@@ -31,5 +31,5 @@ fn blink_show(rt: &(impl Env + Input + Print + AllocGlobal)) -> Result<(), Progr
 }
 
 fn main(rt: HostRuntime) -> ExitCode {
-    end_of(rt.alloc(), blink_show(&rt)).tell(&rt)
+    end_of(blink_show(&rt)).tell(&rt)
 }

@@ -1,6 +1,7 @@
 use super::carry_out;
-use blink_line::{End, Line, ProgramError, end_of};
-use blink_run::{CutKind, Driver, Settings};
+use blink_batch::ScriptError;
+use blink_line::Line;
+use blink_run::{CutKind, Driver, ServeError, Settings};
 use std::alloc::Global;
 use std::io;
 use std::io::{BufWriter, Read, Write};
@@ -60,8 +61,7 @@ fn a_reader_that_fails_is_told(rt: HostRuntime) -> Result<(), Fail> {
     ] {
         let mut output = BufWriter::new(alloc, Vec::new(alloc))?;
         let outcome = carry_out(&rt, alloc, &line, &mut Broken, &mut output);
-        let end = end_of(alloc, outcome.map_err(ProgramError::Serve));
-        assert_eq!(rt; (end.status, end.lines()), (3, Some("script: read failed")));
+        assert_eq!(rt; outcome, Err(ServeError::Script(ScriptError::Read)));
         assert_eq!(rt; output.get_ref().len(), 0);
     }
     Ok(())
@@ -101,15 +101,12 @@ fn left_on<T: Threads + Wait + Sync>(
     alloc: Global,
     line: &Line,
     disk: Disk,
-) -> Result<(Vec<u8>, End), Fail> {
+) -> Result<(Vec<u8>, Result<(), ServeError>), Fail> {
     let mut script = b"insert,5,50\nscan,9,1\nfind,5,\n".as_slice();
     let mut output = BufWriter::with_capacity(alloc, 16, disk)?;
     let outcome = carry_out(rt, alloc, line, &mut script, &mut output);
     let (disk, _) = output.into_parts();
-    Ok((
-        disk.taken,
-        end_of(alloc, outcome.map_err(ProgramError::Serve)),
-    ))
+    Ok((disk.taken, outcome))
 }
 
 #[test]
@@ -117,7 +114,6 @@ fn a_disk_that_fails_is_told(rt: HostRuntime) -> Result<(), Fail> {
     let alloc = rt.alloc();
     let run = "inserted\nend 0\nfound 50\n";
     let replay = "1 P\ninserted\nend 0\nfound 50\n0 1 - 18446744073709551615 - 5:50\n";
-    let told = (5, Some("output: write failed"));
     for (line, text) in [
         (Line::Run(settings(Driver::Locked)?), run),
         (Line::Run(settings(Driver::Live)?), run),
@@ -132,8 +128,8 @@ fn a_disk_that_fails_is_told(rt: HostRuntime) -> Result<(), Fail> {
                 room,
                 is_flushed: true,
             };
-            let (left, end) = left_on(&rt, alloc, &line, disk)?;
-            assert_eq!(rt; (end.status, end.lines()), told, "{room}");
+            let (left, outcome) = left_on(&rt, alloc, &line, disk)?;
+            assert_eq!(rt; outcome, Err(ServeError::Output), "{room}");
             assert_eq!(rt; left.as_slice(), &text.as_bytes()[..room]);
         }
         let disk = Disk {
@@ -141,8 +137,8 @@ fn a_disk_that_fails_is_told(rt: HostRuntime) -> Result<(), Fail> {
             room: text.len(),
             is_flushed: false,
         };
-        let (left, end) = left_on(&rt, alloc, &line, disk)?;
-        assert_eq!(rt; (end.status, end.lines()), told);
+        let (left, outcome) = left_on(&rt, alloc, &line, disk)?;
+        assert_eq!(rt; outcome, Err(ServeError::Output));
         assert_eq!(rt; left.as_slice(), text.as_bytes());
     }
     Ok(())

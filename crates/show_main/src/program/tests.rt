@@ -86,12 +86,19 @@ fn refusals_write_nothing(rt: HostRuntime) -> Result<(), Fail> {
     for (words, script, status, lines) in cases {
         let mut script = script.as_bytes();
         let mut output = Vec::new(alloc);
-        let end = end_of(
+        let end = end_of(carry_out(
             alloc,
-            carry_out(alloc, &words, "<", ">", &mut script, &mut output),
-        );
+            &words,
+            "<",
+            ">",
+            &mut script,
+            &mut output,
+        ));
         assert_eq!(rt; end.status, status);
-        assert!(rt; end.lines() == Some(lines));
+        let Some(failure) = &end.failure else {
+            return Err(Fail::from("nothing is told"));
+        };
+        assert_eq!(rt; format!(in alloc; "{failure}")?.as_str(), lines);
         assert!(rt; output.is_empty());
     }
     Ok(())
