@@ -1,6 +1,5 @@
 use super::carry_out;
-use blink_line::{LineError, ProgramError, end_of};
-use blink_run::ServeError;
+use blink_line::end_of;
 use std::test::Fail;
 
 // The data stand between the two parts of the page.
