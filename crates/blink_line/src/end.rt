@@ -117,9 +117,7 @@ fn status_of(error: &ProgramError) -> u8
         ProgramError::Serve(ServeError::Script(_)) => SCRIPT,
         ProgramError::Serve(ServeError::Output) => OUTPUT,
         ProgramError::Line(LineError::OutOfMemory)
-        | ProgramError::Serve(
-            ServeError::Run(_, _) | ServeError::Step(_) | ServeError::OutOfMemory,
-        )
+        | ProgramError::Serve(ServeError::Run(_, _) | ServeError::Step(_) | ServeError::OutOfMemory)
         | ProgramError::Memory => RUN,
     }
 }

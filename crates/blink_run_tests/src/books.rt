@@ -127,7 +127,9 @@ fn stop_meanwhile<R: Threads + Wait + Sync>(
     lanes: &[u8],
 ) -> bool {
     thread::scope(thread::scope_env(), rt, move |scope| -> bool {
-        let started = scope.spawn(move || desk.run_lane(rt, gate, 0, lanes)).is_ok();
+        let started = scope
+            .spawn(move || desk.run_lane(rt, gate, 0, lanes))
+            .is_ok();
         for _ in 0..LOOKS {
             if gate.before.load(Ordering::SeqCst) == 1 {
                 break;
@@ -151,7 +153,10 @@ fn a_waiting_worker_sees_the_stop(rt: HostRuntime) -> Result<(), Fail> {
     assert!(rt; stop_meanwhile(&rt, &desk, &gate, work.cut.lanes()));
     assert_eq!(rt; gate.before.load(Ordering::SeqCst), 1);
     assert_eq!(rt; gate.after.load(Ordering::SeqCst), 0);
-    assert_eq!(rt; settled(rt.alloc(), desk.into_book(), &work)?, RunError::OutOfMemory);
+    assert_eq!(rt;
+        settled(rt.alloc(), desk.into_book(), &work)?,
+        RunError::OutOfMemory
+    );
     Ok(())
 }
 

@@ -85,14 +85,7 @@ fn refusals_write_nothing(rt: HostRuntime) -> Result<(), Fail> {
     for (words, script, status, lines) in cases {
         let mut script = script.as_bytes();
         let mut output = Vec::new(alloc);
-        let end = end_of(carry_out(
-            alloc,
-            &words,
-            "<",
-            ">",
-            &mut script,
-            &mut output,
-        ));
+        let end = end_of(carry_out(alloc, &words, "<", ">", &mut script, &mut output));
         assert_eq!(rt; end.status, status);
         let Some(failure) = &end.failure else {
             return Err(Fail::from("nothing is told"));

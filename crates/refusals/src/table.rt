@@ -7,7 +7,7 @@ use blink_rows::Allowance;
 use std::sync::Wait;
 
 /// What one operation needs of a table.
-pub fn need_of(op: Op) -> Allowance {
+pub(crate) fn need_of(op: Op) -> Allowance {
     match op {
         Op::Find(_) => Allowance {
             inserts: 0,
@@ -25,7 +25,7 @@ pub fn need_of(op: Op) -> Allowance {
 }
 
 /// What two operations need.
-pub fn need_of_both(one: Op, other: Op) -> Allowance {
+pub(crate) fn need_of_both(one: Op, other: Op) -> Allowance {
     let (one, other) = (need_of(one), need_of(other));
     Allowance {
         inserts: one.inserts.saturating_add(other.inserts),
@@ -34,7 +34,12 @@ pub fn need_of_both(one: Op, other: Op) -> Allowance {
 }
 
 /// The answer of an operation at the table.
-pub fn answer_at<R: Wait>(rt: &R, live: &Live, pass: &mut Pass, op: Op) -> Result<Answer, PassError>
+pub(crate) fn answer_at<R: Wait>(
+    rt: &R,
+    live: &Live,
+    pass: &mut Pass,
+    op: Op,
+) -> Result<Answer, PassError>
     requires its_own { IsPassOf live.now pass.old }
     ensures its_own { IsPassOf live.now pass.new }
 {

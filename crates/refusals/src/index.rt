@@ -1,12 +1,8 @@
 //! `Index::new`, `copy`, `entries` and `dump`, refused memory.
-#![tactic(auto)]
-
+use crate::calls::{FAN, after, begin, end, tell_refused, tell_right, tell_without_number};
+use crate::example::{Example, one_leaf, two_levels};
 use anyhow::{bail, ensure};
 use blink_index::{Index, IndexError};
-use refusals::{
-    Example, FAN, after, begin, end, one_leaf, tell_refused, tell_right, tell_without_number,
-    two_levels,
-};
 use std::alloc::Global;
 
 // Whether it is the index that the example ends with.
@@ -95,7 +91,8 @@ fn try_dump(
     }
 }
 
-fn main(rt: HostRuntime) -> anyhow::Result<()> {
+#[test]
+fn all_is_right(rt: HostRuntime) -> anyhow::Result<()> {
     let alloc = rt.alloc();
     for example in [one_leaf(), two_levels()] {
         let index = after(alloc, example.opening(alloc)?, example.ops)?;

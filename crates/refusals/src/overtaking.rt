@@ -2,7 +2,7 @@
 //! root, worked by hand.
 ghost use Rattle.std.specs.Prelude.{◌≡◌, length, IfOk};
 
-use crate::{FAN, after, batch_of};
+use crate::calls::{FAN, after, batch_of};
 use blink_batch::{Answer, Batch, Entry, Lanes, Op};
 use blink_index::Index;
 use blink_rest::Rest;
@@ -12,7 +12,7 @@ use blink_steps::Step::{Moved, Waited};
 use std::alloc::Global;
 
 /// The worker of each turn of a whole run.
-pub const SCHEDULE: [u8; 39] = [
+pub(crate) const SCHEDULE: [u8; 39] = [
     0, 0, 0, 0, 0, 0, 1, 1, 1, 1, 1, 1, 1, 1, 1, 1, 1, 1, 1, 1, 1, 1, 1, 1, 1, 1, 1, 1, 1, 1, 0, 0,
     0, 0, 1, 1, 1, 1, 1,
 ];
@@ -61,15 +61,15 @@ const STEPS: [Step; 39] = [
 ];
 
 /// The worker of a turn, and what becomes of it.
-pub fn turn_at(place: usize) -> Option<(u8, Step)> {
+pub(crate) fn turn_at(place: usize) -> Option<(u8, Step)> {
     Some((*SCHEDULE.get(place)?, *STEPS.get(place)?))
 }
 
 /// The answers at the end.
-pub const ANSWERS: [Option<Answer>; 4] = [Some(Answer::Inserted); 4];
+pub(crate) const ANSWERS: [Option<Answer>; 4] = [Some(Answer::Inserted); 4];
 
 /// The pages at the end.
-pub const PAGES: &str = "\
+pub(crate) const PAGES: &str = "\
 1 4 - 18446744073709551615 - 3:1 6:2 18446744073709551615:3
 0 1 - 3 2 1:10 2:20 3:30
 0 2 3 6 3 4:40 5:50 6:60
@@ -77,7 +77,7 @@ pub const PAGES: &str = "\
 ";
 
 /// The tree that it runs over, which is one full leaf.
-pub fn full_leaf(alloc: Global) -> anyhow::Result<Rest> {
+pub(crate) fn full_leaf(alloc: Global) -> anyhow::Result<Rest> {
     let ops = [
         Op::Insert(1, 10),
         Op::Insert(2, 20),
@@ -88,7 +88,7 @@ pub fn full_leaf(alloc: Global) -> anyhow::Result<Rest> {
 }
 
 /// The batch and its lanes.
-pub fn overtaking(alloc: Global) -> anyhow::Result<(Batch, Lanes)>
+pub(crate) fn overtaking(alloc: Global) -> anyhow::Result<(Batch, Lanes)>
     ensures a_lane_each { IfOk result (λ made. length made.1.lanes ≡ length made.0) }
 {
     let ops = [
@@ -103,7 +103,7 @@ pub fn overtaking(alloc: Global) -> anyhow::Result<(Batch, Lanes)>
 }
 
 /// The entries at the end: the keys 1 to 8, each with ten times the key.
-pub fn entries(alloc: Global) -> anyhow::Result<Vec<Entry>> {
+pub(crate) fn entries(alloc: Global) -> anyhow::Result<Vec<Entry>> {
     let mut entries = Vec::new(alloc);
     for key in 1..9u64 {
         entries.push(Entry {

@@ -1,11 +1,9 @@
 //! `World::start`, `step` and `finish`, refused memory.
-#![tactic(auto)]
-
+use crate::calls::{begin, end, keeps, tell_refused, tell_right};
+use crate::overtaking::{ANSWERS, PAGES, entries, full_leaf, overtaking, turn_at};
 use anyhow::{bail, ensure};
 use blink_index::Index;
 use blink_steps::{StepError, World};
-use refusals::overtaking::{ANSWERS, PAGES, entries, full_leaf, overtaking, turn_at};
-use refusals::{begin, end, keeps, tell_refused, tell_right};
 use std::alloc::Global;
 
 // How many turns of the schedule come before one of the calls of `finish`: a worker then waits for a root that the other is
@@ -105,7 +103,8 @@ fn try_with(rt: &impl Print, alloc: Global, turns: usize, pages: &str) -> anyhow
     try_finish(rt, alloc, world, pages)
 }
 
-fn main(rt: HostRuntime) -> anyhow::Result<()> {
+#[test]
+fn all_is_right(rt: HostRuntime) -> anyhow::Result<()> {
     try_with(&rt, rt.alloc(), TURNS, PAGES)?;
     try_with(&rt, rt.alloc(), 0, PAGES_IN_ORDER)
 }

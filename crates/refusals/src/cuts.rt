@@ -1,11 +1,8 @@
 //! `Cut::by_residue` and `Cut::by_ranges`, refused memory.
-#![tactic(auto)]
-
+use crate::calls::{batch_of, begin, end, tell_refused, tell_right};
+use crate::example::{Example, one_leaf, replaced, two_levels};
 use anyhow::{bail, ensure};
 use blink_batch::{Batch, Cut, CutError};
-use refusals::{
-    Example, batch_of, begin, end, one_leaf, replaced, tell_refused, tell_right, two_levels,
-};
 use std::alloc::Global;
 
 // Which call is tried.
@@ -63,7 +60,8 @@ fn try_on(rt: &impl Print, alloc: Global, example: &Example, kind: Kind) -> anyh
     }
 }
 
-fn main(rt: HostRuntime) -> anyhow::Result<()> {
+#[test]
+fn all_is_right(rt: HostRuntime) -> anyhow::Result<()> {
     let alloc = rt.alloc();
     for example in [one_leaf(), replaced(), two_levels()] {
         for kind in [Kind::Residue, Kind::Ranges] {

@@ -1,13 +1,10 @@
 //! `serve_replay`, refused memory.
-#![tactic(auto)]
-
+use crate::calls::{FAN, begin, end, is_text_of, tell_refused, tell_right};
+use crate::example::{Example, one_leaf, replaced, two_levels};
 use anyhow::ensure;
 use blink_batch::ScriptError;
 use blink_run::{CutKind, Driver, ServeError, Settings, serve_replay};
 use blink_steps::StepError;
-use refusals::{
-    Example, FAN, begin, end, is_text_of, one_leaf, replaced, tell_refused, tell_right, two_levels,
-};
 use std::alloc::Global;
 
 const NAME: &str = "serve_replay";
@@ -67,7 +64,8 @@ fn try_on(rt: &impl Print, alloc: Global, example: &Example) -> anyhow::Result<(
     Ok(())
 }
 
-fn main(rt: HostRuntime) -> anyhow::Result<()> {
+#[test]
+fn all_is_right(rt: HostRuntime) -> anyhow::Result<()> {
     try_on(&rt, rt.alloc(), &one_leaf())?;
     try_on(&rt, rt.alloc(), &replaced())?;
     try_on(&rt, rt.alloc(), &two_levels())

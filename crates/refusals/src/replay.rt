@@ -1,11 +1,9 @@
 //! `replay`, refused memory.
-#![tactic(auto)]
-
+use crate::calls::{begin, end, keeps, tell_refused, tell_right};
+use crate::overtaking::{ANSWERS, PAGES, SCHEDULE, entries, full_leaf, overtaking};
 use anyhow::{bail, ensure};
 use blink_index::Index;
 use blink_steps::{StepError, World, replay};
-use refusals::overtaking::{ANSWERS, PAGES, SCHEDULE, entries, full_leaf, overtaking};
-use refusals::{begin, end, keeps, tell_refused, tell_right};
 use std::alloc::Global;
 
 const NAME: &str = "replay";
@@ -46,6 +44,7 @@ fn try_it(rt: &impl Print, alloc: Global) -> anyhow::Result<()> {
     }
 }
 
-fn main(rt: HostRuntime) -> anyhow::Result<()> {
+#[test]
+fn all_is_right(rt: HostRuntime) -> anyhow::Result<()> {
     try_it(&rt, rt.alloc())
 }

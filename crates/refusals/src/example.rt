@@ -1,5 +1,5 @@
 //! Scripts, and what comes of them, worked by hand.
-use crate::{FAN, after};
+use crate::calls::{FAN, after};
 use blink_batch::{Answer, Entry, Op};
 use blink_index::Index;
 use std::alloc::Global;
@@ -22,40 +22,40 @@ const TWO_LEVELS_PAGES: &str = "\
 
 /// A script of at most two batches, the last of them with two operations on two keys, and a scan of no range between them.
 #[derive(Clone, Copy)]
-pub struct Example {
-    pub script: &'static str,
+pub(crate) struct Example {
+    pub(crate) script: &'static str,
     /// The operations of the batch before the last, if there is one.
-    pub before: &'static [Op],
+    pub(crate) before: &'static [Op],
     /// Those of the last.
-    pub ops: &'static [Op],
+    pub(crate) ops: &'static [Op],
     /// Their answers.
-    pub answers: &'static [Answer],
+    pub(crate) answers: &'static [Answer],
     /// The entries of the index at the end.
-    pub entries: &'static [Entry],
-    pub workers: u8,
+    pub(crate) entries: &'static [Entry],
+    pub(crate) workers: u8,
     /// The lanes of the last batch, by the remainders of its keys.
-    pub residues: &'static [u8],
+    pub(crate) residues: &'static [u8],
     /// Bounds of ranges of keys.
-    pub bounds: &'static [u64],
+    pub(crate) bounds: &'static [u64],
     /// The lanes of the last batch by these ranges.
-    pub ranges: &'static [u8],
+    pub(crate) ranges: &'static [u8],
     /// What is written of each part.
-    pub lines: &'static [&'static str],
+    pub(crate) lines: &'static [&'static str],
     /// The turns that a replay is told.
-    pub schedule: &'static [u8],
-    pub trace: &'static str,
-    pub pages: &'static str,
+    pub(crate) schedule: &'static [u8],
+    pub(crate) trace: &'static str,
+    pub(crate) pages: &'static str,
 }
 
 impl Example {
     /// The index before the last batch.
-    pub fn opening(&self, alloc: Global) -> anyhow::Result<Index> {
+    pub(crate) fn opening(&self, alloc: Global) -> anyhow::Result<Index> {
         after(alloc, Index::new(alloc, FAN)?, self.before)
     }
 }
 
 /// `examples/waiting.csv`, whose entries stay on one leaf.
-pub fn one_leaf() -> Example {
+pub(crate) fn one_leaf() -> Example {
     Example {
         script: "insert,1,1\ninsert,3,3\n",
         before: &[],
@@ -74,7 +74,7 @@ pub fn one_leaf() -> Example {
 }
 
 /// `examples/replaced.csv`, which replaces the pointer of a key that is there, and of one that isn't.
-pub fn replaced() -> Example {
+pub(crate) fn replaced() -> Example {
     Example {
         script: "insert,7,1\nscan,1,0\nreplace,7,2\nreplace,8,1\n",
         before: &[Op::Insert(7, 1)],
@@ -93,7 +93,7 @@ pub fn replaced() -> Example {
 }
 
 /// `examples/half_a_split.csv`, which makes two levels.
-pub fn two_levels() -> Example {
+pub(crate) fn two_levels() -> Example {
     Example {
         script: TWO_LEVELS,
         before: &[

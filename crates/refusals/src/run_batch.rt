@@ -1,11 +1,9 @@
 //! `run_batch`, by either driver, refused memory or a thread.
-#![tactic(auto)]
-
+use crate::calls::{FAN, after, batch_of, begin, end, keeps, tell_refused, tell_right};
 use anyhow::{bail, ensure};
 use blink_batch::{Answer, Cut, Entry, Op};
 use blink_index::Index;
 use blink_run::{Driver, Open, RunError, run_batch};
-use refusals::{FAN, after, batch_of, begin, end, keeps, tell_refused, tell_right};
 use std::alloc::Global;
 use std::sync::Wait;
 use std::thread::Threads;
@@ -18,11 +16,6 @@ const FIRST: u64 = 3;
 
 // The greatest key of the batch.
 const LAST: u64 = 12;
-
-// The batch's last operation keeps another pointer under this key, which is there already.
-const REPLACED: u64 = 1;
-
-const NEW_POINTER: u64 = 11;
 
 const WORKERS: u8 = 2;
 
@@ -42,23 +35,14 @@ fn insertions(alloc: Global, from: u64, to: u64) -> anyhow::Result<Vec<Op>> {
     Ok(ops)
 }
 
-// The operations of the batch.
-fn operations(alloc: Global) -> anyhow::Result<Vec<Op>> {
-    let mut ops = insertions(alloc, FIRST, LAST)?;
-    ops.push(Op::Replace(REPLACED, NEW_POINTER))?;
-    Ok(ops)
-}
-
 // The entries that it leaves.
 fn right_entries(alloc: Global) -> anyhow::Result<Vec<Entry>> {
     let mut entries = Vec::new(alloc);
     for key in 1..=LAST {
-        let pointer = if key == REPLACED {
-            NEW_POINTER
-        } else {
-            key.wrapping_mul(10)
-        };
-        entries.push(Entry { key, pointer })?;
+        entries.push(Entry {
+            key,
+            pointer: key.wrapping_mul(10),
+        })?;
     }
     Ok(entries)
 }
@@ -73,7 +57,6 @@ fn right_answers(alloc: Global) -> anyhow::Result<Vec<Answer>> {
             Answer::Inserted
         })?;
     }
-    answers.push(Answer::Replaced(REPLACED.wrapping_mul(10)))?;
     Ok(answers)
 }
 
@@ -84,7 +67,7 @@ fn run<R: Threads + Wait + Print + Sync>(
     index: &mut Index,
     driver: Driver,
 ) -> anyhow::Result<Result<Vec<Answer>, RunError>> {
-    let batch = batch_of(alloc, &operations(alloc)?)?;
+    let batch = batch_of(alloc, &insertions(alloc, FIRST, LAST)?)?;
     let cut = Cut::by_residue(alloc, &batch, WORKERS)?;
     begin(rt, name_of(driver))?;
     let ran = run_batch(rt, alloc, index, &batch, &cut, driver, &Open);
@@ -124,7 +107,8 @@ fn try_with<R: Threads + Wait + Print + Sync>(
     Ok(())
 }
 
-fn main(rt: HostRuntime) -> anyhow::Result<()> {
+#[test]
+fn all_is_right(rt: HostRuntime) -> anyhow::Result<()> {
     try_with(&rt, rt.alloc(), Driver::Locked)?;
     try_with(&rt, rt.alloc(), Driver::Live)
 }

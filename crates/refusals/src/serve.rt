@@ -1,12 +1,9 @@
 //! `serve`, by either driver and either cut, refused memory or a thread.
-#![tactic(auto)]
-
+use crate::calls::{FAN, begin, end, is_text_of, tell_refused, tell_right};
+use crate::example::{Example, one_leaf, replaced, two_levels};
 use anyhow::ensure;
 use blink_batch::ScriptError;
 use blink_run::{CutKind, Driver, Open, RunError, ServeError, Settings, serve};
-use refusals::{
-    Example, FAN, begin, end, is_text_of, one_leaf, replaced, tell_refused, tell_right, two_levels,
-};
 use std::alloc::Global;
 use std::sync::Wait;
 use std::thread::Threads;
@@ -95,7 +92,8 @@ fn try_on<R: Threads + Wait + Print + Sync>(
     Ok(())
 }
 
-fn main(rt: HostRuntime) -> anyhow::Result<()> {
+#[test]
+fn all_is_right(rt: HostRuntime) -> anyhow::Result<()> {
     for driver in [Driver::Locked, Driver::Live] {
         for cut in [CutKind::Residue, CutKind::Ranges] {
             for example in [one_leaf(), replaced(), two_levels()] {

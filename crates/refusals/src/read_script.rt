@@ -1,9 +1,8 @@
 //! `read_script`, refused memory.
-#![tactic(auto)]
-
+use crate::calls::{begin, end, tell_refused, tell_right};
+use crate::example::{Example, one_leaf, replaced, two_levels};
 use anyhow::{bail, ensure};
 use blink_batch::{Op, Part, Script, ScriptError, read_script};
-use refusals::{Example, begin, end, one_leaf, replaced, tell_refused, tell_right, two_levels};
 use std::alloc::Global;
 
 const NAME: &str = "read_script";
@@ -47,7 +46,8 @@ fn try_on(rt: &impl Print, alloc: Global, example: &Example) -> anyhow::Result<(
     }
 }
 
-fn main(rt: HostRuntime) -> anyhow::Result<()> {
+#[test]
+fn all_is_right(rt: HostRuntime) -> anyhow::Result<()> {
     let alloc = rt.alloc();
     try_on(&rt, alloc, &one_leaf())?;
     try_on(&rt, alloc, &replaced())?;

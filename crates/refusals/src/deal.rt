@@ -1,19 +1,16 @@
 //! `Live::open` and `deal`, refused memory.
-#![tactic(auto)]
-
 ghost use Rattle.std.specs.Prelude.{◌≡◌, IfOk, OnOk};
 ghost use Rattle.blink_live.specs.Deals.{HasDealt, IsDealt};
 ghost use Rattle.blink_live.specs.Handles.{IsKeeperOf, IsOpened, IsPassOf};
 
+use crate::calls::{begin, end, keeps, tell_refused, tell_right};
+use crate::example::{Example, one_leaf, replaced, two_levels};
+use crate::table::{answer_at, need_of, need_of_both};
 use anyhow::{bail, ensure};
 use blink_batch::Op;
 use blink_index::Index;
 use blink_live::{Keeper, Live, LiveError, Pass, PassError};
 use blink_rows::Allowance;
-use refusals::table::{answer_at, need_of, need_of_both};
-use refusals::{
-    Example, begin, end, keeps, one_leaf, replaced, tell_refused, tell_right, two_levels,
-};
 use std::alloc::Global;
 use std::sync::Wait;
 
@@ -167,7 +164,8 @@ fn try_on<R: Wait + Print>(rt: &R, alloc: Global, example: &Example) -> anyhow::
     Ok(())
 }
 
-fn main(rt: HostRuntime) -> anyhow::Result<()> {
+#[test]
+fn all_is_right(rt: HostRuntime) -> anyhow::Result<()> {
     try_on(&rt, rt.alloc(), &one_leaf())?;
     try_on(&rt, rt.alloc(), &replaced())?;
     try_on(&rt, rt.alloc(), &two_levels())
