@@ -23,29 +23,13 @@ work=$(mktemp -d)
 trap 'rm -rf "$work"' EXIT
 trap 'exit 1' HUP INT TERM
 cd "$work"
-mkdir -p crates/refusals/src
-cp "$repository/HANDLES" .
-for name in blink_batch blink_page blink_store blink_rest blink_machine blink_steps blink_rows blink_index blink_live blink_run; do
-    cp -R "$repository/crates/$name" crates
-    grep "^$name[ :]" "$repository/crates.txt" >>crates.txt
-done
-echo 'refusals: anyhow blink_batch blink_index blink_live blink_rest blink_rows blink_steps' >>crates.txt
-for file in "$here"/refuse/refusals/*.rt.txt; do
-    cp "$file" "crates/refusals/src/$(basename "$file" .txt)"
-done
+cp -R "$repository/HANDLES" "$repository/crates.txt" "$repository/crates" .
 cc -shared -fPIC -O2 -o refuse.so "$here/refuse.c"
-
-# Proves and builds the program of this name.
-build() {
-    uses='anyhow blink_batch blink_index blink_live blink_rest blink_rows blink_run blink_steps refusals'
-    echo "refuse_$1: $uses" >>crates.txt
-    mkdir -p "crates/refuse_$1/src"
-    cp "$here/refuse/$1.rt.txt" "crates/refuse_$1/src/main.rt"
-    if ! (cd "crates/refuse_$1" && rt run >run.log 2>&1); then
-        cat "crates/refuse_$1/run.log" >&2
-        exit 1
-    fi
-}
+tests=crates/refusals/out/refusals_tests
+if ! (cd crates/refusals && rt test >tests.log 2>&1); then
+    cat crates/refusals/tests.log >&2
+    exit 1
+fi
 
 # Runs a program with the request of this number refused to the call of this name, and sets `end` to how that ended: `right` or
 # the error, with `refused` before it where the request came. Another end is told, and ends this script.
