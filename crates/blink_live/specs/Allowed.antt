@@ -1,5 +1,7 @@
 -- How many changes some rows and page numbers are enough for.
 use Rattle.std.specs.Prelude.{◌≡◌, ℕ, ◌+◌, ◌-◌, ◌*◌, ◌/◌, ◌%◌, ◌<◌, ◌≤◌}
+use Rattle.blink_batch.specs.declared.Op.{Op}
+use Rattle.blink_batch.specs.declared.Op.TheVariants.{Insert}
 use Rattle.blink_page.specs.declared.limits.TheConstants.{MAX_PAGE}
 use Rattle.blink_rows.specs.declared.allowance.Allowance.{Allowance}
 use Rattle.blink_rows.specs.declared.limits.TheConstants.{ROWS_OF_INSERTION}
@@ -16,6 +18,11 @@ inserts_left pages = length_of pages / NUMBERS_OF_INSERTION
 -- and so many deletions these rows beside them
 abbrev pub deletes_left : Span → Span → ℕ
 deletes_left pages rows = length_of rows - ROWS_OF_INSERTION * inserts_left pages
+
+-- so many changes of an operation's kind are left: insertions, and for a deletion or a replacement deletions
+abbrev pub changes_left : Op → Span → Span → ℕ
+changes_left (Insert key pointer) pages rows = inserts_left pages
+changes_left op pages rows = deletes_left pages rows
 
 -- the page numbers are for whole insertions, and the rows are enough for these
 abbrev pub AreForChanges : Span → Span → Type 0

@@ -1,8 +1,10 @@
-//! How many changes some rows and page numbers are enough for, and the first of them.
+//! How many changes some rows and page numbers are enough for, the first of them, and those that an operation takes.
 ghost use Rattle.std.specs.Prelude.{◌≡◌, ◌+◌, ◌≤◌};
-ghost use Rattle.blink_live.specs.Allowed.{AreForChanges, deletes_left, inserts_left};
-ghost use Rattle.blink_live.specs.Views.{span};
+ghost use Rattle.blink_live.specs.Allowed.{AreForChanges, changes_left, deletes_left, inserts_left};
+ghost use Rattle.blink_live.specs.Views.{pages_of, rows_of, span};
 
+use crate::room::Room;
+use blink_batch::Op;
 use blink_rows::{NUMBERS_OF_INSERTION, ROWS_OF_INSERTION, Span};
 
 // So many insertions have these page numbers.
@@ -20,6 +22,17 @@ pub(crate) fn deletes_left(pages: &Span, rows: &Span) -> u64
     rows.len() - ROWS_OF_INSERTION * inserts_left(pages)
 }
 
+// So many changes of the operation's kind: a replacement counts as a deletion.
+pub(crate) fn changes_left(op: Op, pages: &Span, rows: &Span) -> u64
+    requires { AreForChanges pages.now rows.now }
+    ensures { result ≡ changes_left op pages.now rows.now }
+{
+    match op {
+        Op::Insert(..) => inserts_left(pages),
+        Op::Find(_) | Op::Delete(_) | Op::Replace(..) => deletes_left(pages, rows),
+    }
+}
+
 // The first numbers of a span, which keeps the rest.
 pub(crate) fn first_of(rest: &mut Span, count: u64) -> Span
     requires enough { rest.old.next + count ≤ rest.old.stop }
@@ -32,5 +45,25 @@ pub(crate) fn first_of(rest: &mut Span, count: u64) -> Span
     Span {
         next,
         stop: next + count,
+    }
+}
+
+// What the operation takes: the first rows and page numbers of these, which keep the rest.
+pub(crate) fn next_of(op: Op, rows: &mut Span, pages: &mut Span) -> Room
+    requires rows { rows.old.next + rows_of op ≤ rows.old.stop }
+    requires pages { pages.old.next + pages_of op ≤ pages.old.stop }
+    ensures room_rows { result.rows ≡ span rows.old.next (rows.old.next + rows_of op) }
+    ensures room_pages { result.pages ≡ span pages.old.next (pages.old.next + pages_of op) }
+    ensures rows { rows.new ≡ span (rows.old.next + rows_of op) rows.old.stop }
+    ensures pages { pages.new ≡ span (pages.old.next + pages_of op) pages.old.stop }
+{
+    let (row_count, page_count) = match op {
+        Op::Find(_) => (0, 0),
+        Op::Insert(..) => (ROWS_OF_INSERTION, NUMBERS_OF_INSERTION),
+        Op::Delete(_) | Op::Replace(..) => (1, 0),
+    };
+    Room {
+        rows: first_of(rows, row_count),
+        pages: first_of(pages, page_count),
     }
 }

@@ -1,0 +1,120 @@
+//! How a pass adds an entry under one of its keys, removes a key, or replaces its record pointer.
+ghost use Rattle.std.specs.Prelude.{◌≡◌, ◌↔◌, IfOk, OnOk, OnErr, IsErrOf, Contains};
+ghost use Rattle.blink_batch.specs.Batch.{FitsWords};
+ghost use Rattle.blink_batch.specs.Operation.{answer_of, key_of};
+ghost use Rattle.blink_batch.specs.declared.Op.TheVariants.{Delete, Insert, Replace};
+ghost use Rattle.blink_machine.specs.Table.{IsUpdate};
+ghost use Rattle.blink_live.specs.Allowed.{changes_left, deletes_left, inserts_left};
+ghost use Rattle.blink_live.specs.Handles.{IsChangedBy, IsPassOf, KnowsItsKeys, keys_of, share_of};
+
+use crate::error::PassError;
+use crate::left::{changes_left, next_of};
+use crate::live::Live;
+use crate::pass::Pass;
+use blink_batch::{Answer, Op};
+use std::sync::Wait;
+
+impl Live {
+    /// Adds an entry under the pass's key: `Inserted`, or `Exists` with the record pointer that is there, which stays, whatever
+    /// other passes do at the same time. Each accepted call uses one insertion of the pass, whatever it answers: the next 22 of
+    /// its page numbers and the next 44 of its rows. It takes no memory, and waits for a page's latch that another pass has, and
+    /// for a new root that another is about to make.
+    ///
+    /// `NotYours` is told of every key that isn't one of the pass's; then `Spent`, where the pass has no insertion left. A call
+    /// that is refused changes nothing and reads nothing.
+    pub fn insert<R: Wait>(
+        &self,
+        rt: &R,
+        pass: &mut Pass,
+        key: u64,
+        pointer: u64,
+    ) -> Result<Answer, PassError>
+        requires its_own { IsPassOf self.now pass.old }
+        ensures answer { IfOk result
+            (λ answer. answer ≡ answer_of (share_of pass.old) (Insert key pointer)) }
+        ensures changed { OnOk result (IsChangedBy (Insert key pointer) pass.old pass.new) }
+        ensures knows { OnOk result (KnowsItsKeys self.now pass.new) }
+        ensures not_yours { IsErrOf result PassError.NotYours ↔ ¬ Contains (keys_of pass.old) key }
+        ensures spent { IsErrOf result PassError.Spent
+            ↔ (Contains (keys_of pass.old) key × (inserts_left pass.old.pages ≡ 0)) }
+        ensures unchanged { OnErr result (pass.new ≡ pass.old) }
+    {
+        self.change(rt, pass, Op::Insert(key, pointer))
+    }
+
+    /// Removes the pass's key: `Removed` with its record pointer, or `Absent` where it isn't there, whatever other passes do at
+    /// the same time. Each accepted call uses one deletion of the pass, whatever it answers: the next of its rows. It takes no
+    /// memory, and waits for a page's latch that another pass has.
+    ///
+    /// `NotYours` is told of every key that isn't one of the pass's; then `Spent`, where the pass has no deletion left. A call
+    /// that is refused changes nothing and reads nothing.
+    pub fn delete<R: Wait>(&self, rt: &R, pass: &mut Pass, key: u64) -> Result<Answer, PassError>
+        requires its_own { IsPassOf self.now pass.old }
+        ensures answer { IfOk result (λ answer. answer ≡ answer_of (share_of pass.old) (Delete key)) }
+        ensures changed { OnOk result (IsChangedBy (Delete key) pass.old pass.new) }
+        ensures knows { OnOk result (KnowsItsKeys self.now pass.new) }
+        ensures not_yours { IsErrOf result PassError.NotYours ↔ ¬ Contains (keys_of pass.old) key }
+        ensures spent { IsErrOf result PassError.Spent
+            ↔ (Contains (keys_of pass.old) key × (deletes_left pass.old.pages pass.old.rows ≡ 0)) }
+        ensures unchanged { OnErr result (pass.new ≡ pass.old) }
+    {
+        self.change(rt, pass, Op::Delete(key))
+    }
+
+    /// Keeps another record pointer under the pass's key: `Replaced` with the one before, also where both are the same, or
+    /// `Absent` where the key isn't there, whatever other passes do at the same time. Each accepted call uses one deletion of
+    /// the pass, whatever it answers: the next of its rows. It takes no memory, and waits for a page's latch that another pass
+    /// has.
+    ///
+    /// `NotYours` is told of every key that isn't one of the pass's; then `Spent`, where the pass has no deletion left. A call
+    /// that is refused changes nothing and reads nothing.
+    pub fn replace<R: Wait>(
+        &self,
+        rt: &R,
+        pass: &mut Pass,
+        key: u64,
+        pointer: u64,
+    ) -> Result<Answer, PassError>
+        requires its_own { IsPassOf self.now pass.old }
+        ensures answer { IfOk result
+            (λ answer. answer ≡ answer_of (share_of pass.old) (Replace key pointer)) }
+        ensures changed { OnOk result (IsChangedBy (Replace key pointer) pass.old pass.new) }
+        ensures knows { OnOk result (KnowsItsKeys self.now pass.new) }
+        ensures not_yours { IsErrOf result PassError.NotYours ↔ ¬ Contains (keys_of pass.old) key }
+        ensures spent { IsErrOf result PassError.Spent
+            ↔ (Contains (keys_of pass.old) key × (deletes_left pass.old.pages pass.old.rows ≡ 0)) }
+        ensures unchanged { OnErr result (pass.new ≡ pass.old) }
+    {
+        self.change(rt, pass, Op::Replace(key, pointer))
+    }
+
+    // Changes the tree by an operation of one of the pass's keys, which uses one of the changes that the pass has left of its kind.
+    fn change<R: Wait>(&self, rt: &R, pass: &mut Pass, op: Op) -> Result<Answer, PassError>
+        requires its_own { IsPassOf self.now pass.old }
+        requires updates { IsUpdate op }
+        requires fits { FitsWords op }
+        ensures answer { IfOk result (λ answer. answer ≡ answer_of (share_of pass.old) op) }
+        ensures changed { OnOk result (IsChangedBy op pass.old pass.new) }
+        ensures knows { OnOk result (KnowsItsKeys self.now pass.new) }
+        ensures not_yours { IsErrOf result PassError.NotYours ↔ ¬ Contains (keys_of pass.old) (key_of op) }
+        ensures spent { IsErrOf result PassError.Spent
+            ↔ (Contains (keys_of pass.old) (key_of op) × (changes_left op pass.old.pages pass.old.rows ≡ 0)) }
+        ensures unchanged { OnErr result (pass.new ≡ pass.old) }
+    {
+        if !pass.has(op.key()) {
+            return Err(PassError::NotYours);
+        }
+        if changes_left(op, &pass.pages, &pass.rows) == 0 {
+            return Err(PassError::Spent);
+        }
+        let Pass {
+            seat,
+            keys: _,
+            rows,
+            pages,
+        } = pass;
+        let own = rows.stop - 1;
+        let room = next_of(op, rows, pages);
+        Ok(self.update(rt, seat, room.rows, room.pages, own, op))
+    }
+}
