@@ -8,3 +8,4 @@ pub mod OwnersChange
 pub mod PassesOut
 pub mod OthersKnowTheSame
 pub mod StoresKeepTable
+pub mod SharesAreKnown

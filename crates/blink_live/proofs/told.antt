@@ -1,3 +1,4 @@
 pub mod FrontsOfOneList
+pub mod StatesOfKeys
 pub mod NotesKeepTable
 pub mod LooksUpKeepTable

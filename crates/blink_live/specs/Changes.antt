@@ -15,10 +15,15 @@ abbrev pub after : (ℕ → Option ℕ) → List Change → ℕ → Option ℕ
 after f [] = f
 after f (change ∷ rest) = after (put f change.key change.pointer) rest
 
--- those of one key
-abbrev pub changes_of : ℕ → List Change → List Change
-changes_of key [] = []
-changes_of key (change ∷ rest) = if change.key == key then change ∷ changes_of key rest else changes_of key rest
+-- the states that they gave one key, in their order: a pointer, or None where it lost the one that it had
+abbrev pub states_of : ℕ → List Change → List (Option ℕ)
+states_of key [] = []
+states_of key (change ∷ rest) = if change.key == key then change.pointer ∷ states_of key rest else states_of key rest
+
+-- the last of these states, or the first one where there are none
+abbrev pub last_state : Option ℕ → List (Option ℕ) → Option ℕ
+last_state first [] = first
+last_state first (state ∷ rest) = last_state state rest
 
 -- what an operation changes, where its key keeps this
 abbrev pub changes_made : Op → Option ℕ → List Change

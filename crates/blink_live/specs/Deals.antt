@@ -1,5 +1,5 @@
 -- What a deal gives, and why it is refused.
-use Rattle.std.specs.Prelude.{◌≡◌, ◌⊎◌, ◌↔◌, ℕ, ◌+◌, ◌*◌, ◌<◌, Some, List, take, slice_get, Contains, IsPermutation}
+use Rattle.std.specs.Prelude.{◌≡◌, ◌⊎◌, ◌↔◌, ℕ, ◌+◌, ◌*◌, ◌<◌, Some, List, [], take, slice_get, Contains, IsPermutation}
 use Rattle.blink_rows.specs.declared.limits.TheConstants.{ROWS_OF_INSERTION}
 use Rattle.blink_page.specs.declared.limits.TheConstants.{NUMBERS_OF_INSERTION}
 use Rattle.blink_live.specs.declared.error.LiveError.{LiveError}
@@ -8,7 +8,7 @@ use Rattle.blink_live.specs.declared.keeper.Keeper.{Keeper}
 use Rattle.blink_live.specs.declared.live.Live.{Live}
 use Rattle.blink_live.specs.declared.pass.Pass.{Pass}
 use Rattle.blink_live.specs.Allowed.{inserts_left, deletes_left}
-use Rattle.blink_live.specs.Handles.{opening_of, IsPassOf, keys_of, share_of, IsKeeperOf, taken_of}
+use Rattle.blink_live.specs.Handles.{opening_of, IsPassOf, keys_of, share_of, seen_of, changes_by, IsKeeperOf, taken_of}
 use Rattle.blink_live.specs.Views.{span, entries_of}
 
 -- ---- keys that are taken
@@ -47,6 +47,8 @@ pub record IsDealt (live : Live) (old : Keeper) (keys : List ℕ) (inserts delet
   pub its_own : IsPassOf live pass
   pub same_keys : IsPermutation keys (keys_of pass)
   pub share : share_of pass ≡ entries_of keys (opening_of live)
+  pub none_seen : seen_of pass ≡ []
+  pub none_made : changes_by pass ≡ []
   pub rows : pass.rows ≡ span old.rows.next (old.rows.next + rows_for inserts deletes)
   pub pages : pass.pages ≡ span old.pages.next (old.pages.next + NUMBERS_OF_INSERTION * inserts)
 

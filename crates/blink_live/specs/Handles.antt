@@ -1,9 +1,9 @@
 -- What a table, its keeper and its passes are for contracts.
-use Rattle.std.specs.Prelude.{◌≡◌, ◌⊎◌, ℕ, ◌+◌, ◌*◌, List, [], length, Contains}
+use Rattle.std.specs.Prelude.{◌≡◌, ◌⊎◌, ℕ, ◌+◌, ◌*◌, List, [], ◌++◌, length, Option, Contains}
 use mathlib.Core.List.{IsPrefix}
 use Rattle.blink_batch.specs.declared.Entry.{Entry}
 use Rattle.blink_batch.specs.declared.Op.{Op}
-use Rattle.blink_batch.specs.Operation.{map_after}
+use Rattle.blink_batch.specs.Operation.{key_of, map_after}
 use Rattle.blink_batch.specs.PlainMap.{pointer_of}
 use Rattle.blink_index.specs.Index.{map_of}
 use Rattle.blink_rows.specs.Counts.{PlainCounts}
@@ -15,7 +15,7 @@ use Rattle.blink_live.specs.declared.keeper.Keeper.{Keeper}
 use Rattle.blink_live.specs.declared.live.Live.{Live}
 use Rattle.blink_live.specs.declared.pass.Pass.{Pass}
 use Rattle.blink_live.specs.declared.view.Change.{Change}
-use Rattle.blink_live.specs.Changes.{after}
+use Rattle.blink_live.specs.Changes.{after, states_of, changes_made}
 use Rattle.blink_live.specs.Views.{plan_of, span, rows_of, pages_of}
 
 -- ---- a table
@@ -50,6 +50,18 @@ share_of pass = pass.seat.me.0.share.entries
 abbrev pub seen_of : Pass → List Change
 seen_of pass = pass.seat.me.0.seen
 
+-- the changes that its own operations made, in the order in which it made them
+abbrev pub changes_by : Pass → List Change
+changes_by pass = pass.seat.me.0.share.changes
+
+-- the states that its own operations gave a key, in their order
+abbrev pub own_changes_of : Pass → ℕ → List (Option ℕ)
+own_changes_of pass key = states_of key (changes_by pass)
+
+-- the states of a key that it has seen, in their order
+abbrev pub seen_changes_of : Pass → ℕ → List (Option ℕ)
+seen_changes_of pass key = states_of key (seen_of pass)
+
 -- of what two passes have seen one is a front of the other
 abbrev pub OneIsFront : List Change → List Change → Type 0
 OneIsFront one other = IsPrefix one other ⊎ IsPrefix other one
@@ -61,12 +73,14 @@ pub record IsSameBesideSeen (old new : Pass) : Type 0 where
   pub same_plan : new.seat.me.0.plan ≡ old.seat.me.0.plan
   pub same_keys : keys_of new ≡ keys_of old
   pub same_share : new.seat.me.0.share ≡ old.seat.me.0.share
+  pub same_changes : changes_by new ≡ changes_by old
   pub same_rows : new.rows ≡ old.rows
   pub same_pages : new.pages ≡ old.pages
 
--- of each of its keys it has seen the state that its share has
-abbrev pub KnowsItsKeys : Live → Pass → Type 0
-KnowsItsKeys live pass = (key : ℕ) → Contains (keys_of pass) key → after (pointer_of (opening_of live)) (seen_of pass) key ≡ pointer_of (share_of pass) key
+-- of each of its keys it has seen the state that its share has, and exactly the changes that its own operations made
+pub record KnowsItsKeys (live : Live) (pass : Pass) : Type 0 where
+  pub state : (key : ℕ) → Contains (keys_of pass) key → after (pointer_of (opening_of live)) (seen_of pass) key ≡ pointer_of (share_of pass) key
+  pub changes : (key : ℕ) → Contains (keys_of pass) key → seen_changes_of pass key ≡ own_changes_of pass key
 
 -- the pass is as it was
 pub record IsSamePass (old new : Pass) : Type 0 where
@@ -83,6 +97,7 @@ pub record IsChangedBy (op : Op) (old new : Pass) : Type 0 where
   pub same_plan : new.seat.me.0.plan ≡ old.seat.me.0.plan
   pub same_keys : keys_of new ≡ keys_of old
   pub share : share_of new ≡ map_after (share_of old) op
+  pub changes : changes_by new ≡ changes_by old ++ changes_made op (pointer_of (share_of old) (key_of op))
   pub rows : new.rows ≡ span (old.rows.next + rows_of op) old.rows.stop
   pub pages : new.pages ≡ span (old.pages.next + pages_of op) old.pages.stop
 

@@ -1,5 +1,5 @@
 -- What each kind of atomic step tells whoever takes it.
-use Rattle.std.specs.Prelude.{◌≡◌, ◌≢◌, ◌⊎◌, ℕ, suc, ◌+◌, ◌<◌, ◌≤◌, Option, Some, None, IsSome, List, length, All, Contains, slice_index}
+use Rattle.std.specs.Prelude.{◌≡◌, ◌≢◌, ◌⊎◌, ℕ, suc, ◌+◌, ◌<◌, ◌≤◌, Option, Some, None, IsSome, List, length, All, slice_index}
 use Rattle.atomic_table.specs.Table.{Step}
 use Rattle.blink_batch.specs.declared.Op.{Op}
 use Rattle.blink_batch.specs.Operation.{answer_at, answer_of, key_of}
@@ -53,7 +53,7 @@ pub record Begins (op : Op) (me : Sat) (row : ℕ) (machine : PlainMachine) (the
   pub sees : SeesPrime (fresh me.0.plan.fan op) prime machine
   pub only : (other : PlainMachine) → SeesPrime (fresh me.0.plan.fan op) prime other → other ≡ machine
   pub rows_in_range : AreRowsIn me.0.plan.counts me.0.rows
-  pub own_keys : (key : ℕ) → Contains me.0.share.keys key → after (pointer_of me.0.plan.opening) seen key ≡ pointer_of me.0.share.entries key
+  pub knows_own : KnowsItsOwn then.0
   pub pages_in_range : AreNumbersIn me.0.plan.counts me.0.pages
   pub next : CanGoOn me.0.plan machine
 
@@ -83,7 +83,7 @@ pub record LoadsPage (m : PlainMachine) (number : ℕ) (me : Sat) (row : ℕ) (m
   pub answers_at_end : machine.state ≡ Ended → IsSome machine.answer
   pub nearer : (level : ℕ) → m.state ≡ Going number level → way < me.0.way_left
   pub answers : AnswersAfter (after (pointer_of me.0.plan.opening) seen) m machine
-  pub own_keys : (key : ℕ) → Contains me.0.share.keys key → after (pointer_of me.0.plan.opening) seen key ≡ pointer_of me.0.share.entries key
+  pub knows_own : KnowsItsOwn then.0
 
 abbrev pub loads_page : Step ℕ → Sat → ℕ → Sat → Type 0
 loads_page st me row then = (m : PlainMachine) → me.0.operation ≡ Some m → NeedsPage m st.word → (machine : PlainMachine) × LoadsPage m st.word me row machine then

@@ -24,7 +24,7 @@ use Rattle.blink_live.specs.declared.view.Role.{Role}
 use Rattle.blink_live.specs.declared.view.Role.TheVariants.{Keeper, Pass, Spent}
 use Rattle.blink_live.specs.declared.view.Share.{Share}
 use Rattle.blink_live.specs.declared.view.View.{View}
-use Rattle.blink_live.specs.Changes.{after, changes_of}
+use Rattle.blink_live.specs.Changes.{after, states_of}
 use Rattle.blink_live.specs.Views.{span}
 use Rattle.blink_live.specs.Words.{word_count, IsRowNumber, RowIs}
 
@@ -89,7 +89,7 @@ pub record HasForCall (plan : Plan) (owners : Owners) (words : List ℕ) (moment
 pub record IsOwnKey (plan : Plan) (owners : Owners) (log : List Change) (owner : ℕ) (share : Share) (key : ℕ) : Type 0 where
   pub own : owners.key key ≡ owner
   pub kept : pointer_of share.entries key ≡ after (pointer_of plan.opening) log key
-  pub changes : changes_of key log ≡ changes_of key share.changes
+  pub changes : states_of key log ≡ states_of key share.changes
 
 -- a share with this owner
 abbrev pub IsShare : Plan → Owners → List Change → ℕ → Share → Type 0
@@ -162,7 +162,7 @@ pub record IsTableAt (plan : Plan) (s : State ℕ View) (moment : Moment) : Type
   -- the entries: what the changes leave of the opening ones
   pub is_map : IsMapAt moment now
   pub kept : (key : ℕ) → pointer_of now key ≡ after (pointer_of plan.opening) log key
-  pub untouched : (key : ℕ) → owners.key key ≡ 0 → changes_of key log ≡ []
+  pub untouched : (key : ℕ) → owners.key key ≡ 0 → states_of key log ≡ []
   -- the seats
   pub views : (seat : ℕ) (v : View) → get_elem? s.views seat ≡ some v → Knows plan owners s.words moment log seat v
   pub others_idle : (seat : ℕ) → length s.views ≤ seat → moment.machines seat ≡ None

@@ -20,7 +20,7 @@ use Rattle.blink_live.specs.declared.view.Role.{Role}
 use Rattle.blink_live.specs.declared.view.Role.TheVariants.{Keeper, Pass, Spent}
 use Rattle.blink_live.specs.declared.view.Share.{Share}
 use Rattle.blink_live.specs.declared.view.View.{View}
-use Rattle.blink_live.specs.Changes.{after, changes_made}
+use Rattle.blink_live.specs.Changes.{after, states_of, changes_made}
 
 -- a seat's view, with the slots that it has taken: this table has none
 abbrev pub Sat : Type 0
@@ -79,9 +79,14 @@ spent plan = seat_for plan Spent (span 1 1) (span 1 1) no_share
 abbrev pub known_of : View → ℕ → Option ℕ
 known_of v key = after (pointer_of v.plan.opening) v.seen key
 
--- of its own keys it knows what its share keeps
-abbrev pub KnowsItsOwn : View → Type 0
-KnowsItsOwn v = (key : ℕ) → Contains v.share.keys key → known_of v key ≡ pointer_of v.share.entries key
+-- the changes of its own keys that it has seen are those that its own operations made
+abbrev pub SawItsOwn : View → Type 0
+SawItsOwn v = (key : ℕ) → Contains v.share.keys key → states_of key v.seen ≡ states_of key v.share.changes
+
+-- of its own keys it knows what its share says of them
+pub record KnowsItsOwn (v : View) : Type 0 where
+  pub state : (key : ℕ) → Contains v.share.keys key → known_of v key ≡ pointer_of v.share.entries key
+  pub changes : SawItsOwn v
 
 -- ---- reads
 

@@ -3,6 +3,7 @@ ghost use Rattle.std.specs.Prelude.{◌≡◌, ◌≤◌, None, [], IsSorted};
 ghost use Rattle.std.specs.Ordering.{nat_cmp};
 ghost use Rattle.blink_live.specs.declared.view.Role.TheVariants.{Pass};
 ghost use Rattle.blink_live.specs.Allowed.{AreForChanges};
+ghost use Rattle.blink_live.specs.Views.{SawItsOwn};
 
 use crate::view::View;
 use atomic_table::Seat;
@@ -23,6 +24,7 @@ pub struct Pass {
     ghost in_order: { (rows.next ≤ rows.stop) × (pages.next ≤ pages.stop) },
     ghost for_changes: { AreForChanges pages rows },
     ghost role_is: { seat.me.0.role ≡ Pass },
+    ghost own_seen: { SawItsOwn seat.me.0 },
     ghost idle: { seat.me.0.operation ≡ None },
     ghost no_slot: { seat.me.1 ≡ [] },
 }

@@ -11,33 +11,33 @@ use Rattle.blink_batch.specs.Operation.{key_of, map_after}
 use Rattle.blink_batch.specs.PlainMap.{pointer_of}
 use Rattle.blink_batch.proofs.Offered.{pointer_of-map_after_own, pointer_of-map_after_other}
 use Rattle.blink_live.specs.declared.view.Change.{Change}
-use Rattle.blink_live.specs.Changes.{put, after, changes_of, changes_made}
+use Rattle.blink_live.specs.Changes.{put, after, states_of, changes_made}
 use Rattle.blink_live.proofs.table.MapsWithOneChange.{put_here, put_else}
 
 pub after-append : (f : ℕ → Option ℕ) (xs ys : List Change) (key : ℕ) → after f (xs ++ ys) key ≡ after (after f xs) ys key
 after-append f [] ys key = refl
 after-append f (change ∷ xs) ys key = after-append (put f change.key change.pointer) xs ys key
 
-pub changes_of-append : (key : ℕ) (xs ys : List Change) → changes_of key (xs ++ ys) ≡ changes_of key xs ++ changes_of key ys
-changes_of-append key [] ys = refl
-changes_of-append key (change ∷ xs) ys = dite (ℕ_discrete change.key key)
+pub states_of-append : (key : ℕ) (xs ys : List Change) → states_of key (xs ++ ys) ≡ states_of key xs ++ states_of key ys
+states_of-append key [] ys = refl
+states_of-append key (change ∷ xs) ys = dite (ℕ_discrete change.key key)
     (λ e.
-    ap (λ (b : Bool). if b then change ∷ changes_of key (xs ++ ys) else changes_of key (xs ++ ys)) (eq-eqb change.key key e)
-    ∙ (ap (λ (l : List Change). change ∷ l) (changes_of-append key xs ys)
-    ∙ ap (λ (b : Bool). (if b then change ∷ changes_of key xs else changes_of key xs) ++ changes_of key ys) (sym (eq-eqb change.key key e))))
+    ap (λ (b : Bool). if b then change.pointer ∷ states_of key (xs ++ ys) else states_of key (xs ++ ys)) (eq-eqb change.key key e)
+    ∙ (ap (λ (l : List (Option ℕ)). change.pointer ∷ l) (states_of-append key xs ys)
+    ∙ ap (λ (b : Bool). (if b then change.pointer ∷ states_of key xs else states_of key xs) ++ states_of key ys) (sym (eq-eqb change.key key e))))
     (λ ne.
-    ap (λ (b : Bool). if b then change ∷ changes_of key (xs ++ ys) else changes_of key (xs ++ ys)) (ne_eqb change.key key ne)
-    ∙ (changes_of-append key xs ys
-    ∙ ap (λ (b : Bool). (if b then change ∷ changes_of key xs else changes_of key xs) ++ changes_of key ys) (sym (ne_eqb change.key key ne))))
+    ap (λ (b : Bool). if b then change.pointer ∷ states_of key (xs ++ ys) else states_of key (xs ++ ys)) (ne_eqb change.key key ne)
+    ∙ (states_of-append key xs ys
+    ∙ ap (λ (b : Bool). (if b then change.pointer ∷ states_of key xs else states_of key xs) ++ states_of key ys) (sym (ne_eqb change.key key ne))))
 
 -- of another key nothing is changed
-pub none_of_other : (op : Op) (kept : Option ℕ) (key : ℕ) → key_of op ≢ key → changes_of key (changes_made op kept) ≡ []
+pub none_of_other : (op : Op) (kept : Option ℕ) (key : ℕ) → key_of op ≢ key → states_of key (changes_made op kept) ≡ []
 none_of_other (Find k) kept key differ = refl
 none_of_other (Insert k pointer) (Some kept) key differ = refl
-none_of_other (Insert k pointer) None key differ = ap (λ (b : Bool). if b then record { key = k; pointer = Some pointer } ∷ [] else []) (ne_eqb k key differ)
-none_of_other (Delete k) (Some kept) key differ = ap (λ (b : Bool). if b then record { key = k; pointer = None } ∷ [] else []) (ne_eqb k key differ)
+none_of_other (Insert k pointer) None key differ = ap (λ (b : Bool). if b then Some pointer ∷ [] else []) (ne_eqb k key differ)
+none_of_other (Delete k) (Some kept) key differ = ap (λ (b : Bool). if b then None ∷ [] else []) (ne_eqb k key differ)
 none_of_other (Delete k) None key differ = refl
-none_of_other (Replace k pointer) (Some kept) key differ = ap (λ (b : Bool). if b then record { key = k; pointer = Some pointer } ∷ [] else []) (ne_eqb k key differ)
+none_of_other (Replace k pointer) (Some kept) key differ = ap (λ (b : Bool). if b then Some pointer ∷ [] else []) (ne_eqb k key differ)
 none_of_other (Replace k pointer) None key differ = refl
 
 pub other_stays : (f : ℕ → Option ℕ) (op : Op) (kept : Option ℕ) (key : ℕ) → key_of op ≢ key → after f (changes_made op kept) key ≡ f key

@@ -30,15 +30,16 @@ use Rattle.blink_live.specs.declared.view.Plan.{Plan}
 use Rattle.blink_live.specs.declared.view.Role.TheVariants.{Pass}
 use Rattle.blink_live.specs.declared.view.Share.{Share}
 use Rattle.blink_live.specs.declared.view.View.{View}
-use Rattle.blink_live.specs.Changes.{put, after, changes_of, changes_made, Learns}
+use Rattle.blink_live.specs.Changes.{put, after, states_of, changes_made, Learns}
 use Rattle.blink_live.specs.Plays.{Decided, CanGoOn, PublishesPage, PublishesNew, PublishesPrime, publishes_page, publishes_new, publishes_prime}
 use Rattle.blink_live.specs.Rule.{IsOwnKey, IsShare, HasNumbers, IsTableAt, IsTable}
 use Rattle.blink_live.specs.Views.{Sat, KnowsItsOwn, span, changed_by, publishes}
-use Rattle.blink_live.proofs.changed.ChangesAreTheMaps.{changes_of-append, none_of_other, other_stays, map_is_changed}
+use Rattle.blink_live.proofs.changed.ChangesAreTheMaps.{states_of-append, none_of_other, other_stays, map_is_changed}
 use Rattle.blink_live.proofs.changed.RowsArePublished.{gives_row, IsStepOfTree, ChangesOwn, publish_keeps}
 use Rattle.blink_live.proofs.found.OperationBegins.{goes_on_as}
 use Rattle.blink_live.proofs.table.MapsWithOneChange.{put_here, put_else}
 use Rattle.blink_live.proofs.table.NextPageIsThere.{EndsAt, next_page_is_there}
+use Rattle.blink_live.proofs.table.SharesAreKnown.{share_is_known}
 
 -- what the table becomes, and what the seat is told
 pub record BecomesPublished (plan : Plan) (s : State ℕ View) (id number : ℕ) (kind : Kind) (pages : Span) (me : Sat) (m after_it : PlainMachine) : Type 0 where
@@ -82,7 +83,7 @@ module _ (plan : Plan) (s : State ℕ View) (moment then : Moment) (h : IsTableA
         let own = (h.views id me.0 at).share key mine in record {
           own = own.own;
           kept = map_is_changed (pointer_of plan.opening) h.log me.0.share.entries m.op kept_before refl (sym own_key.kept) key own.kept;
-          changes = changes_of-append key h.log its_changes ∙ (ap (λ (l : List Change). l ++ changes_of key its_changes) own.changes ∙ sym (changes_of-append key me.0.share.changes its_changes));
+          changes = states_of-append key h.log its_changes ∙ (ap (λ (l : List (Option ℕ)). l ++ states_of key its_changes) own.changes ∙ sym (states_of-append key me.0.share.changes its_changes));
         };
     is_map = record { ascending = IsAscending-map_after h.now m.op h.is_map.ascending; kept = keeps_map };
     kept_now = λ key. map_is_changed (pointer_of plan.opening) h.log h.now m.op kept_before in_map (sym own_key.kept) key (h.kept key);
@@ -97,15 +98,15 @@ module _ (plan : Plan) (s : State ℕ View) (moment then : Moment) (h : IsTableA
         let own = (h.views id me.0 at).share key mine in record {
           own = own.own;
           kept = own.kept ∙ ap (λ (l : List Change). after (pointer_of plan.opening) l key) (sym (append-nil h.log));
-          changes = ap (changes_of key) (append-nil h.log) ∙ own.changes;
+          changes = ap (states_of key) (append-nil h.log) ∙ own.changes;
         };
     is_map = record { ascending = h.is_map.ascending; kept = keeps_map };
     kept_now = λ key. h.kept key ∙ ap (λ (l : List Change). after (pointer_of plan.opening) l key) (sym (append-nil h.log));
   }
 
-  -- of its own keys the seat has seen what its share keeps
-  own_known : (made : List Change) (share : Share) → IsShare plan (gives_row h.owners me.0.call.rows.next) (h.log ++ made) (suc id) share → (key : ℕ) → Contains share.keys key → after (pointer_of me.0.plan.opening) (h.log ++ made) key ≡ pointer_of share.entries key
-  own_known made share is key mine = ap (λ (p : Plan). after (pointer_of p.opening) (h.log ++ made) key) (h.views id me.0 at).same_plan ∙ sym ((is key mine).kept)
+  -- of its own keys the seat knows what its share says of them
+  own_known : (made : List Change) (share : Share) → IsShare plan (gives_row h.owners me.0.call.rows.next) (h.log ++ made) (suc id) share → KnowsItsOwn (publishes me.0 after_it (way_left then.pages after_it) pages share (h.log ++ made))
+  own_known made share is = share_is_known plan (gives_row h.owners me.0.call.rows.next) (suc id) (publishes me.0 after_it (way_left then.pages after_it) pages share (h.log ++ made)) (h.views id me.0 at).same_plan is
 
   pub becomes_published : BecomesPublished plan s id number kind pages me m after_it
   becomes_published =

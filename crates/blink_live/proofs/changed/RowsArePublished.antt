@@ -29,11 +29,11 @@ use Rattle.blink_live.specs.declared.view.Plan.{Plan}
 use Rattle.blink_live.specs.declared.view.Role.TheVariants.{Pass}
 use Rattle.blink_live.specs.declared.view.Share.{Share}
 use Rattle.blink_live.specs.declared.view.View.{View}
-use Rattle.blink_live.specs.Changes.{put, after, changes_of}
+use Rattle.blink_live.specs.Changes.{put, after, states_of}
 use Rattle.blink_live.specs.Rule.{Owners, IsPublished, PageWordIs, latch_word, HasRows, HasNumbers, IsShare, IsInRole, IsBoundedWay, Knows, IsTableAt, IsTable}
 use Rattle.blink_live.specs.Views.{span, publishes}
 use Rattle.blink_live.specs.Words.{RowIs}
-use Rattle.blink_live.proofs.changed.ChangesAreTheMaps.{after-append, changes_of-append}
+use Rattle.blink_live.proofs.changed.ChangesAreTheMaps.{after-append, states_of-append}
 use Rattle.blink_live.proofs.table.MapsWithOneChange.{put_here, put_else}
 use Rattle.blink_live.proofs.table.OthersKnowTheSame.{LeavesOthers, RowStays, row_is_still, page_word_still, reads_still}
 use Rattle.blink_live.proofs.table.StoresKeepTable.{row_stays, IsStored, prime_still, store_keeps}
@@ -96,7 +96,7 @@ module _ (plan : Plan) (s : State ℕ View) (moment then : Moment) (h : IsTableA
 
     -- what the write changes of keys: its own alone
     pub record ChangesOwn : Type 0 where
-      pub other_changes : (key : ℕ) → h.owners.key key ≢ suc id → changes_of key made ≡ []
+      pub other_changes : (key : ℕ) → h.owners.key key ≢ suc id → states_of key made ≡ []
       pub other_kept : (key : ℕ) → h.owners.key key ≢ suc id → after (after (pointer_of plan.opening) h.log) made key ≡ after (pointer_of plan.opening) h.log key
       pub own_share : IsShare plan new log (suc id) share
       pub is_map : IsMapAt then now
@@ -111,7 +111,7 @@ module _ (plan : Plan) (s : State ℕ View) (moment then : Moment) (h : IsTableA
         numbers = λ n apart. (refl, step.others_free n apart);
         keys = λ key apart. (
           refl,
-          changes_of-append key h.log made ∙ (ap (λ (l : List Change). changes_of key h.log ++ l) (own.other_changes key apart) ∙ append-nil (changes_of key h.log)),
+          states_of-append key h.log made ∙ (ap (λ (l : List (Option ℕ)). states_of key h.log ++ l) (own.other_changes key apart) ∙ append-nil (states_of key h.log)),
           after-append (pointer_of plan.opening) h.log made key ∙ own.other_kept key apart,
         );
         latch_numbers = λ seat. refl;
@@ -210,8 +210,8 @@ module _ (plan : Plan) (s : State ℕ View) (moment then : Moment) (h : IsTableA
         is_map = own.is_map;
         kept = own.kept_now;
         untouched = λ key nobody.
-            changes_of-append key h.log made
-            ∙ (ap (λ (l : List Change). l ++ changes_of key made) (h.untouched key nobody) ∙ own.other_changes key (λ e. let zero_is : 0 ≡ suc id = sym nobody ∙ e in absurd (omega (arith, zero_is))));
+            states_of-append key h.log made
+            ∙ (ap (λ (l : List (Option ℕ)). l ++ states_of key made) (h.untouched key nobody) ∙ own.other_changes key (λ e. let zero_is : 0 ≡ suc id = sym nobody ∙ e in absurd (omega (arith, zero_is))));
       }
 
       pub publish_keeps : IsTable plan record { words = words; homes = s.homes; views = set s.views id w }

@@ -10,7 +10,7 @@ use Rattle.blink_machine.specs.Moment.{Moment}
 use Rattle.blink_live.specs.declared.view.Plan.{Plan}
 use Rattle.blink_live.specs.declared.view.Role.TheVariants.{Keeper}
 use Rattle.blink_live.specs.declared.view.View.{View}
-use Rattle.blink_live.specs.Changes.{put, changes_of}
+use Rattle.blink_live.specs.Changes.{put, states_of}
 use Rattle.blink_live.specs.Dealing.{CanDeal}
 use Rattle.blink_live.specs.Rule.{Owners, IsShare, IsInRole, Knows, pass_count, passes_in, AreCounted, IsTableAt, IsTable}
 use Rattle.blink_live.specs.Views.{is_among, share_of_keys, deals_one, keeps_rest, gets_first}
@@ -155,7 +155,7 @@ module _ (plan : Plan) (s : State ℕ View) (moment : Moment) (h : IsTableAt pla
 
   new_share : IsShare plan new h.log (suc new_seat) (share_of_keys keys v.plan.opening)
   new_share key has =
-      let none : changes_of key h.log ≡ [] = h.untouched key (dealt_key key has) in
+      let none : states_of key h.log ≡ [] = h.untouched key (dealt_key key has) in
       record {
         own = new_key key has;
         kept = entries_of_keep keys v.plan.opening key (among_from_contains keys key has)

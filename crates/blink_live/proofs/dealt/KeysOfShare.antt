@@ -8,7 +8,7 @@ use native.Mathlib.Decide.{ℕ_discrete}
 use Rattle.blink_batch.specs.declared.Entry.{Entry}
 use Rattle.blink_batch.specs.PlainMap.{pointer_of}
 use Rattle.blink_live.specs.declared.view.Change.{Change}
-use Rattle.blink_live.specs.Changes.{put, after, changes_of}
+use Rattle.blink_live.specs.Changes.{put, after, states_of}
 use Rattle.blink_live.specs.Views.{is_among, entries_of}
 use Rattle.blink_live.proofs.table.MapsWithOneChange.{put_else}
 
@@ -68,13 +68,13 @@ same_entries keys others moved (e ∷ rest) = λ i. if same_among keys others mo
 
 -- ---- untouched keys
 
-some_change : (change : Change) (rest : List Change) → (change ∷ rest) ≢ []
-some_change change rest e = let longer : suc (length rest) ≡ 0 = ap length e in omega (arith, longer)
+some_state : (state : Option ℕ) (rest : List (Option ℕ)) → (state ∷ rest) ≢ []
+some_state state rest e = let longer : suc (length rest) ≡ 0 = ap length e in omega (arith, longer)
 
-pub after_untouched : (f : ℕ → Option ℕ) (log : List Change) (key : ℕ) → changes_of key log ≡ [] → after f log key ≡ f key
+pub after_untouched : (f : ℕ → Option ℕ) (log : List Change) (key : ℕ) → states_of key log ≡ [] → after f log key ≡ f key
 after_untouched f [] key none = refl
 after_untouched f (change ∷ rest) key none = dite (ℕ_discrete change.key key)
-    (λ e. absurd (some_change change (changes_of key rest) (sym (ap (λ (b : Bool). if b then change ∷ changes_of key rest else changes_of key rest) (eq-eqb change.key key e)) ∙ none)))
+    (λ e. absurd (some_state change.pointer (states_of key rest) (sym (ap (λ (b : Bool). if b then change.pointer ∷ states_of key rest else states_of key rest) (eq-eqb change.key key e)) ∙ none)))
     (λ ne.
-    after_untouched (put f change.key change.pointer) rest key (sym (ap (λ (b : Bool). if b then change ∷ changes_of key rest else changes_of key rest) (ne_eqb change.key key ne)) ∙ none)
+    after_untouched (put f change.key change.pointer) rest key (sym (ap (λ (b : Bool). if b then change.pointer ∷ states_of key rest else states_of key rest) (ne_eqb change.key key ne)) ∙ none)
     ∙ put_else f change.key key change.pointer (λ e. ne (sym e)))

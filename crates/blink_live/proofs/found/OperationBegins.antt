@@ -1,5 +1,5 @@
 -- The load of the prime block's page word is the first step of an operation.
-use Rattle.std.proofs.Common.{◌≡◌, ℕ, ◌+◌, ◌≤◌, Some, None, List, [], refl, sym, ap, ◌∙◌, subst, arith}
+use Rattle.std.proofs.Common.{◌≡◌, ℕ, suc, ◌+◌, ◌≤◌, Some, None, List, [], refl, sym, ap, ◌∙◌, subst, arith}
 use Rattle.std.proofs.lemmas.List.{get_or-replicate, length-replicate}
 use mathlib.Core.Option.{some}
 use lib.ListN.{get_elem?}
@@ -25,12 +25,11 @@ use Rattle.blink_machine.proofs.Offered.{step_law}
 use Rattle.blink_live.specs.declared.view.Plan.{Plan}
 use Rattle.blink_live.specs.declared.view.Role.TheVariants.{Pass}
 use Rattle.blink_live.specs.declared.view.View.{View}
-use Rattle.blink_batch.specs.PlainMap.{pointer_of}
-use Rattle.blink_live.specs.Changes.{after as after_changes}
 use Rattle.blink_live.specs.Plays.{begins}
 use Rattle.blink_live.specs.Rule.{ReadsRow, IsInRole, IsBoundedWay, Knows, IsTable, IsTableAt}
 use Rattle.blink_live.specs.Views.{Sat, CanBegin, for_call, reading}
 use Rattle.blink_live.proofs.table.LoadsKeepTable.{moved, load_keeps_with}
+use Rattle.blink_live.proofs.table.SharesAreKnown.{share_is_known}
 use Rattle.blink_live.proofs.table.MapsWithOneChange.{put_here, put_else}
 use Rattle.blink_live.proofs.table.NextPageIsThere.{next_page_is_there}
 
@@ -143,7 +142,7 @@ begins_operation plan slots id me op role idle fits enough s table homes at smal
           sees = first.sees;
           only = first.only;
           rows_in_range = subst (λ (p : Plan). (1 ≤ me.0.rows.next) × (me.0.rows.stop ≤ p.counts.rows + 1)) (sym known.same_plan) known.rows.in_range;
-          own_keys = λ key mine. ap (λ (p : Plan). after_changes (pointer_of p.opening) h.log key) known.same_plan ∙ sym ((known.share key mine).kept);
+          knows_own = share_is_known plan h.owners (suc id) w known.same_plan known.share;
           pages_in_range = subst (λ (p : Plan). (1 ≤ me.0.pages.next) × (me.0.pages.stop ≤ p.counts.numbers) × (p.counts.numbers ≤ MAX_PAGE + 1)) (sym known.same_plan) (known.numbers.in_range.0, known.numbers.in_range.1, h.bounded.numbers_bounded);
           next = next_page_is_there plan (moved moment id (goes_on after after.state)) (record { no_page = h.no_other_page; no_latch = h.no_other_latch }) me.0.plan id after known.same_plan sound (put_here moment.machines id (goes_on after after.state));
         },

@@ -14,7 +14,7 @@ use Rattle.blink_live.specs.declared.view.View.{View}
 use Rattle.blink_live.specs.Changes.{after}
 use Rattle.blink_live.specs.Plays.{LoadsPage, AnswersAfter, CanGoOn}
 use Rattle.blink_live.specs.Seats.{IsGoing, IsAtLeaf, found, wants, IsDescending, going, at_leaf, HasRead}
-use Rattle.blink_live.specs.Views.{Sat, SameBesideReads, reading, known_of, KnowsItsOwn}
+use Rattle.blink_live.specs.Views.{Sat, SameBesideReads, reading, known_of}
 
 -- a front of a front
 pub is_prefix_trans : (first second third : List Change) → IsPrefix first second → IsPrefix second third → IsPrefix first third
@@ -32,7 +32,7 @@ module _ (op : Op) (number row : ℕ) (first me : Sat) (m then : PlainMachine) (
   read_one_more same_op same_job = record {
     same = (same_trans first.0 me.0 new.0 has.same.0 (same_reading me.0 then loads.way row _ loads.seen new.0 (ap (λ (x : Sat). x.0) loads.is)), ap (λ (x : Sat). x.1) loads.is ∙ has.same.1);
     saw = is_prefix_trans first.0.seen me.0.seen new.0.seen has.saw (subst (λ (seen : List Change). IsPrefix me.0.seen seen) (sym (ap (λ (x : Sat). x.0.seen) loads.is)) loads.learns.saw);
-    knows_own = subst (λ (x : Sat). KnowsItsOwn x.0) (sym loads.is) loads.own_keys;
+    knows_own = loads.knows_own;
     operation = ap (λ (x : Sat). x.0.operation) loads.is;
     same_op = same_op ∙ has.same_op;
     same_job = same_job ∙ has.same_job;

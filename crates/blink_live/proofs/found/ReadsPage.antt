@@ -1,5 +1,5 @@
 -- The load of a page word is the tree's read of the page.
-use Rattle.std.proofs.Common.{◌≡◌, ℕ, inl, inr, Option, Some, List, [], refl, sym, ap, ◌∙◌, subst, arith, ◌<◌, ◌≤◌}
+use Rattle.std.proofs.Common.{◌≡◌, ℕ, suc, inl, inr, Option, Some, List, [], refl, sym, ap, ◌∙◌, subst, arith, ◌<◌, ◌≤◌}
 use Rattle.std.specs.Prelude.{slice_index}
 use mathlib.Core.Option.{none}
 use mathlib.Core.List.{append-nil}
@@ -26,6 +26,7 @@ use Rattle.blink_live.specs.Plays.{loads_page, LoadsPage, AnswersAfter}
 use Rattle.blink_live.specs.Rule.{IsTable, IsTableAt, PageWordIs}
 use Rattle.blink_live.specs.Views.{Sat, reading}
 use Rattle.blink_live.proofs.table.LoadsKeepTable.{moved, load_keeps}
+use Rattle.blink_live.proofs.table.SharesAreKnown.{share_is_known}
 use Rattle.blink_live.proofs.table.MapsWithOneChange.{put_here, put_else}
 use Rattle.blink_live.proofs.table.NextPageIsThere.{next_page_is_there}
 use Rattle.blink_live.proofs.found.OperationBegins.{goes_on_as}
@@ -106,7 +107,7 @@ reads_page_word plan slots id number me m role at_m fits needs some_number in_ra
               omega (arith, before, falls);
           answers = answers_after (after (pointer_of me.0.plan.opening) h.log) new m then h.now
               (subst (λ (p : Plan). (key : ℕ) → pointer_of h.now key ≡ after (pointer_of p.opening) h.log key) (sym known.same_plan) h.kept) decides;
-          own_keys = λ key mine. ap (λ (p : Plan). after (pointer_of p.opening) h.log key) known.same_plan ∙ sym ((known.share key mine).kept);
+          knows_own = share_is_known plan h.owners (suc id) w known.same_plan known.share;
         },
       ),
     )

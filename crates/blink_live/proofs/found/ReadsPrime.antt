@@ -1,5 +1,5 @@
 -- The load of the prime block's page word is the tree's read of the prime block, or a wait that changes nothing.
-use Rattle.std.proofs.Common.{◌≡◌, ℕ, ◌≤◌, Some, [], refl, sym, ap, ◌∙◌, subst, arith}
+use Rattle.std.proofs.Common.{◌≡◌, ℕ, suc, ◌≤◌, Some, [], refl, sym, ap, ◌∙◌, subst, arith}
 use Rattle.std.specs.Prelude.{slice_index}
 use mathlib.Core.Option.{none}
 use mathlib.Core.List.{append-nil}
@@ -18,12 +18,11 @@ use Rattle.blink_machine.proofs.Offered.{step_law, goes_on_if_needed}
 use Rattle.blink_live.specs.declared.view.Plan.{Plan}
 use Rattle.blink_live.specs.declared.view.Role.TheVariants.{Pass}
 use Rattle.blink_live.specs.declared.view.View.{View}
-use Rattle.blink_batch.specs.PlainMap.{pointer_of}
-use Rattle.blink_live.specs.Changes.{after as after_changes}
 use Rattle.blink_live.specs.Plays.{AsksPrime, NeedsNoMore, loads_prime, LoadsPrime}
 use Rattle.blink_live.specs.Rule.{IsTable, IsTableAt}
 use Rattle.blink_live.specs.Views.{Sat, reading}
 use Rattle.blink_live.proofs.table.LoadsKeepTable.{moved, load_keeps}
+use Rattle.blink_live.proofs.table.SharesAreKnown.{share_is_known}
 use Rattle.blink_live.proofs.table.MapsWithOneChange.{put_here, put_same}
 use Rattle.blink_live.proofs.table.NextPageIsThere.{next_page_is_there}
 use Rattle.blink_live.proofs.found.OperationBegins.{goes_on_as, prime_step}
@@ -98,7 +97,7 @@ reads_prime_word plan slots id me m role at_m fits needs s table homes at small 
           some_level = order.tree.1.tree.chains.some_level;
           few_levels = order.few_levels;
           page_numbers = h.prime_numbers;
-          knows_own = λ key mine. ap (λ (p : Plan). after_changes (pointer_of p.opening) h.log key) known.same_plan ∙ sym ((known.share key mine).kept);
+          knows_own = share_is_known plan h.owners (suc id) w known.same_plan known.share;
           asks = comes.asks;
           next = next_page_is_there plan (moved moment id (goes_on then then.state)) (record { no_page = h.no_other_page; no_latch = h.no_other_latch }) me.0.plan id then known.same_plan comes.sound
               (put_here moment.machines id (goes_on then then.state));

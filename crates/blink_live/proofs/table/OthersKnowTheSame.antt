@@ -19,7 +19,7 @@ use Rattle.blink_live.specs.declared.view.Role.{Role}
 use Rattle.blink_live.specs.declared.view.Role.TheVariants.{Keeper, Pass, Spent}
 use Rattle.blink_live.specs.declared.view.Share.{Share}
 use Rattle.blink_live.specs.declared.view.View.{View}
-use Rattle.blink_live.specs.Changes.{after, changes_of}
+use Rattle.blink_live.specs.Changes.{after, states_of}
 use Rattle.blink_live.specs.Rule.{Owners, IsPublished, PageWordIs, ReadsRow, HasRows, HasNumbers, HasForCall, IsShare, IsInRole, Knows, IsTableAt}
 use Rattle.blink_live.specs.Views.{span}
 use Rattle.blink_live.specs.Words.{row_start, RowIs}
@@ -38,7 +38,7 @@ pub record LeavesOthers (plan : Plan) (s : State ℕ View) (moment then : Moment
   pub rows : (row : ℕ) → 1 ≤ row → h.owners.row row ≢ suc id → (new.row row ≡ h.owners.row row) × RowStays plan s.words words row
   pub numbers : (number : ℕ) → h.owners.page number ≢ suc id → (new.page number ≡ h.owners.page number) × (moment.pages number ≡ None → then.pages number ≡ None)
   pub keys : (key : ℕ) → h.owners.key key ≢ suc id
-      → (new.key key ≡ h.owners.key key) × (changes_of key log ≡ changes_of key h.log) × (after (pointer_of plan.opening) log key ≡ after (pointer_of plan.opening) h.log key)
+      → (new.key key ≡ h.owners.key key) × (states_of key log ≡ states_of key h.log) × (after (pointer_of plan.opening) log key ≡ after (pointer_of plan.opening) h.log key)
   pub latch_numbers : (seat : ℕ) → new.latch_number seat ≡ h.owners.latch_number seat
   pub longer : (seen : List Change) → IsPrefix seen h.log → IsPrefix seen log
 

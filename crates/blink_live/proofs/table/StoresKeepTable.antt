@@ -15,7 +15,7 @@ use Rattle.blink_live.specs.declared.view.Call.{Call}
 use Rattle.blink_live.specs.declared.view.Change.{Change}
 use Rattle.blink_live.specs.declared.view.Plan.{Plan}
 use Rattle.blink_live.specs.declared.view.View.{View}
-use Rattle.blink_live.specs.Changes.{after, changes_of}
+use Rattle.blink_live.specs.Changes.{after, states_of}
 use Rattle.blink_live.specs.Rule.{Owners, IsPublished, PageWordIs, latch_word, HasRows, HasForCall, Knows, IsTableAt, IsTable}
 use Rattle.blink_live.specs.Views.{span}
 use Rattle.blink_live.specs.Words.{RowIs}
@@ -56,7 +56,7 @@ pub record IsStored (plan : Plan) (s : State ℕ View) (moment then : Moment) (h
   pub holders : (number seat : ℕ) → then.holder number ≡ Some seat → 1 ≤ new.latch_number seat
   pub is_map : IsMapAt then now
   pub kept : (key : ℕ) → pointer_of now key ≡ after (pointer_of plan.opening) log key
-  pub untouched : (key : ℕ) → new.key key ≡ 0 → changes_of key log ≡ []
+  pub untouched : (key : ℕ) → new.key key ≡ 0 → states_of key log ≡ []
 
 -- a prime block that no step of the seat changes
 pub prime_still : (plan : Plan) (s : State ℕ View) (moment then : Moment) (h : IsTableAt plan s moment) (id : ℕ) → 1 ≤ id → (words : List ℕ) (new : Owners) (log : List Change) → LeavesOthers plan s moment then h id words new log

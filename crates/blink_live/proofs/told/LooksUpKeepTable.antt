@@ -1,5 +1,5 @@
 -- A load of the prime block's page word by a pass that learns what it was told is no step of the tree, and keeps the rule.
-use Rattle.std.proofs.Common.{◌≡◌, ℕ, [], refl, ap, sym, ◌∙◌}
+use Rattle.std.proofs.Common.{◌≡◌, ℕ, suc, [], refl}
 use mathlib.Core.Option.{none}
 use mathlib.Core.List.{append-nil}
 use Rattle.atomic_table.specs.Table.{step, keeps, Allows}
@@ -7,12 +7,11 @@ use Rattle.blink_machine.specs.Moment.{Moment}
 use Rattle.blink_machine.proofs.Offered.{step_law}
 use Rattle.blink_live.specs.declared.view.Plan.{Plan}
 use Rattle.blink_live.specs.declared.view.Role.TheVariants.{Pass}
-use Rattle.blink_batch.specs.PlainMap.{pointer_of}
-use Rattle.blink_live.specs.Changes.{after}
 use Rattle.blink_live.specs.Plays.{looks_up}
 use Rattle.blink_live.specs.Rule.{IsTable, IsTableAt}
 use Rattle.blink_live.specs.Views.{Sat}
 use Rattle.blink_live.proofs.table.LoadsKeepTable.{moved, load_keeps}
+use Rattle.blink_live.proofs.table.SharesAreKnown.{share_is_known}
 use Rattle.blink_live.proofs.table.MapsWithOneChange.{put_same}
 
 pub looks_up_prime : (plan : Plan) (slots id : ℕ) (me : Sat) → me.0.role ≡ Pass → Allows (IsTable plan) slots id me 0 (λ k. k) (looks_up (step slots 0 0 0 none) me)
@@ -31,5 +30,5 @@ looks_up_prime plan slots id me role s table homes at small =
       keeps,
       tt,
       load_keeps plan s moment h id 0 me.0 (record me.0 { seen = h.log }) at role still refl known.bounded known.reads ([], append-nil h.log),
-      record { seen = h.log; is = refl; learns = record { saw = known.saw; heard = known.heard }; knows_own = λ key mine. ap (λ (p : Plan). after (pointer_of p.opening) h.log key) known.same_plan ∙ sym ((known.share key mine).kept) },
+      record { seen = h.log; is = refl; learns = record { saw = known.saw; heard = known.heard }; knows_own = share_is_known plan h.owners (suc id) (record me.0 { seen = h.log }) known.same_plan known.share },
     )

@@ -27,6 +27,8 @@ returns-clause-dealt c =
           ∙ (ap (λ (keys : List ℕ). entries_of keys plan.opening) c.deref.ensures.value
           ∙ (same_entries c.args.keys.items sorted c.sort_unstable.ensures.permutation plan.opening
           ∙ ap (λ (p : Plan). entries_of c.args.keys.items p.opening) c.requires.its_own.1));
+      none_seen = ap (λ (me : Sat). me.0.seen) right.1;
+      none_made = ap (λ (me : Sat). me.0.share.changes) right.1;
       rows = c.first_of.ensures.first ∙ λ i. span c.args.keeper.now.rows.next (c.args.keeper.now.rows.next + (44 * c.from.ensures i + c.from-2.ensures i));
       pages = c.first_of-2.ensures.first ∙ λ i. span c.args.keeper.now.pages.next (c.args.keeper.now.pages.next + 22 * c.from-page_count.ensures i);
     }
