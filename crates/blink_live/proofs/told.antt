@@ -1,4 +1,5 @@
 pub mod FrontsOfOneList
 pub mod StatesOfKeys
+pub mod OwnersAreSeen
 pub mod NotesKeepTable
 pub mod LooksUpKeepTable

@@ -82,6 +82,14 @@ pub record KnowsItsKeys (live : Live) (pass : Pass) : Type 0 where
   pub state : (key : ℕ) → Contains (keys_of pass) key → after (pointer_of (opening_of live)) (seen_of pass) key ≡ pointer_of (share_of pass) key
   pub changes : (key : ℕ) → Contains (keys_of pass) key → seen_changes_of pass key ≡ own_changes_of pass key
 
+-- of the owner's keys it has seen no change but those that the owner's own operations made, from the first on
+abbrev pub SawFrontOf : Pass → Pass → Type 0
+SawFrontOf owner pass = (key : ℕ) → Contains (keys_of owner) key → IsPrefix (seen_changes_of pass key) (own_changes_of owner key)
+
+-- and all of these
+abbrev pub SawAllOf : Pass → Pass → Type 0
+SawAllOf owner pass = (key : ℕ) → Contains (keys_of owner) key → seen_changes_of pass key ≡ own_changes_of owner key
+
 -- the pass is as it was
 pub record IsSamePass (old new : Pass) : Type 0 where
   pub same_table : new.seat.table_id ≡ old.seat.table_id

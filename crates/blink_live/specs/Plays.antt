@@ -1,5 +1,6 @@
 -- What each kind of atomic step tells whoever takes it.
-use Rattle.std.specs.Prelude.{◌≡◌, ◌≢◌, ◌⊎◌, ℕ, suc, ◌+◌, ◌<◌, ◌≤◌, Option, Some, None, IsSome, List, length, All, slice_index}
+use Rattle.std.specs.Prelude.{◌≡◌, ◌≢◌, ◌⊎◌, ℕ, suc, ◌+◌, ◌<◌, ◌≤◌, Option, Some, None, IsSome, List, length, All, slice_index, Contains}
+use mathlib.Core.List.{IsPrefix}
 use Rattle.atomic_table.specs.Table.{Step}
 use Rattle.blink_batch.specs.declared.Op.{Op}
 use Rattle.blink_batch.specs.Operation.{answer_at, answer_of, key_of}
@@ -21,8 +22,8 @@ use Rattle.blink_machine.specs.Table.{SeesPrime, WaitsForLevel, SeesPage, done}
 use Rattle.blink_live.specs.declared.view.Change.{Change}
 use Rattle.blink_live.specs.declared.view.Plan.{Plan}
 use Rattle.blink_live.specs.declared.view.Share.{Share}
-use Rattle.blink_live.specs.Changes.{after, Learns}
-use Rattle.blink_live.specs.Views.{Sat, KnowsItsOwn, for_call, going_on, drafts, changed_by, publishes, reading, span}
+use Rattle.blink_live.specs.Changes.{after, states_of, Learns}
+use Rattle.blink_live.specs.Views.{Sat, KnowsItsOwn, for_call, going_on, drafts, changed_by, publishes, reading, forgets_told, learns_of_others, span}
 use Rattle.blink_live.specs.Words.{AreNumbersIn, AreRowsIn, IsRowNumber, row_start}
 
 -- the number of a page that has a page word
@@ -121,17 +122,25 @@ pub record LoadsPrime (m : PlainMachine) (me : Sat) (row : ℕ) (machine : Plain
 abbrev pub loads_prime : Step ℕ → Sat → ℕ → Sat → Type 0
 loads_prime st me row then = (m : PlainMachine) → me.0.operation ≡ Some m → NeedsPrime m → (machine : PlainMachine) × LoadsPrime m me row machine then
 
--- ---- the load of the prime block's page word by a pass that learns what it was told
+-- ---- the load of the prime block's page word by a pass that was told what another has seen
 
--- it has seen more now
+-- it has seen more now, and what it was told is among that
 pub record LooksUp (me then : Sat) : Type 0 where
   pub seen : List Change
-  pub is : then ≡ (record me.0 { seen = seen }, me.1)
+  pub is : then ≡ (learns_of_others me.0 seen, me.1)
   pub learns : Learns me.0 seen
   pub knows_own : KnowsItsOwn then.0
 
 abbrev pub looks_up : Step ℕ → Sat → ℕ → Sat → Type 0
 looks_up st me row then = LooksUp me then
+
+-- or it has seen no more, but what it was told of its own keys is no more than its own operations made
+pub record LooksBack (me then : Sat) : Type 0 where
+  pub is : then ≡ (forgets_told me.0, me.1)
+  pub no_more : (key : ℕ) → Contains me.0.share.keys key → IsPrefix (states_of key me.0.told) (states_of key me.0.share.changes)
+
+abbrev pub looks_back : Step ℕ → Sat → ℕ → Sat → Type 0
+looks_back st me row then = LooksBack me then
 
 -- ---- the load of a row's word
 

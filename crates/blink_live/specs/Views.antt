@@ -214,3 +214,11 @@ note_of v = record (spent v.plan) { told = v.seen }
 -- a pass that has got such a note
 abbrev pub hears : View → View → View
 hears v w = record v { told = w.told }
+
+-- it knows what it was told, and has seen these changes now
+abbrev pub learns_of_others : View → List Change → View
+learns_of_others v seen = record v { seen = seen; told = [] }
+
+-- it knows what it was told, and has seen no more
+abbrev pub forgets_told : View → View
+forgets_told v = record v { told = [] }

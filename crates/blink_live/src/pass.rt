@@ -25,6 +25,7 @@ pub struct Pass {
     ghost for_changes: { AreForChanges pages rows },
     ghost role_is: { seat.me.0.role ≡ Pass },
     ghost own_seen: { SawItsOwn seat.me.0 },
+    ghost none_told: { seat.me.0.told ≡ [] },
     ghost idle: { seat.me.0.operation ≡ None },
     ghost no_slot: { seat.me.1 ≡ [] },
 }

@@ -59,13 +59,22 @@ impl Play<u8, View> for LoadPrime {
     ghost then = { loads_prime };
 }
 
-/// The load of the prime block's page word by a pass that learns what it was told.
+/// The load of the prime block's page word by a pass that was told what another has seen, and sees that now.
 pub(crate) struct LookUp;
 
 impl Play<u8, View> for LookUp {
     ghost use Rattle.blink_live.specs.Plays.{looks_up};
 
     ghost then = { looks_up };
+}
+
+/// The load of the prime block's page word by a pass that was told what another has seen, and sees no more.
+pub(crate) struct LookBack;
+
+impl Play<u8, View> for LookBack {
+    ghost use Rattle.blink_live.specs.Plays.{looks_back};
+
+    ghost then = { looks_back };
 }
 
 /// The load of a word of the row that a page word named.

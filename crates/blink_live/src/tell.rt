@@ -2,27 +2,31 @@
 ghost use Rattle.std.specs.Prelude.{◌≡◌, None, []};
 ghost use mathlib.Core.List.{IsPrefix};
 ghost use Rattle.blink_live.specs.declared.view.Role.TheVariants.{Spent};
-ghost use Rattle.blink_live.specs.Handles.{IsPassOf, IsSameBesideSeen, IsSamePass, KnowsItsKeys, OneIsFront, seen_of};
-ghost use Rattle.blink_live.specs.Seats.{IsPassSeat};
-ghost use Rattle.blink_live.specs.Plays.{LooksUp};
+ghost use Rattle.blink_live.specs.Handles.{IsPassOf, IsSameBesideSeen, IsSamePass, KnowsItsKeys, OneIsFront, SawAllOf};
+ghost use Rattle.blink_live.specs.Handles.{SawFrontOf, seen_of};
+ghost use Rattle.blink_live.specs.Seats.{IsPassSeat, IsSameSeat};
+ghost use Rattle.blink_live.specs.Plays.{LooksBack, LooksUp};
 ghost use Rattle.blink_live.specs.Views.{hears, note_of, plan_of};
 
 use crate::live::Live;
 use crate::pass::Pass;
-use crate::rule::{Hear, LookUp, Note, Planned};
+use crate::rule::{Hear, LookBack, LookUp, Note, Planned};
 use crate::view::View;
 use atomic_table::Seat;
 use std::marker::Brand;
 
 impl Live {
-    /// Tells a pass what another has seen: from then on it knows all that, for all keys. The pass that tells stays as it was. It
-    /// takes no memory, waits for nobody, and returns.
+    /// Tells a pass what another has seen: from then on it knows all that, for all keys. The pass that tells stays as it was. Of
+    /// the keys of the pass that tells the other has seen exactly the changes that this pass made. It takes no memory, waits for
+    /// nobody, and returns.
     pub fn tell(&self, from: &mut Pass, to: &mut Pass)
         requires from_its_own { IsPassOf self.now from.old }
         requires to_its_own { IsPassOf self.now to.old }
         ensures fronts { OneIsFront (seen_of from.old) (seen_of to.old) }
         ensures told { IsPrefix (seen_of from.old) (seen_of to.new) }
         ensures knows { KnowsItsKeys self.now to.new }
+        ensures of_teller { SawAllOf from.new to.new }
+        ensures of_told { SawFrontOf to.new from.new }
         ensures to { IsSameBesideSeen to.old to.new }
         ensures from { IsSamePass from.old from.new }
     {
@@ -32,15 +36,46 @@ impl Live {
             rows: _,
             pages: _,
         } = from;
-        let note = self.table.shared.split_seat::<Note>(teller);
         let Pass {
             seat,
             keys: _,
             rows: _,
             pages: _,
         } = to;
-        self.hear::<Brand>(seat, note);
+        self.pass_on(teller, seat);
+        self.look_up(seat);
+        self.pass_on(seat, teller);
+        self.look_back(teller);
+    }
+
+    // A pass's seat is told what another's has seen.
+    fn pass_on(&self, from: &mut Seat<u8, View>, to: &mut Seat<u8, View>)
+        requires from { IsPassSeat self.now from.old.table_id from.old.me }
+        requires to { IsPassSeat self.now to.old.table_id to.old.me }
+        ensures from { IsSameSeat from.old from.new }
+        ensures to { (to.new.table_id ≡ to.old.table_id) × (to.new.id ≡ to.old.id) }
+        ensures told { to.new.me ≡ (hears to.old.me.0 (note_of from.old.me.0), to.old.me.1) }
+    {
+        let note = self.table.shared.split_seat::<Note>(from);
+        self.hear::<Brand>(to, note);
+    }
+
+    // The seat sees all that became so.
+    fn look_up(&self, seat: &mut Seat<u8, View>)
+        requires seat { IsPassSeat self.now seat.old.table_id seat.old.me }
+        ensures same { (seat.new.table_id ≡ seat.old.table_id) × (seat.new.id ≡ seat.old.id) }
+        ensures up { LooksUp seat.old.me seat.new.me }
+    {
         self.table.shared.load::<LookUp>(seat, 0);
+    }
+
+    // The seat sees no more; of its own keys it was told no more than its own operations made.
+    fn look_back(&self, seat: &mut Seat<u8, View>)
+        requires seat { IsPassSeat self.now seat.old.table_id seat.old.me }
+        ensures same { (seat.new.table_id ≡ seat.old.table_id) × (seat.new.id ≡ seat.old.id) }
+        ensures back { LooksBack seat.old.me seat.new.me }
+    {
+        self.table.shared.load::<LookBack>(seat, 0);
     }
 
     // A pass's seat takes the note.

@@ -1,34 +1,79 @@
--- A load of the prime block's page word by a pass that learns what it was told is no step of the tree, and keeps the rule.
-use Rattle.std.proofs.Common.{◌≡◌, ℕ, suc, [], refl}
-use mathlib.Core.Option.{none}
-use mathlib.Core.List.{append-nil}
-use Rattle.atomic_table.specs.Table.{step, keeps, Allows}
+-- A load of the prime block's page word by a pass that was told what another has seen is no step of the tree, and keeps the rule.
+use Rattle.std.proofs.Common.{◌≡◌, ℕ, suc, Option, List, [], get_or, set, refl, sym, subst}
+use mathlib.Core.Option.{some, none}
+use mathlib.Core.List.{IsPrefix, append-nil}
+use lib.ListN.{get_elem?}
+use Rattle.atomic_table.specs.Table.{State, step, keeps, Allows}
 use Rattle.blink_machine.specs.Moment.{Moment}
 use Rattle.blink_machine.proofs.Offered.{step_law}
+use Rattle.blink_live.specs.declared.view.Change.{Change}
 use Rattle.blink_live.specs.declared.view.Plan.{Plan}
 use Rattle.blink_live.specs.declared.view.Role.TheVariants.{Pass}
-use Rattle.blink_live.specs.Plays.{looks_up}
-use Rattle.blink_live.specs.Rule.{IsTable, IsTableAt}
-use Rattle.blink_live.specs.Views.{Sat}
-use Rattle.blink_live.proofs.table.LoadsKeepTable.{moved, load_keeps}
-use Rattle.blink_live.proofs.table.SharesAreKnown.{share_is_known}
+use Rattle.blink_live.specs.declared.view.View.{View}
+use Rattle.blink_live.specs.Changes.{states_of}
+use Rattle.blink_live.specs.Plays.{looks_back, looks_up}
+use Rattle.blink_live.specs.Rule.{Owners, IsInRole, Knows, IsTable, IsTableAt}
+use Rattle.blink_live.specs.Views.{Sat, forgets_told, learns_of_others}
+use Rattle.blink_live.proofs.table.LoadsKeepTable.{moved, load_knows, load_keeps_with}
 use Rattle.blink_live.proofs.table.MapsWithOneChange.{put_same}
+use Rattle.blink_live.proofs.table.SharesAreKnown.{share_is_known}
+use Rattle.blink_live.proofs.told.StatesOfKeys.{states_of-front}
 
-pub looks_up_prime : (plan : Plan) (slots id : ℕ) (me : Sat) → me.0.role ≡ Pass → Allows (IsTable plan) slots id me 0 (λ k. k) (looks_up (step slots 0 0 0 none) me)
-looks_up_prime plan slots id me role s table homes at small =
-    let moment : Moment = table.0 in
-    let h : IsTableAt plan s moment = table.1 in
-    let known = h.views id me.0 at in
-    let still = step_law.idle_workers_dont_matter moment (moved moment id me.0.operation) (record {
+-- a pass's seat may know no more what it was told
+forgets : (plan : Plan) (owners : Owners) (words : List ℕ) (moment : Moment) (log : List Change) (id : ℕ) (v : View) → v.role ≡ Pass → Knows plan owners words moment log id v → Knows plan owners words moment log id (forgets_told v)
+forgets plan owners words moment log id v role known =
+    let kept = subst (IsInRole plan owners log id v) role known.in_role in record {
+      same_plan = known.same_plan;
+      operation = known.operation;
+      bounded = known.bounded;
+      reads = known.reads;
+      rows = known.rows;
+      numbers = known.numbers;
+      for_call = known.for_call;
+      share = known.share;
+      saw = known.saw;
+      heard = (log, refl);
+      in_role = subst (IsInRole plan owners log id (forgets_told v)) (sym role) kept;
+    }
+
+-- and may have seen any front of the changes
+looks : (plan : Plan) (s : State ℕ View) (moment : Moment) (h : IsTableAt plan s moment) (id : ℕ) (v : View) → get_elem? s.views id ≡ some v → v.role ≡ Pass → (seen : List Change) → IsPrefix seen h.log
+    → IsTable plan record { words = set s.words 0 (get_or s.words 0 0); homes = s.homes; views = set s.views id (learns_of_others v seen) }
+looks plan s moment h id v at role seen saw =
+    let known = h.views id v at in
+    let still = step_law.idle_workers_dont_matter moment (moved moment id v.operation) (record {
       same_fan = refl;
       same_prime = refl;
       same_pages = λ number. refl;
       same_holder = λ number. refl;
-      same_machines = put_same moment.machines id me.0.operation known.operation;
-    }) h.sound in (
-      record me.0 { seen = h.log },
+      same_machines = put_same moment.machines id v.operation known.operation;
+    }) h.sound in
+    load_keeps_with plan s moment h id 0 v (learns_of_others v seen) at role still refl
+    (forgets plan h.owners s.words (moved moment id v.operation) h.log id (record v { seen = seen }) role (load_knows plan s moment h id 0 v (record v { seen = seen }) at role refl known.bounded known.reads saw))
+
+-- it sees all that became so
+pub looks_up_prime : (plan : Plan) (slots id : ℕ) (me : Sat) → me.0.role ≡ Pass → Allows (IsTable plan) slots id me 0 (λ k. k) (looks_up (step slots 0 0 0 none) me)
+looks_up_prime plan slots id me role s table homes at small =
+    let h : IsTableAt plan s table.0 = table.1 in
+    let known = h.views id me.0 at in (
+      learns_of_others me.0 h.log,
       keeps,
       tt,
-      load_keeps plan s moment h id 0 me.0 (record me.0 { seen = h.log }) at role still refl known.bounded known.reads ([], append-nil h.log),
-      record { seen = h.log; is = refl; learns = record { saw = known.saw; heard = known.heard }; knows_own = share_is_known plan h.owners (suc id) (record me.0 { seen = h.log }) known.same_plan known.share },
+      looks plan s table.0 h id me.0 at role h.log ([], append-nil h.log),
+      record { seen = h.log; is = refl; learns = record { saw = known.saw; heard = known.heard }; knows_own = share_is_known plan h.owners (suc id) (learns_of_others me.0 h.log) known.same_plan known.share },
+    )
+
+-- or it sees no more; nobody was told more of its keys than it has made of them
+pub looks_back_at_prime : (plan : Plan) (slots id : ℕ) (me : Sat) → me.0.role ≡ Pass → Allows (IsTable plan) slots id me 0 (λ k. k) (looks_back (step slots 0 0 0 none) me)
+looks_back_at_prime plan slots id me role s table homes at small =
+    let h : IsTableAt plan s table.0 = table.1 in
+    let known = h.views id me.0 at in (
+      forgets_told me.0,
+      keeps,
+      tt,
+      looks plan s table.0 h id me.0 at role me.0.seen known.saw,
+      record {
+        is = refl;
+        no_more = λ key mine. subst (λ (states : List (Option ℕ)). IsPrefix (states_of key me.0.told) states) ((known.share key mine).changes) (states_of-front key me.0.told h.log known.heard);
+      },
     )
