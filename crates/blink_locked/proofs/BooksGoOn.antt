@@ -35,14 +35,15 @@ no_turn_yet start world is_world none =
 none_moved : (start : PlainStore) (world : PlainWorld) (is_world : IsWorldOf start world) → world.schedule ≡ [] → AllMoved is_world.history
 none_moved start world is_world none = subst AllMoved (sym (no_turn_yet start world is_world none)) (λ k default within. absurd (omega arith))
 
--- a world that begins is a book's
+-- a world that begins is a book's, of copies of what it began with
 pub begins_book : (start : PlainStore) (ops : List Op) (assignment : Assignment) (world : PlainWorld) → IsStart start ops assignment world
-    → IsBook (record { start = start; ops = ops; assignment = assignment; world = world; stopped = false })
-begins_book start ops assignment world is = record {
-  is_world = is.is_world;
-  same_ops = is.same_ops;
-  same_assignment = is.same_assignment;
-  all_moved = none_moved start world is.is_world is.same_schedule;
+    → (tree : PlainStore) (batch : List Op) (lanes : Assignment) → tree ≡ start → batch ≡ ops → lanes ≡ assignment
+    → IsBook (record { start = tree; ops = batch; assignment = lanes; world = world; stopped = false })
+begins_book start ops assignment world is tree batch lanes same_tree same_batch same_lanes = record {
+  is_world = subst (λ (s : PlainStore). IsWorldOf s world) (sym same_tree) is.is_world;
+  same_ops = is.same_ops ∙ sym same_batch;
+  same_assignment = is.same_assignment ∙ sym same_lanes;
+  all_moved = none_moved tree world (subst (λ (s : PlainStore). IsWorldOf s world) (sym same_tree) is.is_world) is.same_schedule;
 }
 
 -- ---- a turn

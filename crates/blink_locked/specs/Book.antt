@@ -1,11 +1,11 @@
 -- The book of a run: what it began with, and the world that its workers' steps have led to.
-use Rattle.std.specs.Prelude.{◌≡◌, ◌↔◌, ℕ, ◌⊎◌, Bool, true, false, List, [], All}
+use Rattle.std.specs.Prelude.{◌≡◌, ◌↔◌, ℕ, ◌⊎◌, Bool, true, false, Some, List, [], All, slice_get}
 use Rattle.blink_batch.specs.declared.Op.{Op}
 use Rattle.blink_batch.specs.Cut.{Assignment}
 use Rattle.blink_store.specs.Store.{PlainStore}
 use Rattle.blink_machine.specs.declared.step.Step.TheVariants.{Moved}
 use Rattle.blink_steps.specs.Counts.{HasMoved}
-use Rattle.blink_steps.specs.Pick.{IsIdleWorker, WouldWait}
+use Rattle.blink_steps.specs.Pick.{IsIdleWorker, WouldMove, WouldWait}
 use Rattle.blink_steps.specs.Promises.{HasAnswerAt}
 use Rattle.blink_steps.specs.Run.{PlainRun, Taken}
 use Rattle.blink_steps.specs.World.{PlainWorld, IsWorldOf, TakesStep}
@@ -45,14 +45,26 @@ stopped_book book = record book { stopped = true }
 abbrev pub HasEndedOp : PlainRun → ℕ → ℕ → Type 0
 HasEndedOp run worker op = HasAnswerAt run.ledger.answers op × IsIdleWorker run worker
 
--- what becomes of the book at a worker's turn for its operation: one step more, and whether the operation has ended with it; or,
--- where it had ended before, would wait or is stopped, no step
-abbrev pub TurnsPage : PlainBook → ℕ → ℕ → Turn → PlainBook → Type 0
-TurnsPage old worker op (Took kind ended) new = TakesStep old.world worker (Moved kind) new.world × (new ≡ with_world old new.world)
+-- the worker may take a turn for the operation: the book isn't stopped, and the operation is one of the worker's
+pub record MayTurn (book : PlainBook) (worker op : ℕ) : Type 0 where
+  pub not_stopped : book.stopped ≡ false
+  pub its_own : slice_get book.assignment.lanes op ≡ Some worker
+
+-- a worker's step that is due: it is taken, and told with whether the operation has ended with it; or it is refused memory, and
+-- the book is stopped with nothing else changed
+abbrev pub StepsPage : PlainBook → ℕ → Turn → PlainBook → Type 0
+StepsPage old worker (Took kind ended) new = TakesStep old.world worker (Moved kind) new.world × (new ≡ with_world old new.world)
     × ((ended ≡ true) ↔ IsIdleWorker new.world.run worker)
-TurnsPage old worker op Over new = HasEndedOp old.world.run worker op × (new ≡ old)
-TurnsPage old worker op Waits new = WouldWait old.world.run worker × (new ≡ old)
-TurnsPage old worker op Stopped new = (new.stopped ≡ true → new ≡ stopped_book old) × (new.stopped ≡ false → new ≡ old)
+StepsPage old worker Over new = ⊥
+StepsPage old worker Waits new = ⊥
+StepsPage old worker Stopped new = new ≡ stopped_book old
+
+-- what becomes of the book at a worker's turn that it may take. The operation had ended before, or its step would be a wait: nothing
+-- changes. Else the step is due
+abbrev pub Turns : PlainBook → ℕ → ℕ → Turn → PlainBook → Type 0
+Turns old worker op Over new = HasEndedOp old.world.run worker op × (new ≡ old)
+Turns old worker op Waits new = WouldWait old.world.run worker × (new ≡ old)
+Turns old worker op turn new = (¬ HasEndedOp old.world.run worker op) × WouldMove old.world.run worker × StepsPage old worker turn new
 
 -- why a book isn't made
 abbrev pub IsBookRefusal : RunError → Type 0

@@ -1,13 +1,17 @@
--- What a run of a batch leaves: whose answers they are, and of which replay the tree is.
-use Rattle.std.specs.Prelude.{◌≡◌, Some, List, map}
+-- What a run of a batch leaves, whose answers they are, and of which replay the tree is; and why a batch isn't run.
+use Rattle.std.specs.Prelude.{◌≡◌, ◌<◌, ℕ, Some, List, map}
 use Rattle.blink_batch.specs.declared.Answer.{Answer}
 use Rattle.blink_batch.specs.declared.Op.{Op}
 use Rattle.blink_batch.specs.Cut.{Assignment}
 use Rattle.blink_rest.specs.Rest.{IsStoreAtRest}
 use Rattle.blink_store.specs.Store.{PlainStore}
 use Rattle.blink_steps.specs.Headline.{IsOneThread, IsReachedThroughout}
-use Rattle.blink_steps.specs.World.{PlainWorld, IsReplay, HasEnded}
+use Rattle.blink_steps.specs.World.{PlainWorld, IsReplay, IsTooLarge, HasEnded}
 use Rattle.blink_locked.specs.Book.{AllMoved}
+use Rattle.blink_settings.specs.declared.error.RunError.{RunError}
+use Rattle.blink_settings.specs.declared.error.RunError.TheVariants.{TooLarge, OutOfMemory, Worker, Foreign}
+use Rattle.blink_settings.specs.declared.settings.Driver.{Driver}
+use Rattle.blink_settings.specs.declared.settings.Driver.TheVariants.{Locked}
 
 -- a replay of the batch and its lanes, of some schedule in which every turn moved and all operations end, leads from the tree
 -- before to the tree after
@@ -26,3 +30,11 @@ pub record IsSettled (before : PlainStore) (ops : List Op) (assignment : Assignm
   pub same_answers : replayed.world.run.ledger.answers ≡ map Some given
   pub one_thread : IsOneThread before replayed.world.run
   pub at_rest : IsStoreAtRest after
+
+-- why a batch isn't run on this tree. It is too large for it; or it isn't, and memory was refused, or the thread of one of the workers
+-- couldn't be started, or, where the steps are taken under a lock, another book came out of it
+abbrev pub MayRefuse : Driver → ℕ → PlainStore → List Op → RunError → Type 0
+MayRefuse driver workers before ops TooLarge = IsTooLarge before ops
+MayRefuse driver workers before ops OutOfMemory = ¬ IsTooLarge before ops
+MayRefuse driver workers before ops (Worker worker) = (¬ IsTooLarge before ops) × worker < workers
+MayRefuse driver workers before ops Foreign = (¬ IsTooLarge before ops) × (driver ≡ Locked)

@@ -2,8 +2,9 @@
 ghost use Rattle.std.specs.Prelude.{◌≡◌, ◌↔◌, All, IfOk, IfErr, IsTrue, IsErrOf, IsSome, Some, map, slice_get};
 ghost use Rattle.blink_batch.specs.Cut.{IsLawfulCut};
 ghost use Rattle.std.specs.Bool.{OnFalse};
-ghost use Rattle.blink_steps.specs.World.{IsAtLanesEnd, IsTooLarge};
-ghost use Rattle.blink_locked.specs.Book.{HasEndedOp, IsBookRefusal, IsNewBook, IsRunOf, IsSettleRefusal, TurnsPage, stopped_book};
+ghost use Rattle.blink_steps.specs.Pick.{WouldMove};
+ghost use Rattle.blink_steps.specs.World.{IsAtLanesEnd, IsStart, IsTooLarge};
+ghost use Rattle.blink_locked.specs.Book.{HasEndedOp, IsBookRefusal, IsNewBook, IsRunOf, IsSettleRefusal, MayTurn, StepsPage, Turns, stopped_book};
 ghost use Rattle.blink_locked.specs.Run.{IsSettled};
 
 use blink_batch::{Answer, Batch, Cut, Lanes};
@@ -30,7 +31,7 @@ pub enum Turn {
 ///
 /// Its type keeps that the world is the one that the schedule leads to from that start, and that each turn of it moved: so
 /// waiting takes no memory, and the schedule is no longer than a run's steps.
-#[derive(Debug, Drop)]
+#[derive(Drop)]
 pub struct Book {
     start: Rest,
     batch: Batch,
@@ -80,28 +81,21 @@ impl Book {
         }
     }
 
-    // The book, where its insertions find page numbers.
+    // The book, of copies of what is given.
     fn copied(alloc: Global, start: &Rest, batch: &Batch, cut: &Cut) -> Result<Book, StepError>
-        requires cut { IsLawfulCut batch.now cut.now.workers cut.now.lanes }
-        requires not_too_large { ¬ IsTooLarge start.now batch.now }
+        requires { IsLawfulCut batch.now cut.now.workers cut.now.lanes }
         ensures { IfOk result (IsNewBook start.now batch.now cut.now) }
     {
+        let world = first_world(alloc, start, batch, cut)?;
         let Ok(tree) = start.copy(alloc) else {
             return Err(StepError::OutOfMemory);
         };
-        let Ok(start) = start.copy(alloc) else {
+        let (Ok(ops), Ok(lanes)) = (copy_of(alloc, batch), lanes_of(alloc, batch, cut)) else {
             return Err(StepError::OutOfMemory);
         };
-        let (Ok(run), Ok(run_lanes)) = (copy_of(alloc, batch), lanes_of(alloc, batch, cut)) else {
-            return Err(StepError::OutOfMemory);
-        };
-        let (Ok(batch), Ok(lanes)) = (copy_of(alloc, batch), lanes_of(alloc, batch, cut)) else {
-            return Err(StepError::OutOfMemory);
-        };
-        let world = World::start(alloc, tree, run, run_lanes)?;
         Ok(Book {
-            start,
-            batch,
+            start: tree,
+            batch: ops,
             lanes,
             world,
             stopped: false,
@@ -109,19 +103,38 @@ impl Book {
     }
 
     /// A turn of a worker, for the operation at this place of its lane: one step, unless that would be a wait, or the
-    /// operation has ended. Where memory is refused the run is stopped; a worker with another's operation is told to stop.
+    /// operation has ended. Where memory is refused the run is stopped. Nothing changes, and the worker is told to stop, where
+    /// the run is stopped, or the operation isn't one of the worker's.
     pub fn turn(&mut self, worker: u8, op: u32) -> Turn
-        ensures { TurnsPage self.old worker op result self.new }
+        ensures turns { MayTurn self.old worker op → Turns self.old worker op result self.new }
+        ensures stops { ¬ MayTurn self.old worker op
+            → (result ≡ Turn.Stopped) × (self.new ≡ self.old) }
     {
         if self.stopped || !self.is_of(worker, op) {
             return Turn::Stopped;
         }
+        self.turn_of_own(worker, op)
+    }
+
+    // The turn where the run isn't stopped, and the operation is one of the worker's.
+    fn turn_of_own(&mut self, worker: u8, op: u32) -> Turn
+        requires own { slice_get self.old.assignment.lanes op ≡ Some worker }
+        ensures { Turns self.old worker op result self.new }
+    {
         if self.has_ended(worker, op) {
             return Turn::Over;
         }
         if self.world.waits(worker) {
             return Turn::Waits;
         }
+        self.step(worker)
+    }
+
+    // The step of a worker that would move. Where memory is refused the run is stopped.
+    fn step(&mut self, worker: u8) -> Turn
+        requires { WouldMove self.old.world.run worker }
+        ensures { StepsPage self.old worker result self.new }
+    {
         match self.world.step(worker) {
             Ok(Step::Moved(kind)) => Turn::Took(kind, self.world.is_idle(worker)),
             Ok(Step::Waited | Step::Idle) => unreachable!(),
@@ -189,6 +202,20 @@ impl Book {
             && self.lanes.workers() == cut.workers()
             && self.lanes.lanes() == cut.lanes()
     }
+}
+
+// The world of the run before its first step.
+fn first_world(alloc: Global, start: &Rest, batch: &Batch, cut: &Cut) -> Result<World, StepError>
+    requires { IsLawfulCut batch.now cut.now.workers cut.now.lanes }
+    ensures { IfOk result (λ world. IsStart start.now batch.now cut.now world) }
+{
+    let Ok(tree) = start.copy(alloc) else {
+        return Err(StepError::OutOfMemory);
+    };
+    let (Ok(ops), Ok(lanes)) = (copy_of(alloc, batch), lanes_of(alloc, batch, cut)) else {
+        return Err(StepError::OutOfMemory);
+    };
+    World::start(alloc, tree, ops, lanes)
 }
 
 // The same batch once more.

@@ -60,7 +60,7 @@ impl Desk {
     fn turn<R: Wait>(&self, rt: &R, worker: u8, op: u32) -> Turn {
         for _ in 0..LOOKS {
             let turn = self.enter(rt).turn(worker, op);
-            if turn != Turn::Waits {
+            if !matches!(turn, Turn::Waits) {
                 return self.told(turn);
             }
             thread::yield_now();
@@ -68,7 +68,7 @@ impl Desk {
         let mut book = self.enter(rt);
         for _ in rt.forever() {
             let turn = book.turn(worker, op);
-            if turn != Turn::Waits {
+            if !matches!(turn, Turn::Waits) {
                 drop(book);
                 return self.told(turn);
             }

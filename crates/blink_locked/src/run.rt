@@ -1,10 +1,11 @@
 //! A batch's run on an index, by threads that take each step under one lock.
-ghost use Rattle.std.specs.Prelude.{◌≡◌, ◌↔◌, IfOk, IsErrOf, OnErr};
+ghost use Rattle.std.specs.Prelude.{◌≡◌, ◌↔◌, ◌≤◌, [], length, vec_capacity, IfErr, IfOk, IsErrOf, OnErr, OnOk};
 ghost use Rattle.blink_batch.specs.Cut.{IsLawfulCut};
 ghost use Rattle.blink_batch.specs.Operation.{answers, map_after_all};
 ghost use Rattle.blink_index.specs.Index.{map_of};
 ghost use Rattle.blink_steps.specs.World.{IsTooLarge};
-ghost use Rattle.blink_locked.specs.Run.{IsReplayed};
+ghost use Rattle.blink_locked.specs.Run.{IsReplayed, MayRefuse};
+ghost use Rattle.blink_locked.specs.Starts.{AtEach, IsStartRefusal, TellsNext};
 
 use crate::book::Book;
 use crate::desk::Desk;
@@ -12,10 +13,10 @@ use crate::gate::Gate;
 use blink_batch::{Answer, Batch, Cut};
 use blink_index::Index;
 use blink_index::laws::no_other_map_is_kept;
-use blink_settings::RunError;
+use blink_settings::{Driver, RunError};
 use std::alloc::Global;
 use std::sync::Wait;
-use std::thread::{self, Threads};
+use std::thread::{self, Promise, PromisedHandle, Scope, Threads};
 
 /// Runs a batch on an index: each worker's lane, an empty one too, in a thread of its own, and each step under one lock. Answers,
 /// index and refusals are those of `run_batch` of `blink_run`, which calls it for the driver `Locked`.
@@ -33,38 +34,84 @@ pub fn run_locked<R: Threads + Wait + Sync, G: Gate + Sync>(
         (λ given. map_of index.new ≡ map_after_all (map_of index.old) batch.now) }
     ensures replayed { IfOk result (λ given. IsReplayed index.old batch.now cut.now index.new) }
     ensures too_large { IsErrOf result RunError.TooLarge ↔ IsTooLarge index.old batch.now }
+    ensures refused { IfErr result
+        (MayRefuse Driver.Locked cut.now.workers index.old batch.now) }
     ensures unchanged { OnErr result (index.new ≡ index.old) }
 {
     let desk = Desk::new(Book::new(alloc, index.rest(), batch, cut)?);
-    if let Some(worker) = run_workers(rt, &desk, cut, gate) {
-        return Err(RunError::Worker(worker));
-    }
+    run_workers(rt, alloc, &desk, cut, gate)?;
     let (tree, answers) = desk.into_book().settle(alloc, index.rest(), batch, cut)?;
     no_other_map_is_kept();
     *index = Index::from_rest(tree);
     Ok(answers)
 }
 
-// Starts a thread for each worker, and returns when all have left the desk: with the first that couldn't be started, if there is
-// one.
+/// The promise of a worker's thread at a desk: nothing but whose it is.
+#[derive(Clone, Copy)]
+struct IsOf {
+    worker: u8,
+}
+
+impl Promise<()> for IsOf {
+    ghost use Rattle.std.specs.Prelude.{⊤};
+
+    ghost kept_by = { λ _ _. ⊤ };
+}
+
+// Starts a thread for each worker, and returns when all have left the desk. Where one can't be started, the run is stopped.
 fn run_workers<R: Threads + Wait + Sync, G: Gate + Sync>(
     rt: &R,
+    alloc: Global,
     desk: &Desk,
     cut: &Cut,
     gate: &G,
-) -> Option<u8> {
+) -> Result<(), RunError>
+    ensures { IfErr result (IsStartRefusal cut.now.workers) }
+{
     let lanes = cut.lanes();
     let workers = cut.workers();
-    thread::scope(thread::scope_env(), rt, move |scope| -> Option<u8> {
-        for worker in 0..workers {
-            if scope
-                .spawn(move || desk.run_lane(rt, gate, worker, lanes))
-                .is_err()
-            {
+    thread::scope(
+        thread::scope_env(),
+        rt,
+        move |scope| -> Result<(), RunError>
+            ensures { IfErr result (IsStartRefusal workers) }
+        {
+            let Ok(mut handles) = Vec::with_capacity(alloc, usize::from(workers)) else {
+                return Err(RunError::OutOfMemory);
+            };
+            let started = start_all(scope, rt, gate, desk, lanes, workers, &mut handles);
+            if started.is_err() {
                 desk.stop(rt);
-                return Some(worker);
             }
+            started
+        },
+    )
+}
+
+// Starts the workers' threads, one after another, up to the first that can't be started.
+fn start_all<'s, E, R: Threads + Wait + Sync, G: Gate + Sync>(
+    scope: &Scope<'s, E>,
+    rt: &'s R,
+    gate: &'s G,
+    desk: &'s Desk,
+    lanes: &'s [u8],
+    workers: u8,
+    handles: &mut Vec<PromisedHandle<(), IsOf>>,
+) -> Result<(), RunError>
+    requires none_yet { handles.old.items ≡ [] }
+    requires room { workers ≤ vec_capacity handles.old }
+    ensures its_own { AtEach (λ worker handle. handle.promise.worker ≡ worker) handles.new.items }
+    ensures all { OnOk result (length handles.new.items ≡ workers) }
+    ensures refused { IfErr result (TellsNext handles.new.items workers) }
+{
+    for worker in 0..workers {
+        match scope.spawn_with(
+            IsOf { worker },
+            move || desk.run_lane(rt, gate, worker, lanes),
+        ) {
+            Ok(handle) => handles.push_reserved(handle),
+            Err(_) => return Err(RunError::Worker(worker)),
         }
-        None
-    })
+    }
+    Ok(())
 }

@@ -1,10 +1,7 @@
 -- What holds of each element of a list at its place.
 use Rattle.std.proofs.Common.{◌≡◌, ℕ, ◌+◌, List, [], ◌∷◌, ◌++◌, length, Some, zero, suc, arith, refl, subst}
 use Rattle.std.specs.List.{AllZip, slice_get}
-
--- it holds of each element at its place
-abbrev pub AtEach : {A : Type 0} → (ℕ → A → Type 0) → List A → Type 0
-AtEach {A} S xs = (place : ℕ) (x : A) → slice_get xs place ≡ Some x → S place x
+use Rattle.blink_locked.specs.Starts.{AtEach}
 
 -- where the places are counted from 0, they are those of the list
 pub each_from_first : {A : Type 0} (S : ℕ → A → Type 0) (xs : List A) (from : ℕ) (ys : List A) → from ≡ 0 → ys ≡ xs → AtEach S xs

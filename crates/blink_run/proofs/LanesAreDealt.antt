@@ -18,8 +18,7 @@ use Rattle.blink_live.proofs.Offered.{among_from_contains, entries_of_keep}
 use Rattle.blink_run.specs.declared.live.lane.LaneRun.{LaneRun}
 use Rattle.blink_run.specs.declared.live.needs.Needs.{Needs}
 use Rattle.blink_run.specs.Lanes.{HasDealtAll, IsKeyOfOne, IsNeeded, IsNewKeeper, MayRun, uses_deletion, lane_ops}
-use Rattle.blink_run.proofs.ChangesOfLanes.{count_from, count_from-first, count_from-lane}
-use Rattle.blink_run.proofs.ChangesOfSpans.{deletes_dealt, deletes_rest, inserts_dealt, inserts_rest}
+use Rattle.blink_run.proofs.ChangesOfLanes.{count_from, count_from-first, count_from-lane, deletes_dealt, deletes_rest, inserts_dealt, inserts_rest}
 use Rattle.blink_run.proofs.KeysOfLanes.{key_of_batch, one_lane_a_key}
 
 -- ---- a lane's pass

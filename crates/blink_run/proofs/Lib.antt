@@ -15,8 +15,6 @@ pub mod NeedsOfLane
 pub mod KeysOfLanes
 pub mod ChangesOfLanes
 pub mod LanesAreDealt
-pub mod ChangesOfSpans
-pub mod EachOneMore
 pub mod EachPlace
 pub mod OutletsTake
 pub mod WhatWritersTake

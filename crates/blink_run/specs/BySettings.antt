@@ -1,5 +1,5 @@
 -- A script that is run as its settings say: over pages of their fan, each batch cut among their workers in their way, by their driver.
-use Rattle.std.specs.Prelude.{ℕ, ◌≡◌, ◌↔◌, List, [], ◌∷◌, ◌++◌, Option, Some, Ok, ⊤}
+use Rattle.std.specs.Prelude.{ℕ, ◌≡◌, ◌+◌, List, [], ◌∷◌, ◌++◌, Option, Some, Ok, count_by, ⊤}
 use Rattle.blink_batch.specs.declared.Op.{Op}
 use Rattle.blink_batch.specs.declared.Part.{Part}
 use Rattle.blink_batch.specs.declared.Part.TheVariants.{Batch}
@@ -7,12 +7,12 @@ use Rattle.blink_batch.specs.Cut.{Assignment}
 use Rattle.blink_batch.specs.Script.{records_of, script_of}
 use Rattle.blink_live.specs.Gathered.{IsNumberedInOrder}
 use Rattle.blink_store.specs.Store.{PlainStore, new_store}
-use Rattle.blink_steps.specs.World.{IsTooLarge}
-use Rattle.blink_settings.specs.declared.error.RunError.TheVariants.{TooLarge}
+use Rattle.blink_settings.specs.declared.error.RunError.{RunError}
 use Rattle.blink_settings.specs.declared.error.ServeError.{ServeError}
 use Rattle.blink_settings.specs.declared.error.ServeError.TheVariants as serve
 use Rattle.blink_settings.specs.declared.settings.Driver.TheVariants.{Locked, Live}
-use Rattle.blink_locked.specs.Run.{IsReplayed}
+use Rattle.blink_locked.specs.Run.{IsReplayed, MayRefuse}
+use Rattle.blink_run.specs.Served.{is_batch}
 use Rattle.blink_settings.specs.Settings.{PlainSettings, lanes_by}
 
 -- whose operation each is
@@ -39,30 +39,32 @@ abbrev pub ServesBy : PlainSettings → Option (List ℕ) → Type 0
 ServesBy settings to_read = (read : List ℕ) → to_read ≡ Some read
     → (parts : List Part) × (script_of (records_of read) ≡ Ok parts) × (after : PlainStore) × RunsPartsBy settings (new_store settings.fan) parts after
 
--- ---- which fault of a batch is told
+-- ---- which refusal of a batch is told
 
--- a batch that isn't run is told as too large exactly where it is, on the tree before it
-abbrev pub TellsTooLarge : PlainStore → Part → ServeError → Type 0
-TellsTooLarge before (Batch ops) (serve.Run number error) = (error ≡ TooLarge) ↔ IsTooLarge before ops
-TellsTooLarge before part error = ⊤
+-- a batch that isn't run is refused as its run by these settings may be, on the tree before it
+abbrev pub RefusesPart : PlainSettings → PlainStore → Part → ServeError → Type 0
+RefusesPart settings before (Batch ops) (serve.Run number error) = MayRefuse settings.driver settings.workers before ops error
+RefusesPart settings before part (serve.Run number error) = ⊥
+RefusesPart settings before part error = ⊤
 
--- the part that wasn't served, after others that were run as the settings say
-pub record StopsAt (settings : PlainSettings) (before : PlainStore) (parts : List Part) (error : ServeError) : Type 0 where
+-- the batch of this number, counted from 1, is refused so, after others that were run as the settings say
+pub record StopsAt (settings : PlainSettings) (before : PlainStore) (parts : List Part) (number : ℕ) (error : RunError) : Type 0 where
   pub front : List Part
-  pub part : Part
+  pub ops : List Op
   pub rest : List Part
-  pub in_order : parts ≡ front ++ part ∷ rest
+  pub in_order : parts ≡ front ++ Batch ops ∷ rest
+  pub its_number : number ≡ count_by is_batch front + 1
   pub between : PlainStore
   pub ran : RunsPartsBy settings before front between
-  pub tells : TellsTooLarge between part error
+  pub refused : MayRefuse settings.driver settings.workers between ops error
 
 -- so it is with each refusal of a run
 abbrev pub TellsRun : PlainSettings → PlainStore → List Part → ServeError → Type 0
-TellsRun settings before parts (serve.Run number error) = StopsAt settings before parts (serve.Run number error)
+TellsRun settings before parts (serve.Run number error) = StopsAt settings before parts number error
 TellsRun settings before parts error = ⊤
 
 -- of the parts of what was read
 abbrev pub TellsRunOf : PlainSettings → Option (List ℕ) → ServeError → Type 0
 TellsRunOf settings to_read (serve.Run number error) = (read : List ℕ) → to_read ≡ Some read
-    → (parts : List Part) × (script_of (records_of read) ≡ Ok parts) × StopsAt settings (new_store settings.fan) parts (serve.Run number error)
+    → (parts : List Part) × (script_of (records_of read) ≡ Ok parts) × StopsAt settings (new_store settings.fan) parts number error
 TellsRunOf settings to_read error = ⊤

@@ -16,6 +16,7 @@ use Rattle.blink_live.specs.Deals.{NoneIsTaken}
 use Rattle.blink_live.specs.Handles.{IsKeeperOf, IsPassOf, keys_of, opening_of, passes_dealt, share_of, taken_of}
 use Rattle.blink_run.specs.declared.live.lane.LaneRun.{LaneRun}
 use Rattle.blink_run.specs.declared.live.needs.Needs.{Needs}
+use Rattle.blink_run.specs.declared.live.threads.RunsLane.{RunsLane}
 
 -- it uses one deletion of a pass: a deletion does, and a replacement
 abbrev pub uses_deletion : Op → Bool
@@ -103,6 +104,10 @@ pub record IsPassAfter (live : Live) (op : Op) (old new : Pass) : Type 0 where
   pub deletes : deletes_left new.pages new.rows + count_by uses_deletion (op ∷ []) ≡ deletes_left old.pages old.rows
 
 -- ---- all lanes
+
+-- the promise of another worker's thread
+abbrev pub with_worker : RunsLane → ℕ → RunsLane
+with_worker first worker = record first { worker = worker }
 
 -- there is a run for each of so many workers, and each lane's may begin
 pub record MayRunAll (live : Live) (ops : List Op) (workers : ℕ) (lanes : List ℕ) (runs : List LaneRun) : Type 0 where

@@ -1,5 +1,6 @@
 pub use Rattle.blink_locked.specs.Book
 pub use Rattle.blink_locked.specs.Run
+pub use Rattle.blink_locked.specs.Starts
 pub use Rattle.blink_settings.specs.Settings
 pub use Rattle.blink_settings.specs.Codes
 pub mod Outlet

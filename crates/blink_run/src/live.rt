@@ -1,5 +1,5 @@
 //! A batch's run on an index by threads that share a table of words, without a lock.
-ghost use Rattle.std.specs.Prelude.{◌≡◌, ◌↔◌, count_by, IfOk, IsErrOf, OnErr};
+ghost use Rattle.std.specs.Prelude.{◌≡◌, ◌↔◌, count_by, IfErr, IfOk, IsErrOf, OnErr};
 ghost use Rattle.blink_batch.specs.Cut.{IsLawfulCut};
 ghost use Rattle.blink_batch.specs.Operation.{answers, map_after_all};
 ghost use Rattle.blink_batch.specs.Batch.{is_insert};
@@ -7,6 +7,7 @@ ghost use Rattle.blink_batch.specs.PlainMap.{IsAscending};
 ghost use Rattle.blink_index.specs.Index.{map_of};
 ghost use Rattle.blink_live.specs.Gathered.{IsNumberedInOrder};
 ghost use Rattle.blink_run.specs.Lanes.{uses_deletion};
+ghost use Rattle.blink_locked.specs.Run.{MayRefuse};
 ghost use Rattle.blink_steps.specs.World.{IsTooLarge};
 
 mod dealing;
@@ -17,6 +18,7 @@ mod threads;
 
 use blink_settings::RunError;
 use blink_locked::Gate;
+use blink_settings::Driver;
 use blink_batch::{Answer, Batch, Cut, Op};
 use blink_index::Index;
 use blink_live::{Live, LiveError};
@@ -43,6 +45,7 @@ pub(crate) fn run_live<R: Threads + Wait + Sync, G: Gate + Sync>(
         (λ given. map_of index.new ≡ map_after_all (map_of index.old) batch.now) }
     ensures numbered { IfOk result (λ given. IsNumberedInOrder index.new) }
     ensures too_large { IsErrOf result RunError.TooLarge ↔ IsTooLarge index.old batch.now }
+    ensures refused { IfErr result (MayRefuse Driver.Live cut.now.workers index.old batch.now) }
     ensures unchanged { OnErr result (index.new ≡ index.old) }
 {
     let (live, mut keeper) = match Live::open(alloc, index, allowance_of(batch)) {

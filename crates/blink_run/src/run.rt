@@ -1,11 +1,11 @@
 //! A batch's run on an index, by threads.
-ghost use Rattle.std.specs.Prelude.{◌≡◌, ◌↔◌, IfOk, IsErrOf, OnErr};
+ghost use Rattle.std.specs.Prelude.{◌≡◌, ◌↔◌, IfErr, IfOk, IsErrOf, OnErr};
 ghost use Rattle.blink_batch.specs.Cut.{IsLawfulCut};
 ghost use Rattle.blink_batch.specs.Operation.{answers, map_after_all};
 ghost use Rattle.blink_index.specs.Index.{map_of};
 ghost use Rattle.blink_steps.specs.World.{IsTooLarge};
 ghost use Rattle.blink_live.specs.Gathered.{IsNumberedInOrder};
-ghost use Rattle.blink_locked.specs.Run.{IsReplayed};
+ghost use Rattle.blink_locked.specs.Run.{IsReplayed, MayRefuse};
 
 use crate::live::run_live;
 use blink_batch::{Answer, Batch, Cut};
@@ -36,6 +36,7 @@ pub fn run_batch<R: Threads + Wait + Sync, G: Gate + Sync>(
     ensures map { IfOk result
         (λ given. map_of index.new ≡ map_after_all (map_of index.old) batch.now) }
     ensures too_large { IsErrOf result RunError.TooLarge ↔ IsTooLarge index.old batch.now }
+    ensures refused { IfErr result (MayRefuse driver cut.now.workers index.old batch.now) }
     ensures unchanged { OnErr result (index.new ≡ index.old) }
 
     // What is so of the driver `Locked` alone, and what of `Live`.

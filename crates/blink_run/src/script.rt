@@ -5,7 +5,7 @@ ghost use Rattle.blink_batch.specs.Text.{text_of};
 ghost use Rattle.blink_batch.specs.declared.Part.TheVariants.{Batch as PartBatch};
 ghost use Rattle.blink_index.specs.Index.{map_of};
 ghost use Rattle.blink_store.specs.Store.{new_store};
-ghost use Rattle.blink_run.specs.BySettings.{RunsBatchBy, RunsPartBy, RunsPartsBy, ServesBy, TellsRun, TellsRunOf, TellsTooLarge};
+ghost use Rattle.blink_run.specs.BySettings.{RefusesPart, RunsBatchBy, RunsPartBy, RunsPartsBy, ServesBy, TellsRun, TellsRunOf};
 ghost use Rattle.blink_run.specs.Outlet.{GoesOut, Pours};
 ghost use Rattle.blink_run.specs.Text.{scan_text};
 ghost use Rattle.blink_run.specs.Served.{IsBatchFault, IsPartFault, LeavesFlushed, LeavesFront, LeavesLines, LeavesPart, Serves, TellsFault, is_batch, part_after, part_text, script_text};
@@ -42,7 +42,7 @@ pub fn serve<T: Threads + Wait + Sync, R: Read, W: Write, G: Gate + Sync>(
         (Serves (R.remaining reader.old) (W.contents writer.old) (W.contents writer.new)) }
     ensures by_settings { OnOk result (ServesBy settings.now (R.remaining reader.old)) }
     ensures fault { IfErr result (TellsFault (R.remaining reader.old)) }
-    ensures too_large { IfErr result (TellsRunOf settings.now (R.remaining reader.old)) }
+    ensures not_run { IfErr result (TellsRunOf settings.now (R.remaining reader.old)) }
     ensures left { IfErr result (λ error.
         LeavesLines (R.remaining reader.old) error (W.contents writer.old) (W.contents writer.new)) }
 {
@@ -75,7 +75,7 @@ fn serve_script<T: Threads + Wait + Sync, O: Outlet, G: Gate + Sync>(
     ensures served { OnOk result
         (GoesOut O.offered O.settled outlet.old (script_text (map_of index.old) parts.now) outlet.new) }
     ensures by_settings { OnOk result (RunsPartsBy settings.now index.old parts.now index.new) }
-    ensures too_large { IfErr result (TellsRun settings.now index.old parts.now) }
+    ensures not_run { IfErr result (TellsRun settings.now index.old parts.now) }
     ensures left { IfErr result (λ error.
         LeavesFlushed O.offered O.settled (map_of index.old) parts.now error outlet.old outlet.new) }
 {
@@ -100,7 +100,7 @@ fn serve_parts<T: Threads + Wait + Sync, O: Outlet, G: Gate + Sync>(
     ensures served { OnOk result
         (Pours O.offered outlet.old (script_text (map_of index.old) parts.now) outlet.new) }
     ensures by_settings { OnOk result (RunsPartsBy settings.now index.old parts.now index.new) }
-    ensures too_large { IfErr result (TellsRun settings.now index.old parts.now) }
+    ensures not_run { IfErr result (TellsRun settings.now index.old parts.now) }
     ensures left { IfErr result (λ error.
         LeavesFront O.offered O.settled (map_of index.old) parts.now error outlet.old outlet.new) }
 {
@@ -140,7 +140,7 @@ fn serve_part<T: Threads + Wait + Sync, O: Outlet, G: Gate + Sync>(
     ensures map { OnOk result (map_of index.new ≡ part_after (map_of index.old) part.now) }
     ensures by_settings { OnOk result (RunsPartBy settings.now index.old part.now index.new) }
     ensures fault { IfErr result (IsPartFault part.now number) }
-    ensures too_large { IfErr result (TellsTooLarge index.old part.now) }
+    ensures not_run { IfErr result (RefusesPart settings.now index.old part.now) }
     ensures left { IfErr result (λ error. LeavesPart O.offered O.settled
         (part_text (map_of index.old) part.now) error outlet.old outlet.new) }
 {
@@ -169,7 +169,7 @@ fn batch_text<T: Threads + Wait + Sync, G: Gate + Sync>(
     ensures by_settings { IfOk result
         (λ _. RunsBatchBy settings.now index.old batch.now index.new) }
     ensures fault { IfErr result (IsBatchFault number) }
-    ensures too_large { IfErr result (TellsTooLarge index.old (PartBatch batch.now)) }
+    ensures not_run { IfErr result (RefusesPart settings.now index.old (PartBatch batch.now)) }
 {
     let cut = settings.cut_batch(alloc, batch)?;
     let answers = match run_batch(rt, alloc, index, batch, &cut, settings.driver(), gate) {

@@ -1,7 +1,8 @@
 //! How the lanes run, each in a thread of its own.
-ghost use Rattle.std.specs.Prelude.{◌≡◌, ◌<◌, ◌≤◌, ◌⊎◌, ℕ, [], length, vec_capacity, vec_len, IfErr, IfOk, IsErrOf};
+ghost use Rattle.std.specs.Prelude.{◌≡◌, ◌≤◌, [], length, vec_capacity, vec_len, IfErr, IfOk, OnOk};
 ghost use Rattle.std.specs.List.{AllZip};
-ghost use Rattle.blink_run.specs.Lanes.{HasRun, HaveRun, MayRun, MayRunAll, lane_ops};
+ghost use Rattle.blink_run.specs.Lanes.{HasRun, HaveRun, MayRun, MayRunAll, lane_ops, with_worker};
+ghost use Rattle.blink_locked.specs.Starts.{AtEach, IsStartRefusal, TellsNext};
 
 use blink_settings::RunError;
 use blink_locked::Gate;
@@ -41,39 +42,62 @@ pub(crate) fn run_all<R: Threads + Wait + Sync, G: Gate + Sync>(
     requires a_lane_each { length cut.now.lanes ≡ length batch.now }
     requires may { MayRunAll live.now batch.now cut.now.workers cut.now.lanes runs.items }
     ensures ended { IfOk result (λ ended. HaveRun live.now batch.now cut.now.workers cut.now.lanes ended.items) }
-    ensures fits { ¬ IsErrOf result RunError.TooLarge }
-    ensures refused { IfErr result (λ error. error ≡ RunError.OutOfMemory
-        ⊎ ((worker : ℕ) × worker < cut.now.workers × error ≡ RunError.Worker worker)) }
+    ensures refused { IfErr result (IsStartRefusal cut.now.workers) }
 {
     let lanes = cut.lanes();
+    let workers = cut.workers();
     thread::scope(
         thread::scope_env(),
         rt,
         move |scope| -> Result<Vec<LaneRun>, RunError>
             requires a_lane_each { length lanes.now ≡ length batch.now }
-            requires may { MayRunAll live.now batch.now cut.now.workers lanes.now runs.items }
-            ensures ended { IfOk result (λ ended. HaveRun live.entry.now batch.entry.now cut.entry.now.workers lanes.entry.now ended.items) }
-            ensures refused { IfErr result (λ error. error ≡ RunError.OutOfMemory
-                ⊎ ((worker : ℕ) × worker < cut.entry.now.workers × error ≡ RunError.Worker worker)) }
+            requires may { MayRunAll live.now batch.now workers lanes.now runs.items }
+            ensures ended { IfOk result (λ ended. HaveRun live.entry.now batch.entry.now workers lanes.entry.now ended.items) }
+            ensures refused { IfErr result (IsStartRefusal workers) }
         {
-            let Ok(mut handles) = Vec::with_capacity(alloc, runs.len()) else {
+            let Ok(mut handles) = Vec::with_capacity(alloc, usize::from(workers)) else {
                 return Err(RunError::OutOfMemory);
             };
-            let Ok(ended) = Vec::with_capacity(alloc, runs.len()) else {
+            let Ok(ended) = Vec::with_capacity(alloc, usize::from(workers)) else {
                 return Err(RunError::OutOfMemory);
             };
-            for (worker, run) in (0..cut.workers()).zip(runs) {
-                let lane = RunsLane {
-                    live,
-                    batch,
-                    lanes,
-                    worker,
-                };
-                handles.push_reserved(start(scope, rt, gate, lane, run)?);
-            }
+            let first = RunsLane {
+                live,
+                batch,
+                lanes,
+                worker: 0,
+            };
+            start_all(scope, rt, gate, first, workers, runs, &mut handles)?;
             Ok(joined(rt, handles, ended))
         },
     )
+}
+
+// Starts the threads of the workers' lanes, one after another, up to the first that can't be started.
+fn start_all<'s, E, R: Threads + Wait + Sync, G: Gate + Sync>(
+    scope: &Scope<'s, E>,
+    rt: &'s R,
+    gate: &'s G,
+    first: RunsLane<'s>,
+    workers: u8,
+    runs: Vec<LaneRun>,
+    handles: &mut Vec<PromisedHandle<LaneRun, RunsLane<'s>>>,
+) -> Result<(), RunError>
+    requires a_lane_each { length first.lanes.now ≡ length first.batch.now }
+    requires may { MayRunAll first.live.now first.batch.now workers first.lanes.now runs.items }
+    requires none_yet { handles.old.items ≡ [] }
+    requires room { workers ≤ vec_capacity handles.old }
+    ensures its_own { AtEach (λ worker handle. handle.promise ≡ with_worker first.entry worker)
+        handles.new.items }
+    ensures all { OnOk result (length handles.new.items ≡ workers) }
+    ensures refused { IfErr result (TellsNext handles.new.items workers) }
+{
+    for run in runs {
+        let worker = handles.len() as u8;
+        let lane = RunsLane { worker, ..first };
+        handles.push_reserved(start(scope, rt, gate, lane, run)?);
+    }
+    Ok(())
 }
 
 // Starts the thread of a worker's lane.

@@ -36,10 +36,10 @@ returns-in_err-serve_part-clause-left g c =
     (leaves_front g.O.Outlet.offered g.O.Outlet.settled (map_of c.args.index.now) c.args.parts.now c.loop-part.part-index c.batches_with-batches.result c.part-item.result (omega (arith, c.loop-part-test.true)) c.args.outlet.now c.loop-part.outlet _
     (map_of c.loop-part.index) c.loop-part.batches c.loop-part.invariant.0 c.in_err-serve_part.field-0.0 (sym c.part-item.is) c.batches_with-batches.ensures c.in_err-serve_part.ensures.fault c.in_err-serve_part.ensures.left)
 
--- it is told as too large exactly where it is
-pub returns-in_err-serve_part-clause-too_large : goal.returns-in_err-serve_part-clause-too_large
-returns-in_err-serve_part-clause-too_large g c =
+-- its refusal is one of its run
+pub returns-in_err-serve_part-clause-not_run : goal.returns-in_err-serve_part-clause-not_run
+returns-in_err-serve_part-clause-not_run g c =
     let passed = err_from_is_err_and c.from_residual.result c.from_residual.ensures.1 in
     rw (passed.1, passed.2)
     (stops_at c.args.settings.now c.args.index.now c.loop-part.index c.args.parts.now c.loop-part.part-index c.part-item.result (omega (arith, c.loop-part-test.true)) (sym c.part-item.is)
-    c.loop-part.invariant.1 c.in_err-serve_part.field-0.0 c.in_err-serve_part.ensures.too_large)
+    c.loop-part.invariant.1 c.batches_with-batches.result c.loop-part.batches c.loop-part.invariant.0.counted c.batches_with-batches.ensures c.in_err-serve_part.field-0.0 c.in_err-serve_part.ensures.fault c.in_err-serve_part.ensures.not_run)

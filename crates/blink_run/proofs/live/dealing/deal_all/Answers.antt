@@ -4,7 +4,7 @@ use Rattle.std.specs.List.{slice_get}
 use Rattle.std.proofs.lemmas.Option.{none-some}
 use Rattle.blink_run.specs.declared.live.lane.LaneRun.{LaneRun}
 use Rattle.blink_run.specs.Lanes.{IsNeeded, MayRun, lane_ops}
-use Rattle.blink_run.proofs.EachOneMore.{each_one_more}
+use Rattle.blink_run.proofs.EachPlace.{each_more}
 use Rattle.blink_run.proofs.LanesAreDealt.{HasDealtBefore, changes_are_allowed, dealt_all, dealt_none, dealt_one_more, keys_are_free, may_run}
 use Rattle.blink_run.proofs.live.dealing.deal_all.Goals as goal
 
@@ -45,7 +45,7 @@ loop-worker-preserved c =
     record {
       dealt = dealt_one_more c.args.live.now ops lanes c.loop-worker.worker c.loop-worker.keeper needs so_far.dealt needed c.requires.cut.a_lane_each c.deal.new.keeper c.in_ok-deal.ensures.rest;
       as_many = omega arith;
-      each = λ worker run is. each_one_more MayRunLane c.loop-worker.runs.items c.in_ok-deal.field-0 so_far.each (subst (λ (n : ℕ). MayRunLane n c.in_ok-deal.field-0) next may) worker run (ap (λ (runs : List LaneRun). slice_get runs worker) (sym c.push_reserved.ensures.items) ∙ is);
+      each = λ worker run is. each_more MayRunLane c.loop-worker.runs.items c.in_ok-deal.field-0 so_far.each (subst (λ (n : ℕ). MayRunLane n c.in_ok-deal.field-0) next may) worker run (ap (λ (runs : List LaneRun). slice_get runs worker) (sym c.push_reserved.ensures.items) ∙ is);
       room = omega arith;
     }
 
