@@ -1,8 +1,8 @@
 use Rattle.std.proofs.Common.{true, ap}
 use Rattle.blink_machine.specs.Kinds.{has_moved}
-<use Rattle.blink_locked.proofs.BooksGoOn.{moves_book, stays_book}
+use Rattle.blink_locked.proofs.BooksGoOn.{moves_book, stays_book}
 use Rattle.blink_locked.proofs.book.Book.step.Goals as goal
->
+
 pub invariant_of-self : goal.invariant_of-self
 invariant_of-self c = moves_book _ c.step.new.self c.args.worker _ c.self.invariant c.in-Ok-Moved.ensures.goes_on c.in-Ok-Moved.ensures.same_batch (ap has_moved c.in-Ok-Moved.field-0-is) c.self.inside.stopped
 
