@@ -1,5 +1,6 @@
 pub mod PagesAlongLinks
 pub mod MapOfStore
+pub mod EntriesOfMaps
 pub mod WayDown
 pub mod StretchOfScan
 pub mod WhereLinksLead

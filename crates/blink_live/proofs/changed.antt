@@ -5,3 +5,4 @@ pub mod ChangesAreTheMaps
 pub mod RowsArePublished
 pub mod PublishesKeepTable
 pub mod UpdatesBegin
+pub mod OwnChangesByKey

@@ -2,3 +2,4 @@ pub mod TakingBackKeepsTable
 pub mod AllBack
 pub mod TableAtTheEnd
 pub mod SharesComeBack
+pub mod EntriesOfMerge

@@ -25,8 +25,8 @@ impl Live {
         ensures fronts { OneIsFront (seen_of from.old) (seen_of to.old) }
         ensures told { IsPrefix (seen_of from.old) (seen_of to.new) }
         ensures knows { KnowsItsKeys self.now to.new }
-        ensures of_teller { SawAllOf from.new to.new }
-        ensures of_told { SawFrontOf to.new from.new }
+        ensures own_before { SawFrontOf from.old to.old × SawFrontOf to.old from.old }
+        ensures own_after { SawAllOf from.old to.new }
         ensures to { IsSameBesideSeen to.old to.new }
         ensures from { IsSamePass from.old from.new }
     {

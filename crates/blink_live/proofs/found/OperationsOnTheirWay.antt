@@ -1,5 +1,5 @@
 -- An operation on its way down: it has begun, goes on, or has come to the leaf of its key.
-use Rattle.std.proofs.Common.{append_assoc, ◌++◌, ◌≡◌, ◌⊎◌, ℕ, inl, inr, Option, Some, None, List, ap, sym, ◌∙◌, subst, refl}
+use Rattle.std.proofs.Common.{◌≡◌, ◌⊎◌, ℕ, inl, inr, Option, Some, None, List, ap, sym, ◌∙◌, subst, refl}
 use mathlib.Core.List.{IsPrefix}
 use Rattle.blink_batch.specs.declared.Op.{Op}
 use Rattle.blink_batch.specs.declared.Op.TheVariants.{Find}
@@ -15,10 +15,7 @@ use Rattle.blink_live.specs.Changes.{after}
 use Rattle.blink_live.specs.Plays.{LoadsPage, AnswersAfter, CanGoOn}
 use Rattle.blink_live.specs.Seats.{IsGoing, IsAtLeaf, found, wants, IsDescending, going, at_leaf, HasRead}
 use Rattle.blink_live.specs.Views.{Sat, SameBesideReads, reading, known_of}
-
--- a front of a front
-pub is_prefix_trans : (first second third : List Change) → IsPrefix first second → IsPrefix second third → IsPrefix first third
-is_prefix_trans first second third one two = (one.0 ++ two.0, sym (append_assoc first one.0 two.0) ∙ (ap (λ (l : List Change). l ++ two.0) one.1 ∙ two.1))
+use Rattle.blink_live.proofs.told.FrontsOfOneList.{front_of_front}
 
 pub same_trans : (u v w : View) → SameBesideReads u v → SameBesideReads v w → SameBesideReads u w
 same_trans u v w first second = second ∙ ap (λ (x : View). record x { operation = w.operation; way_left = w.way_left; reads = w.reads; seen = w.seen }) first
@@ -31,7 +28,7 @@ module _ (op : Op) (number row : ℕ) (first me : Sat) (m then : PlainMachine) (
   pub read_one_more : then.op ≡ m.op → then.job ≡ m.job → HasRead op first new then
   read_one_more same_op same_job = record {
     same = (same_trans first.0 me.0 new.0 has.same.0 (same_reading me.0 then loads.way row _ loads.seen new.0 (ap (λ (x : Sat). x.0) loads.is)), ap (λ (x : Sat). x.1) loads.is ∙ has.same.1);
-    saw = is_prefix_trans first.0.seen me.0.seen new.0.seen has.saw (subst (λ (seen : List Change). IsPrefix me.0.seen seen) (sym (ap (λ (x : Sat). x.0.seen) loads.is)) loads.learns.saw);
+    saw = front_of_front first.0.seen me.0.seen new.0.seen has.saw (subst (λ (seen : List Change). IsPrefix me.0.seen seen) (sym (ap (λ (x : Sat). x.0.seen) loads.is)) loads.learns.saw);
     knows_own = loads.knows_own;
     operation = ap (λ (x : Sat). x.0.operation) loads.is;
     same_op = same_op ∙ has.same_op;

@@ -1,6 +1,9 @@
--- Of two fronts of a list one is a front of the other.
-use Rattle.std.proofs.Common.{◌≡◌, ◌⊎◌, List, [], ◌∷◌, ◌++◌, inl, inr, refl, sym}
+-- Fronts of a list: a front of a front is one, and of two one is a front of the other.
+use Rattle.std.proofs.Common.{◌≡◌, ◌⊎◌, List, [], ◌∷◌, ◌++◌, inl, inr, refl, sym, ap, ◌∙◌, append_assoc}
 use mathlib.Core.List.{IsPrefix}
+
+pub front_of_front : {A : Type 0} (first second third : List A) → IsPrefix first second → IsPrefix second third → IsPrefix first third
+front_of_front {A} first second third one two = (one.0 ++ two.0, sym (append_assoc first one.0 two.0) ∙ (ap (λ (l : List A). l ++ two.0) one.1 ∙ two.1))
 
 pub fronts_of_one_list : {A : Type 0} (first second whole : List A) → IsPrefix first whole → IsPrefix second whole → IsPrefix first second ⊎ IsPrefix second first
 fronts_of_one_list [] second whole one two = inl (second, refl)

@@ -1,22 +1,38 @@
--- What two passes have seen of each other's keys, after one has told the other.
-use Rattle.std.proofs.Common.{◌≡◌, ℕ, Option, List, subst}
+-- What two passes have seen of each other's keys, where one tells the other.
+use Rattle.std.proofs.Common.{◌≡◌, ℕ, Option, List, [], subst}
 use Rattle.std.specs.Prelude.{Contains}
-use mathlib.Core.List.{IsPrefix}
+use mathlib.Core.List.{IsPrefix, append-nil}
 use Rattle.blink_live.specs.declared.view.Change.{Change}
+use Rattle.blink_live.specs.declared.view.Share.{Share}
 use Rattle.blink_live.specs.declared.view.View.{View}
 use Rattle.blink_live.specs.Changes.{states_of}
 use Rattle.blink_live.specs.Views.{SawItsOwn}
+use Rattle.blink_live.proofs.told.FrontsOfOneList.{front_of_front}
 use Rattle.blink_live.proofs.told.StatesOfKeys.{states_of-front, fronts_of_each_other}
 
--- of a pass's own keys a front of what it has seen shows no more than it has made
-pub told_no_more : (w : View) (keys : List ℕ) (seen : List Change) → keys ≡ w.share.keys → SawItsOwn w → IsPrefix seen w.seen → (key : ℕ) → Contains keys key → IsPrefix (states_of key seen) (states_of key w.share.changes)
-told_no_more w keys seen its_keys saw front key mine =
-    subst (λ (states : List (Option ℕ)). IsPrefix (states_of key seen) states) (saw key (subst (λ (all : List ℕ). Contains all key) its_keys mine)) (states_of-front key seen w.seen front)
+-- these changes show of the share's keys no more than its own operations made
+abbrev pub ShowsNoMore : List Change → Share → Type 0
+ShowsNoMore seen share = (key : ℕ) → Contains share.keys key → IsPrefix (states_of key seen) (states_of key share.changes)
 
--- and changes that go on from what it has seen, and show no more than it has made, show exactly that
-pub teller_is_seen : (v : View) (keys : List ℕ) (seen : List Change) → keys ≡ v.share.keys → SawItsOwn v → IsPrefix v.seen seen → ((key : ℕ) → Contains v.share.keys key → IsPrefix (states_of key seen) (states_of key v.share.changes))
-    → (key : ℕ) → Contains keys key → states_of key seen ≡ states_of key v.share.changes
-teller_is_seen v keys seen its_keys saw front no_more key mine =
+-- which is what a pass is told that looks back
+pub no_more_of : (seen : List Change) (share : Share) (v : View) → v.told ≡ seen → v.share ≡ share → ShowsNoMore v.told v.share → ShowsNoMore seen share
+no_more_of seen share v told same_share is = subst (λ (x : List Change × Share). ShowsNoMore x.0 x.1) (λ i. (told i, same_share i)) is
+
+-- and what one knows that has seen them
+pub no_more_of_own : (seen : List Change) (share : Share) (v : View) → v.seen ≡ seen → v.share ≡ share → SawItsOwn v → ShowsNoMore seen share
+no_more_of_own seen share v now_seen same_share saw =
+    subst (λ (x : List Change × Share). ShowsNoMore x.0 x.1) (λ i. (now_seen i, same_share i))
+    (λ key mine. subst (λ (states : List (Option ℕ)). IsPrefix (states_of key v.seen) states) (saw key mine) ([], append-nil (states_of key v.seen)))
+
+-- a front of them shows no more either
+pub front_of_made : (seen : List Change) (share : Share) (keys : List ℕ) (front : List Change) → keys ≡ share.keys → ShowsNoMore seen share → IsPrefix front seen
+    → (key : ℕ) → Contains keys key → IsPrefix (states_of key front) (states_of key share.changes)
+front_of_made seen share keys front its_keys no_more is key mine =
+    front_of_front (states_of key front) (states_of key seen) (states_of key share.changes) (states_of-front key front seen is) (no_more key (subst (λ (all : List ℕ). Contains all key) its_keys mine))
+
+-- and where they go on from what the pass has seen, they show just that
+pub all_that_was_made : (seen : List Change) (v : View) (keys : List ℕ) → keys ≡ v.share.keys → SawItsOwn v → IsPrefix v.seen seen → ShowsNoMore seen v.share → (key : ℕ) → Contains keys key → states_of key seen ≡ states_of key v.share.changes
+all_that_was_made seen v keys its_keys saw front no_more key mine =
     let its : Contains v.share.keys key = subst (λ (all : List ℕ). Contains all key) its_keys mine in
     fronts_of_each_other (states_of key seen) (states_of key v.share.changes) (no_more key its)
     (subst (λ (states : List (Option ℕ)). IsPrefix states (states_of key seen)) (saw key its) (states_of-front key v.seen seen front))

@@ -1,5 +1,5 @@
 -- What lists of changes say of one key: a longer list gives it more states, and it keeps the last of them.
-use Rattle.std.proofs.Common.{◌≡◌, ℕ, Bool, Option, List, [], ◌∷◌, refl, sym, ap, ◌∙◌, eq-eqb, ne_eqb}
+use Rattle.std.proofs.Common.{◌≡◌, ℕ, Bool, Option, List, [], ◌∷◌, ◌++◌, refl, sym, ap, ◌∙◌, subst, eq-eqb, ne_eqb}
 use Rattle.std.specs.Prelude.{if◌then◌else◌}
 use mathlib.Core.List.{IsPrefix}
 use mathlib.Core.Logic.{dite}
@@ -34,6 +34,13 @@ fronts_of_each_other (x ∷ first) (y ∷ second) one two =
     let rest : first ≡ second = fronts_of_each_other first second (one.0, let e = one.1 in cc) (two.0, let e = two.1 in cc) in
     λ i. same i ∷ rest i
 
--- so where the states that were seen of a key are no fewer than these, and no more, the key keeps the last of these
-pub after-exactly : (f : ℕ → Option ℕ) (seen : List Change) (key : ℕ) (states : List (Option ℕ)) → IsPrefix states (states_of key seen) → IsPrefix (states_of key seen) states → after f seen key ≡ last_state (f key) states
-after-exactly f seen key states no_fewer no_more = after-last_state f seen key ∙ ap (last_state (f key)) (fronts_of_each_other (states_of key seen) states no_more no_fewer)
+-- so where a key's states were these at first, and later are no more, the key keeps the last of these
+pub after-exactly : (f : ℕ → Option ℕ) (key : ℕ) (first later : List Change) (states : List (Option ℕ)) → states_of key first ≡ states → IsPrefix first later → IsPrefix (states_of key later) states → after f later key ≡ last_state (f key) states
+after-exactly f key first later states at_first front no_more =
+    let no_fewer : IsPrefix states (states_of key later) = subst (λ (list : List (Option ℕ)). IsPrefix list (states_of key later)) at_first (states_of-front key first later front) in
+    after-last_state f later key ∙ ap (last_state (f key)) (fronts_of_each_other (states_of key later) states no_more no_fewer)
+
+-- the last of states to which one was added is that one
+pub last_state-push : (first : Option ℕ) (states : List (Option ℕ)) (state : Option ℕ) → last_state first (states ++ state ∷ []) ≡ state
+last_state-push first [] state = refl
+last_state-push first (next ∷ states) state = last_state-push next states state

@@ -1,0 +1,43 @@
+-- What an operation adds to its pass's own changes, key by key.
+use Rattle.std.proofs.Common.{◌≡◌, ◌≢◌, ℕ, Bool, Option, Some, None, List, [], ◌∷◌, ◌++◌, map, refl, ap, ◌∙◌, subst, eq-eqb}
+use Rattle.std.specs.Prelude.{if◌then◌else◌, Contains}
+use mathlib.Core.List.{append-nil}
+use Rattle.blink_batch.specs.declared.Op.{Op}
+use Rattle.blink_batch.specs.declared.Op.TheVariants.{Find, Insert, Delete, Replace}
+use Rattle.blink_batch.specs.Operation.{key_of}
+use Rattle.blink_batch.specs.PlainMap.{pointer_of}
+use Rattle.blink_live.specs.declared.pass.Pass.{Pass}
+use Rattle.blink_live.specs.declared.view.Change.{Change}
+use Rattle.blink_live.specs.Changes.{states_of, changes_made}
+use Rattle.blink_live.specs.Handles.{IsChangedBy, changes_by, keys_of, own_changes_of, seen_changes_of, share_of}
+use Rattle.blink_live.proofs.changed.ChangesAreTheMaps.{states_of-append, none_of_other}
+
+-- all that it changes is its own key
+states_made : (op : Op) (kept : Option ℕ) → states_of (key_of op) (changes_made op kept) ≡ map (λ (change : Change). change.pointer) (changes_made op kept)
+states_made (Find key) kept = refl
+states_made (Insert key pointer) (Some kept) = refl
+states_made (Insert key pointer) None = ap (λ (b : Bool). if b then Some pointer ∷ [] else []) (eq-eqb key key refl)
+states_made (Delete key) (Some kept) = ap (λ (b : Bool). if b then None ∷ [] else []) (eq-eqb key key refl)
+states_made (Delete key) None = refl
+states_made (Replace key pointer) (Some kept) = ap (λ (b : Bool). if b then Some pointer ∷ [] else []) (eq-eqb key key refl)
+states_made (Replace key pointer) None = refl
+
+pub own_changes-own_key : (op : Op) (old new : Pass) → IsChangedBy op old new
+    → own_changes_of new (key_of op) ≡ own_changes_of old (key_of op) ++ map (λ (change : Change). change.pointer) (changes_made op (pointer_of (share_of old) (key_of op)))
+own_changes-own_key op old new changed =
+    let made : List Change = changes_made op (pointer_of (share_of old) (key_of op)) in
+    ap (states_of (key_of op)) changed.changes
+    ∙ (states_of-append (key_of op) (changes_by old) made
+    ∙ ap (λ (states : List (Option ℕ)). own_changes_of old (key_of op) ++ states) (states_made op (pointer_of (share_of old) (key_of op))))
+
+pub own_changes-other_key : (op : Op) (old new : Pass) (key : ℕ) → IsChangedBy op old new → key_of op ≢ key → own_changes_of new key ≡ own_changes_of old key
+own_changes-other_key op old new key changed differ =
+    let made : List Change = changes_made op (pointer_of (share_of old) (key_of op)) in
+    ap (states_of key) changed.changes
+    ∙ (states_of-append key (changes_by old) made
+    ∙ (ap (λ (states : List (Option ℕ)). own_changes_of old key ++ states) (none_of_other op (pointer_of (share_of old) (key_of op)) key differ)
+    ∙ append-nil (own_changes_of old key)))
+
+-- between any two calls a pass has seen of its own keys exactly its own changes
+pub own_changes-are_seen : (pass : Pass) (key : ℕ) → Contains (keys_of pass) key → seen_changes_of pass key ≡ own_changes_of pass key
+own_changes-are_seen pass key mine = pass.own_seen key (subst (λ (keys : List ℕ). Contains keys key) pass.keys_are mine)
