@@ -145,6 +145,46 @@ fn a_leaf_emptied_by_deletions_stays(rt: HostRuntime) -> Result<(), Fail> {
     Ok(())
 }
 
+// Two workers meet in one leaf, which splits, whoever comes first.
+fn expect_four_operations<R: Threads + Wait + Abort + Sync>(
+    rt: &R,
+    alloc: Global,
+    driver: Driver,
+) -> Result<(), Fail> {
+    let ops = [
+        Op::Insert(5, 50),
+        Op::Insert(6, 60),
+        Op::Find(5),
+        Op::Delete(4),
+    ];
+    let work = CutBatch::by_lanes(alloc, &ops, 2, &[0, 1, 0, 1])?;
+    let mut index = index_to(rt, alloc, driver, 4)?;
+    let answers = run_batch(rt, alloc, &mut index, &work.batch, &work.cut, driver, &Open)?;
+    assert_eq!(rt; answers.as_slice(), FOUR_ANSWERS.as_slice(), "{driver:?}");
+    assert_eq!(rt; index.dump(alloc)?.as_str(), FOUR_PAGES, "{driver:?}");
+    Ok(())
+}
+
+const FOUR_ANSWERS: [Answer; 4] = [
+    Answer::Inserted,
+    Answer::Inserted,
+    Answer::Found(50),
+    Answer::Removed(40),
+];
+
+const FOUR_PAGES: &str = "1 3 - 18446744073709551615 - 3:1 18446744073709551615:2
+0 1 - 3 2 1:10 2:20 3:30
+0 2 3 18446744073709551615 - 5:50 6:60
+";
+
+#[test]
+fn four_operations_of_two_workers_in_one_leaf(rt: HostRuntime) -> Result<(), Fail> {
+    for driver in DRIVERS {
+        expect_four_operations(&rt, rt.alloc(), driver)?;
+    }
+    Ok(())
+}
+
 // Three replacements and no deletion: at a table they use the allowance of deletions.
 #[test]
 fn replacements_keep_their_leaf(rt: HostRuntime) -> Result<(), Fail> {

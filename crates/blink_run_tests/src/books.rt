@@ -160,39 +160,63 @@ fn a_waiting_worker_sees_the_stop(rt: HostRuntime) -> Result<(), Fail> {
     Ok(())
 }
 
-// Stops the run behind the first operation. It takes the lock for that, which its caller can't have then: it would wait for itself.
+// Stops the run before the operation at one place, or behind that at another. It takes the lock for that, which its caller can't have
+// then: it would wait for itself.
 #[derive(Drop)]
 struct StoppingGate<'a, R: Wait> {
     rt: &'a R,
     desk: &'a Desk,
+    stops_before: u32,
+    stops_after: u32,
     begun: AtomicU64,
     ended: AtomicU64,
 }
 
 impl<R: Wait> Gate for StoppingGate<'_, R> {
-    fn before(&self, _worker: u8, _op: u32) {
+    fn before(&self, _worker: u8, op: u32) {
         self.begun.fetch_add(1, Ordering::SeqCst);
+        if op == self.stops_before {
+            self.desk.stop(self.rt);
+        }
     }
 
-    fn after(&self, _worker: u8, _op: u32) {
+    fn after(&self, _worker: u8, op: u32) {
         self.ended.fetch_add(1, Ordering::SeqCst);
-        self.desk.stop(self.rt);
+        if op == self.stops_after {
+            self.desk.stop(self.rt);
+        }
     }
+}
+
+// How many of three operations of one worker are begun, and how many end.
+fn begun_and_ended<R: Wait>(
+    rt: &R,
+    alloc: Global,
+    stops_before: u32,
+    stops_after: u32,
+) -> Result<(u64, u64), Fail> {
+    let ops = [Op::Insert(2, 20), Op::Insert(4, 40), Op::Find(2)];
+    let work = CutBatch::new(alloc, &ops, 2)?;
+    let desk = Desk::new(book_of(alloc, &work, &[])?);
+    let gate = StoppingGate {
+        rt,
+        desk: &desk,
+        stops_before,
+        stops_after,
+        begun: AtomicU64::new(0),
+        ended: AtomicU64::new(0),
+    };
+    desk.run_lane(rt, &gate, 0, work.cut.lanes());
+    Ok((
+        gate.begun.load(Ordering::SeqCst),
+        gate.ended.load(Ordering::SeqCst),
+    ))
 }
 
 #[test]
 fn a_moving_worker_sees_the_stop(rt: HostRuntime) -> Result<(), Fail> {
-    let ops = [Op::Insert(2, 20), Op::Insert(4, 40), Op::Find(2)];
-    let work = CutBatch::new(rt.alloc(), &ops, 2)?;
-    let desk = Desk::new(book_of(rt.alloc(), &work, &[])?);
-    let gate = StoppingGate {
-        rt: &rt,
-        desk: &desk,
-        begun: AtomicU64::new(0),
-        ended: AtomicU64::new(0),
-    };
-    desk.run_lane(&rt, &gate, 0, work.cut.lanes());
-    assert_eq!(rt; gate.begun.load(Ordering::SeqCst), 2);
-    assert_eq!(rt; gate.ended.load(Ordering::SeqCst), 1);
+    assert_eq!(rt; begun_and_ended(&rt, rt.alloc(), 9, 9)?, (3, 3));
+    assert_eq!(rt; begun_and_ended(&rt, rt.alloc(), 1, 9)?, (2, 1));
+    assert_eq!(rt; begun_and_ended(&rt, rt.alloc(), 9, 0)?, (2, 1));
     Ok(())
 }

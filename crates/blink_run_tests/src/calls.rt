@@ -26,6 +26,18 @@ impl CutBatch {
         let cut = Cut::by_residue(alloc, &batch, workers)?;
         Ok(CutBatch { batch, cut })
     }
+
+    /// With these lanes.
+    pub(crate) fn by_lanes(
+        alloc: Global,
+        ops: &[Op],
+        workers: u8,
+        lanes: &[u8],
+    ) -> Result<CutBatch, Fail> {
+        let batch = Batch::new(ops.to_vec(alloc)?)?;
+        let cut = Cut::from_lanes(&batch, workers, lanes.to_vec(alloc)?)?;
+        Ok(CutBatch { batch, cut })
+    }
 }
 
 /// What a call wrote, how it ended, and how many bytes of the script it left unread.
