@@ -1,16 +1,16 @@
 #!/bin/sh
-# Refuses each request for memory that a public call makes, one a run: proves and builds the programs of refuse/ over copies
-# of the repository's crates, and runs each with refuse.c loaded before the C library. First it runs without a refusal, which
+# Refuses each request for memory that a public call makes, one a run: proves and builds the tests of the crate `refusals` over a copy
+# of the repository, and runs each with refuse.c loaded before the C library. First it runs without a refusal, which
 # tells how many requests each call makes; then each of them is refused in turn. Where a call starts threads its requests vary
 # with their schedule, so the numbers go to twice that count, each in several runs, and the start of a thread counts as a
 # request too.
 #
-# A program checks itself that the answer of a call is right or the error that is named for it, and that what is said of
+# A test checks itself that the answer of a call is right or the error that is named for it, and that what is said of
 # afterwards holds; it tells the end of each call by a line. For each call this prints how many of its requests were refused,
 # and how the runs ended. It exits with 1 where a run ended in another way, or where a request that a run without a refusal
-# makes was never refused. The names of some programs may be given, and then only these are tried.
+# makes was never refused. The names of some tests may be given, and then only these are tried.
 #
-# It needs a C compiler, cc, and the GNU C library. The copies take along what checks of the crates kept in out/, and then it
+# It needs a C compiler, cc, and the GNU C library. The copy takes along what checks of the crates kept in out/, and then it
 # takes some 18 minutes; where nothing was kept, each is proved from nothing first, which takes far longer. Run it while no
 # check of them runs.
 set -eu
@@ -31,12 +31,12 @@ if ! (cd crates/refusals && rt test >tests.log 2>&1); then
     exit 1
 fi
 
-# Runs a program with the request of this number refused to the call of this name, and sets `end` to how that ended: `right` or
+# Runs a test with the request of this number refused to the call of this name, and sets `end` to how that ended: `right` or
 # the error, with `refused` before it where the request came. Another end is told, and ends this script.
 run() {
     status=0
     timeout 60 env "REFUSED=$2" "REFUSED_CALL=$3" "LD_PRELOAD=$work/refuse.so" \
-        "crates/refuse_$1/out/refuse_$1" >told 2>counted || status=$?
+        "$tests" "$1::all_is_right" >told 2>counted || status=$?
     end=$(awk -v call="$3" '
         FILENAME == "counted" {
             if ($0 == "refused") {
@@ -66,13 +66,13 @@ run() {
             }
         }' counted told)
     if [ "$status" -ne 0 ] || [ "$end" = other ]; then
-        echo "refuse_$1, request $2 of $3 refused: status $status" >&2
+        echo "$1, request $2 of $3 refused: status $status" >&2
         cat told counted >&2
         exit 1
     fi
 }
 
-# Runs a program so often with a request of a call refused, and on until it came, where a run without a refusal made it.
+# Runs a test so often with a request of a call refused, and on until it came, where a run without a refusal made it.
 refuse_one() {
     number=$2
     call=$3
@@ -128,9 +128,8 @@ tell() {
         }' ends
 }
 
-# Refuses each request of the calls of a program, in so many runs each, and up to so many times the count.
+# Refuses each request of the calls of a test, in so many runs each, and up to so many times the count.
 refuse() {
-    build "$1"
     run "$1" 0 none
     cp counted calls
     while read -r count call; do

@@ -8,8 +8,6 @@ ghost use Rattle.blink_live.specs.Words.{word_count};
 
 pub(crate) mod kept;
 mod renumber;
-#[cfg(test)]
-mod tests;
 
 use crate::gather::kept::page_at;
 use crate::gather::renumber::{child_count, renumbered};

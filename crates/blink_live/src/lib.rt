@@ -16,6 +16,7 @@ mod keeper;
 mod lay;
 mod left;
 mod live;
+mod look;
 mod open;
 mod operations;
 mod pass;
@@ -24,8 +25,6 @@ mod room;
 mod rule;
 mod taken;
 mod tell;
-#[cfg(test)]
-mod tests;
 mod update;
 mod view;
 mod write;

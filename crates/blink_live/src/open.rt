@@ -70,7 +70,7 @@ impl Live {
 }
 
 // Whether the insertions might need more page numbers than there are.
-pub(crate) fn is_too_large(count: u32, allowance: Allowance) -> bool
+fn is_too_large(count: u32, allowance: Allowance) -> bool
     ensures { IsTrue result ↔ IsTooLarge count allowance }
 {
     let numbers = 1 + u64::from(count) + NUMBERS_OF_INSERTION * u64::from(allowance.inserts);

@@ -2,6 +2,8 @@
 #![tactic(auto)]
 
 #[cfg(test)]
+mod alone;
+#[cfg(test)]
 mod closing;
 #[cfg(test)]
 mod dealing;
@@ -15,6 +17,8 @@ mod glancing;
 mod indexes;
 #[cfg(test)]
 mod inserting;
+#[cfg(test)]
+mod layout;
 #[cfg(test)]
 mod opening;
 #[cfg(test)]

@@ -1,8 +1,9 @@
 //! Which rows calls write, and which they use.
-use crate::PassError;
-use crate::tests::alone::Alone;
-use crate::tests::{FIVE, after, assert_words};
+use crate::alone::Alone;
+use crate::indexes::after;
+use crate::layout::{FIVE, assert_words};
 use blink_batch::{Answer, Op};
+use blink_live::PassError;
 use blink_rows::{Allowance, Counts, Span};
 
 // ---- an insertion
@@ -21,7 +22,7 @@ fn a_split_is_written_right_page_first(rt: HostRuntime) {
     let index = after(&rt, alloc, &FIVE[..4]);
     let mut table = Alone::open(&rt, alloc, &index, allowance, &[5]);
     assert!(rt; table.call(&rt, Op::Insert(5, 50)) == Ok(Answer::Inserted));
-    assert!(rt; table.live.table.word_count() == 3_268);
+    assert!(rt; table.live.word_count() == 3_268);
     assert_words(&rt, &table.live, 48, &AFTER_SPLIT);
 }
 
@@ -73,18 +74,18 @@ fn each_accepted_deletion_uses_a_row(rt: HostRuntime) {
     let index = after(&rt, alloc, &FIVE[..4]);
     let mut table = Alone::open(&rt, alloc, &index, allowance, &[1, 2]);
     assert!(rt;
-        table.live.counts
+        table.live.counts()
             == Counts {
                 numbers: 2,
                 rows: 4
             }
     );
-    assert!(rt; table.live.table.word_count() == 284);
+    assert!(rt; table.live.word_count() == 284);
     assert!(rt; table.call(&rt, Op::Delete(3)) == Err(PassError::NotYours));
-    assert!(rt; table.pass.rows == Span { next: 3, stop: 5 });
+    assert!(rt; table.pass.rows() == Span { next: 3, stop: 5 });
     for (op, expected, next) in DELETIONS {
         assert!(rt; table.call(&rt, op) == expected, "{op:?}");
-        assert!(rt; table.pass.rows == Span { next, stop: 5 }, "{op:?}");
+        assert!(rt; table.pass.rows() == Span { next, stop: 5 }, "{op:?}");
         assert_words(&rt, &table.live, 284, &WITHOUT_KEY_1);
     }
 }
@@ -113,7 +114,7 @@ fn each_accepted_replacement_uses_a_row(rt: HostRuntime) {
     let mut table = Alone::open(&rt, alloc, &index, allowance, &[5, 6]);
     for (op, expected, row, next) in REPLACEMENTS {
         assert!(rt; table.call(&rt, op) == expected, "{op:?}");
-        assert_eq!(rt; table.live.table.shared.peek(1), row, "{op:?}");
-        assert!(rt; table.pass.rows == Span { next, stop: 6 }, "{op:?}");
+        assert_eq!(rt; table.live.word(1), Some(row), "{op:?}");
+        assert!(rt; table.pass.rows() == Span { next, stop: 6 }, "{op:?}");
     }
 }

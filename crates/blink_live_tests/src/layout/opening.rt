@@ -1,6 +1,6 @@
 //! Tables that open over a new index, whose only page is an empty leaf.
-use crate::open::is_too_large;
-use crate::tests::{after, assert_words, opened};
+use crate::indexes::after;
+use crate::layout::{assert_words, opened};
 use blink_rows::{Allowance, Counts, Span};
 
 // The words that aren't 0: the prime block is in row 1 and names page 1, and page 1 is in row 2, with the greatest high key.
@@ -14,18 +14,18 @@ fn one_insertion_has_22_numbers_and_44_rows(rt: HostRuntime) {
         deletes: 0,
     };
     let (live, keeper) = opened(&rt, rt.alloc(), &index, allowance);
-    assert!(rt; live.fan == 4);
+    assert!(rt; live.fan() == 4);
     assert!(rt;
-        live.counts
+        live.counts()
             == Counts {
                 numbers: 24,
                 rows: 46
             }
     );
-    assert!(rt; keeper.pages == Span { next: 2, stop: 24 });
-    assert!(rt; keeper.rows == Span { next: 3, stop: 47 });
-    assert!(rt; keeper.taken.is_empty() && keeper.dealt == 0);
-    assert!(rt; live.table.word_count() == 3_268);
+    assert!(rt; keeper.pages() == Span { next: 2, stop: 24 });
+    assert!(rt; keeper.rows() == Span { next: 3, stop: 47 });
+    assert!(rt; keeper.taken().is_empty() && keeper.dealt() == 0);
+    assert!(rt; live.word_count() == 3_268);
     assert_words(&rt, &live, 3_268, &AT_OPENING);
 }
 
@@ -38,21 +38,11 @@ fn deletions_have_a_row_each(rt: HostRuntime) {
     };
     let (live, keeper) = opened(&rt, rt.alloc(), &index, allowance);
     assert!(rt;
-        live.counts
+        live.counts()
             == Counts {
                 numbers: 2,
                 rows: 5
             }
     );
-    assert!(rt; keeper.pages.len() == 0 && keeper.rows.len() == 3);
-}
-
-#[test]
-fn the_most_insertions_fit(rt: HostRuntime) {
-    let index = after(&rt, rt.alloc(), &[]);
-    let most = Allowance {
-        inserts: 47_662,
-        deletes: u32::MAX,
-    };
-    assert!(rt; !is_too_large(index.page_count(), most));
+    assert!(rt; keeper.pages().len() == 0 && keeper.rows().len() == 3);
 }

@@ -1,27 +1,27 @@
 //! A table with one pass, whose calls have no condition: what is so of it is in its type.
 ghost use Rattle.blink_live.specs.Handles.{IsKeeperOf, IsPassOf};
 
-use crate::tests::{dealt, opened};
-use crate::{Keeper, Live, Pass, PassError};
+use crate::layout::{dealt, opened};
 use blink_batch::{Answer, Op};
 use blink_index::Index;
+use blink_live::{Keeper, Live, Pass, PassError};
 use blink_rows::Allowance;
 use std::alloc::Global;
 use std::process::Abort;
 use std::sync::Wait;
 
 #[derive(Drop)]
-pub(super) struct Alone {
-    pub(super) live: Live,
+pub(crate) struct Alone {
+    pub(crate) live: Live,
     keeper: Keeper,
-    pub(super) pass: Pass,
+    pub(crate) pass: Pass,
     ghost its_keeper: { IsKeeperOf live keeper },
     ghost its_own: { IsPassOf live pass },
 }
 
 impl Alone {
     // The pass has these keys, and all that is allowed.
-    pub(super) fn open<R: Abort>(
+    pub(crate) fn open<R: Abort>(
         rt: &R,
         alloc: Global,
         index: &Index,
@@ -33,7 +33,7 @@ impl Alone {
         Alone { live, keeper, pass }
     }
 
-    pub(super) fn call<R: Wait>(&mut self, rt: &R, op: Op) -> Result<Answer, PassError> {
+    pub(crate) fn call<R: Wait>(&mut self, rt: &R, op: Op) -> Result<Answer, PassError> {
         let Alone { live, pass, .. } = self;
         match op {
             Op::Find(key) => live.find(pass, key),
@@ -41,11 +41,5 @@ impl Alone {
             Op::Delete(key) => live.delete(rt, pass, key),
             Op::Replace(key, pointer) => live.replace(rt, pass, key, pointer),
         }
-    }
-
-    pub(super) fn close<R: Abort>(self, rt: &R, alloc: Global) -> Index {
-        let Alone { live, keeper, pass } = self;
-        let passes = vec![in alloc; pass].expect(rt, "no list");
-        live.close(alloc, keeper, passes).expect(rt, "not closed")
     }
 }
