@@ -95,6 +95,9 @@ pub record IsSamePass (old new : Pass) : Type 0 where
   pub same_table : new.seat.table_id ≡ old.seat.table_id
   pub same_view : new.seat.me ≡ old.seat.me
   pub same_keys : keys_of new ≡ keys_of old
+  pub same_share : share_of new ≡ share_of old
+  pub same_seen : seen_of new ≡ seen_of old
+  pub same_changes : changes_by new ≡ changes_by old
   pub same_rows : new.rows ≡ old.rows
   pub same_pages : new.pages ≡ old.pages
 
