@@ -6,3 +6,5 @@ pub mod RowsArePublished
 pub mod PublishesKeepTable
 pub mod UpdatesBegin
 pub mod OwnChangesByKey
+pub mod StepsOfUpdates
+pub mod UpdatesGoOn

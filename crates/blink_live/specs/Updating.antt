@@ -1,18 +1,25 @@
 -- An update after its way down: it changes its leaf, and goes on to its end.
-use Rattle.std.specs.Prelude.{◌≡◌, ◌+◌, ◌≤◌, Some, None, IsSome}
+use Rattle.std.specs.Prelude.{◌≡◌, ℕ, ◌+◌, ◌-◌, ◌≤◌, Some, None, IsSome, Contains}
 use mathlib.Core.List.{IsPrefix}
+use Rattle.atomic_table.specs.declared.Seat.{Seat}
+use Rattle.blink_batch.specs.Batch.{FitsWords}
 use Rattle.blink_batch.specs.declared.Op.{Op}
-use Rattle.blink_batch.specs.Operation.{answer_of}
+use Rattle.blink_batch.specs.Operation.{answer_of, key_of}
 use Rattle.blink_machine.specs.declared.machine.State.{State}
 use Rattle.blink_machine.specs.declared.machine.State.TheVariants.{Start, Going, Ended}
 use Rattle.blink_machine.specs.Allowance.{numbers_left, writes_left, primes_left}
 use Rattle.blink_machine.specs.Machine.{PlainMachine}
 use Rattle.blink_machine.specs.Moment.{goes_on}
+use Rattle.blink_machine.specs.Table.{IsUpdate}
+use Rattle.blink_live.specs.declared.live.Live.{Live}
+use Rattle.blink_live.specs.declared.room.Room.{Room}
 use Rattle.blink_live.specs.declared.view.Call.{Call}
 use Rattle.blink_live.specs.declared.view.Share.{Share}
 use Rattle.blink_live.specs.declared.view.View.{View}
 use Rattle.blink_live.specs.Plays.{CanGoOn}
-use Rattle.blink_live.specs.Views.{Sat, KnowsItsOwn, no_words, changed_by}
+use Rattle.blink_live.specs.Seats.{IsPassSeat}
+use Rattle.blink_live.specs.Views.{Sat, KnowsItsOwn, CanBegin, for_call, no_words, changed_by}
+use Rattle.blink_live.specs.Words.{AreNumbersIn, AreRowsIn}
 
 -- w is v, but for its operation, its share, what its call has stored, and what it reads and has seen
 abbrev pub SameBesideCall : View → View → Type 0
@@ -49,3 +56,21 @@ pub record IsUpdating (op : Op) (first me : Sat) (m : PlainMachine) : Type 0 whe
   pub has_decided : HasDecided op first.0.share me.0.share m
   pub past_descent : IsPastDescent m.state
   pub answers_at_end : m.state ≡ Ended → IsSome m.answer
+
+-- the seat can make such a call, and puts this number into latch words
+pub record CanUpdate (live : Live) (op : Op) (own : ℕ) (first : Seat ℕ View) : Type 0 where
+  pub seat : IsPassSeat live first.table_id first.me
+  pub updates : IsUpdate op
+  pub fits : FitsWords op
+  pub own_is : (own ≡ first.me.0.rows.stop - 1) × (1 ≤ own)
+  pub own_key : Contains first.me.0.share.keys (key_of op)
+  pub can_begin : CanBegin first.me.0 op
+  pub rows : AreRowsIn live.counts first.me.0.rows
+  pub pages : AreNumbersIn live.counts first.me.0.pages
+
+-- between two turns of the operation, which the seat began when it was `first`: its rows and page numbers are those that its call has left
+pub record IsUnderWay (live : Live) (op : Op) (own : ℕ) (first seat : Seat ℕ View) (m : PlainMachine) (room : Room) : Type 0 where
+  pub can : CanUpdate live op own first
+  pub same_table : (seat.table_id ≡ first.table_id) × (seat.id ≡ first.id)
+  pub updating : IsUpdating op (for_call first.me.0 op, first.me.1) seat.me m
+  pub room_is : (room.rows ≡ seat.me.0.call.rows) × (room.pages ≡ seat.me.0.call.pages)

@@ -115,6 +115,6 @@ impl Live {
         } = pass;
         let own = rows.stop - 1;
         let room = next_of(op, rows, pages);
-        Ok(self.update(rt, seat, room.rows, room.pages, own, op))
+        Ok(self.update(rt, seat, room, own, op))
     }
 }

@@ -1,17 +1,24 @@
 -- An update begins where its way down ends, with all that it may need left.
-use Rattle.std.proofs.Common.{◌≡◌, ℕ, Option, ◌+◌, ◌≤◌, ap, sym, ◌∙◌, subst, refl, arith}
+use Rattle.std.proofs.Common.{◌≡◌, ℕ, Option, ◌+◌, ◌-◌, ◌≤◌, ap, sym, ◌∙◌, subst, refl, arith}
+use Rattle.std.specs.Prelude.{Contains}
+use Rattle.atomic_table.specs.declared.Seat.{Seat}
+use Rattle.blink_batch.specs.Batch.{FitsWords}
 use Rattle.blink_batch.specs.declared.Op.{Op}
 use Rattle.blink_batch.specs.declared.Op.TheVariants.{Find, Insert, Delete, Replace}
+use Rattle.blink_batch.specs.Operation.{key_of}
 use Rattle.blink_machine.specs.declared.machine.Job.TheVariants.{Leaf}
 use Rattle.blink_machine.specs.declared.machine.State.TheVariants.{Want}
 use Rattle.blink_machine.specs.Allowance.{numbers_left, writes_left, primes_left}
 use Rattle.blink_machine.specs.Machine.{PlainMachine}
 use Rattle.blink_machine.specs.Table.{IsUpdate}
+use Rattle.blink_live.specs.declared.live.Live.{Live}
+use Rattle.blink_live.specs.declared.room.Room.{Room}
 use Rattle.blink_live.specs.declared.view.Call.{Call}
 use Rattle.blink_live.specs.declared.view.View.{View}
-use Rattle.blink_live.specs.Seats.{HasRead, IsAtLeaf, found, wants as wants_leaf}
-use Rattle.blink_live.specs.Updating.{SameBesideCall, not_yet, HasLeft, IsUpdating, IsPastDescent}
-use Rattle.blink_live.specs.Views.{Sat, SameBesideReads, rows_of, pages_of, for_call}
+use Rattle.blink_live.specs.Seats.{HasRead, IsAtLeaf, IsPassSeat, found, wants as wants_leaf}
+use Rattle.blink_live.specs.Updating.{SameBesideCall, not_yet, HasLeft, IsUpdating, IsPastDescent, CanUpdate, IsUnderWay}
+use Rattle.blink_live.specs.Views.{Sat, CanBegin, SameBesideReads, rows_of, pages_of, for_call, known_of, span}
+use Rattle.blink_live.specs.Words.{AreNumbersIn, AreRowsIn}
 
 within_call : (v w : View) → SameBesideReads v w → SameBesideCall v w
 within_call v w same =
@@ -35,7 +42,7 @@ left_at_leaf op m page same_op same_job at =
     subst (λ (k : PlainMachine). (writes_left k + primes_left k ≤ rows_of op) × (numbers_left k ≤ pages_of op))
     (λ i. record { fan = m.fan; op = sym same_op i; job = sym same_job i; remembered = m.remembered; state = sym at i; answer = m.answer }) (all_left m page op)
 
-pub update_begins : (op : Op) (v : View) (first me : Sat) (m : PlainMachine) (kept : Option ℕ) → IsUpdate op → first.0 ≡ for_call v op → HasRead op first me m → IsAtLeaf op kept m → IsUpdating op first me m
+update_begins : (op : Op) (v : View) (first me : Sat) (m : PlainMachine) (kept : Option ℕ) → IsUpdate op → first.0 ≡ for_call v op → HasRead op first me m → IsAtLeaf op kept m → IsUpdating op first me m
 update_begins op v first me m kept updates is read (found key is_find at_end answer) = absurd (subst IsUpdate is_find updates)
 update_begins op v first me m kept updates is read (wants_leaf page update at none_yet) =
     let left = left_at_leaf op m page read.same_op read.same_job at in
@@ -58,4 +65,37 @@ update_begins op v first me m kept updates is read (wants_leaf page update at no
       has_decided = not_yet none_yet (ap (λ (x : View). x.share) read.same.0);
       past_descent = subst IsPastDescent (sym at) tt;
       answers_at_end = λ ends. absurd (cc);
+    }
+
+-- it takes a row at least
+takes_a_row : (op : Op) → IsUpdate op → 1 ≤ rows_of op
+takes_a_row (Find key) updates = absurd updates
+takes_a_row (Insert key pointer) updates = omega arith
+takes_a_row (Delete key) updates = omega arith
+takes_a_row (Replace key pointer) updates = omega arith
+
+pub can_update : (live : Live) (op : Op) (own : ℕ) (first : Seat ℕ View) → IsPassSeat live first.table_id first.me → IsUpdate op → FitsWords op → own ≡ first.me.0.rows.stop - 1 → Contains first.me.0.share.keys (key_of op) → CanBegin first.me.0 op
+    → AreRowsIn live.counts first.me.0.rows → AreNumbersIn live.counts first.me.0.pages → CanUpdate live op own first
+can_update live op own first seat updates fits own_is own_key can rows pages =
+    let enough = can.rows in
+    let some = takes_a_row op updates in record {
+      seat = seat;
+      updates = updates;
+      fits = fits;
+      own_is = (own_is, omega (arith, own_is, enough, some, rows));
+      own_key = own_key;
+      can_begin = can;
+      rows = rows;
+      pages = pages;
+    }
+
+pub is_under_way : (live : Live) (op : Op) (own : ℕ) (first seat : Seat ℕ View) (m : PlainMachine) (room : Room) → CanUpdate live op own first → (seat.table_id ≡ first.table_id) × (seat.id ≡ first.id)
+    → HasRead op (for_call first.me.0 op, first.me.1) seat.me m → IsAtLeaf op (known_of seat.me.0 (key_of op)) m
+    → (room.rows ≡ span first.me.0.rows.next (first.me.0.rows.next + rows_of op)) × (room.pages ≡ span first.me.0.pages.next (first.me.0.pages.next + pages_of op)) → IsUnderWay live op own first seat m room
+is_under_way live op own first seat m room can same read at_leaf takes =
+    let call : seat.me.0.call ≡ (for_call first.me.0 op).call = ap (λ (v : View). v.call) read.same.0 in record {
+      can = can;
+      same_table = same;
+      updating = update_begins op first.me.0 (for_call first.me.0 op, first.me.1) seat.me m (known_of seat.me.0 (key_of op)) can.updates refl read at_leaf;
+      room_is = (takes.0 ∙ sym (ap (λ (c : Call). c.rows) call), takes.1 ∙ sym (ap (λ (c : Call). c.pages) call));
     }

@@ -1,0 +1,223 @@
+-- What each kind of step of an update makes of it.
+use Rattle.std.proofs.Common.{◌≡◌, ◌≢◌, inl, inr, ℕ, Option, Some, None, List, [], ◌∷◌, ◌++◌, ap, sym, ◌∙◌, subst, refl, append-nil}
+use Rattle.std.specs.Prelude.{IsSome, Contains}
+use mathlib.Core.List.{IsPrefix}
+use Rattle.blink_batch.specs.declared.Answer.{Answer}
+use Rattle.blink_batch.specs.declared.Answer.TheVariants.{Absent, Exists}
+use Rattle.blink_batch.specs.declared.Op.{Op}
+use Rattle.blink_batch.specs.declared.Op.TheVariants.{Insert, Delete, Replace}
+use Rattle.blink_batch.specs.Operation.{answer_at, answer_of, key_of, map_at}
+use Rattle.blink_batch.specs.PlainMap.{pointer_of}
+use Rattle.blink_page.specs.Page.{PlainPage}
+use Rattle.blink_rows.specs.declared.span.Span.{Span}
+use Rattle.blink_machine.specs.declared.machine.Debt.{Debt}
+use Rattle.blink_machine.specs.declared.machine.Job.{Job}
+use Rattle.blink_machine.specs.declared.machine.Job.TheVariants.{Leaf, Parent}
+use Rattle.blink_machine.specs.declared.machine.Need.TheVariants.{Latch, Unlatch}
+use Rattle.blink_machine.specs.declared.machine.Next.{Next}
+use Rattle.blink_machine.specs.declared.machine.Next.TheVariants.{Finish, MoveRight, Post}
+use Rattle.blink_machine.specs.declared.machine.State.{State}
+use Rattle.blink_machine.specs.declared.machine.State.TheVariants.{Want, Change, SplitNew, SplitOld, Root, NewPrime, Leave, Posting, Ended}
+use Rattle.blink_machine.specs.declared.step.Kind.{Kind}
+use Rattle.blink_machine.specs.Machine.{PlainMachine, need_at}
+use Rattle.blink_machine.specs.Moment.{goes_on}
+use Rattle.blink_machine.specs.Table.{SeesPrime, SeesPage, SeesOnItsWay, SeesUnderLatch, WaitsForLevel, decided_with, done, done_at, leaves_for, sets_out}
+use Rattle.blink_live.specs.declared.view.Change.{Change as MapChange}
+use Rattle.blink_live.specs.declared.view.Share.{Share}
+use Rattle.blink_live.specs.Changes.{after as after_changes, changes_made}
+use Rattle.blink_live.specs.Plays.{AnswersAfter, AsksPrime, CanGoOn, Decided, deciding, other, GoesOn, LoadsPage, LoadsPrime, Publishes}
+use Rattle.blink_live.specs.Updating.{SameBesideCall, IsPastDescent}
+use Rattle.blink_live.specs.Views.{Sat, KnowsItsOwn, changed_by}
+
+-- what a step of the operation makes of it and of its seat's view, but for what the call has left
+pub record Takes (m after : PlainMachine) (me then : Sat) : Type 0 where
+  pub same : SameBesideCall me.0 then.0 × (then.1 ≡ me.1)
+  pub saw : IsPrefix me.0.seen then.0.seen
+  pub knows_own : KnowsItsOwn then.0
+  pub operation : then.0.operation ≡ goes_on after after.state
+  pub same_op : after.op ≡ m.op
+  pub next : CanGoOn me.0.plan after
+  pub decides : Decided m after me.0.share then.0.share
+  pub past_descent : IsPastDescent after.state
+  pub answers_at_end : after.state ≡ Ended → IsSome after.answer
+
+-- ---- steps that are done: where the operation is then
+
+decided_past : (m : PlainMachine) (job : Job) (state : State) (kept : Option ℕ) → IsPastDescent state → IsPastDescent (decided_with m job state kept).state
+decided_past m Leaf state kept past = past
+decided_past m (Parent debt) state kept past = past
+
+sets_out_so : (m : PlainMachine) (debt : Debt) (pages : List ℕ) → ((sets_out m debt pages).answer ≡ m.answer) × IsPastDescent (sets_out m debt pages).state
+sets_out_so m debt [] = (refl, tt)
+sets_out_so m debt (page ∷ above) = (refl, tt)
+
+leaves_so : (m : PlainMachine) (next : Next) → ((leaves_for m next).answer ≡ m.answer) × IsPastDescent (leaves_for m next).state
+leaves_so m Finish = (refl, tt)
+leaves_so m (MoveRight page) = (refl, tt)
+leaves_so m (Post debt) = sets_out_so m debt m.remembered
+
+done_past : (m : PlainMachine) (state : State) (new : ℕ) → IsPastDescent m.state → IsPastDescent state → IsPastDescent (done_at m state new).state
+done_past m (Want page) new at past = tt
+done_past m (Change page changed kept) new at past = decided_past m m.job (Leave page Finish) kept tt
+done_past m (SplitNew page before) new at past = tt
+done_past m (SplitOld page lower debt) new at past = decided_past m m.job (State.AskPrime page debt) None tt
+done_past m (Root page debt prime) new at past = tt
+done_past m (NewPrime page debt root prime) new at past = tt
+done_past m (Leave page next) new at past = (leaves_so m next).1
+done_past m state new at past = at
+
+-- no latch decides it
+pub latch_answers : (m : PlainMachine) (state : State) (number : ℕ) → need_at state ≡ Latch number → (done_at m state 0).answer ≡ m.answer
+latch_answers m (Want page) number needs = refl
+latch_answers m state number needs = absurd (cc)
+
+pub unlatch_answers : (m : PlainMachine) (state : State) (number : ℕ) → need_at state ≡ Unlatch number → (done_at m state 0).answer ≡ m.answer
+unlatch_answers m (Leave page next) number needs = (leaves_so m next).0
+unlatch_answers m state number needs = absurd (cc)
+
+pub goes_on_takes : (kind : Kind) (m : PlainMachine) (me then : Sat) → IsPastDescent m.state → KnowsItsOwn me.0 → (done m 0).answer ≡ m.answer → GoesOn kind m me then → Takes m (done m 0) me then
+goes_on_takes kind m me then past knows answer goes =
+    let is : then ≡ _ = goes.is in record {
+      same = (subst (λ (x : Sat). SameBesideCall me.0 x.0) (sym is) refl, ap (λ (x : Sat). x.1) is);
+      saw = subst (λ (x : Sat). IsPrefix me.0.seen x.0.seen) (sym is) ([], append-nil me.0.seen);
+      knows_own = subst (λ (x : Sat). KnowsItsOwn x.0) (sym is) knows;
+      operation = ap (λ (x : Sat). x.0.operation) is;
+      same_op = goes.uses.same_op;
+      next = goes.next;
+      decides = other answer (ap (λ (x : Sat). x.0.share) is);
+      past_descent = done_past m m.state 0 past past;
+      answers_at_end = goes.answers_at_end;
+    }
+
+-- ---- reads
+
+-- an operation that changes nothing leaves the share
+changes_nothing : (op : Op) (share : Share) (kept : Option ℕ) → pointer_of share.entries (key_of op) ≡ kept → changes_made op kept ≡ [] → map_at op kept share.entries ≡ share.entries → share ≡ changed_by op share
+changes_nothing op share kept at none same =
+    let entries : share.entries ≡ map_at op (pointer_of share.entries (key_of op)) share.entries = sym same ∙ ap (λ (x : Option ℕ). map_at op x share.entries) (sym at) in
+    let changes : share.changes ≡ share.changes ++ changes_made op (pointer_of share.entries (key_of op)) =
+    sym (append-nil share.changes) ∙ (ap (λ (l : List MapChange). share.changes ++ l) (sym none) ∙ ap (λ (x : Option ℕ). share.changes ++ changes_made op x) (sym at)) in
+    λ i. record { keys = share.keys; entries = entries i; changes = changes i }
+
+insertion_changes_nothing : (key pointer there : ℕ) (share : Share) (kept : Option ℕ) → pointer_of share.entries key ≡ kept → answer_at (Insert key pointer) kept ≡ Exists there → share ≡ changed_by (Insert key pointer) share
+insertion_changes_nothing key pointer there share (Some kept) at is = changes_nothing (Insert key pointer) share (Some kept) at refl refl
+insertion_changes_nothing key pointer there share None at is = absurd (cc)
+
+deletion_changes_nothing : (key : ℕ) (share : Share) (kept : Option ℕ) → pointer_of share.entries key ≡ kept → answer_at (Delete key) kept ≡ Absent → share ≡ changed_by (Delete key) share
+deletion_changes_nothing key share (Some kept) at is = absurd (cc)
+deletion_changes_nothing key share None at is = changes_nothing (Delete key) share None at refl refl
+
+replacement_changes_nothing : (key pointer : ℕ) (share : Share) (kept : Option ℕ) → pointer_of share.entries key ≡ kept → answer_at (Replace key pointer) kept ≡ Absent → share ≡ changed_by (Replace key pointer) share
+replacement_changes_nothing key pointer share (Some kept) at is = absurd (cc)
+replacement_changes_nothing key pointer share None at is = changes_nothing (Replace key pointer) share None at refl refl
+
+-- where a read under the latch answers, it answers by the share, which stays
+answers_by_share : (m after : PlainMachine) (share : Share) (kept : ℕ → Option ℕ) (op : Op) (answer : Answer) → m.op ≡ op → kept (key_of m.op) ≡ pointer_of share.entries (key_of m.op) → after.answer ≡ Some answer
+    → (answer_of share.entries op ≡ answer → share ≡ changed_by op share) → AnswersAfter kept m after → Decided m after share share
+answers_by_share m after share kept op answer same own is leaves (inl stays) = other stays refl
+answers_by_share m after share kept op answer same own is leaves (inr (none, given)) =
+    let by_share : after.answer ≡ Some (answer_of share.entries m.op) = given ∙ ap (λ (x : Option ℕ). Some (answer_at m.op x)) own in
+    let answers : answer_of share.entries op ≡ answer = let e = sym (ap (λ (o : Op). Some (answer_of share.entries o)) same) ∙ (sym by_share ∙ is) in cc in
+    deciding none by_share (leaves answers ∙ ap (λ (o : Op). changed_by o share) (sym same))
+
+module _ (m after : PlainMachine) (number : ℕ) (page : PlainPage) (share : Share) (kept : ℕ → Option ℕ) (own : kept (key_of m.op) ≡ pointer_of share.entries (key_of m.op)) (answers : AnswersAfter kept m after) where
+  abbrev Reads : Type 0
+  Reads = Decided m after share share × IsPastDescent after.state
+
+  under_latch : SeesUnderLatch m number page after → Reads
+  under_latch (SeesUnderLatch.is_above_high_key next above right is) = (other (ap (λ (x : PlainMachine). x.answer) is) refl, subst (λ (x : PlainMachine). IsPastDescent x.state) (sym is) tt)
+  under_latch (SeesUnderLatch.insertion_finds_key key pointer there below job is_op value is) = (
+    answers_by_share m after share kept (Insert key pointer) (Exists there) is_op own (ap (λ (x : PlainMachine). x.answer) is) (insertion_changes_nothing key pointer there share (pointer_of share.entries key) refl) answers,
+    subst (λ (x : PlainMachine). IsPastDescent x.state) (sym is) tt,
+  )
+  under_latch (SeesUnderLatch.deletion_finds_none key below job is_op value is) = (
+    answers_by_share m after share kept (Delete key) Absent is_op own (ap (λ (x : PlainMachine). x.answer) is) (deletion_changes_nothing key share (pointer_of share.entries key) refl) answers,
+    subst (λ (x : PlainMachine). IsPastDescent x.state) (sym is) tt,
+  )
+  under_latch (SeesUnderLatch.replacement_finds_none key pointer below job is_op value is) = (
+    answers_by_share m after share kept (Replace key pointer) Absent is_op own (ap (λ (x : PlainMachine). x.answer) is) (replacement_changes_nothing key pointer share (pointer_of share.entries key) refl) answers,
+    subst (λ (x : PlainMachine). IsPastDescent x.state) (sym is) tt,
+  )
+  under_latch (SeesUnderLatch.posting_finds_separator debt child below job value is) = (other (ap (λ (x : PlainMachine). x.answer) is) refl, subst (λ (x : PlainMachine). IsPastDescent x.state) (sym is) tt)
+  under_latch (SeesUnderLatch.is_to_change changed pointer below change is) = (other (ap (λ (x : PlainMachine). x.answer) is) refl, subst (λ (x : PlainMachine). IsPastDescent x.state) (sym is) tt)
+  under_latch (SeesUnderLatch.is_to_split below full is) = (other (ap (λ (x : PlainMachine). x.answer) is) refl, subst (λ (x : PlainMachine). IsPastDescent x.state) (sym is) tt)
+
+  -- it isn't on its way down
+  on_no_way : IsPastDescent m.state → SeesOnItsWay m number page after → ⊥
+  on_no_way past (SeesOnItsWay.goes_right level next at leads is) = subst IsPastDescent at past
+  on_no_way past (SeesOnItsWay.goes_down level child at leads is) = subst IsPastDescent at past
+  on_no_way past (SeesOnItsWay.find_answers level key at leads find is) = subst IsPastDescent at past
+  on_no_way past (SeesOnItsWay.update_wants level at leads updates is) = subst IsPastDescent at past
+
+  page_decides : IsPastDescent m.state → SeesPage m number page after → Reads
+  page_decides past (SeesPage.on_its_way sees) = absurd (on_no_way past sees)
+  page_decides past (SeesPage.under_latch held sees) = under_latch sees
+
+pub page_takes : (m after : PlainMachine) (number row : ℕ) (me then : Sat) → IsPastDescent m.state → Contains me.0.share.keys (key_of m.op) → LoadsPage m number me row after then → Takes m after me then
+page_takes m after number row me then past own loads =
+    let is : then ≡ _ = loads.is in
+    let reads = page_decides m after number loads.page me.0.share (after_changes (pointer_of me.0.plan.opening) loads.seen) (loads.own_keys (key_of m.op) own) loads.answers past loads.sees in record {
+      same = (subst (λ (x : Sat). SameBesideCall me.0 x.0) (sym is) refl, ap (λ (x : Sat). x.1) is);
+      saw = subst (λ (x : Sat). IsPrefix me.0.seen x.0.seen) (sym is) loads.learns.saw;
+      knows_own = subst (λ (x : Sat). KnowsItsOwn x.0) (sym is) loads.own_keys;
+      operation = ap (λ (x : Sat). x.0.operation) is;
+      same_op = loads.uses.same_op;
+      next = loads.next;
+      decides = subst (λ (x : Sat). Decided m after me.0.share x.0.share) (sym is) reads.0;
+      past_descent = reads.1;
+      answers_at_end = loads.answers_at_end;
+    }
+
+-- of the prime block it learns where to go on, or it stays
+record Asks (m after : PlainMachine) : Type 0 where
+  pub answer : after.answer ≡ m.answer
+  pub past_descent : IsPastDescent after.state
+  pub no_end : after.state ≢ Ended
+
+asks_so : (m after : PlainMachine) (state : State) → after ≡ record m { state = state } → IsPastDescent state → state ≢ Ended → Asks m after
+asks_so m after state is past goes = record {
+  answer = ap (λ (x : PlainMachine). x.answer) is;
+  past_descent = subst (λ (x : PlainMachine). IsPastDescent x.state) (sym is) past;
+  no_end = λ ends. goes (sym (ap (λ (x : PlainMachine). x.state) is) ∙ ends);
+}
+
+sees_prime : (m after : PlainMachine) (prime : List ℕ) → IsPastDescent m.state → SeesPrime m prime after → Asks m after
+sees_prime m after prime past (SeesPrime.begins top at last is) = absurd (subst IsPastDescent at past)
+sees_prime m after prime past (SeesPrime.asks_of_root page debt at top is) = asks_so m after (Root page debt prime) is tt (λ e. absurd (cc))
+sees_prime m after prime past (SeesPrime.asks_of_other page debt at top is) = asks_so m after (Leave page (Post debt)) is tt (λ e. absurd (cc))
+sees_prime m after prime past (SeesPrime.finds_leftmost debt leftmost at job there is) = asks_so m after (Want leftmost) is tt (λ e. absurd (cc))
+
+asks_prime : (m after : PlainMachine) (prime : List ℕ) → IsPastDescent m.state → AsksPrime m prime after → Asks m after
+asks_prime m after prime past (AsksPrime.moves sees only goes) = sees_prime m after prime past sees
+asks_prime m after prime past (AsksPrime.waits waits never is) = asks_so m after Posting (is ∙ (λ i. record m { state = waits.posting i })) tt (λ e. absurd (cc))
+
+pub prime_takes : (m after : PlainMachine) (row : ℕ) (me then : Sat) → IsPastDescent m.state → LoadsPrime m me row after then → Takes m after me then
+prime_takes m after row me then past loads =
+    let is : then ≡ _ = loads.is in
+    let asks = asks_prime m after loads.prime past loads.asks in record {
+      same = (subst (λ (x : Sat). SameBesideCall me.0 x.0) (sym is) refl, ap (λ (x : Sat). x.1) is);
+      saw = subst (λ (x : Sat). IsPrefix me.0.seen x.0.seen) (sym is) loads.learns.saw;
+      knows_own = loads.knows_own;
+      operation = ap (λ (x : Sat). x.0.operation) is;
+      same_op = loads.uses.same_op;
+      next = loads.next;
+      decides = other asks.answer (ap (λ (x : Sat). x.0.share) is);
+      past_descent = asks.past_descent;
+      answers_at_end = λ ends. absurd (asks.no_end ends);
+    }
+
+-- ---- writes
+
+pub publish_takes : (kind : Kind) (pages : Span) (m : PlainMachine) (new : ℕ) (me then : Sat) → IsPastDescent m.state → Publishes kind pages m (done m new) me then → Takes m (done m new) me then
+publish_takes kind pages m new me then past does =
+    let is : then ≡ _ = does.is in record {
+      same = (subst (λ (x : Sat). SameBesideCall me.0 x.0) (sym is) refl, ap (λ (x : Sat). x.1) is);
+      saw = subst (λ (x : Sat). IsPrefix me.0.seen x.0.seen) (sym is) does.learns.saw;
+      knows_own = does.knows_own;
+      operation = ap (λ (x : Sat). x.0.operation) is;
+      same_op = does.uses.same_op;
+      next = does.next;
+      decides = subst (λ (x : Sat). Decided m (done m new) me.0.share x.0.share) (sym is) does.decided;
+      past_descent = done_past m m.state new past past;
+      answers_at_end = does.answers_at_end;
+    }

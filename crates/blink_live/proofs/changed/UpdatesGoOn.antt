@@ -1,0 +1,303 @@
+-- What is so of an update under way is so after each of its turns too.
+use Rattle.std.proofs.Common.{◌≡◌, ◌≢◌, ℕ, suc, ◌+◌, ◌-◌, ◌<◌, ◌≤◌, Bool, true, false, Some, List, ap, sym, ◌∙◌, subst, refl, arith}
+use Rattle.std.specs.Prelude.{IsTrue, Contains}
+use Rattle.atomic_table.specs.declared.Seat.{Seat}
+use Rattle.blink_batch.specs.Batch.{FitsWords}
+use Rattle.blink_batch.specs.declared.Answer.{Answer}
+use Rattle.blink_batch.specs.declared.Op.{Op}
+use Rattle.blink_batch.specs.Operation.{answer_of, key_of}
+use Rattle.blink_page.specs.Limits.{IsPageNumber}
+use Rattle.blink_rows.specs.Counts.{PlainCounts}
+use Rattle.blink_rows.specs.declared.span.Span.{Span}
+use Rattle.blink_machine.specs.Allowance.{UsesUp, one_if, numbers_left, writes_left, primes_left}
+use Rattle.blink_machine.specs.declared.machine.Need.TheVariants.{WriteNew}
+use Rattle.blink_machine.specs.declared.machine.State.{State}
+use Rattle.blink_machine.specs.declared.machine.State.TheVariants.{SplitNew, Root, Ended}
+use Rattle.blink_machine.specs.declared.step.Kind.{Kind}
+use Rattle.blink_machine.specs.declared.step.Step.TheVariants.{Moved}
+use Rattle.blink_machine.specs.Kinds.{latch, unlatch, write_page, write_prime, writes_new_page}
+use Rattle.blink_machine.specs.Machine.{PlainMachine, NeedsPage, NeedsLatch, NeedsNew, NeedsWrite, NeedsPrimeWrite, NeedsUnlatch, need_at}
+use Rattle.blink_machine.specs.Moment.{goes_on}
+use Rattle.blink_machine.specs.Needs.{IsPageWrite}
+use Rattle.blink_machine.specs.Table.{done}
+use Rattle.blink_live.specs.declared.live.Live.{Live}
+use Rattle.blink_live.specs.declared.room.Room.{Room}
+use Rattle.blink_live.specs.declared.view.Call.{Call}
+use Rattle.blink_live.specs.declared.view.Plan.{Plan}
+use Rattle.blink_live.specs.declared.view.Share.{Share}
+use Rattle.blink_live.specs.declared.view.View.{View}
+use Rattle.blink_live.specs.Plays.{CanGoOn, Decided, deciding, other, GoesOn, LoadsPage, LoadsPrime, Publishes, PublishesNew, PublishesPage, PublishesPrime}
+use Rattle.blink_live.specs.Seats.{IsFirst, IsPassSeat}
+use Rattle.blink_live.specs.Updating.{SameBesideCall, HasDecided, not_yet, decided, HasLeft, IsUpdating, IsUnderWay}
+use Rattle.blink_live.specs.Views.{Sat, changed_by, for_call, no_words, span}
+use Rattle.blink_live.specs.Words.{IsRowNumber}
+use Rattle.blink_live.proofs.found.OperationsOnTheirWay.{is_prefix_trans}
+use Rattle.blink_live.proofs.changed.StepsOfUpdates.{Takes, latch_answers, unlatch_answers, goes_on_takes, page_takes, prime_takes, publish_takes}
+
+-- ---- what a step makes of the operation
+
+same_call_trans : (u v w : View) → SameBesideCall u v → SameBesideCall v w → SameBesideCall u w
+same_call_trans u v w first second =
+    second ∙ ap (λ (x : View). record x { operation = w.operation; way_left = w.way_left; reads = w.reads; seen = w.seen; share = w.share; call = w.call }) first
+
+-- it has decided once
+decided_on : (op : Op) (before now share : Share) (m after : PlainMachine) → m.op ≡ op → HasDecided op before now m → Decided m after now share → HasDecided op before share after
+decided_on op before now share m after same (not_yet none is) (deciding was answers changed) =
+    decided (answers ∙ (λ i. Some (answer_of (is i).entries (same i)))) (changed ∙ (λ i. changed_by (same i) (is i)))
+decided_on op before now share m after same (not_yet none is) (other kept stays) = not_yet (kept ∙ none) (stays ∙ is)
+decided_on op before now share m after same (decided given is) (deciding was answers changed) = absurd (cc)
+decided_on op before now share m after same (decided given is) (other kept stays) = decided (kept ∙ given) (stays ∙ is)
+
+updating_on : (op : Op) (first me then : Sat) (m after : PlainMachine) → IsUpdating op first me m → Takes m after me then → HasLeft first.0.call then.0.call after → IsUpdating op first then after
+updating_on op first me then m after is takes left = record {
+  same = (same_call_trans first.0 me.0 then.0 is.same.0 takes.same.0, takes.same.1 ∙ is.same.1);
+  saw = is_prefix_trans first.0.seen me.0.seen then.0.seen is.saw takes.saw;
+  knows_own = takes.knows_own;
+  operation = takes.operation;
+  same_op = takes.same_op ∙ is.same_op;
+  next = subst (λ (p : Plan). CanGoOn p after) (ap (λ (v : View). v.plan) is.same.0) takes.next;
+  left = left;
+  has_decided = decided_on op first.0.share me.0.share then.0.share m after is.same_op is.has_decided takes.decides;
+  past_descent = takes.past_descent;
+  answers_at_end = takes.answers_at_end;
+}
+
+-- ---- what the call has left
+
+still_left : (first call then : Call) (m after : PlainMachine) → HasLeft first call m → then ≡ call → writes_left after ≤ writes_left m → primes_left after ≤ primes_left m → numbers_left after ≤ numbers_left m
+    → HasLeft first then after
+still_left first call then m after left same writes primes numbers =
+    let rows = left.rows in
+    let pages = left.pages in
+    subst (λ (c : Call). HasLeft first c after) (sym same) record {
+      rows = omega (arith, rows, writes, primes);
+      pages = omega (arith, pages, numbers);
+      later = left.later;
+      same_stop = left.same_stop;
+      blank = left.blank;
+    }
+
+-- a row is used, and these page numbers are left
+row_is_used : (first call then : Call) (pages : Span) (m after : PlainMachine) → HasLeft first call m → then ≡ record { rows = span (suc call.rows.next) call.rows.stop; pages = pages; draft = no_words }
+    → suc (writes_left after + primes_left after) ≤ writes_left m + primes_left m → (pages.stop ≡ call.pages.stop) × (call.pages.next ≤ pages.next) → pages.next + numbers_left after ≤ pages.stop
+    → HasLeft first then after
+row_is_used first call then pages m after left is writes later numbers =
+    let rows = left.rows in
+    let before = left.later in
+    subst (λ (c : Call). HasLeft first c after) (sym is) record {
+      rows = omega (arith, rows, writes);
+      pages = numbers;
+      later = (omega (arith, before), omega (arith, before, later));
+      same_stop = (left.same_stop.0, later.0 ∙ left.same_stop.1);
+      blank = refl;
+    }
+
+new_is_written : (state : State) → need_at state ≡ WriteNew → writes_new_page state ≡ true
+new_is_written (SplitNew page before) needs = refl
+new_is_written (Root page debt prime) needs = refl
+new_is_written state needs = absurd (cc)
+
+new_uses_number : (m after : PlainMachine) (kind : Kind) → NeedsNew m → UsesUp m (Moved kind) after → suc (numbers_left after) ≤ numbers_left m
+new_uses_number m after kind needs uses =
+    let numbers : numbers_left after + one_if true ≤ numbers_left m = subst (λ (b : Bool). numbers_left after + one_if b ≤ numbers_left m) (new_is_written m.state needs) uses.numbers in
+    omega (arith, numbers)
+
+-- the room without its first row, and without its first page number
+abbrev pub without_row : Room → Room
+without_row room = record { rows = span (room.rows.next + 1) room.rows.stop; pages = room.pages }
+
+abbrev pub without_number : Room → Room
+without_number room = record { rows = room.rows; pages = span (room.pages.next + 1) room.pages.stop }
+
+one_less : (numbers others : Span) → numbers ≡ others → span (numbers.next + 1) numbers.stop ≡ span (suc others.next) others.stop
+one_less numbers others same =
+    let next : numbers.next + 1 ≡ suc others.next = let at = ap (λ (s : Span). s.next) same in omega (arith, at) in
+    λ i. span (next i) (same i).stop
+
+-- ---- a turn
+
+module _ {live : Live} {op : Op} {own : ℕ} {first seat : Seat ℕ View} {m : PlainMachine} {room : Room} (is : IsUnderWay live op own first seat m room) where
+  abbrev begun : Sat
+  begun = (for_call first.me.0 op, first.me.1)
+
+  same_counts : first.me.0.plan.counts ≡ live.counts
+  same_counts = ap (λ (p : Plan). p.counts) is.can.seat.same_plan ∙ sym live.counts_are
+
+  pub is_its_seat : IsPassSeat live seat.table_id seat.me
+  is_its_seat = record {
+    same_table = is.same_table.0 ∙ is.can.seat.same_table;
+    same_plan = ap (λ (v : View). v.plan) is.updating.same.0 ∙ is.can.seat.same_plan;
+    role = ap (λ (v : View). v.role) is.updating.same.0 ∙ is.can.seat.role;
+  }
+
+  pub is_its_operation : m.state ≢ Ended → seat.me.0.operation ≡ Some m
+  is_its_operation goes = is.updating.operation ∙ goes_unless_ended m m.state goes
+    where
+      goes_unless_ended : (k : PlainMachine) (state : State) → state ≢ Ended → goes_on k state ≡ Some k
+      goes_unless_ended k Ended goes = absurd (goes refl)
+      goes_unless_ended k state goes = refl
+
+  pub its_words_fit : FitsWords m.op
+  its_words_fit = subst FitsWords (sym is.updating.same_op) is.can.fits
+
+  pub is_its_key : Contains seat.me.0.share.keys (key_of m.op)
+  is_its_key = subst (λ (o : Op). Contains seat.me.0.share.keys (key_of o)) (sym is.updating.same_op) (subst (λ (keys : List ℕ). Contains keys (key_of op)) (sym (same_keys is.updating.has_decided)) is.can.own_key)
+    where
+      same_keys : HasDecided op first.me.0.share seat.me.0.share m → seat.me.0.share.keys ≡ first.me.0.share.keys
+      same_keys (not_yet none same) = ap (λ (s : Share). s.keys) same
+      same_keys (decided given same) = ap (λ (s : Share). s.keys) same
+
+  pub is_its_number : (own ≡ seat.me.0.rows.stop - 1) × (1 ≤ own)
+  is_its_number = (is.can.own_is.0 ∙ ap (λ (v : View). v.rows.stop - 1) (sym is.updating.same.0), is.can.own_is.1)
+
+  in_range : (number : ℕ) → (1 ≤ number) × (number < first.me.0.plan.counts.numbers) → (1 ≤ number) × (number < live.counts.numbers)
+  in_range number there = (there.0, subst (λ (counts : PlainCounts). number < counts.numbers) same_counts there.1)
+
+  pub page_in_range : (number : ℕ) → NeedsPage m number → (1 ≤ number) × (number < live.counts.numbers)
+  page_in_range number needs = in_range number (is.updating.next.reads number needs)
+
+  pub latch_in_range : (number : ℕ) → NeedsLatch m number → number < live.counts.numbers
+  latch_in_range number needs = (in_range number (is.updating.next.latches number needs)).1
+
+  pub write_in_range : (number : ℕ) → NeedsWrite m number → (1 ≤ number) × (number < live.counts.numbers)
+  write_in_range number needs = in_range number (is.updating.next.writes number needs)
+
+  pub unlatch_in_range : (number : ℕ) → NeedsUnlatch m number → number < live.counts.numbers
+  unlatch_in_range number needs = subst (λ (counts : PlainCounts). number < counts.numbers) same_counts (is.updating.next.unlatches number needs)
+
+  -- the next row is there, and the next page number
+  row_is_there : 1 ≤ writes_left m + primes_left m → IsFirst room.rows.next seat.me.0.call.rows × IsRowNumber live.counts room.rows.next
+  row_is_there some =
+      let left = is.updating.left in
+      let left_rows = left.rows in
+      let later = left.later in
+      let same_stop = left.same_stop in
+      let at = ap (λ (s : Span). s.next) is.room_is.0 in
+      let begin = is.can.can_begin.rows in
+      let range = is.can.rows in
+      ((at, omega (arith, at, left_rows, some)), (omega (arith, at, later, range), omega (arith, at, left_rows, some, same_stop, begin, range)))
+
+  pub row_for_page : (number : ℕ) → NeedsWrite m number → IsFirst room.rows.next seat.me.0.call.rows × IsRowNumber live.counts room.rows.next
+  row_for_page number needs = row_is_there (let some = is.updating.next.enough.page_writes (subst IsPageWrite (sym needs) tt) in omega (arith, some))
+
+  pub row_for_new : NeedsNew m → IsFirst room.rows.next seat.me.0.call.rows × IsRowNumber live.counts room.rows.next
+  row_for_new needs = row_is_there (let some = is.updating.next.enough.page_writes (subst IsPageWrite (sym needs) tt) in omega (arith, some))
+
+  pub row_for_prime : NeedsPrimeWrite m → IsFirst room.rows.next seat.me.0.call.rows × IsRowNumber live.counts room.rows.next
+  row_for_prime needs = row_is_there (let some = is.updating.next.enough.prime_writes needs in omega (arith, some))
+
+  pub number_for_new : NeedsNew m → IsFirst room.pages.next seat.me.0.call.pages × IsPageNumber room.pages.next × (room.pages.next < live.counts.numbers)
+  number_for_new needs =
+      let some = is.updating.next.enough.numbers needs in
+      let left = is.updating.left in
+      let left_pages = left.pages in
+      let later = left.later in
+      let same_stop = left.same_stop in
+      let at = ap (λ (s : Span). s.next) is.room_is.1 in
+      let begin = is.can.can_begin.pages in
+      let range = is.can.pages in (
+        (at, omega (arith, at, left_pages, some)),
+        (omega (arith, at, later, range), omega (arith, at, left_pages, some, same_stop, begin, range)),
+        omega (arith, at, left_pages, some, same_stop, begin, range),
+      )
+
+  pub rows_left : IsFirst room.rows.next seat.me.0.call.rows → room.rows.next + 1 ≤ room.rows.stop
+  rows_left first_row =
+      let stop = ap (λ (s : Span). s.stop) is.room_is.0 in
+      let inside = first_row.1 in
+      omega (arith, stop, inside)
+
+  -- after a turn
+  module _ {after : PlainMachine} {next : Seat ℕ View} (same : (next.table_id ≡ seat.table_id) × (next.id ≡ seat.id)) where
+    turned : (then : Room) → Takes m after seat.me next.me → HasLeft begun.0.call next.me.0.call after → (then.rows ≡ next.me.0.call.rows) × (then.pages ≡ next.me.0.call.pages) → IsUnderWay live op own first next after then
+    turned then takes left same_room = record {
+      can = is.can;
+      same_table = (same.0 ∙ is.same_table.0, same.1 ∙ is.same_table.1);
+      updating = updating_on op begun seat.me next.me m after is.updating takes left;
+      room_is = same_room;
+    }
+
+    -- which uses nothing of its room
+    in_its_room : Takes m after seat.me next.me → next.me.0.call ≡ seat.me.0.call → writes_left after ≤ writes_left m → primes_left after ≤ primes_left m → numbers_left after ≤ numbers_left m → IsUnderWay live op own first next after room
+    in_its_room takes same_call writes primes numbers = turned room takes (still_left begun.0.call seat.me.0.call next.me.0.call m after is.updating.left same_call writes primes numbers)
+        (is.room_is.0 ∙ ap (λ (c : Call). c.rows) (sym same_call), is.room_is.1 ∙ ap (λ (c : Call). c.pages) (sym same_call))
+
+    pub after_page : (number row : ℕ) → LoadsPage m number seat.me row after next.me → IsUnderWay live op own first next after room
+    after_page number row loads =
+        let pages = loads.uses.numbers in
+        let writes = loads.uses.page_writes in
+        let primes = loads.uses.prime_writes in
+        in_its_room (page_takes m after number row seat.me next.me is.updating.past_descent is_its_key loads) (ap (λ (x : Sat). x.0.call) loads.is) (omega (arith, writes)) (omega (arith, primes)) (omega (arith, pages))
+
+    pub after_prime : (row : ℕ) → LoadsPrime m seat.me row after next.me → IsUnderWay live op own first next after room
+    after_prime row loads =
+        in_its_room (prime_takes m after row seat.me next.me is.updating.past_descent loads) (ap (λ (x : Sat). x.0.call) loads.is) loads.uses.page_writes loads.uses.prime_writes loads.uses.numbers
+
+    after_done : (kind : Kind) → after ≡ done m 0 → (done m 0).answer ≡ m.answer → GoesOn kind m seat.me next.me → IsUnderWay live op own first next after room
+    after_done kind is_done answers goes =
+        let pages = goes.uses.numbers in
+        let writes = goes.uses.page_writes in
+        let primes = goes.uses.prime_writes in
+        let takes = goes_on_takes kind m seat.me next.me is.updating.past_descent is.updating.knows_own answers goes in
+        in_its_room (subst (λ (k : PlainMachine). Takes m k seat.me next.me) (sym is_done) takes) (ap (λ (x : Sat). x.0.call) goes.is)
+        (subst (λ (k : PlainMachine). writes_left k ≤ writes_left m) (sym is_done) (omega (arith, writes)))
+        (subst (λ (k : PlainMachine). primes_left k ≤ primes_left m) (sym is_done) (omega (arith, primes)))
+        (subst (λ (k : PlainMachine). numbers_left k ≤ numbers_left m) (sym is_done) (omega (arith, pages)))
+
+    pub after_unlatch : (number : ℕ) → NeedsUnlatch m number → after ≡ done m 0 → GoesOn (unlatch number) m seat.me next.me → IsUnderWay live op own first next after room
+    after_unlatch number needs is_done goes = after_done (unlatch number) is_done (unlatch_answers m m.state number needs) goes
+
+    -- or it lost the latch
+    pub after_try : (got : Bool) (number : ℕ) → NeedsLatch m number → (IsTrue got → after ≡ done m 0) → (IsTrue got → GoesOn (latch number) m seat.me next.me) → (¬ IsTrue got → (after ≡ m) × (next.me ≡ seat.me)) → IsUnderWay live op own first next after room
+    after_try true number needs is_done goes lost = after_done (latch number) (is_done refl) (latch_answers m m.state number needs) (goes refl)
+    after_try false number needs is_done goes lost =
+        let same_machine = (lost (λ e. absurd (cc))).0 in
+        let same_view = (lost (λ e. absurd (cc))).1 in record {
+          can = is.can;
+          same_table = (same.0 ∙ is.same_table.0, same.1 ∙ is.same_table.1);
+          updating = subst (λ (x : Sat × PlainMachine). IsUpdating op begun x.0 x.1) (λ i. (sym same_view i, sym same_machine i)) is.updating;
+          room_is = subst (λ (x : Sat). (room.rows ≡ x.0.call.rows) × (room.pages ≡ x.0.call.pages)) (sym same_view) is.room_is;
+        }
+
+    -- which uses a row
+    after_write : (kind : Kind) (pages : Span) (new : ℕ) (then : Room) → after ≡ done m new → Publishes kind pages m (done m new) seat.me next.me
+        → suc (writes_left (done m new) + primes_left (done m new)) ≤ writes_left m + primes_left m → (pages.stop ≡ seat.me.0.call.pages.stop) × (seat.me.0.call.pages.next ≤ pages.next)
+        → pages.next + numbers_left (done m new) ≤ pages.stop → (then.rows ≡ span (suc seat.me.0.call.rows.next) seat.me.0.call.rows.stop) × (then.pages ≡ pages) → IsUnderWay live op own first next after then
+    after_write kind pages new then is_done does writes later numbers same_room =
+        let call : next.me.0.call ≡ record { rows = span (suc seat.me.0.call.rows.next) seat.me.0.call.rows.stop; pages = pages; draft = no_words } = ap (λ (x : Sat). x.0.call) does.is in
+        turned then
+        (subst (λ (k : PlainMachine). Takes m k seat.me next.me) (sym is_done) (publish_takes kind pages m new seat.me next.me is.updating.past_descent does))
+        (subst (λ (k : PlainMachine). HasLeft begun.0.call next.me.0.call k) (sym is_done) (row_is_used begun.0.call seat.me.0.call next.me.0.call pages m (done m new) is.updating.left call writes later numbers))
+        (same_room.0 ∙ sym (ap (λ (c : Call). c.rows) call), same_room.1 ∙ sym (ap (λ (c : Call). c.pages) call))
+
+    pub after_write_page : (number : ℕ) → after ≡ done m 0 → PublishesPage number m seat.me next.me → IsUnderWay live op own first next after (without_row room)
+    after_write_page number is_done does =
+        let pages = does.uses.numbers in
+        let writes = does.uses.page_writes in
+        let primes = does.uses.prime_writes in
+        let left = is.updating.left.pages in
+        after_write (write_page number) seat.me.0.call.pages 0 (without_row room) is_done does (omega (arith, writes, primes)) (refl, omega arith) (omega (arith, pages, left)) (one_less room.rows seat.me.0.call.rows is.room_is.0, is.room_is.1)
+
+    pub after_write_prime : after ≡ done m 0 → PublishesPrime m seat.me next.me → IsUnderWay live op own first next after (without_row room)
+    after_write_prime is_done does =
+        let pages = does.uses.numbers in
+        let writes = does.uses.page_writes in
+        let primes = does.uses.prime_writes in
+        let left = is.updating.left.pages in
+        after_write write_prime seat.me.0.call.pages 0 (without_row room) is_done does (omega (arith, writes, primes)) (refl, omega arith) (omega (arith, pages, left)) (one_less room.rows seat.me.0.call.rows is.room_is.0, is.room_is.1)
+
+    pub after_write_new : NeedsNew m → after ≡ done m room.pages.next → PublishesNew m seat.me next.me → IsUnderWay live op own first next after (without_number (without_row room))
+    after_write_new needs is_done does =
+        let at : room.pages.next ≡ seat.me.0.call.pages.next = ap (λ (s : Span). s.next) is.room_is.1 in
+        let writes = does.uses.page_writes in
+        let primes = does.uses.prime_writes in
+        let left = is.updating.left.pages in
+        let numbers = new_uses_number m (done m seat.me.0.call.pages.next) (write_page seat.me.0.call.pages.next) needs does.uses in
+        after_write (write_page seat.me.0.call.pages.next) (span (suc seat.me.0.call.pages.next) seat.me.0.call.pages.stop) seat.me.0.call.pages.next (without_number (without_row room)) (is_done ∙ ap (done m) at) does
+        (omega (arith, writes, primes)) (refl, omega arith) (omega (arith, numbers, left)) (one_less room.rows seat.me.0.call.rows is.room_is.0, one_less room.pages seat.me.0.call.pages is.room_is.1)
+
+-- ---- its end
+
+pub as_decided : (op : Op) (before share : Share) (m : PlainMachine) (answer : Answer) → HasDecided op before share m → m.answer ≡ Some answer → (answer ≡ answer_of before.entries op) × (share ≡ changed_by op before)
+as_decided op before share m answer (not_yet none is) some = absurd (cc)
+as_decided op before share m answer (decided given is) some = (cc, is)

@@ -1,0 +1,143 @@
+use Rattle.std.proofs.Common.{sym, ◌∙◌, arith}
+use Rattle.blink_live.proofs.changed.UpdatesGoOn as on
+use Rattle.blink_live.proofs.live.Live.turn.Goals as goal
+
+pub read_prime-requires : goal.read_prime-requires
+read_prime-requires c =
+    let is = c.requires.under_way.2 in record {
+      seat = on.is_its_seat is;
+      at = on.is_its_operation is c.requires.goes_on;
+      fits = on.its_words_fit is;
+      needs = sym c.need.ensures ∙ c.in-ReadPrime.is;
+    }
+
+pub read_latched-requires : goal.read_latched-requires
+read_latched-requires c =
+    let is = c.requires.under_way.2 in
+    let needs = sym c.need.ensures ∙ c.in-ReadPage.is in record {
+      seat = on.is_its_seat is;
+      at = on.is_its_operation is c.requires.goes_on;
+      fits = on.its_words_fit is;
+      needs = needs;
+      in_range = on.page_in_range is c.in-ReadPage.number needs;
+    }
+
+pub try_latch-requires : goal.try_latch-requires
+try_latch-requires c =
+    let is = c.requires.under_way.2 in
+    let needs = sym c.need.ensures ∙ c.in-Latch.is in record {
+      seat = on.is_its_seat is;
+      at = on.is_its_operation is c.requires.goes_on;
+      fits = on.its_words_fit is;
+      needs = needs;
+      in_range = on.latch_in_range is c.in-Latch.number needs;
+      own = on.is_its_number is;
+    }
+
+pub let_go-requires : goal.let_go-requires
+let_go-requires c =
+    let is = c.requires.under_way.2 in
+    let needs = sym c.need.ensures ∙ c.in-Unlatch.is in record {
+      seat = on.is_its_seat is;
+      at = on.is_its_operation is c.requires.goes_on;
+      fits = on.its_words_fit is;
+      needs = needs;
+      in_range = on.unlatch_in_range is c.in-Unlatch.number needs;
+    }
+
+pub write_page-requires : goal.write_page-requires
+write_page-requires c =
+    let is = c.requires.under_way.2 in
+    let needs = sym c.need.ensures ∙ c.in-WritePage.is in record {
+      seat = on.is_its_seat is;
+      at = on.is_its_operation is c.requires.goes_on;
+      fits = on.its_words_fit is;
+      needs = needs;
+      in_range = on.write_in_range is c.in-WritePage.number needs;
+      row = on.row_for_page is c.in-WritePage.number needs;
+      blank = is.updating.left.blank;
+      among = on.is_its_key is;
+    }
+
+pub write_prime-requires : goal.write_prime-requires
+write_prime-requires c =
+    let is = c.requires.under_way.2 in
+    let needs = sym c.need.ensures ∙ c.in-WritePrime.is in record {
+      seat = on.is_its_seat is;
+      at = on.is_its_operation is c.requires.goes_on;
+      fits = on.its_words_fit is;
+      needs = needs;
+      row = on.row_for_prime is needs;
+      blank = is.updating.left.blank;
+      among = on.is_its_key is;
+    }
+
+pub write_new-requires : goal.write_new-requires
+write_new-requires c =
+    let is = c.requires.under_way.2 in
+    let needs = sym c.need.ensures ∙ c.in-WriteNew.is in
+    let number = on.number_for_new is needs in record {
+      seat = on.is_its_seat is;
+      at = on.is_its_operation is c.requires.goes_on;
+      fits = on.its_words_fit is;
+      needs = needs;
+      number = number.0;
+      in_range = (number.1, number.2);
+      row = on.row_for_new is needs;
+      blank = is.updating.left.blank;
+      among = on.is_its_key is;
+    }
+
+pub overflow_cast-room : goal.overflow_cast-room
+overflow_cast-room c =
+    let number = on.number_for_new c.requires.under_way.2 (sym c.need.ensures ∙ c.in-WriteNew.is) in
+    let most = number.1.1 in
+    omega (arith, most)
+
+pub overflow_add-room : goal.overflow_add-room
+overflow_add-room c =
+    let number = on.number_for_new c.requires.under_way.2 (sym c.need.ensures ∙ c.in-WriteNew.is) in
+    let most = number.1.1 in
+    omega (arith, most)
+
+pub overflow_add-room-in-WriteNew : goal.overflow_add-room-in-WriteNew
+overflow_add-room-in-WriteNew c =
+    let is = c.requires.under_way.2 in
+    let left = on.rows_left is (on.row_for_new is (sym c.need.ensures ∙ c.in-WriteNew.is)).0 in
+    omega (arith, left)
+
+pub overflow_add-room-in-WritePage : goal.overflow_add-room-in-WritePage
+overflow_add-room-in-WritePage c =
+    let is = c.requires.under_way.2 in
+    let left = on.rows_left is (on.row_for_page is c.in-WritePage.number (sym c.need.ensures ∙ c.in-WritePage.is)).0 in
+    omega (arith, left)
+
+pub overflow_add-room-in-WritePrime : goal.overflow_add-room-in-WritePrime
+overflow_add-room-in-WritePrime c =
+    let is = c.requires.under_way.2 in
+    let left = on.rows_left is (on.row_for_prime is (sym c.need.ensures ∙ c.in-WritePrime.is)).0 in
+    omega (arith, left)
+
+pub returns-in-ReadPrime : goal.returns-in-ReadPrime
+returns-in-ReadPrime c = record { under_way = λ op first is. on.after_prime is c.read_prime.ensures.same c.read_prime.ensures.read.0 c.read_prime.ensures.read.1 }
+
+pub returns-in-ReadPage : goal.returns-in-ReadPage
+returns-in-ReadPage c = record { under_way = λ op first is. on.after_page is c.read_latched.ensures.same c.in-ReadPage.number c.read_latched.ensures.read.0 c.read_latched.ensures.read.1 }
+
+pub returns-in-Latch : goal.returns-in-Latch
+returns-in-Latch c = record {
+  under_way = λ op first is.
+      on.after_try is c.try_latch.ensures.same c.try_latch.result c.in-Latch.number (sym c.need.ensures ∙ c.in-Latch.is) c.try_latch.ensures.moved c.try_latch.ensures.got c.try_latch.ensures.lost;
+}
+
+pub returns-in-Unlatch : goal.returns-in-Unlatch
+returns-in-Unlatch c = record { under_way = λ op first is. on.after_unlatch is c.let_go.ensures.same c.in-Unlatch.number (sym c.need.ensures ∙ c.in-Unlatch.is) c.let_go.ensures.machine c.let_go.ensures.gone }
+
+pub returns-in-WritePage : goal.returns-in-WritePage
+returns-in-WritePage c = record { under_way = λ op first is. on.after_write_page is c.write_page.ensures.same c.in-WritePage.number c.write_page.ensures.machine c.write_page.ensures.published }
+
+pub returns-in-WritePrime : goal.returns-in-WritePrime
+returns-in-WritePrime c = record { under_way = λ op first is. on.after_write_prime is c.write_prime.ensures.same c.write_prime.ensures.machine c.write_prime.ensures.published }
+
+pub returns-in-WriteNew : goal.returns-in-WriteNew
+returns-in-WriteNew c = record { under_way = λ op first is. on.after_write_new is c.write_new.ensures.same (sym c.need.ensures ∙ c.in-WriteNew.is) c.write_new.ensures.machine c.write_new.ensures.published }
