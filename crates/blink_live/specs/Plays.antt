@@ -1,6 +1,5 @@
 -- What each kind of atomic step tells whoever takes it.
-use Rattle.std.specs.Prelude.{◌≡◌, ◌≢◌, ◌⊎◌, ℕ, suc, ◌+◌, ◌<◌, ◌≤◌, Option, Some, None, IsSome, List, length, All, slice_index, Contains}
-use mathlib.Core.List.{IsPrefix}
+use Rattle.std.specs.Prelude.{◌≡◌, ◌≢◌, ◌⊎◌, ℕ, suc, ◌+◌, ◌<◌, ◌≤◌, Option, Some, None, IsSome, List, length, All, slice_index}
 use Rattle.atomic_table.specs.Table.{Step}
 use Rattle.blink_batch.specs.declared.Op.{Op}
 use Rattle.blink_batch.specs.Operation.{answer_at, answer_of, key_of}
@@ -22,8 +21,8 @@ use Rattle.blink_machine.specs.Table.{SeesPrime, WaitsForLevel, SeesPage, done}
 use Rattle.blink_live.specs.declared.view.Change.{Change}
 use Rattle.blink_live.specs.declared.view.Plan.{Plan}
 use Rattle.blink_live.specs.declared.view.Share.{Share}
-use Rattle.blink_live.specs.Changes.{after, states_of, Learns}
-use Rattle.blink_live.specs.Views.{Sat, KnowsItsOwn, for_call, going_on, drafts, changed_by, publishes, reading, forgets_told, learns_of_others, span}
+use Rattle.blink_live.specs.Changes.{after, Learns}
+use Rattle.blink_live.specs.Views.{Sat, KnowsItsOwn, ShowsNoMore, for_call, going_on, drafts, changed_by, publishes, reading, forgets_told, learns_of_others, span}
 use Rattle.blink_live.specs.Words.{AreNumbersIn, AreRowsIn, IsRowNumber, row_start}
 
 -- the number of a page that has a page word
@@ -137,7 +136,7 @@ looks_up st me row then = LooksUp me then
 -- or it has seen no more, but what it was told of its own keys is no more than its own operations made
 pub record LooksBack (me then : Sat) : Type 0 where
   pub is : then ≡ (forgets_told me.0, me.1)
-  pub no_more : (key : ℕ) → Contains me.0.share.keys key → IsPrefix (states_of key me.0.told) (states_of key me.0.share.changes)
+  pub no_more : ShowsNoMore me.0.told me.0.share
 
 abbrev pub looks_back : Step ℕ → Sat → ℕ → Sat → Type 0
 looks_back st me row then = LooksBack me then

@@ -1,5 +1,6 @@
 -- The views of seats: how they begin, and what each kind of step makes of them.
 use Rattle.std.specs.Prelude.{Option, ◌≡◌, ℕ, suc, ◌+◌, ◌≤◌, List, [], ◌∷◌, ◌++◌, length, replicate, slice_set, Some, None, ◌||◌, ◌==◌, Bool, false, filter, Contains}
+use mathlib.Core.List.{IsPrefix}
 use Rattle.atomic_table.specs.Table.{Me}
 use Rattle.blink_batch.specs.declared.Entry.{Entry}
 use Rattle.blink_batch.specs.declared.Op.{Op}
@@ -82,6 +83,10 @@ known_of v key = after (pointer_of v.plan.opening) v.seen key
 -- the changes of its own keys that it has seen are those that its own operations made
 abbrev pub SawItsOwn : View → Type 0
 SawItsOwn v = (key : ℕ) → Contains v.share.keys key → states_of key v.seen ≡ states_of key v.share.changes
+
+-- these changes show of the share's keys none but those that its own operations made, from the first on
+abbrev pub ShowsNoMore : List Change → Share → Type 0
+ShowsNoMore seen share = (key : ℕ) → Contains share.keys key → IsPrefix (states_of key seen) (states_of key share.changes)
 
 -- of its own keys it knows what its share says of them
 pub record KnowsItsOwn (v : View) : Type 0 where

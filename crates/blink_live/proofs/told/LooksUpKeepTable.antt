@@ -1,5 +1,5 @@
 -- A load of the prime block's page word by a pass that was told what another has seen is no step of the tree, and keeps the rule.
-use Rattle.std.proofs.Common.{◌≡◌, ℕ, suc, Option, List, [], get_or, set, refl, sym, subst}
+use Rattle.std.proofs.Common.{◌≡◌, ℕ, suc, List, [], get_or, set, refl, sym, subst}
 use mathlib.Core.Option.{some, none}
 use mathlib.Core.List.{IsPrefix, append-nil}
 use lib.ListN.{get_elem?}
@@ -10,14 +10,13 @@ use Rattle.blink_live.specs.declared.view.Change.{Change}
 use Rattle.blink_live.specs.declared.view.Plan.{Plan}
 use Rattle.blink_live.specs.declared.view.Role.TheVariants.{Pass}
 use Rattle.blink_live.specs.declared.view.View.{View}
-use Rattle.blink_live.specs.Changes.{states_of}
 use Rattle.blink_live.specs.Plays.{looks_back, looks_up}
 use Rattle.blink_live.specs.Rule.{Owners, IsInRole, Knows, IsTable, IsTableAt}
 use Rattle.blink_live.specs.Views.{Sat, forgets_told, learns_of_others}
 use Rattle.blink_live.proofs.table.LoadsKeepTable.{moved, load_knows, load_keeps_with}
 use Rattle.blink_live.proofs.table.MapsWithOneChange.{put_same}
 use Rattle.blink_live.proofs.table.SharesAreKnown.{share_is_known}
-use Rattle.blink_live.proofs.told.StatesOfKeys.{states_of-front}
+use Rattle.blink_live.proofs.told.OwnersAreSeen.{front_shows_no_more}
 
 -- a pass's seat may know no more what it was told
 forgets : (plan : Plan) (owners : Owners) (words : List ℕ) (moment : Moment) (log : List Change) (id : ℕ) (v : View) → v.role ≡ Pass → Knows plan owners words moment log id v → Knows plan owners words moment log id (forgets_told v)
@@ -72,8 +71,5 @@ looks_back_at_prime plan slots id me role s table homes at small =
       keeps,
       tt,
       looks plan s table.0 h id me.0 at role me.0.seen known.saw,
-      record {
-        is = refl;
-        no_more = λ key mine. subst (λ (states : List (Option ℕ)). IsPrefix (states_of key me.0.told) states) ((known.share key mine).changes) (states_of-front key me.0.told h.log known.heard);
-      },
+      record { is = refl; no_more = front_shows_no_more plan h.owners h.log (suc id) me.0.share me.0.told known.share known.heard },
     )

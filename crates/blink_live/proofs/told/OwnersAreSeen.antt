@@ -3,22 +3,25 @@ use Rattle.std.proofs.Common.{◌≡◌, ℕ, Option, List, [], subst}
 use Rattle.std.specs.Prelude.{Contains}
 use mathlib.Core.List.{IsPrefix, append-nil}
 use Rattle.blink_live.specs.declared.view.Change.{Change}
+use Rattle.blink_live.specs.declared.view.Plan.{Plan}
 use Rattle.blink_live.specs.declared.view.Share.{Share}
 use Rattle.blink_live.specs.declared.view.View.{View}
 use Rattle.blink_live.specs.Changes.{states_of}
-use Rattle.blink_live.specs.Views.{SawItsOwn}
+use Rattle.blink_live.specs.Rule.{Owners, IsShare}
+use Rattle.blink_live.specs.Views.{SawItsOwn, ShowsNoMore}
 use Rattle.blink_live.proofs.told.FrontsOfOneList.{front_of_front}
 use Rattle.blink_live.proofs.told.StatesOfKeys.{states_of-front, fronts_of_each_other}
 
--- these changes show of the share's keys no more than its own operations made
-abbrev pub ShowsNoMore : List Change → Share → Type 0
-ShowsNoMore seen share = (key : ℕ) → Contains share.keys key → IsPrefix (states_of key seen) (states_of key share.changes)
+-- a front of the list of changes shows of a share's keys no more than its own operations made: so does what any seat has seen, or was told
+pub front_shows_no_more : (plan : Plan) (owners : Owners) (log : List Change) (owner : ℕ) (share : Share) (seen : List Change) → IsShare plan owners log owner share → IsPrefix seen log → ShowsNoMore seen share
+front_shows_no_more plan owners log owner share seen its_own front key mine =
+    subst (λ (states : List (Option ℕ)). IsPrefix (states_of key seen) states) ((its_own key mine).changes) (states_of-front key seen log front)
 
--- which is what a pass is told that looks back
+-- so it is with what a pass was told that looks back
 pub no_more_of : (seen : List Change) (share : Share) (v : View) → v.told ≡ seen → v.share ≡ share → ShowsNoMore v.told v.share → ShowsNoMore seen share
 no_more_of seen share v told same_share is = subst (λ (x : List Change × Share). ShowsNoMore x.0 x.1) (λ i. (told i, same_share i)) is
 
--- and what one knows that has seen them
+-- and with what one has seen of its own keys
 pub no_more_of_own : (seen : List Change) (share : Share) (v : View) → v.seen ≡ seen → v.share ≡ share → SawItsOwn v → ShowsNoMore seen share
 no_more_of_own seen share v now_seen same_share saw =
     subst (λ (x : List Change × Share). ShowsNoMore x.0 x.1) (λ i. (now_seen i, same_share i))
