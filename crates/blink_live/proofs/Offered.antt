@@ -9,3 +9,5 @@ pub use Rattle.blink_live.proofs.told.FrontsOfOneList.{front_of_front}
 pub use Rattle.blink_live.proofs.told.StatesOfKeys.{states_of-front, after-last_state, after-exactly, fronts_of_each_other, last_state-push}
 -- the entries of a closed table
 pub use Rattle.blink_live.proofs.closed.EntriesOfMerge.{entry-of_share, entry-of_opening}
+-- a pass's latch number is at least the row that its keeper dealt first, and below the one that the keeper deals next
+pub use Rattle.blink_live.proofs.dealt.LatchNumbers.{latch_number-from_keeper, latch_number-before_rest}

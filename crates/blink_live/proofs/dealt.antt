@@ -6,3 +6,4 @@ pub mod FirstOrOneOfRest
 pub mod DealsKeepTable
 pub mod KeeperCanDeal
 pub mod RefusalsOfDeal
+pub mod LatchNumbers

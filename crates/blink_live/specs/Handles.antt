@@ -1,5 +1,5 @@
 -- What a table, its keeper and its passes are for contracts.
-use Rattle.std.specs.Prelude.{◌≡◌, ◌⊎◌, ℕ, ◌+◌, ◌*◌, List, [], ◌++◌, length, Option, Contains}
+use Rattle.std.specs.Prelude.{◌≡◌, ◌⊎◌, ℕ, ◌+◌, ◌-◌, ◌*◌, List, [], ◌++◌, length, Option, Contains}
 use mathlib.Core.List.{IsPrefix}
 use Rattle.blink_batch.specs.declared.Entry.{Entry}
 use Rattle.blink_batch.specs.declared.Op.{Op}
@@ -61,6 +61,10 @@ own_changes_of pass key = states_of key (changes_by pass)
 -- the states of a key that it has seen, in their order
 abbrev pub seen_changes_of : Pass → ℕ → List (Option ℕ)
 seen_changes_of pass key = states_of key (seen_of pass)
+
+-- the number that it puts into the latch words of pages: that of the last row that it was dealt; a pass without rows latches no page
+abbrev pub latch_number_of : Pass → ℕ
+latch_number_of pass = pass.rows.stop - 1
 
 -- of what two passes have seen one is a front of the other
 abbrev pub OneIsFront : List Change → List Change → Type 0
