@@ -1,5 +1,6 @@
 -- The book of a run: what it began with, and the world that its workers' steps have led to.
-use Rattle.std.specs.Prelude.{◌≡◌, ◌↔◌, ℕ, ◌⊎◌, Bool, true, false, Some, List, [], All, slice_get}
+use Rattle.std.specs.Prelude.{◌≡◌, ◌↔◌, ℕ, ◌⊎◌, Bool, true, false, Some, List, [], All, map, slice_get}
+use Rattle.blink_batch.specs.declared.Answer.{Answer}
 use Rattle.blink_batch.specs.declared.Op.{Op}
 use Rattle.blink_batch.specs.Cut.{Assignment}
 use Rattle.blink_store.specs.Store.{PlainStore}
@@ -8,7 +9,7 @@ use Rattle.blink_steps.specs.Counts.{HasMoved}
 use Rattle.blink_steps.specs.Pick.{IsIdleWorker, WouldMove, WouldWait}
 use Rattle.blink_steps.specs.Promises.{HasAnswerAt}
 use Rattle.blink_steps.specs.Run.{PlainRun, Taken}
-use Rattle.blink_steps.specs.World.{PlainWorld, IsWorldOf, TakesStep}
+use Rattle.blink_steps.specs.World.{PlainWorld, HasEnded, IsWorldOf, TakesStep}
 use Rattle.blink_settings.specs.declared.error.RunError.{RunError}
 use Rattle.blink_settings.specs.declared.error.RunError.TheVariants.{TooLarge, OutOfMemory, Foreign}
 use Rattle.blink_locked.specs.declared.book.Turn.{Turn}
@@ -86,3 +87,9 @@ pub record IsNewBook (start : PlainStore) (ops : List Op) (assignment : Assignme
 -- why a book isn't settled
 abbrev pub IsSettleRefusal : RunError → Type 0
 IsSettleRefusal refusal = (refusal ≡ Foreign) ⊎ (refusal ≡ OutOfMemory)
+
+-- it is the book of this run, and all operations have ended, with these answers
+pub record IsAtItsEnd (book : PlainBook) (start : PlainStore) (ops : List Op) (assignment : Assignment) (given : List Answer) : Type 0 where
+  pub run_of : IsRunOf book start ops assignment
+  pub ended : HasEnded book.world.run
+  pub all_given : book.world.run.ledger.answers ≡ map Some given

@@ -4,12 +4,12 @@ ghost use Rattle.blink_batch.specs.Cut.{IsLawfulCut};
 ghost use Rattle.std.specs.Bool.{OnFalse};
 ghost use Rattle.blink_steps.specs.Pick.{WouldMove};
 ghost use Rattle.blink_steps.specs.World.{IsAtLanesEnd, IsStart, IsTooLarge};
-ghost use Rattle.blink_locked.specs.Book.{HasEndedOp, IsBookRefusal, IsNewBook, IsRunOf, IsSettleRefusal, MayTurn, StepsPage, Turns, stopped_book};
+ghost use Rattle.blink_locked.specs.Book.{HasEndedOp, IsAtItsEnd, IsBookRefusal, IsNewBook, IsRunOf, IsSettleRefusal, MayTurn, StepsPage, Turns, stopped_book};
 ghost use Rattle.blink_locked.specs.Run.{IsSettled};
 
+use blink_settings::RunError;
 use blink_batch::{Answer, Batch, Cut, Lanes};
 use blink_rest::Rest;
-use blink_settings::RunError;
 use blink_steps::{Kind, Step, StepError, World, is_too_large};
 use std::alloc::{AllocError, Global};
 use std::marker::Model;
@@ -66,7 +66,12 @@ impl Book {
     /// The book of a run of a batch over a tree, before its first step. Tree, batch and lanes are copied.
     ///
     /// The refusal `TooLarge` comes before memory is asked for.
-    pub fn new(alloc: Global, start: &Rest, batch: &Batch, cut: &Cut) -> Result<Book, RunError>
+    pub fn new(
+        alloc: Global,
+        start: &Rest,
+        batch: &Batch,
+        cut: &Cut,
+    ) -> Result<Book, RunError>
         requires { IsLawfulCut batch.now cut.now.workers cut.now.lanes }
         ensures new { IfOk result (IsNewBook start.now batch.now cut.now) }
         ensures too_large { IsErrOf result RunError.TooLarge ↔ IsTooLarge start.now batch.now }
@@ -181,16 +186,32 @@ impl Book {
             (λ done. IsSettled start.now batch.now cut.now done.0 done.1.items) }
         ensures refused { IfErr result IsSettleRefusal }
     {
+        let answers = self.all_answers(alloc, start, batch, cut)?;
+        Ok((self.world.into_rest(), answers))
+    }
+
+    // The answers, where it is the book of this run, at its end.
+    fn all_answers(
+        &self,
+        alloc: Global,
+        start: &Rest,
+        batch: &Batch,
+        cut: &Cut,
+    ) -> Result<Vec<Answer>, RunError>
+        ensures at_end { IfOk result
+            (λ answers. IsAtItsEnd self.now start.now batch.now cut.now answers.items) }
+        ensures refused { IfErr result IsSettleRefusal }
+    {
         if self.stopped {
             return Err(RunError::OutOfMemory);
         }
         if !self.is_run_of(start, batch, cut) || !self.world.ended() {
             return Err(RunError::Foreign);
         }
-        let Ok(answers) = all_of(alloc, self.world.answers()) else {
-            return Err(RunError::OutOfMemory);
-        };
-        Ok((self.world.into_rest(), answers))
+        match all_of(alloc, self.world.answers()) {
+            Ok(given) => Ok(given),
+            Err(_) => Err(RunError::OutOfMemory),
+        }
     }
 
     // Whether it began with this tree, this batch and these lanes.

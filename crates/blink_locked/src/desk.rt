@@ -65,12 +65,17 @@ impl Desk {
             }
             thread::yield_now();
         }
+        let turn = self.turn_after_sleep(rt, worker, op);
+        self.told(turn)
+    }
+
+    // The turn of a worker that sleeps until the book has changed.
+    fn turn_after_sleep<R: Wait>(&self, rt: &R, worker: u8, op: u32) -> Turn {
         let mut book = self.enter(rt);
         for _ in rt.forever() {
             let turn = book.turn(worker, op);
             if !matches!(turn, Turn::Waits) {
-                drop(book);
-                return self.told(turn);
+                return turn;
             }
             book = self.changed.wait(rt, book);
         }

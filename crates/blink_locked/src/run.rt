@@ -1,10 +1,10 @@
 //! A batch's run on an index, by threads that take each step under one lock.
-ghost use Rattle.std.specs.Prelude.{◌≡◌, ◌↔◌, ◌≤◌, [], length, vec_capacity, IfErr, IfOk, IsErrOf, OnErr, OnOk};
+ghost use Rattle.std.specs.Prelude.{◌≡◌, ◌↔◌, ◌≤◌, [], length, vec_capacity, IfErr, IfOk, IsErrOf, IsOk, OnErr, OnOk};
 ghost use Rattle.blink_batch.specs.Cut.{IsLawfulCut};
 ghost use Rattle.blink_batch.specs.Operation.{answers, map_after_all};
 ghost use Rattle.blink_index.specs.Index.{map_of};
 ghost use Rattle.blink_steps.specs.World.{IsTooLarge};
-ghost use Rattle.blink_locked.specs.Run.{IsReplayed, MayRefuse};
+ghost use Rattle.blink_locked.specs.Run.{IsReplayed, IsSettled, MayRefuse};
 ghost use Rattle.blink_locked.specs.Starts.{AtEach, IsStartRefusal, TellsNext};
 
 use crate::book::Book;
@@ -13,6 +13,7 @@ use crate::gate::Gate;
 use blink_batch::{Answer, Batch, Cut};
 use blink_index::Index;
 use blink_index::laws::no_other_map_is_kept;
+use blink_rest::Rest;
 use blink_settings::{Driver, RunError};
 use std::alloc::Global;
 use std::sync::Wait;
@@ -38,12 +39,32 @@ pub fn run_locked<R: Threads + Wait + Sync, G: Gate + Sync>(
         (MayRefuse Driver.Locked cut.now.workers index.old batch.now) }
     ensures unchanged { OnErr result (index.new ≡ index.old) }
 {
-    let desk = Desk::new(Book::new(alloc, index.rest(), batch, cut)?);
-    run_workers(rt, alloc, &desk, cut, gate)?;
-    let (tree, answers) = desk.into_book().settle(alloc, index.rest(), batch, cut)?;
+    let (tree, answers) = run_book(rt, alloc, index.rest(), batch, cut, gate)?;
     no_other_map_is_kept();
     *index = Index::from_rest(tree);
     Ok(answers)
+}
+
+// Runs it at a book over this tree: the tree that it leaves, and its answers.
+fn run_book<R: Threads + Wait + Sync, G: Gate + Sync>(
+    rt: &R,
+    alloc: Global,
+    start: &Rest,
+    batch: &Batch,
+    cut: &Cut,
+    gate: &G,
+) -> Result<(Rest, Vec<Answer>), RunError>
+    requires { IsLawfulCut batch.now cut.now.workers cut.now.lanes }
+    ensures settled { IfOk result
+        (λ done. IsSettled start.now batch.now cut.now done.0 done.1.items) }
+    ensures fits { IsOk result → ¬ IsTooLarge start.now batch.now }
+    ensures refused { IfErr result
+        (MayRefuse Driver.Locked cut.now.workers start.now batch.now) }
+{
+    let book = Book::new(alloc, start, batch, cut)?;
+    let desk = Desk::new(book);
+    run_workers(rt, alloc, &desk, cut, gate)?;
+    desk.into_book().settle(alloc, start, batch, cut)
 }
 
 /// The promise of a worker's thread at a desk: nothing but whose it is.

@@ -1,12 +1,13 @@
 -- A lane's run so far: what the operations that it has run leave of its pass, and what it has answered.
-use Rattle.std.proofs.Common.{◌≡◌, ℕ, ◌+◌, ◌<◌, ◌≤◌, List, [], ◌∷◌, ◌++◌, length, get_or, drop, Some, Bool, refl, ap, sym, ◌∙◌, subst, arith}
+use Rattle.std.proofs.Common.{◌≡◌, ℕ, ◌+◌, ◌<◌, ◌≤◌, List, [], ◌∷◌, ◌++◌, length, get_or, drop, Some, Ok, Err, Bool, refl, ap, sym, ◌∙◌, subst, arith}
 use mathlib.Core.Bool.{cond}
-use Rattle.std.specs.Prelude.{Contains, count_by, vec_capacity}
+use Rattle.std.specs.Prelude.{Contains, IsErrOf, IsOk, Result, count_by, vec_capacity}
 use Rattle.std.proofs.lemmas.List.{length-append}
 use Rattle.std.proofs.lemmas.List.Elements.{Contains-append_right}
 use Rattle.std.proofs.lemmas.List.Sums.{sum_by-append}
 use Rattle.std.proofs.lemmas.Option.{slice_get-get_or}
 use Rattle.std.specs.List.{slice_get}
+use Rattle.blink_batch.specs.declared.Answer.{Answer}
 use Rattle.blink_batch.specs.declared.Op.{Op}
 use Rattle.blink_batch.specs.declared.Op.TheVariants.{Find}
 use Rattle.blink_batch.specs.Order.{operations_at, part_of, places_from}
@@ -14,6 +15,8 @@ use Rattle.blink_batch.specs.Batch.{is_insert}
 use Rattle.blink_batch.specs.Operation.{answer_of, answers, key_of, map_after_all}
 use Rattle.blink_batch.proofs.Offered.{answers-push, length-answers, map_after_all-push}
 use Rattle.blink_live.specs.declared.Live.{Live}
+use Rattle.blink_live.specs.declared.PassError.{PassError}
+use Rattle.blink_live.specs.declared.PassError.TheVariants.{NotYours, Spent}
 use Rattle.blink_live.specs.Allowed.{inserts_left, deletes_left}
 use Rattle.blink_live.specs.Handles.{IsPassOf, keys_of, share_of}
 use Rattle.blink_run.specs.declared.live.lane.LaneRun.{LaneRun}
@@ -126,3 +129,11 @@ pub ended_here : (live : Live) (ops : List Op) (lanes : List ℕ) (worker place 
     → HasDone live (lane_so_far ops lanes worker place) before run → HasRun live (lane_ops ops lanes worker) run
 ended_here live ops lanes worker place before run past may so_far =
     all_done live before (lane_ops ops lanes worker) run may (subst (λ (done : List Op). HasDone live done before run) (lane_so_far-all ops lanes worker place past) so_far)
+
+-- ---- a call of a pass
+
+-- a call that is refused in neither way isn't refused
+pub not_refused : (given : Result Answer PassError) → (¬ IsErrOf given NotYours) → (¬ IsErrOf given Spent) → IsOk given
+not_refused (Ok answer) yours left = search
+not_refused (Err NotYours) yours left = absurd (yours refl)
+not_refused (Err Spent) yours left = absurd (left refl)

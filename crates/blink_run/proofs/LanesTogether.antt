@@ -21,7 +21,7 @@ use Rattle.blink_live.specs.Handles.{IsPassOf, opening_of, passes_dealt}
 use Rattle.blink_live.specs.Merge.{IsMerge}
 use Rattle.blink_store.proofs.Offered.{same_at_each}
 use Rattle.blink_run.specs.declared.live.lane.LaneRun.{LaneRun}
-use Rattle.blink_run.specs.Lanes.{AreGathered, HasDealtAll, HasRun, HaveRun, IsKeyOfOne, lane_ops, rank_in_lane}
+use Rattle.blink_run.specs.Lanes.{AreGathered, HasDealtAll, HasRun, HaveRun, HaveRunLanes, IsKeyOfOne, lane_ops, rank_in_lane}
 use Rattle.blink_run.proofs.LaneSoFar.{lane_parts, lane_so_far}
 
 -- what stands at a place
@@ -131,3 +131,25 @@ module _ (live : Live) (ops : List Op) (workers : ℕ) (lanes : List ℕ) (runs 
         none place found.0 (slice_get-get_or ops place found.0 within ∙ ap Some at) found.2)
         ∙ (ap (λ (kept : List Entry). pointer_of kept key) opening ∙ sym (untouched_by_batch m ops key none))
   ])
+
+-- ---- passes and answers that are given together
+
+module _ (live : Live) (ops : List Op) (workers : ℕ) (lanes : List ℕ) (passes : List Pass) (given : List Answer) (lawful : IsLawfulCut ops workers lanes) (ran : HaveRunLanes live ops workers lanes passes given) where
+  -- each pass is the table's
+  pub passes_are_its : All (IsPassOf live) passes
+  passes_are_its = subst (λ (all : List Pass). All (IsPassOf live) all) (sym ran.its_passes) (its_passes live ops workers lanes ran.runs lawful ran.have_run)
+
+  -- none is missing
+  pub no_pass_missing : (keeper : Keeper) → HasDealtAll live ops workers keeper → ¬ (length passes < passes_dealt keeper)
+  no_pass_missing keeper dealt =
+      subst (λ (all : List Pass). ¬ (length all < passes_dealt keeper)) (sym ran.its_passes) (none_missing live ops workers lanes ran.runs lawful ran.have_run keeper dealt)
+
+  -- the answers are one thread's
+  pub given_answers : (m : List Entry) → opening_of live ≡ m → given ≡ answers m ops
+  given_answers m opening = all_answers live ops workers lanes ran.runs lawful ran.have_run m opening given ran.gathered
+
+  -- and so are the entries
+  pub merged_entries : (m entries : List Entry) (keeper : Keeper) → opening_of live ≡ m → HasDealtAll live ops workers keeper → IsMerge live keeper passes entries → IsAscending m → IsAscending entries
+      → entries ≡ map_after_all m ops
+  merged_entries m entries keeper opening dealt merge up_m up =
+      all_entries live ops workers lanes ran.runs lawful ran.have_run m entries keeper opening dealt (subst (λ (all : List Pass). IsMerge live keeper all entries) ran.its_passes merge) up_m up

@@ -3,10 +3,10 @@ pub mod LinesOfEntries
 pub mod ReplayOfBatch
 pub mod PartsAreServed
 pub mod ReplayOfParts
+pub mod TooLargeAmong
 pub mod PartsRunBySettings
 pub mod FirstThatIsNoWorker
 pub mod LaneSoFar
-pub mod CallsOfPass
 pub mod LaneRuns
 pub mod GatheredSoFar
 pub mod LanesTogether

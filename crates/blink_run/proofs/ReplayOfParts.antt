@@ -1,13 +1,13 @@
 -- A replay of parts one after another: what those that are left will add to what is told.
-use Rattle.std.proofs.Common.{◌≡◌, ℕ, List, [], ◌∷◌, ◌++◌, Option, Some, Ok, count_by, length, refl, ap, sym, ◌∙◌, subst, append_assoc, append-nil, arith}
+use Rattle.std.proofs.Common.{◌≡◌, ℕ, List, [], ◌∷◌, ◌++◌, Option, Ok, count_by, length, refl, ap, sym, ◌∙◌, subst, append_assoc, append-nil, arith}
 use Rattle.blink_batch.specs.declared.Part.{Part}
 use Rattle.blink_batch.specs.declared.Part.TheVariants.{Batch}
-use Rattle.blink_batch.specs.Script.{ReadsAs, records_of}
+use Rattle.blink_batch.specs.Script.{ReadsAs}
 use Rattle.blink_index.specs.Dump.{text_of_store}
 use Rattle.blink_index.specs.Index.{map_of}
 use Rattle.blink_store.specs.Store.{PlainStore, new_store}
 use Rattle.blink_run.specs.Served.{is_batch, part_after, part_text, script_text}
-use Rattle.blink_run.specs.ServedReplay.{IsReplayText, RunsParts, TellsPart, TellsParts, taken_where}
+use Rattle.blink_run.specs.ServedReplay.{AreTexts, AreToWrite, RunsParts, TellsPart, TellsParts, taken_where}
 
 -- what is told of some first parts, from one tree to another: with what the others add it is told of all
 pub record IsToldWith (workers : ℕ) (schedule : List ℕ) (start : PlainStore) (parts : List Part) (old_trace old_text : List ℕ) (others : List Part) (tree : PlainStore) (trace text : List ℕ) (left : ℕ) : Type 0 where
@@ -55,15 +55,25 @@ pub no_part : (parts : List Part) → length parts ≡ 0 → parts ≡ []
 no_part [] none = refl
 no_part (part ∷ parts) none = absurd (omega arith)
 
--- of a script that is read and replayed on a new index, trace, text and pages are the text of its replay
-pub is_replay_text : (workers fan : ℕ) (schedule : List ℕ) (to_read : Option (List ℕ)) (parts : List Part) (start after : PlainStore) (old_trace old_text trace text pages : List ℕ) → ReadsAs to_read (Ok parts)
+-- trace, text and pages of parts that are replayed on a new index, where nothing was told before
+pub are_texts : (workers fan : ℕ) (schedule : List ℕ) (parts : List Part) (start after : PlainStore) (old_trace old_text trace text pages : List ℕ)
     → start ≡ new_store fan → map_of start ≡ [] → old_trace ≡ [] → old_text ≡ [] → TellsParts workers schedule start parts old_trace trace after → text ≡ old_text ++ script_text (map_of start) parts → pages ≡ text_of_store after
-    → (read : List ℕ) → to_read ≡ Some read → IsReplayText workers fan schedule (records_of read) (trace ++ (text ++ pages))
-is_replay_text workers fan schedule to_read parts start after old_trace old_text trace text pages reads new_one empty no_trace no_text tells same_text same_pages read known = record {
+    → AreTexts workers fan schedule parts trace text pages
+are_texts workers fan schedule parts start after old_trace old_text trace text pages new_one empty no_trace no_text tells same_text same_pages = record {
+  after = after;
+  runs = subst (λ (t : List ℕ). RunsParts workers schedule (new_store fan) parts after t) (sym (rw no_trace at tells.2)) (subst (λ (store : PlainStore). RunsParts workers schedule store parts after tells.0) new_one tells.1);
+  same_text = same_text ∙ rw (no_text, empty) refl;
+  same_pages = same_pages;
+}
+
+-- of a script that is read they are the text of its replay
+pub are_to_write : (workers fan : ℕ) (schedule : List ℕ) (to_read : Option (List ℕ)) (parts : List Part) (trace text pages : List ℕ) → ReadsAs to_read (Ok parts)
+    → AreTexts workers fan schedule parts trace text pages → AreToWrite workers fan schedule to_read (trace ++ (text ++ pages))
+are_to_write workers fan schedule to_read parts trace text pages reads texts = λ read known. record {
   parts = parts;
   a_script = reads read known;
-  after = after;
-  trace = tells.0;
-  runs = rw new_one at tells.1;
-  its_text = rw (tells.2, no_trace, same_text, no_text, empty, same_pages) refl;
+  after = texts.after;
+  trace = trace;
+  runs = texts.runs;
+  its_text = rw (texts.same_text, texts.same_pages) refl;
 }

@@ -5,7 +5,7 @@ use Rattle.blink_batch.specs.declared.Part.{Part}
 use Rattle.blink_batch.specs.declared.Part.TheVariants.{Batch}
 use Rattle.blink_batch.specs.Script.{ReadsAs, records_of}
 use Rattle.blink_run.specs.Outlet.{BreaksOff, GoesOut, KeepsFlushed, TakesOffered}
-use Rattle.blink_run.specs.Served.{IsFrontOf, IsTextOf, IsTextBefore, LeavesFlushed, LeavesLines, Serves, WritesText, WroteBefore, script_text}
+use Rattle.blink_run.specs.Served.{IsAScript, IsFrontOf, IsTextOf, IsTextBefore, LeavesFlushed, LeavesLines, Serves, TellsFault, WritesText, WroteBefore, script_text}
 use Rattle.blink_settings.specs.declared.error.ServeError.{ServeError}
 use Rattle.blink_settings.specs.declared.error.ServeError.TheVariants as serve
 use Rattle.blink_run.proofs.OutletsTake.{appends_kept, takes_front, takes_poured, takes_whole}
@@ -22,6 +22,10 @@ known_after (Some xs) (Some ys) written text known grows =
 writes_text : (is_text : List (List (List ℕ)) → List ℕ → Type 0) (to_read before after : Option (List ℕ)) (text : List ℕ) → ((read : List ℕ) → to_read ≡ Some read → is_text (records_of read) text) → Appends before after text
     → WritesText is_text to_read before after
 writes_text is_text to_read before after text is grows = λ read written known known_before. (text, is read known, known_after before after written text known_before grows)
+
+-- what is read as parts is a script
+pub is_a_script : (to_read : Option (List ℕ)) (parts : List Part) → ReadsAs to_read (Ok parts) → IsAScript to_read
+is_a_script to_read parts reads = λ read known. (parts, reads read known)
 
 module _ {W : Type 0} (contents : W → Option (List ℕ)) (to_read : Option (List ℕ)) (before after : W) where
   -- the whole of such a text
@@ -70,6 +74,14 @@ module _ {W : Type 0} (contents : W → Option (List ℕ)) (to_read : Option (Li
           (lines.0, lines.1, is_before lines.0 lines.1 lines.2.in_order read known),
           known_after (contents before) (contents after) written (script_text [] lines.0) known_before (wrote_front left.0 lines.0 lines.1 lines.2 left.2),
         )
+
+    -- and none of it is of the script itself
+    pub fault_told : (error : ServeError) → LeavesFlushed (TakesOffered contents) (KeepsFlushed contents) [] parts error before after → TellsFault to_read error
+    fault_told (serve.Script error) left = absurd left.1
+    fault_told (serve.Run number error) left = is_a_script to_read parts reads
+    fault_told (serve.Step error) left = absurd left.1
+    fault_told serve.Output left = is_a_script to_read parts reads
+    fault_told serve.OutOfMemory left = is_a_script to_read parts reads
 
   -- where nothing was written yet, no part's lines were
   pub none_written : (parts : List Part) → ReadsAs to_read (Ok parts) → after ≡ before → LeavesLines to_read serve.OutOfMemory (contents before) (contents after)

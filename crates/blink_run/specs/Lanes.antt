@@ -1,5 +1,5 @@
 -- What workers' lanes do at a table of words, each with a pass of its own.
-use Rattle.std.specs.Prelude.{◌≡◌, ◌↔◌, ℕ, ◌+◌, ◌<◌, ◌≤◌, Some, List, [], ◌∷◌, length, Bool, true, false, Contains, count_by, slice_get, take, vec_capacity, vec_len}
+use Rattle.std.specs.Prelude.{◌≡◌, ◌↔◌, ℕ, ◌+◌, ◌<◌, ◌≤◌, Some, List, [], ◌∷◌, length, Bool, true, false, Contains, count_by, map, slice_get, take, vec_capacity, vec_len}
 use Rattle.blink_batch.specs.declared.Answer.{Answer}
 use Rattle.blink_batch.specs.declared.Entry.{Entry}
 use Rattle.blink_batch.specs.declared.Op.{Op}
@@ -124,3 +124,10 @@ pub record AreGathered (lanes : List ℕ) (runs : List LaneRun) (given : List An
   pub one_each : length given ≡ length lanes
   pub each : (place worker : ℕ) (run : LaneRun) → slice_get lanes place ≡ Some worker → slice_get runs worker ≡ Some run
       → slice_get given place ≡ slice_get run.answers.items (rank_in_lane lanes worker place)
+
+-- all lanes have run: these are their passes, and the answers, place by place
+pub record HaveRunLanes (live : Live) (ops : List Op) (workers : ℕ) (lanes : List ℕ) (passes : List Pass) (given : List Answer) : Type 0 where
+  pub runs : List LaneRun
+  pub have_run : HaveRun live ops workers lanes runs
+  pub its_passes : passes ≡ map (λ run. run.pass) runs
+  pub gathered : AreGathered lanes runs given

@@ -1,11 +1,14 @@
 -- A batch's replay: the turns of a schedule, of which there is a trace, and then picked turns to the end.
-use Rattle.std.specs.Prelude.{◌≡◌, ◌⊎◌, ℕ, List, ◌++◌}
+use Rattle.std.specs.Prelude.{◌≡◌, ◌⊎◌, ℕ, Some, List, ◌++◌, map}
+use Rattle.blink_batch.specs.declared.Answer.{Answer}
 use Rattle.blink_batch.specs.declared.Op.{Op}
+use Rattle.blink_batch.specs.Text.{text_of}
 use Rattle.blink_batch.specs.Cut.{Assignment}
 use Rattle.blink_store.specs.Store.{PlainStore}
 use Rattle.blink_steps.specs.Pick.{GoesOnPicked}
+use Rattle.blink_steps.specs.Promises.{IsPromised}
 use Rattle.blink_steps.specs.Run.{Taken}
-use Rattle.blink_steps.specs.World.{PlainWorld, IsReplay, IsWorldOf, HasEnded, IsTooLarge, SameBatch}
+use Rattle.blink_steps.specs.World.{PlainWorld, IsReplay, IsWorldOf, HasEnded, IsTooLarge, KeepsItsStart, SameBatch}
 use Rattle.blink_steps.specs.declared.StepError.TheVariants as step
 use Rattle.blink_settings.specs.declared.error.ServeError.{ServeError}
 use Rattle.blink_settings.specs.declared.error.ServeError.TheVariants.{Step, OutOfMemory}
@@ -43,6 +46,22 @@ pub record IsTraced (old : PlainWorld) (schedule : List ℕ) (new : PlainWorld) 
 -- the trace is told behind what was told before
 abbrev pub TellsSteps : PlainWorld → List ℕ → PlainWorld → List ℕ → List ℕ → Type 0
 TellsSteps old schedule new before after = (trace : List ℕ) × IsTraced old schedule new trace × (after ≡ before ++ trace)
+
+-- a world goes on by a turn for each number of the schedule, which the trace tells, and by picked turns to the end, with these answers
+pub record IsRunToEnd (old : PlainWorld) (schedule : List ℕ) (new : PlainWorld) (trace : List ℕ) (given : List Answer) : Type 0 where
+  pub replayed : PlainWorld
+  pub traced : IsTraced old schedule replayed trace
+  pub picked : GoesOnPicked replayed new
+  pub same_start : KeepsItsStart replayed new
+  pub same_batch : SameBatch replayed.run new.run
+  pub promised : IsPromised new
+  pub ended : HasEnded new.run
+  pub all_given : new.run.ledger.answers ≡ map Some given
+
+-- the trace is told behind what was told before, and so is the text of the answers
+abbrev pub TellsRun : PlainWorld → List ℕ → PlainWorld → List ℕ → List ℕ → List ℕ → List ℕ → Type 0
+TellsRun old schedule new trace_before trace_after text_before text_after = (trace : List ℕ) × (given : List Answer) × IsRunToEnd old schedule new trace given
+    × (trace_after ≡ trace_before ++ trace) × (text_after ≡ text_before ++ text_of given)
 
 -- memory is refused, to a step or to the trace
 abbrev pub IsRefusedMemory : ServeError → Type 0

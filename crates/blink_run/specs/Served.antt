@@ -81,13 +81,15 @@ IsTextOfFront records text = (front : List Part) × (rest : List Part) × IsText
 abbrev pub IsFrontOf : (List (List (List ℕ)) → List ℕ → Type 0) → List (List (List ℕ)) → List ℕ → Type 0
 IsFrontOf is_text records text = (rest : List ℕ) × is_text records (text ++ rest)
 
--- a refusal of the script is the reader's own, and no step is refused by itself
+-- what is to be read is a script
+abbrev pub IsAScript : Option (List ℕ) → Type 0
+IsAScript to_read = (read : List ℕ) → to_read ≡ Some read → (parts : List Part) × (script_of (records_of read) ≡ Ok parts)
+
+-- a refusal of the script is the reader's own, and after every other what was read is a script; no step is refused by itself
 abbrev pub TellsFault : Option (List ℕ) → ServeError → Type 0
 TellsFault to_read (serve.Script error) = IsReadable error × TellsRefusal to_read error
-TellsFault to_read (serve.Run number error) = ⊤
 TellsFault to_read (serve.Step error) = ⊥
-TellsFault to_read serve.Output = ⊤
-TellsFault to_read serve.OutOfMemory = ⊤
+TellsFault to_read error = IsAScript to_read
 
 -- after a refusal of the script nothing was written, and after one of a run or of memory exactly the lines of the parts before;
 -- where the writer failed a beginning of the text of all parts was

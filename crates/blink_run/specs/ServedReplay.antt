@@ -1,15 +1,16 @@
 -- What a replay of a script writes: the trace of its last batch, the text of its parts, and the pages that it ends with.
-use Rattle.std.specs.Prelude.{ℕ, ◌≡◌, ◌⊎◌, ◌==◌, List, [], ◌∷◌, ◌++◌, Option, Ok, if◌then◌else◌, count_by, ⊤}
+use Rattle.std.specs.Prelude.{ℕ, ◌≡◌, ◌⊎◌, ◌==◌, List, [], ◌∷◌, ◌++◌, Option, Some, Ok, if◌then◌else◌, count_by, ⊤}
 use Rattle.std.specs.Io.KnownBytes.{Keeps}
+use Rattle.blink_batch.specs.declared.Op.{Op}
 use Rattle.blink_batch.specs.declared.Part.{Part}
 use Rattle.blink_batch.specs.declared.Part.TheVariants.{Batch}
-use Rattle.blink_batch.specs.Script.{IsReadable, TellsRefusal, script_of}
+use Rattle.blink_batch.specs.Script.{IsReadable, TellsRefusal, records_of, script_of}
 use Rattle.blink_index.specs.Dump.{text_of_store}
 use Rattle.blink_store.specs.Store.{PlainStore, new_store}
 use Rattle.blink_steps.specs.declared.StepError.TheVariants as step
-use Rattle.blink_steps.specs.World.{IsFirstNoWorker}
-use Rattle.blink_run.specs.Replay.{IsRefusedMemory, RunsBatch, TellsBatch}
-use Rattle.blink_run.specs.Served.{IsFrontOf, WritesText, is_batch, script_text}
+use Rattle.blink_steps.specs.World.{IsFirstNoWorker, IsTooLarge}
+use Rattle.blink_run.specs.Replay.{IsRefusedMemory, IsReplayFault, RunsBatch, TellsBatch}
+use Rattle.blink_run.specs.Served.{IsAScript, IsFrontOf, WritesText, is_batch, script_text}
 use Rattle.blink_settings.specs.declared.error.ServeError.{ServeError}
 use Rattle.blink_settings.specs.declared.error.ServeError.TheVariants as serve
 
@@ -66,6 +67,25 @@ LeavesReplay workers fan schedule to_read (serve.Step error) before after = Keep
 LeavesReplay workers fan schedule to_read serve.Output before after = WritesText (IsFrontOf (IsReplayText workers fan schedule)) to_read before after
 LeavesReplay workers fan schedule to_read serve.OutOfMemory before after = Keeps before after
 
+-- one of the parts is a batch that is too large for the tree that the parts before it leave
+pub record HaveTooLarge (workers : ℕ) (before : PlainStore) (parts : List Part) : Type 0 where
+  pub front : List Part
+  pub ops : List Op
+  pub rest : List Part
+  pub in_order : parts ≡ front ++ Batch ops ∷ rest
+  pub between : PlainStore
+  pub ran : HaveRunParts workers before front between
+  pub too_large : IsTooLarge between ops
+
+-- what else a refusal tells of what was read: where a batch is told as too large, there is such a batch; and where the script isn't
+-- what is refused, it is one
+abbrev pub TellsReplayOf : ℕ → ℕ → Option (List ℕ) → ServeError → Type 0
+TellsReplayOf workers fan to_read (serve.Script error) = ⊤
+TellsReplayOf workers fan to_read (serve.Step (step.NoWorker worker)) = ⊤
+TellsReplayOf workers fan to_read (serve.Step step.TooLarge) = (read : List ℕ) → to_read ≡ Some read
+    → (parts : List Part) × (script_of (records_of read) ≡ Ok parts) × HaveTooLarge workers (new_store fan) parts
+TellsReplayOf workers fan to_read error = IsAScript to_read
+
 -- ---- parts one after another, on the way
 
 -- the trace of a part's batch is told behind what was told before; what is no batch changes nothing
@@ -77,6 +97,26 @@ TellsPart workers schedule before part old new after = (after ≡ before) × (ne
 abbrev pub TellsParts : ℕ → List ℕ → PlainStore → List Part → List ℕ → List ℕ → PlainStore → Type 0
 TellsParts workers schedule before parts old new after =
     (trace : List ℕ) × RunsParts workers schedule before parts after trace × (new ≡ old ++ trace)
+
+-- why a part isn't run to its end: it is a batch that is too large for this tree, or memory was refused
+abbrev pub IsPartRefusal : PlainStore → Part → ServeError → Type 0
+IsPartRefusal before (Batch ops) error = IsReplayFault before ops error
+IsPartRefusal before part error = IsRefusedMemory error
+
+-- where it is told that a batch among parts is too large, one is
+abbrev pub TellsTooLarge : ℕ → PlainStore → List Part → ServeError → Type 0
+TellsTooLarge workers before parts error = error ≡ serve.Step step.TooLarge → HaveTooLarge workers before parts
+
+-- these are the trace, the text and the pages of a replay of parts on a new tree
+pub record AreTexts (workers fan : ℕ) (schedule : List ℕ) (parts : List Part) (trace text pages : List ℕ) : Type 0 where
+  pub after : PlainStore
+  pub runs : RunsParts workers schedule (new_store fan) parts after trace
+  pub same_text : text ≡ script_text [] parts
+  pub same_pages : pages ≡ text_of_store after
+
+-- this is the text of the replay of what is read
+abbrev pub AreToWrite : ℕ → ℕ → List ℕ → Option (List ℕ) → List ℕ → Type 0
+AreToWrite workers fan schedule to_read text = (read : List ℕ) → to_read ≡ Some read → IsReplayText workers fan schedule (records_of read) text
 
 -- why parts aren't run to their end: a batch is too large for its tree, or memory was refused
 abbrev pub IsPartsFault : ServeError → Type 0

@@ -6,8 +6,9 @@ ghost use Rattle.blink_batch.specs.Batch.{is_insert};
 ghost use Rattle.blink_batch.specs.PlainMap.{IsAscending};
 ghost use Rattle.blink_index.specs.Index.{map_of};
 ghost use Rattle.blink_live.specs.Gathered.{IsNumberedInOrder};
-ghost use Rattle.blink_run.specs.Lanes.{uses_deletion};
+ghost use Rattle.blink_run.specs.Lanes.{HasDealtAll, HaveRunLanes, IsNewKeeper, uses_deletion};
 ghost use Rattle.blink_locked.specs.Run.{MayRefuse};
+ghost use Rattle.blink_locked.specs.Starts.{IsStartRefusal};
 ghost use Rattle.blink_steps.specs.World.{IsTooLarge};
 
 mod dealing;
@@ -21,7 +22,7 @@ use blink_locked::Gate;
 use blink_settings::Driver;
 use blink_batch::{Answer, Batch, Cut, Op};
 use blink_index::Index;
-use blink_live::{Live, LiveError};
+use blink_live::{Keeper, Live, LiveError, Pass};
 use blink_rows::Allowance;
 use dealing::deal_all;
 use gathering::{gathered, passes_of};
@@ -53,16 +54,7 @@ pub(crate) fn run_live<R: Threads + Wait + Sync, G: Gate + Sync>(
         Err(LiveError::TooLarge) => return Err(RunError::TooLarge),
         Err(_) => return Err(RunError::OutOfMemory),
     };
-    let Ok(runs) = deal_all(alloc, &live, &mut keeper, batch, cut) else {
-        return Err(RunError::OutOfMemory);
-    };
-    let ended = run_all(rt, alloc, &live, gate, batch, cut, runs)?;
-    let Ok(answers) = gathered(alloc, cut, &ended) else {
-        return Err(RunError::OutOfMemory);
-    };
-    let Ok(passes) = passes_of(alloc, ended) else {
-        return Err(RunError::OutOfMemory);
-    };
+    let (passes, answers) = run_passes(rt, alloc, &live, &mut keeper, batch, cut, gate)?;
     match live.close(alloc, keeper, passes) {
         Ok(closed) => {
             entries_ascend(index);
@@ -72,6 +64,36 @@ pub(crate) fn run_live<R: Threads + Wait + Sync, G: Gate + Sync>(
         }
         Err(LiveError::OutOfMemory) => Err(RunError::OutOfMemory),
         Err(_) => unreachable!(),
+    }
+}
+
+// Deals each lane a pass and runs it to its end: the passes, and the answers of all lanes, place by place.
+fn run_passes<R: Threads + Wait + Sync, G: Gate + Sync>(
+    rt: &R,
+    alloc: Global,
+    live: &Live,
+    keeper: &mut Keeper,
+    batch: &Batch,
+    cut: &Cut,
+    gate: &G,
+) -> Result<(Vec<Pass>, Vec<Answer>), RunError>
+    requires cut { IsLawfulCut batch.now cut.now.workers cut.now.lanes }
+    requires keeper { IsNewKeeper live.now batch.now keeper.old }
+    ensures run { IfOk result (λ done. HaveRunLanes live.now batch.now cut.now.workers cut.now.lanes
+        done.0.items done.1.items) }
+    ensures dealt { IfOk result (λ _. HasDealtAll live.now batch.now cut.now.workers keeper.new) }
+    ensures refused { IfErr result (IsStartRefusal cut.now.workers) }
+{
+    let Ok(runs) = deal_all(alloc, live, keeper, batch, cut) else {
+        return Err(RunError::OutOfMemory);
+    };
+    let ended = run_all(rt, alloc, live, gate, batch, cut, runs)?;
+    let Ok(answers) = gathered(alloc, cut, &ended) else {
+        return Err(RunError::OutOfMemory);
+    };
+    match passes_of(alloc, ended) {
+        Ok(passes) => Ok((passes, answers)),
+        Err(_) => Err(RunError::OutOfMemory),
     }
 }
 

@@ -1,14 +1,16 @@
 //! A script served by a replay, without threads.
-ghost use Rattle.std.specs.Prelude.{◌≡◌, ◌<◌, ◌++◌, ◌↔◌, All, Err, IfOk, IfErr, OnOk, MatchOption, count_by, string_bytes};
+ghost use Rattle.std.specs.Prelude.{◌≡◌, ◌<◌, ◌++◌, ◌↔◌, [], All, Err, IfOk, IfErr, IsErrOf, IsOk, OnOk, MatchOption, count_by, string_bytes};
 ghost use Rattle.blink_batch.specs.Cut.{IsLawfulCut, MayWork};
 ghost use Rattle.blink_batch.specs.Operation.{answers, map_after_all};
 ghost use Rattle.blink_batch.specs.Text.{text_of};
 ghost use Rattle.blink_index.specs.Index.{map_of};
-ghost use Rattle.blink_steps.specs.World.{IsFirstNoWorker};
+ghost use Rattle.blink_steps.specs.World.{IsFirstNoWorker, IsStart};
+ghost use Rattle.blink_store.specs.Store.{new_store};
 ghost use Rattle.blink_run.specs.Outlet.{BreaksOff, GoesOut, Pours};
-ghost use Rattle.blink_run.specs.Replay.{IsReplayFault, TellsBatch, by_residue};
+ghost use Rattle.blink_run.specs.Replay.{IsRefusedMemory, IsReplayFault, TellsBatch, TellsRun, by_residue};
 ghost use Rattle.blink_run.specs.Served.{is_batch, part_after, part_text, script_text};
-ghost use Rattle.blink_run.specs.ServedReplay.{HaveRunParts, IsPartsFault, LeavesReplay, Replays, TellsPart, TellsParts, TellsReplayFault, TellsWorkersFault, taken_where};
+ghost use Rattle.blink_settings.specs.Settings.{lanes_by_residue};
+ghost use Rattle.blink_run.specs.ServedReplay.{AreTexts, AreToWrite, HaveRunParts, IsPartRefusal, IsPartsFault, LeavesReplay, Replays, TellsPart, TellsParts, TellsReplayFault, TellsReplayOf, TellsTooLarge, TellsWorkersFault, taken_where};
 
 use blink_locked::all_of;
 use blink_settings::ServeError;
@@ -43,6 +45,8 @@ pub fn serve_replay<R: Read, W: Write>(
         (R.remaining reader.old) (W.contents writer.old) (W.contents writer.new)) }
     ensures fault { IfErr result
         (TellsReplayFault settings.now.workers schedule.now (R.remaining reader.old)) }
+    ensures too_large { IfErr result
+        (TellsReplayOf settings.now.workers settings.now.fan (R.remaining reader.old)) }
     ensures no_worker { (worker : _) → (result ≡ Err (ServeError.Step (StepError.NoWorker worker)))
         ↔ IsFirstNoWorker settings.now.workers schedule.now worker }
     ensures unread { (worker : _) → IsFirstNoWorker settings.now.workers schedule.now worker
@@ -69,26 +73,65 @@ fn replay_script<R: Read, W: Write>(
     ensures replayed { OnOk result (Replays settings.now.workers settings.now.fan schedule.now
         (R.remaining reader.old) (W.contents writer.old) (W.contents writer.new)) }
     ensures fault { IfErr result (TellsWorkersFault (R.remaining reader.old)) }
+    ensures too_large { IfErr result
+        (TellsReplayOf settings.now.workers settings.now.fan (R.remaining reader.old)) }
     ensures left { IfErr result (λ error.
         LeavesReplay settings.now.workers settings.now.fan schedule.now (R.remaining reader.old)
         error (W.contents writer.old) (W.contents writer.new)) }
 {
-    let script = read_script(alloc, reader)?;
-    let index = new_index(alloc, settings)?;
     let mut told = Told {
         trace: String::new(alloc),
         text: String::new(alloc),
     };
-    let index = replay_parts(
-        alloc,
-        index,
-        script.parts,
-        settings.workers(),
-        schedule,
-        &mut told,
-    )?;
-    let pages = index.dump(alloc)?;
+    let pages = replay_read(alloc, reader, settings, schedule, &mut told)?;
     write_replay(writer, &told.trace, &told.text, &pages)
+}
+
+// Runs the script that is read, and gives the pages at the end.
+fn replay_read<R: Read>(
+    alloc: Global,
+    reader: &mut R,
+    settings: &Settings,
+    schedule: &[u8],
+    told: &mut Told,
+) -> Result<String, ServeError>
+    requires workers { All (λ worker. worker < settings.now.workers) schedule.now }
+    requires none_told { (string_bytes told.old.trace ≡ []) × (string_bytes told.old.text ≡ []) }
+    ensures texts { IfOk result (λ pages. AreToWrite settings.now.workers settings.now.fan schedule.now
+        (R.remaining reader.old)
+        (string_bytes told.new.trace ++ (string_bytes told.new.text ++ string_bytes pages))) }
+    ensures fault { IfErr result (TellsWorkersFault (R.remaining reader.old)) }
+    ensures too_large { IfErr result
+        (TellsReplayOf settings.now.workers settings.now.fan (R.remaining reader.old)) }
+    ensures no_writer { ¬ IsErrOf result ServeError.Output }
+{
+    let script = read_script(alloc, reader)?;
+    replay_new(alloc, script.parts, settings, schedule, told)
+}
+
+// Runs parts on a new index, and gives its pages at the end.
+fn replay_new(
+    alloc: Global,
+    parts: Vec<Part>,
+    settings: &Settings,
+    schedule: &[u8],
+    told: &mut Told,
+) -> Result<String, ServeError>
+    requires workers { All (λ worker. worker < settings.now.workers) schedule.now }
+    requires none_told { (string_bytes told.old.trace ≡ []) × (string_bytes told.old.text ≡ []) }
+    ensures texts { IfOk result (λ pages. AreTexts settings.now.workers settings.now.fan schedule.now
+        parts.items (string_bytes told.new.trace) (string_bytes told.new.text) (string_bytes pages)) }
+    ensures too_large { IfErr result
+        (TellsTooLarge settings.now.workers (new_store settings.now.fan) parts.items) }
+    ensures refused { IfErr result IsPartsFault }
+{
+    let index = new_index(alloc, settings)?;
+    let workers = settings.workers();
+    let index = replay_parts(alloc, index, parts, workers, schedule, told)?;
+    match index.dump(alloc) {
+        Ok(pages) => Ok(pages),
+        Err(_) => Err(ServeError::OutOfMemory),
+    }
 }
 
 /// Writes the three texts of a replay one after another, and flushes. The first call that fails, or takes nothing, is the last.
@@ -132,6 +175,7 @@ pub fn run_parts(
 ) -> Result<Index, ServeError>
     requires { MayWork workers }
     ensures run { IfOk result (λ after. HaveRunParts workers index parts.items after) }
+    ensures too_large { IfErr result (TellsTooLarge workers index parts.items) }
     ensures refused { IfErr result IsPartsFault }
 {
     let mut told = Told {
@@ -156,6 +200,7 @@ fn replay_parts(
         (string_bytes told.old.trace) (string_bytes told.new.trace)) }
     ensures text { IfOk result (λ _. string_bytes told.new.text
         ≡ string_bytes told.old.text ++ script_text (map_of index) parts.items) }
+    ensures too_large { IfErr result (TellsTooLarge workers index parts.items) }
     ensures refused { IfErr result IsPartsFault }
 {
     let mut index = index;
@@ -202,18 +247,31 @@ fn replay_part(
     ensures text { IfOk result (λ _. string_bytes told.new.text
         ≡ string_bytes told.old.text ++ part_text (map_of index) part) }
     ensures map { IfOk result (λ after. map_of after ≡ part_after (map_of index) part) }
-    ensures refused { IfErr result IsPartsFault }
+    ensures refused { IfErr result (IsPartRefusal index part) }
 {
     match part {
         Part::Batch(batch) => replay_batch(alloc, index, batch, workers, schedule, told),
         Part::Scan(lo, hi) => {
-            push_scan(&mut told.text, index.scan(lo, hi))?;
-            Ok(index)
+            let shown = push_scan(&mut told.text, index.scan(lo, hi));
+            kept_where(index, shown)
         }
         Part::Page(lo, n) => {
-            push_scan(&mut told.text, index.page(lo, n))?;
-            Ok(index)
+            let shown = push_scan(&mut told.text, index.page(lo, n));
+            kept_where(index, shown)
         }
+    }
+}
+
+// The index once more, where it was shown.
+fn kept_where(index: Index, shown: Result<(), AllocError>) -> Result<Index, ServeError>
+    ensures kept { IfOk result (λ after. after ≡ index) }
+    ensures map { IfOk result (λ after. map_of after ≡ map_of index) }
+    ensures shown { IsOk result ↔ IsOk shown }
+    ensures refused { IfErr result (λ error. error ≡ ServeError.OutOfMemory) }
+{
+    match shown {
+        Ok(()) => Ok(index),
+        Err(_) => Err(ServeError::OutOfMemory),
     }
 }
 
@@ -236,14 +294,45 @@ fn replay_batch(
     ensures map { IfOk result (λ after. map_of after ≡ map_after_all (map_of index) batch) }
     ensures refused { IfErr result (IsReplayFault index batch) }
 {
-    let lanes = lanes_by_residue(alloc, &batch, workers)?;
-    let mut world = World::start(alloc, index.into_rest(), batch, lanes)?;
-    trace_steps(&mut world, schedule, &mut told.trace)?;
-    world.finish()?;
-    push_answers(&mut told.text, &all_of(alloc, world.answers())?)?;
+    let mut world = first_world(alloc, index, batch, workers)?;
+    run_to_end(alloc, &mut world, schedule, told)?;
     the_map_is_kept();
     no_other_map_is_kept();
     Ok(Index::from_rest(world.into_rest()))
+}
+
+// The first moment of a batch's replay over an index.
+fn first_world(alloc: Global, index: Index, batch: Batch, workers: u8) -> Result<World, ServeError>
+    requires { MayWork workers }
+    ensures begins { IfOk result (λ world. IsStart index batch (by_residue workers batch) world) }
+    ensures lawful { IfOk result
+        (λ _. IsLawfulCut batch workers (lanes_by_residue workers batch)) }
+    ensures refused { IfErr result (IsReplayFault index batch) }
+{
+    let lanes = lanes_by_residue(alloc, &batch, workers)?;
+    Ok(World::start(alloc, index.into_rest(), batch, lanes)?)
+}
+
+// Takes the turns of the schedule, with a line of the trace for each, and then picked turns to the end. A line for each answer is
+// added to the text.
+fn run_to_end(
+    alloc: Global,
+    world: &mut World,
+    schedule: &[u8],
+    told: &mut Told,
+) -> Result<(), ServeError>
+    requires { All (λ worker. worker < world.old.run.assignment.workers) schedule.now }
+    ensures ran { OnOk result (TellsRun world.old schedule.now world.new
+        (string_bytes told.old.trace) (string_bytes told.new.trace)
+        (string_bytes told.old.text) (string_bytes told.new.text)) }
+    ensures refused { IfErr result IsRefusedMemory }
+{
+    trace_steps(world, schedule, &mut told.trace)?;
+    world.finish()?;
+    let _of_its_schedule = world.schedule();
+    let answers = all_of(alloc, world.answers())?;
+    push_answers(&mut told.text, &answers)?;
+    Ok(())
 }
 
 /// The lane of each operation, by the remainder of its key: the lanes of a replay. An error is a refusal of memory alone.
@@ -259,7 +348,7 @@ pub fn lanes_by_residue(alloc: Global, batch: &Batch, workers: u8) -> Result<Lan
 }
 
 /// What a replay tells: the trace of the schedule's turns, and the text of the parts.
-#[derive(Debug, Drop)]
+#[derive(Drop)]
 struct Told {
     trace: String,
     text: String,

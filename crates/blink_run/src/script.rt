@@ -1,5 +1,5 @@
 //! A script served: from its text to its output.
-ghost use Rattle.std.specs.Prelude.{◌≡◌, ◌+◌, ◌<◌, ◌^◌, [], ◌∷◌, count_by, IfErr, IfOk, OnOk, string_bytes};
+ghost use Rattle.std.specs.Prelude.{◌≡◌, ◌+◌, ◌<◌, ◌^◌, [], ◌∷◌, count_by, IfErr, IfOk, IsErrOf, OnOk, string_bytes};
 ghost use Rattle.blink_batch.specs.Operation.{answers, map_after_all};
 ghost use Rattle.blink_batch.specs.Text.{text_of};
 ghost use Rattle.blink_batch.specs.declared.Part.TheVariants.{Batch as PartBatch};
@@ -16,7 +16,7 @@ use crate::outlet::{Outlet, flush_out, write_out};
 use crate::run::run_batch;
 use blink_settings::Settings;
 use crate::text::{push_answers, push_scan};
-use blink_batch::{Batch, Part, read_script};
+use blink_batch::{Answer, Batch, Part, read_script};
 use blink_index::{Index, Scan};
 use std::alloc::{AllocError, Global};
 use std::io::{Read, Write};
@@ -144,12 +144,34 @@ fn serve_part<T: Threads + Wait + Sync, O: Outlet, G: Gate + Sync>(
     ensures left { IfErr result (λ error. LeavesPart O.offered O.settled
         (part_text (map_of index.old) part.now) error outlet.old outlet.new) }
 {
-    let text = match part {
-        Part::Batch(batch) => batch_text(rt, alloc, batch, number, index, settings, gate)?,
-        Part::Scan(lo, hi) => scan_text(alloc, index.scan(*lo, *hi))?,
-        Part::Page(lo, n) => scan_text(alloc, index.page(*lo, *n))?,
-    };
+    let text = text_of_part(rt, alloc, part, number, index, settings, gate)?;
     write_out(outlet, &text)
+}
+
+// Runs one part, where it is a batch the one of this number, and gives its lines.
+fn text_of_part<T: Threads + Wait + Sync, G: Gate + Sync>(
+    rt: &T,
+    alloc: Global,
+    part: &Part,
+    number: u64,
+    index: &mut Index,
+    settings: &Settings,
+    gate: &G,
+) -> Result<String, ServeError>
+    ensures text { IfOk result
+        (λ text. string_bytes text ≡ part_text (map_of index.old) part.now) }
+    ensures map { IfOk result (λ _. map_of index.new ≡ part_after (map_of index.old) part.now) }
+    ensures by_settings { IfOk result
+        (λ _. RunsPartBy settings.now index.old part.now index.new) }
+    ensures fault { IfErr result (IsPartFault part.now number) }
+    ensures not_run { IfErr result (RefusesPart settings.now index.old part.now) }
+    ensures no_writer { ¬ IsErrOf result ServeError.Output }
+{
+    match part {
+        Part::Batch(batch) => batch_text(rt, alloc, batch, number, index, settings, gate),
+        Part::Scan(lo, hi) => scan_text(alloc, index.scan(*lo, *hi)),
+        Part::Page(lo, n) => scan_text(alloc, index.page(*lo, *n)),
+    }
 }
 
 // Runs a batch of this number, and gives the lines of its answers.
@@ -171,19 +193,48 @@ fn batch_text<T: Threads + Wait + Sync, G: Gate + Sync>(
     ensures fault { IfErr result (IsBatchFault number) }
     ensures not_run { IfErr result (RefusesPart settings.now index.old (PartBatch batch.now)) }
 {
+    let answers = batch_answers(rt, alloc, batch, number, index, settings, gate)?;
+    Ok(answers_text(alloc, &answers)?)
+}
+
+// Runs a batch of this number, and gives its answers.
+fn batch_answers<T: Threads + Wait + Sync, G: Gate + Sync>(
+    rt: &T,
+    alloc: Global,
+    batch: &Batch,
+    number: u64,
+    index: &mut Index,
+    settings: &Settings,
+    gate: &G,
+) -> Result<Vec<Answer>, ServeError>
+    ensures answers { IfOk result (λ given. given.items ≡ answers (map_of index.old) batch.now) }
+    ensures map { IfOk result
+        (λ _. map_of index.new ≡ map_after_all (map_of index.old) batch.now) }
+    ensures by_settings { IfOk result
+        (λ _. RunsBatchBy settings.now index.old batch.now index.new) }
+    ensures fault { IfErr result (IsBatchFault number) }
+    ensures not_run { IfErr result (RefusesPart settings.now index.old (PartBatch batch.now)) }
+{
     let cut = settings.cut_batch(alloc, batch)?;
-    let answers = match run_batch(rt, alloc, index, batch, &cut, settings.driver(), gate) {
-        Ok(answers) => answers,
-        Err(error) => return Err(ServeError::Run(number, error)),
-    };
+    match run_batch(rt, alloc, index, batch, &cut, settings.driver(), gate) {
+        Ok(answers) => Ok(answers),
+        Err(error) => Err(ServeError::Run(number, error)),
+    }
+}
+
+// A line for each answer.
+fn answers_text(alloc: Global, answers: &[Answer]) -> Result<String, AllocError>
+    ensures { IfOk result (λ text. string_bytes text ≡ text_of answers.now) }
+{
     let mut text = String::new(alloc);
-    push_answers(&mut text, &answers)?;
+    push_answers(&mut text, answers)?;
     Ok(text)
 }
 
 // The lines of a scan or a page.
-fn scan_text(alloc: Global, scan: Scan<'_>) -> Result<String, AllocError>
-    ensures { IfOk result (λ text. string_bytes text ≡ scan_text scan.entry) }
+fn scan_text(alloc: Global, scan: Scan<'_>) -> Result<String, ServeError>
+    ensures text { IfOk result (λ text. string_bytes text ≡ scan_text scan.entry) }
+    ensures refused { IfErr result (λ error. error ≡ ServeError.OutOfMemory) }
 {
     let mut text = String::new(alloc);
     push_scan(&mut text, scan)?;

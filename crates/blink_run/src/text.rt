@@ -1,9 +1,9 @@
 //! The text of answers, of scans and of pages.
 ghost use Rattle.std.specs.Prelude.{◌≡◌, ◌++◌, OnOk, string_bytes};
 ghost use Rattle.blink_batch.specs.Text.{text_of};
-ghost use Rattle.blink_run.specs.Text.{scan_text};
+ghost use Rattle.blink_run.specs.Text.{end_line, entry_line, scan_text};
 
-use blink_batch::Answer;
+use blink_batch::{Answer, Entry};
 use blink_index::Scan;
 use std::alloc::AllocError;
 use std::fmt::Write as _;
@@ -24,8 +24,22 @@ pub(crate) fn push_scan(text: &mut String, scan: Scan<'_>) -> Result<(), AllocEr
 {
     let mut shown = 0usize;
     for entry in scan {
-        writeln!(text, "{} {}", entry.key, entry.pointer)?;
+        push_entry(text, entry)?;
         shown += 1;
     }
+    push_end(text, shown)
+}
+
+// Adds the line of an entry.
+fn push_entry(text: &mut String, entry: Entry) -> Result<(), AllocError>
+    ensures { OnOk result (string_bytes text.new ≡ string_bytes text.old ++ entry_line entry) }
+{
+    writeln!(text, "{} {}", entry.key, entry.pointer)
+}
+
+// Adds the last line, with the number of the entries that are shown.
+fn push_end(text: &mut String, shown: usize) -> Result<(), AllocError>
+    ensures { OnOk result (string_bytes text.new ≡ string_bytes text.old ++ end_line shown) }
+{
     writeln!(text, "end {shown}")
 }

@@ -4,7 +4,7 @@ ghost use Rattle.blink_batch.specs.Cut.{IsLawfulCut, MayWork};
 ghost use Rattle.blink_batch.specs.Ranges.{lanes_by_ranges};
 ghost use Rattle.blink_index.specs.Codes.{IsBadFan};
 ghost use Rattle.blink_settings.specs.Codes.{code_of_settings_error};
-ghost use Rattle.blink_settings.specs.Settings.{IsAllowed, even_bounds, lanes_by};
+ghost use Rattle.blink_settings.specs.Settings.{IsAllowed, even_bounds, lanes_by, lanes_by_residue};
 
 use blink_batch::{Batch, Cut, WORKER_LIMIT};
 use blink_page::{MAX_FAN, MIN_FAN};
@@ -144,11 +144,22 @@ impl Settings {
         ensures lawful { IfOk result (λ cut. IsLawfulCut batch.now cut.workers cut.lanes) }
     {
         match self.cut {
-            CutKind::Residue => {
-                Cut::by_residue(alloc, batch, self.workers).map_err(|_| AllocError)
-            }
+            CutKind::Residue => by_residue(alloc, batch, self.workers),
             CutKind::Ranges => by_even_ranges(alloc, batch, self.workers),
         }
+    }
+}
+
+// The cut of a batch by the remainders of the keys.
+fn by_residue(alloc: Global, batch: &Batch, workers: u8) -> Result<Cut, AllocError>
+    requires { MayWork workers }
+    ensures workers { IfOk result (λ cut. cut.workers ≡ workers) }
+    ensures lanes { IfOk result (λ cut. cut.lanes ≡ lanes_by_residue workers batch.now) }
+    ensures lawful { IfOk result (λ cut. IsLawfulCut batch.now cut.workers cut.lanes) }
+{
+    match Cut::by_residue(alloc, batch, workers) {
+        Ok(cut) => Ok(cut),
+        Err(_) => Err(AllocError),
     }
 }
 
@@ -161,7 +172,10 @@ fn by_even_ranges(alloc: Global, batch: &Batch, workers: u8) -> Result<Cut, Allo
     ensures lawful { IfOk result (λ cut. IsLawfulCut batch.now cut.workers cut.lanes) }
 {
     let bounds = even_bounds(alloc, workers)?;
-    Cut::by_ranges(alloc, batch, &bounds).map_err(|_| AllocError)
+    match Cut::by_ranges(alloc, batch, &bounds) {
+        Ok(cut) => Ok(cut),
+        Err(_) => Err(AllocError),
+    }
 }
 
 // The greatest keys of all ranges but the last, where the keys are cut into as many ranges as workers.

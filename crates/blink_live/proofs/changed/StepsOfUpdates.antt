@@ -9,6 +9,7 @@ use Rattle.blink_batch.specs.declared.Op.TheVariants.{Insert, Delete, Replace}
 use Rattle.blink_batch.specs.Operation.{answer_at, answer_of, key_of, map_at}
 use Rattle.blink_batch.specs.PlainMap.{pointer_of}
 use Rattle.blink_page.specs.Page.{PlainPage}
+use Rattle.blink_rows.specs.Row.{page_words}
 use Rattle.blink_rows.specs.declared.span.Span.{Span}
 use Rattle.blink_machine.specs.declared.machine.Debt.{Debt}
 use Rattle.blink_machine.specs.declared.machine.Job.{Job}
@@ -27,7 +28,7 @@ use Rattle.blink_live.specs.declared.view.Share.{Share}
 use Rattle.blink_live.specs.Changes.{after as after_changes, changes_made}
 use Rattle.blink_live.specs.Plays.{AnswersAfter, AsksPrime, CanGoOn, Decided, deciding, other, GoesOn, LoadsPage, LoadsPrime, Publishes}
 use Rattle.blink_live.specs.Updating.{SameBesideCall, IsPastDescent}
-use Rattle.blink_live.specs.Views.{Sat, KnowsItsOwn, changed_by}
+use Rattle.blink_live.specs.Views.{Sat, KnowsItsOwn, changed_by, reading}
 
 -- what a step of the operation makes of it and of its seat's view, but for what the call has left
 pub record Takes (m after : PlainMachine) (me then : Sat) : Type 0 where
@@ -80,7 +81,7 @@ goes_on_takes kind m me then past knows answer goes =
     let is : then ≡ _ = goes.is in record {
       same = (subst (λ (x : Sat). SameBesideCall me.0 x.0) (sym is) refl, ap (λ (x : Sat). x.1) is);
       saw = subst (λ (x : Sat). IsPrefix me.0.seen x.0.seen) (sym is) ([], append-nil me.0.seen);
-      knows_own = subst (λ (x : Sat). KnowsItsOwn x.0) (sym is) knows;
+      knows_own = subst (λ (x : Sat). KnowsItsOwn x.0) (sym is) (record { state = knows.state; changes = knows.changes });
       operation = ap (λ (x : Sat). x.0.operation) is;
       same_op = goes.uses.same_op;
       next = goes.next;
@@ -155,11 +156,12 @@ module _ (m after : PlainMachine) (number : ℕ) (page : PlainPage) (share : Sha
 
 pub page_takes : (m after : PlainMachine) (number row : ℕ) (me then : Sat) → IsPastDescent m.state → Contains me.0.share.keys (key_of m.op) → LoadsPage m number me row after then → Takes m after me then
 page_takes m after number row me then past own loads =
-    let is : then ≡ _ = loads.is in
-    let reads = page_decides m after number loads.page me.0.share (after_changes (pointer_of me.0.plan.opening) loads.seen) (loads.own_keys (key_of m.op) own) loads.answers past loads.sees in record {
+    let is : then ≡ (reading me.0 after loads.way row (page_words loads.page) loads.seen, me.1) = loads.is in
+    let known : KnowsItsOwn (reading me.0 after loads.way row (page_words loads.page) loads.seen) = subst (λ (x : Sat). KnowsItsOwn x.0) is loads.knows_own in
+    let reads = page_decides m after number loads.page me.0.share (after_changes (pointer_of me.0.plan.opening) loads.seen) (known.state (key_of m.op) own) loads.answers past loads.sees in record {
       same = (subst (λ (x : Sat). SameBesideCall me.0 x.0) (sym is) refl, ap (λ (x : Sat). x.1) is);
       saw = subst (λ (x : Sat). IsPrefix me.0.seen x.0.seen) (sym is) loads.learns.saw;
-      knows_own = subst (λ (x : Sat). KnowsItsOwn x.0) (sym is) loads.own_keys;
+      knows_own = loads.knows_own;
       operation = ap (λ (x : Sat). x.0.operation) is;
       same_op = loads.uses.same_op;
       next = loads.next;

@@ -31,7 +31,7 @@ use Rattle.blink_live.specs.Seats.{IsFirst, IsPassSeat}
 use Rattle.blink_live.specs.Updating.{SameBesideCall, HasDecided, not_yet, decided, HasLeft, IsUpdating, IsUnderWay}
 use Rattle.blink_live.specs.Views.{Sat, changed_by, for_call, no_words, span}
 use Rattle.blink_live.specs.Words.{IsRowNumber}
-use Rattle.blink_live.proofs.found.OperationsOnTheirWay.{is_prefix_trans}
+use Rattle.blink_live.proofs.told.FrontsOfOneList.{front_of_front}
 use Rattle.blink_live.proofs.changed.StepsOfUpdates.{Takes, latch_answers, unlatch_answers, goes_on_takes, page_takes, prime_takes, publish_takes}
 
 -- ---- what a step makes of the operation
@@ -51,7 +51,7 @@ decided_on op before now share m after same (decided given is) (other kept stays
 updating_on : (op : Op) (first me then : Sat) (m after : PlainMachine) → IsUpdating op first me m → Takes m after me then → HasLeft first.0.call then.0.call after → IsUpdating op first then after
 updating_on op first me then m after is takes left = record {
   same = (same_call_trans first.0 me.0 then.0 is.same.0 takes.same.0, takes.same.1 ∙ is.same.1);
-  saw = is_prefix_trans first.0.seen me.0.seen then.0.seen is.saw takes.saw;
+  saw = front_of_front first.0.seen me.0.seen then.0.seen is.saw takes.saw;
   knows_own = takes.knows_own;
   operation = takes.operation;
   same_op = takes.same_op ∙ is.same_op;

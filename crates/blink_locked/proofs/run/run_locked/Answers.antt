@@ -1,17 +1,22 @@
-use Rattle.std.proofs.Common.{ap, ◌∙◌, subst}
+use Rattle.std.proofs.Common.{ap, ◌∙◌, subst, sym}
 use Rattle.blink_index.specs.Index.{map_of}
 use Rattle.blink_store.specs.Store.{PlainStore}
-use Rattle.blink_locked.specs.Run.{IsSettled}
+use Rattle.blink_locked.specs.Run.{IsReplayed, IsSettled}
 use Rattle.blink_locked.proofs.RunAtItsEnd.{one_thread_answers, one_thread_map, settled_done}
 use Rattle.blink_locked.proofs.run.run_locked.Goals as goal
 
 pub returns-clause-answers : goal.returns-clause-answers
 returns-clause-answers g c =
-    let settled = subst (λ (before : PlainStore). IsSettled before c.args.batch.now c.args.cut.now c.in_ok-tree.tree c.in_ok-tree.answers.items) c.rest-2.ensures.tree c.in_ok-tree.ensures.settled in
-    one_thread_answers c.args.index.now c.in_ok-tree.tree c.args.batch.now c.in_ok-tree.answers.items (settled_done _ _ _ _ _ settled) (map_of c.args.index.now) c.rest.ensures.map
+    let settled = subst (λ (before : PlainStore). IsSettled before c.args.batch.now c.args.cut.now c.in_ok-tree.tree c.in_ok-tree.answers.items) c.rest.ensures.tree c.in_ok-tree.ensures.settled in
+    one_thread_answers c.args.index.now c.in_ok-tree.tree c.args.batch.now c.in_ok-tree.answers.items (settled_done c.args.index.now c.in_ok-tree.tree c.args.batch.now c.args.cut.now c.in_ok-tree.answers.items settled) (map_of c.args.index.now) c.rest.ensures.map
 
 pub returns-clause-map : goal.returns-clause-map
 returns-clause-map g c =
-    let settled = subst (λ (before : PlainStore). IsSettled before c.args.batch.now c.args.cut.now c.in_ok-tree.tree c.in_ok-tree.answers.items) c.rest-2.ensures.tree c.in_ok-tree.ensures.settled in
+    let settled = subst (λ (before : PlainStore). IsSettled before c.args.batch.now c.args.cut.now c.in_ok-tree.tree c.in_ok-tree.answers.items) c.rest.ensures.tree c.in_ok-tree.ensures.settled in
     ap map_of c.from_rest.ensures
-    ∙ one_thread_map c.args.index.now c.in_ok-tree.tree c.args.batch.now c.in_ok-tree.answers.items (settled_done _ _ _ _ _ settled) (map_of c.args.index.now) c.rest.ensures.map c.no_other_map_is_kept.ensures
+    ∙ one_thread_map c.args.index.now c.in_ok-tree.tree c.args.batch.now c.in_ok-tree.answers.items (settled_done c.args.index.now c.in_ok-tree.tree c.args.batch.now c.args.cut.now c.in_ok-tree.answers.items settled) (map_of c.args.index.now) c.rest.ensures.map c.no_other_map_is_kept.ensures
+
+pub returns-clause-replayed : goal.returns-clause-replayed
+returns-clause-replayed g c =
+    let settled = subst (λ (before : PlainStore). IsSettled before c.args.batch.now c.args.cut.now c.in_ok-tree.tree c.in_ok-tree.answers.items) c.rest.ensures.tree c.in_ok-tree.ensures.settled in
+    subst (λ (after : PlainStore). IsReplayed c.args.index.now c.args.batch.now c.args.cut.now after) (sym c.from_rest.ensures) settled.replayed

@@ -1,40 +1,46 @@
-use Rattle.std.proofs.Common.{◌≡◌, ◌∙◌, List, Option, All, IsSome, length, refl, ap, sym, subst}
+use Rattle.std.proofs.Common.{◌≡◌, ◌<◌, ◌∙◌, ◌++◌, ℕ, List, All, ap, sym, subst, string_bytes}
 use Rattle.blink_batch.specs.declared.Answer.{Answer}
+use Rattle.blink_batch.specs.Cut.{Assignment}
+use Rattle.blink_batch.specs.Text.{text_of}
 use Rattle.blink_index.specs.Index.{map_of}
-use Rattle.blink_run.proofs.ReplayOfBatch.{IsReplayedToEnd, all_answered, at_rest_before, replay_done, replayed_to_end, runs_batch}
+use Rattle.blink_run.proofs.ReplayOfBatch.{at_rest_before, replay_done, runs_batch}
 use Rattle.blink_locked.proofs.Offered.{IsDone, one_thread_answers, one_thread_map}
 use Rattle.blink_run.proofs.replay.replay_batch.Goals as goal
 
--- every operation has its answer
-pub all_of-requires : goal.all_of-requires
-all_of-requires c =
-    let traced = c.in_ok-trace_steps.ensures.traced in
-    let to_end = replayed_to_end _ _ _ _ _ _ _ _ _ traced.0 c.in_ok-lanes.ensures.lanes c.into_rest.ensures c.in_ok-world.ensures.start c.in_ok-lanes.ensures.lawful traced.1 c.finish.ensures.picked c.finish.ensures.same_start
-    c.finish.ensures.same_batch c.finish.ensures.promised c.in_ok-finish.ensures.ended in
-    subst (λ (given : List (Option Answer)). All (λ (answer : Option Answer). IsSome answer) given) (sym c.answers.ensures.answers)
-    (all_answered _ _ _ _ _ _ _ _ to_end (ap (λ (given : List (Option Answer)). length given) (sym c.answers.ensures.answers) ∙ c.answers.ensures.one_each))
+-- the schedule's numbers are workers of the world
+pub run_to_end-requires : goal.run_to_end-requires
+run_to_end-requires c =
+    subst (λ (workers : ℕ). All (λ worker. worker < workers) c.args.schedule.now) (sym (ap (λ (assignment : Assignment). assignment.workers) c.in_ok-world.ensures.begins.same_assignment)) c.requires.workers
 
--- the worlds of the replay
-to_end : (c : goal.After-from_rest) → IsReplayedToEnd c.args.workers c.args.schedule.now c.args.index c.args.batch c.in_ok-world.world c.trace_steps.new.world c.finish.new.self c.in_ok-trace_steps.ensures.traced.0
-to_end c =
-    let traced = c.in_ok-trace_steps.ensures.traced in
-    replayed_to_end _ _ _ _ _ _ _ _ _ traced.0 c.in_ok-lanes.ensures.lanes c.into_rest.ensures c.in_ok-world.ensures.start c.in_ok-lanes.ensures.lawful traced.1 c.finish.ensures.picked c.finish.ensures.same_start
-    c.finish.ensures.same_batch c.finish.ensures.promised c.in_ok-finish.ensures.ended
+-- all operations have ended
+pub into_rest-requires : goal.into_rest-requires
+into_rest-requires c = c.in_ok-run_to_end.ensures.ran.2.ended
 
-same_tree : (c : goal.After-from_rest) → c.finish.new.self.run.shared.store ≡ c.from_rest.result
-same_tree c = sym (c.from_rest.ensures ∙ c.into_rest-2.ensures.tree)
+same_tree : (c : goal.After-from_rest) → c.run_to_end.new.world.run.shared.store ≡ c.from_rest.result
+same_tree c = sym (c.from_rest.ensures ∙ c.into_rest.ensures.tree)
 
-done : (c : goal.After-from_rest) → IsDone c.args.index c.from_rest.result c.args.batch c.in_ok-all_of.field-0.items
-done c = replay_done _ _ _ _ _ _ _ _ (to_end c) c.in_ok-all_of.field-0.items (sym c.answers.ensures.answers ∙ c.in_ok-all_of.ensures) c.from_rest.result (same_tree c)
+done : (c : goal.After-from_rest) → IsDone c.args.index c.from_rest.result c.args.batch c.in_ok-run_to_end.ensures.ran.1
+done c =
+    let ran = c.in_ok-run_to_end.ensures.ran in
+    replay_done c.args.workers c.args.schedule.now c.args.index c.args.batch c.in_ok-world.world c.run_to_end.new.world ran.0 ran.1 c.in_ok-world.ensures.begins c.in_ok-world.ensures.lawful ran.2 c.from_rest.result (same_tree c)
 
 pub returns-clause-told : goal.returns-clause-told
-returns-clause-told c = (c.in_ok-trace_steps.ensures.traced.0, runs_batch _ _ _ _ _ _ _ _ (to_end c) c.from_rest.result (same_tree c), c.in_ok-trace_steps.ensures.traced.2)
+returns-clause-told c =
+    let ran = c.in_ok-run_to_end.ensures.ran in (
+      ran.0,
+      runs_batch c.args.workers c.args.schedule.now c.args.index c.args.batch c.in_ok-world.world c.run_to_end.new.world ran.0 ran.1 c.in_ok-world.ensures.begins c.in_ok-world.ensures.lawful ran.2 c.from_rest.result (same_tree c),
+      ran.3,
+    )
 
 pub returns-clause-text : goal.returns-clause-text
 returns-clause-text c =
-    let given = one_thread_answers c.args.index c.from_rest.result c.args.batch c.in_ok-all_of.field-0.items (done c) (map_of c.args.index) (c.the_map_is_kept.ensures c.args.index (at_rest_before _ _ _ _ _ _ _ _ (to_end c))) in
-    c.in_ok-push_answers.ensures ∙ rw (c.deref.ensures.value, given) refl
+    let ran = c.in_ok-run_to_end.ensures.ran in
+    let at_rest = at_rest_before c.args.workers c.args.schedule.now c.args.index c.args.batch c.in_ok-world.world c.run_to_end.new.world ran.0 ran.1 c.in_ok-world.ensures.begins c.in_ok-world.ensures.lawful ran.2 in
+    let given = one_thread_answers c.args.index c.from_rest.result c.args.batch ran.1 (done c) (map_of c.args.index) (c.the_map_is_kept.ensures c.args.index at_rest) in
+    ran.4 ∙ ap (λ (given : List Answer). string_bytes c.args.told.now.text ++ text_of given) given
 
 pub returns-clause-map : goal.returns-clause-map
 returns-clause-map c =
-    one_thread_map c.args.index c.from_rest.result c.args.batch c.in_ok-all_of.field-0.items (done c) (map_of c.args.index) (c.the_map_is_kept.ensures c.args.index (at_rest_before _ _ _ _ _ _ _ _ (to_end c))) c.no_other_map_is_kept.ensures
+    let ran = c.in_ok-run_to_end.ensures.ran in
+    let at_rest = at_rest_before c.args.workers c.args.schedule.now c.args.index c.args.batch c.in_ok-world.world c.run_to_end.new.world ran.0 ran.1 c.in_ok-world.ensures.begins c.in_ok-world.ensures.lawful ran.2 in
+    one_thread_map c.args.index c.from_rest.result c.args.batch ran.1 (done c) (map_of c.args.index) (c.the_map_is_kept.ensures c.args.index at_rest) c.no_other_map_is_kept.ensures

@@ -1,10 +1,12 @@
 use Rattle.std.proofs.Common.{◌≡◌, ◌-◌, [], ℕ, List, count_by, ap, ◌∙◌, subst, string_bytes, length, arith}
+use Rattle.std.proofs.lemmas.Result.{err_from_is_err_and}
 use Rattle.std.specs.Vec.Iter.{into_iter_items}
 use Rattle.blink_batch.specs.declared.Part.{Part}
 use Rattle.blink_run.specs.Served.{is_batch}
 use Rattle.blink_run.specs.ServedReplay.{TellsPart, taken_where}
 use Rattle.blink_run.proofs.ReplayOfParts.{IsToldWith, all_told, no_part, one_told}
 use Rattle.blink_run.proofs.PartsAreServed.{batches_left}
+use Rattle.blink_run.proofs.TooLargeAmong.{HasRunBefore, found_too_large, one_run, part_refused}
 use Rattle.blink_run.proofs.replay.replay_parts.Goals as goal
 
 -- one part more is told
@@ -22,7 +24,24 @@ loop-part-preserved c =
       told = one_told c.args.workers c.args.schedule.now c.args.index c.args.parts.items (string_bytes c.args.told.now.trace) (string_bytes c.args.told.now.text) c.in-Some.part others c.loop-part.index c.in_ok-index.index _ _ _ _ c.loop-part.left _ so_far
           (subst (λ (schedule : List ℕ). TellsPart c.args.workers schedule c.loop-part.index c.in-Some.part (string_bytes c.loop-part.told.trace) (string_bytes c.replay_part.new.told.trace) c.in_ok-index.index) (c.taken_where-taken.ensures ∙ ap (λ (n : ℕ). taken_where n c.args.schedule.now) fewer) c.in_ok-index.ensures.told)
           c.in_ok-index.ensures.text c.in_ok-index.ensures.map fewer;
+      ran = one_run c.args.workers c.args.index c.args.parts.items c.in-Some.part others c.loop-part.index (subst (λ (parts : List Part). HasRunBefore c.args.workers c.args.index c.args.parts.items parts c.loop-part.index) steps.0 c.loop-part.invariant.ran)
+          c.args.schedule.now _ _ c.in_ok-index.index
+          (subst (λ (schedule : List ℕ). TellsPart c.args.workers schedule c.loop-part.index c.in-Some.part (string_bytes c.loop-part.told.trace) (string_bytes c.replay_part.new.told.trace) c.in_ok-index.index) (c.taken_where-taken.ensures ∙ ap (λ (n : ℕ). taken_where n c.args.schedule.now) fewer) c.in_ok-index.ensures.told);
     }
+
+-- a batch that is too large is the part that was taken
+pub returns-in_err-index-clause-too_large : goal.returns-in_err-index-clause-too_large
+returns-in_err-index-clause-too_large c =
+    let passed = err_from_is_err_and c.from_residual.result c.from_residual.ensures.1 in
+    let others : List Part = into_iter_items c.next.new.self in
+    rw (passed.1, passed.2)
+    (found_too_large c.args.workers c.args.index c.args.parts.items c.in-Some.part others c.loop-part.index (subst (λ (parts : List Part). HasRunBefore c.args.workers c.args.index c.args.parts.items parts c.loop-part.index) c.in-Some.ensures.steps.0 c.loop-part.invariant.ran)
+    c.in_err-index.field-0.0 c.in_err-index.ensures.refused)
+
+pub returns-in_err-index-clause-refused : goal.returns-in_err-index-clause-refused
+returns-in_err-index-clause-refused c =
+    let passed = err_from_is_err_and c.from_residual.result c.from_residual.ensures.1 in
+    rw (passed.1, passed.2) (part_refused c.loop-part.index c.in-Some.part c.in_err-index.field-0.0 c.in_err-index.ensures.refused)
 
 -- all are
 pub returns-clause-told : goal.returns-clause-told

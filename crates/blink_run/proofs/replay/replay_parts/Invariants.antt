@@ -1,6 +1,7 @@
 use Rattle.std.proofs.Common.{◌≡◌, length, string_bytes}
 use Rattle.std.specs.Vec.Iter.{into_iter_items, into_iter_len}
 use Rattle.blink_run.proofs.ReplayOfParts.{IsToldWith}
+use Rattle.blink_run.proofs.TooLargeAmong.{HasRunBefore}
 use Rattle.blink_run.proofs.replay.replay_parts.Given as goal
 
 -- with what the parts to come add, all is told
@@ -10,4 +11,5 @@ invariant-loop-part l = record {
   is_finite : (goal.iterator-loop-part).is_finite l.part-iterator;
   long : into_iter_len l.part-iterator ≡ length (into_iter_items l.part-iterator);
   told : IsToldWith l.workers l.schedule l.fn.index l.fn.parts.items (string_bytes l.fn.told.trace) (string_bytes l.fn.told.text) (into_iter_items l.part-iterator) l.index (string_bytes l.told.trace) (string_bytes l.told.text) l.left;
+  ran : HasRunBefore l.workers l.fn.index l.fn.parts.items (into_iter_items l.part-iterator) l.index;
 }

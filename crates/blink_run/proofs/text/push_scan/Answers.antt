@@ -6,19 +6,19 @@ use Rattle.blink_run.proofs.LinesOfEntries.{line_more, shown_few}
 use Rattle.blink_run.proofs.text.push_scan.Goals as goal
 
 -- the lines so far, and one more
-told_more : (c : goal.In_ok-writeln) → string_bytes c.writeln.new.self ≡ string_bytes c.args.text.now ++ flat_map entry_line (c.loop-entry.invariant.shown ++ c.in-Some.entry ∷ [])
+told_more : (c : goal.In_ok-push_entry) → string_bytes c.push_entry.new.text ≡ string_bytes c.args.text.now ++ flat_map entry_line (c.loop-entry.invariant.shown ++ c.in-Some.entry ∷ [])
 told_more c =
     let so_far = c.loop-entry.invariant in
-    c.in_ok-writeln.ensures.bytes ∙ rw (so_far.told, line_more so_far.shown c.in-Some.entry) (append_assoc (string_bytes c.args.text.now) (flat_map entry_line so_far.shown) (entry_line c.in-Some.entry))
+    c.in_ok-push_entry.ensures ∙ rw (so_far.told, line_more so_far.shown c.in-Some.entry) (append_assoc (string_bytes c.args.text.now) (flat_map entry_line so_far.shown) (entry_line c.in-Some.entry))
 
 pub overflow_add-shown : goal.overflow_add-shown
 overflow_add-shown c =
     let so_far = c.loop-entry.invariant in
     let few = shown_few (so_far.shown ++ c.in-Some.entry ∷ []) in
     let more = length-append so_far.shown (c.in-Some.entry ∷ []) in
-    let long : length (string_bytes c.writeln.new.self) ≡ length (string_bytes c.args.text.now) + length (flat_map entry_line (so_far.shown ++ c.in-Some.entry ∷ [])) =
+    let long : length (string_bytes c.push_entry.new.text) ≡ length (string_bytes c.args.text.now) + length (flat_map entry_line (so_far.shown ++ c.in-Some.entry ∷ [])) =
     ap (λ (bytes : List ℕ). length bytes) (told_more c) ∙ length-append (string_bytes c.args.text.now) (flat_map entry_line (so_far.shown ++ c.in-Some.entry ∷ [])) in
-    omega (arith, so_far.counted, c.writeln.new.self.bytes.ok.0, c.writeln.new.self.bytes.ok.1, c.writeln.new.self.bytes.small)
+    omega (arith, so_far.counted, c.push_entry.new.text.bytes.ok.0, c.push_entry.new.text.bytes.ok.1, c.push_entry.new.text.bytes.small)
 
 -- one entry more is shown
 pub loop-entry-preserved : goal.loop-entry-preserved

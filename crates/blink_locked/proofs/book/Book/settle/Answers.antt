@@ -1,18 +1,14 @@
-use Rattle.std.proofs.Common.{All, IsSome, List, Option, length, sym, ap, ◌∙◌, subst}
-use Rattle.blink_batch.specs.declared.Answer.{Answer}
-use Rattle.blink_locked.specs.Book.{PlainBook, IsRunOf}
-use Rattle.blink_locked.proofs.BooksGoOn.{all_some, settled}
+use Rattle.std.proofs.Common.{subst, sym}
+use Rattle.blink_steps.specs.World.{HasEnded}
+use Rattle.blink_locked.specs.Book.{PlainBook, IsAtItsEnd}
+use Rattle.blink_locked.proofs.BooksGoOn.{settled}
 use Rattle.blink_locked.proofs.book.Book.settle.Goals as goal
 
-pub all_of-requires : goal.all_of-requires
-all_of-requires c =
-    let kept = c.ended.ensures.promised c.self.inside.start c.self.invariant.is_world in
-    let one_each = ap (λ (given : List (Option Answer)). length given) (sym c.answers.ensures.answers) ∙ c.answers.ensures.one_each in
-    subst (λ (given : List (Option Answer)). All (λ (answer : Option Answer). IsSome answer) given) (sym c.answers.ensures.answers)
-    (all_some c.self.inside.world.run one_each (kept.ended (c.ended.ensures.ended.0 c.if-not-ended.false)).all_answered)
+pub into_rest-requires : goal.into_rest-requires
+into_rest-requires c = subst (λ (book : PlainBook). HasEnded book.world.run) (sym c.self.view_is) c.in_ok-answers.ensures.at_end.ended
 
 pub returns-clause-settled : goal.returns-clause-settled
 returns-clause-settled c =
-    settled _ c.self.invariant c.ended.ensures.promised c.args.start.now c.args.batch.now c.args.cut.now
-    (subst (λ (book : PlainBook). IsRunOf book c.args.start.now c.args.batch.now c.args.cut.now) (sym c.self.view_is) (c.is_run_of.ensures.0 c.if-not-is_run_of.false))
-    c.requires (c.ended.ensures.ended.0 c.if-not-ended.false) c.in-Ok.answers.items (sym c.answers.ensures.answers ∙ c.in-Ok.ensures) c.into_rest.result c.into_rest.ensures.tree
+    let at_end = subst (λ (book : PlainBook). IsAtItsEnd book c.args.start.now c.args.batch.now c.args.cut.now c.in_ok-answers.answers.items) (sym c.self.view_is) c.in_ok-answers.ensures.at_end in
+    settled _ c.self.invariant c.into_rest.ensures.promised c.args.start.now c.args.batch.now c.args.cut.now at_end.run_of
+    c.requires at_end.ended c.in_ok-answers.answers.items at_end.all_given c.into_rest.result c.into_rest.ensures.tree

@@ -6,7 +6,7 @@ use Rattle.blink_batch.specs.Operation.{key_of}
 use Rattle.blink_live.specs.Allowed.{inserts_left, deletes_left}
 use Rattle.blink_live.specs.Handles.{keys_of}
 use Rattle.blink_run.specs.Lanes.{uses_deletion}
-use Rattle.blink_run.proofs.CallsOfPass.{not_refused}
+use Rattle.blink_run.proofs.LaneRuns.{not_refused}
 use Rattle.blink_run.proofs.live.lane.answer_at.Goals as goal
 
 pub expected-requires : goal.expected-requires
@@ -25,3 +25,9 @@ expected-requires-in-Delete g c =
     let its = subst (λ (op : Op). Contains (keys_of c.args.pass.now) (key_of op)) c.in-Delete.is c.requires.key in
     let some = subst (λ (op : Op). count_by uses_deletion (op ∷ []) ≤ deletes_left c.args.pass.now.pages c.args.pass.now.rows) c.in-Delete.is c.requires.deletes in
     not_refused c.delete.result (λ is. c.delete.ensures.not_yours.0 is its) (λ is. let none = (c.delete.ensures.spent.0 is).1 in omega arith)
+
+pub expected-requires-in-Replace : goal.expected-requires-in-Replace
+expected-requires-in-Replace g c =
+    let its = subst (λ (op : Op). Contains (keys_of c.args.pass.now) (key_of op)) c.in-Replace.is c.requires.key in
+    let some = subst (λ (op : Op). count_by uses_deletion (op ∷ []) ≤ deletes_left c.args.pass.now.pages c.args.pass.now.rows) c.in-Replace.is c.requires.deletes in
+    not_refused c.replace.result (λ is. c.replace.ensures.not_yours.0 is its) (λ is. let none = (c.replace.ensures.spent.0 is).1 in omega arith)
