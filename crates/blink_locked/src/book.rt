@@ -7,9 +7,9 @@ ghost use Rattle.blink_steps.specs.World.{IsAtLanesEnd, IsStart, IsTooLarge};
 ghost use Rattle.blink_locked.specs.Book.{HasEndedOp, IsAtItsEnd, IsBookRefusal, IsNewBook, IsRunOf, IsSettleRefusal, MayTurn, StepsPage, Turns, stopped_book};
 ghost use Rattle.blink_locked.specs.Run.{IsSettled};
 
-use blink_settings::RunError;
 use blink_batch::{Answer, Batch, Cut, Lanes};
 use blink_rest::Rest;
+use blink_settings::RunError;
 use blink_steps::{Kind, Step, StepError, World, is_too_large};
 use std::alloc::{AllocError, Global};
 use std::marker::Model;
@@ -66,12 +66,7 @@ impl Book {
     /// The book of a run of a batch over a tree, before its first step. Tree, batch and lanes are copied.
     ///
     /// The refusal `TooLarge` comes before memory is asked for.
-    pub fn new(
-        alloc: Global,
-        start: &Rest,
-        batch: &Batch,
-        cut: &Cut,
-    ) -> Result<Book, RunError>
+    pub fn new(alloc: Global, start: &Rest, batch: &Batch, cut: &Cut) -> Result<Book, RunError>
         requires { IsLawfulCut batch.now cut.now.workers cut.now.lanes }
         ensures new { IfOk result (IsNewBook start.now batch.now cut.now) }
         ensures too_large { IsErrOf result RunError.TooLarge ↔ IsTooLarge start.now batch.now }

@@ -12,8 +12,8 @@ mod script;
 mod text;
 mod trace;
 
-pub use blink_settings::{CutKind, Driver, RunError, ServeError, Settings, SettingsError};
 pub use blink_locked::{Gate, Open};
+pub use blink_settings::{CutKind, Driver, RunError, ServeError, Settings, SettingsError};
 pub use outlet::{Outlet, flush_out, write_out};
 pub use replay::{first_of_no_worker, lanes_by_residue, run_parts, serve_replay, write_replay};
 pub use run::run_batch;

@@ -17,13 +17,12 @@ mod lane;
 mod needs;
 mod threads;
 
-use blink_settings::RunError;
-use blink_locked::Gate;
-use blink_settings::Driver;
 use blink_batch::{Answer, Batch, Cut, Op};
 use blink_index::Index;
 use blink_live::{Keeper, Live, LiveError, Pass};
+use blink_locked::Gate;
 use blink_rows::Allowance;
+use blink_settings::{Driver, RunError};
 use dealing::deal_all;
 use gathering::{gathered, passes_of};
 use std::alloc::Global;

@@ -12,16 +12,15 @@ ghost use Rattle.blink_run.specs.Served.{is_batch, part_after, part_text, script
 ghost use Rattle.blink_settings.specs.Settings.{lanes_by_residue};
 ghost use Rattle.blink_run.specs.ServedReplay.{AreTexts, AreToWrite, HaveRunParts, IsPartRefusal, IsPartsFault, LeavesReplay, Replays, TellsPart, TellsParts, TellsReplayFault, TellsReplayOf, TellsTooLarge, TellsWorkersFault, taken_where};
 
-use blink_locked::all_of;
-use blink_settings::ServeError;
 use crate::outlet::{Outlet, flush_out, write_out};
 use crate::script::{batches_with, new_index};
-use blink_settings::Settings;
 use crate::text::{push_answers, push_scan};
 use crate::trace::trace_steps;
 use blink_batch::{Batch, Cut, Lanes, Part, read_script};
 use blink_index::Index;
 use blink_index::laws::{no_other_map_is_kept, the_map_is_kept};
+use blink_locked::all_of;
+use blink_settings::{ServeError, Settings};
 use blink_steps::{StepError, World};
 use std::alloc::{AllocError, Global};
 use std::io::{Read, Write};

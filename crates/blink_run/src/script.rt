@@ -10,14 +10,13 @@ ghost use Rattle.blink_run.specs.Outlet.{GoesOut, Pours};
 ghost use Rattle.blink_run.specs.Text.{scan_text};
 ghost use Rattle.blink_run.specs.Served.{IsBatchFault, IsPartFault, LeavesFlushed, LeavesFront, LeavesLines, LeavesPart, Serves, TellsFault, is_batch, part_after, part_text, script_text};
 
-use blink_settings::ServeError;
-use blink_locked::Gate;
 use crate::outlet::{Outlet, flush_out, write_out};
 use crate::run::run_batch;
-use blink_settings::Settings;
 use crate::text::{push_answers, push_scan};
 use blink_batch::{Answer, Batch, Part, read_script};
 use blink_index::{Index, Scan};
+use blink_locked::Gate;
+use blink_settings::{ServeError, Settings};
 use std::alloc::{AllocError, Global};
 use std::io::{Read, Write};
 use std::sync::Wait;

@@ -6,9 +6,9 @@ ghost use Rattle.blink_live.specs.Allowed.{inserts_left, deletes_left};
 ghost use Rattle.blink_live.specs.Handles.{IsPassOf, keys_of, share_of};
 ghost use Rattle.blink_run.specs.Lanes.{CanRun, HasRun, IsPassAfter, MayRun, uses_deletion, lane_ops};
 
-use blink_locked::Gate;
 use blink_batch::{Answer, Batch, Op};
 use blink_live::{Live, Pass, PassError};
+use blink_locked::Gate;
 use std::sync::Wait;
 
 /// A lane on its way: its pass, and the answers to its operations so far.

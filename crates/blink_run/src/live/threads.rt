@@ -4,11 +4,11 @@ ghost use Rattle.std.specs.List.{AllZip};
 ghost use Rattle.blink_run.specs.Lanes.{HasRun, HaveRun, MayRun, MayRunAll, lane_ops, with_worker};
 ghost use Rattle.blink_locked.specs.Starts.{AtEach, IsStartRefusal, TellsNext};
 
-use blink_settings::RunError;
-use blink_locked::Gate;
 use crate::live::lane::LaneRun;
 use blink_batch::{Batch, Cut};
 use blink_live::Live;
+use blink_locked::Gate;
+use blink_settings::RunError;
 use std::alloc::Global;
 use std::sync::Wait;
 use std::thread::{self, Promise, PromisedHandle, Scope, Threads};
