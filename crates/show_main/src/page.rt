@@ -1,4 +1,4 @@
-//! The page but for its data: the text before it, and the text behind it.
+//! The page but for its data: the text before it, and the text behind it. `page/assemble.sh` makes this file of the three in `page/`.
 
 /// The page up to its data: the style, and what stands on the page.
 pub const HEAD: &str = r##"<!DOCTYPE html>
