@@ -1,4 +1,6 @@
+mod MoversAreThose
 mod OneMore
 mod TextOfReplay
 mod TurnsAreShown
 mod WhatIsGot
+mod WhoWouldMove

@@ -10,7 +10,7 @@ use Rattle.blink_show.specs.Turns.{Shows, no_turn, one_turn}
 pub behind : (old front word more new : List ℕ) → front ≡ old ++ word → new ≡ front ++ more → new ≡ old ++ (word ++ more)
 behind old front word more new to_front to_new = to_new ∙ ap (λ (text : List ℕ). text ++ more) to_front ∙ append_assoc old word more
 
-module _ (word : List ℕ) (may : PlainRun → ℕ → Type 0) where
+module _ (word : List ℕ) (may : List ℕ → PlainRun → ℕ → Type 0) where
   -- the text of turns so far is added behind what was there
   abbrev pub AddsTurns : PlainWorld → List ℕ → PlainWorld → List ℕ → List ℕ → Type 0
   AddsTurns start schedule world old new = (text : List ℕ) × Shows word may start schedule world text × (new ≡ old ++ text)
@@ -19,7 +19,7 @@ module _ (word : List ℕ) (may : PlainRun → ℕ → Type 0) where
   none_yet world old = ([], no_turn, sym (append-nil old))
 
   -- one turn more is one frame more
-  pub one_more : (start before after : PlainWorld) (schedule old so_far new : List ℕ) (worker : ℕ) (step : Step) → AddsTurns start schedule before old so_far → may before.run worker → TakesStep before worker step after
+  pub one_more : (start before after : PlainWorld) (schedule old so_far new : List ℕ) (worker : ℕ) (step : Step) → AddsTurns start schedule before old so_far → may schedule before.run worker → TakesStep before worker step after
       → new ≡ so_far ++ frame word before.run worker step after.run → AddsTurns start (schedule ++ worker ∷ []) after old new
   one_more start before after schedule old so_far new worker step adds allowed takes added =
       let line = frame word before.run worker step after.run in (

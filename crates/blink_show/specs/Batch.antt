@@ -7,7 +7,7 @@ use Rattle.blink_run.specs.Replay.{by_residue}
 use Rattle.blink_store.specs.Store.{PlainStore}
 use Rattle.blink_steps.specs.World.{PlainWorld, HasEnded, IsStart}
 use Rattle.blink_show.specs.Frames.{first_frame}
-use Rattle.blink_show.specs.Turns.{ShowsFinish, ShowsSchedule}
+use Rattle.blink_show.specs.Turns.{ShowsFinish}
 use Rattle.blink_show.specs.Words.{words_of_op}
 
 -- an operation: its place, its worker, and itself
@@ -19,14 +19,14 @@ abbrev pub ops_from : ℕ → ℕ → List Op → List ℕ
 ops_from workers place [] = []
 ops_from workers place (op ∷ ops) = op_line place (key_of op % workers) op ++ ops_from workers (place + 1) ops
 
--- the text of a batch's replay over a tree: its operations, the first moment, each turn of the schedule, and then each picked turn, until
--- all operations have ended
-pub record ShowsBatch (workers : ℕ) (schedule : List ℕ) (before : PlainStore) (ops : List Op) (text : List ℕ) : Type 0 where
+-- the text of a batch's replay over a tree: its operations, the first moment, the turns that are asked for, and then each picked turn,
+-- until all operations have ended
+pub record ShowsBatch (workers : ℕ) (asked : PlainWorld → PlainWorld → List ℕ → Type 0) (before : PlainStore) (ops : List Op) (text : List ℕ) : Type 0 where
   pub start : PlainWorld
   pub is_start : IsStart before ops (by_residue workers ops) start
   pub replayed : PlainWorld
   pub turns : List ℕ
-  pub shows_turns : ShowsSchedule start schedule replayed turns
+  pub shows_turns : asked start replayed turns
   pub finished : PlainWorld
   pub finish : List ℕ
   pub shows_finish : ShowsFinish replayed finished finish
@@ -34,5 +34,5 @@ pub record ShowsBatch (workers : ℕ) (schedule : List ℕ) (before : PlainStore
   pub its_text : text ≡ ops_from workers 0 ops ++ (first_frame start.run ++ (turns ++ finish))
 
 -- such a text is added behind what was there
-abbrev pub AddsBatch : ℕ → List ℕ → PlainStore → List Op → List ℕ → List ℕ → Type 0
-AddsBatch workers schedule before ops old new = (text : List ℕ) × ShowsBatch workers schedule before ops text × (new ≡ old ++ text)
+abbrev pub AddsBatch : ℕ → (PlainWorld → PlainWorld → List ℕ → Type 0) → PlainStore → List Op → List ℕ → List ℕ → Type 0
+AddsBatch workers asked before ops old new = (text : List ℕ) × ShowsBatch workers asked before ops text × (new ≡ old ++ text)

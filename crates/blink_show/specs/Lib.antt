@@ -2,6 +2,8 @@ pub mod Words
 pub mod Lines
 pub mod Frames
 pub mod Keeping
+pub mod Draw
 pub mod Turns
+pub mod Ways
 pub mod Batch
 pub mod Show

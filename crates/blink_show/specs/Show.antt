@@ -11,7 +11,9 @@ use Rattle.blink_run.specs.ServedReplay.{HaveRunParts}
 use Rattle.blink_settings.specs.declared.error.ServeError.{ServeError}
 use Rattle.blink_settings.specs.declared.error.ServeError.TheVariants as serve
 use Rattle.blink_store.specs.Store.{PlainStore, new_store}
+use Rattle.blink_steps.specs.World.{PlainWorld}
 use Rattle.blink_show.specs.Batch.{ShowsBatch}
+use Rattle.blink_show.specs.Turns.{ShowsDrawn, ShowsSchedule}
 
 -- this batch is the last of some parts
 pub record IsLastBatch (parts front : List Part) (ops : List Op) : Type 0 where
@@ -20,22 +22,31 @@ pub record IsLastBatch (parts front : List Part) (ops : List Op) : Type 0 where
   pub last : count_by is_batch rest ≡ 0
 
 -- the text of some parts over a tree: that of the last batch, over the tree that those before it leave; without a batch there is none
-pub data ShowsParts (workers : ℕ) (schedule : List ℕ) (start : PlainStore) (parts : List Part) (text : List ℕ) : Type 0 where
-  no_batch : count_by is_batch parts ≡ 0 → text ≡ [] → ShowsParts workers schedule start parts text
+pub data ShowsParts (workers : ℕ) (asked : PlainWorld → PlainWorld → List ℕ → Type 0) (start : PlainStore) (parts : List Part) (text : List ℕ) : Type 0 where
+  no_batch : count_by is_batch parts ≡ 0 → text ≡ [] → ShowsParts workers asked start parts text
   last_batch : (front : List Part) (ops : List Op) (before : PlainStore) → IsLastBatch parts front ops → HaveRunParts workers start front before
-      → ShowsBatch workers schedule before ops text → ShowsParts workers schedule start parts text
+      → ShowsBatch workers asked before ops text → ShowsParts workers asked start parts text
 
 -- the first two lines: the workers and the fan
 abbrev pub sizes_text : ℕ → ℕ → List ℕ
 sizes_text workers fan = codes "workers " ++ (decimal workers ++ (codes "\nfan " ++ (decimal fan ++ codes "\n")))
 
 -- the text between a head and a tail, of some records, where they are a script
-pub record IsShowText (head tail : List ℕ) (workers fan : ℕ) (schedule : List ℕ) (records : List (List (List ℕ))) (text : List ℕ) : Type 0 where
+pub record IsTextOf (head tail : List ℕ) (workers fan : ℕ) (asked : PlainWorld → PlainWorld → List ℕ → Type 0) (records : List (List (List ℕ))) (text : List ℕ) : Type 0 where
   pub parts : List Part
   pub a_script : script_of records ≡ Ok parts
   pub frames : List ℕ
-  pub shows : ShowsParts workers schedule (new_store fan) parts frames
+  pub shows : ShowsParts workers asked (new_store fan) parts frames
   pub its_text : text ≡ head ++ ((sizes_text workers fan ++ frames) ++ tail)
+
+-- that of a schedule's turns
+abbrev pub IsShowText : List ℕ → List ℕ → ℕ → ℕ → List ℕ → List (List (List ℕ)) → List ℕ → Type 0
+IsShowText head tail workers fan schedule records text =
+    IsTextOf head tail workers fan (λ (start world : PlainWorld) (turns : List ℕ). ShowsSchedule start schedule world turns) records text
+
+-- that of the turns that are drawn by a seed
+abbrev pub IsSeedText : List ℕ → List ℕ → ℕ → ℕ → ℕ → List (List (List ℕ)) → List ℕ → Type 0
+IsSeedText head tail workers fan seed records text = IsTextOf head tail workers fan (ShowsDrawn seed) records text
 
 -- nothing was written, unless the writer failed: then a beginning of such a text was
 abbrev pub LeavesShow : (List (List (List ℕ)) → List ℕ → Type 0) → Option (List ℕ) → ServeError → Option (List ℕ) → Option (List ℕ) → Type 0
@@ -43,5 +54,5 @@ LeavesShow is_text to_read serve.Output before after = WritesText (IsFrontOf is_
 LeavesShow is_text to_read error before after = Keeps before after
 
 -- such a text of parts is added behind what was there
-abbrev pub AddsParts : ℕ → List ℕ → PlainStore → List Part → List ℕ → List ℕ → Type 0
-AddsParts workers schedule start parts old new = (text : List ℕ) × ShowsParts workers schedule start parts text × (new ≡ old ++ text)
+abbrev pub AddsParts : ℕ → (PlainWorld → PlainWorld → List ℕ → Type 0) → PlainStore → List Part → List ℕ → List ℕ → Type 0
+AddsParts workers asked start parts old new = (text : List ℕ) × ShowsParts workers asked start parts text × (new ≡ old ++ text)

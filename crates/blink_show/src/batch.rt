@@ -1,11 +1,12 @@
 //! A batch's replay as text.
-ghost use Rattle.std.specs.Prelude.{◌≡◌, ◌<◌, ◌++◌, All, IfErr, OnOk, string_bytes};
+ghost use Rattle.std.specs.Prelude.{◌≡◌, ◌++◌, IfErr, OnOk, string_bytes};
 ghost use Rattle.blink_batch.specs.Cut.{MayWork};
 ghost use Rattle.blink_run.specs.ServedReplay.{IsPartsFault};
 ghost use Rattle.blink_show.specs.Batch.{AddsBatch, ops_from};
+ghost use Rattle.blink_show.specs.Ways.{AreOfWorkers, ShowsAsked};
 
 use crate::frame::Shown;
-use crate::turns::{show_finish, show_first, show_schedule};
+use crate::turns::{Turns, show_finish, show_first, show_turns};
 use crate::words::push_op;
 use blink_batch::{Batch, Op};
 use blink_index::Index;
@@ -14,28 +15,29 @@ use blink_steps::World;
 use std::alloc::{AllocError, Global};
 use std::fmt::Write as _;
 
-/// Runs a batch, cut by the remainders of its keys, over an index: a turn for each number of the schedule, and then picked turns to
-/// the end. Its operations are added to the text, and then a frame for the first moment and one for each turn.
+/// Runs a batch, cut by the remainders of its keys, over an index: the turns that are asked for, and then picked turns to the end. Its
+/// operations are added to the text, and then a frame for the first moment and one for each turn.
 pub(crate) fn show_batch(
     alloc: Global,
     index: Index,
     batch: Batch,
     workers: u8,
-    schedule: &[u8],
+    turns: Turns<'_>,
     text: &mut String,
 ) -> Result<(), ServeError>
     requires allowed { MayWork workers }
-    requires workers { All (λ worker. worker < workers) schedule.now }
+    requires workers { AreOfWorkers workers turns }
     ensures shown { OnOk result
-        (AddsBatch workers schedule.now index batch (string_bytes text.old) (string_bytes text.new)) }
+        (AddsBatch workers (ShowsAsked turns.entry) index batch (string_bytes text.old) (string_bytes text.new)) }
     ensures refused { IfErr result IsPartsFault }
 {
     push_ops(text, batch.ops(), workers)?;
     let lanes = lanes_by_residue(alloc, &batch, workers)?;
+    let owners = lanes.lanes().to_vec(alloc)?;
     let mut world = World::start(alloc, index.into_rest(), batch, lanes)?;
     let mut shown = Shown::nothing(alloc);
     show_first(alloc, &world, &mut shown, text)?;
-    show_schedule(alloc, &mut world, schedule, &mut shown, text)?;
+    show_turns(alloc, &mut world, turns, &owners, &mut shown, text)?;
     show_finish(alloc, &mut world, &mut shown, text)?;
     Ok(())
 }

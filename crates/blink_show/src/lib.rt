@@ -3,10 +3,11 @@
 #![tactic(auto)]
 
 mod batch;
+mod draw;
 mod frame;
 mod line;
 mod show;
 mod turns;
 mod words;
 
-pub use show::serve_show;
+pub use show::{serve_seed, serve_show};

@@ -1,12 +1,14 @@
 //! A script's replay, written to be looked at.
-ghost use Rattle.std.specs.Prelude.{◌≡◌, ◌<◌, ◌++◌, ◌↔◌, All, Err, IfErr, IfOk, OnOk, MatchOption, count_by, string_bytes};
+ghost use Rattle.std.specs.Prelude.{◌≡◌, ◌++◌, ◌↔◌, Err, IfErr, IfOk, OnOk, MatchOption, count_by, string_bytes};
 ghost use Rattle.blink_batch.specs.Cut.{MayWork};
 ghost use Rattle.blink_run.specs.Served.{WritesText, is_batch};
 ghost use Rattle.blink_run.specs.ServedReplay.{IsPartsFault, TellsReplayFault, TellsWorkersFault};
 ghost use Rattle.blink_steps.specs.World.{IsFirstNoWorker};
-ghost use Rattle.blink_show.specs.Show.{AddsParts, IsLastBatch, IsShowText, LeavesShow};
+ghost use Rattle.blink_show.specs.Show.{AddsParts, IsLastBatch, IsSeedText, IsShowText, IsTextOf, LeavesShow};
+ghost use Rattle.blink_show.specs.Ways.{AreOfWorkers, ShowsAsked};
 
 use crate::batch::show_batch;
+use crate::turns::Turns;
 use blink_batch::{Batch, Part, read_script};
 use blink_index::Index;
 use blink_run::{ServeError, Settings, first_of_no_worker, new_index, run_parts, write_replay};
@@ -47,27 +49,66 @@ pub fn serve_show<R: Read, W: Write>(
 {
     match first_of_no_worker(schedule, settings.workers()) {
         Some(worker) => Err(ServeError::Step(StepError::NoWorker(worker))),
-        None => show_script(alloc, reader, writer, settings, schedule, head, tail),
+        None => show_script(
+            alloc,
+            reader,
+            writer,
+            settings,
+            Turns::Schedule(schedule),
+            head,
+            tail,
+        ),
     }
 }
 
-// Shows it, where each number of the schedule is a worker.
+/// Reads a whole script and replays it, as [`serve_show`] does, by another order of turns: each turn of the last batch is a worker's that
+/// is drawn by the words of SplitMix64 from this seed, among those whose next turn neither waits nor is idle, until all operations have
+/// ended. What is written is the text of [`serve_show`] for that schedule.
+pub fn serve_seed<R: Read, W: Write>(
+    alloc: Global,
+    reader: &mut R,
+    writer: &mut W,
+    settings: &Settings,
+    seed: u64,
+    head: &str,
+    tail: &str,
+) -> Result<(), ServeError>
+    ensures shown { OnOk result (WritesText
+        (IsSeedText head.now tail.now settings.now.workers settings.now.fan seed)
+        (R.remaining reader.old) (W.contents writer.old) (W.contents writer.new)) }
+    ensures fault { IfErr result (TellsWorkersFault (R.remaining reader.old)) }
+    ensures left { IfErr result (λ error. LeavesShow
+        (IsSeedText head.now tail.now settings.now.workers settings.now.fan seed)
+        (R.remaining reader.old) error (W.contents writer.old) (W.contents writer.new)) }
+{
+    show_script(
+        alloc,
+        reader,
+        writer,
+        settings,
+        Turns::Seed(seed),
+        head,
+        tail,
+    )
+}
+
+// Shows it by the turns that are asked for, where each number of a schedule is a worker.
 fn show_script<R: Read, W: Write>(
     alloc: Global,
     reader: &mut R,
     writer: &mut W,
     settings: &Settings,
-    schedule: &[u8],
+    turns: Turns<'_>,
     head: &str,
     tail: &str,
 ) -> Result<(), ServeError>
-    requires { All (λ worker. worker < settings.now.workers) schedule.now }
+    requires { AreOfWorkers settings.now.workers turns }
     ensures shown { OnOk result (WritesText
-        (IsShowText head.now tail.now settings.now.workers settings.now.fan schedule.now)
+        (IsTextOf head.now tail.now settings.now.workers settings.now.fan (ShowsAsked turns.entry))
         (R.remaining reader.old) (W.contents writer.old) (W.contents writer.new)) }
     ensures fault { IfErr result (TellsWorkersFault (R.remaining reader.old)) }
     ensures left { IfErr result (λ error. LeavesShow
-        (IsShowText head.now tail.now settings.now.workers settings.now.fan schedule.now)
+        (IsTextOf head.now tail.now settings.now.workers settings.now.fan (ShowsAsked turns.entry))
         (R.remaining reader.old) error (W.contents writer.old) (W.contents writer.new)) }
 {
     let script = read_script(alloc, reader)?;
@@ -84,7 +125,7 @@ fn show_script<R: Read, W: Write>(
         index,
         script.parts,
         settings.workers(),
-        schedule,
+        turns,
         &mut text,
     )?;
     write_replay(writer, head, &text, tail)
@@ -96,12 +137,12 @@ fn show_parts(
     index: Index,
     parts: Vec<Part>,
     workers: u8,
-    schedule: &[u8],
+    turns: Turns<'_>,
     text: &mut String,
 ) -> Result<(), ServeError>
     requires allowed { MayWork workers }
-    requires workers { All (λ worker. worker < workers) schedule.now }
-    ensures shown { OnOk result (AddsParts workers schedule.now index parts.items
+    requires workers { AreOfWorkers workers turns }
+    ensures shown { OnOk result (AddsParts workers (ShowsAsked turns.entry) index parts.items
         (string_bytes text.old) (string_bytes text.new)) }
     ensures refused { IfErr result IsPartsFault }
 {
@@ -109,7 +150,7 @@ fn show_parts(
     match take_last_batch(&mut front) {
         Some(batch) => {
             let index = run_parts(alloc, index, front, workers)?;
-            show_batch(alloc, index, batch, workers, schedule, text)
+            show_batch(alloc, index, batch, workers, turns, text)
         }
         None => Ok(()),
     }

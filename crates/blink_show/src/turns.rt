@@ -5,12 +5,25 @@ ghost use Rattle.blink_steps.specs.World.{HasEnded};
 ghost use Rattle.blink_steps.specs.Run.{PlainRun};
 ghost use Rattle.blink_show.specs.Frames.{first_frame, frame};
 ghost use Rattle.blink_show.specs.Keeping.{Keeps};
-ghost use Rattle.blink_show.specs.Turns.{AddsFinish, AddsSchedule};
+ghost use Rattle.blink_show.specs.Turns.{AddsDrawn, AddsFinish, AddsSchedule};
+ghost use Rattle.blink_show.specs.Ways.{AddsAsked, AreOfWorkers};
 
+use crate::draw::draw;
 use crate::frame::Shown;
 use blink_run::{ServeError, push_turn};
 use blink_steps::{Step, World};
+use rand_core::SeedableRng;
+use rand_xoshiro::SplitMix64;
 use std::alloc::{AllocError, Global};
+
+/// Which turns are taken before the finish.
+#[derive(Clone, Copy, Debug)]
+pub(crate) enum Turns<'a> {
+    /// Those of a schedule: the worker of each.
+    Schedule(&'a [u8]),
+    /// Those of workers that are drawn by this seed, until all operations have ended.
+    Seed(u64),
+}
 
 /// Adds the frame of the first moment.
 pub(crate) fn show_first(
@@ -29,8 +42,31 @@ pub(crate) fn show_first(
     shown.show(alloc, world, text)
 }
 
-/// Takes a turn for each number of the schedule, and adds a frame for each.
-pub(crate) fn show_schedule(
+/// Takes the turns that are asked for, and adds a frame for each. The owners are the workers of the batch's operations.
+pub(crate) fn show_turns(
+    alloc: Global,
+    world: &mut World,
+    turns: Turns<'_>,
+    owners: &[u8],
+    shown: &mut Shown,
+    text: &mut String,
+) -> Result<(), ServeError>
+    requires workers { AreOfWorkers world.old.run.assignment.workers turns }
+    requires owners { owners.now ≡ world.old.run.assignment.lanes }
+    requires kept { Keeps shown.old world.old.run }
+    ensures text { OnOk result
+        (AddsAsked turns.entry world.old world.new (string_bytes text.old) (string_bytes text.new)) }
+    ensures kept { OnOk result (Keeps shown.new world.new.run) }
+    ensures refused { IfErr result IsRefusedMemory }
+{
+    match turns {
+        Turns::Schedule(schedule) => show_schedule(alloc, world, schedule, shown, text),
+        Turns::Seed(seed) => show_drawn(alloc, world, seed, owners, shown, text),
+    }
+}
+
+// Takes a turn for each number of the schedule, and adds a frame for each.
+fn show_schedule(
     alloc: Global,
     world: &mut World,
     schedule: &[u8],
@@ -45,6 +81,30 @@ pub(crate) fn show_schedule(
     ensures refused { IfErr result IsRefusedMemory }
 {
     for &worker in schedule {
+        let step = world.step(worker)?;
+        show_turn(alloc, "turn ", worker, step, world, shown, text)?;
+    }
+    Ok(())
+}
+
+// Takes turns of workers that are drawn by the seed, until all operations have ended, and adds a frame for each.
+fn show_drawn(
+    alloc: Global,
+    world: &mut World,
+    seed: u64,
+    owners: &[u8],
+    shown: &mut Shown,
+    text: &mut String,
+) -> Result<(), ServeError>
+    requires owners { owners.now ≡ world.old.run.assignment.lanes }
+    requires kept { Keeps shown.old world.old.run }
+    ensures text { OnOk result
+        (AddsDrawn seed world.old world.new (string_bytes text.old) (string_bytes text.new)) }
+    ensures kept { OnOk result (Keeps shown.new world.new.run) }
+    ensures refused { IfErr result IsRefusedMemory }
+{
+    let mut chance = SplitMix64::seed_from_u64(seed);
+    while let Some(worker) = draw(alloc, world, owners, &mut chance)? {
         let step = world.step(worker)?;
         show_turn(alloc, "turn ", worker, step, world, shown, text)?;
     }

@@ -12,7 +12,7 @@ joined old ops first turns finish one two three four to_one to_two to_three to_f
 
 pub returns-clause-shown : goal.returns-clause-shown
 returns-clause-shown c =
-    let turns = c.in_ok-show_schedule.ensures.text in
+    let turns = c.in_ok-show_turns.ensures.text in
     let finish = c.in_ok-show_finish.ensures.text in
     let ops = ops_from c.args.workers 0 c.ops.result.now in
     let first = first_frame c.in_ok-world.world.run in (
@@ -20,7 +20,7 @@ returns-clause-shown c =
       record {
         start = c.in_ok-world.world;
         is_start = rw (c.in_ok-lanes.ensures.lanes, c.into_rest.ensures) at c.in_ok-world.ensures.start;
-        replayed = c.show_schedule.new.world;
+        replayed = c.show_turns.new.world;
         turns = turns.0;
         shows_turns = turns.1;
         finished = c.show_finish.new.world;
@@ -29,6 +29,6 @@ returns-clause-shown c =
         ended = c.in_ok-show_finish.ensures.ended;
         its_text = ap (λ (all : List Op). ops_from c.args.workers 0 all ++ (first ++ (turns.0 ++ finish.0))) c.ops.ensures.ops;
       },
-      joined (string_bytes c.args.text.now) ops first turns.0 finish.0 (string_bytes c.push_ops.new.text) (string_bytes c.show_first.new.text) (string_bytes c.show_schedule.new.text) (string_bytes c.show_finish.new.text)
+      joined (string_bytes c.args.text.now) ops first turns.0 finish.0 (string_bytes c.push_ops.new.text) (string_bytes c.show_first.new.text) (string_bytes c.show_turns.new.text) (string_bytes c.show_finish.new.text)
           c.in_ok-push_ops.ensures c.in_ok-show_first.ensures.text turns.2 finish.2,
     )
