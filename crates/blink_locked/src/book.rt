@@ -3,7 +3,8 @@ ghost use Rattle.std.specs.Prelude.{◌≡◌, ◌↔◌, All, IfOk, IfErr, IsTr
 ghost use Rattle.blink_batch.specs.Cut.{IsLawfulCut};
 ghost use Rattle.std.specs.Bool.{OnFalse};
 ghost use Rattle.blink_steps.specs.Pick.{WouldMove};
-ghost use Rattle.blink_steps.specs.World.{IsAtLanesEnd, IsStart, IsTooLarge};
+ghost use Rattle.blink_steps.specs.Promises.{IsPromised};
+ghost use Rattle.blink_steps.specs.World.{HasEnded, IsAtLanesEnd, IsStart, IsTooLarge};
 ghost use Rattle.blink_locked.specs.Book.{HasEndedOp, IsAtItsEnd, IsBookRefusal, IsNewBook, IsRunOf, IsSettleRefusal, MayTurn, StepsPage, Turns, stopped_book};
 ghost use Rattle.blink_locked.specs.Run.{IsSettled};
 
@@ -86,20 +87,17 @@ impl Book {
         requires { IsLawfulCut batch.now cut.now.workers cut.now.lanes }
         ensures { IfOk result (IsNewBook start.now batch.now cut.now) }
     {
-        let world = first_world(alloc, start, batch, cut)?;
-        let Ok(tree) = start.copy(alloc) else {
-            return Err(StepError::OutOfMemory);
-        };
-        let (Ok(ops), Ok(lanes)) = (copy_of(alloc, batch), lanes_of(alloc, batch, cut)) else {
-            return Err(StepError::OutOfMemory);
-        };
-        Ok(Book {
-            start: tree,
-            batch: ops,
-            lanes,
-            world,
-            stopped: false,
-        })
+        let (tree, ops, lanes) = copies(alloc, start, batch, cut)?;
+        match first_world(alloc, start, batch, cut) {
+            Ok(world) => Ok(Book {
+                start: tree,
+                batch: ops,
+                lanes,
+                world,
+                stopped: false,
+            }),
+            Err(refusal) => Err(refusal),
+        }
     }
 
     /// A turn of a worker, for the operation at this place of its lane: one step, unless that would be a wait, or the
@@ -181,8 +179,19 @@ impl Book {
             (λ done. IsSettled start.now batch.now cut.now done.0 done.1.items) }
         ensures refused { IfErr result IsSettleRefusal }
     {
-        let answers = self.all_answers(alloc, start, batch, cut)?;
-        Ok((self.world.into_rest(), answers))
+        match self.all_answers(alloc, start, batch, cut) {
+            Ok(given) => Ok((self.into_tree(), given)),
+            Err(refusal) => Err(refusal),
+        }
+    }
+
+    // The tree of a book at its end.
+    fn into_tree(self) -> Rest
+        requires { HasEnded self.world.run }
+        ensures tree { result ≡ self.world.run.shared.store }
+        ensures promised { IsPromised self.world }
+    {
+        self.world.into_rest()
     }
 
     // The answers, where it is the book of this run, at its end.
@@ -225,13 +234,29 @@ fn first_world(alloc: Global, start: &Rest, batch: &Batch, cut: &Cut) -> Result<
     requires { IsLawfulCut batch.now cut.now.workers cut.now.lanes }
     ensures { IfOk result (λ world. IsStart start.now batch.now cut.now world) }
 {
-    let Ok(tree) = start.copy(alloc) else {
-        return Err(StepError::OutOfMemory);
-    };
-    let (Ok(ops), Ok(lanes)) = (copy_of(alloc, batch), lanes_of(alloc, batch, cut)) else {
-        return Err(StepError::OutOfMemory);
-    };
+    let (tree, ops, lanes) = copies(alloc, start, batch, cut)?;
     World::start(alloc, tree, ops, lanes)
+}
+
+// The same tree, batch and lanes once more.
+fn copies(
+    alloc: Global,
+    start: &Rest,
+    batch: &Batch,
+    cut: &Cut,
+) -> Result<(Rest, Batch, Lanes), StepError>
+    requires { IsLawfulCut batch.now cut.now.workers cut.now.lanes }
+    ensures { IfOk result
+        (λ all. (all.0 ≡ start.now) × (all.1 ≡ batch.now) × (all.2 ≡ cut.now)) }
+{
+    let (Ok(tree), Ok(ops), Ok(lanes)) = (
+        start.copy(alloc),
+        copy_of(alloc, batch),
+        lanes_of(alloc, batch, cut),
+    ) else {
+        return Err(StepError::OutOfMemory);
+    };
+    Ok((tree, ops, lanes))
 }
 
 // The same batch once more.
