@@ -1,3 +1,4 @@
 pub mod BooksGoOn
 pub mod RunAtItsEnd
+pub mod EachPlace
 pub mod Offered

@@ -4,3 +4,5 @@
 pub use Rattle.blink_locked.proofs.BooksGoOn.{all_some, no_turn_yet}
 -- a run at its end: its answers and its map are those of one thread
 pub use Rattle.blink_locked.proofs.RunAtItsEnd.{IsDone, one_thread_answers, one_thread_map}
+-- what holds of each element of a list at its place
+pub use Rattle.blink_locked.proofs.EachPlace.{each_from_first, each_left, each_more, each_paired}

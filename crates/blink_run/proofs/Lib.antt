@@ -15,7 +15,6 @@ pub mod NeedsOfLane
 pub mod KeysOfLanes
 pub mod ChangesOfLanes
 pub mod LanesAreDealt
-pub mod EachPlace
 pub mod OutletsTake
 pub mod WhatWritersTake
 pub mod Offered

@@ -4,7 +4,7 @@ use Rattle.std.specs.List.{slice_get}
 use Rattle.std.proofs.lemmas.Option.{none-some}
 use Rattle.blink_run.specs.declared.live.lane.LaneRun.{LaneRun}
 use Rattle.blink_run.specs.Lanes.{IsNeeded, MayRun, lane_ops}
-use Rattle.blink_run.proofs.EachPlace.{each_more}
+use Rattle.blink_locked.proofs.Offered.{each_more}
 use Rattle.blink_run.proofs.LanesAreDealt.{HasDealtBefore, changes_are_allowed, dealt_all, dealt_none, dealt_one_more, keys_are_free, may_run}
 use Rattle.blink_run.proofs.live.dealing.deal_all.Goals as goal
 

@@ -5,7 +5,7 @@ use Rattle.std.proofs.lemmas.Option.{none-some}
 use Rattle.blink_run.specs.declared.live.lane.LaneRun.{LaneRun}
 use Rattle.blink_run.specs.Lanes.{MayRun, lane_ops, with_worker}
 use Rattle.blink_locked.specs.Starts.{AtEach}
-use Rattle.blink_run.proofs.EachPlace.{each_from_first, each_left, each_more}
+use Rattle.blink_locked.proofs.Offered.{each_from_first, each_left, each_more}
 use Rattle.blink_run.proofs.live.threads.start_all.Goals as goal
 
 -- none is started yet

@@ -3,7 +3,7 @@ use Rattle.std.proofs.lemmas.Slice.Zip.{AllZip-long}
 use Rattle.blink_run.specs.declared.live.lane.LaneRun.{LaneRun}
 use Rattle.blink_run.specs.declared.live.threads.RunsLane.{RunsLane}
 use Rattle.blink_run.specs.Lanes.{HasRun, lane_ops}
-use Rattle.blink_run.proofs.EachPlace.{each_paired}
+use Rattle.blink_locked.proofs.Offered.{each_paired}
 use Rattle.blink_run.proofs.live.threads.fn.run_all.scope.Goals as goal
 
 -- all workers have been started, and each lane has run
