@@ -4,9 +4,12 @@ use Rattle.clap.specs.Words.{App, Row, Rule, Text, fault_of, first_of, new_app, 
 use Rattle.blink_settings.specs.Settings.{IsAllowed, PlainSettings}
 use Rattle.blink_settings.specs.declared.settings.Driver.TheVariants.{Locked}
 use Rattle.blink_settings.specs.declared.settings.CutKind.TheVariants.{Residue}
+use Rattle.blink_batch.specs.Number.{number_of}
 use Rattle.blink_line.specs.Value.{IsSchedule, cut_of, driver_of, fan_of, workers_of}
 use Rattle.blink_line.specs.declared.line.Line.{Line}
 use Rattle.blink_line.specs.declared.line.Line.TheVariants.{Run, Replay}
+use Rattle.blink_line.specs.declared.line.Turns.{Turns}
+use Rattle.blink_line.specs.declared.line.Turns.TheVariants.{Schedule, Seed}
 use Rattle.blink_line.specs.declared.line.LineError.{LineError}
 use Rattle.blink_line.specs.declared.line.LineError.TheVariants.{Usage, OutOfMemory}
 
@@ -30,6 +33,10 @@ run = with_rule (with_rule (with_sizes (new_app (codes "run"))) (option_or (code
 abbrev pub replay : App
 replay = with_rule (with_sizes (new_app (codes "replay"))) (option (codes "schedule"))
 
+-- `replay [--workers N] [--fan F] [--schedule S] [--seed N]`
+abbrev pub replay_or_seed : App
+replay_or_seed = with_rule replay (option (codes "seed"))
+
 -- a command that wants a subcommand
 abbrev pub wanting_subcommand : App → App
 wanting_subcommand app = record app { top = record app.top { subcommand_required = true } }
@@ -38,9 +45,16 @@ wanting_subcommand app = record app { top = record app.top { subcommand_required
 abbrev pub blink : App
 blink = with_subcommand (with_subcommand (wanting_subcommand (new_app (codes "blink"))) run.top) replay.top
 
+-- that of the words of `blink-show`, as those of a replay
+abbrev pub show : App
+show = with_subcommand (wanting_subcommand (new_app (codes "blink"))) replay_or_seed.top
+
 -- clap finds no fault in the words
 abbrev pub IsTaken : List Text → Type 0
 IsTaken words = fault_of blink words ≡ []
+
+abbrev pub IsTakenToShow : List Text → Type 0
+IsTakenToShow words = fault_of show words ≡ []
 
 -- the value of an option, as it is given or else by default
 abbrev pub value : List Row → Text → Option Text
@@ -80,6 +94,33 @@ Asks words line = IsTaken words × SubcommandMeans (subcommand_of blink words) l
 -- the words of `blink-show`, the program's name first, as those of `blink replay`
 abbrev pub as_replay : List Text → List Text
 as_replay words = codes "blink" ∷ codes "replay" ∷ drop 1 words
+
+-- a schedule or a seed spells these turns; without both the schedule is empty, and both together spell none
+abbrev pub AreTurns : Option Text → Option Text → Turns → Type 0
+AreTurns schedule None (Schedule turns) = IsSchedule (unwrap_or schedule []) turns.items
+AreTurns schedule None (Seed number) = ⊥
+AreTurns None (Some seed) (Seed number) = number_of seed ≡ Some number
+AreTurns None (Some seed) (Schedule turns) = ⊥
+AreTurns (Some schedule) (Some seed) turns = ⊥
+
+-- the options of a replay with these settings and turns
+pub record HasTurns (rows : List Row) (settings : PlainSettings) (turns : Turns) : Type 0 where
+  pub sizes : HasSizes rows settings
+  pub cut : settings.cut ≡ Residue
+  pub driver : settings.driver ≡ Locked
+  pub spelled : AreTurns (value rows (codes "schedule")) (value rows (codes "seed")) turns
+
+-- the subcommand, with the values that its options have, asks to show these turns
+abbrev pub Shows : Text → List Row → PlainSettings → Turns → Type 0
+Shows name rows settings turns = (name ≡ codes "replay") × HasTurns rows settings turns
+
+abbrev pub SubcommandShows : Option (Text × List Row) → PlainSettings → Turns → Type 0
+SubcommandShows None settings turns = ⊥
+SubcommandShows (Some subcommand) settings turns = Shows subcommand.0 subcommand.1 settings turns
+
+-- clap takes the words of `blink-show`, put as those of `blink replay`, and their options ask for these turns
+abbrev pub AsksToShow : List Text → PlainSettings → Turns → Type 0
+AsksToShow words settings turns = IsTakenToShow words × SubcommandShows (subcommand_of show words) settings turns
 
 -- the workers and the fan are allowed
 abbrev pub HasAllowedSizes : Line → Type 0

@@ -7,4 +7,4 @@ mod line;
 mod value;
 
 pub use end::{End, ProgramError, end_of};
-pub use line::{Line, LineError, read_line, read_replay};
+pub use line::{Line, LineError, Turns, read_line, read_show};

@@ -4,10 +4,11 @@ ghost use Rattle.clap.specs.Walk.{texts};
 ghost use Rattle.clap.specs.Words.{first_of, found_of, kind_of, rows_of, subcommand_rows_of};
 ghost use Rattle.blink_settings.specs.Settings.{IsAllowed, PlainSettings};
 ghost use Rattle.blink_line.specs.Codes.{code_of_line_error};
-ghost use Rattle.blink_line.specs.Line.{as_replay, Asks, AsksToReplay, AsksToRun, HasAllowedSizes, HasSizes, IsBadValue, IsTaken, Means, SubcommandMeans, value};
+ghost use Rattle.blink_line.specs.Line.{as_replay, AreTurns, Asks, AsksToReplay, AsksToRun, AsksToShow, HasAllowedSizes, HasSizes, HasTurns, IsBadValue, IsTaken, IsTakenToShow, Means, Shows, SubcommandMeans, SubcommandShows, value};
 
-use crate::command::matches_of;
+use crate::command::{matches_of, show_matches_of};
 use crate::value::{cut_of, driver_of, fan_of, schedule_of, workers_of};
+use blink_batch::read_number;
 use blink_settings::{CutKind, Driver, Settings};
 use clap::ArgMatches;
 use clap::error::ErrorKind;
@@ -22,6 +23,15 @@ pub enum Line {
     /// The script on standard input is to be run step by step, in the order of this schedule: the numbers of workers,
     /// each from 0 to 63. Some may be no worker of the settings.
     Replay(Settings, Vec<u8>),
+}
+
+/// Which turns of a replay are to be shown.
+#[derive(Debug, PartialEq, Eq, Drop)]
+pub enum Turns {
+    /// Those of this schedule: the numbers of workers, each from 0 to 63. Some may be no worker of the settings.
+    Schedule(Vec<u8>),
+    /// Those of workers that are drawn by this seed.
+    Seed(u64),
 }
 
 /// Why a command line asks for nothing.
@@ -71,23 +81,28 @@ pub fn read_line(alloc: Global, words: &[&str]) -> Result<Line, LineError>
 }
 
 /// What the words of `blink-show` ask for, the program's name first: those behind it are read as `blink replay` reads its own, and
-/// have the same defaults and the same refusals. The answer is the settings and the schedule.
-pub fn read_replay(alloc: Global, words: &[&str]) -> Result<(Settings, Vec<u8>), LineError>
+/// have the same defaults and the same refusals; but `--seed N` may stand in the place of `--schedule S`. A seed is spelled as numbers
+/// in scripts are; both options together are refused as a bad value is.
+pub fn read_show(alloc: Global, words: &[&str]) -> Result<(Settings, Turns), LineError>
     ensures asked { IfOk result
-        (λ asked. Asks (as_replay (texts words.now)) (Line.Replay asked.0 asked.1)) }
+        (λ asked. AsksToShow (as_replay (texts words.now)) asked.0 asked.1) }
     ensures allowed { IfOk result (λ asked. IsAllowed asked.0.workers asked.0.fan) }
-    ensures refused { IfErr result (λ error. (settings : _) (schedule : _)
-        → Asks (as_replay (texts words.now)) (Line.Replay settings schedule)
-        → error ≡ LineError.OutOfMemory) }
+    ensures refused { IfErr result (λ error. (settings : _) (turns : _)
+        → AsksToShow (as_replay (texts words.now)) settings turns → error ≡ LineError.OutOfMemory) }
     ensures bad_value { IfErr result
-        (λ error. IsTaken (as_replay (texts words.now)) → IsBadValue error) }
+        (λ error. IsTakenToShow (as_replay (texts words.now)) → IsBadValue error) }
 {
     let Ok(words) = as_replay(alloc, words) else {
         return Err(LineError::OutOfMemory);
     };
-    match read_line(alloc, words.as_slice())? {
-        Line::Replay(settings, schedule) => Ok((settings, schedule)),
-        Line::Run(_) => Err(bad_value(alloc)),
+    let matches = match show_matches_of(alloc, words.as_slice()) {
+        Ok(matches) => matches,
+        Err(error) => return Err(refusal(alloc, &error)),
+    };
+    match asked_to_show(alloc, &matches) {
+        Ok(Some(asked)) => Ok(asked),
+        Ok(None) => Err(bad_value(alloc)),
+        Err(_) => Err(LineError::OutOfMemory),
     }
 }
 
@@ -179,6 +194,78 @@ fn replay_of(alloc: Global, found: &ArgMatches<'_>) -> Result<Option<Line>, Allo
     };
     let schedule = schedule_of(alloc, value(found, "schedule").unwrap_or(""))?;
     Ok(schedule.map(|schedule| Line::Replay(settings, schedule)))
+}
+
+// What the words of `blink-show` ask for, if their values are allowed.
+fn asked_to_show(
+    alloc: Global,
+    matches: &ArgMatches<'_>,
+) -> Result<Option<(Settings, Turns)>, AllocError>
+    ensures meant { IfOk result (λ meant. MatchOption meant
+        ((settings : _) (turns : _) → ¬ SubcommandShows (subcommand_rows_of matches.now) settings turns)
+        (λ asked. SubcommandShows (subcommand_rows_of matches.now) asked.0 asked.1)) }
+    ensures allowed { IfOk result
+        (λ meant. IfSome meant (λ asked. IsAllowed asked.0.workers asked.0.fan)) }
+{
+    match matches.subcommand() {
+        Some((name, found)) => named_to_show(alloc, name, found),
+        None => Ok(None),
+    }
+}
+
+fn named_to_show(
+    alloc: Global,
+    name: &str,
+    found: &ArgMatches<'_>,
+) -> Result<Option<(Settings, Turns)>, AllocError>
+    ensures meant { IfOk result (λ meant. MatchOption meant
+        ((settings : _) (turns : _) → ¬ Shows name.now (rows_of (found_of found.now)) settings turns)
+        (λ asked. Shows name.now (rows_of (found_of found.now)) asked.0 asked.1)) }
+    ensures allowed { IfOk result
+        (λ meant. IfSome meant (λ asked. IsAllowed asked.0.workers asked.0.fan)) }
+{
+    if name == "replay" {
+        show_of(alloc, found)
+    } else {
+        Ok(None)
+    }
+}
+
+// What a replay with these options asks to show.
+fn show_of(alloc: Global, found: &ArgMatches<'_>) -> Result<Option<(Settings, Turns)>, AllocError>
+    ensures meant { IfOk result (λ meant. MatchOption meant
+        ((settings : _) (turns : _) → ¬ HasTurns (rows_of (found_of found.now)) settings turns)
+        (λ asked. HasTurns (rows_of (found_of found.now)) asked.0 asked.1)) }
+    ensures allowed { IfOk result
+        (λ meant. IfSome meant (λ asked. IsAllowed asked.0.workers asked.0.fan)) }
+{
+    let Some(settings) = settings_of(found, CutKind::Residue, Driver::Locked) else {
+        return Ok(None);
+    };
+    let turns = turns_of(alloc, value(found, "schedule"), value(found, "seed"))?;
+    Ok(turns.map(|turns| (settings, turns)))
+}
+
+// The turns that a schedule or a seed spells; both are none.
+fn turns_of(
+    alloc: Global,
+    schedule: Option<&str>,
+    seed: Option<&str>,
+) -> Result<Option<Turns>, AllocError>
+    ensures { IfOk result (λ found. MatchOption found
+        ((turns : _) → ¬ AreTurns (option_map (λ text. text.now) schedule.entry)
+        (option_map (λ text. text.now) seed.entry) turns)
+        (AreTurns (option_map (λ text. text.now) schedule.entry)
+        (option_map (λ text. text.now) seed.entry))) }
+{
+    let Some(seed) = seed else {
+        let schedule = schedule_of(alloc, schedule.unwrap_or(""))?;
+        return Ok(schedule.map(Turns::Schedule));
+    };
+    if schedule.is_some() {
+        return Ok(None);
+    }
+    Ok(read_number(seed.as_bytes()).map(Turns::Seed))
 }
 
 // The settings with the sizes that the options spell.

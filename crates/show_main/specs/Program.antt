@@ -1,45 +1,57 @@
 -- What the program writes for a command line, and what it leaves behind after a refusal.
-use Rattle.std.specs.Prelude.{◌≡◌, ⊤, ℕ, List, Option}
+use Rattle.std.specs.Prelude.{◌≡◌, ℕ, List, Option}
 use Rattle.std.specs.Io.KnownBytes.{Keeps}
 use Rattle.clap.specs.Words.{Text}
-use Rattle.blink_line.specs.Line.{Asks, as_replay}
+use Rattle.blink_line.specs.Line.{AsksToShow, as_replay}
 use Rattle.blink_line.specs.declared.end.ProgramError.{ProgramError}
 use Rattle.blink_line.specs.declared.end.ProgramError.TheVariants as program
-use Rattle.blink_line.specs.declared.line.Line.{Line}
-use Rattle.blink_line.specs.declared.line.Line.TheVariants.{Run, Replay}
-use Rattle.blink_line.specs.declared.line.LineError.{LineError}
 use Rattle.blink_line.specs.declared.line.LineError.TheVariants.{OutOfMemory}
+use Rattle.blink_line.specs.declared.line.Turns.{Turns}
+use Rattle.blink_line.specs.declared.line.Turns.TheVariants.{Schedule, Seed}
 use Rattle.blink_run.specs.Served.{WritesText}
-use Rattle.blink_run.specs.ServedReplay.{TellsReplayFault}
+use Rattle.blink_run.specs.ServedReplay.{TellsReplayFault, TellsWorkersFault}
 use Rattle.blink_settings.specs.declared.error.ServeError.{ServeError}
-use Rattle.blink_show.specs.Show.{IsShowText, LeavesShow}
+use Rattle.blink_settings.specs.Settings.{PlainSettings}
+use Rattle.blink_show.specs.Show.{IsSeedText, IsShowText, LeavesShow}
 
--- the page of some records, where they are a script, for a line that asks for a replay
-abbrev pub IsPage : List ℕ → List ℕ → Line → List (List (List ℕ)) → List ℕ → Type 0
-IsPage head tail (Run settings) records text = ⊥
-IsPage head tail (Replay settings schedule) records text = IsShowText head tail settings.workers settings.fan schedule.items records text
+-- the page of some records, where they are a script, for these turns
+abbrev pub IsPage : List ℕ → List ℕ → PlainSettings → Turns → List (List (List ℕ)) → List ℕ → Type 0
+IsPage head tail settings (Schedule schedule) records text = IsShowText head tail settings.workers settings.fan schedule.items records text
+IsPage head tail settings (Seed seed) records text = IsSeedText head tail settings.workers settings.fan seed records text
 
--- the words ask for a replay, as those of `blink replay` do, and its page is written behind what was written before
-abbrev pub WritesPage : List ℕ → List ℕ → List Text → Option (List ℕ) → Option (List ℕ) → Option (List ℕ) → Type 0
-WritesPage head tail words to_read before after = (line : Line) × Asks (as_replay words) line × WritesText (IsPage head tail line) to_read before after
+-- the words ask to show turns of a replay, and its page is written behind what was written before
+pub record WritesPage (head tail : List ℕ) (words : List Text) (to_read before after : Option (List ℕ)) : Type 0 where
+  pub settings : PlainSettings
+  pub turns : Turns
+  pub asks : AsksToShow (as_replay words) settings turns
+  pub writes : WritesText (IsPage head tail settings turns) to_read before after
+
+-- the page that the words ask for isn't written, and this is left
+pub record LeavesPage (head tail : List ℕ) (words : List Text) (to_read : Option (List ℕ)) (error : ServeError) (before after : Option (List ℕ)) : Type 0 where
+  pub settings : PlainSettings
+  pub turns : Turns
+  pub asks : AsksToShow (as_replay words) settings turns
+  pub leaves : LeavesShow (IsPage head tail settings turns) to_read error before after
 
 -- nothing was written, unless the writer failed: then a beginning of such a page was
 abbrev pub Leaves : List ℕ → List ℕ → List Text → Option (List ℕ) → ProgramError → Option (List ℕ) → Option (List ℕ) → Type 0
-Leaves head tail words to_read (program.Serve error) before after = (line : Line) × Asks (as_replay words) line × LeavesShow (IsPage head tail line) to_read error before after
+Leaves head tail words to_read (program.Serve error) before after = LeavesPage head tail words to_read error before after
 Leaves head tail words to_read error before after = Keeps before after
 
--- the words ask for this replay, and it isn't carried out for this reason
-abbrev pub TellsFault : Line → Option (List ℕ) → ServeError → Type 0
-TellsFault (Run settings) to_read error = ⊥
-TellsFault (Replay settings schedule) to_read error = TellsReplayFault settings.workers schedule.items to_read error
+-- why these turns aren't shown
+abbrev pub TellsFault : PlainSettings → Turns → Option (List ℕ) → ServeError → Type 0
+TellsFault settings (Schedule schedule) to_read error = TellsReplayFault settings.workers schedule.items to_read error
+TellsFault settings (Seed seed) to_read error = TellsWorkersFault to_read error
 
--- a replay that is asked for is refused for want of memory alone
-abbrev pub IsRefusal : Line → LineError → Type 0
-IsRefusal (Run settings) error = ⊤
-IsRefusal (Replay settings schedule) error = error ≡ OutOfMemory
+-- the words ask to show turns that aren't shown for this reason
+pub record TellsPageFault (words : List Text) (to_read : Option (List ℕ)) (error : ServeError) : Type 0 where
+  pub settings : PlainSettings
+  pub turns : Turns
+  pub asks : AsksToShow (as_replay words) settings turns
+  pub fault : TellsFault settings turns to_read error
 
--- why no page is written: the words ask for no replay, or memory was refused; or the replay that they ask for isn't carried out
+-- why no page is written: the words ask for none, or memory was refused; or the one that they ask for isn't made
 abbrev pub IsFault : List Text → Option (List ℕ) → ProgramError → Type 0
-IsFault words to_read (program.Line error) = (line : Line) → Asks (as_replay words) line → IsRefusal line error
-IsFault words to_read (program.Serve error) = (line : Line) × Asks (as_replay words) line × TellsFault line to_read error
+IsFault words to_read (program.Line error) = (settings : PlainSettings) (turns : Turns) → AsksToShow (as_replay words) settings turns → error ≡ OutOfMemory
+IsFault words to_read (program.Serve error) = TellsPageFault words to_read error
 IsFault words to_read program.Memory = ⊥

@@ -1,10 +1,13 @@
 //! What the command line asks for, carried out.
 ghost use Rattle.std.specs.Prelude.{◌≡◌, IfErr, OnOk};
 ghost use Rattle.clap.specs.Walk.{texts};
-ghost use Rattle.show_main.specs.Program.{IsFault, Leaves, WritesPage};
+ghost use Rattle.blink_run.specs.Served.{WritesText};
+ghost use Rattle.blink_show.specs.Show.{LeavesShow};
+ghost use Rattle.show_main.specs.Program.{IsFault, IsPage, Leaves, TellsFault, WritesPage};
 
-use blink_line::{ProgramError, read_replay};
-use blink_show::serve_show;
+use blink_line::{ProgramError, Turns, read_show};
+use blink_run::{ServeError, Settings};
+use blink_show::{serve_seed, serve_show};
 use std::alloc::Global;
 use std::io::{Read, Write};
 
@@ -28,12 +31,38 @@ pub fn carry_out<R: Read, W: Write>(
     ensures left { IfErr result (λ error. Leaves head.now tail.now (texts words.now)
         (R.remaining reader.old) error (W.contents writer.old) (W.contents writer.new)) }
 {
-    let (settings, schedule) = match read_replay(alloc, words) {
+    let (settings, turns) = match read_show(alloc, words) {
         Ok(asked) => asked,
         Err(error) => return Err(ProgramError::Line(error)),
     };
-    match serve_show(alloc, reader, writer, &settings, &schedule, head, tail) {
+    match show(alloc, &settings, &turns, head, tail, reader, writer) {
         Ok(()) => Ok(()),
         Err(error) => Err(ProgramError::Serve(error)),
+    }
+}
+
+// Writes the page of these turns.
+fn show<R: Read, W: Write>(
+    alloc: Global,
+    settings: &Settings,
+    turns: &Turns,
+    head: &str,
+    tail: &str,
+    reader: &mut R,
+    writer: &mut W,
+) -> Result<(), ServeError>
+    ensures written { OnOk result (WritesText
+        (IsPage head.now tail.now settings.now turns.now)
+        (R.remaining reader.old) (W.contents writer.old) (W.contents writer.new)) }
+    ensures fault { IfErr result (TellsFault settings.now turns.now (R.remaining reader.old)) }
+    ensures left { IfErr result (λ error. LeavesShow
+        (IsPage head.now tail.now settings.now turns.now)
+        (R.remaining reader.old) error (W.contents writer.old) (W.contents writer.new)) }
+{
+    match turns {
+        Turns::Schedule(schedule) => {
+            serve_show(alloc, reader, writer, settings, schedule, head, tail)
+        }
+        Turns::Seed(seed) => serve_seed(alloc, reader, writer, settings, *seed, head, tail),
     }
 }

@@ -1,10 +1,9 @@
-use Rattle.blink_line.specs.declared.line.Line.TheVariants.{Replay}
 use Rattle.show_main.proofs.program.carry_out.Goals as goal
 
--- the replay that the words ask for has its page
-pub returns-in-Ok-serve_show-clause-written : goal.returns-in-Ok-serve_show-clause-written
-returns-in-Ok-serve_show-clause-written g c = (Replay c.in-Ok.asked.0 c.in-Ok.asked.1, c.in-Ok.ensures.asked, rw c.deref.ensures.value at c.in-Ok-serve_show.ensures.shown)
+-- the turns that the words ask for have their page
+pub returns-in-Ok-show-clause-written : goal.returns-in-Ok-show-clause-written
+returns-in-Ok-show-clause-written g c = record { settings = c.in-Ok.asked.0; turns = c.in-Ok.asked.1; asks = c.in-Ok.ensures.asked; writes = c.in-Ok-show.ensures.written }
 
--- or it leaves what the replay leaves
+-- or it leaves what is left of that page
 pub returns-clause-left : goal.returns-clause-left
-returns-clause-left g c = (Replay c.in-Ok.asked.0 c.in-Ok.asked.1, c.in-Ok.ensures.asked, rw c.deref.ensures.value at c.in-Err-serve_show.ensures.left)
+returns-clause-left g c = record { settings = c.in-Ok.asked.0; turns = c.in-Ok.asked.1; asks = c.in-Ok.ensures.asked; leaves = c.in-Err-show.ensures.left }
