@@ -1,5 +1,5 @@
 -- How a program ends, and what standard error is told.
-use Rattle.std.specs.Prelude.{ℕ, List, Option, Some, None, Result, Ok, Err, codes, string_bytes}
+use Rattle.std.specs.Prelude.{◌≡◌, ℕ, List, Option, Some, None, Result, Ok, Err, codes, string_bytes}
 use Rattle.std.specs.Str.{trim_end}
 use Rattle.blink_settings.specs.declared.error.ServeError.TheVariants as serve
 use Rattle.blink_line.specs.declared.end.ProgramError.{ProgramError}
@@ -22,3 +22,7 @@ lines_of (program.Serve (serve.Step error)) = None
 lines_of (program.Serve serve.Output) = Some (codes "output: write failed")
 lines_of (program.Serve serve.OutOfMemory) = Some (codes "run: out of memory")
 lines_of program.Memory = Some (codes "run: out of memory")
+
+-- the text is the error's line, where that is known
+abbrev pub IsLineOf : ProgramError → List ℕ → Type 0
+IsLineOf error text = (known : List ℕ) → lines_of error ≡ Some known → text ≡ known

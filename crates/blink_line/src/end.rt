@@ -1,12 +1,13 @@
 //! How a program ends.
-ghost use Rattle.std.specs.Prelude.{◌≡◌};
+ghost use Rattle.std.specs.Prelude.{◌≡◌, IfOk, string_bytes};
 ghost use Rattle.std.specs.Process.{exit_status};
 ghost use Rattle.blink_line.specs.Codes.{status_of, status_of_end};
-ghost use Rattle.blink_line.specs.End.{failure_of};
+ghost use Rattle.blink_line.specs.End.{IsLineOf, failure_of};
+ghost use Rattle.blink_line.specs.declared.end.ProgramError.TheVariants.{Serve};
 
 use crate::line::LineError;
 use blink_settings::ServeError;
-use std::alloc::AllocError;
+use std::alloc::{AllocError, Global};
 use std::fmt;
 use std::process::ExitCode;
 
@@ -106,6 +107,17 @@ pub fn end_of(outcome: Result<(), ProgramError>) -> End
             failure: Some(error),
         },
     }
+}
+
+/// How the program tells of a script that it couldn't serve: its exit status, and a line for standard error without its line feed. The
+/// program itself writes the same line as it is made, so that it needs no memory for that.
+pub fn fault(alloc: Global, error: &ServeError) -> Result<(u8, String), AllocError>
+    ensures status { IfOk result (λ told. told.0 ≡ status_of (Serve error.now)) }
+    ensures fixed { IfOk result (λ told. IsLineOf (Serve error.now) (string_bytes told.1)) }
+{
+    let failure = ProgramError::Serve(*error);
+    let line = format!(in alloc; "{failure}")?;
+    Ok((status_of(&failure), line))
 }
 
 // The exit status after an error.

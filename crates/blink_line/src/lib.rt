@@ -6,5 +6,5 @@ mod end;
 mod line;
 mod value;
 
-pub use end::{End, ProgramError, end_of};
+pub use end::{End, ProgramError, end_of, fault};
 pub use line::{Line, LineError, Turns, read_line, read_show};

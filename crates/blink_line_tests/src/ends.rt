@@ -1,6 +1,6 @@
 //! The exit status and the lines of each end of a program.
 use blink_batch::{RecordError, ScriptError};
-use blink_line::{LineError, ProgramError, end_of};
+use blink_line::{LineError, ProgramError, end_of, fault};
 use blink_run::{RunError, ServeError};
 use blink_steps::StepError;
 use std::alloc::Global;
@@ -52,6 +52,8 @@ fn expect_fault<R: Abort + Eprint>(
     status: u8,
     line: &str,
 ) -> Result<(), Fail> {
+    let (told, text) = fault(alloc, &error)?;
+    assert_eq!(rt; (told, text.as_str()), (status, line));
     expect_end(rt, alloc, ProgramError::Serve(error), status, line)
 }
 
