@@ -865,24 +865,14 @@ function goToNote(direction) {
 
 // ---- the picture in sight
 
-// Moves what the tree's frame shows, and not the page, until the box is in it.
-function bringIntoSight(found) {
-  const sight = byId("sight");
+// Moves what a list or the tree's frame shows, and not the page, until the found is in it.
+function bringIntoSight(sight, found, margin) {
+  if (found === null) return;
   const frame = sight.getBoundingClientRect();
   const box = found.getBoundingClientRect();
   const reach = (from, to, low, high) => (from < low ? from - low : to > high ? Math.min(to - high, from - low) : 0);
-  sight.scrollLeft += reach(box.left - 24, box.right + 24, frame.left, frame.right);
-  sight.scrollTop += reach(box.top - 24, box.bottom + 24, frame.top, frame.bottom);
-}
-
-// The row of the turn's worker in the list of all.
-function bringWorkerIntoSight() {
-  const list = byId("workers");
-  const row = list.querySelector(".acts");
-  if (row === null) return;
-  const top = row.offsetTop - list.offsetTop;
-  if (top < list.scrollTop) list.scrollTop = top;
-  if (top + row.offsetHeight > list.scrollTop + list.clientHeight) list.scrollTop = top + row.offsetHeight - list.clientHeight;
+  sight.scrollLeft += reach(box.left - margin, box.right + margin, frame.left, frame.right);
+  sight.scrollTop += reach(box.top - margin, box.bottom + margin, frame.top, frame.bottom);
 }
 
 // The address follows a little later: browsers bear only so many changes of it.
@@ -914,9 +904,8 @@ function show(at) {
   reachTurn();
   keepAddress();
   if (frame.kind === "first") byId("sight").scrollTo(0, 0);
-  const found = document.querySelector("#tree .ring") || document.querySelector("#tree .stood");
-  if (found !== null) bringIntoSight(found);
-  bringWorkerIntoSight();
+  bringIntoSight(byId("sight"), document.querySelector("#tree .ring") || document.querySelector("#tree .stood"), 24);
+  bringIntoSight(byId("workers"), document.querySelector("#workers .acts"), 0);
   return size;
 }
 
@@ -980,6 +969,7 @@ function drawRest() {
     byId("next-page").href = view.notes.next[0];
     byId("next-page").textContent = view.notes.next[1];
   }
+  byId("again").open = view.notes.turns.length === 0;
   byId("asked").textContent = "blink replay " + asked();
   byId("workers").style.height = "min(45vh, " + (workers * 5.6 + 0.4) + "rem)";
   byId("decided").style.height = "min(22vh, " + (ops.length * 1.4 + 0.6) + "rem)";

@@ -54,7 +54,7 @@ main p { margin: 0 0 .15rem; }
 #tally span { margin-right: 1.2rem; padding: 0 .2rem; }
 aside { border-left: 1px solid var(--line); display: flex; flex-direction: column; min-height: 0; }
 h2 { font-size: .8rem; margin: .5rem .7rem .15rem; color: var(--soft); font-weight: 600; }
-#workers, #decided { overflow: auto; flex: none; border-bottom: 1px solid var(--line); padding: 0 .7rem .2rem; font-size: .85rem; }
+#workers, #decided { overflow: auto; flex: 0 1 auto; min-height: 4rem; border-bottom: 1px solid var(--line); padding: 0 .7rem .2rem; font-size: .85rem; }
 aside p { margin: 0; overflow-wrap: anywhere; }
 table { border-collapse: collapse; width: 100%; }
 td, th { text-align: left; vertical-align: top; padding: .1rem .3rem .1rem 0; overflow-wrap: anywhere; }
@@ -65,8 +65,8 @@ td .soft { color: var(--soft); }
 svg.sign { display: inline-block; width: .8rem; height: .8rem; margin: 0 .3rem 0 0; vertical-align: -1px; }
 #turns { overflow: auto; flex: 1 1 0; min-height: 5rem; font-size: 13px; }
 #lines { position: relative; }
-details { border-top: 1px solid var(--line); padding: .3rem .7rem; font-size: .85rem; }
-details code { display: block; max-height: 8rem; overflow: auto; overflow-wrap: anywhere; user-select: all; }
+details { flex: none; border-top: 1px solid var(--line); padding: .3rem .7rem; font-size: .85rem; }
+details code { display: block; max-height: 5.2em; overflow: auto; word-break: break-all; user-select: all; }
 summary { cursor: pointer; color: var(--soft); font-weight: 600; }
 #turns div div { position: absolute; left: 0; right: 0; height: 18px; line-height: 18px; padding: 0 .7rem; cursor: pointer; white-space: pre; }
 #turns div div[aria-current] { background: var(--pick); font-weight: 700; }
@@ -165,8 +165,8 @@ svg .debt { fill: var(--back); font-weight: 700; }
   <div id="decided"></div>
   <h2 class="turns">Turns</h2>
   <div id="turns" role="region" aria-label="turns" tabindex="0"><div id="lines"></div></div>
-  <details>
-    <summary>To see this again</summary>
+  <details id="again">
+    <summary>The schedule, for blink replay</summary>
     <code id="asked"></code>
   </details>
 </aside>
@@ -1044,24 +1044,14 @@ function goToNote(direction) {
 
 // ---- the picture in sight
 
-// Moves what the tree's frame shows, and not the page, until the box is in it.
-function bringIntoSight(found) {
-  const sight = byId("sight");
+// Moves what a list or the tree's frame shows, and not the page, until the found is in it.
+function bringIntoSight(sight, found, margin) {
+  if (found === null) return;
   const frame = sight.getBoundingClientRect();
   const box = found.getBoundingClientRect();
   const reach = (from, to, low, high) => (from < low ? from - low : to > high ? Math.min(to - high, from - low) : 0);
-  sight.scrollLeft += reach(box.left - 24, box.right + 24, frame.left, frame.right);
-  sight.scrollTop += reach(box.top - 24, box.bottom + 24, frame.top, frame.bottom);
-}
-
-// The row of the turn's worker in the list of all.
-function bringWorkerIntoSight() {
-  const list = byId("workers");
-  const row = list.querySelector(".acts");
-  if (row === null) return;
-  const top = row.offsetTop - list.offsetTop;
-  if (top < list.scrollTop) list.scrollTop = top;
-  if (top + row.offsetHeight > list.scrollTop + list.clientHeight) list.scrollTop = top + row.offsetHeight - list.clientHeight;
+  sight.scrollLeft += reach(box.left - margin, box.right + margin, frame.left, frame.right);
+  sight.scrollTop += reach(box.top - margin, box.bottom + margin, frame.top, frame.bottom);
 }
 
 // The address follows a little later: browsers bear only so many changes of it.
@@ -1093,9 +1083,8 @@ function show(at) {
   reachTurn();
   keepAddress();
   if (frame.kind === "first") byId("sight").scrollTo(0, 0);
-  const found = document.querySelector("#tree .ring") || document.querySelector("#tree .stood");
-  if (found !== null) bringIntoSight(found);
-  bringWorkerIntoSight();
+  bringIntoSight(byId("sight"), document.querySelector("#tree .ring") || document.querySelector("#tree .stood"), 24);
+  bringIntoSight(byId("workers"), document.querySelector("#workers .acts"), 0);
   return size;
 }
 
@@ -1159,6 +1148,7 @@ function drawRest() {
     byId("next-page").href = view.notes.next[0];
     byId("next-page").textContent = view.notes.next[1];
   }
+  byId("again").open = view.notes.turns.length === 0;
   byId("asked").textContent = "blink replay " + asked();
   byId("workers").style.height = "min(45vh, " + (workers * 5.6 + 0.4) + "rem)";
   byId("decided").style.height = "min(22vh, " + (ops.length * 1.4 + 0.6) + "rem)";
