@@ -1,8 +1,9 @@
 #!/bin/sh
-# Opens the pages of the replays in a browser without a window and looks at every frame: nothing may be told on the console, the keys,
-# the slider and the lines must step, no two boxes overlap, all text of a page stands in its box, and each arrow ends at a box and
-# crosses none, with keys shortened and as numbers. Then it makes pictures of three frames of each page, 1280 by 800, in pictures/,
-# smaller ones where there is python3.
+# Opens the pages of the replays in a browser without a window, 1280 by 800 and 400 by 800, and looks at every frame: nothing may be told
+# on the console, the keys, the slider and the lines must step, no two boxes overlap, all text of a page stands in its box, each arrow
+# ends at a box and crosses none, with keys shortened and as numbers, and each note is of a turn that there is and is read without
+# scrolling. Then it makes pictures of three frames of each page in pictures/, of both sizes, light and dark, smaller ones where there is
+# python3, and prints one page.
 #
 #     see.sh [PAGE.html ..]     without a page, those below; of other pages no pictures are made
 #
@@ -58,6 +59,24 @@ cat >"$work/look.html" <<'END_OF_LOOK'
     document.querySelector("#lines [data-at='1']").click();
     expect("a line", 1);
     press("Home");
+  }
+
+  // The notes: those of turns that there are, each in the window and whole, and the keys that go from one to the next.
+  function check_notes(last) {
+    const { turns, byTurn } = view.notes;
+    if (turns.some((turn) => !(turn >= 0 && turn <= last))) fail("a note of no turn");
+    press("End");
+    for (const turn of [...turns].reverse().filter((turn) => turn < last)) press("p"), expect("the note before", turn);
+    press("Home");
+    for (const turn of turns.filter((turn) => turn > 0)) press("n"), expect("the next note", turn), check_note(byTurn.get(turn));
+    press("Home");
+  }
+  function check_note(text) {
+    const note = document.getElementById("note");
+    const box = note.getBoundingClientRect();
+    if (note.textContent !== text) fail("another note");
+    if (box.top < 0 || box.bottom > innerHeight || box.left < 0 || box.right > innerWidth) fail("a note isn't in the window");
+    if (note.scrollHeight > note.clientHeight) fail("a note isn't whole");
   }
 
   const inside = (x, y, box, margin) => x > box.left + margin && x < box.right - margin && y > box.top + margin && y < box.bottom - margin;
@@ -118,6 +137,7 @@ cat >"$work/look.html" <<'END_OF_LOOK'
     const opened = Math.round(performance.now());
     const last = Number(document.getElementById("slider").max);
     check_steps(last);
+    check_notes(last);
     check_frames(last);
     document.getElementById("short").click();
     check_frames(last);
@@ -130,50 +150,85 @@ cat >"$work/look.html" <<'END_OF_LOOK'
 </script>
 END_OF_LOOK
 
+# browse SIZE light|dark [WORD ..]
 browse() {
+    size=$1
+    case $2 in
+    dark) scheme=0 ;;
+    *) scheme=1 ;;
+    esac
+    shift 2
     timeout 300 "$chromium" --headless --no-sandbox --disable-gpu --hide-scrollbars --enable-logging=stderr --user-data-dir="$work/profile" \
-        --window-size=1280,800 "$@" 2>"$work/log"
+        --window-size="$size" --blink-settings=preferredColorScheme=$scheme "$@" 2>"$work/log"
 }
 
-failed=0
-look() {
-    page=$1
-    sed "/<meta charset/r $work/look.html" "$page" >"$work/page.html"
-    found=$(browse --dump-dom "file://$work/page.html" | grep -m 1 -o '<title>[^<]*' | sed 's/<title>//' || true)
-    echo "$page: ${found:-the browser told nothing}"
-    case $found in
-    "in order"*) ;;
-    *) failed=1 ;;
-    esac
+# What the console was told, if anything.
+console() {
     if grep ':CONSOLE' "$work/log"; then
         failed=1
     fi
 }
 
+failed=0
+# look PAGE SIZE
+look() {
+    sed "/<meta charset/r $work/look.html" "$1" >"$work/page.html"
+    found=$(browse "$2" light --dump-dom "file://$work/page.html" | grep -m 1 -o '<title>[^<]*' | sed 's/<title>//' || true)
+    echo "$1 at $2: ${found:-the browser told nothing}"
+    case $found in
+    "in order"*) ;;
+    *) failed=1 ;;
+    esac
+    console
+}
+
+# picture NAME FRAME SIZE light|dark ENDING
 picture() {
-    browse --screenshot="$work/picture.png" "file://$(pwd)/$1.html#frame=$2" >/dev/null
-    if grep ':CONSOLE' "$work/log" || [ ! -s "$work/picture.png" ]; then
-        echo "pictures/$1-$2.png could not be made" >&2
+    browse "$3" "$4" --screenshot="$work/picture.png" "file://$(pwd)/$1.html#frame=$2" >/dev/null
+    console
+    if [ ! -s "$work/picture.png" ]; then
+        echo "pictures/$1-$2$5.png could not be made" >&2
         failed=1
-    else
-        mv "$work/picture.png" "pictures/$1-$2.png"
-        if command -v python3 >/dev/null; then
-            python3 smaller.py "pictures/$1-$2.png"
-        fi
+        return
     fi
+    mv "$work/picture.png" "pictures/$1-$2$5.png"
+    if command -v python3 >/dev/null; then
+        python3 smaller.py "pictures/$1-$2$5.png"
+    fi
+}
+
+# The four pictures of a frame.
+pictures() {
+    picture "$1" "$2" 1280,800 light ''
+    picture "$1" "$2" 1280,800 dark -dark
+    picture "$1" "$2" 400,800 light -narrow
+    picture "$1" "$2" 400,800 dark -narrow-dark
 }
 
 if [ $# -gt 0 ]; then
     for page in "$@"; do
-        look "$page"
+        look "$page" 1280,800
     done
     exit $failed
 fi
 mkdir -p pictures
 for name in half_a_split overtaking root_grows inner_split; do
-    look "$name.html"
+    look "$name.html" 1280,800
+    look "$name.html" 400,800
     for frame in $(frames_of $name); do
-        picture $name "$frame"
+        pictures $name "$frame"
     done
 done
+
+# The way in leads to pages that there are.
+grep -o 'href="[^"]*"\|src="[^"]*"\|srcset="[^"]*"' index.html | sed 's/^[a-z]*="//; s/"$//' >"$work/files"
+while read -r file; do
+    if [ ! -s "$file" ]; then
+        echo "index.html: there is no $file" >&2
+        failed=1
+    fi
+done <"$work/files"
+browse 1280,800 light --print-to-pdf="$(pwd)/pictures/half_a_split-8.pdf" --no-pdf-header-footer "file://$(pwd)/half_a_split.html#frame=8" \
+    >/dev/null
+console
 exit $failed
