@@ -2,7 +2,7 @@
 mod usage;
 
 use crate::sets::{live, locked};
-use blink_line::{Line, LineError, read_line, read_replay};
+use blink_line::{Line, LineError, Turns, read_line, read_show};
 use blink_run::{CutKind, Settings};
 use std::alloc::Global;
 use std::process::Abort;
@@ -124,17 +124,17 @@ fn replays(rt: HostRuntime) -> Result<(), Fail> {
     Ok(())
 }
 
-// The words of `blink-show` ask for a replay with these settings and this schedule.
+// The words of `blink-show` ask for a replay with these settings and turns.
 fn expect_shown<R: Abort>(
     rt: &R,
     alloc: Global,
     words: &[&str],
     settings: Settings,
-    schedule: &[u8],
+    turns: &Turns,
 ) -> Result<(), Fail> {
-    let asked = read_replay(alloc, words)?;
+    let asked = read_show(alloc, words)?;
     assert!(rt; asked.0 == settings, "{words:?}");
-    assert_eq!(rt; asked.1.as_slice(), schedule);
+    assert!(rt; asked.1 == *turns, "{words:?}");
     Ok(())
 }
 
@@ -150,9 +150,34 @@ fn the_words_of_blink_show(rt: HostRuntime) -> Result<(), Fail> {
         "4",
     ];
     let settings = locked(2, 4, CutKind::Residue)?;
-    expect_shown(&rt, rt.alloc(), &words, settings, &[1, 0])?;
+    let turns = Turns::Schedule([1, 0].as_slice().to_vec(rt.alloc())?);
+    expect_shown(&rt, rt.alloc(), &words, settings, &turns)?;
     let settings = locked(4, 16, CutKind::Residue)?;
-    expect_shown(&rt, rt.alloc(), &["blink-show"], settings, &[])
+    let turns = Turns::Schedule(Vec::new(rt.alloc()));
+    expect_shown(&rt, rt.alloc(), &["blink-show"], settings, &turns)
+}
+
+#[test]
+fn seeds(rt: HostRuntime) -> Result<(), Fail> {
+    let settings = locked(2, 16, CutKind::Residue)?;
+    for (text, seed) in [
+        ("0", 0),
+        ("1234567", 1234567),
+        ("18446744073709551615", u64::MAX),
+    ] {
+        let words = ["blink-show", "--seed", text, "--workers", "2"];
+        expect_shown(&rt, rt.alloc(), &words, settings, &Turns::Seed(seed))?;
+    }
+    Ok(())
+}
+
+// The text of the refusal of these words of `blink-show`.
+fn refused_to_show(alloc: Global, words: &[&str]) -> Result<String, Fail> {
+    match read_show(alloc, words) {
+        Ok(_) => Err(Fail::from("the words were taken")),
+        Err(LineError::Usage(text)) => Ok(text),
+        Err(LineError::OutOfMemory) => Err(Fail::from("memory was refused")),
+    }
 }
 
 #[test]
@@ -160,9 +185,29 @@ fn words_that_blink_show_refuses(rt: HostRuntime) {
     for words in [
         ["blink-show", "replay"].as_slice(),
         ["blink-show", "--driver", "live"].as_slice(),
+        ["blink", "replay", "--seed", "1"].as_slice(),
     ] {
-        assert!(rt; read_replay(rt.alloc(), words).is_err());
+        assert!(rt; read_show(rt.alloc(), words).is_err());
     }
+    assert!(rt; read_line(rt.alloc(), &["blink", "replay", "--seed", "1"]).is_err());
+}
+
+// A seed is spelled as numbers in scripts are, and takes the place of a schedule.
+#[test]
+fn bad_seeds(rt: HostRuntime) -> Result<(), Fail> {
+    for words in [
+        ["blink-show", "--seed", ""].as_slice(),
+        ["blink-show", "--seed", "01"].as_slice(),
+        ["blink-show", "--seed", "+1"].as_slice(),
+        ["blink-show", "--seed", "1,0"].as_slice(),
+        ["blink-show", "--seed", "18446744073709551616"].as_slice(),
+        ["blink-show", "--seed", "1", "--schedule", "1,0"].as_slice(),
+        ["blink-show", "--schedule", "", "--seed", "1"].as_slice(),
+    ] {
+        let text = refused_to_show(rt.alloc(), words)?;
+        assert_eq!(rt; text.as_str(), "usage: bad value", "{words:?}");
+    }
+    Ok(())
 }
 
 // Each of these values of an option is refused as a bad one.

@@ -2,7 +2,7 @@
 use crate::sets::locked;
 use blink_batch::{RecordError, ScriptError};
 use blink_run::{CutKind, ServeError};
-use blink_show::serve_show;
+use blink_show::{serve_seed, serve_show};
 use blink_steps::StepError;
 use std::alloc::Global;
 use std::process::Abort;
@@ -31,7 +31,7 @@ impl Shown {
 }
 
 // What is written of a script's replay between `<` and `>`.
-fn shown(alloc: Global, script: &str, workers: u8, schedule: &[u8]) -> Result<Shown, Fail> {
+fn replayed(alloc: Global, script: &str, workers: u8, schedule: &[u8]) -> Result<Shown, Fail> {
     let settings = locked(workers, 4, CutKind::Residue)?;
     let mut text = script.as_bytes();
     let mut output = Vec::new(alloc);
@@ -44,6 +44,19 @@ fn shown(alloc: Global, script: &str, workers: u8, schedule: &[u8]) -> Result<Sh
         "<\n",
         ">\n",
     );
+    Ok(Shown {
+        output,
+        end,
+        unread: text.len(),
+    })
+}
+
+// What is written of a script's replay by turns that are drawn, between `<` and `>`.
+fn drawn(alloc: Global, script: &str, workers: u8, seed: u64) -> Result<Shown, Fail> {
+    let settings = locked(workers, 4, CutKind::Residue)?;
+    let mut text = script.as_bytes();
+    let mut output = Vec::new(alloc);
+    let end = serve_seed(alloc, &mut text, &mut output, &settings, seed, "<\n", ">\n");
     Ok(Shown {
         output,
         end,
@@ -104,7 +117,7 @@ fn half_a_split(rt: HostRuntime) -> Result<(), Fail> {
     let script =
         "insert,1,10\ninsert,2,20\ninsert,3,30\ninsert,5,50\nscan,1,0\ninsert,6,60\nfind,5,\nscan,0,9\n";
     let schedule = [1, 0, 0, 0, 0, 0, 0, 1, 1];
-    let outcome = shown(rt.alloc(), script, 2, &schedule)?;
+    let outcome = replayed(rt.alloc(), script, 2, &schedule)?;
     outcome.expect_text(&rt, HALF_A_SPLIT);
     assert_eq!(rt; outcome.unread, 0);
     Ok(())
@@ -213,14 +226,14 @@ fn a_posting(rt: HostRuntime) -> Result<(), Fail> {
     let script =
         "insert,1,1\ninsert,2,2\ninsert,3,3\ninsert,4,4\nscan,1,0\ninsert,5,5\ninsert,6,6\ninsert,7,7\npage,0,1\ninsert,9,9\ndelete,7,\nreplace,1,5\n";
     let schedule = [0, 0, 0, 0, 1, 1, 1, 1, 2, 0, 0, 0, 0, 0, 0, 0, 0, 0];
-    shown(rt.alloc(), script, 3, &schedule)?.expect_text(&rt, A_POSTING);
+    replayed(rt.alloc(), script, 3, &schedule)?.expect_text(&rt, A_POSTING);
     Ok(())
 }
 
 #[test]
 fn scripts_without_operations_have_no_frame(rt: HostRuntime) -> Result<(), Fail> {
     for script in ["", "scan,0,9\n", "page,0,1\nscan,1,0\n"] {
-        let outcome = shown(rt.alloc(), script, 3, &[2, 0])?;
+        let outcome = replayed(rt.alloc(), script, 3, &[2, 0])?;
         outcome.expect_text(&rt, "<\nworkers 3\nfan 4\n>\n");
     }
     Ok(())
@@ -228,7 +241,7 @@ fn scripts_without_operations_have_no_frame(rt: HostRuntime) -> Result<(), Fail>
 
 #[test]
 fn a_number_that_is_no_worker_is_told_before_anything_is_read(rt: HostRuntime) -> Result<(), Fail> {
-    let outcome = shown(rt.alloc(), "find,1,\n", 3, &[2, 3, 4])?;
+    let outcome = replayed(rt.alloc(), "find,1,\n", 3, &[2, 3, 4])?;
     outcome.expect_refusal(&rt, ServeError::Step(StepError::NoWorker(3)));
     assert_eq!(rt; outcome.unread, 8);
     Ok(())
@@ -237,7 +250,109 @@ fn a_number_that_is_no_worker_is_told_before_anything_is_read(rt: HostRuntime) -
 #[test]
 fn refused_scripts_are_not_shown(rt: HostRuntime) -> Result<(), Fail> {
     let row = ScriptError::Row(2, RecordError::BadNumber);
-    let outcome = shown(rt.alloc(), "find,1,\nfind,x,\n", 3, &[2])?;
+    let outcome = replayed(rt.alloc(), "find,1,\nfind,x,\n", 3, &[2])?;
     outcome.expect_refusal(&rt, ServeError::Script(row));
+    Ok(())
+}
+
+const THREE_FINDS: &str = "<
+workers 3
+fan 4
+op 0 0 find 3
+op 1 1 find 4
+op 2 2 find 5
+first
+prime 1
+worker 0 -
+worker 1 -
+worker 2 -
+page 1 - 0 - 18446744073709551615 -
+turn 0 P
+worker 0 0 - - going down, page 1
+turn 1 P
+worker 1 1 - - going down, page 1
+turn 0 R1
+worker 0 -
+decided 0 absent
+turn 2 P
+worker 2 2 - - going down, page 1
+turn 2 R1
+worker 2 -
+decided 2 absent
+turn 1 R1
+worker 1 -
+decided 1 absent
+>
+";
+
+// The first words of SplitMix64 from 1234567, as they are published: 6457827717110365317, 3203168211198807973, 9817491932198370423,
+// 4593380528125082431 and 16408922859458223821. Three workers would move for the first three, which leave 0, 1 and 0. Then worker 0 is
+// at its lane's end, and the next two leave 1 of two, worker 2. For the sixth only worker 1 is left.
+#[test]
+fn turns_by_a_seed(rt: HostRuntime) -> Result<(), Fail> {
+    let outcome = drawn(rt.alloc(), "find,3,\nfind,4,\nfind,5,\n", 3, 1234567)?;
+    outcome.expect_text(&rt, THREE_FINDS);
+    assert_eq!(rt; outcome.unread, 0);
+    Ok(())
+}
+
+const A_WAITING_WORKER: &str = "<
+workers 2
+fan 4
+op 0 1 insert 5 50
+op 1 0 insert 6 60
+first
+prime 1
+worker 0 -
+worker 1 -
+page 1 - 0 - 18446744073709551615 -
+turn 1 P
+worker 1 0 - - going down, page 1
+turn 0 P
+worker 0 1 - - going down, page 1
+turn 1 R1
+worker 1 0 - - wants 1
+turn 0 R1
+worker 0 1 - - wants 1
+turn 1 L1
+worker 1 0 - - holds 1
+page 1 1 0 - 18446744073709551615 -
+turn 1 R1
+worker 1 0 - - change, holds 1
+turn 1 W1
+worker 1 0 - - leaves 1 and ends
+page 1 1 0 - 18446744073709551615 - 5:50
+decided 0 inserted
+turn 1 U1
+worker 1 -
+page 1 - 0 - 18446744073709551615 - 5:50
+turn 0 L1
+worker 0 1 - - holds 1
+page 1 0 0 - 18446744073709551615 - 5:50
+turn 0 R1
+worker 0 1 - - change, holds 1
+turn 0 W1
+worker 0 1 - - leaves 1 and ends
+page 1 0 0 - 18446744073709551615 - 5:50 6:60
+decided 1 inserted
+turn 0 U1
+worker 0 -
+page 1 - 0 - 18446744073709551615 - 5:50 6:60
+>
+";
+
+// The first words from 0 are odd, even, odd, even, odd: 16294208416658607535, 7960286522194355700, 487617019471545679,
+// 17909611376780542444 and 1961750202426094747. Then worker 0 waits for the latch, and isn't drawn until worker 1 has let it go.
+#[test]
+fn a_waiting_worker_is_not_drawn(rt: HostRuntime) -> Result<(), Fail> {
+    let outcome = drawn(rt.alloc(), "insert,5,50\ninsert,6,60\n", 2, 0)?;
+    outcome.expect_text(&rt, A_WAITING_WORKER);
+    Ok(())
+}
+
+#[test]
+fn seeds_of_scripts_without_operations(rt: HostRuntime) -> Result<(), Fail> {
+    let outcome = drawn(rt.alloc(), "scan,0,9\n", 3, 7)?;
+    outcome.expect_text(&rt, "<\nworkers 3\nfan 4\n>\n");
     Ok(())
 }

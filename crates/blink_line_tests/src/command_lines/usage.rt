@@ -1,5 +1,5 @@
 //! The texts of `clap` where it doesn't take the words, its help among them.
-use crate::command_lines::refused;
+use crate::command_lines::{refused, refused_to_show};
 use std::alloc::Global;
 use std::process::Abort;
 use std::test::Fail;
@@ -141,4 +141,22 @@ Options:
   -h, --help          Print help
 ";
     expect_text(&rt, rt.alloc(), &["blink", "replay", "--help"], expected)
+}
+
+#[test]
+fn help_of_blink_show(rt: HostRuntime) -> Result<(), Fail> {
+    let expected = "Runs the script on standard input turn by turn, as a schedule says
+
+Usage: blink replay [OPTIONS]
+
+Options:
+      --workers <N>   How many workers share the work, 1 to 64 [default: 4]
+      --fan <F>       How many entries a page has at most, 4 to 32 [default: 16]
+      --schedule <S>  Which worker takes each turn: numbers from 0 to 63, separated by single commas [default: none]
+      --seed <N>      Draws a worker for each turn by this number, in the place of a schedule
+  -h, --help          Print help
+";
+    let text = refused_to_show(rt.alloc(), &["blink-show", "--help"])?;
+    assert_eq!(rt; text.as_str(), expected);
+    Ok(())
 }
