@@ -1,5 +1,5 @@
 #!/bin/sh
-# Refuses each request for memory that a public call makes, one a run: proves and builds the tests of the crate `refusals` over a copy
+# Refuses each request for memory that a public call makes, one a run: proves and builds the tests of refuse/ over a copy
 # of the repository, and runs each with refuse.c loaded before the C library. First it runs without a refusal, which
 # tells how many requests each call makes; then each of them is refused in turn. Where a call starts threads its requests vary
 # with their schedule, so the numbers go to twice that count, each in several runs, and the start of a thread counts as a
@@ -10,11 +10,6 @@
 # and how the runs ended. It exits with 1 where a run ended in another way, or where a request that a run without a refusal
 # makes was never refused. The names of some tests may be given, and then only these are tried.
 #
-#     bench/refuse.sh [--ends TESTS] [NAME ..]
-#
-# With --ends the tests are those that were built at TESTS, and of each call only the first, the middle and the last request are refused;
-# nothing is told where all is well. The gate does so for run_batch.
-#
 # It needs a C compiler, cc, and the GNU C library. The copy takes along what checks of the crates kept in out/, and then it
 # takes some 18 minutes; where nothing was kept, each is proved from nothing first, which takes far longer. Run it while no
 # check of them runs.
@@ -24,24 +19,21 @@ repository=$here/..
 tries=10
 most_tries=200
 all='read_script cuts index replay world deal close serve_replay run_batch serve'
-ends=
-if [ "${1-}" = --ends ]; then
-    ends=$(cd "$(dirname "$2")" && pwd)/$(basename "$2")
-    shift 2
-fi
 work=$(mktemp -d)
 trap 'rm -rf "$work"' EXIT
 trap 'exit 1' HUP INT TERM
 cd "$work"
 cc -shared -fPIC -O2 -o refuse.so "$here/refuse.c"
-tests=$ends
-if [ -z "$ends" ]; then
-    cp -R "$repository/HANDLES" "$repository/crates.txt" "$repository/crates" .
-    tests=crates/refusals/out/refusals_tests
-    if ! (cd crates/refusals && rt test >tests.log 2>&1); then
-        cat crates/refusals/tests.log >&2
-        exit 1
-    fi
+cp -R "$repository/HANDLES" "$repository/crates.txt" "$repository/crates" .
+echo 'refusals: anyhow blink_batch blink_index blink_live blink_rest blink_rows blink_run blink_steps' >>crates.txt
+mkdir -p crates/refusals/src
+for file in "$here"/refuse/*.rt.txt; do
+    cp "$file" "crates/refusals/src/$(basename "$file" .txt)"
+done
+tests=crates/refusals/out/refusals_tests
+if ! (cd crates/refusals && rt test >tests.log 2>&1); then
+    cat crates/refusals/tests.log >&2
+    exit 1
 fi
 
 # Runs a test with the request of this number refused to the call of this name, and sets `end` to how that ended: `right` or
@@ -106,19 +98,10 @@ refuse_one() {
     done
 }
 
-# The numbers of the requests that are refused, of so many, where they go to so many times the count.
-numbers_of() {
-    if [ -n "$ends" ]; then
-        printf '1\n%d\n%d\n' $((($1 + 1) / 2)) "$1" | sort -n -u
-    else
-        seq 1 $(($1 * $2))
-    fi
-}
-
 # Tells how many of a call's requests were refused, and how the runs ended. Each stands in the file `ends`, after its request's
 # number.
 tell() {
-    awk -v call="$1" -v count="$2" -v wanted="$3" '
+    awk -v call="$1" -v count="$2" '
         function tell(end, words) {
             if (ends[end] > 0) {
                 printf "%s%d %s", between, ends[end], words
@@ -146,7 +129,7 @@ tell() {
             tell("right", "right all the same")
             tell("unreached", "ended before the request")
             print ""
-            exit (numbers == wanted ? 0 : 1)
+            exit (numbers == count ? 0 : 1)
         }' ends
 }
 
@@ -156,13 +139,10 @@ refuse() {
     cp counted calls
     while read -r count call; do
         : >ends
-        for number in $(numbers_of "$count" "$3"); do
+        for number in $(seq 1 $((count * $3))); do
             refuse_one "$1" "$number" "$call" "$count" "$2"
         done
-        tell "$call" "$count" "$(numbers_of "$count" 1 | wc -l)" >tells || missed=yes
-        if [ -z "$ends" ] || [ -n "$missed" ]; then
-            cat tells
-        fi
+        tell "$call" "$count" || missed=yes
     done <calls
 }
 
