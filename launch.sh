@@ -68,11 +68,13 @@ copy() {
 # other rt works on any that it stands on.
 build_apart() {
     mkdir -p "$room/$1/crates"
-    cp "$top/crates.txt" "$room/$1/"
-    for it in $(all_below "$1"); do
-        copy "$top/crates/$it" "$room/$1/crates/$it"
+    for lower in $(all_below "$1"); do
+        copy "$top/crates/$lower" "$room/$1/crates/$lower"
+        grep "^$lower[ :]" "$top/crates.txt" >>"$room/$1/crates.txt"
     done
     cp -R "$top/crates/$1" "$room/$1/crates/$1"
+    grep "^$1[ :]" "$top/crates.txt" >>"$room/$1/crates.txt"
+    cp "$top/HANDLES" "$room/$1/"
     (cd "$room/$1/crates/$1" && rt lib) || true
     if [ -d "$room/$1/crates/$1/out" ]; then
         rm -rf "$top/crates/$1/out"
