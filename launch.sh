@@ -48,6 +48,14 @@ below() {
     done
 }
 
+# How many processors a crate's check may use: those that the others wait for get all, the others one, so that they don't slow these.
+jobs_of() {
+    case $1 in
+    blink_page | blink_store | blink_rest | blink_machine | blink_index | blink_live | blink_run) nproc ;;
+    *) echo 1 ;;
+    esac
+}
+
 # All crates that one stands on, and what these stand on, each once.
 all_below() {
     for it in $(below "$1"); do
@@ -75,7 +83,7 @@ build_apart() {
     cp -R "$top/crates/$1" "$room/$1/crates/$1"
     grep "^$1[ :]" "$top/crates.txt" >>"$room/$1/crates.txt"
     cp "$top/HANDLES" "$room/$1/"
-    (cd "$room/$1/crates/$1" && rt lib) || true
+    (cd "$room/$1/crates/$1" && rt lib --jobs "$(jobs_of "$1")") || true
     if [ -d "$room/$1/crates/$1/out" ]; then
         rm -rf "$top/crates/$1/out"
         mv "$room/$1/crates/$1/out" "$top/crates/$1/out"
