@@ -15,7 +15,7 @@ abbrev pub BeginsWithoutBatch : List Part → Type 0
 BeginsWithoutBatch (Batch ops ∷ parts) = ⊥
 BeginsWithoutBatch parts = ⊤
 
--- the parts may follow so many operations, which a batch at their front takes up
+-- the parts may follow so many operations, which a batch at their prefix takes up
 abbrev pub MayFollow : ℕ → List Part → Type 0
 MayFollow before [] = ⊤
 MayFollow before (Batch ops ∷ parts) = (ops ≢ []) × (before + length ops ≤ BATCH_LIMIT) × BeginsWithoutBatch parts × MayFollow 0 parts

@@ -71,9 +71,9 @@ one_more_is_not IsSuch end (Some place) not is_last = record {
 }
 
 -- the table with one place more
-pub one_more_noted : (ops : List Op) (place : ℕ) (table : LastPlaces) → place < length table.earlier → length table.lasts ≡ BUCKETS → bucket_of (key_at ops place) < BUCKETS → AreLastPlaces ops place table
+pub one_more_recorded : (ops : List Op) (place : ℕ) (table : LastPlaces) → place < length table.earlier → length table.lasts ≡ BUCKETS → bucket_of (key_at ops place) < BUCKETS → AreLastPlaces ops place table
     → AreLastPlaces ops (place + 1) record { lasts = set table.lasts (bucket_of (key_at ops place)) (Some place); earlier = set table.earlier place (get_or table.lasts (bucket_of (key_at ops place)) None) }
-one_more_noted ops place table within long inside so_far =
+one_more_recorded ops place table within long inside so_far =
     let own = bucket_of (key_at ops place) in
     record {
       of_buckets = λ bucket below. elim (cases_eq bucket own) [

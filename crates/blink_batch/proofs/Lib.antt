@@ -8,7 +8,7 @@ pub mod OneThread
 pub mod OperationsAtPlaces
 pub mod LaneAmongRanges
 pub mod ScriptReadSoFar
-pub mod RecordsReadAreFront
+pub mod RecordsReadArePrefix
 pub mod RunOfOneMore
 pub mod ScriptStillToRead
 pub mod SearchByHalves

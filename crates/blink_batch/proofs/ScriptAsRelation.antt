@@ -40,13 +40,13 @@ Mean before rows parts = (map request_of rows ≡ map as_read (flat_map requests
 
 -- the first refusal of records that are counted from a number on, behind so many operations
 record FirstRefusal (number before : ℕ) (rows : List (List (List ℕ))) (error : ScriptError) : Type 0 where
-  front : List (List (List ℕ))
+  prefix : List (List (List ℕ))
   row : List (List ℕ)
   after : List (List (List ℕ))
-  in_order : rows ≡ front ++ row ∷ after
+  in_order : rows ≡ prefix ++ row ∷ after
   parts : List Part
-  mean : Mean before front parts
-  refused : RefusedAt (number + length front) (open_after before parts) (request_of row) error
+  mean : Mean before prefix parts
+  refused : RefusedAt (number + length prefix) (open_after before parts) (request_of row) error
 
 -- ---- what the recursion gives is so of the records
 
@@ -58,7 +58,7 @@ Tells number before rows (Err error) = FirstRefusal number before rows error
 refused_first : (number before : ℕ) (row : List (List ℕ)) (rows : List (List (List ℕ))) (error : ScriptError) → RefusedAt number before (request_of row) error → FirstRefusal number before (row ∷ rows) error
 refused_first number before row rows error refused =
     let same_number : number + length no_rows ≡ number = omega arith in
-    record { front = []; row = row; after = rows; in_order = refl; parts = []; mean = (refl, tt); refused = rw same_number refused }
+    record { prefix = []; row = row; after = rows; in_order = refl; parts = []; mean = (refl, tt); refused = rw same_number refused }
 
 -- what is no operation isn't refused, and is a part before the script of the rest
 alone-unrefused : (number before : ℕ) (asked : Request) (error : ScriptError) → IsNoOperation asked → RefusedAt number before (as_read asked) error → ⊥
@@ -76,9 +76,9 @@ module _ (number before : ℕ) (row : List (List ℕ)) (rows : List (List (List 
       → Tells (number + 1) (before + 1) rows outcome → Tells number before (row ∷ rows) (with_operation op outcome)
   operation_first op (Ok parts) means room told = (rw (means, told.0, joined-requests op parts) refl, joined-follows before op parts room told.1)
   operation_first op (Err error) means room told =
-      let same_number : number + 1 + length told.front ≡ number + length (row ∷ told.front) = omega arith in
+      let same_number : number + 1 + length told.prefix ≡ number + length (row ∷ told.prefix) = omega arith in
       record {
-        front = row ∷ told.front;
+        prefix = row ∷ told.prefix;
         row = told.row;
         after = told.after;
         in_order = ap (λ r. row ∷ r) told.in_order;
@@ -99,15 +99,15 @@ module _ (number before : ℕ) (row : List (List ℕ)) (rows : List (List (List 
       → Tells (number + 1) 0 rows outcome → Tells number before (row ∷ rows) (with_alone (alone asked) outcome)
   alone_first asked (Ok parts) other means told = mean_more asked rows parts other means told
   alone_first asked (Err error) other means told =
-      let same_number : number + 1 + length told.front ≡ number + length (row ∷ told.front) = omega arith in
+      let same_number : number + 1 + length told.prefix ≡ number + length (row ∷ told.prefix) = omega arith in
       record {
-        front = row ∷ told.front;
+        prefix = row ∷ told.prefix;
         row = told.row;
         after = told.after;
         in_order = ap (λ r. row ∷ r) told.in_order;
         parts = alone asked ∷ told.parts;
-        mean = mean_more asked told.front told.parts other means told.mean;
-        refused = subst (λ (count : ℕ). RefusedAt (number + length (row ∷ told.front)) count (request_of told.row) error)
+        mean = mean_more asked told.prefix told.parts other means told.mean;
+        refused = subst (λ (count : ℕ). RefusedAt (number + length (row ∷ told.prefix)) count (request_of told.row) error)
             (sym (alone-open before asked told.parts other)) (rw (← same_number) told.refused);
       }
 
@@ -139,31 +139,31 @@ stopped-alone : (part : Part) (parts : List Part) (stop : Option ScriptError) �
 stopped-alone part parts None = refl
 stopped-alone part parts (Some error) = refl
 
-script_stops : (number before : ℕ) (front rest : List (List (List ℕ))) (requests : List Request) (parts : List Part) (stop : Option ScriptError)
-    → map request_of front ≡ map as_read requests → flat_map requests_in parts ≡ requests → MayFollow before parts
-    → script_from (number + length front) (open_after before parts) rest ≡ stopped [] stop → script_from number before (front ++ rest) ≡ stopped parts stop
+script_stops : (number before : ℕ) (prefix rest : List (List (List ℕ))) (requests : List Request) (parts : List Part) (stop : Option ScriptError)
+    → map request_of prefix ≡ map as_read requests → flat_map requests_in parts ≡ requests → MayFollow before parts
+    → script_from (number + length prefix) (open_after before parts) rest ≡ stopped [] stop → script_from number before (prefix ++ rest) ≡ stopped parts stop
 script_stops number before [] rest [] parts stop means ask follow stops =
     let nothing : parts ≡ [] = asks_nothing before parts follow ask in
     let same_number : number + length no_rows ≡ number = omega arith in
     rw nothing (rw (nothing, same_number) at stops)
 script_stops number before [] rest (asked ∷ requests) parts stop means ask follow stops = absurd (cc means)
-script_stops number before (row ∷ front) rest [] parts stop means ask follow stops = absurd (cc means)
-script_stops number before (row ∷ front) rest (request.Operation op ∷ requests) parts stop means ask follow stops =
+script_stops number before (row ∷ prefix) rest [] parts stop means ask follow stops = absurd (cc means)
+script_stops number before (row ∷ prefix) rest (request.Operation op ∷ requests) parts stop means ask follow stops =
     let leads : request_of row ≡ as_read (request.Operation op) = cc means in
-    let others : map request_of front ≡ map as_read requests = cc means in
+    let others : map request_of prefix ≡ map as_read requests = cc means in
     let split = unjoined before op requests parts follow ask in
-    let same_number : number + length (row ∷ front) ≡ number + 1 + length front = omega arith in
+    let same_number : number + length (row ∷ prefix) ≡ number + 1 + length prefix = omega arith in
     let same_open : open_after before parts ≡ open_after (before + 1) split.others = ap (open_after before) split.together ∙ joined-open before op split.others in
-    let later = script_stops (number + 1) (before + 1) front rest requests split.others stop others split.their_requests split.follow (rw (same_number, same_open) at stops) in
+    let later = script_stops (number + 1) (before + 1) prefix rest requests split.others stop others split.their_requests split.follow (rw (same_number, same_open) at stops) in
     rw (leads, lt-ltb before BATCH_LIMIT split.room, later) (stopped-operation op split.others stop ∙ ap (λ p. stopped p stop) (sym split.together))
-script_stops number before (row ∷ front) rest (asked ∷ requests) parts stop means ask follow stops =
+script_stops number before (row ∷ prefix) rest (asked ∷ requests) parts stop means ask follow stops =
     let leads : request_of row ≡ as_read asked = cc means in
-    let others : map request_of front ≡ map as_read requests = cc means in
+    let others : map request_of prefix ≡ map as_read requests = cc means in
     let split = begins_alone before asked requests parts tt follow ask in
-    let same_number : number + length (row ∷ front) ≡ number + 1 + length front = omega arith in
+    let same_number : number + length (row ∷ prefix) ≡ number + 1 + length prefix = omega arith in
     let same_open : open_after before parts ≡ open_after 0 split.0 = ap (open_after before) split.1 ∙ alone-open before asked split.0 tt in
-    let later = script_stops (number + 1) 0 front rest requests split.0 stop others split.2 split.3 (rw (same_number, same_open) at stops) in
-    script_from-alone number before row (front ++ rest) asked tt leads ∙ ap (with_alone (alone asked)) later ∙ stopped-alone (alone asked) split.0 stop ∙ ap (λ p. stopped p stop) (sym split.1)
+    let later = script_stops (number + 1) 0 prefix rest requests split.0 stop others split.2 split.3 (rw (same_number, same_open) at stops) in
+    script_from-alone number before row (prefix ++ rest) asked tt leads ∙ ap (with_alone (alone asked)) later ∙ stopped-alone (alone asked) split.0 stop ∙ ap (λ p. stopped p stop) (sym split.1)
 
 -- a record that is refused stops the script
 refused_stops : (number before : ℕ) (row : List (List ℕ)) (after : List (List (List ℕ))) (error : ScriptError) → RefusedAt number before (request_of row) error → script_from number before (row ∷ after) ≡ Err error
@@ -207,13 +207,13 @@ script_from_refusal rows error is =
 pub refusal_from_script : (rows : List (List (List ℕ))) (error : ScriptError) → script_of rows ≡ Err error → IsRefused rows error
 refusal_from_script rows error is =
     let first : FirstRefusal 1 0 rows error = rw is at (script_tells 1 0 rows) in
-    let same_number : 1 + length first.front ≡ length first.front + 1 = omega arith in
+    let same_number : 1 + length first.prefix ≡ length first.prefix + 1 = omega arith in
     record {
-      before = first.front;
+      before = first.prefix;
       row = first.row;
       after = first.after;
       in_order = first.in_order;
       parts = first.parts;
       parts_before = record { meanings = first.mean.0; grouped = grouped_from_follow first.parts first.mean.1 };
-      refused = refused_after (length first.front + 1) first.parts (request_of first.row) error first.mean.1 (rw same_number at first.refused);
+      refused = refused_after (length first.prefix + 1) first.parts (request_of first.row) error first.mean.1 (rw same_number at first.refused);
     }

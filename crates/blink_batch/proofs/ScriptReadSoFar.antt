@@ -12,7 +12,7 @@ use Rattle.blink_batch.specs.declared.record.Request.{Request}
 use Rattle.blink_batch.specs.Parts.{IsOneTooMany, PartsSoFar, all_parts, parts_with}
 use Rattle.blink_batch.specs.Record.{request_of}
 use Rattle.blink_batch.specs.Script.{records_of, script_of}
-use Rattle.blink_batch.proofs.RecordsReadAreFront.{reached_all, reached_front}
+use Rattle.blink_batch.proofs.RecordsReadArePrefix.{reached_all, reached_prefix}
 use Rattle.blink_batch.proofs.ScriptStillToRead.{HasTaken, IsRefusedBehind, refuses_next, takes_all, takes_more, takes_nothing}
 
 -- the reader reads records by csv's defaults, of any length, and the next read is of one record
@@ -71,9 +71,9 @@ module _ {R : Type 0} (rem : R → Option (List ℕ)) where
           → script_of (records_of text) ≡ Err error
       refused_here meaning error read means refused =
           let more = rows-more rem a b fields default_config st.StartRecord (strip_bom text) so_far.left so_far.rows set_up.config so_far.source so_far.reached read in
-          let front = reached_front _ _ _ _ _ more.2 in
-          let in_order = front.1 ∙ append_assoc so_far.rows (fields ∷ []) front.0 in
-          ap script_of in_order ∙ refuses_next so_far.rows number parts fields meaning error so_far.taken means refused front.0
+          let prefix = reached_prefix _ _ _ _ _ more.2 in
+          let in_order = prefix.1 ∙ append_assoc so_far.rows (fields ∷ []) prefix.0 in
+          ap script_of in_order ∙ refuses_next so_far.rows number parts fields meaning error so_far.taken means refused prefix.0
 
       -- where no record is left, the parts are all
       pub all_read : ReadRecord rem a b false fields → script_of (records_of text) ≡ Ok (all_parts parts)

@@ -64,7 +64,7 @@ impl Plain {
     pub fn run(&mut self, alloc: Global, ops: &[Op]) -> Result<Vec<Answer>, AllocError>
         ensures answers { IfOk result (λ given. given.items ≡ answers self.old ops.now) }
         ensures map { OnOk result (self.new ≡ map_after_all self.old ops.now) }
-        ensures front { OnErr result
+        ensures prefix { OnErr result
             ((done : ℕ) × (self.new ≡ map_after_all self.old (take done ops.now))) }
         ensures growth { OnErr result (StopsForMemory self.old ops.now self.new) }
     {

@@ -65,7 +65,7 @@ module _ (store : PlainStore) where
     pub text_of_more : (text : List ℕ) → IsTextDownTo store (level + 1) text
         → IsTextDownTo store level (text ++ level_text (cells_of store (Some (get_or store.prime level 0))))
     text_of_more text above =
-        ap (λ (front : List ℕ). front ++ level_text (cells_of store (Some (get_or store.prime level 0)))) above
+        ap (λ (prefix : List ℕ). prefix ++ level_text (cells_of store (Some (get_or store.prime level 0)))) above
         ∙ sym (ap text_of (next_left (λ (leftmost : ℕ). cells_of store (Some leftmost)) store.prime level 0 inside))
 
 -- the levels that a prime block names are those of its chains

@@ -35,7 +35,7 @@ module _ (store : PlainStore) where
       → length cells ≤ length store.pages
   line_within level leftmost cells floor link among line =
       walked_within store.fan (page_of store) level leftmost (length store.pages) (length cells) floor link (store_numbered store)
-      (record { front = cells; among = among; line = line; counted = refl })
+      (record { prefix = cells; among = among; line = line; counted = refl })
 
   -- the chain of a level is what its leftmost page leads to
   pub cells_of-chain : (level leftmost : ℕ) (cells : List Cell) → IsChain store.fan (page_of store) level leftmost cells → cells_of store (Some leftmost) ≡ cells

@@ -79,18 +79,18 @@ module _ (lo hi : ℕ) where
       grind (arith, nat_tests)
 
   -- entries in three parts, of which the first is below lo: those within begin at lo's place in the second
-  pub scan_of_parts : (from low middle to : ℕ) (front es rest : List (ℕ × ℕ)) → IsRising from front low → low ≤ lo → IsRising low es middle → lo ≤ middle → IsRising middle rest to
-      → filter (is_within lo hi) (entries_from (front ++ (es ++ rest))) ≡ entries_to hi (drop (place_of lo es) es ++ rest)
-  scan_of_parts from low middle to front es rest before below rising above after =
+  pub scan_of_parts : (from low middle to : ℕ) (prefix es rest : List (ℕ × ℕ)) → IsRising from prefix low → low ≤ lo → IsRising low es middle → lo ≤ middle → IsRising middle rest to
+      → filter (is_within lo hi) (entries_from (prefix ++ (es ++ rest))) ≡ entries_to hi (drop (place_of lo es) es ++ rest)
+  scan_of_parts from low middle to prefix es rest before below rising above after =
       let p = is_within lo hi in
       let pair = λ (x : ℕ × ℕ). entry x.0 x.1 in
       let tail = drop (place_of lo es) es in
-      let parts : filter p (entries_from (front ++ (es ++ rest))) ≡ filter p (entries_from front) ++ filter p (entries_from (es ++ rest))
-      = ap (filter p) (map-append pair front (es ++ rest)) ∙ filter-append p (entries_from front) (entries_from (es ++ rest)) in
+      let parts : filter p (entries_from (prefix ++ (es ++ rest))) ≡ filter p (entries_from prefix) ++ filter p (entries_from (es ++ rest))
+      = ap (filter p) (map-append pair prefix (es ++ rest)) ∙ filter-append p (entries_from prefix) (entries_from (es ++ rest)) in
       let both : filter p (entries_from (es ++ rest)) ≡ filter p (entries_from es) ++ filter p (entries_from rest)
       = ap (filter p) (map-append pair es rest) ∙ filter-append p (entries_from es) (entries_from rest) in
       let tail_both : filter p (entries_from (tail ++ rest)) ≡ filter p (entries_from tail) ++ filter p (entries_from rest)
       = ap (filter p) (map-append pair tail rest) ∙ filter-append p (entries_from tail) (entries_from rest) in
-      parts ∙ ap (λ (first : List Entry). first ++ filter p (entries_from (es ++ rest))) (below_none from front low before below)
+      parts ∙ ap (λ (first : List Entry). first ++ filter p (entries_from (es ++ rest))) (below_none from prefix low before below)
       ∙ both ∙ ap (λ (first : List Entry). first ++ filter p (entries_from rest)) (within_place es) ∙ sym tail_both
       ∙ within_to lo (tail ++ rest) to (IsRising-append lo tail rest middle to (place_rising low es middle rising above) after) (omega arith)

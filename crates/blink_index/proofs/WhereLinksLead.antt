@@ -11,7 +11,7 @@ use Rattle.blink_rest.specs.Chain.{Cell, AreAmong, InLine, cell, floor_after}
 use Rattle.blink_rest.specs.Entries.{AreEntries}
 use Rattle.blink_rest.specs.Level.{entries_along}
 use Rattle.blink_rest.specs.Rest.{IsStoreAtRest}
-use Rattle.blink_rest.proofs.Offered.{AreAmong-rest, chain_spans, entries_ascend, entries_exist_at_rest, InLine-front, InLine-rest, line_rising, same_cell, search_ends_at_leaf, stands_of, stands_split, stands_there}
+use Rattle.blink_rest.proofs.Offered.{AreAmong-rest, chain_spans, entries_ascend, entries_exist_at_rest, InLine-prefix, InLine-rest, line_rising, same_cell, search_ends_at_leaf, stands_of, stands_split, stands_there}
 use Rattle.blink_machine.specs.TreeMap.{IsMapOf, pairs_of}
 use Rattle.blink_machine.specs.TreeMap.{entries_from}
 use Rattle.blink_index.specs.Index.{cells_of, map_of}
@@ -80,11 +80,11 @@ module _ (store : PlainStore) where
   module _ (at_rest : IsStoreAtRest store) (lo hi : ℕ) (in_range : lo ≤ GREATEST_KEY) (leaf : PlainPage) (is_for : IsLeafFor store lo leaf) where
     -- where a leaf stands among the leaves
     pub record StandsAt (entries : List (ℕ × ℕ)) : Type 0 where
-      pub front : List (ℕ × ℕ)
+      pub prefix : List (ℕ × ℕ)
       pub low : ℕ
       pub after : List Cell
-      pub joined : entries ≡ front ++ (leaf.entries ++ entries_along after)
-      pub below : IsRising 0 front low
+      pub joined : entries ≡ prefix ++ (leaf.entries ++ entries_along after)
+      pub below : IsRising 0 prefix low
       pub not_below : low ≤ lo
       pub own : IsRising low leaf.entries (leaf.high + 1)
       pub above : IsRising (leaf.high + 1) (entries_along after) (GREATEST_KEY + 1)
@@ -109,7 +109,7 @@ module _ (store : PlainStore) where
         let A : List Cell → Type 0 = λ cells. AreAmong pages cells in
         let line = subst L parts.2 are.chain.in_line in
         let among = AreAmong-rest pages parts.0 (c ∷ parts.1) (subst A parts.2 are.chain.pages_there) in
-        let first = InLine-front store.fan 0 None (Some are.leftmost) parts.0 (c ∷ parts.1) (Some GREATEST_KEY) None line in
+        let first = InLine-prefix store.fan 0 None (Some are.leftmost) parts.0 (c ∷ parts.1) (Some GREATEST_KEY) None line in
         let later = InLine-rest store.fan 0 None (Some are.leftmost) parts.0 (c ∷ parts.1) (Some GREATEST_KEY) None line in
         let least : least_above c.page.floor ≡ least_above (floor_after None parts.0) = ap least_above later.1 in
         let split : entries_along (parts.0 ++ c ∷ parts.1) ≡ entries_along parts.0 ++ (c.page.entries ++ entries_along parts.1)
@@ -129,7 +129,7 @@ module _ (store : PlainStore) where
           );
         } in
         record {
-          front = entries_along parts.0;
+          prefix = entries_along parts.0;
           low = least_above c.page.floor;
           after = parts.1;
           joined = are.joined ∙ ap entries_along parts.2 ∙ split ∙ same_leaf;
@@ -152,9 +152,9 @@ module _ (store : PlainStore) where
         let found = entries_exist_at_rest store.fan store.prime (page_of store) at_rest in
         let at = stands_at found.0 found.1 in
         let most : lo ≤ leaf.high = is_for.belongs.1 in
-        let whole : map_of store ≡ entries_from (at.front ++ (leaf.entries ++ entries_along at.after)) = map_of-entries store found.0 found.1 ∙ ap entries_from at.joined in
+        let whole : map_of store ≡ entries_from (at.prefix ++ (leaf.entries ++ entries_along at.after)) = map_of-entries store found.0 found.1 ∙ ap entries_from at.joined in
         ap (λ (cs : List Cell). entries_to hi (drop (place_of lo leaf.entries) leaf.entries ++ entries_along cs)) at.rest
-        ∙ sym (scan_of_parts lo hi 0 at.low (leaf.high + 1) (GREATEST_KEY + 1) at.front leaf.entries (entries_along at.after) at.below at.not_below at.own (omega arith) at.above)
+        ∙ sym (scan_of_parts lo hi 0 at.low (leaf.high + 1) (GREATEST_KEY + 1) at.prefix leaf.entries (entries_along at.after) at.below at.not_below at.own (omega arith) at.above)
         ∙ ap (filter (is_within lo hi)) (sym whole)
 
   -- all of the map is from 0 to the greatest key

@@ -111,7 +111,7 @@ page 1 - 0 - 3 2 1:10 2:20 3:30
 >
 ";
 
-// A worker finds a key that a split, half finished by the other, has moved to a new page: all moments, byte for byte.
+// A worker finds a key that a split, half finished by the other, has moved to a new page: all tree states, byte for byte.
 #[test]
 fn half_a_split(rt: HostRuntime) -> Result<(), Fail> {
     let script =

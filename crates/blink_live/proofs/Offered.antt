@@ -5,8 +5,8 @@ pub use Rattle.blink_live.proofs.dealt.KeysOfShare.{among_from_contains, entries
 -- what an operation adds to its pass's own changes, key by key; and these are what the pass has seen of its own keys
 pub use Rattle.blink_live.proofs.changed.OwnChangesByKey.{own_changes-own_key, own_changes-other_key, own_changes-are_seen}
 -- of a longer list a key has more states, it keeps the last of them, and where there are no more than before, it keeps the same
-pub use Rattle.blink_live.proofs.told.FrontsOfOneList.{front_of_front}
-pub use Rattle.blink_live.proofs.told.StatesOfKeys.{states_of-front, after-last_state, after-exactly, fronts_of_each_other, last_state-push}
+pub use Rattle.blink_live.proofs.told.PrefixesOfOneList.{prefix_of_prefix}
+pub use Rattle.blink_live.proofs.told.StatesOfKeys.{states_of-prefix, after-last_state, after-exactly, prefixes_of_each_other, last_state-push}
 -- the entries of a closed table
 pub use Rattle.blink_live.proofs.closed.EntriesOfMerge.{entry-of_share, entry-of_opening}
 -- a pass's latch number is at least the row that its keeper dealt first, and below the one that the keeper deals next

@@ -1,6 +1,6 @@
 pub mod LatchesKeepTable
-pub mod DraftsKeepTable
-pub mod RowsAreDrafted
+pub mod StagingKeepsTable
+pub mod RowsAreStaged
 pub mod ChangesAreTheMaps
 pub mod RowsArePublished
 pub mod PublishesKeepTable

@@ -1,2 +1,3 @@
+pub mod RowIsStored
 pub mod RowsAreLaid
 pub mod OpeningIsTable

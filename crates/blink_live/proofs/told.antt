@@ -1,4 +1,4 @@
-pub mod FrontsOfOneList
+pub mod PrefixesOfOneList
 pub mod StatesOfKeys
 pub mod OwnersAreSeen
 pub mod NotesKeepTable

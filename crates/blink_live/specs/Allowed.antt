@@ -4,8 +4,8 @@ use Rattle.blink_batch.specs.declared.Op.{Op}
 use Rattle.blink_batch.specs.declared.Op.TheVariants.{Insert}
 use Rattle.blink_page.specs.declared.limits.TheConstants.{MAX_PAGE}
 use Rattle.blink_rows.specs.declared.allowance.Allowance.{Allowance}
-use Rattle.blink_rows.specs.declared.limits.TheConstants.{ROWS_OF_INSERTION}
-use Rattle.blink_page.specs.declared.limits.TheConstants.{NUMBERS_OF_INSERTION}
+use Rattle.blink_rows.specs.declared.limits.TheConstants.{MAX_ROWS_PER_INSERT}
+use Rattle.blink_page.specs.declared.limits.TheConstants.{MAX_NEW_PAGES_PER_INSERT}
 use Rattle.blink_rows.specs.declared.span.Span.{Span}
 
 abbrev pub length_of : Span → ℕ
@@ -13,11 +13,11 @@ length_of span = span.stop - span.next
 
 -- so many insertions have these page numbers
 abbrev pub inserts_left : Span → ℕ
-inserts_left pages = length_of pages / NUMBERS_OF_INSERTION
+inserts_left pages = length_of pages / MAX_NEW_PAGES_PER_INSERT
 
 -- and so many deletions these rows beside them
 abbrev pub deletes_left : Span → Span → ℕ
-deletes_left pages rows = length_of rows - ROWS_OF_INSERTION * inserts_left pages
+deletes_left pages rows = length_of rows - MAX_ROWS_PER_INSERT * inserts_left pages
 
 -- so many changes of an operation's kind are left: insertions, and for a deletion or a replacement deletions
 abbrev pub changes_left : Op → Span → Span → ℕ
@@ -26,8 +26,8 @@ changes_left op pages rows = deletes_left pages rows
 
 -- the page numbers are for whole insertions, and the rows are enough for these
 abbrev pub AreForChanges : Span → Span → Type 0
-AreForChanges pages rows = (length_of pages % NUMBERS_OF_INSERTION ≡ 0) × (ROWS_OF_INSERTION * inserts_left pages ≤ length_of rows)
+AreForChanges pages rows = (length_of pages % MAX_NEW_PAGES_PER_INSERT ≡ 0) × (MAX_ROWS_PER_INSERT * inserts_left pages ≤ length_of rows)
 
 -- the allowed insertions may need more page numbers than there are
 abbrev pub IsTooLarge : ℕ → Allowance → Type 0
-IsTooLarge count allowance = MAX_PAGE + 1 < 1 + count + NUMBERS_OF_INSERTION * allowance.inserts
+IsTooLarge count allowance = MAX_PAGE + 1 < 1 + count + MAX_NEW_PAGES_PER_INSERT * allowance.inserts

@@ -1,7 +1,7 @@
 -- What a deal gives, and why it is refused.
 use Rattle.std.specs.Prelude.{◌≡◌, ◌⊎◌, ◌↔◌, ℕ, ◌+◌, ◌*◌, ◌<◌, Some, List, [], take, slice_get, Contains, IsPermutation}
-use Rattle.blink_rows.specs.declared.limits.TheConstants.{ROWS_OF_INSERTION}
-use Rattle.blink_page.specs.declared.limits.TheConstants.{NUMBERS_OF_INSERTION}
+use Rattle.blink_rows.specs.declared.limits.TheConstants.{MAX_ROWS_PER_INSERT}
+use Rattle.blink_page.specs.declared.limits.TheConstants.{MAX_NEW_PAGES_PER_INSERT}
 use Rattle.blink_live.specs.declared.error.LiveError.{LiveError}
 use Rattle.blink_live.specs.declared.error.LiveError.TheVariants.{Taken, NoAllowance, DealOutOfMemory}
 use Rattle.blink_live.specs.declared.keeper.Keeper.{Keeper}
@@ -30,15 +30,15 @@ NoneIsTaken taken keys = (place key : ℕ) → ¬ IsTakenAt taken keys place key
 -- ---- allowances
 
 -- the greatest number of passes that a keeper deals
-abbrev pub MOST_PASSES : ℕ
-MOST_PASSES = 4294967295
+abbrev pub MAX_PASSES : ℕ
+MAX_PASSES = 4294967295
 
 -- the keeper has fewer insertions or deletions left, or has dealt as many passes as it may
 abbrev pub LacksAllowance : Keeper → ℕ → ℕ → Type 0
-LacksAllowance keeper inserts deletes = (inserts_left keeper.pages < inserts) ⊎ (deletes_left keeper.pages keeper.rows < deletes) ⊎ (keeper.dealt ≡ MOST_PASSES)
+LacksAllowance keeper inserts deletes = (inserts_left keeper.pages < inserts) ⊎ (deletes_left keeper.pages keeper.rows < deletes) ⊎ (keeper.dealt ≡ MAX_PASSES)
 
 abbrev pub rows_for : ℕ → ℕ → ℕ
-rows_for inserts deletes = ROWS_OF_INSERTION * inserts + deletes
+rows_for inserts deletes = MAX_ROWS_PER_INSERT * inserts + deletes
 
 -- ---- what is dealt
 
@@ -50,7 +50,7 @@ pub record IsDealt (live : Live) (old : Keeper) (keys : List ℕ) (inserts delet
   pub none_seen : seen_of pass ≡ []
   pub none_made : changes_by pass ≡ []
   pub rows : pass.rows ≡ span old.rows.next (old.rows.next + rows_for inserts deletes)
-  pub pages : pass.pages ≡ span old.pages.next (old.pages.next + NUMBERS_OF_INSERTION * inserts)
+  pub pages : pass.pages ≡ span old.pages.next (old.pages.next + MAX_NEW_PAGES_PER_INSERT * inserts)
 
 -- and the keeper has the rest
 pub record HasDealt (live : Live) (old new : Keeper) (keys : List ℕ) (inserts deletes : ℕ) : Type 0 where
@@ -58,7 +58,7 @@ pub record HasDealt (live : Live) (old new : Keeper) (keys : List ℕ) (inserts 
   pub taken : (key : ℕ) → Contains (taken_of new) key ↔ (Contains (taken_of old) key ⊎ Contains keys key)
   pub one_more : new.dealt ≡ old.dealt + 1
   pub rows : new.rows ≡ span (old.rows.next + rows_for inserts deletes) old.rows.stop
-  pub pages : new.pages ≡ span (old.pages.next + NUMBERS_OF_INSERTION * inserts) old.pages.stop
+  pub pages : new.pages ≡ span (old.pages.next + MAX_NEW_PAGES_PER_INSERT * inserts) old.pages.stop
 
 -- the refusals of a deal
 pub data IsDealRefusal (refusal : LiveError) : Type 0 where

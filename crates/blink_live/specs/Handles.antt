@@ -8,8 +8,8 @@ use Rattle.blink_batch.specs.PlainMap.{pointer_of}
 use Rattle.blink_index.specs.Index.{map_of}
 use Rattle.blink_rows.specs.Counts.{PlainCounts}
 use Rattle.blink_rows.specs.declared.allowance.Allowance.{Allowance}
-use Rattle.blink_rows.specs.declared.limits.TheConstants.{ROWS_OF_INSERTION}
-use Rattle.blink_page.specs.declared.limits.TheConstants.{NUMBERS_OF_INSERTION}
+use Rattle.blink_rows.specs.declared.limits.TheConstants.{MAX_ROWS_PER_INSERT}
+use Rattle.blink_page.specs.declared.limits.TheConstants.{MAX_NEW_PAGES_PER_INSERT}
 use Rattle.blink_store.specs.Store.{PlainStore}
 use Rattle.blink_live.specs.declared.keeper.Keeper.{Keeper}
 use Rattle.blink_live.specs.declared.live.Live.{Live}
@@ -66,9 +66,9 @@ seen_changes_of pass key = states_of key (seen_of pass)
 abbrev pub latch_number_of : Pass → ℕ
 latch_number_of pass = pass.rows.stop - 1
 
--- of what two passes have seen one is a front of the other
-abbrev pub OneIsFront : List Change → List Change → Type 0
-OneIsFront one other = IsPrefix one other ⊎ IsPrefix other one
+-- of what two passes have seen one is a prefix of the other
+abbrev pub OneIsPrefix : List Change → List Change → Type 0
+OneIsPrefix one other = IsPrefix one other ⊎ IsPrefix other one
 
 -- the pass is as it was, but that it may have seen more
 pub record IsSameBesideSeen (old new : Pass) : Type 0 where
@@ -87,8 +87,8 @@ pub record KnowsItsKeys (live : Live) (pass : Pass) : Type 0 where
   pub changes : (key : ℕ) → Contains (keys_of pass) key → seen_changes_of pass key ≡ own_changes_of pass key
 
 -- of the owner's keys it has seen no change but those that the owner's own operations made, from the first on
-abbrev pub SawFrontOf : Pass → Pass → Type 0
-SawFrontOf owner pass = (key : ℕ) → Contains (keys_of owner) key → IsPrefix (seen_changes_of pass key) (own_changes_of owner key)
+abbrev pub SawPrefixOf : Pass → Pass → Type 0
+SawPrefixOf owner pass = (key : ℕ) → Contains (keys_of owner) key → IsPrefix (seen_changes_of pass key) (own_changes_of owner key)
 
 -- and all of these
 abbrev pub SawAllOf : Pass → Pass → Type 0
@@ -136,8 +136,8 @@ passes_dealt keeper = keeper.dealt
 pub record IsOpened (store : PlainStore) (allowance : Allowance) (live : Live) (keeper : Keeper) : Type 0 where
   pub same_opening : opening_of live ≡ map_of store
   pub same_fan : fan_of live ≡ store.fan
-  pub numbers : (counts_of live).numbers ≡ 1 + length store.pages + NUMBERS_OF_INSERTION * allowance.inserts
-  pub rows : (counts_of live).rows ≡ 1 + length store.pages + ROWS_OF_INSERTION * allowance.inserts + allowance.deletes
+  pub numbers : (counts_of live).numbers ≡ 1 + length store.pages + MAX_NEW_PAGES_PER_INSERT * allowance.inserts
+  pub rows : (counts_of live).rows ≡ 1 + length store.pages + MAX_ROWS_PER_INSERT * allowance.inserts + allowance.deletes
   pub its : IsKeeperOf live keeper
   pub none_taken : taken_of keeper ≡ []
   pub none_dealt : passes_dealt keeper ≡ 0

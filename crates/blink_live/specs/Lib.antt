@@ -6,7 +6,7 @@ pub mod Changes
 pub mod Updating
 pub mod Views
 pub mod Rule
-pub mod Plays
+pub mod AtomicSteps
 pub mod Codes
 pub mod Laid
 pub mod Laying

@@ -1,4 +1,4 @@
--- The rule of the table: between any two atomic steps the words and the views of the seats, read together, are a sound moment of the tree.
+-- The rule of the table: between any two atomic steps the words and the views of the seats, read together, are a sound tree state of the tree.
 use Rattle.std.specs.Prelude.{◌≡◌, ℕ, suc, ◌+◌, ◌-◌, ◌<◌, ◌≤◌, Option, Some, None, List, [], ◌∷◌, length, All, Contains, slice_index, ⊤}
 use mathlib.Core.Option.{some}
 use mathlib.Core.List.{IsPrefix}
@@ -13,9 +13,9 @@ use Rattle.blink_rows.specs.Row.{page_words, prime_words}
 use Rattle.blink_rows.specs.declared.limits.TheConstants.{ROW_WORDS}
 use Rattle.blink_rows.specs.declared.span.Span.{Span}
 use Rattle.blink_machine.specs.Machine.{PlainMachine}
-use Rattle.blink_machine.specs.Moment.{Moment}
-use Rattle.blink_machine.specs.Places.{way_left}
-use Rattle.blink_machine.specs.Sound.{IsSound}
+use Rattle.blink_machine.specs.TreeState.{TreeState}
+use Rattle.blink_machine.specs.Places.{descent_bound}
+use Rattle.blink_machine.specs.Invariant.{Invariant}
 use Rattle.blink_machine.specs.StepLaw.{IsMapAt}
 use Rattle.blink_live.specs.declared.view.Call.{Call}
 use Rattle.blink_live.specs.declared.view.Change.{Change}
@@ -70,20 +70,20 @@ pub record HasRows (plan : Plan) (owners : Owners) (words : List ℕ) (owner : �
   pub blank : (row : ℕ) → rows.next ≤ row → row < rows.stop → RowIs plan.counts words row []
 
 -- these page numbers have this owner, and no page has them
-pub record HasNumbers (plan : Plan) (owners : Owners) (moment : Moment) (owner : ℕ) (pages : Span) : Type 0 where
+pub record HasNumbers (plan : Plan) (owners : Owners) (tree_state : TreeState) (owner : ℕ) (pages : Span) : Type 0 where
   pub in_range : (1 ≤ pages.next) × (pages.stop ≤ plan.counts.numbers)
   pub own : (number : ℕ) → pages.next ≤ number → number < pages.stop → owners.page number ≡ owner
-  pub free : (number : ℕ) → pages.next ≤ number → number < pages.stop → moment.pages number ≡ None
+  pub free : (number : ℕ) → pages.next ≤ number → number < pages.stop → tree_state.pages number ≡ None
 
 -- what a call may use stands before the row and the page number from which on its pass may use them; of the first of its rows it has stored
--- the draft, and the others are all 0
-pub record HasForCall (plan : Plan) (owners : Owners) (words : List ℕ) (moment : Moment) (owner : ℕ) (call : Call) (row page : ℕ) : Type 0 where
+-- the staged word, and the others are all 0
+pub record HasForCall (plan : Plan) (owners : Owners) (words : List ℕ) (tree_state : TreeState) (owner : ℕ) (call : Call) (row page : ℕ) : Type 0 where
   pub before : (call.rows.stop ≤ row) × (call.pages.stop ≤ page)
-  pub width : length call.draft ≡ ROW_WORDS
+  pub width : length call.staged ≡ ROW_WORDS
   pub first_own : call.rows.next < call.rows.stop → (1 ≤ call.rows.next) × (owners.row call.rows.next ≡ owner)
-  pub drafted : call.rows.next < call.rows.stop → RowIs plan.counts words call.rows.next call.draft
+  pub staged : call.rows.next < call.rows.stop → RowIs plan.counts words call.rows.next call.staged
   pub others : HasRows plan owners words owner (span (suc call.rows.next) call.rows.stop)
-  pub numbers : HasNumbers plan owners moment owner call.pages
+  pub numbers : HasNumbers plan owners tree_state owner call.pages
 
 -- what the share says of one of its keys: it has this owner, keeps what the share keeps, and its changes are the share's
 pub record IsOwnKey (plan : Plan) (owners : Owners) (log : List Change) (owner : ℕ) (share : Share) (key : ℕ) : Type 0 where
@@ -104,18 +104,18 @@ IsInRole plan owners log seat v Pass = (1 ≤ seat) × (owners.latch_number seat
 IsInRole plan owners log seat v Spent = v.operation ≡ None
 
 -- what the operation is bound by
-abbrev pub IsBoundedWay : Moment → View → Type 0
-IsBoundedWay moment v = (m : PlainMachine) → v.operation ≡ Some m → way_left moment.pages m ≡ v.way_left
+abbrev pub IsBoundedWay : TreeState → View → Type 0
+IsBoundedWay tree_state v = (m : PlainMachine) → v.operation ≡ Some m → descent_bound tree_state.pages m ≡ v.descent_bound
 
--- the seat's view, told by the words, the moment and the changes
-pub record Knows (plan : Plan) (owners : Owners) (words : List ℕ) (moment : Moment) (log : List Change) (seat : ℕ) (v : View) : Type 0 where
+-- the seat's view, told by the words, the tree state and the changes
+pub record Knows (plan : Plan) (owners : Owners) (words : List ℕ) (tree_state : TreeState) (log : List Change) (seat : ℕ) (v : View) : Type 0 where
   pub same_plan : v.plan ≡ plan
-  pub operation : moment.machines seat ≡ v.operation
-  pub bounded : IsBoundedWay moment v
+  pub operation : tree_state.machines seat ≡ v.operation
+  pub bounded : IsBoundedWay tree_state v
   pub reads : ReadsRow plan owners words v.reads
   pub rows : HasRows plan owners words (suc seat) v.rows
-  pub numbers : HasNumbers plan owners moment (suc seat) v.pages
-  pub for_call : HasForCall plan owners words moment (suc seat) v.call v.rows.next v.pages.next
+  pub numbers : HasNumbers plan owners tree_state (suc seat) v.pages
+  pub for_call : HasForCall plan owners words tree_state (suc seat) v.call v.rows.next v.pages.next
   pub share : IsShare plan owners log (suc seat) v.share
   pub saw : IsPrefix v.seen log
   pub heard : IsPrefix v.told log
@@ -142,31 +142,31 @@ pub record AreCounted (views : List View) : Type 0 where
 
 -- ---- the whole
 
-pub record IsTableAt (plan : Plan) (s : State ℕ View) (moment : Moment) : Type 0 where
+pub record IsTableAt (plan : Plan) (s : State ℕ View) (tree_state : TreeState) : Type 0 where
   pub owners : Owners
   pub log : List Change
   pub now : List Entry
-  -- the moment
-  pub same_fan : moment.fan ≡ plan.fan
-  pub sound : IsSound moment
-  pub prime_numbers : All IsPageNumber moment.prime
+  -- the tree state
+  pub same_fan : tree_state.fan ≡ plan.fan
+  pub invariant : Invariant tree_state
+  pub prime_numbers : All IsPageNumber tree_state.prime
   -- the words
   pub bounded : AreBounded plan.counts
   pub width : length s.words ≡ word_count plan.counts
-  pub prime : IsPublished plan owners (slice_index s.words 0) × RowIs plan.counts s.words (slice_index s.words 0) (prime_words moment.prime)
-  pub pages : (number : ℕ) → 1 ≤ number → number < plan.counts.numbers → PageWordIs plan owners s.words (slice_index s.words number) (moment.pages number)
-  pub no_other_page : (number : ℕ) → plan.counts.numbers ≤ number → moment.pages number ≡ None
-  pub latches : (number : ℕ) → number < plan.counts.numbers → slice_index s.words (plan.counts.numbers + number) ≡ latch_word owners (moment.holder number)
-  pub no_other_latch : (number : ℕ) → plan.counts.numbers ≤ number → moment.holder number ≡ None
-  pub holders : (number seat : ℕ) → moment.holder number ≡ Some seat → 1 ≤ owners.latch_number seat
+  pub prime : IsPublished plan owners (slice_index s.words 0) × RowIs plan.counts s.words (slice_index s.words 0) (prime_words tree_state.prime)
+  pub pages : (number : ℕ) → 1 ≤ number → number < plan.counts.numbers → PageWordIs plan owners s.words (slice_index s.words number) (tree_state.pages number)
+  pub no_other_page : (number : ℕ) → plan.counts.numbers ≤ number → tree_state.pages number ≡ None
+  pub latches : (number : ℕ) → number < plan.counts.numbers → slice_index s.words (plan.counts.numbers + number) ≡ latch_word owners (tree_state.holder number)
+  pub no_other_latch : (number : ℕ) → plan.counts.numbers ≤ number → tree_state.holder number ≡ None
+  pub holders : (number seat : ℕ) → tree_state.holder number ≡ Some seat → 1 ≤ owners.latch_number seat
   -- the entries: what the changes leave of the opening ones
-  pub is_map : IsMapAt moment now
+  pub is_map : IsMapAt tree_state now
   pub kept : (key : ℕ) → pointer_of now key ≡ after (pointer_of plan.opening) log key
   pub untouched : (key : ℕ) → owners.key key ≡ 0 → states_of key log ≡ []
   -- the seats
-  pub views : (seat : ℕ) (v : View) → get_elem? s.views seat ≡ some v → Knows plan owners s.words moment log seat v
-  pub others_idle : (seat : ℕ) → length s.views ≤ seat → moment.machines seat ≡ None
+  pub views : (seat : ℕ) (v : View) → get_elem? s.views seat ≡ some v → Knows plan owners s.words tree_state log seat v
+  pub others_idle : (seat : ℕ) → length s.views ≤ seat → tree_state.machines seat ≡ None
   pub counted : AreCounted s.views
 
 abbrev pub IsTable : Plan → State ℕ View → Type 0
-IsTable plan s = (moment : Moment) × IsTableAt plan s moment
+IsTable plan s = (tree_state : TreeState) × IsTableAt plan s tree_state

@@ -18,16 +18,16 @@ use Rattle.blink_machine.specs.declared.machine.Job.TheVariants.{Leaf}
 use Rattle.blink_machine.specs.declared.machine.State.TheVariants.{Want, Ended}
 use Rattle.blink_machine.specs.OnTheWay.{IsOnItsWay}
 use Rattle.blink_machine.specs.Machine.{PlainMachine}
-use Rattle.blink_machine.specs.Moment.{goes_on}
+use Rattle.blink_machine.specs.TreeState.{goes_on}
 use Rattle.blink_machine.specs.Table.{IsUpdate}
 use Rattle.blink_live.specs.declared.live.Live.{Live}
 use Rattle.blink_live.specs.declared.view.Role.TheVariants.{Pass}
 use Rattle.blink_live.specs.declared.view.View.{View}
-use Rattle.blink_live.specs.Plays.{CanGoOn}
-use Rattle.blink_live.specs.Views.{Sat, KnowsItsOwn, SameBesideReads, plan_of}
+use Rattle.blink_live.specs.AtomicSteps.{CanGoOn}
+use Rattle.blink_live.specs.Views.{SeatState, KnowsItsOwn, SameBesideReads, plan_of}
 
 -- the seat is a pass's of this table
-pub record IsPassSeat (live : Live) (table : TableId) (me : Sat) : Type 0 where
+pub record IsPassSeat (live : Live) (table : TableId) (me : SeatState) : Type 0 where
   pub same_table : table ≡ live.table.shared.table_id
   pub same_plan : me.0.plan ≡ plan_of live.table.shared.key
   pub role : me.0.role ≡ Pass
@@ -41,12 +41,12 @@ abbrev pub IsFirst : ℕ → Span → Type 0
 IsFirst number numbers = (number ≡ numbers.next) × (number < numbers.stop)
 
 -- the seat reads the row of this page
-pub record ReadsPage (me : Sat) (row : ℕ) (page : PlainPage) : Type 0 where
+pub record ReadsPage (me : SeatState) (row : ℕ) (page : PlainPage) : Type 0 where
   pub reads : me.0.reads ≡ Some (row, page_words page)
   pub lawful : IsLawfulPage MAX_FAN page
 
 -- the seat reads the row of this prime block
-pub record ReadsPrime (me : Sat) (row : ℕ) (prime : List ℕ) : Type 0 where
+pub record ReadsPrime (me : SeatState) (row : ℕ) (prime : List ℕ) : Type 0 where
   pub reads : me.0.reads ≡ Some (row, prime_words prime)
   pub few_levels : length prime < LEVELS
 
@@ -71,7 +71,7 @@ pub data IsDescending (op : Op) (kept : Option ℕ) (m : PlainMachine) : Type 0 
   at_leaf : IsAtLeaf op kept m → IsDescending op kept m
 
 -- it is the seat's, which knows what it knew when it began, but for what it has read since
-pub record HasRead (op : Op) (first me : Sat) (m : PlainMachine) : Type 0 where
+pub record HasRead (op : Op) (first me : SeatState) (m : PlainMachine) : Type 0 where
   pub same : SameBesideReads first.0 me.0 × (me.1 ≡ first.1)
   pub saw : IsPrefix first.0.seen me.0.seen
   pub knows_own : KnowsItsOwn me.0

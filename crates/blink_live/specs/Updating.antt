@@ -9,21 +9,21 @@ use Rattle.blink_machine.specs.declared.machine.State.{State}
 use Rattle.blink_machine.specs.declared.machine.State.TheVariants.{Start, Going, Ended}
 use Rattle.blink_machine.specs.Allowance.{numbers_left, writes_left, primes_left}
 use Rattle.blink_machine.specs.Machine.{PlainMachine}
-use Rattle.blink_machine.specs.Moment.{goes_on}
+use Rattle.blink_machine.specs.TreeState.{goes_on}
 use Rattle.blink_machine.specs.Table.{IsUpdate}
 use Rattle.blink_live.specs.declared.live.Live.{Live}
 use Rattle.blink_live.specs.declared.room.Room.{Room}
 use Rattle.blink_live.specs.declared.view.Call.{Call}
 use Rattle.blink_live.specs.declared.view.Share.{Share}
 use Rattle.blink_live.specs.declared.view.View.{View}
-use Rattle.blink_live.specs.Plays.{CanGoOn}
+use Rattle.blink_live.specs.AtomicSteps.{CanGoOn}
 use Rattle.blink_live.specs.Seats.{IsPassSeat}
-use Rattle.blink_live.specs.Views.{Sat, KnowsItsOwn, CanBegin, for_call, no_words, changed_by}
+use Rattle.blink_live.specs.Views.{SeatState, KnowsItsOwn, CanBegin, for_call, no_words, changed_by}
 use Rattle.blink_live.specs.Words.{AreNumbersIn, AreRowsIn}
 
 -- w is v, but for its operation, its share, what its call has stored, and what it reads and has seen
 abbrev pub SameBesideCall : View → View → Type 0
-SameBesideCall v w = w ≡ record v { operation = w.operation; way_left = w.way_left; reads = w.reads; seen = w.seen; share = w.share; call = w.call }
+SameBesideCall v w = w ≡ record v { operation = w.operation; descent_bound = w.descent_bound; reads = w.reads; seen = w.seen; share = w.share; call = w.call }
 
 -- the operation hasn't decided yet, and the share is as it was; or it answers by the share, which is changed as it changes a map
 pub data HasDecided (op : Op) (before share : Share) (m : PlainMachine) : Type 0 where
@@ -42,10 +42,10 @@ pub record HasLeft (first call : Call) (m : PlainMachine) : Type 0 where
   pub pages : call.pages.next + numbers_left m ≤ call.pages.stop
   pub later : (first.rows.next ≤ call.rows.next) × (first.pages.next ≤ call.pages.next)
   pub same_stop : (call.rows.stop ≡ first.rows.stop) × (call.pages.stop ≡ first.pages.stop)
-  pub blank : call.draft ≡ no_words
+  pub blank : call.staged ≡ no_words
 
 -- the seat knows what it knew when the operation began, but for what the operation has done since
-pub record IsUpdating (op : Op) (first me : Sat) (m : PlainMachine) : Type 0 where
+pub record IsUpdating (op : Op) (first me : SeatState) (m : PlainMachine) : Type 0 where
   pub same : SameBesideCall first.0 me.0 × (me.1 ≡ first.1)
   pub saw : IsPrefix first.0.seen me.0.seen
   pub knows_own : KnowsItsOwn me.0

@@ -8,11 +8,11 @@ use Rattle.blink_batch.specs.declared.Op.TheVariants.{Find, Insert, Delete, Repl
 use Rattle.blink_batch.specs.Operation.{key_of, map_after}
 use Rattle.blink_batch.specs.PlainMap.{pointer_of}
 use Rattle.blink_index.specs.Index.{map_of}
-use Rattle.blink_rows.specs.declared.limits.TheConstants.{ROW_WORDS, ROWS_OF_INSERTION}
-use Rattle.blink_page.specs.declared.limits.TheConstants.{NUMBERS_OF_INSERTION}
+use Rattle.blink_rows.specs.declared.limits.TheConstants.{ROW_WORDS, MAX_ROWS_PER_INSERT}
+use Rattle.blink_page.specs.declared.limits.TheConstants.{MAX_NEW_PAGES_PER_INSERT}
 use Rattle.blink_rows.specs.declared.span.Span.{Span}
 use Rattle.blink_machine.specs.Machine.{PlainMachine}
-use Rattle.blink_machine.specs.Moment.{goes_on}
+use Rattle.blink_machine.specs.TreeState.{goes_on}
 use Rattle.blink_live.specs.declared.view.Call.{Call}
 use Rattle.blink_live.specs.declared.view.Change.{Change}
 use Rattle.blink_live.specs.declared.view.Opened.{Opened}
@@ -24,8 +24,8 @@ use Rattle.blink_live.specs.declared.view.View.{View}
 use Rattle.blink_live.specs.Changes.{after, states_of, changes_made}
 
 -- a seat's view, with the slots that it has taken: this table has none
-abbrev pub Sat : Type 0
-Sat = Me ℕ View
+abbrev pub SeatState : Type 0
+SeatState = Me ℕ View
 
 abbrev pub plan_of : Opened → Plan
 plan_of opened = record { fan = opened.index.value.fan; counts = opened.counts; opening = map_of opened.index.value }
@@ -42,7 +42,7 @@ no_words = replicate ROW_WORDS 0
 
 -- what a seat has for a call that hasn't made one
 abbrev pub no_call : Call
-no_call = record { rows = span 1 1; pages = span 1 1; draft = no_words }
+no_call = record { rows = span 1 1; pages = span 1 1; staged = no_words }
 
 -- a seat that does nothing, and has seen nothing
 abbrev pub seat_for : Plan → Role → Span → Span → Share → View
@@ -56,7 +56,7 @@ seat_for plan role rows pages share = record {
   taken = [];
   back = [];
   operation = None;
-  way_left = 0;
+  descent_bound = 0;
   reads = None;
   seen = [];
   told = [];
@@ -97,18 +97,18 @@ pub record KnowsItsOwn (v : View) : Type 0 where
 
 -- a page word was loaded, which names this row of these words: the operation is `after` now
 abbrev pub reading : View → PlainMachine → ℕ → ℕ → List ℕ → List Change → View
-reading v after way row words seen = record v { operation = goes_on after after.state; way_left = way; reads = Some (row, words); seen = seen }
+reading v after way row words seen = record v { operation = goes_on after after.state; descent_bound = way; reads = Some (row, words); seen = seen }
 
 -- what an operation takes of its pass's rows when it begins, and of its page numbers
 abbrev pub rows_of : Op → ℕ
 rows_of (Find key) = 0
-rows_of (Insert key pointer) = ROWS_OF_INSERTION
+rows_of (Insert key pointer) = MAX_ROWS_PER_INSERT
 rows_of (Delete key) = 1
 rows_of (Replace key pointer) = 1
 
 abbrev pub pages_of : Op → ℕ
 pages_of (Find key) = 0
-pages_of (Insert key pointer) = NUMBERS_OF_INSERTION
+pages_of (Insert key pointer) = MAX_NEW_PAGES_PER_INSERT
 pages_of (Delete key) = 0
 pages_of (Replace key pointer) = 0
 
@@ -122,26 +122,26 @@ abbrev pub for_call : View → Op → View
 for_call v op = record v {
   rows = span (v.rows.next + rows_of op) v.rows.stop;
   pages = span (v.pages.next + pages_of op) v.pages.stop;
-  call = record { rows = span v.rows.next (v.rows.next + rows_of op); pages = span v.pages.next (v.pages.next + pages_of op); draft = no_words };
+  call = record { rows = span v.rows.next (v.rows.next + rows_of op); pages = span v.pages.next (v.pages.next + pages_of op); staged = no_words };
 }
 
 -- w is v, but for its operation, and for what it reads and has seen
 abbrev pub SameBesideReads : View → View → Type 0
-SameBesideReads v w = w ≡ record v { operation = w.operation; way_left = w.way_left; reads = w.reads; seen = w.seen }
+SameBesideReads v w = w ≡ record v { operation = w.operation; descent_bound = w.descent_bound; reads = w.reads; seen = w.seen }
 
 -- ---- steps that read nothing
 
 -- the operation is `after` now
 abbrev pub going_on : View → PlainMachine → ℕ → View
-going_on v after way = record v { operation = goes_on after after.state; way_left = way }
+going_on v after way = record v { operation = goes_on after after.state; descent_bound = way }
 
 -- it has stored these words of the first row that its call may use
-abbrev pub has_drafted : View → List ℕ → View
-has_drafted v words = record v { call = record { rows = v.call.rows; pages = v.call.pages; draft = words } }
+abbrev pub is_staged : View → List ℕ → View
+is_staged v words = record v { call = record { rows = v.call.rows; pages = v.call.pages; staged = words } }
 
 -- it has stored one word more of that row
-abbrev pub drafts : View → ℕ → ℕ → View
-drafts v place word = has_drafted v (slice_set v.call.draft place word)
+abbrev pub stage_word : View → ℕ → ℕ → View
+stage_word v place word = is_staged v (slice_set v.call.staged place word)
 
 -- the share is changed as the operation changes a map
 abbrev pub changed_by : Op → Share → Share
@@ -154,9 +154,9 @@ changed_by op share = record {
 -- it has published that row, its call may still use these page numbers, and its operation is `after` now
 abbrev pub publishes : View → PlainMachine → ℕ → Span → Share → List Change → View
 publishes v after way pages share seen = record v {
-  call = record { rows = span (suc v.call.rows.next) v.call.rows.stop; pages = pages; draft = no_words };
+  call = record { rows = span (suc v.call.rows.next) v.call.rows.stop; pages = pages; staged = no_words };
   operation = goes_on after after.state;
-  way_left = way;
+  descent_bound = way;
   share = share;
   seen = seen;
 }

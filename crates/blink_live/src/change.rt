@@ -9,9 +9,9 @@ ghost use Rattle.blink_rows.specs.declared.limits.TheConstants.{ROW_WORDS};
 ghost use Rattle.blink_machine.specs.Kinds.{latch, unlatch};
 ghost use Rattle.blink_machine.specs.Machine.{NeedsLatch, NeedsNew, NeedsPrimeWrite, NeedsWrite, NeedsUnlatch};
 ghost use Rattle.blink_machine.specs.Table.{PrimeOut, done, page_out};
-ghost use Rattle.blink_live.specs.Plays.{GoesOn, PublishesNew, PublishesPage, PublishesPrime};
+ghost use Rattle.blink_live.specs.AtomicSteps.{GoesOn, PublishesNew, PublishesPage, PublishesPrime};
 ghost use Rattle.blink_live.specs.Seats.{IsFirst, IsPassSeat};
-ghost use Rattle.blink_live.specs.Views.{drafts};
+ghost use Rattle.blink_live.specs.Views.{stage_word};
 ghost use Rattle.blink_live.specs.Words.{IsRowNumber};
 
 use crate::live::Live;
@@ -85,7 +85,7 @@ impl Live {
         requires row { IsFirst row seat.old.me.0.call.rows × IsRowNumber self.now.counts row }
         requires place { (place < ROW_WORDS) × (1 ≤ self.now.counts.numbers) }
         ensures same { (seat.new.table_id ≡ seat.old.table_id) × (seat.new.id ≡ seat.old.id) }
-        ensures stored { seat.new.me ≡ (drafts seat.old.me.0 place word, seat.old.me.1) }
+        ensures stored { seat.new.me ≡ (stage_word seat.old.me.0 place word, seat.old.me.1) }
     {
         // Called for the proof: a place in the table is a usize.
         let _count = self.table.word_count();
@@ -109,7 +109,7 @@ impl Live {
         requires needs { NeedsWrite machine.old number }
         requires in_range { (1 ≤ number) × (number < self.now.counts.numbers) }
         requires row { IsFirst row seat.old.me.0.call.rows }
-        requires drafted { IsRowOf seat.old.me.0.call.draft (page_words (page_out machine.old 0)) }
+        requires staged { IsRowOf seat.old.me.0.call.staged (page_words (page_out machine.old 0)) }
         requires among { Contains seat.old.me.0.share.keys (key_of machine.old.op) }
         ensures same { (seat.new.table_id ≡ seat.old.table_id) × (seat.new.id ≡ seat.old.id) }
         ensures machine { machine.new ≡ done machine.old 0 }
@@ -136,7 +136,7 @@ impl Live {
         requires number { IsFirst number seat.old.me.0.call.pages }
         requires in_range { IsPageNumber number × (number < self.now.counts.numbers) }
         requires row { IsFirst row seat.old.me.0.call.rows }
-        requires drafted { IsRowOf seat.old.me.0.call.draft (page_words (page_out machine.old number)) }
+        requires staged { IsRowOf seat.old.me.0.call.staged (page_words (page_out machine.old number)) }
         requires among { Contains seat.old.me.0.share.keys (key_of machine.old.op) }
         ensures same { (seat.new.table_id ≡ seat.old.table_id) × (seat.new.id ≡ seat.old.id) }
         ensures machine { machine.new ≡ done machine.old number }
@@ -155,8 +155,8 @@ impl Live {
         requires fits { FitsWords machine.old.op }
         requires needs { NeedsPrimeWrite machine.old }
         requires row { IsFirst row seat.old.me.0.call.rows }
-        requires drafted { (prime : List ℕ) × PrimeOut machine.old prime
-            × IsRowOf seat.old.me.0.call.draft (prime_words prime) }
+        requires staged { (prime : List ℕ) × PrimeOut machine.old prime
+            × IsRowOf seat.old.me.0.call.staged (prime_words prime) }
         requires among { Contains seat.old.me.0.share.keys (key_of machine.old.op) }
         ensures same { (seat.new.table_id ≡ seat.old.table_id) × (seat.new.id ≡ seat.old.id) }
         ensures machine { machine.new ≡ done machine.old 0 }

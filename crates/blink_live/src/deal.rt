@@ -1,7 +1,7 @@
 //! How a table's keeper deals passes.
 ghost use Rattle.std.specs.Prelude.{◌≡◌, ◌⊎◌, ◌↔◌, ℕ, ◌+◌, ◌*◌, ◌≤◌, IfOk, IfErr, OnOk, OnErr, IsErrOf, IsTrue, Contains, IsSorted, []};
 ghost use Rattle.std.specs.Ordering.{nat_cmp};
-ghost use Rattle.blink_page.specs.declared.limits.TheConstants.{NUMBERS_OF_INSERTION};
+ghost use Rattle.blink_page.specs.declared.limits.TheConstants.{MAX_NEW_PAGES_PER_INSERT};
 ghost use Rattle.blink_live.specs.Dealing.{CanDeal};
 ghost use Rattle.blink_live.specs.Deals.{IsFirstTaken, NoneIsTaken, LacksAllowance, IsDealt, HasDealt, IsDealRefusal, rows_for};
 ghost use Rattle.blink_live.specs.Handles.{IsKeeperOf, taken_of};
@@ -17,7 +17,7 @@ use crate::rule::{Deal, Dealt};
 use crate::taken::first_taken;
 use crate::view::View;
 use atomic_table::Seat;
-use blink_rows::{NUMBERS_OF_INSERTION, ROWS_OF_INSERTION, Span};
+use blink_rows::{MAX_NEW_PAGES_PER_INSERT, MAX_ROWS_PER_INSERT, Span};
 use std::marker::Brand;
 
 impl Live {
@@ -77,8 +77,8 @@ impl Live {
             dealt,
         } = keeper;
         keys.sort_unstable();
-        let row_count = ROWS_OF_INSERTION * u64::from(inserts) + u64::from(deletes);
-        let page_count = NUMBERS_OF_INSERTION * u64::from(inserts);
+        let row_count = MAX_ROWS_PER_INSERT * u64::from(inserts) + u64::from(deletes);
+        let page_count = MAX_NEW_PAGES_PER_INSERT * u64::from(inserts);
         let seat = self.split::<Brand>(seat, &keys, &taken_now, row_count, page_count);
         *taken = taken_now;
         *dealt += 1;

@@ -5,13 +5,13 @@ ghost use Rattle.blink_live.specs.Views.{pages_of, rows_of, span};
 
 use crate::room::Room;
 use blink_batch::Op;
-use blink_rows::{NUMBERS_OF_INSERTION, ROWS_OF_INSERTION, Span};
+use blink_rows::{MAX_NEW_PAGES_PER_INSERT, MAX_ROWS_PER_INSERT, Span};
 
 // So many insertions have these page numbers.
 pub(crate) fn inserts_left(pages: &Span) -> u64
     ensures { result ≡ inserts_left pages.now }
 {
-    pages.len() / NUMBERS_OF_INSERTION
+    pages.len() / MAX_NEW_PAGES_PER_INSERT
 }
 
 // And so many deletions these rows beside them.
@@ -19,7 +19,7 @@ pub(crate) fn deletes_left(pages: &Span, rows: &Span) -> u64
     requires { AreForChanges pages.now rows.now }
     ensures { result ≡ deletes_left pages.now rows.now }
 {
-    rows.len() - ROWS_OF_INSERTION * inserts_left(pages)
+    rows.len() - MAX_ROWS_PER_INSERT * inserts_left(pages)
 }
 
 // So many changes of the operation's kind: a replacement counts as a deletion.
@@ -59,7 +59,7 @@ pub(crate) fn next_of(op: Op, rows: &mut Span, pages: &mut Span) -> Room
 {
     let (row_count, page_count) = match op {
         Op::Find(_) => (0, 0),
-        Op::Insert(..) => (ROWS_OF_INSERTION, NUMBERS_OF_INSERTION),
+        Op::Insert(..) => (MAX_ROWS_PER_INSERT, MAX_NEW_PAGES_PER_INSERT),
         Op::Delete(_) | Op::Replace(..) => (1, 0),
     };
     Room {

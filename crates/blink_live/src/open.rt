@@ -7,12 +7,12 @@ use crate::error::LiveError;
 use crate::keeper::Keeper;
 use crate::lay::laid_words;
 use crate::live::Live;
-use crate::rule::SoundTree;
+use crate::rule::InvariantOfTree;
 use crate::view::{Opened, View};
 use atomic_table::Table;
 use blink_index::Index;
 use blink_page::MAX_PAGE;
-use blink_rows::{Allowance, Counts, NUMBERS_OF_INSERTION, Span};
+use blink_rows::{Allowance, Counts, MAX_NEW_PAGES_PER_INSERT, Span};
 use std::alloc::Global;
 use std::snapshot::Snapshot;
 
@@ -34,7 +34,7 @@ impl Live {
             (λ refusal. (refusal ≡ LiveError.TooLarge) ⊎ (refusal ≡ LiveError.OutOfMemory)) }
     {
         let count = index.page_count();
-        if is_too_large(count, allowance) {
+        if exceeds_page_limit(count, allowance) {
             return Err(LiveError::TooLarge);
         }
         let counts = Counts::of(count, allowance);
@@ -46,7 +46,7 @@ impl Live {
             counts,
             index: Snapshot::of(index),
         };
-        let Ok((table, seat)) = Table::<u8, View, Opened, SoundTree, Global>::of_words(
+        let Ok((table, seat)) = Table::<u8, View, Opened, InvariantOfTree, Global>::of_words(
             alloc, &words, &opened,
         ) else {
             return Err(LiveError::OutOfMemory);
@@ -70,9 +70,9 @@ impl Live {
 }
 
 // Whether the insertions might need more page numbers than there are.
-fn is_too_large(count: u32, allowance: Allowance) -> bool
+fn exceeds_page_limit(count: u32, allowance: Allowance) -> bool
     ensures { IsTrue result ↔ IsTooLarge count allowance }
 {
-    let numbers = 1 + u64::from(count) + NUMBERS_OF_INSERTION * u64::from(allowance.inserts);
+    let numbers = 1 + u64::from(count) + MAX_NEW_PAGES_PER_INSERT * u64::from(allowance.inserts);
     numbers > u64::from(MAX_PAGE) + 1
 }

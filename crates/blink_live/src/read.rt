@@ -8,7 +8,7 @@ ghost use Rattle.blink_page.specs.Page.{PlainPage};
 ghost use Rattle.blink_page.specs.Rising.{IsRising};
 ghost use Rattle.blink_rows.specs.declared.limits.TheConstants.{ROW_WORDS};
 ghost use Rattle.blink_machine.specs.Machine.{PlainMachine, NeedsPage};
-ghost use Rattle.blink_live.specs.Plays.{Begins, LoadsPage};
+ghost use Rattle.blink_live.specs.AtomicSteps.{Begins, LoadsPage};
 ghost use Rattle.blink_live.specs.Seats.{IsGoing, IsPassSeat, IsSameSeat, ReadsPage, TellsWayFor};
 ghost use Rattle.blink_live.specs.Views.{CanBegin};
 ghost use Rattle.blink_live.specs.Words.{IsRowNumber};

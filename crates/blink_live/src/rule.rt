@@ -4,10 +4,10 @@ use crate::view::{Opened, View};
 use atomic_table::{Join, Play, Split, TableRule};
 use std::marker::{Brand, PhantomData};
 
-/// Words and views are a sound moment of the tree.
-pub(crate) struct SoundTree;
+/// Words and views are a sound tree state of the tree.
+pub(crate) struct InvariantOfTree;
 
-impl TableRule<u8, View, Opened> for SoundTree {
+impl TableRule<u8, View, Opened> for InvariantOfTree {
     ghost use Rattle.std.specs.Prelude.{length};
     ghost use Rattle.blink_live.specs.Rule.{IsTable};
     ghost use Rattle.blink_live.specs.Views.{plan_of, first_view};
@@ -36,7 +36,7 @@ pub(crate) struct Begin<B> {
 }
 
 impl<B: Begun> Play<u8, View> for Begin<B> {
-    ghost use Rattle.blink_live.specs.Plays.{begins};
+    ghost use Rattle.blink_live.specs.AtomicSteps.{begins};
 
     ghost then = { begins B.op };
 }
@@ -45,7 +45,7 @@ impl<B: Begun> Play<u8, View> for Begin<B> {
 pub(crate) struct LoadPage;
 
 impl Play<u8, View> for LoadPage {
-    ghost use Rattle.blink_live.specs.Plays.{loads_page};
+    ghost use Rattle.blink_live.specs.AtomicSteps.{loads_page};
 
     ghost then = { loads_page };
 }
@@ -54,7 +54,7 @@ impl Play<u8, View> for LoadPage {
 pub(crate) struct LoadPrime;
 
 impl Play<u8, View> for LoadPrime {
-    ghost use Rattle.blink_live.specs.Plays.{loads_prime};
+    ghost use Rattle.blink_live.specs.AtomicSteps.{loads_prime};
 
     ghost then = { loads_prime };
 }
@@ -63,7 +63,7 @@ impl Play<u8, View> for LoadPrime {
 pub(crate) struct LookUp;
 
 impl Play<u8, View> for LookUp {
-    ghost use Rattle.blink_live.specs.Plays.{looks_up};
+    ghost use Rattle.blink_live.specs.AtomicSteps.{looks_up};
 
     ghost then = { looks_up };
 }
@@ -72,7 +72,7 @@ impl Play<u8, View> for LookUp {
 pub(crate) struct LookBack;
 
 impl Play<u8, View> for LookBack {
-    ghost use Rattle.blink_live.specs.Plays.{looks_back};
+    ghost use Rattle.blink_live.specs.AtomicSteps.{looks_back};
 
     ghost then = { looks_back };
 }
@@ -81,7 +81,7 @@ impl Play<u8, View> for LookBack {
 pub(crate) struct LoadWord;
 
 impl Play<u8, View> for LoadWord {
-    ghost use Rattle.blink_live.specs.Plays.{loads_word};
+    ghost use Rattle.blink_live.specs.AtomicSteps.{loads_word};
 
     ghost then = { loads_word };
 }
@@ -90,7 +90,7 @@ impl Play<u8, View> for LoadWord {
 pub(crate) struct TryLatch;
 
 impl Play<u8, View> for TryLatch {
-    ghost use Rattle.blink_live.specs.Plays.{tries_latch};
+    ghost use Rattle.blink_live.specs.AtomicSteps.{tries_latch};
 
     ghost then = { tries_latch };
 }
@@ -99,7 +99,7 @@ impl Play<u8, View> for TryLatch {
 pub(crate) struct LetGo;
 
 impl Play<u8, View> for LetGo {
-    ghost use Rattle.blink_live.specs.Plays.{lets_go};
+    ghost use Rattle.blink_live.specs.AtomicSteps.{lets_go};
 
     ghost then = { lets_go };
 }
@@ -108,7 +108,7 @@ impl Play<u8, View> for LetGo {
 pub(crate) struct StoreWord;
 
 impl Play<u8, View> for StoreWord {
-    ghost use Rattle.blink_live.specs.Plays.{stores_word};
+    ghost use Rattle.blink_live.specs.AtomicSteps.{stores_word};
 
     ghost then = { stores_word };
 }
@@ -117,7 +117,7 @@ impl Play<u8, View> for StoreWord {
 pub(crate) struct Publish;
 
 impl Play<u8, View> for Publish {
-    ghost use Rattle.blink_live.specs.Plays.{publishes_page};
+    ghost use Rattle.blink_live.specs.AtomicSteps.{publishes_page};
 
     ghost then = { publishes_page };
 }
@@ -126,7 +126,7 @@ impl Play<u8, View> for Publish {
 pub(crate) struct PublishNew;
 
 impl Play<u8, View> for PublishNew {
-    ghost use Rattle.blink_live.specs.Plays.{publishes_new};
+    ghost use Rattle.blink_live.specs.AtomicSteps.{publishes_new};
 
     ghost then = { publishes_new };
 }
@@ -135,7 +135,7 @@ impl Play<u8, View> for PublishNew {
 pub(crate) struct PublishPrime;
 
 impl Play<u8, View> for PublishPrime {
-    ghost use Rattle.blink_live.specs.Plays.{publishes_prime};
+    ghost use Rattle.blink_live.specs.AtomicSteps.{publishes_prime};
 
     ghost then = { publishes_prime };
 }

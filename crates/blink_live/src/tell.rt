@@ -2,10 +2,10 @@
 ghost use Rattle.std.specs.Prelude.{◌≡◌, None, []};
 ghost use mathlib.Core.List.{IsPrefix};
 ghost use Rattle.blink_live.specs.declared.view.Role.TheVariants.{Spent};
-ghost use Rattle.blink_live.specs.Handles.{IsPassOf, IsSameBesideSeen, IsSamePass, KnowsItsKeys, OneIsFront, SawAllOf};
-ghost use Rattle.blink_live.specs.Handles.{SawFrontOf, seen_of};
+ghost use Rattle.blink_live.specs.Handles.{IsPassOf, IsSameBesideSeen, IsSamePass, KnowsItsKeys, OneIsPrefix, SawAllOf};
+ghost use Rattle.blink_live.specs.Handles.{SawPrefixOf, seen_of};
 ghost use Rattle.blink_live.specs.Seats.{IsPassSeat, IsSameSeat};
-ghost use Rattle.blink_live.specs.Plays.{LooksBack, LooksUp};
+ghost use Rattle.blink_live.specs.AtomicSteps.{LooksBack, LooksUp};
 ghost use Rattle.blink_live.specs.Views.{hears, note_of, plan_of};
 
 use crate::live::Live;
@@ -22,10 +22,10 @@ impl Live {
     pub fn tell(&self, from: &mut Pass, to: &mut Pass)
         requires from_its_own { IsPassOf self.now from.old }
         requires to_its_own { IsPassOf self.now to.old }
-        ensures fronts { OneIsFront (seen_of from.old) (seen_of to.old) }
+        ensures prefixes { OneIsPrefix (seen_of from.old) (seen_of to.old) }
         ensures told { IsPrefix (seen_of from.old) (seen_of to.new) }
         ensures knows { KnowsItsKeys self.now to.new }
-        ensures own_before { SawFrontOf from.old to.old × SawFrontOf to.old from.old }
+        ensures own_before { SawPrefixOf from.old to.old × SawPrefixOf to.old from.old }
         ensures own_after { SawAllOf from.old to.new }
         ensures to { IsSameBesideSeen to.old to.new }
         ensures from { IsSamePass from.old from.new }

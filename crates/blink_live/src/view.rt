@@ -48,7 +48,7 @@ pub(crate) enum Role {
 pub(crate) struct Call {
     pub rows: Span,
     pub pages: Span,
-    pub draft: LinkedList<u64>,
+    pub staged: LinkedList<u64>,
 }
 
 /// What a seat knows.
@@ -67,7 +67,7 @@ pub(crate) struct View {
     /// The operation that is under way, after the last step of the tree that it took.
     pub operation: Option<Machine>,
     /// A bound of the pages that the operation still reads on its way down.
-    pub way_left: u64,
+    pub descent_bound: u64,
     /// The row that a page word named when it was loaded last, and the row's words.
     pub reads: Option<(u64, LinkedList<u64>)>,
     /// The changes of all keys that it has seen, and those that it was told of.

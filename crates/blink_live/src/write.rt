@@ -5,9 +5,9 @@ ghost use Rattle.blink_batch.specs.Operation.{key_of};
 ghost use Rattle.blink_page.specs.Limits.{IsPageNumber};
 ghost use Rattle.blink_machine.specs.Machine.{NeedsNew, NeedsPrimeWrite, NeedsWrite};
 ghost use Rattle.blink_machine.specs.Table.{done};
-ghost use Rattle.blink_live.specs.Plays.{PublishesNew, PublishesPage, PublishesPrime};
+ghost use Rattle.blink_live.specs.AtomicSteps.{PublishesNew, PublishesPage, PublishesPrime};
 ghost use Rattle.blink_live.specs.Seats.{IsFirst, IsPassSeat};
-ghost use Rattle.blink_live.specs.Views.{has_drafted, no_words};
+ghost use Rattle.blink_live.specs.Views.{is_staged, no_words};
 ghost use Rattle.blink_live.specs.Words.{IsRowNumber};
 
 use crate::live::Live;
@@ -32,7 +32,7 @@ impl Live {
         requires needs { NeedsWrite machine.old number }
         requires in_range { (1 ≤ number) × (number < self.now.counts.numbers) }
         requires row { IsFirst row seat.old.me.0.call.rows × IsRowNumber self.now.counts row }
-        requires blank { seat.old.me.0.call.draft ≡ no_words }
+        requires blank { seat.old.me.0.call.staged ≡ no_words }
         requires among { Contains seat.old.me.0.share.keys (key_of machine.old.op) }
         ensures same { (seat.new.table_id ≡ seat.old.table_id) × (seat.new.id ≡ seat.old.id) }
         ensures machine { machine.new ≡ done machine.old 0 }
@@ -40,7 +40,7 @@ impl Live {
     {
         let page = machine.page_out(0);
         let words = page_row(&page);
-        self.draft_row(seat, row, &words);
+        self.stage_row(seat, row, &words);
         self.publish(seat, machine, number, row);
     }
 
@@ -59,7 +59,7 @@ impl Live {
         requires number { IsFirst number seat.old.me.0.call.pages }
         requires in_range { IsPageNumber number × (number < self.now.counts.numbers) }
         requires row { IsFirst row seat.old.me.0.call.rows × IsRowNumber self.now.counts row }
-        requires blank { seat.old.me.0.call.draft ≡ no_words }
+        requires blank { seat.old.me.0.call.staged ≡ no_words }
         requires among { Contains seat.old.me.0.share.keys (key_of machine.old.op) }
         ensures same { (seat.new.table_id ≡ seat.old.table_id) × (seat.new.id ≡ seat.old.id) }
         ensures machine { machine.new ≡ done machine.old number }
@@ -67,7 +67,7 @@ impl Live {
     {
         let page = machine.page_out(number);
         let words = page_row(&page);
-        self.draft_row(seat, row, &words);
+        self.stage_row(seat, row, &words);
         self.publish_new(seat, machine, number, row);
     }
 
@@ -78,7 +78,7 @@ impl Live {
         requires fits { FitsWords machine.old.op }
         requires needs { NeedsPrimeWrite machine.old }
         requires row { IsFirst row seat.old.me.0.call.rows × IsRowNumber self.now.counts row }
-        requires blank { seat.old.me.0.call.draft ≡ no_words }
+        requires blank { seat.old.me.0.call.staged ≡ no_words }
         requires among { Contains seat.old.me.0.share.keys (key_of machine.old.op) }
         ensures same { (seat.new.table_id ≡ seat.old.table_id) × (seat.new.id ≡ seat.old.id) }
         ensures machine { machine.new ≡ done machine.old 0 }
@@ -86,17 +86,17 @@ impl Live {
     {
         let prime = machine.prime_out();
         let words = prime_row(&prime);
-        self.draft_row(seat, row, &words);
+        self.stage_row(seat, row, &words);
         self.publish_prime(seat, machine, row);
     }
 
     // Stores the row's words, in ascending order: those that aren't 0, since a row that isn't published yet is all 0.
-    fn draft_row(&self, seat: &mut Seat<u8, View>, row: u64, words: &[u64; ROW_WORDS])
+    fn stage_row(&self, seat: &mut Seat<u8, View>, row: u64, words: &[u64; ROW_WORDS])
         requires seat { IsPassSeat self.now seat.old.table_id seat.old.me }
         requires row { IsFirst row seat.old.me.0.call.rows × IsRowNumber self.now.counts row }
-        requires blank { seat.old.me.0.call.draft ≡ no_words }
+        requires blank { seat.old.me.0.call.staged ≡ no_words }
         ensures same { (seat.new.table_id ≡ seat.old.table_id) × (seat.new.id ≡ seat.old.id) }
-        ensures drafted { seat.new.me ≡ (has_drafted seat.old.me.0 words.now, seat.old.me.1) }
+        ensures staged { seat.new.me ≡ (is_staged seat.old.me.0 words.now, seat.old.me.1) }
     {
         for (place, &word) in words.iter().enumerate() {
             if word != 0 {

@@ -12,7 +12,7 @@ use Rattle.blink_machine.specs.declared.step.Step.{Step}
 use Rattle.blink_steps.specs.Counts.{HasMoved}
 use Rattle.blink_steps.specs.Pick.{IsIdleWorker}
 use Rattle.blink_steps.specs.Promises.{HasAnswerAt, IsPromised, KeepsItsPromises}
-use Rattle.blink_steps.specs.Run.{PlainRun, Taken}
+use Rattle.blink_steps.specs.Run.{PlainRun, Event}
 use Rattle.blink_steps.specs.World.{PlainWorld, GoesOnBy, HasEnded, IsAtLanesEnd, IsStart, IsWorldOf, SameBatch}
 use Rattle.blink_locked.specs.Book.{PlainBook, AllMoved, HasEndedOp, IsBook, IsRunOf}
 use Rattle.blink_locked.specs.Run.{IsSettled}
@@ -22,12 +22,12 @@ use Rattle.blink_locked.specs.Run.{IsSettled}
 -- a world whose schedule tells no turn has none
 pub no_turn_yet : (start : PlainStore) (world : PlainWorld) (is_world : IsWorldOf start world) → world.schedule ≡ [] → is_world.history ≡ []
 no_turn_yet start world is_world none =
-    let workers : List ℕ = map (λ (taken : Taken). taken.worker) is_world.history in
-    let long : length (reverse workers) ≡ length is_world.history = length-reverse workers ∙ length-map is_world.history (λ (taken : Taken). taken.worker) in
+    let workers : List ℕ = map (λ (taken : Event). taken.worker) is_world.history in
+    let long : length (reverse workers) ≡ length is_world.history = length-reverse workers ∙ length-map is_world.history (λ (taken : Event). taken.worker) in
     let empty : length (reverse workers) ≡ 0 = ap (λ (xs : List ℕ). length xs) (sym is_world.same_schedule ∙ none) in
     none_where_short is_world.history (omega arith)
   where
-    none_where_short : (history : List Taken) → length history ≡ 0 → history ≡ []
+    none_where_short : (history : List Event) → length history ≡ 0 → history ≡ []
     none_where_short [] short = refl
     none_where_short (taken ∷ history) short = absurd (omega arith)
 
@@ -58,7 +58,7 @@ moves_book book new worker step is goes same moved stopped =
       is_world = more.now;
       same_ops = same.same_ops ∙ is.same_ops;
       same_assignment = same.same_assignment ∙ is.same_assignment;
-      all_moved = subst AllMoved (sym more.one_more) (All-cons (λ (taken : Taken). HasMoved taken.step) more.taken is.is_world.history moved_too is.all_moved);
+      all_moved = subst AllMoved (sym more.one_more) (All-cons (λ (taken : Event). HasMoved taken.step) more.taken is.is_world.history moved_too is.all_moved);
     }
 
 -- where nothing of the world changed it stays one
@@ -83,9 +83,9 @@ no_answer given op none has =
     absurd (cc)
 
 -- an operation with its answer has ended where its worker is idle
-pub ended_where_idle : (run : PlainRun) (worker op : ℕ) (idle : Bool) → op < length run.ledger.answers → is_some (get_or run.ledger.answers op None) ≡ true
+pub ended_where_idle : (run : PlainRun) (worker op : ℕ) (idle : Bool) → op < length run.outcome.answers → is_some (get_or run.outcome.answers op None) ≡ true
     → (idle ≡ true → IsIdleWorker run worker) × (IsIdleWorker run worker → idle ≡ true) → (idle ≡ true → HasEndedOp run worker op) × (HasEndedOp run worker op → idle ≡ true)
-ended_where_idle run worker op idle within some exact = (λ yes. (answer_there run.ledger.answers op within some, exact.0 yes), λ ended. exact.1 ended.1)
+ended_where_idle run worker op idle within some exact = (λ yes. (answer_there run.outcome.answers op within some, exact.0 yes), λ ended. exact.1 ended.1)
 
 -- an operation of the worker's is one of the world's
 pub own_in_world : (book : PlainBook) → IsBook book → (worker op : ℕ) → slice_get book.assignment.lanes op ≡ Some worker
@@ -95,24 +95,24 @@ own_in_world book is worker op own =
     (here, omega (arith, slice_get_within book.world.run.assignment.lanes op worker here, is.is_world.may_begin.a_lane_each))
 
 -- a worker whose operation hasn't ended isn't at its lane's end
-pub has_more : (start : PlainStore) (world : PlainWorld) (is_world : IsWorldOf start world) (worker op : ℕ) → KeepsItsPromises start world is_world → length world.run.ledger.answers ≡ length world.run.ops
+pub has_more : (start : PlainStore) (world : PlainWorld) (is_world : IsWorldOf start world) (worker op : ℕ) → KeepsItsPromises start world is_world → length world.run.outcome.answers ≡ length world.run.ops
     → slice_get world.run.assignment.lanes op ≡ Some worker → op < length world.run.ops → ¬ HasEndedOp world.run worker op → ¬ IsAtLanesEnd world.run worker
-has_more start world is_world worker op kept one_each own within goes_on at_end = by_answer (get_or world.run.ledger.answers op None) (slice_get-get_or world.run.ledger.answers op None (omega arith))
+has_more start world is_world worker op kept one_each own within goes_on at_end = by_answer (get_or world.run.outcome.answers op None) (slice_get-get_or world.run.outcome.answers op None (omega arith))
   where
-    by_answer : (found : Option Answer) → slice_get world.run.ledger.answers op ≡ Some found → ⊥
+    by_answer : (found : Option Answer) → slice_get world.run.outcome.answers op ≡ Some found → ⊥
     by_answer None there = kept.each_has_its_turn worker (record { place = op; of_lane = own; undecided = there }) at_end
     by_answer (Some answer) there = goes_on ((answer, there), record { next = None; seated = at_end })
 
 -- ---- the end
 
 -- at the end each place has its answer
-pub all_some : (run : PlainRun) → length run.ledger.answers ≡ length run.ops → ((place : ℕ) → place < length run.ops → HasAnswerAt run.ledger.answers place) → All (λ (answer : Option Answer). IsSome answer) run.ledger.answers
+pub all_some : (run : PlainRun) → length run.outcome.answers ≡ length run.ops → ((place : ℕ) → place < length run.ops → HasAnswerAt run.outcome.answers place) → All (λ (answer : Option Answer). IsSome answer) run.outcome.answers
 all_some run one_each answered k default within =
     let has = answered k (omega arith) in
-    rw (get_or_from_slice_get run.ledger.answers k (Some has.0) default has.1) refl
+    rw (get_or_from_slice_get run.outcome.answers k (Some has.0) default has.1) refl
 
 module _ (book : PlainBook) (is : IsBook book) (promised : IsPromised book.world) (start : PlainStore) (ops : List Op) (assignment : Assignment) (run_of : IsRunOf book start ops assignment)
-    (lawful : IsLawfulCut ops assignment.workers assignment.lanes) (ended : HasEnded book.world.run) (given : List Answer) (all_given : book.world.run.ledger.answers ≡ map Some given) where
+    (lawful : IsLawfulCut ops assignment.workers assignment.lanes) (ended : HasEnded book.world.run) (given : List Answer) (all_given : book.world.run.outcome.answers ≡ map Some given) where
   -- the assignment is the given one
   same_assignment : book.assignment ≡ assignment
   same_assignment = λ i. record { workers = run_of.same_workers i; lanes = run_of.same_lanes i }

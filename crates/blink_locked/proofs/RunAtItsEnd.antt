@@ -29,7 +29,7 @@ same_given (a ∷ rest) (b ∷ others) same =
 pub record IsDone (before after : PlainStore) (ops : List Op) (given : List Answer) : Type 0 where
   pub run : PlainRun
   pub same_ops : run.ops ≡ ops
-  pub same_answers : run.ledger.answers ≡ map Some given
+  pub same_answers : run.outcome.answers ≡ map Some given
   pub same_tree : run.shared.store ≡ after
   pub one_thread : IsOneThread before run
   pub at_rest : IsStoreAtRest after

@@ -8,7 +8,7 @@ use Rattle.blink_machine.specs.declared.step.Step.TheVariants.{Moved}
 use Rattle.blink_steps.specs.Counts.{HasMoved}
 use Rattle.blink_steps.specs.Pick.{IsIdleWorker, WouldMove, WouldWait}
 use Rattle.blink_steps.specs.Promises.{HasAnswerAt}
-use Rattle.blink_steps.specs.Run.{PlainRun, Taken}
+use Rattle.blink_steps.specs.Run.{PlainRun, Event}
 use Rattle.blink_steps.specs.World.{PlainWorld, HasEnded, IsWorldOf, TakesStep}
 use Rattle.blink_settings.specs.declared.error.RunError.{RunError}
 use Rattle.blink_settings.specs.declared.error.RunError.TheVariants.{TooLarge, OutOfMemory, Foreign}
@@ -24,8 +24,8 @@ pub record PlainBook : Type 0 where
   pub stopped : Bool
 
 -- each turn moved: none waited, and none was idle
-abbrev pub AllMoved : List Taken → Type 0
-AllMoved history = All (λ (taken : Taken). HasMoved taken.step) history
+abbrev pub AllMoved : List Event → Type 0
+AllMoved history = All (λ (taken : Event). HasMoved taken.step) history
 
 -- the book's world is that of its schedule, over its tree, its batch and its lanes, and each turn of the schedule moved
 pub record IsBook (book : PlainBook) : Type 0 where
@@ -39,12 +39,12 @@ abbrev pub with_world : PlainBook → PlainWorld → PlainBook
 with_world book world = record book { world = world }
 
 -- the same book, stopped
-abbrev pub stopped_book : PlainBook → PlainBook
-stopped_book book = record book { stopped = true }
+abbrev pub book_stopped : PlainBook → PlainBook
+book_stopped book = record book { stopped = true }
 
 -- the operation has its answer, and its worker none under way
 abbrev pub HasEndedOp : PlainRun → ℕ → ℕ → Type 0
-HasEndedOp run worker op = HasAnswerAt run.ledger.answers op × IsIdleWorker run worker
+HasEndedOp run worker op = HasAnswerAt run.outcome.answers op × IsIdleWorker run worker
 
 -- the worker may take a turn for the operation: the book isn't stopped, and the operation is one of the worker's
 pub record MayTurn (book : PlainBook) (worker op : ℕ) : Type 0 where
@@ -53,19 +53,19 @@ pub record MayTurn (book : PlainBook) (worker op : ℕ) : Type 0 where
 
 -- a worker's step that is due: it is taken, and told with whether the operation has ended with it; or it is refused memory, and
 -- the book is stopped with nothing else changed
-abbrev pub StepsPage : PlainBook → ℕ → Turn → PlainBook → Type 0
-StepsPage old worker (Took kind ended) new = TakesStep old.world worker (Moved kind) new.world × (new ≡ with_world old new.world)
+abbrev pub BookStepsPage : PlainBook → ℕ → Turn → PlainBook → Type 0
+BookStepsPage old worker (Took kind ended) new = TakesStep old.world worker (Moved kind) new.world × (new ≡ with_world old new.world)
     × ((ended ≡ true) ↔ IsIdleWorker new.world.run worker)
-StepsPage old worker Over new = ⊥
-StepsPage old worker Waits new = ⊥
-StepsPage old worker Stopped new = new ≡ stopped_book old
+BookStepsPage old worker Over new = ⊥
+BookStepsPage old worker Waits new = ⊥
+BookStepsPage old worker Stopped new = new ≡ book_stopped old
 
 -- what becomes of the book at a worker's turn that it may take. The operation had ended before, or its step would be a wait: nothing
 -- changes. Else the step is due
 abbrev pub Turns : PlainBook → ℕ → ℕ → Turn → PlainBook → Type 0
 Turns old worker op Over new = HasEndedOp old.world.run worker op × (new ≡ old)
 Turns old worker op Waits new = WouldWait old.world.run worker × (new ≡ old)
-Turns old worker op turn new = (¬ HasEndedOp old.world.run worker op) × WouldMove old.world.run worker × StepsPage old worker turn new
+Turns old worker op turn new = (¬ HasEndedOp old.world.run worker op) × WouldMove old.world.run worker × BookStepsPage old worker turn new
 
 -- why a book isn't made
 abbrev pub IsBookRefusal : RunError → Type 0
@@ -92,4 +92,4 @@ IsSettleRefusal refusal = (refusal ≡ Foreign) ⊎ (refusal ≡ OutOfMemory)
 pub record IsAtItsEnd (book : PlainBook) (start : PlainStore) (ops : List Op) (assignment : Assignment) (given : List Answer) : Type 0 where
   pub run_of : IsRunOf book start ops assignment
   pub ended : HasEnded book.world.run
-  pub all_given : book.world.run.ledger.answers ≡ map Some given
+  pub all_given : book.world.run.outcome.answers ≡ map Some given

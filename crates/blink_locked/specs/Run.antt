@@ -21,13 +21,13 @@ pub record IsReplayed (before : PlainStore) (ops : List Op) (assignment : Assign
   pub all_moved : AllMoved replay.is_world.history
   pub all_ended : HasEnded world.run
   pub same_tree : world.run.shared.store ≡ after
-  -- at every moment on the way each key then present is reached from the root
+  -- in every state of the tree on the way each key then present is reached from the root
   pub reached : IsReachedThroughout before world replay.is_world
 
 -- these are its answers, place by place; they and the entries are those of one thread, and the tree is at rest
 pub record IsSettled (before : PlainStore) (ops : List Op) (assignment : Assignment) (after : PlainStore) (given : List Answer) : Type 0 where
   pub replayed : IsReplayed before ops assignment after
-  pub same_answers : replayed.world.run.ledger.answers ≡ map Some given
+  pub same_answers : replayed.world.run.outcome.answers ≡ map Some given
   pub one_thread : IsOneThread before replayed.world.run
   pub at_rest : IsStoreAtRest after
 

@@ -5,13 +5,13 @@ ghost use Rattle.std.specs.Bool.{OnFalse};
 ghost use Rattle.blink_steps.specs.Pick.{WouldMove};
 ghost use Rattle.blink_steps.specs.Promises.{IsPromised};
 ghost use Rattle.blink_steps.specs.World.{HasEnded, IsAtLanesEnd, IsStart, IsTooLarge};
-ghost use Rattle.blink_locked.specs.Book.{HasEndedOp, IsAtItsEnd, IsBookRefusal, IsNewBook, IsRunOf, IsSettleRefusal, MayTurn, StepsPage, Turns, stopped_book};
+ghost use Rattle.blink_locked.specs.Book.{HasEndedOp, IsAtItsEnd, IsBookRefusal, IsNewBook, IsRunOf, IsSettleRefusal, MayTurn, BookStepsPage, Turns, book_stopped};
 ghost use Rattle.blink_locked.specs.Run.{IsSettled};
 
 use blink_batch::{Answer, Batch, Cut, Lanes};
 use blink_rest::Rest;
 use blink_settings::RunError;
-use blink_steps::{Kind, Step, StepError, World, is_too_large};
+use blink_steps::{Kind, Step, StepError, World, exceeds_page_limit};
 use std::alloc::{AllocError, Global};
 use std::marker::Model;
 
@@ -73,7 +73,7 @@ impl Book {
         ensures too_large { IsErrOf result RunError.TooLarge ↔ IsTooLarge start.now batch.now }
         ensures refused { IfErr result IsBookRefusal }
     {
-        if is_too_large(start, batch) {
+        if exceeds_page_limit(start, batch) {
             return Err(RunError::TooLarge);
         }
         match Book::copied(alloc, start, batch, cut) {
@@ -131,7 +131,7 @@ impl Book {
     // The step of a worker that would move. Where memory is refused the run is stopped.
     fn step(&mut self, worker: u8) -> Turn
         requires { WouldMove self.old.world.run worker }
-        ensures { StepsPage self.old worker result self.new }
+        ensures { BookStepsPage self.old worker result self.new }
     {
         match self.world.step(worker) {
             Ok(Step::Moved(kind)) => Turn::Took(kind, self.world.is_idle(worker)),
@@ -161,7 +161,7 @@ impl Book {
 
     /// Stops the run: each worker stops at its next turn.
     pub fn stop(&mut self)
-        ensures { self.new ≡ stopped_book self.old }
+        ensures { self.new ≡ book_stopped self.old }
     {
         self.stopped = true;
     }

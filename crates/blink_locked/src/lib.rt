@@ -5,11 +5,11 @@
 #![tactic(auto)]
 
 mod book;
-mod desk;
+mod locked_run;
 mod gate;
 mod run;
 
 pub use book::{Book, Turn, all_of};
-pub use desk::Desk;
+pub use locked_run::LockedRun;
 pub use gate::{Gate, Open};
 pub use run::run_locked;

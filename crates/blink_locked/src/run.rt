@@ -8,7 +8,7 @@ ghost use Rattle.blink_locked.specs.Run.{IsReplayed, IsSettled, MayRefuse};
 ghost use Rattle.blink_locked.specs.Starts.{AtEach, IsStartRefusal, TellsNext};
 
 use crate::book::Book;
-use crate::desk::Desk;
+use crate::locked_run::LockedRun;
 use crate::gate::Gate;
 use blink_batch::{Answer, Batch, Cut};
 use blink_index::Index;
@@ -62,12 +62,12 @@ fn run_book<R: Threads + Wait + Sync, G: Gate + Sync>(
         (MayRefuse Driver.Locked cut.now.workers start.now batch.now) }
 {
     let book = Book::new(alloc, start, batch, cut)?;
-    let desk = Desk::new(book);
-    run_workers(rt, alloc, &desk, cut, gate)?;
-    desk.into_book().settle(alloc, start, batch, cut)
+    let locked_run = LockedRun::new(book);
+    run_workers(rt, alloc, &locked_run, cut, gate)?;
+    locked_run.into_book().settle(alloc, start, batch, cut)
 }
 
-/// The promise of a worker's thread at a desk: nothing but whose it is.
+/// The promise of a worker's thread at a locked run: nothing but whose it is.
 #[derive(Clone, Copy)]
 struct IsOf {
     worker: u8,
@@ -79,11 +79,11 @@ impl Promise<()> for IsOf {
     ghost kept_by = { λ _ _. ⊤ };
 }
 
-// Starts a thread for each worker, and returns when all have left the desk. Where one can't be started, the run is stopped.
+// Starts a thread for each worker, and returns when all have left the locked run. Where one can't be started, the run is stopped.
 fn run_workers<R: Threads + Wait + Sync, G: Gate + Sync>(
     rt: &R,
     alloc: Global,
-    desk: &Desk,
+    locked_run: &LockedRun,
     cut: &Cut,
     gate: &G,
 ) -> Result<(), RunError>
@@ -100,9 +100,9 @@ fn run_workers<R: Threads + Wait + Sync, G: Gate + Sync>(
             let Ok(mut handles) = Vec::with_capacity(alloc, usize::from(workers)) else {
                 return Err(RunError::OutOfMemory);
             };
-            let started = start_all(scope, rt, gate, desk, lanes, workers, &mut handles);
+            let started = start_all(scope, rt, gate, locked_run, lanes, workers, &mut handles);
             if started.is_err() {
-                desk.stop(rt);
+                locked_run.stop(rt);
             }
             started
         },
@@ -114,7 +114,7 @@ fn start_all<'s, E, R: Threads + Wait + Sync, G: Gate + Sync>(
     scope: &Scope<'s, E>,
     rt: &'s R,
     gate: &'s G,
-    desk: &'s Desk,
+    locked_run: &'s LockedRun,
     lanes: &'s [u8],
     workers: u8,
     handles: &mut Vec<PromisedHandle<(), IsOf>>,
@@ -128,7 +128,7 @@ fn start_all<'s, E, R: Threads + Wait + Sync, G: Gate + Sync>(
     for worker in 0..workers {
         match scope.spawn_with(
             IsOf { worker },
-            move || desk.run_lane(rt, gate, worker, lanes),
+            move || locked_run.run_lane(rt, gate, worker, lanes),
         ) {
             Ok(handle) => handles.push_reserved(handle),
             Err(_) => return Err(RunError::Worker(worker)),

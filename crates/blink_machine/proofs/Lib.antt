@@ -1,5 +1,5 @@
 pub mod tree
 pub mod operation
-pub mod moment
+pub mod tree_state
 pub mod law
 pub mod Offered

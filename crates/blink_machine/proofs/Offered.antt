@@ -3,8 +3,8 @@
 -- a tree at rest keeps a plain map
 pub use Rattle.blink_machine.proofs.law.EntriesAtStart.{entries_at_start}
 -- a plain map is told by its pairs
-pub use Rattle.blink_machine.proofs.law.SoundHasOneMap.{entries_from-pairs_of}
+pub use Rattle.blink_machine.proofs.law.InvariantGivesOneMap.{entries_from-pairs_of}
 -- the law of a step as a whole, for lemmas, which can't call it
 pub use Rattle.blink_machine.proofs.law.EachPart.{step_law}
 -- whoever drives a machine: its way down ends, it has an answer when it ends, and a find only reads
-pub use Rattle.blink_machine.proofs.law.DriversOfMachines.{goes_on_if_needed, page_is_readable, way_left_stays, way_left_falls, has_answer_at_end}
+pub use Rattle.blink_machine.proofs.law.DriversOfMachines.{goes_on_if_needed, page_is_readable, descent_bound_stays, descent_bound_falls, has_answer_at_end}

@@ -1,6 +1,6 @@
 pub mod EntriesAtStart
-pub mod SoundIsInOrder
-pub mod SoundHasOneMap
+pub mod InvariantGivesOrder
+pub mod InvariantGivesOneMap
 pub mod IdleWorkers
 pub mod AllIdleIsAtRest
 pub mod PlacesStay

@@ -9,7 +9,7 @@ use Rattle.blink_machine.specs.declared.machine.Next.TheVariants.{Finish, MoveRi
 use Rattle.blink_machine.specs.declared.machine.State.{State}
 use Rattle.blink_machine.specs.declared.machine.State.TheVariants.{SplitOld, AskPrime, Root, NewPrime, Leave, Ended}
 use Rattle.blink_machine.specs.declared.step.Step.{Step}
-use Rattle.blink_page.specs.declared.limits.TheConstants.{NUMBERS_OF_INSERTION, WRITES_OF_INSERTION}
+use Rattle.blink_page.specs.declared.limits.TheConstants.{MAX_NEW_PAGES_PER_INSERT, WRITES_OF_INSERTION}
 use Rattle.blink_machine.specs.Kinds.{has_moved, moved_by, writes_new_page}
 use Rattle.blink_machine.specs.Kinds.{is_page_write, is_prime_write}
 use Rattle.blink_machine.specs.Machine.{PlainMachine, NeedsNew, NeedsPrimeWrite, level_of}
@@ -20,7 +20,7 @@ use Rattle.blink_machine.specs.Needs.{NeedsSomeWrite}
 -- for a job: only what brings an entry splits
 abbrev pub numbers_for : Job → Op → ℕ
 numbers_for Leaf (Find key) = 0
-numbers_for Leaf (Insert key pointer) = NUMBERS_OF_INSERTION
+numbers_for Leaf (Insert key pointer) = MAX_NEW_PAGES_PER_INSERT
 numbers_for Leaf (Delete key) = 0
 numbers_for Leaf (Replace key pointer) = 0
 numbers_for (Parent debt) op = 21 - debt.level

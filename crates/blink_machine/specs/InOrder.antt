@@ -1,4 +1,4 @@
--- What a sound moment says: its tree is lawful but for debts, and each operation can take its next step, whoever runs it.
+-- What a sound tree state says: its tree is lawful but for debts, and each operation can take its next step, whoever runs it.
 use Rattle.std.specs.Prelude.{◌≡◌, ℕ, ◌<◌, ◌≤◌, Option, Some, List, length, All}
 use Rattle.blink_page.specs.Limits.{IsPageNumber}
 use Rattle.blink_page.specs.Page.{PlainPage, IsLawfulPage}
@@ -8,7 +8,7 @@ use Rattle.blink_rest.specs.Chain.{Pages}
 use Rattle.blink_machine.specs.declared.step.Step.TheVariants.{Moved}
 use Rattle.blink_machine.specs.Kinds.{write_page}
 use Rattle.blink_machine.specs.Machine.{PlainMachine, NeedsPrime, NeedsPage, NeedsLatch, NeedsNew, NeedsWrite, NeedsPrimeWrite, NeedsUnlatch, level_read, target}
-use Rattle.blink_machine.specs.Moment.{Moment, IsItsOperation, Steps}
+use Rattle.blink_machine.specs.TreeState.{TreeState, IsItsOperation, Steps}
 use Rattle.blink_machine.specs.Owned.{HoldOneLatchEach, IsItsToWrite}
 use Rattle.blink_machine.specs.Table.{SeesPrime, WaitsForLevel, SeesPage, PrimeOut, page_out}
 use Rattle.blink_machine.specs.TreeWithDebts.{IsTreeWithDebts}
@@ -36,10 +36,10 @@ pub record ReadsOneMachine (m : PlainMachine) (number : ℕ) (page : PlainPage) 
   pub only : (other : PlainMachine) → SeesPage m number page other → other ≡ after
 
 -- the page that an operation is next to read is there, and is read so
-pub record ReadsWell (moment : Moment) (m : PlainMachine) (number : ℕ) : Type 0 where
+pub record ReadsWell (tree_state : TreeState) (m : PlainMachine) (number : ℕ) : Type 0 where
   pub page : PlainPage
-  pub there : moment.pages number ≡ Some page
-  pub lawful : IsLawfulPage moment.fan page
+  pub there : tree_state.pages number ≡ Some page
+  pub lawful : IsLawfulPage tree_state.fan page
   pub readable : IsReadable m page
   pub one_machine : ReadsOneMachine m number page
 
@@ -53,32 +53,32 @@ pub data ReadsPrimeWell (m : PlainMachine) (prime : List ℕ) : Type 0 where
 
 -- the page that an operation is next to write in its place is there, its latch is the worker's, and what is written is lawful and stands as
 -- the page did
-pub record WritesWell (moment : Moment) (worker : ℕ) (m : PlainMachine) (number : ℕ) : Type 0 where
+pub record WritesWell (tree_state : TreeState) (worker : ℕ) (m : PlainMachine) (number : ℕ) : Type 0 where
   pub before : PlainPage
-  pub there : moment.pages number ≡ Some before
+  pub there : tree_state.pages number ≡ Some before
   pub same_floor : (page_out m 0).floor ≡ before.floor
   pub same_level : (page_out m 0).level ≡ before.level
-  pub lawful : IsLawfulPage moment.fan (page_out m 0)
-  pub latched : moment.holder number ≡ Some worker
+  pub lawful : IsLawfulPage tree_state.fan (page_out m 0)
+  pub latched : tree_state.holder number ≡ Some worker
 
 -- a step that writes a page writes one whose latch its worker holds, or at a number that no page has
-abbrev pub WritesItsOwnPage : Moment → Type 0
-WritesItsOwnPage moment = (then : Moment) (worker number : ℕ) (m after : PlainMachine) → IsItsOperation moment worker m → Steps moment worker m (Moved (write_page number)) after then
-    → IsItsToWrite moment.holder moment.pages worker number
+abbrev pub WritesItsOwnPage : TreeState → Type 0
+WritesItsOwnPage tree_state = (then : TreeState) (worker number : ℕ) (m after : PlainMachine) → IsItsOperation tree_state worker m → Steps tree_state worker m (Moved (write_page number)) after then
+    → IsItsToWrite tree_state.holder tree_state.pages worker number
 
 -- ---- the whole
 
-pub record IsInOrder (moment : Moment) : Type 0 where
-  pub tree : IsTreeWithDebts moment
-  pub few_levels : length moment.prime < LEVELS
-  pub same_fan : (worker : ℕ) (m : PlainMachine) → IsItsOperation moment worker m → m.fan ≡ moment.fan
-  pub one_latch : HoldOneLatchEach moment.holder
-  pub writes_its_own : WritesItsOwnPage moment
-  pub latches : (worker number : ℕ) (m : PlainMachine) → IsItsOperation moment worker m → NeedsLatch m number → LatchesWell moment.pages moment.holder worker number
-  pub unlatches : (worker number : ℕ) (m : PlainMachine) → IsItsOperation moment worker m → NeedsUnlatch m number → moment.holder number ≡ Some worker
-  pub reads_page : (worker number : ℕ) (m : PlainMachine) → IsItsOperation moment worker m → NeedsPage m number → ReadsWell moment m number
-  pub reads_prime : (worker : ℕ) (m : PlainMachine) → IsItsOperation moment worker m → NeedsPrime m → ReadsPrimeWell m moment.prime
-  pub writes_page : (worker number : ℕ) (m : PlainMachine) → IsItsOperation moment worker m → NeedsWrite m number → WritesWell moment worker m number
-  pub writes_new : (worker number : ℕ) (m : PlainMachine) → IsItsOperation moment worker m → NeedsNew m → IsPageNumber number → IsLawfulPage moment.fan (page_out m number)
-  pub writes_prime : (worker : ℕ) (m : PlainMachine) (prime : List ℕ) → IsItsOperation moment worker m → NeedsPrimeWrite m → PrimeOut m prime
-      → All IsPageNumber moment.prime → All IsPageNumber prime
+pub record IsInOrder (tree_state : TreeState) : Type 0 where
+  pub tree : IsTreeWithDebts tree_state
+  pub few_levels : length tree_state.prime < LEVELS
+  pub same_fan : (worker : ℕ) (m : PlainMachine) → IsItsOperation tree_state worker m → m.fan ≡ tree_state.fan
+  pub one_latch : HoldOneLatchEach tree_state.holder
+  pub writes_its_own : WritesItsOwnPage tree_state
+  pub latches : (worker number : ℕ) (m : PlainMachine) → IsItsOperation tree_state worker m → NeedsLatch m number → LatchesWell tree_state.pages tree_state.holder worker number
+  pub unlatches : (worker number : ℕ) (m : PlainMachine) → IsItsOperation tree_state worker m → NeedsUnlatch m number → tree_state.holder number ≡ Some worker
+  pub reads_page : (worker number : ℕ) (m : PlainMachine) → IsItsOperation tree_state worker m → NeedsPage m number → ReadsWell tree_state m number
+  pub reads_prime : (worker : ℕ) (m : PlainMachine) → IsItsOperation tree_state worker m → NeedsPrime m → ReadsPrimeWell m tree_state.prime
+  pub writes_page : (worker number : ℕ) (m : PlainMachine) → IsItsOperation tree_state worker m → NeedsWrite m number → WritesWell tree_state worker m number
+  pub writes_new : (worker number : ℕ) (m : PlainMachine) → IsItsOperation tree_state worker m → NeedsNew m → IsPageNumber number → IsLawfulPage tree_state.fan (page_out m number)
+  pub writes_prime : (worker : ℕ) (m : PlainMachine) (prime : List ℕ) → IsItsOperation tree_state worker m → NeedsPrimeWrite m → PrimeOut m prime
+      → All IsPageNumber tree_state.prime → All IsPageNumber prime

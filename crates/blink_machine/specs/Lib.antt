@@ -1,14 +1,14 @@
 pub mod Machine
 pub mod Table
 pub mod Needs
-pub mod Moment
+pub mod TreeState
 pub mod Owned
 pub mod TreeWithDebts
 pub mod Tree
 pub mod Placed
 pub mod Kept
 pub mod MachineView
-pub mod Sound
+pub mod Invariant
 pub mod InOrder
 pub mod Places
 pub mod OnTheWay

@@ -9,7 +9,7 @@ use Rattle.blink_machine.specs.declared.machine.Next.TheVariants.{Finish, MoveRi
 use Rattle.blink_machine.specs.declared.machine.State.{State}
 use Rattle.blink_machine.specs.declared.machine.State.TheVariants.{Start, Going, Held, Change, SplitNew, SplitOld, AskPrime, Root, NewPrime, Leave, Ended}
 use Rattle.blink_machine.specs.Machine.{PlainMachine}
-use Rattle.blink_machine.specs.Moment.{Moment}
+use Rattle.blink_machine.specs.TreeState.{TreeState}
 
 -- the page whose latch it holds
 abbrev pub latch_at : State → Option ℕ
@@ -51,13 +51,13 @@ abbrev pub debt_of : PlainMachine → Option Debt
 debt_of m = debt_at m.job m.state
 
 -- the page that it has written and that no other page links to or names yet
-abbrev pub loose_at : State → Option ℕ
-loose_at (SplitOld page lower debt) = Some debt.page
-loose_at (NewPrime page debt root prime) = Some root
-loose_at state = None
+abbrev pub unlinked_at : State → Option ℕ
+unlinked_at (SplitOld page lower debt) = Some debt.page
+unlinked_at (NewPrime page debt root prime) = Some root
+unlinked_at state = None
 
-abbrev pub loose_of : PlainMachine → Option ℕ
-loose_of m = loose_at m.state
+abbrev pub unlinked_of : PlainMachine → Option ℕ
+unlinked_of m = unlinked_at m.state
 
 -- the page that it has split and whose latch it keeps until it has asked whether that was the root, or has made a new one
 abbrev pub split_at : State → Option ℕ
@@ -78,6 +78,6 @@ abbrev pub HoldOneLatchEach : (ℕ → Option ℕ) → Type 0
 HoldOneLatchEach holder = (worker page other : ℕ) → holder page ≡ Some worker → holder other ≡ Some worker → page ≡ other
 
 -- a worker holds the latches that its operation's state says, and no others
-pub record LatchesAreHeld (moment : Moment) : Type 0 where
-  pub by_state : (worker page : ℕ) (m : PlainMachine) → moment.machines worker ≡ Some m → latch_of m ≡ Some page → moment.holder page ≡ Some worker
-  pub by_holder : (worker page : ℕ) → moment.holder page ≡ Some worker → (m : PlainMachine) × (moment.machines worker ≡ Some m) × (latch_of m ≡ Some page)
+pub record LatchesAreHeld (tree_state : TreeState) : Type 0 where
+  pub by_state : (worker page : ℕ) (m : PlainMachine) → tree_state.machines worker ≡ Some m → latch_of m ≡ Some page → tree_state.holder page ≡ Some worker
+  pub by_holder : (worker page : ℕ) → tree_state.holder page ≡ Some worker → (m : PlainMachine) × (tree_state.machines worker ≡ Some m) × (latch_of m ≡ Some page)

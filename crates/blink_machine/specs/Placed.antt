@@ -7,7 +7,8 @@ use Rattle.blink_page.specs.Limits.{IsPageNumber}
 use Rattle.blink_page.specs.Page.{PlainPage, IsKeyOf, root_over}
 use Rattle.blink_page.specs.Rising.{least_above}
 use Rattle.blink_page.specs.Split.{lower_half, upper_half}
-use Rattle.blink_rest.specs.Chain.{Cell, StandsIn}
+use Rattle.blink_rest.specs.Chain.{Cell}
+use Rattle.blink_rest.specs.Numbers.{IsMember}
 use Rattle.blink_machine.specs.declared.machine.Debt.{Debt}
 use Rattle.blink_machine.specs.declared.machine.Job.{Job}
 use Rattle.blink_machine.specs.declared.machine.Job.TheVariants.{Leaf, Parent}
@@ -16,7 +17,7 @@ use Rattle.blink_machine.specs.declared.machine.Next.TheVariants.{Finish, MoveRi
 use Rattle.blink_machine.specs.declared.machine.State.{State}
 use Rattle.blink_machine.specs.declared.machine.State.TheVariants.{Start, Going, Want, Held, Change, SplitNew, SplitOld, AskPrime, Root, NewPrime, Leave, Posting, Ended}
 use Rattle.blink_machine.specs.Machine.{PlainMachine, target, level_of}
-use Rattle.blink_machine.specs.Moment.{Moment}
+use Rattle.blink_machine.specs.TreeState.{TreeState}
 use Rattle.blink_machine.specs.Table.{Brings, IsUpdate, IsChange, IsFullFor, IsTopLeftmost, overfull, debt_of_split}
 use Rattle.blink_machine.specs.Tree.{BeginsBelow}
 use Rattle.blink_machine.specs.TreeWithDebts.{Levels}
@@ -45,24 +46,24 @@ pub record IsAtWork (levels : Levels) (m : PlainMachine) (page : ℕ) : Type 0 w
   pub stands_at : StandsAt levels m (level_of m.job) page
 
 -- it has read the latched page, to which its key belongs, and the page has not changed since
-pub record HasRead (moment : Moment) (m : PlainMachine) (number : ℕ) (page : PlainPage) : Type 0 where
-  pub there : moment.pages number ≡ Some page
+pub record HasRead (tree_state : TreeState) (m : PlainMachine) (number : ℕ) (page : PlainPage) : Type 0 where
+  pub there : tree_state.pages number ≡ Some page
   pub belongs : IsKeyOf page (target m)
 
 -- it has written the upper half of the page that it has latched
-pub record HasHalved (moment : Moment) (m : PlainMachine) (number : ℕ) (lower : PlainPage) (debt : Debt) : Type 0 where
+pub record HasHalved (tree_state : TreeState) (m : PlainMachine) (number : ℕ) (lower : PlainPage) (debt : Debt) : Type 0 where
   pub page : PlainPage
-  pub read : HasRead moment m number page
+  pub read : HasRead tree_state m number page
   pub full : IsFullFor m page
   pub new_number : IsPageNumber debt.page
   pub same_debt : debt ≡ debt_of_split m page debt.page
   pub lower_half_of : lower ≡ lower_half m.fan debt.page page (overfull m page)
-  pub upper_there : moment.pages debt.page ≡ Some (upper_half m.fan page (overfull m page))
+  pub upper_there : tree_state.pages debt.page ≡ Some (upper_half m.fan page (overfull m page))
 
 -- it has split the page, whose latch it holds since: the page ends at the debt's separator and links to its new page
-pub record HasSplit (moment : Moment) (levels : Levels) (m : PlainMachine) (number : ℕ) (debt : Debt) : Type 0 where
+pub record HasSplit (tree_state : TreeState) (levels : Levels) (m : PlainMachine) (number : ℕ) (debt : Debt) : Type 0 where
   pub cell : Cell
-  pub stands : StandsIn cell (levels debt.level)
+  pub stands : IsMember cell (levels debt.level)
   pub same_number : cell.number ≡ number
   pub ends_at : cell.page.high ≡ debt.separator
   pub links_to : cell.page.right ≡ Some debt.page
@@ -72,14 +73,14 @@ pub record HasSplit (moment : Moment) (levels : Levels) (m : PlainMachine) (numb
   pub remembers : AreRemembered levels (debt.level + 1) debt.separator m.remembered
 
 -- what it has read of the prime block is still so
-pub record HasAsked (moment : Moment) (number : ℕ) (debt : Debt) (prime : List ℕ) : Type 0 where
-  pub same_prime : prime ≡ moment.prime
+pub record HasAsked (tree_state : TreeState) (number : ℕ) (debt : Debt) (prime : List ℕ) : Type 0 where
+  pub same_prime : prime ≡ tree_state.prime
   pub is_top : IsTopLeftmost prime debt.level number
 
 -- its new root is written
-pub record HasRoot (moment : Moment) (number : ℕ) (debt : Debt) (root : ℕ) : Type 0 where
+pub record HasRoot (tree_state : TreeState) (number : ℕ) (debt : Debt) (root : ℕ) : Type 0 where
   pub root_number : IsPageNumber root
-  pub root_there : moment.pages root ≡ Some (root_over (debt.level + 1) debt.separator number debt.page)
+  pub root_there : tree_state.pages root ≡ Some (root_over (debt.level + 1) debt.separator number debt.page)
 
 -- the answer is there from the deciding step on, and not before
 abbrev pub HasAnswer : Option Answer → Type 0
@@ -99,26 +100,26 @@ PlacedForNext levels m (MoveRight page) = IsAtWork levels m page × AnsweredInJo
 PlacedForNext levels m (Post debt) = AreRemembered levels (debt.level + 1) debt.separator m.remembered × HasAnswer m.answer
 
 -- a state each
-abbrev pub PlacedAt : Moment → Levels → PlainMachine → State → Type 0
-PlacedAt moment levels m Start = (m.job ≡ Leaf) × HasNoAnswer m.answer
-PlacedAt moment levels m (Going page level) = (m.job ≡ Leaf) × StandsAt levels m level page × HasNoAnswer m.answer
-PlacedAt moment levels m (Want page) = IsAtWork levels m page × AnsweredInJob m.job m.answer
-PlacedAt moment levels m (Held page) = IsAtWork levels m page × AnsweredInJob m.job m.answer
-PlacedAt moment levels m (Change number changed kept) = IsAtWork levels m number × AnsweredInJob m.job m.answer
-    × (page : PlainPage) × HasRead moment m number page × IsChange m page changed kept
-PlacedAt moment levels m (SplitNew number page) = IsAtWork levels m number × AnsweredInJob m.job m.answer
-    × HasRead moment m number page × IsFullFor m page
-PlacedAt moment levels m (SplitOld number lower debt) = IsAtWork levels m number × AnsweredInJob m.job m.answer
-    × HasHalved moment m number lower debt
-PlacedAt moment levels m (AskPrime number debt) = HasAnswer m.answer × HasSplit moment levels m number debt
-PlacedAt moment levels m (Root number debt prime) = HasAnswer m.answer × HasSplit moment levels m number debt × HasAsked moment number debt prime
-PlacedAt moment levels m (NewPrime number debt root prime) = HasAnswer m.answer × HasSplit moment levels m number debt × HasAsked moment number debt prime
-    × HasRoot moment number debt root
-PlacedAt moment levels m (Leave page next) = PlacedForNext levels m next
-PlacedAt moment levels m Posting = HasAnswer m.answer × (m.remembered ≡ []) × (debt : Debt) × (m.job ≡ Parent debt)
-PlacedAt moment levels m Ended = HasAnswer m.answer
+abbrev pub PlacedAt : TreeState → Levels → PlainMachine → State → Type 0
+PlacedAt tree_state levels m Start = (m.job ≡ Leaf) × HasNoAnswer m.answer
+PlacedAt tree_state levels m (Going page level) = (m.job ≡ Leaf) × StandsAt levels m level page × HasNoAnswer m.answer
+PlacedAt tree_state levels m (Want page) = IsAtWork levels m page × AnsweredInJob m.job m.answer
+PlacedAt tree_state levels m (Held page) = IsAtWork levels m page × AnsweredInJob m.job m.answer
+PlacedAt tree_state levels m (Change number changed kept) = IsAtWork levels m number × AnsweredInJob m.job m.answer
+    × (page : PlainPage) × HasRead tree_state m number page × IsChange m page changed kept
+PlacedAt tree_state levels m (SplitNew number page) = IsAtWork levels m number × AnsweredInJob m.job m.answer
+    × HasRead tree_state m number page × IsFullFor m page
+PlacedAt tree_state levels m (SplitOld number lower debt) = IsAtWork levels m number × AnsweredInJob m.job m.answer
+    × HasHalved tree_state m number lower debt
+PlacedAt tree_state levels m (AskPrime number debt) = HasAnswer m.answer × HasSplit tree_state levels m number debt
+PlacedAt tree_state levels m (Root number debt prime) = HasAnswer m.answer × HasSplit tree_state levels m number debt × HasAsked tree_state number debt prime
+PlacedAt tree_state levels m (NewPrime number debt root prime) = HasAnswer m.answer × HasSplit tree_state levels m number debt × HasAsked tree_state number debt prime
+    × HasRoot tree_state number debt root
+PlacedAt tree_state levels m (Leave page next) = PlacedForNext levels m next
+PlacedAt tree_state levels m Posting = HasAnswer m.answer × (m.remembered ≡ []) × (debt : Debt) × (m.job ≡ Parent debt)
+PlacedAt tree_state levels m Ended = HasAnswer m.answer
 
-pub record IsPlaced (moment : Moment) (levels : Levels) (m : PlainMachine) : Type 0 where
-  pub same_fan : m.fan ≡ moment.fan
+pub record IsPlaced (tree_state : TreeState) (levels : Levels) (m : PlainMachine) : Type 0 where
+  pub same_fan : m.fan ≡ tree_state.fan
   pub words : FitsWords m.op
-  pub at_its_state : PlacedAt moment levels m m.state
+  pub at_its_state : PlacedAt tree_state levels m m.state

@@ -28,14 +28,14 @@ pub record GoesFurther (pages : Pages) (m : PlainMachine) (number : ℕ) (page :
       → BeginsFurther pages next page.level (least_above page.floor)
 
 -- how many keys there are from where the page begins up to this one
-abbrev pub room_to : ℕ → Option PlainPage → ℕ
-room_to key None = 0
-room_to key (Some page) = key + 1 - least_above page.floor
+abbrev pub keys_from_floor : ℕ → Option PlainPage → ℕ
+keys_from_floor key None = 0
+keys_from_floor key (Some page) = key + 1 - least_above page.floor
 
 -- a bound of the pages that an operation on its way down still reads, which each of them lowers: the level counts first, then where on it the page begins
-abbrev pub way_left_at : Pages → ℕ → State → ℕ
-way_left_at pages key (Going number level) = level * (key + 2) + room_to key (pages number) + 1
-way_left_at pages key other = 0
+abbrev pub descent_bound_at : Pages → ℕ → State → ℕ
+descent_bound_at pages key (Going number level) = level * (key + 2) + keys_from_floor key (pages number) + 1
+descent_bound_at pages key other = 0
 
-abbrev pub way_left : Pages → PlainMachine → ℕ
-way_left pages m = way_left_at pages (target m) m.state
+abbrev pub descent_bound : Pages → PlainMachine → ℕ
+descent_bound pages m = descent_bound_at pages (target m) m.state

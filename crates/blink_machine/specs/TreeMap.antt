@@ -4,7 +4,7 @@ use Rattle.blink_batch.specs.declared.Entry.{Entry}
 use Rattle.blink_batch.specs.PlainMap.{entry, IsAscending}
 use Rattle.blink_rest.specs.Entries.{AreEntries}
 use Rattle.blink_store.specs.Store.{PlainStore, page_of}
-use Rattle.blink_machine.specs.Moment.{Moment}
+use Rattle.blink_machine.specs.TreeState.{TreeState}
 
 -- the entries of a plain map as a tree keeps them
 abbrev pub pairs_of : List Entry → List (ℕ × ℕ)
@@ -14,9 +14,9 @@ pairs_of entries = map (λ (e : Entry). (e.key, e.pointer)) entries
 abbrev pub entries_from : List (ℕ × ℕ) → List Entry
 entries_from pairs = map (λ (pair : ℕ × ℕ). entry pair.0 pair.1) pairs
 
--- the tree of a moment keeps the entries of this map
-abbrev pub Keeps : Moment → List Entry → Type 0
-Keeps moment entries = AreEntries moment.fan moment.prime moment.pages (pairs_of entries)
+-- the tree of a tree state keeps the entries of this map
+abbrev pub Keeps : TreeState → List Entry → Type 0
+Keeps tree_state entries = AreEntries tree_state.fan tree_state.prime tree_state.pages (pairs_of entries)
 
 -- the entries of the store's tree are this plain map
 pub record IsMapOf (store : PlainStore) (entries : List Entry) : Type 0 where

@@ -1,17 +1,18 @@
--- A lawful tree with debts: what is so of the pages at every moment, in five parts. A debt is a split that isn't posted.
+-- A lawful tree with debts: what is so of the pages in every state of the tree, in five parts. A debt is a split that isn't posted.
 use Rattle.std.specs.Prelude.{◌≡◌, ℕ, ◌+◌, ◌<◌, ◌≤◌, ◌⊎◌, Some, None, List, [], length, slice_get}
 use Rattle.blink_page.specs.Entries.{value_at}
 use Rattle.blink_page.specs.Page.{PlainPage, root_over}
 use Rattle.blink_page.specs.Split.{upper_half}
 use Rattle.blink_page.specs.declared.limits.TheConstants.{GREATEST_KEY}
-use Rattle.blink_rest.specs.Chain.{Cell, IsChain, Pages, StandsIn}
+use Rattle.blink_rest.specs.Chain.{Cell, IsChain, Pages}
+use Rattle.blink_rest.specs.Numbers.{IsMember}
 use Rattle.blink_rest.specs.Level.{entries_along}
 use Rattle.blink_rest.specs.References.{BeginsAt, IsHighKey, Refers}
 use Rattle.blink_machine.specs.declared.machine.Debt.{Debt}
 use Rattle.blink_machine.specs.declared.machine.State.TheVariants.{SplitOld, NewPrime}
 use Rattle.blink_machine.specs.Machine.{PlainMachine}
-use Rattle.blink_machine.specs.Moment.{Moment}
-use Rattle.blink_machine.specs.Owned.{debt_of, loose_of, split_of}
+use Rattle.blink_machine.specs.TreeState.{TreeState}
+use Rattle.blink_machine.specs.Owned.{debt_of, unlinked_of, split_of}
 use Rattle.blink_machine.specs.Table.{overfull}
 
 -- the chain of each level; no cells for a level that the prime block doesn't name
@@ -34,48 +35,48 @@ pub record LevelsAreChains (fan : ℕ) (prime : List ℕ) (pages : Pages) (level
 pub record IsInChain (levels : Levels) (number : ℕ) : Type 0 where
   pub level : ℕ
   pub cell : Cell
-  pub stands : StandsIn cell (levels level)
+  pub stands : IsMember cell (levels level)
   pub same_number : cell.number ≡ number
 
 -- an operation has written the page of this number, which is in no chain yet
-pub record IsLoose (moment : Moment) (number : ℕ) : Type 0 where
+pub record IsUnlinked (tree_state : TreeState) (number : ℕ) : Type 0 where
   pub worker : ℕ
   pub m : PlainMachine
-  pub under_way : moment.machines worker ≡ Some m
-  pub loose : loose_of m ≡ Some number
+  pub under_way : tree_state.machines worker ≡ Some m
+  pub unlinked : unlinked_of m ≡ Some number
 
 -- each page is in a chain or is the new page of one operation, and of one alone
-pub record PagesArePlaced (moment : Moment) (levels : Levels) : Type 0 where
-  pub placed : (number : ℕ) (page : PlainPage) → moment.pages number ≡ Some page
-      → IsInChain levels number ⊎ IsLoose moment number
-  pub in_no_chain : (worker number : ℕ) (m : PlainMachine) → moment.machines worker ≡ Some m
-      → loose_of m ≡ Some number → ¬ IsInChain levels number
-  pub of_one : (worker other number : ℕ) (m n : PlainMachine) → moment.machines worker ≡ Some m
-      → moment.machines other ≡ Some n
-      → loose_of m ≡ Some number → loose_of n ≡ Some number → worker ≡ other
+pub record PagesArePlaced (tree_state : TreeState) (levels : Levels) : Type 0 where
+  pub placed : (number : ℕ) (page : PlainPage) → tree_state.pages number ≡ Some page
+      → IsInChain levels number ⊎ IsUnlinked tree_state number
+  pub in_no_chain : (worker number : ℕ) (m : PlainMachine) → tree_state.machines worker ≡ Some m
+      → unlinked_of m ≡ Some number → ¬ IsInChain levels number
+  pub of_one : (worker other number : ℕ) (m n : PlainMachine) → tree_state.machines worker ≡ Some m
+      → tree_state.machines other ≡ Some n
+      → unlinked_of m ≡ Some number → unlinked_of n ≡ Some number → worker ≡ other
 
 -- what the new page of an operation has: the upper half of a page, which keeps its entries until the lower half is written
 -- over it; or a new root over two halves, until the prime block names it
-pub data HasContent (moment : Moment) (m : PlainMachine) (page : PlainPage) : Type 0 where
+pub data HasContent (tree_state : TreeState) (m : PlainMachine) (page : PlainPage) : Type 0 where
   is_upper_half : (number : ℕ) (whole lower : PlainPage) (debt : Debt)
       → m.state ≡ SplitOld number lower debt
-      → moment.pages number ≡ Some whole → page ≡ upper_half m.fan whole (overfull m whole)
-      → HasContent moment m page
+      → tree_state.pages number ≡ Some whole → page ≡ upper_half m.fan whole (overfull m whole)
+      → HasContent tree_state m page
   is_new_root : (left root : ℕ) (debt : Debt) (prime : List ℕ)
       → m.state ≡ NewPrime left debt root prime
-      → page ≡ root_over (debt.level + 1) debt.separator left debt.page → HasContent moment m page
+      → page ≡ root_over (debt.level + 1) debt.separator left debt.page → HasContent tree_state m page
 
 -- the page of this number is there, with what the operation gave it
-pub record IsWritten (moment : Moment) (m : PlainMachine) (number : ℕ) : Type 0 where
+pub record IsWritten (tree_state : TreeState) (m : PlainMachine) (number : ℕ) : Type 0 where
   pub page : PlainPage
-  pub there : moment.pages number ≡ Some page
-  pub content : HasContent moment m page
+  pub there : tree_state.pages number ≡ Some page
+  pub content : HasContent tree_state m page
 
 -- pages outside chains are the new pages of operations, which have written them
-pub record NewPagesStandOutside (moment : Moment) (levels : Levels) : Type 0 where
-  pub placed : PagesArePlaced moment levels
-  pub written : (worker number : ℕ) (m : PlainMachine) → moment.machines worker ≡ Some m
-      → loose_of m ≡ Some number → IsWritten moment m number
+pub record NewPagesStandOutside (tree_state : TreeState) (levels : Levels) : Type 0 where
+  pub placed : PagesArePlaced tree_state levels
+  pub written : (worker number : ℕ) (m : PlainMachine) → tree_state.machines worker ≡ Some m
+      → unlinked_of m ≡ Some number → IsWritten tree_state m number
 
 -- ---- references
 
@@ -97,57 +98,57 @@ pub record IsDebt (levels : Levels) (level key : ℕ) : Type 0 where
   pub not_above : value_at key (entries_along (levels (level + 1))) ≡ None
 
 -- the worker's operation owes the debt
-abbrev pub IsOwing : Moment → ℕ → PlainMachine → Debt → Type 0
-IsOwing moment worker m debt = (moment.machines worker ≡ Some m) × (debt_of m ≡ Some debt)
+abbrev pub IsOwing : TreeState → ℕ → PlainMachine → Debt → Type 0
+IsOwing tree_state worker m debt = (tree_state.machines worker ≡ Some m) × (debt_of m ≡ Some debt)
 
 -- an operation owes a debt of the level with this separator
-pub record IsOwed (moment : Moment) (level separator : ℕ) : Type 0 where
+pub record IsOwed (tree_state : TreeState) (level separator : ℕ) : Type 0 where
   pub worker : ℕ
   pub m : PlainMachine
   pub debt : Debt
-  pub owes : IsOwing moment worker m debt
+  pub owes : IsOwing tree_state worker m debt
   pub same_level : debt.level ≡ level
   pub same_separator : debt.separator ≡ separator
 
 -- each debt is owed by exactly one operation, together with the page that it leads to; and operations owe nothing else
-pub record DebtsAreOwed (moment : Moment) (levels : Levels) : Type 0 where
-  pub owed : (level separator : ℕ) → IsDebt levels level separator → IsOwed moment level separator
-  pub is_debt : (worker : ℕ) (m : PlainMachine) (debt : Debt) → IsOwing moment worker m debt
+pub record DebtsAreOwed (tree_state : TreeState) (levels : Levels) : Type 0 where
+  pub owed : (level separator : ℕ) → IsDebt levels level separator → IsOwed tree_state level separator
+  pub is_debt : (worker : ℕ) (m : PlainMachine) (debt : Debt) → IsOwing tree_state worker m debt
       → IsDebt levels debt.level debt.separator
       × BeginsAt (levels debt.level) debt.page (Some debt.separator)
   pub by_one : (worker other : ℕ) (m n : PlainMachine) (debt owing : Debt)
-      → IsOwing moment worker m debt → IsOwing moment other n owing
+      → IsOwing tree_state worker m debt → IsOwing tree_state other n owing
       → debt.level ≡ owing.level → debt.separator ≡ owing.separator → worker ≡ other
 
 -- ---- the growing top
 
 -- an operation has split the page, and has asked no prime block since, or is making a new root
-pub record IsSplitBy (moment : Moment) (page : ℕ) : Type 0 where
+pub record IsSplitBy (tree_state : TreeState) (page : ℕ) : Type 0 where
   pub worker : ℕ
   pub m : PlainMachine
-  pub under_way : moment.machines worker ≡ Some m
+  pub under_way : tree_state.machines worker ≡ Some m
   pub split : split_of m ≡ Some page
 
 -- where the top level has more than one page, its leftmost page is split by such an operation
-abbrev pub TopIsGrowing : Moment → Levels → Type 0
-TopIsGrowing moment levels = (level leftmost : ℕ) → length moment.prime ≡ level + 1
-    → slice_get moment.prime level ≡ Some leftmost
-    → 2 ≤ length (levels level) → IsSplitBy moment leftmost
+abbrev pub TopIsGrowing : TreeState → Levels → Type 0
+TopIsGrowing tree_state levels = (level leftmost : ℕ) → length tree_state.prime ≡ level + 1
+    → slice_get tree_state.prime level ≡ Some leftmost
+    → 2 ≤ length (levels level) → IsSplitBy tree_state leftmost
 
 -- and whoever has split a page so keeps its latch
-pub record TopGrowsUnderLatch (moment : Moment) (levels : Levels) : Type 0 where
-  pub growing : TopIsGrowing moment levels
-  pub latched : (worker page : ℕ) (m : PlainMachine) → moment.machines worker ≡ Some m
-      → split_of m ≡ Some page → moment.holder page ≡ Some worker
+pub record TopGrowsUnderLatch (tree_state : TreeState) (levels : Levels) : Type 0 where
+  pub growing : TopIsGrowing tree_state levels
+  pub latched : (worker page : ℕ) (m : PlainMachine) → tree_state.machines worker ≡ Some m
+      → split_of m ≡ Some page → tree_state.holder page ≡ Some worker
 
 -- ---- the whole
 
 -- these are the levels of a lawful tree with debts
-pub record IsTreeWithDebtsOf (moment : Moment) (levels : Levels) : Type 0 where
-  pub tree : IsTree moment.fan moment.prime moment.pages levels
-  pub new_pages : NewPagesStandOutside moment levels
-  pub debts : DebtsAreOwed moment levels
-  pub top : TopGrowsUnderLatch moment levels
+pub record IsTreeWithDebtsOf (tree_state : TreeState) (levels : Levels) : Type 0 where
+  pub tree : IsTree tree_state.fan tree_state.prime tree_state.pages levels
+  pub new_pages : NewPagesStandOutside tree_state levels
+  pub debts : DebtsAreOwed tree_state levels
+  pub top : TopGrowsUnderLatch tree_state levels
 
-abbrev pub IsTreeWithDebts : Moment → Type 0
-IsTreeWithDebts moment = (levels : Levels) × IsTreeWithDebtsOf moment levels
+abbrev pub IsTreeWithDebts : TreeState → Type 0
+IsTreeWithDebts tree_state = (levels : Levels) × IsTreeWithDebtsOf tree_state levels

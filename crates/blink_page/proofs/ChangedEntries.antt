@@ -130,10 +130,10 @@ pub ValuesWithin-append : (least greatest : ℕ) (xs ys : List (ℕ × ℕ)) →
 ValuesWithin-append least greatest [] ys before after = after
 ValuesWithin-append least greatest (x ∷ xs) ys before after = (before.0, before.1, ValuesWithin-append least greatest xs ys before.2 after)
 
--- those of a front
-pub values_front : (least greatest : ℕ) (xs ys : List (ℕ × ℕ)) → ValuesWithin least greatest (xs ++ ys) → ValuesWithin least greatest xs
-values_front least greatest [] ys within = tt
-values_front least greatest (x ∷ xs) ys within = (within.0, within.1, values_front least greatest xs ys within.2)
+-- those of a prefix
+pub values_prefix : (least greatest : ℕ) (xs ys : List (ℕ × ℕ)) → ValuesWithin least greatest (xs ++ ys) → ValuesWithin least greatest xs
+values_prefix least greatest [] ys within = tt
+values_prefix least greatest (x ∷ xs) ys within = (within.0, within.1, values_prefix least greatest xs ys within.2)
 
 -- and those of the rest
 pub values_rest : (least greatest : ℕ) (xs ys : List (ℕ × ℕ)) → ValuesWithin least greatest (xs ++ ys) → ValuesWithin least greatest ys

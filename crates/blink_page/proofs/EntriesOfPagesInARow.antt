@@ -14,9 +14,9 @@ module _ (key value : ℕ) where
   added-below from ((k, v) ∷ rest) to rising below = grind (arith, nat_tests, rising.0)
 
   -- an entry is added to the page that its key belongs to
-  pub added-append_front : (middle : ℕ) (xs ys : List (ℕ × ℕ)) (to : ℕ) → IsRising middle ys to → key < middle → added (key, value) (xs ++ ys) ≡ added (key, value) xs ++ ys
-  added-append_front middle [] ys to rising below = added-below middle ys to rising below
-  added-append_front middle ((k, v) ∷ xs) ys to rising below = grind (arith, nat_tests, added-append_front middle xs ys to rising below)
+  pub added-append_prefix : (middle : ℕ) (xs ys : List (ℕ × ℕ)) (to : ℕ) → IsRising middle ys to → key < middle → added (key, value) (xs ++ ys) ≡ added (key, value) xs ++ ys
+  added-append_prefix middle [] ys to rising below = added-below middle ys to rising below
+  added-append_prefix middle ((k, v) ∷ xs) ys to rising below = grind (arith, nat_tests, added-append_prefix middle xs ys to rising below)
 
   pub added-append_rest : (from : ℕ) (xs ys : List (ℕ × ℕ)) (middle : ℕ) → IsRising from xs middle → middle ≤ key → added (key, value) (xs ++ ys) ≡ xs ++ added (key, value) ys
   added-append_rest from [] ys middle rising above = refl
@@ -24,9 +24,9 @@ module _ (key value : ℕ) where
 
 module _ (key : ℕ) where
   -- an entry is removed from the page that its key belongs to
-  pub removed-append_front : (middle : ℕ) (xs ys : List (ℕ × ℕ)) (to : ℕ) → IsRising middle ys to → key < middle → removed key (xs ++ ys) ≡ removed key xs ++ ys
-  removed-append_front middle [] ys to rising below = removed-absent key ys (value_at-below key middle ys to rising below)
-  removed-append_front middle ((k, v) ∷ xs) ys to rising below = grind (arith, nat_tests, removed-append_front middle xs ys to rising below)
+  pub removed-append_prefix : (middle : ℕ) (xs ys : List (ℕ × ℕ)) (to : ℕ) → IsRising middle ys to → key < middle → removed key (xs ++ ys) ≡ removed key xs ++ ys
+  removed-append_prefix middle [] ys to rising below = removed-absent key ys (value_at-below key middle ys to rising below)
+  removed-append_prefix middle ((k, v) ∷ xs) ys to rising below = grind (arith, nat_tests, removed-append_prefix middle xs ys to rising below)
 
   pub removed-append_rest : (from : ℕ) (xs ys : List (ℕ × ℕ)) (middle : ℕ) → IsRising from xs middle → middle ≤ key → removed key (xs ++ ys) ≡ xs ++ removed key ys
   removed-append_rest from [] ys middle rising above = refl
@@ -34,9 +34,9 @@ module _ (key : ℕ) where
 
 module _ (key value : ℕ) where
   -- a value is replaced in the page that its key belongs to
-  pub replaced-append_front : (middle : ℕ) (xs ys : List (ℕ × ℕ)) (to : ℕ) → IsRising middle ys to → key < middle → replaced (key, value) (xs ++ ys) ≡ replaced (key, value) xs ++ ys
-  replaced-append_front middle [] ys to rising below = replaced-absent key value ys (value_at-below key middle ys to rising below)
-  replaced-append_front middle ((k, v) ∷ xs) ys to rising below = grind (arith, nat_tests, replaced-append_front middle xs ys to rising below)
+  pub replaced-append_prefix : (middle : ℕ) (xs ys : List (ℕ × ℕ)) (to : ℕ) → IsRising middle ys to → key < middle → replaced (key, value) (xs ++ ys) ≡ replaced (key, value) xs ++ ys
+  replaced-append_prefix middle [] ys to rising below = replaced-absent key value ys (value_at-below key middle ys to rising below)
+  replaced-append_prefix middle ((k, v) ∷ xs) ys to rising below = grind (arith, nat_tests, replaced-append_prefix middle xs ys to rising below)
 
   pub replaced-append_rest : (from : ℕ) (xs ys : List (ℕ × ℕ)) (middle : ℕ) → IsRising from xs middle → middle ≤ key → replaced (key, value) (xs ++ ys) ≡ xs ++ replaced (key, value) ys
   replaced-append_rest from [] ys middle rising above = refl
@@ -44,9 +44,9 @@ module _ (key value : ℕ) where
 
 module _ (separator new : ℕ) where
   -- a separator is posted to the page that it belongs to
-  pub posted-append_front : (from : ℕ) (xs ys : List (ℕ × ℕ)) (middle : ℕ) → Covers from xs middle → from ≤ separator → separator < middle → posted (separator, new) (xs ++ ys) ≡ posted (separator, new) xs ++ ys
-  posted-append_front from [] ys middle covers above below = absurd (omega arith)
-  posted-append_front from ((k, v) ∷ xs) ys middle covers above below = grind (arith, nat_tests, posted-append_front (k + 1) xs ys middle covers.1)
+  pub posted-append_prefix : (from : ℕ) (xs ys : List (ℕ × ℕ)) (middle : ℕ) → Covers from xs middle → from ≤ separator → separator < middle → posted (separator, new) (xs ++ ys) ≡ posted (separator, new) xs ++ ys
+  posted-append_prefix from [] ys middle covers above below = absurd (omega arith)
+  posted-append_prefix from ((k, v) ∷ xs) ys middle covers above below = grind (arith, nat_tests, posted-append_prefix (k + 1) xs ys middle covers.1)
 
   pub posted-append_rest : (from : ℕ) (xs ys : List (ℕ × ℕ)) (middle : ℕ) → IsRising from xs middle → middle ≤ separator → posted (separator, new) (xs ++ ys) ≡ xs ++ posted (separator, new) ys
   posted-append_rest from [] ys middle rising above = refl

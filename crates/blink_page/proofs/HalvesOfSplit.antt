@@ -9,8 +9,8 @@ use Rattle.blink_page.specs.Entries.{ValuesWithin, last_key_or, value_at}
 use Rattle.blink_page.specs.Page.{PlainPage, IsKeyOf, IsLawfulPage, HasChildren, entries_with, with_entries}
 use Rattle.blink_page.specs.Split.{kept_count, lower_entries, upper_entries, separator_of, lower_half, upper_half}
 use Rattle.blink_page.proofs.LawfulPages.{lawful_entries_with, lawful_with_room}
-use Rattle.blink_page.proofs.RisingKeys.{length-rising, rising_front, rising_rest, covers_front, covers_rest, next_key-last}
-use Rattle.blink_page.proofs.ChangedEntries.{values_front, values_rest}
+use Rattle.blink_page.proofs.RisingKeys.{length-rising, rising_prefix, rising_rest, covers_prefix, covers_rest, next_key-last}
+use Rattle.blink_page.proofs.ChangedEntries.{values_prefix, values_rest}
 
 -- lower then upper is the whole list
 pub lower-append-upper : (fan : ℕ) (xs : List (ℕ × ℕ)) → lower_entries fan xs ++ upper_entries fan xs ≡ xs
@@ -29,34 +29,34 @@ module _ (fan new : ℕ) (is_fan : IsFan fan) (p : PlainPage) (xs : List (ℕ ×
   abbrev from : ℕ
   from = least_above p.floor
 
-  abbrev front : List (ℕ × ℕ)
-  front = lower_entries fan xs
+  abbrev prefix : List (ℕ × ℕ)
+  prefix = lower_entries fan xs
 
   abbrev back : List (ℕ × ℕ)
   back = upper_entries fan xs
 
-  whole : xs ≡ front ++ back
+  whole : xs ≡ prefix ++ back
   whole = sym (lower-append-upper fan xs)
 
-  rises : IsRising from (front ++ back) (p.high + 1)
+  rises : IsRising from (prefix ++ back) (p.high + 1)
   rises = subst (λ ys. IsRising from ys (p.high + 1)) whole lawful.keys_rise
 
-  values : ValuesWithin 0 GREATEST_KEY (front ++ back)
+  values : ValuesWithin 0 GREATEST_KEY (prefix ++ back)
   values = subst (ValuesWithin 0 GREATEST_KEY) whole lawful.values_in_range
 
-  -- the least key above the front is just above the separator
-  above_front : next_key from front ≡ separator_of fan xs + 1
-  above_front = next_key-last from 0 front (omega (arith, length-lower_entries fan xs overfull))
+  -- the least key above the prefix is just above the separator
+  above_prefix : next_key from prefix ≡ separator_of fan xs + 1
+  above_prefix = next_key-last from 0 prefix (omega (arith, length-lower_entries fan xs overfull))
 
-  front_rises : IsRising from front (separator_of fan xs + 1)
-  front_rises = subst (IsRising from front) above_front (rising_front from front back (p.high + 1) rises)
+  prefix_rises : IsRising from prefix (separator_of fan xs + 1)
+  prefix_rises = subst (IsRising from prefix) above_prefix (rising_prefix from prefix back (p.high + 1) rises)
 
   back_rises : IsRising (separator_of fan xs + 1) back (p.high + 1)
-  back_rises = subst (λ n. IsRising n back (p.high + 1)) above_front (rising_rest from front back (p.high + 1) rises)
+  back_rises = subst (λ n. IsRising n back (p.high + 1)) above_prefix (rising_rest from prefix back (p.high + 1) rises)
 
   -- the separator is one of the page's keys, but not its high key
   pub separator_above_floor : least_above p.floor ≤ separator_of fan xs
-  separator_above_floor = omega (arith, length-rising from front _ front_rises, length-lower_entries fan xs overfull)
+  separator_above_floor = omega (arith, length-rising from prefix _ prefix_rises, length-lower_entries fan xs overfull)
 
   pub separator_below_high : separator_of fan xs < p.high
   separator_below_high = omega (arith, length-rising _ back _ back_rises, length-upper_entries fan xs overfull)
@@ -67,8 +67,8 @@ module _ (fan new : ℕ) (is_fan : IsFan fan) (p : PlainPage) (xs : List (ℕ ×
       let covers = subst (λ ys. Covers from ys (p.high + 1)) whole has.last_is_high in
       record {
         two_at_least = omega (arith, length-lower_entries fan xs overfull);
-        last_is_high = subst (Covers from front) above_front (covers_front from front back (p.high + 1) covers);
-        children = values_front 1 MAX_PAGE front back (subst (ValuesWithin 1 MAX_PAGE) whole has.children);
+        last_is_high = subst (Covers from prefix) above_prefix (covers_prefix from prefix back (p.high + 1) covers);
+        children = values_prefix 1 MAX_PAGE prefix back (subst (ValuesWithin 1 MAX_PAGE) whole has.children);
       }
 
   upper_children : 0 < p.level → HasChildren (upper_half fan p xs)
@@ -77,11 +77,11 @@ module _ (fan new : ℕ) (is_fan : IsFan fan) (p : PlainPage) (xs : List (ℕ ×
       let covers = subst (λ ys. Covers from ys (p.high + 1)) whole has.last_is_high in
       record {
         two_at_least = omega (arith, length-upper_entries fan xs overfull);
-        last_is_high = subst (λ n. Covers n back (p.high + 1)) above_front (covers_rest from front back (p.high + 1) covers);
-        children = values_rest 1 MAX_PAGE front back (subst (ValuesWithin 1 MAX_PAGE) whole has.children);
+        last_is_high = subst (λ n. Covers n back (p.high + 1)) above_prefix (covers_rest from prefix back (p.high + 1) covers);
+        children = values_rest 1 MAX_PAGE prefix back (subst (ValuesWithin 1 MAX_PAGE) whole has.children);
       }
 
-  -- the page that keeps the front is lawful
+  -- the page that keeps the prefix is lawful
   pub lawful_lower : IsPageNumber new → IsLawfulPage fan (lower_half fan new p xs)
   lawful_lower number = record {
     level_in_range = lawful.level_in_range;
@@ -90,8 +90,8 @@ module _ (fan new : ℕ) (is_fan : IsFan fan) (p : PlainPage) (xs : List (ℕ ×
     right_unless_last = (λ none. cc, λ last. absurd (omega (arith, separator_below_high, lawful.high_in_range)));
     right_is_number = number;
     at_most_fan = omega (arith, length-lower_entries fan xs overfull);
-    keys_rise = front_rises;
-    values_in_range = values_front 0 GREATEST_KEY front back values;
+    keys_rise = prefix_rises;
+    values_in_range = values_prefix 0 GREATEST_KEY prefix back values;
     inner = lower_children;
   }
 
@@ -105,7 +105,7 @@ module _ (fan new : ℕ) (is_fan : IsFan fan) (p : PlainPage) (xs : List (ℕ ×
     right_is_number = lawful.right_is_number;
     at_most_fan = omega (arith, length-upper_entries fan xs overfull);
     keys_rise = back_rises;
-    values_in_range = values_rest 0 GREATEST_KEY front back values;
+    values_in_range = values_rest 0 GREATEST_KEY prefix back values;
     inner = upper_children;
   }
 

@@ -21,10 +21,10 @@ module _ (key : ℕ) where
   value_at-above from [] to rising above = refl
   value_at-above from ((k, v) ∷ rest) to rising above = grind (arith, nat_tests, rising.0, from_at_most_to (k + 1) rest to rising.1, value_at-above (k + 1) rest to rising.1)
 
-  -- a key below the end of a front is looked up there
-  pub value_at-append_front : (middle to : ℕ) (xs ys : List (ℕ × ℕ)) → IsRising middle ys to → key < middle → value_at key (xs ++ ys) ≡ value_at key xs
-  value_at-append_front middle to [] ys rising below = value_at-below middle ys to rising below
-  value_at-append_front middle to ((k, v) ∷ xs) ys rising below = grind (arith, nat_tests, value_at-append_front middle to xs ys rising below)
+  -- a key below the end of a prefix is looked up there
+  pub value_at-append_prefix : (middle to : ℕ) (xs ys : List (ℕ × ℕ)) → IsRising middle ys to → key < middle → value_at key (xs ++ ys) ≡ value_at key xs
+  value_at-append_prefix middle to [] ys rising below = value_at-below middle ys to rising below
+  value_at-append_prefix middle to ((k, v) ∷ xs) ys rising below = grind (arith, nat_tests, value_at-append_prefix middle to xs ys rising below)
 
   -- any other in the rest
   pub value_at-append_rest : (from middle : ℕ) (xs ys : List (ℕ × ℕ)) → IsRising from xs middle → middle ≤ key → value_at key (xs ++ ys) ≡ value_at key ys
@@ -32,9 +32,9 @@ module _ (key : ℕ) where
   value_at-append_rest from middle ((k, v) ∷ xs) ys rising above = grind (arith, nat_tests, from_at_most_to (k + 1) xs middle rising.1, value_at-append_rest (k + 1) middle xs ys rising.1 above)
 
   -- so is the child for a key
-  pub child_for-append_front : (from middle : ℕ) (xs ys : List (ℕ × ℕ)) → Covers from xs middle → from ≤ key → key < middle → child_for key (xs ++ ys) ≡ child_for key xs
-  child_for-append_front from middle [] ys covers above below = absurd (omega arith)
-  child_for-append_front from middle ((k, v) ∷ xs) ys covers above below = grind (arith, nat_tests, child_for-append_front (k + 1) middle xs ys covers.1)
+  pub child_for-append_prefix : (from middle : ℕ) (xs ys : List (ℕ × ℕ)) → Covers from xs middle → from ≤ key → key < middle → child_for key (xs ++ ys) ≡ child_for key xs
+  child_for-append_prefix from middle [] ys covers above below = absurd (omega arith)
+  child_for-append_prefix from middle ((k, v) ∷ xs) ys covers above below = grind (arith, nat_tests, child_for-append_prefix (k + 1) middle xs ys covers.1)
 
   pub child_for-append_rest : (from middle : ℕ) (xs ys : List (ℕ × ℕ)) → IsRising from xs middle → middle ≤ key → child_for key (xs ++ ys) ≡ child_for key ys
   child_for-append_rest from middle [] ys rising above = refl

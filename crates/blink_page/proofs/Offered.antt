@@ -3,11 +3,11 @@
 -- how keys that rise or cover are joined, and where they end
 pub use Rattle.blink_page.proofs.RisingKeys.{from_at_most_to, rising_from_below, IsRising-append, covers_rising, covers_next, Covers-append}
 -- what a look-up finds
-pub use Rattle.blink_page.proofs.LookUps.{none_unless_some, value_at-below, value_at-above, value_at-append_front, value_at-append_rest, child_for-append_front, child_for-append_rest, child_for-covers}
+pub use Rattle.blink_page.proofs.LookUps.{none_unless_some, value_at-below, value_at-above, value_at-append_prefix, value_at-append_rest, child_for-append_prefix, child_for-append_rest, child_for-covers}
 -- what one entry more is in a leaf and in an inner page
 pub use Rattle.blink_page.proofs.ChangedEntries.{entries_with-leaf, entries_with-inner}
 -- a change of one page's entries is a change of those of the pages in a row
-pub use Rattle.blink_page.proofs.EntriesOfPagesInARow.{added-append_front, added-append_rest, removed-append_front, removed-append_rest, replaced-append_front, replaced-append_rest, posted-append_front, posted-append_rest, posted_there, others_there}
+pub use Rattle.blink_page.proofs.EntriesOfPagesInARow.{added-append_prefix, added-append_rest, removed-append_prefix, removed-append_rest, replaced-append_prefix, replaced-append_rest, posted-append_prefix, posted-append_rest, posted_there, others_there}
 -- pages that are lawful after a change
 pub use Rattle.blink_page.proofs.LawfulPages.{lawful_with_room, lawful_removed, lawful_replaced, lawful_entries_with, length-entries_with}
 -- the two halves of a split, and the separator between them

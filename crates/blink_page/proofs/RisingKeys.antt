@@ -42,10 +42,10 @@ pub IsRising-append : (from : ℕ) (xs ys : List (ℕ × ℕ)) (middle to : ℕ)
 IsRising-append from [] ys middle to before after = rising_from_below from middle ys to before after
 IsRising-append from (x ∷ xs) ys middle to before after = (before.0, IsRising-append (x.0 + 1) xs ys middle to before.1 after)
 
--- a front of what rises does so up to the least key above it
-pub rising_front : (from : ℕ) (xs ys : List (ℕ × ℕ)) (to : ℕ) → IsRising from (xs ++ ys) to → IsRising from xs (next_key from xs)
-rising_front from [] ys to rising = omega arith
-rising_front from (x ∷ xs) ys to rising = (rising.0, rising_front (x.0 + 1) xs ys to rising.1)
+-- a prefix of what rises does so up to the least key above it
+pub rising_prefix : (from : ℕ) (xs ys : List (ℕ × ℕ)) (to : ℕ) → IsRising from (xs ++ ys) to → IsRising from xs (next_key from xs)
+rising_prefix from [] ys to rising = omega arith
+rising_prefix from (x ∷ xs) ys to rising = (rising.0, rising_prefix (x.0 + 1) xs ys to rising.1)
 
 -- and the rest from there
 pub rising_rest : (from : ℕ) (xs ys : List (ℕ × ℕ)) (to : ℕ) → IsRising from (xs ++ ys) to → IsRising (next_key from xs) ys to
@@ -72,10 +72,10 @@ pub Covers-append : (from : ℕ) (xs ys : List (ℕ × ℕ)) (middle to : ℕ) �
 Covers-append from [] ys middle to before after = rw before after
 Covers-append from (x ∷ xs) ys middle to before after = (before.0, Covers-append (x.0 + 1) xs ys middle to before.1 after)
 
--- a front of what covers does so up to the least key above it
-pub covers_front : (from : ℕ) (xs ys : List (ℕ × ℕ)) (to : ℕ) → Covers from (xs ++ ys) to → Covers from xs (next_key from xs)
-covers_front from [] ys to covers = refl
-covers_front from (x ∷ xs) ys to covers = (covers.0, covers_front (x.0 + 1) xs ys to covers.1)
+-- a prefix of what covers does so up to the least key above it
+pub covers_prefix : (from : ℕ) (xs ys : List (ℕ × ℕ)) (to : ℕ) → Covers from (xs ++ ys) to → Covers from xs (next_key from xs)
+covers_prefix from [] ys to covers = refl
+covers_prefix from (x ∷ xs) ys to covers = (covers.0, covers_prefix (x.0 + 1) xs ys to covers.1)
 
 -- and the rest from there
 pub covers_rest : (from : ℕ) (xs ys : List (ℕ × ℕ)) (to : ℕ) → Covers from (xs ++ ys) to → Covers (next_key from xs) ys to

@@ -21,7 +21,7 @@ pub const MAX_PAGE: u32 = 1_048_575;
 
 /// A bound on the page numbers that an insertion takes: one for each page that it splits, and one for a new root. Where 20 levels
 /// are named these are 21; the promise is 22.
-pub const NUMBERS_OF_INSERTION: u64 = 22;
+pub const MAX_NEW_PAGES_PER_INSERT: u64 = 22;
 
 /// A bound on how often an insertion writes a page: twice on each level that it comes to, and once for a new root.
 pub const WRITES_OF_INSERTION: u64 = 43;

@@ -6,9 +6,10 @@ use Rattle.blink_page.specs.Rising.{least_above, next_key}
 use Rattle.blink_page.specs.Entries.{child_for}
 use Rattle.blink_page.specs.Page.{IsKeyOf}
 use Rattle.blink_page.specs.declared.limits.TheConstants.{GREATEST_KEY}
-use Rattle.blink_page.proofs.Offered.{child_for-append_front, child_for-append_rest}
-use Rattle.blink_rest.specs.Chain.{StandsIn, Pages, Cell, InLine, IsChain}
-use Rattle.blink_rest.specs.Level.{entries_along, numbers_of, high_keys, Names}
+use Rattle.blink_page.proofs.Offered.{child_for-append_prefix, child_for-append_rest}
+use Rattle.blink_rest.specs.Chain.{Pages, Cell, InLine, IsChain}
+use Rattle.blink_rest.specs.Numbers.{IsMember}
+use Rattle.blink_rest.specs.Level.{entries_along, numbers_of, high_keys, IsParentOf}
 use Rattle.blink_rest.proofs.LinesOfPages.{stands_of}
 
 -- where a list begins with its child, the next being as it may
@@ -21,7 +22,7 @@ module _ (fan level key : ℕ) where
   -- the page that it belongs to
   pub named_child : (entries : List (ℕ × ℕ)) (floor link : Option ℕ) (lower : List Cell) (last_floor last_link : Option ℕ) (c : Cell)
       → map (λ (entry : ℕ × ℕ). entry.0) entries ≡ high_keys lower → map (λ (entry : ℕ × ℕ). entry.1) entries ≡ numbers_of lower
-      → InLine fan level floor link lower last_floor last_link → StandsIn c lower → IsKeyOf c.page key → child_for key entries ≡ Some c.number
+      → InLine fan level floor link lower last_floor last_link → IsMember c lower → IsKeyOf c.page key → child_for key entries ≡ Some c.number
   named_child entries floor link [] last_floor last_link c separators children line stands spans = absurd stands
   named_child [] floor link (x ∷ lower) last_floor last_link c separators children line stands spans = absurd (cc)
   named_child ((separator, child) ∷ rest) floor link (x ∷ lower) last_floor last_link c separators children line (inl same) spans =
@@ -46,7 +47,7 @@ module _ (fan level key : ℕ) where
       → map (λ (entry : ℕ × ℕ). entry.0) (before ++ (separator, child) ∷ after) ≡ high_keys lower
       → map (λ (entry : ℕ × ℕ). entry.1) (before ++ (separator, child) ∷ after) ≡ numbers_of lower
       → InLine fan level floor link lower last_floor last_link
-      → (c : Cell) × StandsIn c lower × (c.number ≡ child) × (c.page.high ≡ separator) × (least_above c.page.floor ≡ next_key (least_above floor) before)
+      → (c : Cell) × IsMember c lower × (c.number ≡ child) × (c.page.high ≡ separator) × (least_above c.page.floor ≡ next_key (least_above floor) before)
   named_entry [] separator child after floor link [] last_floor last_link separators children line = absurd (cc)
   named_entry [] separator child after floor link (x ∷ lower) last_floor last_link separators children line = (x, inl refl, cc, cc, ap least_above line.1)
   named_entry ((s, other) ∷ before) separator child after floor link [] last_floor last_link separators children line = absurd (cc)
@@ -57,14 +58,14 @@ module _ (fan level key : ℕ) where
 
   -- the child for a key of a level is that of the page that the key belongs to
   pub line_child : 0 < level → (floor link : Option ℕ) (upper : List Cell) (last_floor last_link : Option ℕ) (d : Cell)
-      → InLine fan level floor link upper last_floor last_link → StandsIn d upper → IsKeyOf d.page key
+      → InLine fan level floor link upper last_floor last_link → IsMember d upper → IsKeyOf d.page key
       → child_for key (entries_along upper) ≡ child_for key d.page.entries
   line_child inner floor link [] last_floor last_link d line stands spans = absurd stands
   line_child inner floor link (x ∷ upper) last_floor last_link d line (inl same) spans =
       let same_level = line.2 in
       let high = ap (λ (y : Cell). y.page.high) same in let floors = ap (λ (y : Cell). least_above y.page.floor) same in
       let above = spans.0 in let below = spans.1 in
-      child_for-append_front key (least_above x.page.floor) (x.page.high + 1) x.page.entries (entries_along upper)
+      child_for-append_prefix key (least_above x.page.floor) (x.page.high + 1) x.page.entries (entries_along upper)
       (line.3.inner (omega arith)).last_is_high (omega arith) (omega arith)
       ∙ ap (λ (y : Cell). child_for key y.page.entries) (sym same)
   line_child inner floor link (x ∷ upper) last_floor last_link d line (inr later) spans =
@@ -76,8 +77,8 @@ module _ (fan level key : ℕ) where
 -- the child for a key of the page that it belongs to, in a chain that names the chain below, is the page there that the
 -- key belongs to
 pub chain_child : (fan level key : ℕ) (pages : Pages) (leftmost left : ℕ) (upper lower : List Cell) (d c : Cell)
-    → IsChain fan pages level leftmost lower → IsChain fan pages (level + 1) left upper → Names upper lower
-    → StandsIn d upper → IsKeyOf d.page key → StandsIn c lower → IsKeyOf c.page key → child_for key d.page.entries ≡ Some c.number
+    → IsChain fan pages level leftmost lower → IsChain fan pages (level + 1) left upper → IsParentOf upper lower
+    → IsMember d upper → IsKeyOf d.page key → IsMember c lower → IsKeyOf c.page key → child_for key d.page.entries ≡ Some c.number
 chain_child fan level key pages leftmost left upper lower d c chain above names stands spans stands_below spans_below =
     sym (line_child fan (level + 1) key (omega arith) None (Some left) upper (Some GREATEST_KEY) None d above.in_line stands spans)
     ∙ named_child fan level key (entries_along upper) None (Some leftmost) lower (Some GREATEST_KEY) None c

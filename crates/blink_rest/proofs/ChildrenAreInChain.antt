@@ -6,12 +6,12 @@ use Rattle.blink_page.specs.Rising.{least_above, next_key}
 use Rattle.blink_page.specs.Page.{PlainPage}
 use Rattle.blink_page.specs.declared.limits.TheConstants.{GREATEST_KEY}
 use Rattle.blink_page.proofs.Offered.{covers_next}
-use Rattle.blink_rest.specs.Numbers.{IsAmong}
-use Rattle.blink_rest.specs.Chain.{StandsIn, Pages, Cell, InLine, IsChain}
+use Rattle.blink_rest.specs.Numbers.{IsMember}
+use Rattle.blink_rest.specs.Chain.{Pages, Cell, InLine, IsChain}
 use Rattle.blink_rest.specs.Children.{RefersBelow}
-use Rattle.blink_rest.specs.Level.{Names, entries_along, numbers_of}
+use Rattle.blink_rest.specs.Level.{IsParentOf, entries_along, numbers_of}
 use Rattle.blink_rest.specs.References.{BeginsAt, Refers, separator_after}
-use Rattle.blink_rest.specs.Rest.{AreChains, EachNames, AreLevels}
+use Rattle.blink_rest.specs.Rest.{AreChains, EachIsParent, AreLevels}
 use Rattle.blink_rest.specs.Walk.{IsInLine, names_for}
 use Rattle.blink_rest.proofs.DifferentNumbers.{among_append, among_from_Contains}
 use Rattle.blink_rest.proofs.LinesOfPages.{stands_there, stands_of}
@@ -32,9 +32,9 @@ same_floors (Some key) (Some other) same = let e : key ≡ other = omega arith i
 
 module _ (lower : List Cell) where
   -- what some entries refer to, their first do
-  pub Refers-front : (floor : Option ℕ) (xs ys : List (ℕ × ℕ)) → Refers lower floor (xs ++ ys) → Refers lower floor xs
-  Refers-front floor [] ys refers = tt
-  Refers-front floor ((separator, child) ∷ xs) ys refers = (refers.0, refers.1, Refers-front (Some separator) xs ys refers.2)
+  pub Refers-prefix : (floor : Option ℕ) (xs ys : List (ℕ × ℕ)) → Refers lower floor (xs ++ ys) → Refers lower floor xs
+  Refers-prefix floor [] ys refers = tt
+  Refers-prefix floor ((separator, child) ∷ xs) ys refers = (refers.0, refers.1, Refers-prefix (Some separator) xs ys refers.2)
 
   -- and the rest from the last separator on
   pub Refers-rest : (floor : Option ℕ) (xs ys : List (ℕ × ℕ)) → Refers lower floor (xs ++ ys) → Refers lower (separator_after floor xs) ys
@@ -43,7 +43,7 @@ module _ (lower : List Cell) where
 
   -- the entries that name some pages of the level refer to them
   names_refer : (fan level : ℕ) (floor link : Option ℕ) (cells : List Cell) (last_floor last_link : Option ℕ)
-      → InLine fan level floor link cells last_floor last_link → ((c : Cell) → StandsIn c cells → StandsIn c lower) → Refers lower floor (names_for cells)
+      → InLine fan level floor link cells last_floor last_link → ((c : Cell) → IsMember c cells → IsMember c lower) → Refers lower floor (names_for cells)
   names_refer fan level floor link [] last_floor last_link line inside = tt
   names_refer fan level floor link (c ∷ cells) last_floor last_link line inside =
       let here = inside c (inl refl) in (
@@ -54,11 +54,11 @@ module _ (lower : List Cell) where
 
   -- if the entries of an inner line refer to the level from its floor on, those of each of its pages do from the page's
   pub page_refers : (fan level : ℕ) (floor link : Option ℕ) (upper : List Cell) (last_floor last_link : Option ℕ) (d : Cell) → 0 < level
-      → InLine fan level floor link upper last_floor last_link → Refers lower floor (entries_along upper) → StandsIn d upper → Refers lower d.page.floor d.page.entries
+      → InLine fan level floor link upper last_floor last_link → Refers lower floor (entries_along upper) → IsMember d upper → Refers lower d.page.floor d.page.entries
   page_refers fan level floor link [] last_floor last_link d inner line refers stands = absurd stands
   page_refers fan level floor link (x ∷ upper) last_floor last_link d inner line refers (inl same) =
       subst (λ (y : Cell). Refers lower y.page.floor y.page.entries) (sym same)
-      (subst (λ (low : Option ℕ). Refers lower low x.page.entries) (sym line.1) (Refers-front floor x.page.entries (entries_along upper) refers))
+      (subst (λ (low : Option ℕ). Refers lower low x.page.entries) (sym line.1) (Refers-prefix floor x.page.entries (entries_along upper) refers))
   page_refers fan level floor link (x ∷ upper) last_floor last_link d inner line refers (inr later) =
       let same_level = line.2 in
       let covers = (line.3.inner (omega arith)).last_is_high in
@@ -71,7 +71,7 @@ module _ (lower : List Cell) where
       (subst (λ (low : Option ℕ). Refers lower low (entries_along upper)) last (Refers-rest floor x.page.entries (entries_along upper) refers)) later
 
 -- entries that name a chain refer to its pages
-pub named_refers : (fan level leftmost : ℕ) (pages : Pages) (upper lower : List Cell) → IsChain fan pages level leftmost lower → Names upper lower → Refers lower None (entries_along upper)
+pub named_refers : (fan level leftmost : ℕ) (pages : Pages) (upper lower : List Cell) → IsChain fan pages level leftmost lower → IsParentOf upper lower → Refers lower None (entries_along upper)
 named_refers fan level leftmost pages upper lower chain names =
     subst (Refers lower None) (sym (entries_by_names upper lower names))
     (names_refer lower fan level None (Some leftmost) lower (Some GREATEST_KEY) None chain.in_line (λ c stands. stands))
@@ -84,7 +84,7 @@ chain_begins fan level leftmost pages (c ∷ cells) chain =
 
 -- in a line to no link a right link leads to the page that begins where this one ends
 pub line_right : (fan level : ℕ) (floor link : Option ℕ) (cells : List Cell) (last_floor : Option ℕ) (next : ℕ) (c : Cell)
-    → InLine fan level floor link cells last_floor None → StandsIn c cells → c.page.right ≡ Some next → BeginsAt cells next (Some c.page.high)
+    → InLine fan level floor link cells last_floor None → IsMember c cells → c.page.right ≡ Some next → BeginsAt cells next (Some c.page.high)
 line_right fan level floor link [] last_floor next c line stands right = absurd stands
 line_right fan level floor link (d ∷ []) last_floor next c line (inl same) right = absurd (cc (line.4.1, right, ap (λ (x : Cell). x.page.right) same))
 line_right fan level floor link (d ∷ e ∷ cells) last_floor next c line (inl same) right =
@@ -117,13 +117,13 @@ module _ (fan : ℕ) (pages : Pages) where
     pub cells : List Cell
     pub chain : IsChain fan pages level leftmost cells
     pub cell : Cell
-    pub stands : StandsIn cell cells
+    pub stands : IsMember cell cells
     pub same_page : page ≡ cell.page
     pub same_level : page.level ≡ level
 
   -- as each page among the levels does
   in_chain : (level n : ℕ) (p : PlainPage) (prime : List ℕ) (levels : List (List Cell)) → AreChains fan pages level prime levels
-      → pages n ≡ Some p → IsAmong n (flat_map numbers_of levels) → StandsInChain p
+      → pages n ≡ Some p → IsMember n (flat_map numbers_of levels) → StandsInChain p
   in_chain level n p [] [] chains there among = absurd among
   in_chain level n p [] (cells ∷ above) chains there among = absurd chains
   in_chain level n p (leftmost ∷ prime) [] chains there among = absurd chains
@@ -148,9 +148,9 @@ module _ (fan : ℕ) (pages : Pages) where
     pub left : ℕ
     pub upper : List Cell
     pub above : IsChain fan pages (level + 1) left upper
-    pub named : Names upper lower
+    pub named : IsParentOf upper lower
     pub cell : Cell
-    pub stands : StandsIn cell upper
+    pub stands : IsMember cell upper
     pub same_page : page ≡ cell.page
 
   one_below : (start leftmost : ℕ) (prime : List ℕ) (page : PlainPage) → StandsAbove (start + 1) prime page → StandsAbove start (leftmost ∷ prime) page
@@ -174,8 +174,8 @@ module _ (fan : ℕ) (pages : Pages) where
       }
 
   -- as each page among the levels above the first does
-  stands_above : (level n : ℕ) (p : PlainPage) (prime : List ℕ) (levels : List (List Cell)) → AreChains fan pages level prime levels → EachNames levels
-      → pages n ≡ Some p → level < p.level → IsAmong n (flat_map numbers_of levels) → StandsAbove level prime p
+  stands_above : (level n : ℕ) (p : PlainPage) (prime : List ℕ) (levels : List (List Cell)) → AreChains fan pages level prime levels → EachIsParent levels
+      → pages n ≡ Some p → level < p.level → IsMember n (flat_map numbers_of levels) → StandsAbove level prime p
   stands_above level n p [] [] chains named there above among = absurd among
   stands_above level n p [] (cells ∷ levels) chains named there above among = absurd chains
   stands_above level n p (leftmost ∷ prime) [] chains named there above among = absurd chains

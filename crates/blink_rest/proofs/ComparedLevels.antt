@@ -6,15 +6,15 @@ use Rattle.blink_page.specs.Rising.{least_above}
 use Rattle.blink_page.specs.Page.{PlainPage}
 use Rattle.blink_page.specs.declared.limits.TheConstants.{GREATEST_KEY}
 use Rattle.blink_rest.specs.Chain.{Pages, Cell, AreAmong, InLine, IsChain, cell}
-use Rattle.blink_rest.specs.Level.{entries_along, high_keys, numbers_of, separators, children, Names}
+use Rattle.blink_rest.specs.Level.{entries_along, high_keys, numbers_of, separators, children, IsParentOf}
 use Rattle.blink_rest.specs.Walk.{IsTail, HasTail, names_for, NamesFirst, NamesNone, TailNames, HasChain, HasSomeChain, HasNamedChain, HasNoNamedChain}
 use Rattle.blink_rest.proofs.OneListOfLevels.{same_line, same_cell}
 use Rattle.blink_rest.proofs.EntriesOfLevel.{entries_along-append}
 
--- what follows one front in the same list is the same
-cancel_front : {A : Type 0} (front xs ys : List A) → front ++ xs ≡ front ++ ys → xs ≡ ys
-cancel_front [] xs ys same = same
-cancel_front (x ∷ front) xs ys same = cancel_front front xs ys (ap (drop 1) same)
+-- what follows one prefix in the same list is the same
+cancel_prefix : {A : Type 0} (prefix xs ys : List A) → prefix ++ xs ≡ prefix ++ ys → xs ≡ ys
+cancel_prefix [] xs ys same = same
+cancel_prefix (x ∷ prefix) xs ys same = cancel_prefix prefix xs ys (ap (drop 1) same)
 
 names_for-append : (xs ys : List Cell) → names_for (xs ++ ys) ≡ names_for xs ++ names_for ys
 names_for-append [] ys = refl
@@ -40,13 +40,13 @@ children_of_names : (lower : List Cell) → map (λ (entry : ℕ × ℕ). entry.
 children_of_names [] = refl
 children_of_names (c ∷ lower) = ap (λ (xs : List ℕ). c.number ∷ xs) (children_of_names lower)
 
-pub names_by_entries : (upper lower : List Cell) → entries_along upper ≡ names_for lower → Names upper lower
+pub names_by_entries : (upper lower : List Cell) → entries_along upper ≡ names_for lower → IsParentOf upper lower
 names_by_entries upper lower named = record {
   separators_are_high_keys = ap (map (λ (entry : ℕ × ℕ). entry.0)) named ∙ separators_of_names lower;
   children_are_pages = ap (map (λ (entry : ℕ × ℕ). entry.1)) named ∙ children_of_names lower;
 }
 
-pub entries_by_names : (upper lower : List Cell) → Names upper lower → entries_along upper ≡ names_for lower
+pub entries_by_names : (upper lower : List Cell) → IsParentOf upper lower → entries_along upper ≡ names_for lower
 entries_by_names upper lower names = named_by_parts (entries_along upper) lower names.separators_are_high_keys names.children_are_pages
 
 module _ (fan : ℕ) (pages : Pages) where
@@ -88,7 +88,7 @@ module _ (fan : ℕ) (pages : Pages) where
 
   -- the first entries name the first pages
   pub names_nothing : (link : Option ℕ) → HasTail fan pages link → NamesFirst fan pages [] link link
-  names_nothing link there = record { front = []; rest = there.0; whole = there.1; left = there.1; named = refl }
+  names_nothing link there = record { prefix = []; rest = there.0; whole = there.1; left = there.1; named = refl }
 
   -- one entry and one page more
   pub names_more : (entries : List (ℕ × ℕ)) (i : ℕ) (first : Option ℕ) (number : ℕ) (page : PlainPage) → i < length entries
@@ -97,11 +97,11 @@ module _ (fan : ℕ) (pages : Pages) where
   names_more entries i first number page inside so_far there high same =
       let it = tail_more number page so_far.rest there so_far.left in
       record {
-        front = so_far.front ++ cell number page ∷ [];
+        prefix = so_far.prefix ++ cell number page ∷ [];
         rest = it.rest;
-        whole = subst (IsTail fan pages first) (ap (λ (xs : List Cell). so_far.front ++ xs) it.parts ∙ sym (append_assoc so_far.front (cell number page ∷ []) it.rest)) so_far.whole;
+        whole = subst (IsTail fan pages first) (ap (λ (xs : List Cell). so_far.prefix ++ xs) it.parts ∙ sym (append_assoc so_far.prefix (cell number page ∷ []) it.rest)) so_far.whole;
         left = it.tail;
-        named = take_more entries i (0, 0) inside ∙ (λ j. so_far.named j ++ (high j, same j) ∷ []) ∙ sym (names_for-append so_far.front (cell number page ∷ []));
+        named = take_more entries i (0, 0) inside ∙ (λ j. so_far.named j ++ (high j, same j) ∷ []) ∙ sym (names_for-append so_far.prefix (cell number page ∷ []));
       }
 
   -- entries that go on with one that is not the next page's name none
@@ -111,9 +111,9 @@ module _ (fan : ℕ) (pages : Pages) where
       → NamesNone fan pages (entries ++ entry ∷ rest) first
   other_first entries rest entry first link so_far other cells more tail named =
       first_other so_far.rest so_far.left
-      (cancel_front entries (entry ∷ rest ++ more) (names_for so_far.rest)
-      (sym (append_assoc entries (entry ∷ rest) more) ∙ named ∙ ap names_for (same_tail first cells (so_far.front ++ so_far.rest) tail so_far.whole)
-      ∙ names_for-append so_far.front so_far.rest ∙ ap (λ (es : List (ℕ × ℕ)). es ++ names_for so_far.rest) (sym so_far.named)))
+      (cancel_prefix entries (entry ∷ rest ++ more) (names_for so_far.rest)
+      (sym (append_assoc entries (entry ∷ rest) more) ∙ named ∙ ap names_for (same_tail first cells (so_far.prefix ++ so_far.rest) tail so_far.whole)
+      ∙ names_for-append so_far.prefix so_far.rest ∙ ap (λ (es : List (ℕ × ℕ)). es ++ names_for so_far.rest) (sym so_far.named)))
     where
       first_other : (left : List Cell) → IsTail fan pages link left → entry ∷ rest ++ more ≡ names_for left → ⊥
       first_other [] left same = absurd (cc (same))
@@ -153,30 +153,30 @@ module _ (fan : ℕ) (pages : Pages) (upper lower : ℕ) where
       → NamesFirst fan pages page.entries below after → Compared fan pages upper lower page.right after
   compared_more number page below after so_far there next =
       let it = tail_more fan pages number page so_far.uppers_left there so_far.left_above in
-      let same : so_far.first.rest ≡ next.front ++ next.rest = same_tail fan pages below so_far.first.rest (next.front ++ next.rest) so_far.first.left next.whole in
+      let same : so_far.first.rest ≡ next.prefix ++ next.rest = same_tail fan pages below so_far.first.rest (next.prefix ++ next.rest) so_far.first.left next.whole in
       record {
         uppers = so_far.uppers ++ cell number page ∷ [];
         uppers_left = it.rest;
         whole_above = subst (IsTail fan pages (Some upper)) (ap (λ (xs : List Cell). so_far.uppers ++ xs) it.parts ∙ sym (append_assoc so_far.uppers (cell number page ∷ []) it.rest)) so_far.whole_above;
         left_above = it.tail;
         first = record {
-          front = so_far.first.front ++ next.front;
+          prefix = so_far.first.prefix ++ next.prefix;
           rest = next.rest;
-          whole = subst (IsTail fan pages (Some lower)) (ap (λ (xs : List Cell). so_far.first.front ++ xs) same ∙ sym (append_assoc so_far.first.front next.front next.rest)) so_far.first.whole;
+          whole = subst (IsTail fan pages (Some lower)) (ap (λ (xs : List Cell). so_far.first.prefix ++ xs) same ∙ sym (append_assoc so_far.first.prefix next.prefix next.rest)) so_far.first.whole;
           left = next.left;
           named = entries_along-append so_far.uppers (cell number page ∷ []) ∙ ap (λ (es : List (ℕ × ℕ)). entries_along so_far.uppers ++ es) (append-nil page.entries)
-              ∙ (λ i. so_far.first.named i ++ next.named i) ∙ sym (names_for-append so_far.first.front next.front);
+              ∙ (λ i. so_far.first.named i ++ next.named i) ∙ sym (names_for-append so_far.first.prefix next.prefix);
         };
       }
 
   -- the whole of both levels, what is named so far and what is left
   same_left : (above below : Option ℕ) (so_far : Compared fan pages upper lower above below) → TailNames fan pages upper lower → entries_along so_far.uppers_left ≡ names_for so_far.first.rest
   same_left above below so_far names =
-      cancel_front (entries_along so_far.uppers) (entries_along so_far.uppers_left) (names_for so_far.first.rest)
+      cancel_prefix (entries_along so_far.uppers) (entries_along so_far.uppers_left) (names_for so_far.first.rest)
       (sym (entries_along-append so_far.uppers so_far.uppers_left)
       ∙ ap entries_along (same_tail fan pages (Some upper) (so_far.uppers ++ so_far.uppers_left) names.uppers so_far.whole_above names.above)
-      ∙ names.named ∙ ap names_for (same_tail fan pages (Some lower) names.lowers (so_far.first.front ++ so_far.first.rest) names.below so_far.first.whole)
-      ∙ names_for-append so_far.first.front so_far.first.rest ∙ ap (λ (es : List (ℕ × ℕ)). es ++ names_for so_far.first.rest) (sym so_far.first.named))
+      ∙ names.named ∙ ap names_for (same_tail fan pages (Some lower) names.lowers (so_far.first.prefix ++ so_far.first.rest) names.below so_far.first.whole)
+      ∙ names_for-append so_far.first.prefix so_far.first.rest ∙ ap (λ (es : List (ℕ × ℕ)). es ++ names_for so_far.first.rest) (sym so_far.first.named))
 
   -- where the next page above names none of the next below, the one level doesn't name the other
   pub compared_other : (number : ℕ) (page : PlainPage) (below : Option ℕ) → Compared fan pages upper lower (Some number) below → pages number ≡ Some page
@@ -192,9 +192,9 @@ module _ (fan : ℕ) (pages : Pages) (upper lower : ℕ) where
       let no_lower = tail_end fan pages so_far.first.rest so_far.first.left in
       record {
         uppers = so_far.uppers;
-        lowers = so_far.first.front;
+        lowers = so_far.first.prefix;
         above = subst (IsTail fan pages (Some upper)) (ap (λ (xs : List Cell). so_far.uppers ++ xs) no_upper ∙ append-nil so_far.uppers) so_far.whole_above;
-        below = subst (IsTail fan pages (Some lower)) (ap (λ (xs : List Cell). so_far.first.front ++ xs) no_lower ∙ append-nil so_far.first.front) so_far.first.whole;
+        below = subst (IsTail fan pages (Some lower)) (ap (λ (xs : List Cell). so_far.first.prefix ++ xs) no_lower ∙ append-nil so_far.first.prefix) so_far.first.whole;
         named = so_far.first.named;
       }
 

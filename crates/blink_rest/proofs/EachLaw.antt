@@ -7,7 +7,7 @@ use Rattle.blink_rest.specs.Chain.{Pages, Cell}
 use Rattle.blink_rest.specs.Example.{example_store}
 use Rattle.blink_rest.specs.Rest.{AreChains, IsStoreAtRest}
 use Rattle.blink_rest.specs.Laws.{EntriesAscend, EntriesAreOneList, EntriesExistAtRest, SearchEndsAtLeaf, EachKeyIsReached, EachPageRefersBelow, EachRightLinkLeads, ExampleIsAtRest, LevelsAreFew}
-use Rattle.blink_rest.specs.Numbers.{IsAmong}
+use Rattle.blink_rest.specs.Numbers.{IsMember}
 use Rattle.blink_rest.proofs.OneListOfLevels.{same_entries}
 use Rattle.blink_rest.proofs.LeafOfKey.{entries_rise, key_in_range, ends_at_leaf, entries_there, root_there}
 use Rattle.blink_rest.proofs.ChildrenAreInChain.{refers_below, right_leads}
@@ -76,7 +76,7 @@ pub new_store_at_rest : (fan : ℕ) → IsStoreAtRest (new_store fan)
 new_store_at_rest fan = first_at_rest fan (page_of (new_store fan)) refl (λ number page there. one_page number fan page there)
 
 -- the example has three pages
-three_pages : (number : ℕ) (fan : ℕ) (page : PlainPage) → page_of (example_store fan) number ≡ Some page → IsAmong number (1 ∷ 2 ∷ 3 ∷ [])
+three_pages : (number : ℕ) (fan : ℕ) (page : PlainPage) → page_of (example_store fan) number ≡ Some page → IsMember number (1 ∷ 2 ∷ 3 ∷ [])
 three_pages zero fan page there = absurd (cc there)
 three_pages (suc zero) fan page there = inl refl
 three_pages (suc (suc zero)) fan page there = inr (inl refl)

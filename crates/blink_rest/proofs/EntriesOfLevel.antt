@@ -8,8 +8,9 @@ use Rattle.blink_page.specs.Rising.{least_above, IsRising, Covers}
 use Rattle.blink_page.specs.Entries.{value_at}
 use Rattle.blink_page.specs.Page.{IsKeyOf}
 use Rattle.blink_page.specs.declared.limits.TheConstants.{GREATEST_KEY}
-use Rattle.blink_page.proofs.Offered.{Covers-append, IsRising-append, value_at-append_front, value_at-append_rest}
-use Rattle.blink_rest.specs.Chain.{StandsIn, Pages, Cell, InLine, IsChain}
+use Rattle.blink_page.proofs.Offered.{Covers-append, IsRising-append, value_at-append_prefix, value_at-append_rest}
+use Rattle.blink_rest.specs.Chain.{Pages, Cell, InLine, IsChain}
+use Rattle.blink_rest.specs.Numbers.{IsMember}
 use Rattle.blink_rest.specs.Level.{entries_along}
 use Rattle.blink_rest.proofs.LinesOfPages.{stands_of}
 
@@ -55,7 +56,7 @@ module _ (fan level : ℕ) where
   -- each key between the ends of a line belongs to one of its pages
   pub line_spans : (key : ℕ) (floor link : Option ℕ) (cells : List Cell) (last_floor last_link : Option ℕ)
       → InLine fan level floor link cells last_floor last_link → least_above floor ≤ key → key < least_above last_floor
-      → (c : Cell) × StandsIn c cells × IsKeyOf c.page key
+      → (c : Cell) × IsMember c cells × IsKeyOf c.page key
   line_spans key floor link [] last_floor last_link line above below = absurd (omega (arith, ap least_above line.0))
   line_spans key floor link (c ∷ cells) last_floor last_link line above below =
       elim (cases_lt c.page.high key) [
@@ -65,7 +66,7 @@ module _ (fan level : ℕ) where
 
   -- and to only one
   pub line_spans_once : (key : ℕ) (floor link : Option ℕ) (cells : List Cell) (last_floor last_link : Option ℕ) (c d : Cell)
-      → InLine fan level floor link cells last_floor last_link → StandsIn c cells → StandsIn d cells → IsKeyOf c.page key → IsKeyOf d.page key → c ≡ d
+      → InLine fan level floor link cells last_floor last_link → IsMember c cells → IsMember d cells → IsKeyOf c.page key → IsKeyOf d.page key → c ≡ d
   line_spans_once key floor link [] last_floor last_link c d line stands too spans spans_too = absurd stands
   line_spans_once key floor link (x ∷ cells) last_floor last_link c d line (inl same) (inl same_too) spans spans_too = same ∙ sym same_too
   line_spans_once key floor link (x ∷ cells) last_floor last_link c d line (inl same) (inr later) spans spans_too =
@@ -79,12 +80,12 @@ module _ (fan level : ℕ) where
 
   -- a key has an entry in a line exactly if it has one in the page that it belongs to
   pub line_value : (key : ℕ) (floor link : Option ℕ) (cells : List Cell) (last_floor last_link : Option ℕ) (c : Cell)
-      → InLine fan level floor link cells last_floor last_link → StandsIn c cells → IsKeyOf c.page key
+      → InLine fan level floor link cells last_floor last_link → IsMember c cells → IsKeyOf c.page key
       → value_at key (entries_along cells) ≡ value_at key c.page.entries
   line_value key floor link [] last_floor last_link c line stands spans = absurd stands
   line_value key floor link (x ∷ cells) last_floor last_link c line (inl same) spans =
       let high = ap (λ (y : Cell). y.page.high) same in let below = spans.1 in
-      value_at-append_front key (x.page.high + 1) (least_above last_floor) x.page.entries (entries_along cells)
+      value_at-append_prefix key (x.page.high + 1) (least_above last_floor) x.page.entries (entries_along cells)
       (line_rising (Some x.page.high) x.page.right cells last_floor last_link line.4) (omega arith)
       ∙ ap (λ (y : Cell). value_at key y.page.entries) (sym same)
   line_value key floor link (x ∷ cells) last_floor last_link c line (inr later) spans =
@@ -103,13 +104,13 @@ module _ (fan level leftmost : ℕ) (pages : Pages) (cells : List Cell) (chain :
   chain_covers inner = line_covers fan level None (Some leftmost) cells (Some GREATEST_KEY) None inner chain.in_line
 
   -- each key belongs to a page of the chain
-  pub chain_spans : (key : ℕ) → key ≤ GREATEST_KEY → (c : Cell) × StandsIn c cells × IsKeyOf c.page key
+  pub chain_spans : (key : ℕ) → key ≤ GREATEST_KEY → (c : Cell) × IsMember c cells × IsKeyOf c.page key
   chain_spans key below = line_spans fan level key None (Some leftmost) cells (Some GREATEST_KEY) None chain.in_line (omega arith) (omega arith)
 
   -- and to only one
-  pub chain_spans_once : (key : ℕ) (c d : Cell) → StandsIn c cells → StandsIn d cells → IsKeyOf c.page key → IsKeyOf d.page key → c ≡ d
+  pub chain_spans_once : (key : ℕ) (c d : Cell) → IsMember c cells → IsMember d cells → IsKeyOf c.page key → IsKeyOf d.page key → c ≡ d
   chain_spans_once key c d = line_spans_once fan level key None (Some leftmost) cells (Some GREATEST_KEY) None c d chain.in_line
 
   -- a key has an entry in the level exactly if it has one in the page that it belongs to
-  pub chain_value : (key : ℕ) (c : Cell) → StandsIn c cells → IsKeyOf c.page key → value_at key (entries_along cells) ≡ value_at key c.page.entries
+  pub chain_value : (key : ℕ) (c : Cell) → IsMember c cells → IsKeyOf c.page key → value_at key (entries_along cells) ≡ value_at key c.page.entries
   chain_value key c = line_value fan level key None (Some leftmost) cells (Some GREATEST_KEY) None c chain.in_line

@@ -1,7 +1,7 @@
 -- The example's pages are lawful, and its tree is at rest.
 use Rattle.std.proofs.Common.{◌≡◌, ℕ, ◌≤◌, Some, [], ◌∷◌, refl, arith, rules}
 use Rattle.blink_page.specs.Page.{PlainPage, IsLawfulPage}
-use Rattle.blink_rest.specs.Numbers.{IsAmong}
+use Rattle.blink_rest.specs.Numbers.{IsMember}
 use Rattle.blink_rest.specs.Chain.{Pages, cell}
 use Rattle.blink_rest.specs.Rest.{AreLevels}
 use Rattle.blink_rest.specs.Example.{left_leaf, right_leaf, root_page}
@@ -49,7 +49,7 @@ module _ (fan : ℕ) (room : 4 ≤ fan) where
 
   -- the tree of these three pages is at rest
   pub example_levels : (pages : Pages) → pages 1 ≡ Some left_leaf → pages 2 ≡ Some right_leaf → pages 3 ≡ Some root_page
-      → ((number : ℕ) (page : PlainPage) → pages number ≡ Some page → IsAmong number (1 ∷ 2 ∷ 3 ∷ []))
+      → ((number : ℕ) (page : PlainPage) → pages number ≡ Some page → IsMember number (1 ∷ 2 ∷ 3 ∷ []))
       → AreLevels fan (1 ∷ 3 ∷ []) pages ((cell 1 left_leaf ∷ cell 2 right_leaf ∷ []) ∷ (cell 3 root_page ∷ []) ∷ [])
   example_levels pages first second third alone = record {
     chains = (

@@ -5,8 +5,8 @@ use Rattle.std.specs.List.{flat_map}
 use Rattle.std.proofs.lemmas.Bool.{cases_lt}
 use Rattle.blink_page.specs.declared.limits.TheConstants.{GREATEST_KEY, MAX_PAGE}
 use Rattle.blink_rest.specs.Chain.{Pages, Cell, InLine, IsChain}
-use Rattle.blink_rest.specs.Level.{entries_along, numbers_of, Names}
-use Rattle.blink_rest.specs.Rest.{AreChains, EachNames, TopHasOne, AreLevels}
+use Rattle.blink_rest.specs.Level.{entries_along, numbers_of, IsParentOf}
+use Rattle.blink_rest.specs.Rest.{AreChains, EachIsParent, TopHasOne, AreLevels}
 use Rattle.blink_rest.proofs.NoPageLeftOut.{AreNumbered, levels_at_most}
 
 -- two to the power of n
@@ -31,7 +31,7 @@ two_each fan level floor link (c ∷ cells) last_floor last_link inner line =
     omega (arith, length-append c.page.entries (entries_along cells))
 
 -- so a level that is named has at least twice as many pages as the one that names it
-pub twice_as_many : (fan level left : ℕ) (pages : Pages) (upper lower : List Cell) → IsChain fan pages (level + 1) left upper → Names upper lower
+pub twice_as_many : (fan level left : ℕ) (pages : Pages) (upper lower : List Cell) → IsChain fan pages (level + 1) left upper → IsParentOf upper lower
     → length upper + length upper ≤ length lower
 twice_as_many fan level left pages upper lower chain names =
     omega (
@@ -44,7 +44,7 @@ twice_as_many fan level left pages upper lower chain names =
 
 module _ (fan : ℕ) (pages : Pages) where
   -- the pages of the lowest of h levels are at least 2 to the power of h - 1, and all pages 2 to the power of h less one
-  pages_for : (level : ℕ) (prime : List ℕ) (cells : List Cell) (above : List (List Cell)) → AreChains fan pages level prime (cells ∷ above) → EachNames (cells ∷ above) → TopHasOne (cells ∷ above)
+  pages_for : (level : ℕ) (prime : List ℕ) (cells : List Cell) (above : List (List Cell)) → AreChains fan pages level prime (cells ∷ above) → EachIsParent (cells ∷ above) → TopHasOne (cells ∷ above)
       → (two_to (length above) ≤ length cells) × (two_to (suc (length above)) ≤ length (flat_map numbers_of (cells ∷ above)) + 1)
   pages_for level [] cells above chains named one = absurd chains
   pages_for level (leftmost ∷ prime) cells [] chains named one =

@@ -2,10 +2,10 @@
 use Rattle.std.proofs.Common.{◌≡◌, ◌≢◌, ℕ, ◌+◌, ◌≤◌, cond, eqb, List, [], ◌∷◌, length, zero, suc, ◌⊎◌, inl, inr, sym, subst, ◌∙◌, arith}
 use Rattle.std.proofs.lemmas.Bool.{cases_eq, cond_both}
 use Rattle.std.proofs.lemmas.Bool.Decides.{nat_tests}
-use Rattle.blink_rest.specs.Numbers.{IsAmong, Avoids, AllDiffer, AreWithin}
+use Rattle.blink_rest.specs.Numbers.{IsMember, Avoids, AllDiffer, AreWithin}
 
 -- a number is among them or not
-pub among_or_avoided : (n : ℕ) (ms : List ℕ) → IsAmong n ms ⊎ Avoids n ms
+pub among_or_avoided : (n : ℕ) (ms : List ℕ) → IsMember n ms ⊎ Avoids n ms
 among_or_avoided n [] = inr tt
 among_or_avoided n (m ∷ ms) = elim (cases_eq n m) [
   | inl same ↦ inl (inl same)
@@ -26,7 +26,7 @@ module _ (m : ℕ) where
       (λ same. omega arith) (λ other. omega (arith, length-without ks))
 
   -- one goes that was there
-  length-without_among : (ks : List ℕ) → IsAmong m ks → length (without m ks) + 1 ≡ length ks
+  length-without_among : (ks : List ℕ) → IsMember m ks → length (without m ks) + 1 ≡ length ks
   unfolding without
   length-without_among [] among = absurd among
   length-without_among (k ∷ ks) (inl same) = cond_both (eqb k m) ks (k ∷ without m ks) (λ zs. length zs + 1 ≡ length (k ∷ ks))
@@ -35,19 +35,19 @@ module _ (m : ℕ) where
       (λ here. omega arith) (λ other. omega (arith, length-without_among ks later))
 
   -- the others stay
-  among_without : (n : ℕ) (ks : List ℕ) → n ≢ m → IsAmong n ks → IsAmong n (without m ks)
+  among_without : (n : ℕ) (ks : List ℕ) → n ≢ m → IsMember n ks → IsMember n (without m ks)
   unfolding without
   among_without n [] differ among = among
-  among_without n (k ∷ ks) differ (inl same) = cond_both (eqb k m) ks (k ∷ without m ks) (IsAmong n)
+  among_without n (k ∷ ks) differ (inl same) = cond_both (eqb k m) ks (k ∷ without m ks) (IsMember n)
       (λ here. absurd (differ (same ∙ grind (arith, nat_tests)))) (λ other. inl same)
-  among_without n (k ∷ ks) differ (inr later) = cond_both (eqb k m) ks (k ∷ without m ks) (IsAmong n)
+  among_without n (k ∷ ks) differ (inr later) = cond_both (eqb k m) ks (k ∷ without m ks) (IsMember n)
       (λ here. later) (λ other. inr (among_without n ks differ later))
 
   -- none comes
-  among_with : (n : ℕ) (ks : List ℕ) → IsAmong n (without m ks) → IsAmong n ks
+  among_with : (n : ℕ) (ks : List ℕ) → IsMember n (without m ks) → IsMember n ks
   unfolding without
   among_with n [] among = among
-  among_with n (k ∷ ks) among = cond_both (eqb k m) ks (k ∷ without m ks) (λ zs. IsAmong n zs → IsAmong n (k ∷ ks))
+  among_with n (k ∷ ks) among = cond_both (eqb k m) ks (k ∷ without m ks) (λ zs. IsMember n zs → IsMember n (k ∷ ks))
       (λ here later. inr later) (λ other found. elim found [ inl same ↦ inl same | inr later ↦ inr (among_with n ks later) ]) among
 
   avoids_without : (n : ℕ) (ks : List ℕ) → Avoids n ks → Avoids n (without m ks)
@@ -86,7 +86,7 @@ at_most_n (suc n) ns differ within =
     omega (arith, length-without (suc n) ns, at_most_n n (without (suc n) ns) (differ_without (suc n) ns differ) (within_without n ns differ within))
 
 -- and if they are n, each number from 1 to n is among them
-pub all_n_among : (n : ℕ) (ns : List ℕ) → AllDiffer ns → AreWithin n ns → length ns ≡ n → (k : ℕ) → 1 ≤ k → k ≤ n → IsAmong k ns
+pub all_n_among : (n : ℕ) (ns : List ℕ) → AllDiffer ns → AreWithin n ns → length ns ≡ n → (k : ℕ) → 1 ≤ k → k ≤ n → IsMember k ns
 all_n_among zero ns differ within full k least most = absurd (omega arith)
 all_n_among (suc n) ns differ within full k least most =
     let fewer = without (suc n) ns in
@@ -94,7 +94,7 @@ all_n_among (suc n) ns differ within full k least most =
     elim (among_or_avoided (suc n) ns) [
       | inr avoids ↦ absurd (omega (arith, at_most_n n ns differ (within_less n ns avoids within)))
       | inl there ↦ elim (cases_eq k (suc n)) [
-        | inl same ↦ (let P : ℕ → Type 0 = λ x. IsAmong x ns in subst P (sym same) there)
+        | inl same ↦ (let P : ℕ → Type 0 = λ x. IsMember x ns in subst P (sym same) there)
         | inr other ↦ among_with (suc n) k ns
             (all_n_among n fewer (differ_without (suc n) ns differ) (within_without n ns differ within)
             (omega (arith, length-without_among (suc n) ns there)) k least (omega arith))
@@ -102,7 +102,7 @@ all_n_among (suc n) ns differ within full k least most =
     ]
 
 -- numbers with each from 1 to n among them are at least n
-pub at_least_n : (n : ℕ) (ns : List ℕ) → ((k : ℕ) → 1 ≤ k → k ≤ n → IsAmong k ns) → n ≤ length ns
+pub at_least_n : (n : ℕ) (ns : List ℕ) → ((k : ℕ) → 1 ≤ k → k ≤ n → IsMember k ns) → n ≤ length ns
 at_least_n zero ns all = omega arith
 at_least_n (suc n) ns all =
     omega (

@@ -7,7 +7,8 @@ use Rattle.blink_page.specs.Entries.{value_at}
 use Rattle.blink_page.specs.Page.{PlainPage, IsKeyOf}
 use Rattle.blink_page.specs.declared.limits.TheConstants.{GREATEST_KEY}
 use Rattle.blink_page.proofs.Offered.{value_at-above}
-use Rattle.blink_rest.specs.Chain.{StandsIn, Pages, Cell, IsChain}
+use Rattle.blink_rest.specs.Chain.{Pages, Cell, IsChain}
+use Rattle.blink_rest.specs.Numbers.{IsMember}
 use Rattle.blink_rest.specs.Level.{entries_along, numbers_of}
 use Rattle.blink_rest.specs.Reach.{Reaches, IsRoot, IsLeafOf, EndsAtLeaf}
 use Rattle.blink_rest.specs.Rest.{AreLevels}
@@ -46,7 +47,7 @@ module _ (fan : ℕ) (pages : Pages) where
 
   -- a leaf of a tree at rest stands in the chain of level 0
   leaf_standing : (leftmost n : ℕ) (p : PlainPage) (prime : List ℕ) (leaves : List Cell) (levels : List (List Cell)) → AreLevels fan (leftmost ∷ prime) pages (leaves ∷ levels)
-      → pages n ≡ Some p → p.level ≡ 0 → (c : Cell) × (n ≡ c.number) × (p ≡ c.page) × StandsIn c leaves
+      → pages n ≡ Some p → p.level ≡ 0 → (c : Cell) × (n ≡ c.number) × (p ≡ c.page) × IsMember c leaves
   leaf_standing leftmost n p prime leaves levels at_rest there is_leaf =
       elim (among_append n (numbers_of leaves) (flat_map numbers_of levels) (among_from_Contains _ n (at_rest.no_other_page n p there))) [
         | inl here ↦ let it = page_standing fan pages 0 leftmost n p leaves at_rest.chains.0 there here in (it.0, it.1, it.2, it.3)

@@ -2,16 +2,17 @@
 use Rattle.std.proofs.Common.{◌≡◌, ℕ, ◌<◌, ◌≤◌, Option, Some, List, [], ◌∷◌, ◌++◌, inl, inr, refl, sym, ap, arith}
 use Rattle.blink_page.specs.Rising.{least_above}
 use Rattle.blink_page.specs.Page.{PlainPage, IsLawfulPage}
-use Rattle.blink_rest.specs.Chain.{Pages, Cell, AreAmong, InLine, StandsIn, floor_after, link_after}
+use Rattle.blink_rest.specs.Chain.{Pages, Cell, AreAmong, InLine, floor_after, link_after}
+use Rattle.blink_rest.specs.Numbers.{IsMember}
 
 -- a cell that stands in a list parts it
-pub stands_split : (c : Cell) (cells : List Cell) → StandsIn c cells → (before : List Cell) × (after : List Cell) × (cells ≡ before ++ c ∷ after)
+pub stands_split : (c : Cell) (cells : List Cell) → IsMember c cells → (before : List Cell) × (after : List Cell) × (cells ≡ before ++ c ∷ after)
 stands_split c [] stands = absurd stands
 stands_split c (d ∷ cells) (inl same) = ([], cells, ap (λ (x : Cell). x ∷ cells) (sym same))
 stands_split c (d ∷ cells) (inr later) = let it = stands_split c cells later in (d ∷ it.0, it.1, ap (λ (xs : List Cell). d ∷ xs) it.2)
 
 -- and what parts a list stands there
-pub stands_middle : (c : Cell) (before after : List Cell) → StandsIn c (before ++ c ∷ after)
+pub stands_middle : (c : Cell) (before after : List Cell) → IsMember c (before ++ c ∷ after)
 stands_middle c [] after = inl refl
 stands_middle c (d ∷ before) after = inr (stands_middle c before after)
 
@@ -22,9 +23,9 @@ module _ (pages : Pages) where
   AreAmong-append (x ∷ xs) ys before after = (before.0, AreAmong-append xs ys before.1 after)
 
   -- and so are the first of them
-  pub AreAmong-front : (xs ys : List Cell) → AreAmong pages (xs ++ ys) → AreAmong pages xs
-  AreAmong-front [] ys among = tt
-  AreAmong-front (x ∷ xs) ys among = (among.0, AreAmong-front xs ys among.1)
+  pub AreAmong-prefix : (xs ys : List Cell) → AreAmong pages (xs ++ ys) → AreAmong pages xs
+  AreAmong-prefix [] ys among = tt
+  AreAmong-prefix (x ∷ xs) ys among = (among.0, AreAmong-prefix xs ys among.1)
 
   -- and the rest
   pub AreAmong-rest : (xs ys : List Cell) → AreAmong pages (xs ++ ys) → AreAmong pages ys
@@ -32,7 +33,7 @@ module _ (pages : Pages) where
   AreAmong-rest (x ∷ xs) ys among = AreAmong-rest xs ys among.1
 
   -- each of them is there
-  pub stands_there : (cells : List Cell) (c : Cell) → AreAmong pages cells → StandsIn c cells → pages c.number ≡ Some c.page
+  pub stands_there : (cells : List Cell) (c : Cell) → AreAmong pages cells → IsMember c cells → pages c.number ≡ Some c.page
   stands_there [] c among stands = absurd stands
   stands_there (d ∷ cells) c among (inl same) = rw same among.0
   stands_there (d ∷ cells) c among (inr later) = stands_there cells c among.1 later
@@ -47,11 +48,11 @@ module _ (fan level : ℕ) where
       (before.0, before.1, before.2, before.3, InLine-append (Some x.page.high) x.page.right xs ys middle_floor middle_link last_floor last_link before.4 after)
 
   -- the first of a line are in line
-  pub InLine-front : (floor link : Option ℕ) (xs ys : List Cell) (last_floor last_link : Option ℕ)
+  pub InLine-prefix : (floor link : Option ℕ) (xs ys : List Cell) (last_floor last_link : Option ℕ)
       → InLine fan level floor link (xs ++ ys) last_floor last_link → InLine fan level floor link xs (floor_after floor xs) (link_after link xs)
-  InLine-front floor link [] ys last_floor last_link line = (refl, refl)
-  InLine-front floor link (x ∷ xs) ys last_floor last_link line =
-      (line.0, line.1, line.2, line.3, InLine-front (Some x.page.high) x.page.right xs ys last_floor last_link line.4)
+  InLine-prefix floor link [] ys last_floor last_link line = (refl, refl)
+  InLine-prefix floor link (x ∷ xs) ys last_floor last_link line =
+      (line.0, line.1, line.2, line.3, InLine-prefix (Some x.page.high) x.page.right xs ys last_floor last_link line.4)
 
   -- and the rest
   pub InLine-rest : (floor link : Option ℕ) (xs ys : List Cell) (last_floor last_link : Option ℕ)
@@ -82,7 +83,7 @@ module _ (fan level : ℕ) where
 
   -- and it says so of each that stands there
   pub stands_of : (floor link : Option ℕ) (cells : List Cell) (last_floor last_link : Option ℕ) (c : Cell)
-      → InLine fan level floor link cells last_floor last_link → StandsIn c cells → IsOfLine floor last_floor c.page
+      → InLine fan level floor link cells last_floor last_link → IsMember c cells → IsOfLine floor last_floor c.page
   stands_of floor link [] last_floor last_link c line stands = absurd stands
   stands_of floor link (d ∷ cells) last_floor last_link c line (inl same) =
       let rises = floors_rise (Some d.page.high) d.page.right cells last_floor last_link line.4 in

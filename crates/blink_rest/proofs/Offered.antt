@@ -1,7 +1,7 @@
 -- What this crate offers to the proofs of the crates above: chains and levels, what they say of one another, and where searches end.
 
 -- lines of pages in parts, and what a line says of a page that stands there
-pub use Rattle.blink_rest.proofs.LinesOfPages.{stands_split, stands_middle, stands_there, stands_of, AreAmong-append, AreAmong-front, AreAmong-rest, InLine-append, InLine-front, InLine-rest}
+pub use Rattle.blink_rest.proofs.LinesOfPages.{stands_split, stands_middle, stands_there, stands_of, AreAmong-append, AreAmong-prefix, AreAmong-rest, InLine-append, InLine-prefix, InLine-rest}
 -- the entries of a level, and the one page of it that a key belongs to
 pub use Rattle.blink_rest.proofs.EntriesOfLevel.{entries_along-append, line_rising, chain_rising, chain_covers, chain_spans, chain_spans_once, chain_value}
 -- what a level says of the one below, where a chain begins, and where right links lead

@@ -1,7 +1,8 @@
 -- A tree has only one list of levels, and only one list of entries.
 use Rattle.std.proofs.Common.{◌≡◌, ℕ, ◌+◌, Option, Some, None, List, [], ◌∷◌, ◌++◌, refl, sym, subst, ap, ◌∙◌}
 use Rattle.blink_page.specs.Page.{PlainPage}
-use Rattle.blink_rest.specs.Chain.{StandsIn, Pages, Cell, AreAmong, InLine, IsChain}
+use Rattle.blink_rest.specs.Chain.{Pages, Cell, AreAmong, InLine, IsChain}
+use Rattle.blink_rest.specs.Numbers.{IsMember}
 use Rattle.blink_rest.specs.Level.{entries_along}
 use Rattle.blink_rest.specs.Rest.{AreChains, AreLevels}
 use Rattle.blink_rest.specs.Entries.{AreEntries}
@@ -13,21 +14,21 @@ same_cell c d numbers pages = λ i. record { number = numbers i; page = pages i 
 
 module _ (fan : ℕ) (pages : Pages) where
   -- two pages of a tree with the same number are one
-  pub stands_same : (cells others : List Cell) (c d : Cell) → AreAmong pages cells → AreAmong pages others → StandsIn c cells → StandsIn d others → c.number ≡ d.number → c ≡ d
+  pub stands_same : (cells others : List Cell) (c d : Cell) → AreAmong pages cells → AreAmong pages others → IsMember c cells → IsMember d others → c.number ≡ d.number → c ≡ d
   stands_same cells others c d among among_too stands stands_too same =
       same_cell c d same (cc (stands_there pages cells c among stands, stands_there pages others d among_too stands_too, ap pages same))
 
   -- what has been walked of a line to no link is its beginning, and the rest goes on from there
-  pub walked : (level : ℕ) (floor floor_too link link_too : Option ℕ) (front cells : List Cell) (middle_floor middle_link last : Option ℕ) → floor ≡ floor_too → link ≡ link_too
-      → AreAmong pages front → AreAmong pages cells → InLine fan level floor link front middle_floor middle_link → InLine fan level floor_too link_too cells last None
-      → (rest : List Cell) × (cells ≡ front ++ rest) × AreAmong pages rest × InLine fan level middle_floor middle_link rest last None
+  pub walked : (level : ℕ) (floor floor_too link link_too : Option ℕ) (prefix cells : List Cell) (middle_floor middle_link last : Option ℕ) → floor ≡ floor_too → link ≡ link_too
+      → AreAmong pages prefix → AreAmong pages cells → InLine fan level floor link prefix middle_floor middle_link → InLine fan level floor_too link_too cells last None
+      → (rest : List Cell) × (cells ≡ prefix ++ rest) × AreAmong pages rest × InLine fan level middle_floor middle_link rest last None
   walked level floor floor_too link link_too [] cells middle_floor middle_link last same_floor same among among_too line line_too =
       (cells, refl, among_too, rw (← line.0, ← line.1, same_floor, same) line_too)
-  walked level floor floor_too link link_too (c ∷ front) [] middle_floor middle_link last same_floor same among among_too line line_too = absurd (cc (sym line.0, same, line_too.1))
-  walked level floor floor_too link link_too (c ∷ front) (d ∷ cells) middle_floor middle_link last same_floor same among among_too line line_too =
+  walked level floor floor_too link link_too (c ∷ prefix) [] middle_floor middle_link last same_floor same among among_too line line_too = absurd (cc (sym line.0, same, line_too.1))
+  walked level floor floor_too link link_too (c ∷ prefix) (d ∷ cells) middle_floor middle_link last same_floor same among among_too line line_too =
       let numbers : c.number ≡ d.number = cc (line.0, same, line_too.0) in
       let contents : c.page ≡ d.page = cc (among.0, among_too.0, ap pages numbers) in
-      let rest = walked level (Some c.page.high) (Some d.page.high) c.page.right d.page.right front cells middle_floor middle_link last
+      let rest = walked level (Some c.page.high) (Some d.page.high) c.page.right d.page.right prefix cells middle_floor middle_link last
       (ap (λ (p : PlainPage). Some p.high) contents) (ap (λ (p : PlainPage). p.right) contents) among.1 among_too.1 line.4 line_too.4 in
       (rest.0, (λ i. same_cell d c (sym numbers) (sym contents) i ∷ rest.1 i), rest.2, rest.3)
 

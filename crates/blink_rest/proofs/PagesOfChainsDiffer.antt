@@ -3,21 +3,21 @@ use Rattle.std.proofs.Common.{◌≡◌, ◌≢◌, ℕ, ◌+◌, ◌<◌, Optio
 use Rattle.std.specs.List.{flat_map, AllPairs}
 use Rattle.blink_page.specs.Rising.{least_above}
 use Rattle.blink_page.specs.Page.{PlainPage}
-use Rattle.blink_rest.specs.Numbers.{IsAmong, Avoids, AllDiffer}
-use Rattle.blink_rest.specs.Chain.{StandsIn, Pages, Cell, AreAmong, InLine, IsChain}
+use Rattle.blink_rest.specs.Numbers.{IsMember, Avoids, AllDiffer}
+use Rattle.blink_rest.specs.Chain.{Pages, Cell, AreAmong, InLine, IsChain}
 use Rattle.blink_rest.specs.Level.{numbers_of}
 use Rattle.blink_rest.specs.Rest.{AreChains}
 use Rattle.blink_rest.proofs.DifferentNumbers.{Avoids-append, AllDiffer-append, AllPairs-from_differ}
 use Rattle.blink_rest.proofs.LinesOfPages.{stands_there, stands_of}
 
 -- a number among a level's is that of a page that stands there
-pub standing : (n : ℕ) (cells : List Cell) → IsAmong n (numbers_of cells) → (c : Cell) × (n ≡ c.number) × StandsIn c cells
+pub standing : (n : ℕ) (cells : List Cell) → IsMember n (numbers_of cells) → (c : Cell) × (n ≡ c.number) × IsMember c cells
 standing n [] among = absurd among
 standing n (c ∷ cells) (inl same) = (c, same, inl refl)
 standing n (c ∷ cells) (inr later) = let it = standing n cells later in (it.0, it.1, inr it.2)
 
 -- and the number of a page that stands there is among them
-pub stands_among : (c : Cell) (cells : List Cell) → StandsIn c cells → IsAmong c.number (numbers_of cells)
+pub stands_among : (c : Cell) (cells : List Cell) → IsMember c cells → IsMember c.number (numbers_of cells)
 stands_among c [] stands = stands
 stands_among c (d ∷ cells) (inl same) = inl (ap (λ (x : Cell). x.number) same)
 stands_among c (d ∷ cells) (inr later) = inr (stands_among c cells later)

@@ -5,11 +5,11 @@ use Rattle.std.proofs.lemmas.Bool.{cases_lt}
 use Rattle.blink_page.specs.Entries.{child_for}
 use Rattle.blink_page.specs.Page.{PlainPage, IsKeyOf}
 use Rattle.blink_page.specs.declared.limits.TheConstants.{GREATEST_KEY}
-use Rattle.blink_rest.specs.Numbers.{IsAmong}
-use Rattle.blink_rest.specs.Chain.{StandsIn, Pages, Cell, IsChain}
+use Rattle.blink_rest.specs.Numbers.{IsMember}
+use Rattle.blink_rest.specs.Chain.{Pages, Cell, IsChain}
 use Rattle.blink_rest.specs.Level.{numbers_of}
 use Rattle.blink_rest.specs.Reach.{Reaches, at_root, to_right, down, IsRoot}
-use Rattle.blink_rest.specs.Rest.{AreChains, EachNames, TopHasOne, AreLevels}
+use Rattle.blink_rest.specs.Rest.{AreChains, EachIsParent, TopHasOne, AreLevels}
 use Rattle.blink_rest.proofs.DifferentNumbers.{among_append, among_from_Contains}
 use Rattle.blink_rest.proofs.LinesOfPages.{stands_there, stands_of}
 use Rattle.blink_rest.proofs.PagesOfChainsDiffer.{standing}
@@ -19,7 +19,7 @@ use Rattle.blink_rest.proofs.ChildForKey.{chain_child}
 module _ (fan : ℕ) (pages : Pages) where
   -- a page whose number is among a chain's stands there
   pub page_standing : (level leftmost n : ℕ) (p : PlainPage) (cells : List Cell) → IsChain fan pages level leftmost cells → pages n ≡ Some p
-      → IsAmong n (numbers_of cells) → (c : Cell) × (n ≡ c.number) × (p ≡ c.page) × StandsIn c cells × (p.level ≡ level)
+      → IsMember n (numbers_of cells) → (c : Cell) × (n ≡ c.number) × (p ≡ c.page) × IsMember c cells × (p.level ≡ level)
   page_standing level leftmost n p cells chain there among =
       let it = standing n cells among in
       let here = stands_there pages cells it.0 chain.pages_there it.2 in
@@ -33,7 +33,7 @@ module _ (fan : ℕ) (pages : Pages) where
 
   -- a page among the levels from one on has at least that level
   pub level_at_least : (level n : ℕ) (p : PlainPage) (prime : List ℕ) (levels : List (List Cell)) → AreChains fan pages level prime levels
-      → pages n ≡ Some p → IsAmong n (flat_map numbers_of levels) → level ≤ p.level
+      → pages n ≡ Some p → IsMember n (flat_map numbers_of levels) → level ≤ p.level
   level_at_least level n p [] [] chains there among = absurd among
   level_at_least level n p [] (cells ∷ above) chains there among = absurd chains
   level_at_least level n p (leftmost ∷ prime) [] chains there among = absurd chains
@@ -45,7 +45,7 @@ module _ (fan : ℕ) (pages : Pages) where
 
   -- a chain of one page has that one only
   pub only_page : (level leftmost : ℕ) (cells : List Cell) → IsChain fan pages level leftmost cells → length cells ≡ 1
-      → (c : Cell) → StandsIn c cells → c.number ≡ leftmost
+      → (c : Cell) → IsMember c cells → c.number ≡ leftmost
   only_page level leftmost [] chain one c stands = absurd stands
   only_page level leftmost (d ∷ []) chain one c (inl same) = cc (chain.in_line.0, ap (λ (x : Cell). x.number) same)
   only_page level leftmost (d ∷ []) chain one c (inr later) = absurd later
@@ -73,8 +73,8 @@ module _ (fan : ℕ) (pages : Pages) where
     HasLowerPageFor n upper_level = (p : PlainPage) × (pages n ≡ Some p) × IsKeyOf p key × (p.level < upper_level)
 
     -- and to the child for it of a page that it belongs to
-    child_of : (level n child : ℕ) (p : PlainPage) (prime : List ℕ) (levels : List (List Cell)) → AreChains fan pages level prime levels → EachNames levels
-        → pages n ≡ Some p → IsKeyOf p key → child_for key p.entries ≡ Some child → level < p.level → IsAmong n (flat_map numbers_of levels) → HasLowerPageFor child p.level
+    child_of : (level n child : ℕ) (p : PlainPage) (prime : List ℕ) (levels : List (List Cell)) → AreChains fan pages level prime levels → EachIsParent levels
+        → pages n ≡ Some p → IsKeyOf p key → child_for key p.entries ≡ Some child → level < p.level → IsMember n (flat_map numbers_of levels) → HasLowerPageFor child p.level
     child_of level n child p [] [] chains named there belongs is_child above among = absurd among
     child_of level n child p [] (cells ∷ levels) chains named there belongs is_child above among = absurd chains
     child_of level n child p (leftmost ∷ prime) [] chains named there belongs is_child above among = absurd chains
@@ -105,7 +105,7 @@ module _ (fan : ℕ) (pages : Pages) where
 
     -- the page of the lowest level that the key belongs to is reached
     pub lowest_reached : (level root : ℕ) (prime : List ℕ) (cells : List Cell) (above : List (List Cell)) (c : Cell) → AreChains fan pages level prime (cells ∷ above)
-        → EachNames (cells ∷ above) → TopHasOne (cells ∷ above) → IsRoot prime root → StandsIn c cells → IsKeyOf c.page key → Reaches pages root key c.number
+        → EachIsParent (cells ∷ above) → TopHasOne (cells ∷ above) → IsRoot prime root → IsMember c cells → IsKeyOf c.page key → Reaches pages root key c.number
     lowest_reached level root [] cells above c chains named one is_root stands belongs = absurd chains
     lowest_reached level root (leftmost ∷ []) cells [] c chains named one is_root stands belongs =
         let same = only_page level leftmost cells chains.0 one c stands in

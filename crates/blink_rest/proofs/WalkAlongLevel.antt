@@ -15,10 +15,10 @@ use Rattle.blink_rest.proofs.NoPageLeftOut.{AreNumbered, cells_within}
 
 -- the pages met so far from the leftmost page on, how many they are, and the floor and the link after them
 pub record Walked (fan : ℕ) (pages : Pages) (level leftmost : ℕ) (floor link : Option ℕ) (count : ℕ) : Type 0 where
-  pub front : List Cell
-  pub among : AreAmong pages front
-  pub line : InLine fan level None (Some leftmost) front floor link
-  pub counted : length front ≡ count
+  pub prefix : List Cell
+  pub among : AreAmong pages prefix
+  pub line : InLine fan level None (Some leftmost) prefix floor link
+  pub counted : length prefix ≡ count
 
 -- a line that has a page and ends at no link ends at the greatest key
 line_closed : (fan level : ℕ) (floor link : Option ℕ) (cells : List Cell) (last : Option ℕ) (number : ℕ) → link ≡ Some number
@@ -36,7 +36,7 @@ length-numbers (c ∷ cells) = ap suc (length-numbers cells)
 module _ (fan : ℕ) (pages : Pages) (level leftmost : ℕ) where
   -- nothing is met yet
   pub walked_none : Walked fan pages level leftmost None (Some leftmost) 0
-  walked_none = record { front = []; among = tt; line = (refl, refl); counted = refl }
+  walked_none = record { prefix = []; among = tt; line = (refl, refl); counted = refl }
 
   -- one page more
   pub walked_on : (floor : Option ℕ) (number count : ℕ) (page : PlainPage) → Walked fan pages level leftmost floor (Some number) count
@@ -44,19 +44,19 @@ module _ (fan : ℕ) (pages : Pages) (level leftmost : ℕ) where
       → Walked fan pages level leftmost (Some page.high) page.right (count + 1)
   walked_on floor number count page so_far there same_level same_floor lawful =
       record {
-        front = so_far.front ++ cell number page ∷ [];
-        among = AreAmong-append pages so_far.front (cell number page ∷ []) so_far.among (there, tt);
-        line = InLine-append fan level None (Some leftmost) so_far.front (cell number page ∷ []) floor (Some number) (Some page.high) page.right so_far.line (refl, same_floor, same_level, lawful, (refl, refl));
-        counted = omega (arith, length-append so_far.front (cell number page ∷ []), so_far.counted);
+        prefix = so_far.prefix ++ cell number page ∷ [];
+        among = AreAmong-append pages so_far.prefix (cell number page ∷ []) so_far.among (there, tt);
+        line = InLine-append fan level None (Some leftmost) so_far.prefix (cell number page ∷ []) floor (Some number) (Some page.high) page.right so_far.line (refl, same_floor, same_level, lawful, (refl, refl));
+        counted = omega (arith, length-append so_far.prefix (cell number page ∷ []), so_far.counted);
       }
 
   -- the last page was met
   pub walked_whole : (floor : Option ℕ) (count : ℕ) → Walked fan pages level leftmost floor None count → HasChain fan pages level leftmost count
   walked_whole floor count so_far = record {
-    cells = so_far.front;
+    cells = so_far.prefix;
     chain = record {
       pages_there = so_far.among;
-      in_line = subst (λ (last : Option ℕ). InLine fan level None (Some leftmost) so_far.front last None) (line_closed fan level None (Some leftmost) so_far.front floor leftmost refl so_far.line) so_far.line;
+      in_line = subst (λ (last : Option ℕ). InLine fan level None (Some leftmost) so_far.prefix last None) (line_closed fan level None (Some leftmost) so_far.prefix floor leftmost refl so_far.line) so_far.line;
     };
     counted = so_far.counted;
   }
@@ -64,7 +64,7 @@ module _ (fan : ℕ) (pages : Pages) (level leftmost : ℕ) where
   -- where the next page isn't in line, there is no chain
   pub walked_out : (floor : Option ℕ) (number count : ℕ) → Walked fan pages level leftmost floor (Some number) count → (IsInLine pages number level floor → ⊥) → HasNoChain fan pages level leftmost
   walked_out floor number count so_far out cells chain =
-      let more = walked fan pages level None None (Some leftmost) (Some leftmost) so_far.front cells floor (Some number) (Some GREATEST_KEY) refl refl so_far.among chain.pages_there so_far.line chain.in_line in
+      let more = walked fan pages level None None (Some leftmost) (Some leftmost) so_far.prefix cells floor (Some number) (Some GREATEST_KEY) refl refl so_far.among chain.pages_there so_far.line chain.in_line in
       next more.0 more.2 more.3
     where
       next : (rest : List Cell) → AreAmong pages rest → InLine fan level floor (Some number) rest (Some GREATEST_KEY) None → ⊥
@@ -79,10 +79,10 @@ module _ (fan : ℕ) (pages : Pages) (level leftmost : ℕ) where
       omega (
         arith,
         so_far.counted,
-        length-numbers so_far.front,
-        at_most_n n (numbers_of so_far.front)
-            (line_differs fan pages level None (Some leftmost) so_far.front floor link so_far.among so_far.line)
-            (cells_within n pages so_far.front so_far.among numbered.within),
+        length-numbers so_far.prefix,
+        at_most_n n (numbers_of so_far.prefix)
+            (line_differs fan pages level None (Some leftmost) so_far.prefix floor link so_far.among so_far.line)
+            (cells_within n pages so_far.prefix so_far.among numbered.within),
       )
 
 -- the pages of a store are those from 1 to the last

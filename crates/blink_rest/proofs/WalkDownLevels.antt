@@ -5,8 +5,8 @@ use Rattle.std.specs.List.{flat_map}
 use Rattle.std.specs.Option.{option_eq}
 use Rattle.std.proofs.lemmas.Bool.Decides.{nat_tests}
 use Rattle.blink_rest.specs.Chain.{Pages, Cell, IsChain}
-use Rattle.blink_rest.specs.Level.{Names, numbers_of}
-use Rattle.blink_rest.specs.Rest.{AreChains, EachNames, TopHasOne, IsAtRest}
+use Rattle.blink_rest.specs.Level.{IsParentOf, numbers_of}
+use Rattle.blink_rest.specs.Rest.{AreChains, EachIsParent, TopHasOne, IsAtRest}
 use Rattle.blink_rest.specs.Walk.{HasChain, HasNoChain, HasNamedChain, HasNoNamedChain}
 use Rattle.blink_rest.proofs.OneListOfLevels.{same_chain, same_chains}
 use Rattle.blink_rest.proofs.WalkAlongLevel.{length-numbers}
@@ -17,7 +17,7 @@ pub record LevelsFrom (fan : ℕ) (pages : Pages) (prime : List ℕ) (level coun
   pub cells : List Cell
   pub above : List (List Cell)
   pub chains : AreChains fan pages level (drop level prime) (cells ∷ above)
-  pub named : EachNames (cells ∷ above)
+  pub named : EachIsParent (cells ∷ above)
   pub one_root : TopHasOne (cells ∷ above)
   pub counted : length (flat_map numbers_of (cells ∷ above)) ≡ count
 
@@ -47,7 +47,7 @@ module _ (fan : ℕ) (pages : Pages) where
 
   -- a level below
   named_at : (level at k : ℕ) (prime : List ℕ) (levels : List (List Cell)) → at ≡ level + k → suc k < length prime
-      → AreChains fan pages level prime levels → EachNames levels → HasNoNamedChain fan pages at (get_or prime k 0) (get_or prime (suc k) 0) → ⊥
+      → AreChains fan pages level prime levels → EachIsParent levels → HasNoNamedChain fan pages at (get_or prime k 0) (get_or prime (suc k) 0) → ⊥
   named_at level at k [] levels here inside chains named never = absurd (omega arith)
   named_at level at k (leftmost ∷ []) levels here inside chains named never = absurd (omega arith)
   named_at level at k (leftmost ∷ left ∷ prime) [] here inside chains named never = absurd chains
@@ -84,7 +84,7 @@ module _ (fan : ℕ) (pages : Pages) where
           cells = has.cells;
           above = from.cells ∷ from.above;
           chains = subst (λ (ns : List ℕ). AreChains fan pages level ns (has.cells ∷ from.cells ∷ from.above)) (sym (drop_next prime level (omega arith))) (has.chain, from.chains);
-          named = (subst (λ (uppers : List Cell). Names uppers has.cells) same has.named, from.named);
+          named = (subst (λ (uppers : List Cell). IsParentOf uppers has.cells) same has.named, from.named);
           one_root = from.one_root;
           counted = omega (arith, length-append (numbers_of has.cells) (flat_map numbers_of (from.cells ∷ from.above)), length-numbers has.cells, has.counted, from.counted);
         }

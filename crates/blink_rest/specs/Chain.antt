@@ -16,11 +16,6 @@ pub record Cell : Type 0 where
 abbrev pub cell : ℕ → PlainPage → Cell
 cell number page = record { number = number; page = page }
 
--- the cell is one of them
-abbrev pub StandsIn : Cell → List Cell → Type 0
-StandsIn c [] = ⊥
-StandsIn c (d ∷ cells) = (c ≡ d) ⊎ StandsIn c cells
-
 -- each of the cells is a page of the tree
 abbrev pub AreAmong : Pages → List Cell → Type 0
 AreAmong pages [] = ⊤

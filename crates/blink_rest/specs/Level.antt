@@ -25,6 +25,6 @@ children cells = map (λ (entry : ℕ × ℕ). entry.1) (entries_along cells)
 
 -- a level names the one below: its separators are the high keys there, and its children, in order, the pages. So each
 -- child's floor is the separator before its own, or none for the first
-pub record Names (upper lower : List Cell) : Type 0 where
+pub record IsParentOf (upper lower : List Cell) : Type 0 where
   pub separators_are_high_keys : separators upper ≡ high_keys lower
   pub children_are_pages : children upper ≡ numbers_of lower

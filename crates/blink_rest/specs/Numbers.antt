@@ -2,10 +2,10 @@
 use Rattle.std.specs.Prelude.{◌≡◌, ◌≢◌, ℕ, ◌≤◌, List, [], ◌∷◌, ◌⊎◌, ⊤}
 use Rattle.std.specs.List.{AllByRecursion}
 
--- the number is one of them
-abbrev pub IsAmong : ℕ → List ℕ → Type 0
-IsAmong n [] = ⊥
-IsAmong n (m ∷ ms) = (n ≡ m) ⊎ IsAmong n ms
+-- it is one of them
+abbrev pub IsMember : {X : Type 0} → X → List X → Type 0
+IsMember x [] = ⊥
+IsMember x (y ∷ ys) = (x ≡ y) ⊎ IsMember x ys
 
 -- the number is none of them
 abbrev pub Avoids : ℕ → List ℕ → Type 0

@@ -1,18 +1,19 @@
 -- What a level says of the level below it.
 use Rattle.std.specs.Prelude.{◌≡◌, ℕ, Option, Some, List, [], ◌∷◌, ⊤}
-use Rattle.blink_rest.specs.Chain.{Cell, StandsIn}
+use Rattle.blink_rest.specs.Chain.{Cell}
+use Rattle.blink_rest.specs.Numbers.{IsMember}
 
 -- a page of a level with this number and this floor
 pub record BeginsAt (cells : List Cell) (number : ℕ) (floor : Option ℕ) : Type 0 where
   pub cell : Cell
-  pub stands : StandsIn cell cells
+  pub stands : IsMember cell cells
   pub same_number : cell.number ≡ number
   pub same_floor : cell.page.floor ≡ floor
 
 -- the key is the high key of a page of the level
 pub record IsHighKey (cells : List Cell) (key : ℕ) : Type 0 where
   pub cell : Cell
-  pub stands : StandsIn cell cells
+  pub stands : IsMember cell cells
   pub same_high : cell.page.high ≡ key
 
 -- the entries of the level above, from a floor on: each separator is a high key of the level, and each child a page of it

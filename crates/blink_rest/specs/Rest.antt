@@ -4,7 +4,7 @@ use Rattle.std.specs.List.{flat_map}
 use Rattle.blink_page.specs.Page.{PlainPage}
 use Rattle.blink_store.specs.Store.{PlainStore, page_of}
 use Rattle.blink_rest.specs.Chain.{Cell, IsChain, Pages}
-use Rattle.blink_rest.specs.Level.{Names, numbers_of}
+use Rattle.blink_rest.specs.Level.{IsParentOf, numbers_of}
 
 -- from a level on, each level that the prime block names is a chain
 abbrev pub AreChains : ℕ → Pages → ℕ → List ℕ → List (List Cell) → Type 0
@@ -14,10 +14,10 @@ AreChains fan pages level (leftmost ∷ prime) [] = ⊥
 AreChains fan pages level (leftmost ∷ prime) (cells ∷ above) = IsChain fan pages level leftmost cells × AreChains fan pages (level + 1) prime above
 
 -- each level names the one below it
-abbrev pub EachNames : List (List Cell) → Type 0
-EachNames [] = ⊤
-EachNames (cells ∷ []) = ⊤
-EachNames (lower ∷ upper ∷ above) = Names upper lower × EachNames (upper ∷ above)
+abbrev pub EachIsParent : List (List Cell) → Type 0
+EachIsParent [] = ⊤
+EachIsParent (cells ∷ []) = ⊤
+EachIsParent (lower ∷ upper ∷ above) = IsParentOf upper lower × EachIsParent (upper ∷ above)
 
 -- the top level has one page
 abbrev pub TopHasOne : List (List Cell) → Type 0
@@ -29,7 +29,7 @@ TopHasOne (cells ∷ next ∷ above) = TopHasOne (next ∷ above)
 -- and every page stands in a chain
 pub record AreLevels (fan : ℕ) (prime : List ℕ) (pages : Pages) (levels : List (List Cell)) : Type 0 where
   pub chains : AreChains fan pages 0 prime levels
-  pub named : EachNames levels
+  pub named : EachIsParent levels
   pub one_root : TopHasOne levels
   pub no_other_page : (number : ℕ) (page : PlainPage) → pages number ≡ Some page → Contains (flat_map numbers_of levels) number
 

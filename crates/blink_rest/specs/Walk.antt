@@ -3,7 +3,7 @@ use Rattle.std.specs.Prelude.{◌≡◌, ℕ, ◌+◌, Option, Some, None, List,
 use Rattle.blink_page.specs.Page.{PlainPage}
 use Rattle.blink_page.specs.declared.limits.TheConstants.{GREATEST_KEY}
 use Rattle.blink_rest.specs.Chain.{Cell, Pages, AreAmong, InLine, IsChain}
-use Rattle.blink_rest.specs.Level.{entries_along, Names}
+use Rattle.blink_rest.specs.Level.{entries_along, IsParentOf}
 
 -- the number is that of a page with this level and this floor
 pub record IsInLine (pages : Pages) (number level : ℕ) (floor : Option ℕ) : Type 0 where
@@ -29,11 +29,11 @@ names_for cells = map (λ c. (c.page.high, c.number)) cells
 
 -- entries name the first pages from a link on, and leave those from another link on
 pub record NamesFirst (fan : ℕ) (pages : Pages) (entries : List (ℕ × ℕ)) (link after : Option ℕ) : Type 0 where
-  pub front : List Cell
+  pub prefix : List Cell
   pub rest : List Cell
-  pub whole : IsTail fan pages link (front ++ rest)
+  pub whole : IsTail fan pages link (prefix ++ rest)
   pub left : IsTail fan pages after rest
-  pub named : entries ≡ names_for front
+  pub named : entries ≡ names_for prefix
 
 -- entries name no first pages from a link on
 abbrev pub NamesNone : ℕ → Pages → List (ℕ × ℕ) → Option ℕ → Type 0
@@ -68,9 +68,9 @@ pub record HasNamedChain (fan : ℕ) (pages : Pages) (level lower upper count : 
   pub cells : List Cell
   pub above : IsChain fan pages (level + 1) upper uppers
   pub chain : IsChain fan pages level lower cells
-  pub named : Names uppers cells
+  pub named : IsParentOf uppers cells
   pub counted : length cells ≡ count
 
 -- the level has none
 abbrev pub HasNoNamedChain : ℕ → Pages → ℕ → ℕ → ℕ → Type 0
-HasNoNamedChain fan pages level lower upper = (uppers cells : List Cell) → IsChain fan pages (level + 1) upper uppers → IsChain fan pages level lower cells → Names uppers cells → ⊥
+HasNoNamedChain fan pages level lower upper = (uppers cells : List Cell) → IsChain fan pages (level + 1) upper uppers → IsChain fan pages level lower cells → IsParentOf uppers cells → ⊥

@@ -84,10 +84,10 @@ module _ (words head body : List ℕ) (six : length head ≡ HEAD_WORDS) where
   -- a row is what begins with the head, goes on with the rest of the content, and ends with zeros
   pub row_of_parts : length words ≡ ROW_WORDS → ((n : ℕ) → n < HEAD_WORDS → get_or words n 0 ≡ get_or head n 0) → take (length body) (drop HEAD_WORDS words) ≡ body
       → AreZero (drop (length body) (drop HEAD_WORDS words)) → IsRowOf words (head ++ body)
-  row_of_parts wide front middle rest = record {
+  row_of_parts wide prefix middle rest = record {
     width = wide;
     filled = λ n below. ⊎_elim
-        (λ (in_head : n < HEAD_WORDS). front n in_head ∙ sym (get_or_append_left head body 0 n (omega (arith, six))))
+        (λ (in_head : n < HEAD_WORDS). prefix n in_head ∙ sym (get_or_append_left head body 0 n (omega (arith, six))))
         (λ (behind : HEAD_WORDS ≤ n).
         let at : HEAD_WORDS + (n - HEAD_WORDS) ≡ n = omega arith in
         let long : length (drop HEAD_WORDS words) ≡ ROW_WORDS - HEAD_WORDS = omega (arith, length-drop HEAD_WORDS words) in

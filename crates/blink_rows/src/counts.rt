@@ -2,8 +2,8 @@
 ghost use Rattle.std.specs.Prelude.{◌≡◌, ◌+◌, ◌-◌, ◌*◌, ◌≤◌};
 
 use crate::allowance::Allowance;
-use crate::limits::{ROW_WORDS, ROWS_OF_INSERTION};
-use blink_page::{MAX_PAGE, NUMBERS_OF_INSERTION};
+use crate::limits::{ROW_WORDS, MAX_ROWS_PER_INSERT};
+use blink_page::{MAX_PAGE, MAX_NEW_PAGES_PER_INSERT};
 use std::marker::Model;
 
 /// How many page numbers a table has, with number 0, which is the prime block's, and how many rows.
@@ -31,16 +31,16 @@ impl Counts {
     /// The counts of a table that opens with so many pages and has room for these changes: a row for each page and for the
     /// prime block, and what the changes may take.
     pub fn of(pages: u32, allowance: Allowance) -> Counts
-        requires { 1 + pages + NUMBERS_OF_INSERTION * allowance.inserts ≤ MAX_PAGE + 1 }
-        ensures numbers { result.numbers ≡ 1 + pages + NUMBERS_OF_INSERTION * allowance.inserts }
+        requires { 1 + pages + MAX_NEW_PAGES_PER_INSERT * allowance.inserts ≤ MAX_PAGE + 1 }
+        ensures numbers { result.numbers ≡ 1 + pages + MAX_NEW_PAGES_PER_INSERT * allowance.inserts }
         ensures rows { result.rows
-            ≡ 1 + pages + ROWS_OF_INSERTION * allowance.inserts + allowance.deletes }
+            ≡ 1 + pages + MAX_ROWS_PER_INSERT * allowance.inserts + allowance.deletes }
     {
         let opening = 1 + u64::from(pages);
         let inserts = u64::from(allowance.inserts);
         Counts {
-            numbers: opening + NUMBERS_OF_INSERTION * inserts,
-            rows: opening + ROWS_OF_INSERTION * inserts + u64::from(allowance.deletes),
+            numbers: opening + MAX_NEW_PAGES_PER_INSERT * inserts,
+            rows: opening + MAX_ROWS_PER_INSERT * inserts + u64::from(allowance.deletes),
         }
     }
 

@@ -13,9 +13,9 @@ mod span;
 mod words;
 
 pub use allowance::Allowance;
-pub use blink_page::NUMBERS_OF_INSERTION;
+pub use blink_page::MAX_NEW_PAGES_PER_INSERT;
 pub use counts::Counts;
-pub use limits::{HEAD_WORDS, ROW_WORDS, ROWS_OF_INSERTION};
+pub use limits::{HEAD_WORDS, ROW_WORDS, MAX_ROWS_PER_INSERT};
 pub use pages::{page_row, row_page};
 pub use primes::{prime_row, row_prime};
 pub use span::Span;

@@ -7,4 +7,4 @@ pub const ROW_WORDS: usize = 70;
 pub const HEAD_WORDS: usize = 6;
 
 /// How many rows one insertion may take: two for a split on each level, and two for a new root and its prime block.
-pub const ROWS_OF_INSERTION: u64 = 44;
+pub const MAX_ROWS_PER_INSERT: u64 = 44;

@@ -11,7 +11,7 @@ use Rattle.blink_batch.specs.declared.Op.{Op}
 use Rattle.blink_batch.specs.declared.Op.TheVariants.{Find}
 use Rattle.blink_run.specs.Lanes.{lane_ops}
 use Rattle.blink_run.proofs.LaneSoFar.{lane_so_far, lane_so_far-own, lane_so_far-other, lane_so_far-all}
-use Rattle.blink_page.specs.declared.limits.TheConstants.{NUMBERS_OF_INSERTION}
+use Rattle.blink_page.specs.declared.limits.TheConstants.{MAX_NEW_PAGES_PER_INSERT}
 use Rattle.blink_rows.specs.declared.span.Span.{Span}
 use Rattle.blink_live.specs.Allowed.{inserts_left, deletes_left}
 use Rattle.blink_live.specs.Deals.{rows_for}
@@ -99,18 +99,18 @@ module _ (p : Op → Bool) (ops : List Op) (lanes : List ℕ) (worker : ℕ) (lo
 -- ---- what a pass is dealt of them, and what is left
 
 -- a pass's page numbers are for the insertions that it was dealt
-pub inserts_dealt : (page inserts : ℕ) → inserts_left (span page (page + NUMBERS_OF_INSERTION * inserts)) ≡ inserts
+pub inserts_dealt : (page inserts : ℕ) → inserts_left (span page (page + MAX_NEW_PAGES_PER_INSERT * inserts)) ≡ inserts
 inserts_dealt page inserts = let same : page + 22 * inserts - page ≡ 22 * inserts = omega arith in omega (arith, same)
 
 -- and its rows, beside these, for the deletions
-pub deletes_dealt : (page row inserts deletes : ℕ) → deletes_left (span page (page + NUMBERS_OF_INSERTION * inserts)) (span row (row + rows_for inserts deletes)) ≡ deletes
+pub deletes_dealt : (page row inserts deletes : ℕ) → deletes_left (span page (page + MAX_NEW_PAGES_PER_INSERT * inserts)) (span row (row + rows_for inserts deletes)) ≡ deletes
 deletes_dealt page row inserts deletes = let same : page + 22 * inserts - page ≡ 22 * inserts = omega arith in omega (arith, same)
 
 module _ (pages rows : Span) (inserts deletes : ℕ) (enough_inserts : inserts ≤ inserts_left pages) where
   -- the rest is for the other insertions
-  pub inserts_rest : inserts_left (span (pages.next + NUMBERS_OF_INSERTION * inserts) pages.stop) + inserts ≡ inserts_left pages
+  pub inserts_rest : inserts_left (span (pages.next + MAX_NEW_PAGES_PER_INSERT * inserts) pages.stop) + inserts ≡ inserts_left pages
   inserts_rest = omega (arith, enough_inserts)
 
   -- and for the other deletions
-  pub deletes_rest : deletes ≤ deletes_left pages rows → deletes_left (span (pages.next + NUMBERS_OF_INSERTION * inserts) pages.stop) (span (rows.next + rows_for inserts deletes) rows.stop) + deletes ≡ deletes_left pages rows
+  pub deletes_rest : deletes ≤ deletes_left pages rows → deletes_left (span (pages.next + MAX_NEW_PAGES_PER_INSERT * inserts) pages.stop) (span (rows.next + rows_for inserts deletes) rows.stop) + deletes ≡ deletes_left pages rows
   deletes_rest enough_deletes = omega (arith, enough_inserts, enough_deletes)

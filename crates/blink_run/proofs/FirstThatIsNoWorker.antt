@@ -8,28 +8,28 @@ module _ (workers : ℕ) where
   AreWorkers numbers = All (λ worker. worker < workers) numbers
 
   -- a list has one first number that is none
-  one_of : (a b : ℕ) (front other rest after : List ℕ) → front ++ a ∷ rest ≡ other ++ b ∷ after → AreWorkers front → AreWorkers other → workers ≤ a → workers ≤ b → a ≡ b
+  one_of : (a b : ℕ) (prefix other rest after : List ℕ) → prefix ++ a ∷ rest ≡ other ++ b ∷ after → AreWorkers prefix → AreWorkers other → workers ≤ a → workers ≤ b → a ≡ b
   one_of a b [] [] rest after same before before_other no_a no_b = cc
   one_of a b [] (x ∷ other) rest after same before before_other no_a no_b =
       let first : a ≡ x = cc in
       let below = All-head (λ worker. worker < workers) x other before_other in
       absurd (omega arith)
-  one_of a b (x ∷ front) [] rest after same before before_other no_a no_b =
+  one_of a b (x ∷ prefix) [] rest after same before before_other no_a no_b =
       let first : x ≡ b = cc in
-      let below = All-head (λ worker. worker < workers) x front before in
+      let below = All-head (λ worker. worker < workers) x prefix before in
       absurd (omega arith)
-  one_of a b (x ∷ front) (y ∷ other) rest after same before before_other no_a no_b =
-      let others : front ++ a ∷ rest ≡ other ++ b ∷ after = cc in
-      one_of a b front other rest after others (All-tail (λ worker. worker < workers) x front before) (All-tail (λ worker. worker < workers) y other before_other) no_a no_b
+  one_of a b (x ∷ prefix) (y ∷ other) rest after same before before_other no_a no_b =
+      let others : prefix ++ a ∷ rest ≡ other ++ b ∷ after = cc in
+      one_of a b prefix other rest after others (All-tail (λ worker. worker < workers) x prefix before) (All-tail (λ worker. worker < workers) y other before_other) no_a no_b
 
   pub one_first : (schedule : List ℕ) (a b : ℕ) → IsFirstNoWorker workers schedule a → IsFirstNoWorker workers schedule b → a ≡ b
   one_first schedule a b one other =
-      one_of a b one.front other.front one.rest other.rest (sym one.parts ∙ other.parts) one.workers_before other.workers_before one.no_worker other.no_worker
+      one_of a b one.prefix other.prefix one.rest other.rest (sym one.parts ∙ other.parts) one.workers_before other.workers_before one.no_worker other.no_worker
 
   -- where all numbers are workers there is none
-  none_of : (a : ℕ) (front rest : List ℕ) → AreWorkers (front ++ a ∷ rest) → workers ≤ a → ⊥
+  none_of : (a : ℕ) (prefix rest : List ℕ) → AreWorkers (prefix ++ a ∷ rest) → workers ≤ a → ⊥
   none_of a [] rest all no_worker = let below = All-head (λ worker. worker < workers) a rest all in absurd (omega arith)
-  none_of a (x ∷ front) rest all no_worker = none_of a front rest (All-tail (λ worker. worker < workers) x (front ++ a ∷ rest) all) no_worker
+  none_of a (x ∷ prefix) rest all no_worker = none_of a prefix rest (All-tail (λ worker. worker < workers) x (prefix ++ a ∷ rest) all) no_worker
 
   pub none_first : (schedule : List ℕ) (a : ℕ) → AreWorkers schedule → IsFirstNoWorker workers schedule a → ⊥
-  none_first schedule a all first = none_of a first.front first.rest (subst AreWorkers first.parts all) first.no_worker
+  none_first schedule a all first = none_of a first.prefix first.rest (subst AreWorkers first.parts all) first.no_worker

@@ -19,8 +19,8 @@ each_once_from_increasing keys ascending place key is = ⊎_elim
     (λ (before : Contains (take place keys) key).
     let within : place < length keys = slice_get_within keys place key is.at in
     let shorter = before.1 in
-    let front = length-take place keys in
-    let earlier : before.0 < place = omega (arith, shorter, front) in
+    let prefix = length-take place keys in
+    let earlier : before.0 < place = omega (arith, shorter, prefix) in
     let there : get_or keys before.0 key ≡ key = sym (get_or-take place keys before.0 key earlier) ∙ before.2 in
     let below : get_or keys before.0 key < get_or keys place key = AllPairs-from_increasing keys ascending before.0 place key earlier within in
     let same : get_or keys place key ≡ key = get_or_from_slice_get keys place key key is.at in

@@ -15,6 +15,6 @@ pub mod NeedsOfLane
 pub mod KeysOfLanes
 pub mod ChangesOfLanes
 pub mod LanesAreDealt
-pub mod OutletsTake
+pub mod WritersTake
 pub mod WhatWritersTake
 pub mod Offered

@@ -5,27 +5,27 @@ use Rattle.blink_batch.specs.declared.Part.{Part}
 use Rattle.blink_batch.specs.declared.Part.TheVariants.{Batch}
 use Rattle.std.proofs.lemmas.List.{take-append-drop, drop_more}
 use Rattle.std.proofs.lemmas.List.Sums.{sum_by-append}
-use Rattle.blink_run.specs.Outlet.{BreaksOff, Pours, is_not_flushed}
-use Rattle.blink_run.specs.Served.{IsFrontOf, IsPartFault, IsTextBefore, IsTextOf, LeavesFront, LeavesPart, WroteBefore, WroteBeforeBatch, is_batch, map_after_parts, part_after, part_text, script_text}
+use Rattle.blink_run.specs.TrackedWriter.{WritesPrefix, WritesAll, is_not_flushed}
+use Rattle.blink_run.specs.Served.{IsPrefixOf, IsPartFault, IsTextBefore, IsTextOf, PrefixOutputAfterError, PartOutputAfterError, WroteBefore, WroteBeforeBatch, is_batch, map_after_parts, part_after, part_text, script_text}
 use Rattle.blink_settings.specs.declared.error.ServeError.{ServeError}
 use Rattle.blink_settings.specs.declared.error.ServeError.TheVariants as serve
-use Rattle.blink_run.proofs.OutletsTake.{breaks_after, breaks_before, breaks_here, breaks_unflushed, pours_both}
+use Rattle.blink_run.proofs.WritersTake.{breaks_after, breaks_before, breaks_here, breaks_unflushed, writes_all_of_both}
 
 -- the text of some parts and others
-pub text_of_both : (map : List Entry) (front rest : List Part) → script_text map (front ++ rest) ≡ script_text map front ++ script_text (map_after_parts map front) rest
+pub text_of_both : (map : List Entry) (prefix rest : List Part) → script_text map (prefix ++ rest) ≡ script_text map prefix ++ script_text (map_after_parts map prefix) rest
 text_of_both map [] rest = refl
-text_of_both map (first ∷ front) rest =
-    ap (λ (text : List ℕ). part_text map first ++ text) (text_of_both (part_after map first) front rest)
-    ∙ sym (append_assoc (part_text map first) (script_text (part_after map first) front) (script_text (map_after_parts (part_after map first) front) rest))
+text_of_both map (first ∷ prefix) rest =
+    ap (λ (text : List ℕ). part_text map first ++ text) (text_of_both (part_after map first) prefix rest)
+    ∙ sym (append_assoc (part_text map first) (script_text (part_after map first) prefix) (script_text (map_after_parts (part_after map first) prefix) rest))
 
 -- so that of some first parts is a beginning of it
-pub front_of_text : (records : List (List (List ℕ))) (front rest : List Part) (text : List ℕ) → IsTextBefore records front rest text → IsFrontOf IsTextOf records text
-front_of_text records front rest text before = (
-  script_text (map_after_parts [] front) rest,
+pub prefix_of_text : (records : List (List (List ℕ))) (prefix rest : List Part) (text : List ℕ) → IsTextBefore records prefix rest text → IsPrefixOf IsTextOf records text
+prefix_of_text records prefix rest text before = (
+  script_text (map_after_parts [] prefix) rest,
   record {
-    parts = front ++ rest;
+    parts = prefix ++ rest;
     a_script = before.a_script;
-    its_text = ap (λ (t : List ℕ). t ++ script_text (map_after_parts [] front) rest) before.its_text ∙ sym (text_of_both [] front rest);
+    its_text = ap (λ (t : List ℕ). t ++ script_text (map_after_parts [] prefix) rest) before.its_text ∙ sym (text_of_both [] prefix rest);
   },
 )
 
@@ -49,19 +49,19 @@ batches_left part others left one counted first =
     omega arith
 
 -- the first parts are served: the text that went out, the map that is left, and how many are batches
-pub record HasServed {O : Type 0} (offered : O → List ℕ → Option ℕ → O → Type 0) (map : List Entry) (front : List Part) (before after : O) (left : List Entry) (batches : ℕ) : Type 0 where
-  pub written : Pours offered before (script_text map front) after
-  pub same_map : left ≡ map_after_parts map front
-  pub counted : batches ≡ count_by is_batch front
+pub record HasServed {O : Type 0} (offered : O → List ℕ → Option ℕ → O → Type 0) (map : List Entry) (prefix : List Part) (before after : O) (left : List Entry) (batches : ℕ) : Type 0 where
+  pub written : WritesAll offered before (script_text map prefix) after
+  pub same_map : left ≡ map_after_parts map prefix
+  pub counted : batches ≡ count_by is_batch prefix
 
 module _ {O : Type 0} (offered : O → List ℕ → Option ℕ → O → Type 0) where
   -- and so is one more
-  pub serves_more : (map : List Entry) (front : List Part) (part : Part) (before between after : O) (left next : List Entry) (batches : ℕ) → HasServed offered map front before between left batches
-      → Pours offered between (part_text left part) after → next ≡ part_after left part → HasServed offered map (front ++ part ∷ []) before after next (batches + count_by is_batch (part ∷ []))
-  serves_more map front part before between after left next batches so_far written same = record {
-    written = rw (text_more map front part) (pours_both offered before between after (script_text map front) (part_text (map_after_parts map front) part) so_far.written (rw so_far.same_map at written));
-    same_map = same ∙ rw so_far.same_map (sym (map_more map front part));
-    counted = omega (arith, so_far.counted, batches_more front part);
+  pub serves_more : (map : List Entry) (prefix : List Part) (part : Part) (before between after : O) (left next : List Entry) (batches : ℕ) → HasServed offered map prefix before between left batches
+      → WritesAll offered between (part_text left part) after → next ≡ part_after left part → HasServed offered map (prefix ++ part ∷ []) before after next (batches + count_by is_batch (part ∷ []))
+  serves_more map prefix part before between after left next batches so_far written same = record {
+    written = rw (text_more map prefix part) (writes_all_of_both offered before between after (script_text map prefix) (part_text (map_after_parts map prefix) part) so_far.written (rw so_far.same_map at written));
+    same_map = same ∙ rw so_far.same_map (sym (map_more map prefix part));
+    counted = omega (arith, so_far.counted, batches_more prefix part);
   }
 
   module _ (settled : O → Bool → O → Type 0) (map : List Entry) (parts : List Part) (i number : ℕ) (part : Part) (within : i < length parts) (before between after : O) (left : List Entry) (batches : ℕ)
@@ -76,39 +76,39 @@ module _ {O : Type 0} (offered : O → List ℕ → Option ℕ → O → Type 0)
         ∙ ap (λ (m : List Entry). script_text map (take i parts) ++ (part_text m part ++ script_text (part_after m part) (drop (i + 1) parts))) (sym so_far.same_map)
 
     -- where this part isn't served, the lines of those before it went out
-    pub leaves_front : (error : ServeError) → get_or parts i part ≡ part → number ≡ batches + count_by is_batch (part ∷ []) → IsPartFault part number error → LeavesPart offered settled (part_text left part) error between after
-        → LeavesFront offered settled map parts error before after
-    leaves_front (serve.Script error) here counted fault leaves = absurd leaves
-    leaves_front (serve.Run told error) here counted fault leaves = run_fault part here counted fault
+    pub prefix_output_after_error : (error : ServeError) → get_or parts i part ≡ part → number ≡ batches + count_by is_batch (part ∷ []) → IsPartFault part number error → PartOutputAfterError offered settled (part_text left part) error between after
+        → PrefixOutputAfterError offered settled map parts error before after
+    prefix_output_after_error (serve.Script error) here counted fault leaves = absurd leaves
+    prefix_output_after_error (serve.Run told error) here counted fault leaves = run_fault part here counted fault
       where
         run_fault : (p : Part) → get_or parts i part ≡ p → number ≡ batches + count_by is_batch (p ∷ []) → (told ≡ number) × (is_batch p ≡ true) → WroteBeforeBatch offered told map parts before after
         run_fault (Batch ops) at counted fault = record {
-          front = take i parts;
+          prefix = take i parts;
           ops = ops;
           rest = drop (i + 1) parts;
           its_number = omega (arith, counted, fault.0, so_far.counted);
           wrote = record { in_order = in_order (Batch ops) at; written = rw leaves so_far.written };
         }
         run_fault other at counted fault = absurd (cc fault.1)
-    leaves_front (serve.Step error) here counted fault leaves = absurd leaves
-    leaves_front serve.Output here counted fault leaves =
+    prefix_output_after_error (serve.Step error) here counted fault leaves = absurd leaves
+    prefix_output_after_error serve.Output here counted fault leaves =
         rw (text_in_order here)
         (breaks_after offered settled before between after (script_text map (take i parts)) _ so_far.written (breaks_before offered settled between after (part_text left part) (script_text (part_after left part) (drop (i + 1) parts)) leaves))
-    leaves_front serve.OutOfMemory here counted fault leaves = (take i parts, drop i parts, record { in_order = sym (take-append-drop i parts); written = rw leaves so_far.written })
+    prefix_output_after_error serve.OutOfMemory here counted fault leaves = (take i parts, drop i parts, record { in_order = sym (take-append-drop i parts); written = rw leaves so_far.written })
 
   module _ (settled : O → Bool → O → Type 0) (map : List Entry) (parts : List Part) (before between after : O) (wrong : settled between false after) where
     -- the lines of some first parts went out, and a flush goes wrong
-    front_unflushed : (front rest : List Part) → WroteBefore offered map parts front rest before between → BreaksOff offered settled before (script_text map parts) after
-    front_unflushed front rest wrote =
-        breaks_here offered settled before between after (script_text map parts) (script_text map front) (script_text (map_after_parts map front) rest)
-        (ap (λ (ps : List Part). script_text map ps) wrote.in_order ∙ text_of_both map front rest) wrote.written (is_not_flushed wrong)
+    prefix_unflushed : (prefix rest : List Part) → WroteBefore offered map parts prefix rest before between → WritesPrefix offered settled before (script_text map parts) after
+    prefix_unflushed prefix rest wrote =
+        breaks_here offered settled before between after (script_text map parts) (script_text map prefix) (script_text (map_after_parts map prefix) rest)
+        (ap (λ (ps : List Part). script_text map ps) wrote.in_order ∙ text_of_both map prefix rest) wrote.written (is_not_flushed wrong)
 
-    -- where the outlet hasn't failed before, a flush that goes wrong leaves a beginning of the text
-    pub unflushed : (outcome : Result (Unit {0}) ServeError) → OnOk outcome (Pours offered before (script_text map parts) between) → IfErr outcome (λ error. LeavesFront offered settled map parts error before between)
-        → (outcome ≡ Err serve.Output → ⊥) → BreaksOff offered settled before (script_text map parts) after
+    -- where the writer hasn't failed before, a flush that goes wrong leaves a beginning of the text
+    pub unflushed : (outcome : Result (Unit {0}) ServeError) → OnOk outcome (WritesAll offered before (script_text map parts) between) → IfErr outcome (λ error. PrefixOutputAfterError offered settled map parts error before between)
+        → (outcome ≡ Err serve.Output → ⊥) → WritesPrefix offered settled before (script_text map parts) after
     unflushed (Ok done) poured left not_output = breaks_unflushed offered settled before between after (script_text map parts) poured wrong
     unflushed (Err (serve.Script error)) poured left not_output = absurd left
-    unflushed (Err (serve.Run number error)) poured left not_output = front_unflushed left.front (Batch left.ops ∷ left.rest) left.wrote
+    unflushed (Err (serve.Run number error)) poured left not_output = prefix_unflushed left.prefix (Batch left.ops ∷ left.rest) left.wrote
     unflushed (Err (serve.Step error)) poured left not_output = absurd left
     unflushed (Err serve.Output) poured left not_output = absurd (not_output refl)
-    unflushed (Err serve.OutOfMemory) poured left not_output = front_unflushed left.0 left.1 left.2
+    unflushed (Err serve.OutOfMemory) poured left not_output = prefix_unflushed left.0 left.1 left.2

@@ -27,7 +27,7 @@ module _ (settings : PlainSettings) (before between : PlainStore) (parts : List 
   stops_here : (p : Part) → get_or parts i part ≡ p → (told : ℕ) (fault : RunError) → number ≡ batches + count_by is_batch (p ∷ []) → told ≡ number → RefusesPart settings between p (serve.Run told fault)
       → StopsAt settings before parts told fault
   stops_here (Batch ops) at told fault number_is same refuses = record {
-    front = take i parts;
+    prefix = take i parts;
     ops = ops;
     rest = drop (i + 1) parts;
     in_order = in_order (Batch ops) at;

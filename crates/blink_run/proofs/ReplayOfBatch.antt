@@ -7,7 +7,7 @@ use Rattle.blink_batch.specs.Cut.{Assignment, IsLawfulCut}
 use Rattle.blink_rest.specs.Rest.{IsStoreAtRest}
 use Rattle.blink_store.specs.Store.{PlainStore}
 use Rattle.blink_steps.specs.Promises.{IsPromised}
-use Rattle.blink_steps.specs.Run.{Taken}
+use Rattle.blink_steps.specs.Run.{Event}
 use Rattle.blink_steps.specs.World.{PlainWorld, HasEnded, IsStart, IsWorldOf}
 use Rattle.blink_run.specs.Replay.{IsRunToEnd, RunsBatch, by_residue}
 use Rattle.blink_settings.specs.Settings.{lanes_by_residue}
@@ -16,8 +16,8 @@ use Rattle.blink_locked.proofs.Offered.{all_some, no_turn_yet}
 use Rattle.blink_locked.proofs.Offered.{IsDone}
 
 -- each operation of a run at its end has its answer
-pub all_answered : (start : PlainStore) (world : PlainWorld) → IsWorldOf start world → IsPromised world → HasEnded world.run → length world.run.ledger.answers ≡ length world.run.ops
-    → All (λ (answer : Option Answer). IsSome answer) world.run.ledger.answers
+pub all_answered : (start : PlainStore) (world : PlainWorld) → IsWorldOf start world → IsPromised world → HasEnded world.run → length world.run.outcome.answers ≡ length world.run.ops
+    → All (λ (answer : Option Answer). IsSome answer) world.run.outcome.answers
 all_answered start world is_world promised ended one_each = all_some world.run one_each ((promised start is_world).ended ended).all_answered
 
 module _ (workers : ℕ) (schedule : List ℕ) (before : PlainStore) (ops : List Op) (first finished : PlainWorld) (trace : List ℕ) (given : List Answer)
@@ -53,7 +53,7 @@ module _ (workers : ℕ) (schedule : List ℕ) (before : PlainStore) (ops : List
   runs_batch after same_tree =
       let empty = no_turn_yet before first begins.is_world begins.same_schedule in
       let told = to_end.traced.goes_on before begins.is_world in
-      let whole : told.now.history ≡ told.turns = told.more ∙ ap (λ (xs : List Taken). told.turns ++ xs) empty ∙ append-nil told.turns in
+      let whole : told.now.history ≡ told.turns = told.more ∙ ap (λ (xs : List Event). told.turns ++ xs) empty ∙ append-nil told.turns in
       record {
         world = to_end.replayed;
         replay = record {

@@ -32,38 +32,38 @@ none_taken_before left schedule more = by_test (left == 0) refl
 
 module _ (workers : ℕ) where
   -- one part more is run without a schedule
-  run_more : (before between after : PlainStore) (front : List Part) (part : Part) (old new trace : List ℕ) → RunsParts workers [] before front between trace → TellsPart workers [] between part old new after
-      → HaveRunParts workers before (front ++ part ∷ []) after
+  run_more : (before between after : PlainStore) (prefix : List Part) (part : Part) (old new trace : List ℕ) → RunsParts workers [] before prefix between trace → TellsPart workers [] between part old new after
+      → HaveRunParts workers before (prefix ++ part ∷ []) after
   run_more before between after [] (Batch ops) old new trace runs tells =
       (tells.0 ++ [], (after, tells.0, [], subst (λ (store : PlainStore). RunsBatch workers [] store ops after tells.0) runs.0 tells.1, (refl, refl), refl))
   run_more before between after [] (Scan lo hi) old new trace runs tells = ([], (tells.0 ∙ runs.0, refl))
   run_more before between after [] (Page lo n) old new trace runs tells = ([], (tells.0 ∙ runs.0, refl))
-  run_more before between after (Batch ops ∷ front) part old new trace runs tells =
-      let more = run_more runs.0 between after front part old new runs.2 runs.4 tells in
-      let first : RunsBatch workers (taken_where (count_by is_batch (front ++ part ∷ [])) []) before ops runs.0 runs.1 =
-      subst (λ (schedule : List ℕ). RunsBatch workers schedule before ops runs.0 runs.1) (none_taken (count_by is_batch front) ∙ sym (none_taken (count_by is_batch (front ++ part ∷ [])))) runs.3 in
+  run_more before between after (Batch ops ∷ prefix) part old new trace runs tells =
+      let more = run_more runs.0 between after prefix part old new runs.2 runs.4 tells in
+      let first : RunsBatch workers (taken_where (count_by is_batch (prefix ++ part ∷ [])) []) before ops runs.0 runs.1 =
+      subst (λ (schedule : List ℕ). RunsBatch workers schedule before ops runs.0 runs.1) (none_taken (count_by is_batch prefix) ∙ sym (none_taken (count_by is_batch (prefix ++ part ∷ [])))) runs.3 in
       (runs.1 ++ more.0, (runs.0, runs.1, more.0, first, more.1, refl))
-  run_more before between after (Scan lo hi ∷ front) part old new trace runs tells = run_more before between after front part old new trace runs tells
-  run_more before between after (Page lo n ∷ front) part old new trace runs tells = run_more before between after front part old new trace runs tells
+  run_more before between after (Scan lo hi ∷ prefix) part old new trace runs tells = run_more before between after prefix part old new trace runs tells
+  run_more before between after (Page lo n ∷ prefix) part old new trace runs tells = run_more before between after prefix part old new trace runs tells
 
   -- the parts are some that were run and others; they were run without a schedule, if a batch is among the others
   pub record HasRunBefore (start : PlainStore) (parts others : List Part) (tree : PlainStore) : Type 0 where
-    pub front : List Part
-    pub in_order : parts ≡ front ++ others
-    pub ran : 1 ≤ count_by is_batch others → HaveRunParts workers start front tree
+    pub prefix : List Part
+    pub in_order : parts ≡ prefix ++ others
+    pub ran : 1 ≤ count_by is_batch others → HaveRunParts workers start prefix tree
 
   pub none_run : (start : PlainStore) (parts : List Part) → HasRunBefore start parts parts start
-  none_run start parts = record { front = []; in_order = refl; ran = λ more. ([], (refl, refl)) }
+  none_run start parts = record { prefix = []; in_order = refl; ran = λ more. ([], (refl, refl)) }
 
   module _ (start : PlainStore) (parts : List Part) (part : Part) (others : List Part) (tree : PlainStore) (so_far : HasRunBefore start parts (part ∷ others) tree) where
     pub one_run : (schedule old new : List ℕ) (next : PlainStore) → TellsPart workers (taken_where (count_by is_batch others) schedule) tree part old new next → HasRunBefore start parts others next
     one_run schedule old new next tells = record {
-      front = so_far.front ++ part ∷ [];
-      in_order = so_far.in_order ∙ sym (append_assoc so_far.front (part ∷ []) others);
+      prefix = so_far.prefix ++ part ∷ [];
+      in_order = so_far.in_order ∙ sym (append_assoc so_far.prefix (part ∷ []) others);
       ran = λ more.
           let both : count_by is_batch (part ∷ others) ≡ count_by is_batch (part ∷ []) + count_by is_batch others = sum_by-append (λ (p : Part). cond (is_batch p) 1 0) (part ∷ []) others in
           let ran = so_far.ran (omega arith) in
-          run_more start tree next so_far.front part old new ran.0 ran.1
+          run_more start tree next so_far.prefix part old new ran.0 ran.1
           (subst (λ (taken : List ℕ). TellsPart workers taken tree part old new next) (none_taken_before (count_by is_batch others) schedule more) tells);
     }
 
@@ -77,10 +77,10 @@ module _ (workers : ℕ) where
 
         by_part : (p : Part) → part ≡ p → IsPartRefusal tree p error → HaveTooLarge workers start parts
         by_part (Batch ops) is (inl told) = record {
-          front = so_far.front;
+          prefix = so_far.prefix;
           ops = ops;
           rest = others;
-          in_order = so_far.in_order ∙ ap (λ (p : Part). so_far.front ++ p ∷ others) is;
+          in_order = so_far.in_order ∙ ap (λ (p : Part). so_far.prefix ++ p ∷ others) is;
           between = tree;
           ran =
               let both : count_by is_batch (Batch ops ∷ others) ≡ count_by is_batch (Batch ops ∷ []) + count_by is_batch others = sum_by-append (λ (p : Part). cond (is_batch p) 1 0) (Batch ops ∷ []) others in

@@ -7,7 +7,7 @@ use Rattle.blink_store.specs.Store.{PlainStore}
 use Rattle.blink_machine.specs.declared.Step.{Step}
 use Rattle.blink_steps.specs.declared.StepError.{StepError}
 use Rattle.blink_steps.specs.declared.StepError.TheVariants as step
-use Rattle.blink_steps.specs.Run.{Taken}
+use Rattle.blink_steps.specs.Run.{Event}
 use Rattle.blink_steps.specs.World.{PlainWorld, GoesOnBy, IsStepRefusal, IsWorldOf, SameBatch, TakesStep}
 use Rattle.blink_run.specs.Replay.{HasTurnsMore, IsTraced}
 use Rattle.blink_run.specs.Trace.{trace_of, turn_line}
@@ -21,10 +21,10 @@ no_turn world = record {
 }
 
 -- one turn more is one line more
-trace_of-cons : (taken : Taken) (turns : List Taken) → trace_of (taken ∷ turns) ≡ trace_of turns ++ turn_line taken.worker taken.step
+trace_of-cons : (taken : Event) (turns : List Event) → trace_of (taken ∷ turns) ≡ trace_of turns ++ turn_line taken.worker taken.step
 trace_of-cons taken turns =
-    let line : Taken → List ℕ = λ t. turn_line t.worker t.step in
-    ap (λ (ts : List Taken). flat_map line ts) (reverse-append (taken ∷ []) turns)
+    let line : Event → List ℕ = λ t. turn_line t.worker t.step in
+    ap (λ (ts : List Event). flat_map line ts) (reverse-append (taken ∷ []) turns)
     ∙ flat_map-append line (reverse turns) (taken ∷ [])
     ∙ ap (λ (line : List ℕ). trace_of turns ++ line) (append-nil (turn_line taken.worker taken.step))
 
@@ -43,7 +43,7 @@ module _ (old world new : PlainWorld) (schedule : List ℕ) (trace : List ℕ) (
           record {
             turns = more.taken ∷ before.turns;
             now = more.now;
-            more = more.one_more ∙ ap (λ (history : List Taken). more.taken ∷ history) before.more;
+            more = more.one_more ∙ ap (λ (history : List Event). more.taken ∷ history) before.more;
             traced = rw before.traced (rw (← line) (sym (trace_of-cons more.taken before.turns)));
           }
 

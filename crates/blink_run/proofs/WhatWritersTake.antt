@@ -4,11 +4,11 @@ use Rattle.std.specs.Io.KnownBytes.{Appends, Keeps}
 use Rattle.blink_batch.specs.declared.Part.{Part}
 use Rattle.blink_batch.specs.declared.Part.TheVariants.{Batch}
 use Rattle.blink_batch.specs.Script.{ReadsAs, records_of}
-use Rattle.blink_run.specs.Outlet.{BreaksOff, GoesOut, KeepsFlushed, TakesOffered}
-use Rattle.blink_run.specs.Served.{IsAScript, IsFrontOf, IsTextOf, IsTextBefore, LeavesFlushed, LeavesLines, Serves, TellsFault, WritesText, WroteBefore, script_text}
+use Rattle.blink_run.specs.TrackedWriter.{WritesPrefix, Writes, KeepsFlushed, TakesOffered}
+use Rattle.blink_run.specs.Served.{IsAScript, IsPrefixOf, IsTextOf, IsTextBefore, FlushedOutputAfterError, OutputAfterError, Serves, TellsFault, WritesText, WroteBefore, script_text}
 use Rattle.blink_settings.specs.declared.error.ServeError.{ServeError}
 use Rattle.blink_settings.specs.declared.error.ServeError.TheVariants as serve
-use Rattle.blink_run.proofs.OutletsTake.{appends_kept, takes_front, takes_poured, takes_whole}
+use Rattle.blink_run.proofs.WritersTake.{appends_kept, takes_prefix, takes_poured, takes_whole}
 
 -- known bytes that grow by a text
 known_after : (before after : Option (List ℕ)) (written text : List ℕ) → before ≡ Some written → Appends before after text → after ≡ Some (written ++ text)
@@ -30,53 +30,53 @@ is_a_script to_read parts reads = λ read known. (parts, reads read known)
 module _ {W : Type 0} (contents : W → Option (List ℕ)) (to_read : Option (List ℕ)) (before after : W) where
   -- the whole of such a text
   pub writes_whole : (is_text : List (List (List ℕ)) → List ℕ → Type 0) (text : List ℕ) → ((read : List ℕ) → to_read ≡ Some read → is_text (records_of read) text)
-      → GoesOut (TakesOffered contents) (KeepsFlushed contents) before text after → WritesText is_text to_read (contents before) (contents after)
+      → Writes (TakesOffered contents) (KeepsFlushed contents) before text after → WritesText is_text to_read (contents before) (contents after)
   writes_whole is_text text is out = writes_text is_text to_read (contents before) (contents after) text is (takes_whole contents before after text out)
 
   -- and a beginning of it, where it breaks off
-  pub writes_front : (is_text : List (List (List ℕ)) → List ℕ → Type 0) (text : List ℕ) → ((read : List ℕ) → to_read ≡ Some read → is_text (records_of read) text)
-      → BreaksOff (TakesOffered contents) (KeepsFlushed contents) before text after → WritesText (IsFrontOf is_text) to_read (contents before) (contents after)
-  writes_front is_text text is broken =
-      let front = takes_front contents before after text broken in
-      writes_text (IsFrontOf is_text) to_read (contents before) (contents after) front.0 (λ read known. (front.1, rw front.2 at (is read known))) front.3
+  pub writes_prefix : (is_text : List (List (List ℕ)) → List ℕ → Type 0) (text : List ℕ) → ((read : List ℕ) → to_read ≡ Some read → is_text (records_of read) text)
+      → WritesPrefix (TakesOffered contents) (KeepsFlushed contents) before text after → WritesText (IsPrefixOf is_text) to_read (contents before) (contents after)
+  writes_prefix is_text text is broken =
+      let prefix = takes_prefix contents before after text broken in
+      writes_text (IsPrefixOf is_text) to_read (contents before) (contents after) prefix.0 (λ read known. (prefix.1, rw prefix.2 at (is read known))) prefix.3
 
   module _ (parts : List Part) (reads : ReadsAs to_read (Ok parts)) where
     -- the text of a script that is read
     is_its_text : (read : List ℕ) → to_read ≡ Some read → IsTextOf (records_of read) (script_text [] parts)
     is_its_text read known = record { parts = parts; a_script = reads read known; its_text = refl }
 
-    pub serves_script : GoesOut (TakesOffered contents) (KeepsFlushed contents) before (script_text [] parts) after → Serves to_read (contents before) (contents after)
+    pub serves_script : Writes (TakesOffered contents) (KeepsFlushed contents) before (script_text [] parts) after → Serves to_read (contents before) (contents after)
     serves_script out = writes_whole IsTextOf (script_text [] parts) is_its_text out
 
     -- what was written before others of its parts, and flushed
-    wrote_front : (between : W) (front rest : List Part) → WroteBefore (TakesOffered contents) [] parts front rest before between → Keeps (contents between) (contents after)
-        → Appends (contents before) (contents after) (script_text [] front)
-    wrote_front between front rest wrote stays = appends_kept (contents before) (contents between) (contents after) (script_text [] front) (takes_poured contents before between (script_text [] front) wrote.written) stays
+    wrote_prefix : (between : W) (prefix rest : List Part) → WroteBefore (TakesOffered contents) [] parts prefix rest before between → Keeps (contents between) (contents after)
+        → Appends (contents before) (contents after) (script_text [] prefix)
+    wrote_prefix between prefix rest wrote stays = appends_kept (contents before) (contents between) (contents after) (script_text [] prefix) (takes_poured contents before between (script_text [] prefix) wrote.written) stays
 
-    is_before : (front rest : List Part) → parts ≡ front ++ rest → (read : List ℕ) → to_read ≡ Some read → IsTextBefore (records_of read) front rest (script_text [] front)
-    is_before front rest in_order read known = record { a_script = reads read known ∙ ap Ok in_order; its_text = refl }
+    is_before : (prefix rest : List Part) → parts ≡ prefix ++ rest → (read : List ℕ) → to_read ≡ Some read → IsTextBefore (records_of read) prefix rest (script_text [] prefix)
+    is_before prefix rest in_order read known = record { a_script = reads read known ∙ ap Ok in_order; its_text = refl }
 
     -- a refusal leaves the lines of the parts before
-    pub lines_left : (error : ServeError) → LeavesFlushed (TakesOffered contents) (KeepsFlushed contents) [] parts error before after
-        → LeavesLines to_read error (contents before) (contents after)
+    pub lines_left : (error : ServeError) → FlushedOutputAfterError (TakesOffered contents) (KeepsFlushed contents) [] parts error before after
+        → OutputAfterError to_read error (contents before) (contents after)
     lines_left (serve.Script error) left = absurd left.1
     lines_left (serve.Run number error) left = λ read written known known_before.
         let lines = left.1 in (
-          script_text [] lines.front,
-          record { front = lines.front; ops = lines.ops; rest = lines.rest; its_number = lines.its_number; before = is_before lines.front (Batch lines.ops ∷ lines.rest) lines.wrote.in_order read known },
-          known_after (contents before) (contents after) written (script_text [] lines.front) known_before (wrote_front left.0 lines.front (Batch lines.ops ∷ lines.rest) lines.wrote left.2),
+          script_text [] lines.prefix,
+          record { prefix = lines.prefix; ops = lines.ops; rest = lines.rest; its_number = lines.its_number; before = is_before lines.prefix (Batch lines.ops ∷ lines.rest) lines.wrote.in_order read known },
+          known_after (contents before) (contents after) written (script_text [] lines.prefix) known_before (wrote_prefix left.0 lines.prefix (Batch lines.ops ∷ lines.rest) lines.wrote left.2),
         )
     lines_left (serve.Step error) left = absurd left.1
-    lines_left serve.Output left = writes_front IsTextOf (script_text [] parts) is_its_text left
+    lines_left serve.Output left = writes_prefix IsTextOf (script_text [] parts) is_its_text left
     lines_left serve.OutOfMemory left = λ read written known known_before.
         let lines = left.1 in (
           script_text [] lines.0,
           (lines.0, lines.1, is_before lines.0 lines.1 lines.2.in_order read known),
-          known_after (contents before) (contents after) written (script_text [] lines.0) known_before (wrote_front left.0 lines.0 lines.1 lines.2 left.2),
+          known_after (contents before) (contents after) written (script_text [] lines.0) known_before (wrote_prefix left.0 lines.0 lines.1 lines.2 left.2),
         )
 
     -- and none of it is of the script itself
-    pub fault_told : (error : ServeError) → LeavesFlushed (TakesOffered contents) (KeepsFlushed contents) [] parts error before after → TellsFault to_read error
+    pub fault_told : (error : ServeError) → FlushedOutputAfterError (TakesOffered contents) (KeepsFlushed contents) [] parts error before after → TellsFault to_read error
     fault_told (serve.Script error) left = absurd left.1
     fault_told (serve.Run number error) left = is_a_script to_read parts reads
     fault_told (serve.Step error) left = absurd left.1
@@ -84,6 +84,6 @@ module _ {W : Type 0} (contents : W → Option (List ℕ)) (to_read : Option (Li
     fault_told serve.OutOfMemory left = is_a_script to_read parts reads
 
   -- where nothing was written yet, no part's lines were
-  pub none_written : (parts : List Part) → ReadsAs to_read (Ok parts) → after ≡ before → LeavesLines to_read serve.OutOfMemory (contents before) (contents after)
+  pub none_written : (parts : List Part) → ReadsAs to_read (Ok parts) → after ≡ before → OutputAfterError to_read serve.OutOfMemory (contents before) (contents after)
   none_written parts reads same = λ read written known known_before.
       ([], ([], parts, record { a_script = reads read known; its_text = refl }), rw (same, append-nil written) known_before)

@@ -49,13 +49,13 @@ RefusesPart settings before part error = ⊤
 
 -- the batch of this number, counted from 1, is refused so, after others that were run as the settings say
 pub record StopsAt (settings : PlainSettings) (before : PlainStore) (parts : List Part) (number : ℕ) (error : RunError) : Type 0 where
-  pub front : List Part
+  pub prefix : List Part
   pub ops : List Op
   pub rest : List Part
-  pub in_order : parts ≡ front ++ Batch ops ∷ rest
-  pub its_number : number ≡ count_by is_batch front + 1
+  pub in_order : parts ≡ prefix ++ Batch ops ∷ rest
+  pub its_number : number ≡ count_by is_batch prefix + 1
   pub between : PlainStore
-  pub ran : RunsPartsBy settings before front between
+  pub ran : RunsPartsBy settings before prefix between
   pub refused : MayRefuse settings.driver settings.workers between ops error
 
 -- so it is with each refusal of a run

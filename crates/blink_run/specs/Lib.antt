@@ -3,7 +3,7 @@ pub use Rattle.blink_locked.specs.Run
 pub use Rattle.blink_locked.specs.Starts
 pub use Rattle.blink_settings.specs.Settings
 pub use Rattle.blink_settings.specs.Codes
-pub mod Outlet
+pub mod TrackedWriter
 pub mod Text
 pub mod Trace
 pub mod Replay

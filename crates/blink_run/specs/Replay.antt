@@ -7,7 +7,7 @@ use Rattle.blink_batch.specs.Cut.{Assignment}
 use Rattle.blink_store.specs.Store.{PlainStore}
 use Rattle.blink_steps.specs.Pick.{GoesOnPicked}
 use Rattle.blink_steps.specs.Promises.{IsPromised}
-use Rattle.blink_steps.specs.Run.{Taken}
+use Rattle.blink_steps.specs.Run.{Event}
 use Rattle.blink_steps.specs.World.{PlainWorld, IsReplay, IsWorldOf, HasEnded, IsTooLarge, KeepsItsStart, SameBatch}
 use Rattle.blink_steps.specs.declared.StepError.TheVariants as step
 use Rattle.blink_settings.specs.declared.error.ServeError.{ServeError}
@@ -32,7 +32,7 @@ pub record RunsBatch (workers : ℕ) (schedule : List ℕ) (before : PlainStore)
 
 -- the world has these turns more, over the tree that it began
 pub record HasTurnsMore (start : PlainStore) (old : PlainWorld) (is_world : IsWorldOf start old) (new : PlainWorld) (trace : List ℕ) : Type 0 where
-  pub turns : List Taken
+  pub turns : List Event
   pub now : IsWorldOf start new
   pub more : now.history ≡ turns ++ is_world.history
   pub traced : trace ≡ trace_of turns
@@ -56,7 +56,7 @@ pub record IsRunToEnd (old : PlainWorld) (schedule : List ℕ) (new : PlainWorld
   pub same_batch : SameBatch replayed.run new.run
   pub promised : IsPromised new
   pub ended : HasEnded new.run
-  pub all_given : new.run.ledger.answers ≡ map Some given
+  pub all_given : new.run.outcome.answers ≡ map Some given
 
 -- the trace is told behind what was told before, and so is the text of the answers
 abbrev pub TellsRun : PlainWorld → List ℕ → PlainWorld → List ℕ → List ℕ → List ℕ → List ℕ → Type 0

@@ -9,7 +9,7 @@ use Rattle.blink_batch.specs.Operation.{answers, map_after_all}
 use Rattle.blink_batch.specs.Script.{IsReadable, TellsRefusal, records_of, script_of}
 use Rattle.blink_batch.specs.Text.{text_of}
 use Rattle.blink_index.specs.Scan.{is_from, is_within}
-use Rattle.blink_run.specs.Outlet.{BreaksOff, Pours}
+use Rattle.blink_run.specs.TrackedWriter.{WritesPrefix, WritesAll}
 use Rattle.blink_run.specs.Text.{scan_text}
 use Rattle.blink_settings.specs.declared.error.RunError.{RunError}
 use Rattle.blink_settings.specs.declared.error.ServeError.{ServeError}
@@ -61,25 +61,25 @@ is_batch (Batch ops) = true
 is_batch part = false
 
 -- the text of a script's first parts, where some come after them
-pub record IsTextBefore (records : List (List (List ℕ))) (front rest : List Part) (text : List ℕ) : Type 0 where
-  pub a_script : script_of records ≡ Ok (front ++ rest)
-  pub its_text : text ≡ script_text [] front
+pub record IsTextBefore (records : List (List (List ℕ))) (prefix rest : List Part) (text : List ℕ) : Type 0 where
+  pub a_script : script_of records ≡ Ok (prefix ++ rest)
+  pub its_text : text ≡ script_text [] prefix
 
 -- the text of the parts before a batch of this number, counted from 1
 pub record IsTextBeforeBatch (number : ℕ) (records : List (List (List ℕ))) (text : List ℕ) : Type 0 where
-  pub front : List Part
+  pub prefix : List Part
   pub ops : List Op
   pub rest : List Part
-  pub its_number : number ≡ count_by is_batch front + 1
-  pub before : IsTextBefore records front (Batch ops ∷ rest) text
+  pub its_number : number ≡ count_by is_batch prefix + 1
+  pub before : IsTextBefore records prefix (Batch ops ∷ rest) text
 
 -- the text of some first parts
-abbrev pub IsTextOfFront : List (List (List ℕ)) → List ℕ → Type 0
-IsTextOfFront records text = (front : List Part) × (rest : List Part) × IsTextBefore records front rest text
+abbrev pub IsTextOfPrefix : List (List (List ℕ)) → List ℕ → Type 0
+IsTextOfPrefix records text = (prefix : List Part) × (rest : List Part) × IsTextBefore records prefix rest text
 
 -- a beginning of a text, of which the rest may be empty
-abbrev pub IsFrontOf : (List (List (List ℕ)) → List ℕ → Type 0) → List (List (List ℕ)) → List ℕ → Type 0
-IsFrontOf is_text records text = (rest : List ℕ) × is_text records (text ++ rest)
+abbrev pub IsPrefixOf : (List (List (List ℕ)) → List ℕ → Type 0) → List (List (List ℕ)) → List ℕ → Type 0
+IsPrefixOf is_text records text = (rest : List ℕ) × is_text records (text ++ rest)
 
 -- what is to be read is a script
 abbrev pub IsAScript : Option (List ℕ) → Type 0
@@ -93,12 +93,12 @@ TellsFault to_read error = IsAScript to_read
 
 -- after a refusal of the script nothing was written, and after one of a run or of memory exactly the lines of the parts before;
 -- where the writer failed a beginning of the text of all parts was
-abbrev pub LeavesLines : Option (List ℕ) → ServeError → Option (List ℕ) → Option (List ℕ) → Type 0
-LeavesLines to_read (serve.Script error) before after = Keeps before after
-LeavesLines to_read (serve.Run number error) before after = WritesText (IsTextBeforeBatch number) to_read before after
-LeavesLines to_read (serve.Step error) before after = ⊥
-LeavesLines to_read serve.Output before after = WritesText (IsFrontOf IsTextOf) to_read before after
-LeavesLines to_read serve.OutOfMemory before after = WritesText IsTextOfFront to_read before after
+abbrev pub OutputAfterError : Option (List ℕ) → ServeError → Option (List ℕ) → Option (List ℕ) → Type 0
+OutputAfterError to_read (serve.Script error) before after = Keeps before after
+OutputAfterError to_read (serve.Run number error) before after = WritesText (IsTextBeforeBatch number) to_read before after
+OutputAfterError to_read (serve.Step error) before after = ⊥
+OutputAfterError to_read serve.Output before after = WritesText (IsPrefixOf IsTextOf) to_read before after
+OutputAfterError to_read serve.OutOfMemory before after = WritesText IsTextOfPrefix to_read before after
 
 -- ---- parts one after another, on the way
 
@@ -114,37 +114,37 @@ IsPartFault part number serve.OutOfMemory = ⊤
 abbrev pub IsBatchFault : ℕ → ServeError → Type 0
 IsBatchFault number error = ((fault : RunError) × (error ≡ serve.Run number fault)) ⊎ (error ≡ serve.OutOfMemory)
 
--- after such a refusal of a part nothing of its text was written, and where the outlet failed that was the last call
-abbrev pub LeavesPart : {O : Type 0} → (O → List ℕ → Option ℕ → O → Type 0) → (O → Bool → O → Type 0) → List ℕ → ServeError → O → O → Type 0
-LeavesPart offered settled text (serve.Script error) before after = ⊥
-LeavesPart offered settled text (serve.Run number error) before after = after ≡ before
-LeavesPart offered settled text (serve.Step error) before after = ⊥
-LeavesPart offered settled text serve.Output before after = BreaksOff offered settled before text after
-LeavesPart offered settled text serve.OutOfMemory before after = after ≡ before
+-- after such a refusal of a part nothing of its text was written, and where the writer failed that was the last call
+abbrev pub PartOutputAfterError : {O : Type 0} → (O → List ℕ → Option ℕ → O → Type 0) → (O → Bool → O → Type 0) → List ℕ → ServeError → O → O → Type 0
+PartOutputAfterError offered settled text (serve.Script error) before after = ⊥
+PartOutputAfterError offered settled text (serve.Run number error) before after = after ≡ before
+PartOutputAfterError offered settled text (serve.Step error) before after = ⊥
+PartOutputAfterError offered settled text serve.Output before after = WritesPrefix offered settled before text after
+PartOutputAfterError offered settled text serve.OutOfMemory before after = after ≡ before
 
 -- the lines of the parts before others went out
-pub record WroteBefore {O : Type 0} (offered : O → List ℕ → Option ℕ → O → Type 0) (map : List Entry) (parts front rest : List Part) (before after : O) : Type 0 where
-  pub in_order : parts ≡ front ++ rest
-  pub written : Pours offered before (script_text map front) after
+pub record WroteBefore {O : Type 0} (offered : O → List ℕ → Option ℕ → O → Type 0) (map : List Entry) (parts prefix rest : List Part) (before after : O) : Type 0 where
+  pub in_order : parts ≡ prefix ++ rest
+  pub written : WritesAll offered before (script_text map prefix) after
 
 -- the lines of the parts before a batch of this number
 pub record WroteBeforeBatch {O : Type 0} (offered : O → List ℕ → Option ℕ → O → Type 0) (number : ℕ) (map : List Entry) (parts : List Part) (before after : O) : Type 0 where
-  pub front : List Part
+  pub prefix : List Part
   pub ops : List Op
   pub rest : List Part
-  pub its_number : number ≡ count_by is_batch front + 1
-  pub wrote : WroteBefore offered map parts front (Batch ops ∷ rest) before after
+  pub its_number : number ≡ count_by is_batch prefix + 1
+  pub wrote : WroteBefore offered map parts prefix (Batch ops ∷ rest) before after
 
 -- where some of the parts aren't served
-abbrev pub LeavesFront : {O : Type 0} → (O → List ℕ → Option ℕ → O → Type 0) → (O → Bool → O → Type 0) → List Entry → List Part → ServeError → O → O → Type 0
-LeavesFront offered settled map parts (serve.Script error) before after = ⊥
-LeavesFront offered settled map parts (serve.Run number error) before after = WroteBeforeBatch offered number map parts before after
-LeavesFront offered settled map parts (serve.Step error) before after = ⊥
-LeavesFront offered settled map parts serve.Output before after = BreaksOff offered settled before (script_text map parts) after
-LeavesFront offered settled map parts serve.OutOfMemory before after =
-    (front : List Part) × (rest : List Part) × WroteBefore offered map parts front rest before after
+abbrev pub PrefixOutputAfterError : {O : Type 0} → (O → List ℕ → Option ℕ → O → Type 0) → (O → Bool → O → Type 0) → List Entry → List Part → ServeError → O → O → Type 0
+PrefixOutputAfterError offered settled map parts (serve.Script error) before after = ⊥
+PrefixOutputAfterError offered settled map parts (serve.Run number error) before after = WroteBeforeBatch offered number map parts before after
+PrefixOutputAfterError offered settled map parts (serve.Step error) before after = ⊥
+PrefixOutputAfterError offered settled map parts serve.Output before after = WritesPrefix offered settled before (script_text map parts) after
+PrefixOutputAfterError offered settled map parts serve.OutOfMemory before after =
+    (prefix : List Part) × (rest : List Part) × WroteBefore offered map parts prefix rest before after
 
--- and what was written is flushed, unless the outlet failed
-abbrev pub LeavesFlushed : {O : Type 0} → (O → List ℕ → Option ℕ → O → Type 0) → (O → Bool → O → Type 0) → List Entry → List Part → ServeError → O → O → Type 0
-LeavesFlushed offered settled map parts serve.Output before after = BreaksOff offered settled before (script_text map parts) after
-LeavesFlushed {O} offered settled map parts error before after = (between : O) × LeavesFront offered settled map parts error before between × settled between true after
+-- and what was written is flushed, unless the writer failed
+abbrev pub FlushedOutputAfterError : {O : Type 0} → (O → List ℕ → Option ℕ → O → Type 0) → (O → Bool → O → Type 0) → List Entry → List Part → ServeError → O → O → Type 0
+FlushedOutputAfterError offered settled map parts serve.Output before after = WritesPrefix offered settled before (script_text map parts) after
+FlushedOutputAfterError {O} offered settled map parts error before after = (between : O) × PrefixOutputAfterError offered settled map parts error before between × settled between true after

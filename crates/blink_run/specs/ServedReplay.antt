@@ -10,7 +10,7 @@ use Rattle.blink_store.specs.Store.{PlainStore, new_store}
 use Rattle.blink_steps.specs.declared.StepError.TheVariants as step
 use Rattle.blink_steps.specs.World.{IsFirstNoWorker, IsTooLarge}
 use Rattle.blink_run.specs.Replay.{IsRefusedMemory, IsReplayFault, RunsBatch, TellsBatch}
-use Rattle.blink_run.specs.Served.{IsAScript, IsFrontOf, WritesText, is_batch, script_text}
+use Rattle.blink_run.specs.Served.{IsAScript, IsPrefixOf, WritesText, is_batch, script_text}
 use Rattle.blink_settings.specs.declared.error.ServeError.{ServeError}
 use Rattle.blink_settings.specs.declared.error.ServeError.TheVariants as serve
 
@@ -64,17 +64,17 @@ abbrev pub LeavesReplay : ℕ → ℕ → List ℕ → Option (List ℕ) → Ser
 LeavesReplay workers fan schedule to_read (serve.Script error) before after = Keeps before after
 LeavesReplay workers fan schedule to_read (serve.Run number error) before after = Keeps before after
 LeavesReplay workers fan schedule to_read (serve.Step error) before after = Keeps before after
-LeavesReplay workers fan schedule to_read serve.Output before after = WritesText (IsFrontOf (IsReplayText workers fan schedule)) to_read before after
+LeavesReplay workers fan schedule to_read serve.Output before after = WritesText (IsPrefixOf (IsReplayText workers fan schedule)) to_read before after
 LeavesReplay workers fan schedule to_read serve.OutOfMemory before after = Keeps before after
 
 -- one of the parts is a batch that is too large for the tree that the parts before it leave
 pub record HaveTooLarge (workers : ℕ) (before : PlainStore) (parts : List Part) : Type 0 where
-  pub front : List Part
+  pub prefix : List Part
   pub ops : List Op
   pub rest : List Part
-  pub in_order : parts ≡ front ++ Batch ops ∷ rest
+  pub in_order : parts ≡ prefix ++ Batch ops ∷ rest
   pub between : PlainStore
-  pub ran : HaveRunParts workers before front between
+  pub ran : HaveRunParts workers before prefix between
   pub too_large : IsTooLarge between ops
 
 -- what else a refusal tells of what was read: where a batch is told as too large, there is such a batch; and where the script isn't

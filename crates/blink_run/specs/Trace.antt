@@ -6,7 +6,7 @@ use Rattle.blink_machine.specs.declared.Kind.{Kind}
 use Rattle.blink_machine.specs.declared.Kind.TheVariants.{ReadPage, ReadPrime, Latch, Unlatch, WritePage, WritePrime}
 use Rattle.blink_machine.specs.declared.Step.{Step}
 use Rattle.blink_machine.specs.declared.Step.TheVariants.{Moved, Waited, Idle}
-use Rattle.blink_steps.specs.Run.{Taken}
+use Rattle.blink_steps.specs.Run.{Event}
 
 -- P and Q are a read and a write of the prime block; the others have their page's number
 abbrev pub words_of_kind : Kind → List ℕ
@@ -26,5 +26,5 @@ abbrev pub turn_line : ℕ → Step → List ℕ
 turn_line worker step = decimal worker ++ (codes " " ++ (words_of_step step ++ codes "\n"))
 
 -- the lines of turns, which are given the last first
-abbrev pub trace_of : List Taken → List ℕ
-trace_of turns = flat_map (λ (taken : Taken). turn_line taken.worker taken.step) (reverse turns)
+abbrev pub trace_of : List Event → List ℕ
+trace_of turns = flat_map (λ (taken : Event). turn_line taken.worker taken.step) (reverse turns)

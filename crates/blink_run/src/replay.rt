@@ -6,13 +6,13 @@ ghost use Rattle.blink_batch.specs.Text.{text_of};
 ghost use Rattle.blink_index.specs.Index.{map_of};
 ghost use Rattle.blink_steps.specs.World.{IsFirstNoWorker, IsStart};
 ghost use Rattle.blink_store.specs.Store.{new_store};
-ghost use Rattle.blink_run.specs.Outlet.{BreaksOff, GoesOut, Pours};
+ghost use Rattle.blink_run.specs.TrackedWriter.{WritesPrefix, Writes, WritesAll};
 ghost use Rattle.blink_run.specs.Replay.{IsRefusedMemory, IsReplayFault, TellsBatch, TellsRun, by_residue};
 ghost use Rattle.blink_run.specs.Served.{is_batch, part_after, part_text, script_text};
 ghost use Rattle.blink_settings.specs.Settings.{lanes_by_residue};
 ghost use Rattle.blink_run.specs.ServedReplay.{AreTexts, AreToWrite, HaveRunParts, IsPartRefusal, IsPartsFault, LeavesReplay, Replays, TellsPart, TellsParts, TellsReplayFault, TellsReplayOf, TellsTooLarge, TellsWorkersFault, taken_where};
 
-use crate::outlet::{Outlet, flush_out, write_out};
+use crate::tracked_writer::{TrackedWriter, flush_out, write_out};
 use crate::script::{batches_with, new_index};
 use crate::text::{push_answers, push_scan};
 use crate::trace::trace_steps;
@@ -134,21 +134,21 @@ fn replay_new(
 }
 
 /// Writes the three texts of a replay one after another, and flushes. The first call that fails, or takes nothing, is the last.
-pub fn write_replay<O: Outlet>(
-    outlet: &mut O,
+pub fn write_replay<O: TrackedWriter>(
+    tracked_writer: &mut O,
     trace: &str,
     text: &str,
     pages: &str,
 ) -> Result<(), ServeError>
     ensures written { OnOk result
-        (GoesOut O.offered O.settled outlet.old (trace.now ++ (text.now ++ pages.now)) outlet.new) }
-    ensures broken_off { IfErr result (λ error. (error ≡ ServeError.Output) × BreaksOff O.offered O.settled
-        outlet.old (trace.now ++ (text.now ++ pages.now)) outlet.new) }
+        (Writes O.offered O.settled tracked_writer.old (trace.now ++ (text.now ++ pages.now)) tracked_writer.new) }
+    ensures broken_off { IfErr result (λ error. (error ≡ ServeError.Output) × WritesPrefix O.offered O.settled
+        tracked_writer.old (trace.now ++ (text.now ++ pages.now)) tracked_writer.new) }
 {
-    write_out(outlet, trace)?;
-    write_out(outlet, text)?;
-    write_out(outlet, pages)?;
-    flush_out(outlet)
+    write_out(tracked_writer, trace)?;
+    write_out(tracked_writer, text)?;
+    write_out(tracked_writer, pages)?;
+    flush_out(tracked_writer)
 }
 
 /// The first number of a schedule that isn't below the workers.
@@ -300,7 +300,7 @@ fn replay_batch(
     Ok(Index::from_rest(world.into_rest()))
 }
 
-// The first moment of a batch's replay over an index.
+// The first tree state of a batch's replay over an index.
 fn first_world(alloc: Global, index: Index, batch: Batch, workers: u8) -> Result<World, ServeError>
     requires { MayWork workers }
     ensures begins { IfOk result (λ world. IsStart index batch (by_residue workers batch) world) }

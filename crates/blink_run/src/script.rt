@@ -6,11 +6,11 @@ ghost use Rattle.blink_batch.specs.declared.Part.TheVariants.{Batch as PartBatch
 ghost use Rattle.blink_index.specs.Index.{map_of};
 ghost use Rattle.blink_store.specs.Store.{new_store};
 ghost use Rattle.blink_run.specs.BySettings.{RefusesPart, RunsBatchBy, RunsPartBy, RunsPartsBy, ServesBy, TellsRun, TellsRunOf};
-ghost use Rattle.blink_run.specs.Outlet.{GoesOut, Pours};
+ghost use Rattle.blink_run.specs.TrackedWriter.{Writes, WritesAll};
 ghost use Rattle.blink_run.specs.Text.{scan_text};
-ghost use Rattle.blink_run.specs.Served.{IsBatchFault, IsPartFault, LeavesFlushed, LeavesFront, LeavesLines, LeavesPart, Serves, TellsFault, is_batch, part_after, part_text, script_text};
+ghost use Rattle.blink_run.specs.Served.{IsBatchFault, IsPartFault, FlushedOutputAfterError, PrefixOutputAfterError, OutputAfterError, PartOutputAfterError, Serves, TellsFault, is_batch, part_after, part_text, script_text};
 
-use crate::outlet::{Outlet, flush_out, write_out};
+use crate::tracked_writer::{TrackedWriter, flush_out, write_out};
 use crate::run::run_batch;
 use crate::text::{push_answers, push_scan};
 use blink_batch::{Answer, Batch, Part, read_script};
@@ -43,7 +43,7 @@ pub fn serve<T: Threads + Wait + Sync, R: Read, W: Write, G: Gate + Sync>(
     ensures fault { IfErr result (TellsFault (R.remaining reader.old)) }
     ensures not_run { IfErr result (TellsRunOf settings.now (R.remaining reader.old)) }
     ensures left { IfErr result (λ error.
-        LeavesLines (R.remaining reader.old) error (W.contents writer.old) (W.contents writer.new)) }
+        OutputAfterError (R.remaining reader.old) error (W.contents writer.old) (W.contents writer.new)) }
 {
     let script = read_script(alloc, reader)?;
     let mut index = new_index(alloc, settings)?;
@@ -61,52 +61,52 @@ pub fn new_index(alloc: Global, settings: &Settings) -> Result<Index, AllocError
     }
 }
 
-// Serves the parts of a script, and flushes unless the outlet failed.
-fn serve_script<T: Threads + Wait + Sync, O: Outlet, G: Gate + Sync>(
+// Serves the parts of a script, and flushes unless the writer failed.
+fn serve_script<T: Threads + Wait + Sync, O: TrackedWriter, G: Gate + Sync>(
     rt: &T,
     alloc: Global,
     parts: &[Part],
     index: &mut Index,
-    outlet: &mut O,
+    tracked_writer: &mut O,
     settings: &Settings,
     gate: &G,
 ) -> Result<(), ServeError>
     ensures served { OnOk result
-        (GoesOut O.offered O.settled outlet.old (script_text (map_of index.old) parts.now) outlet.new) }
+        (Writes O.offered O.settled tracked_writer.old (script_text (map_of index.old) parts.now) tracked_writer.new) }
     ensures by_settings { OnOk result (RunsPartsBy settings.now index.old parts.now index.new) }
     ensures not_run { IfErr result (TellsRun settings.now index.old parts.now) }
     ensures left { IfErr result (λ error.
-        LeavesFlushed O.offered O.settled (map_of index.old) parts.now error outlet.old outlet.new) }
+        FlushedOutputAfterError O.offered O.settled (map_of index.old) parts.now error tracked_writer.old tracked_writer.new) }
 {
-    let outcome = serve_parts(rt, alloc, parts, index, outlet, settings, gate);
+    let outcome = serve_parts(rt, alloc, parts, index, tracked_writer, settings, gate);
     if outcome == Err(ServeError::Output) {
         return outcome;
     }
-    flush_out(outlet)?;
+    flush_out(tracked_writer)?;
     outcome
 }
 
 // Serves the parts of a script, one after another.
-fn serve_parts<T: Threads + Wait + Sync, O: Outlet, G: Gate + Sync>(
+fn serve_parts<T: Threads + Wait + Sync, O: TrackedWriter, G: Gate + Sync>(
     rt: &T,
     alloc: Global,
     parts: &[Part],
     index: &mut Index,
-    outlet: &mut O,
+    tracked_writer: &mut O,
     settings: &Settings,
     gate: &G,
 ) -> Result<(), ServeError>
     ensures served { OnOk result
-        (Pours O.offered outlet.old (script_text (map_of index.old) parts.now) outlet.new) }
+        (WritesAll O.offered tracked_writer.old (script_text (map_of index.old) parts.now) tracked_writer.new) }
     ensures by_settings { OnOk result (RunsPartsBy settings.now index.old parts.now index.new) }
     ensures not_run { IfErr result (TellsRun settings.now index.old parts.now) }
     ensures left { IfErr result (λ error.
-        LeavesFront O.offered O.settled (map_of index.old) parts.now error outlet.old outlet.new) }
+        PrefixOutputAfterError O.offered O.settled (map_of index.old) parts.now error tracked_writer.old tracked_writer.new) }
 {
     let mut batches = 0u64;
     for part in parts {
         batches = batches_with(part, batches);
-        serve_part(rt, alloc, part, batches, index, outlet, settings, gate)?;
+        serve_part(rt, alloc, part, batches, index, tracked_writer, settings, gate)?;
     }
     Ok(())
 }
@@ -124,27 +124,27 @@ pub(crate) fn batches_with(part: &Part, before: u64) -> u64
 }
 
 // Serves one part, where it is a batch the one of this number.
-fn serve_part<T: Threads + Wait + Sync, O: Outlet, G: Gate + Sync>(
+fn serve_part<T: Threads + Wait + Sync, O: TrackedWriter, G: Gate + Sync>(
     rt: &T,
     alloc: Global,
     part: &Part,
     number: u64,
     index: &mut Index,
-    outlet: &mut O,
+    tracked_writer: &mut O,
     settings: &Settings,
     gate: &G,
 ) -> Result<(), ServeError>
     ensures served { OnOk result
-        (Pours O.offered outlet.old (part_text (map_of index.old) part.now) outlet.new) }
+        (WritesAll O.offered tracked_writer.old (part_text (map_of index.old) part.now) tracked_writer.new) }
     ensures map { OnOk result (map_of index.new ≡ part_after (map_of index.old) part.now) }
     ensures by_settings { OnOk result (RunsPartBy settings.now index.old part.now index.new) }
     ensures fault { IfErr result (IsPartFault part.now number) }
     ensures not_run { IfErr result (RefusesPart settings.now index.old part.now) }
-    ensures left { IfErr result (λ error. LeavesPart O.offered O.settled
-        (part_text (map_of index.old) part.now) error outlet.old outlet.new) }
+    ensures left { IfErr result (λ error. PartOutputAfterError O.offered O.settled
+        (part_text (map_of index.old) part.now) error tracked_writer.old tracked_writer.new) }
 {
     let text = text_of_part(rt, alloc, part, number, index, settings, gate)?;
-    write_out(outlet, &text)
+    write_out(tracked_writer, &text)
 }
 
 // Runs one part, where it is a batch the one of this number, and gives its lines.

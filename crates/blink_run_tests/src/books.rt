@@ -1,9 +1,9 @@
-//! The book of a run under one lock, and the desk at which its workers take turns: whose book is taken, and who sees a stop.
+//! The book of a run under one lock, and the locked run at which its workers take turns: whose book is taken, and who sees a stop.
 use crate::batches::gates::{CountingGate, LOOKS};
 use crate::calls::CutBatch;
 use blink_batch::{Answer, Op};
 use blink_index::Index;
-use blink_locked::{Book, Desk, Turn};
+use blink_locked::{Book, LockedRun, Turn};
 use blink_machine::Kind;
 use blink_run::{Gate, Open, RunError};
 use std::alloc::Global;
@@ -96,9 +96,9 @@ fn a_book_before_its_end_is_foreign(rt: HostRuntime) -> Result<(), Fail> {
 fn a_book_of_another_batch_is_foreign(rt: HostRuntime) -> Result<(), Fail> {
     let work = CutBatch::new(rt.alloc(), &[Op::Insert(2, 20)], 2)?;
     let other = CutBatch::new(rt.alloc(), &[Op::Insert(2, 21)], 2)?;
-    let desk = Desk::new(book_of(rt.alloc(), &other, &[])?);
-    desk.run_lane(&rt, &Open, 0, other.cut.lanes());
-    let error = settled(rt.alloc(), desk.into_book(), &work)?;
+    let locked_run = LockedRun::new(book_of(rt.alloc(), &other, &[])?);
+    locked_run.run_lane(&rt, &Open, 0, other.cut.lanes());
+    let error = settled(rt.alloc(), locked_run.into_book(), &work)?;
     assert_eq!(rt; error, RunError::Foreign);
     Ok(())
 }
@@ -107,11 +107,11 @@ fn a_book_of_another_batch_is_foreign(rt: HostRuntime) -> Result<(), Fail> {
 fn a_book_at_its_end_is_settled(rt: HostRuntime) -> Result<(), Fail> {
     let index = Index::new(rt.alloc(), 4)?;
     let work = CutBatch::new(rt.alloc(), &TWO, 2)?;
-    let desk = Desk::new(book_of(rt.alloc(), &work, &[])?);
+    let locked_run = LockedRun::new(book_of(rt.alloc(), &work, &[])?);
     for worker in 0..2 {
-        desk.run_lane(&rt, &Open, worker, work.cut.lanes());
+        locked_run.run_lane(&rt, &Open, worker, work.cut.lanes());
     }
-    let book = desk.into_book();
+    let book = locked_run.into_book();
     let (tree, answers) = book.settle(rt.alloc(), index.rest(), &work.batch, &work.cut)?;
     assert_eq!(rt; answers.as_slice(), [Answer::Inserted; 2].as_slice());
     let after = Index::from_rest(tree);
@@ -122,13 +122,13 @@ fn a_book_at_its_end_is_settled(rt: HostRuntime) -> Result<(), Fail> {
 // A thread for worker 0's lane is stopped when it has passed the gate and had some time.
 fn stop_meanwhile<R: Threads + Wait + Sync>(
     rt: &R,
-    desk: &Desk,
+    locked_run: &LockedRun,
     gate: &CountingGate,
     lanes: &[u8],
 ) -> bool {
     thread::scope(thread::scope_env(), rt, move |scope| -> bool {
         let started = scope
-            .spawn(move || desk.run_lane(rt, gate, 0, lanes))
+            .spawn(move || locked_run.run_lane(rt, gate, 0, lanes))
             .is_ok();
         for _ in 0..LOOKS {
             if gate.before.load(Ordering::SeqCst) == 1 {
@@ -139,7 +139,7 @@ fn stop_meanwhile<R: Threads + Wait + Sync>(
         for _ in 0..YIELDS {
             thread::yield_now();
         }
-        desk.stop(rt);
+        locked_run.stop(rt);
         started
     })
 }
@@ -148,13 +148,13 @@ fn stop_meanwhile<R: Threads + Wait + Sync>(
 #[test]
 fn a_waiting_worker_sees_the_stop(rt: HostRuntime) -> Result<(), Fail> {
     let work = CutBatch::new(rt.alloc(), &TWO, 2)?;
-    let desk = Desk::new(book_of(rt.alloc(), &work, &ONE_WAITS)?);
+    let locked_run = LockedRun::new(book_of(rt.alloc(), &work, &ONE_WAITS)?);
     let gate = CountingGate::new();
-    assert!(rt; stop_meanwhile(&rt, &desk, &gate, work.cut.lanes()));
+    assert!(rt; stop_meanwhile(&rt, &locked_run, &gate, work.cut.lanes()));
     assert_eq!(rt; gate.before.load(Ordering::SeqCst), 1);
     assert_eq!(rt; gate.after.load(Ordering::SeqCst), 0);
     assert_eq!(rt;
-        settled(rt.alloc(), desk.into_book(), &work)?,
+        settled(rt.alloc(), locked_run.into_book(), &work)?,
         RunError::OutOfMemory
     );
     Ok(())
@@ -165,7 +165,7 @@ fn a_waiting_worker_sees_the_stop(rt: HostRuntime) -> Result<(), Fail> {
 #[derive(Drop)]
 struct StoppingGate<'a, R: Wait> {
     rt: &'a R,
-    desk: &'a Desk,
+    locked_run: &'a LockedRun,
     stops_before: u32,
     stops_after: u32,
     begun: AtomicU64,
@@ -176,14 +176,14 @@ impl<R: Wait> Gate for StoppingGate<'_, R> {
     fn before(&self, _worker: u8, op: u32) {
         self.begun.fetch_add(1, Ordering::SeqCst);
         if op == self.stops_before {
-            self.desk.stop(self.rt);
+            self.locked_run.stop(self.rt);
         }
     }
 
     fn after(&self, _worker: u8, op: u32) {
         self.ended.fetch_add(1, Ordering::SeqCst);
         if op == self.stops_after {
-            self.desk.stop(self.rt);
+            self.locked_run.stop(self.rt);
         }
     }
 }
@@ -197,16 +197,16 @@ fn begun_and_ended<R: Wait>(
 ) -> Result<(u64, u64), Fail> {
     let ops = [Op::Insert(2, 20), Op::Insert(4, 40), Op::Find(2)];
     let work = CutBatch::new(alloc, &ops, 2)?;
-    let desk = Desk::new(book_of(alloc, &work, &[])?);
+    let locked_run = LockedRun::new(book_of(alloc, &work, &[])?);
     let gate = StoppingGate {
         rt,
-        desk: &desk,
+        locked_run: &locked_run,
         stops_before,
         stops_after,
         begun: AtomicU64::new(0),
         ended: AtomicU64::new(0),
     };
-    desk.run_lane(rt, &gate, 0, work.cut.lanes());
+    locked_run.run_lane(rt, &gate, 0, work.cut.lanes());
     Ok((
         gate.begun.load(Ordering::SeqCst),
         gate.ended.load(Ordering::SeqCst),

@@ -20,10 +20,10 @@ text_more f old so_far new xs x is_so_far added = added ∙ ap (λ (text : List 
 pub line_more : (f : ℕ → List ℕ) (old lines more : List (String Global)) (line : String Global) (a n j : ℕ) → a + n ≡ j → map string_bytes lines ≡ map string_bytes old ++ map f (range_with_len a n) → more ≡ lines ++ line ∷ []
     → string_bytes line ≡ f j → map string_bytes more ≡ map string_bytes old ++ map f (range_with_len a (n + 1))
 line_more f old lines more line a n j same so_far added is_line =
-    let front = map string_bytes old in
+    let prefix = map string_bytes old in
     ap (λ (all : List (String Global)). map string_bytes all) added
     ∙ map-append string_bytes lines (line ∷ [])
     ∙ ap (λ (all : List (List ℕ)). all ++ string_bytes line ∷ []) so_far
-    ∙ append_assoc front (map f (range_with_len a n)) (string_bytes line ∷ [])
-    ∙ ap (λ (text : List ℕ). front ++ (map f (range_with_len a n) ++ text ∷ [])) is_line
-    ∙ ap (λ (all : List (List ℕ)). front ++ all) (sym (map-range_with_len_more f a n j same))
+    ∙ append_assoc prefix (map f (range_with_len a n)) (string_bytes line ∷ [])
+    ∙ ap (λ (text : List ℕ). prefix ++ (map f (range_with_len a n) ++ text ∷ [])) is_line
+    ∙ ap (λ (all : List (List ℕ)). prefix ++ all) (sym (map-range_with_len_more f a n j same))

@@ -14,5 +14,5 @@ module _ (head tail : List ℕ) (workers fan : ℕ) (asked : PlainWorld → Plai
     a_script = reads read known;
     frames = adds.0;
     shows = subst (λ (n : ℕ). ShowsParts n asked (new_store fan) parts adds.0) same_workers (subst (λ (start : PlainStore). ShowsParts given asked start parts adds.0) is_new adds.1);
-    its_text = ap (λ (middle : List ℕ). head ++ (middle ++ tail)) (same_text ∙ adds.2 ∙ ap (λ (front : List ℕ). front ++ adds.0) is_sizes);
+    its_text = ap (λ (middle : List ℕ). head ++ (middle ++ tail)) (same_text ∙ adds.2 ∙ ap (λ (prefix : List ℕ). prefix ++ adds.0) is_sizes);
   }

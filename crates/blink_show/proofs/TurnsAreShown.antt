@@ -7,8 +7,8 @@ use Rattle.blink_show.specs.Frames.{frame}
 use Rattle.blink_show.specs.Turns.{Shows, no_turn, one_turn}
 
 -- a word and then more are added behind what was there
-pub behind : (old front word more new : List ℕ) → front ≡ old ++ word → new ≡ front ++ more → new ≡ old ++ (word ++ more)
-behind old front word more new to_front to_new = to_new ∙ ap (λ (text : List ℕ). text ++ more) to_front ∙ append_assoc old word more
+pub behind : (old prefix word more new : List ℕ) → prefix ≡ old ++ word → new ≡ prefix ++ more → new ≡ old ++ (word ++ more)
+behind old prefix word more new to_prefix to_new = to_new ∙ ap (λ (text : List ℕ). text ++ more) to_prefix ∙ append_assoc old word more
 
 module _ (word : List ℕ) (may : List ℕ → PlainRun → ℕ → Type 0) where
   -- the text of turns so far is added behind what was there

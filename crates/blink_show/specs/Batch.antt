@@ -1,4 +1,4 @@
--- The text of a batch that is replayed: its operations, and a frame for each moment.
+-- The text of a batch that is replayed: its operations, and a frame for each tree state.
 use Rattle.std.specs.Prelude.{◌≡◌, ℕ, ◌+◌, ◌%◌, List, [], ◌∷◌, ◌++◌, codes}
 use Rattle.std.specs.Fmt.{decimal}
 use Rattle.blink_batch.specs.declared.Op.{Op}
@@ -19,7 +19,7 @@ abbrev pub ops_from : ℕ → ℕ → List Op → List ℕ
 ops_from workers place [] = []
 ops_from workers place (op ∷ ops) = op_line place (key_of op % workers) op ++ ops_from workers (place + 1) ops
 
--- the text of a batch's replay over a tree: its operations, the first moment, the turns that are asked for, and then each picked turn,
+-- the text of a batch's replay over a tree: its operations, the first tree state, the turns that are asked for, and then each picked turn,
 -- until all operations have ended
 pub record ShowsBatch (workers : ℕ) (asked : PlainWorld → PlainWorld → List ℕ → Type 0) (before : PlainStore) (ops : List Op) (text : List ℕ) : Type 0 where
   pub start : PlainWorld

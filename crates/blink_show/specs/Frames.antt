@@ -19,12 +19,12 @@ changed old new = flat_map (λ place. unless_same (slice_get old place) (slice_g
 
 -- what a frame shows, where these lines and so many decided operations were shown before
 abbrev pub changes : List (List ℕ) → ℕ → PlainRun → List ℕ
-changes lines decided run = changed lines (lines_of run) ++ flat_map (decided_line run.ledger.answers) (drop decided run.ledger.order)
+changes lines decided run = changed lines (lines_of run) ++ flat_map (decided_line run.outcome.answers) (drop decided run.outcome.order)
 
--- the frame of the first moment shows all
+-- the frame of the first tree state shows all
 abbrev pub first_frame : PlainRun → List ℕ
 first_frame run = codes "first\n" ++ changes [] 0 run
 
 -- the frame of a turn: its word, its line of the trace, and what it has changed
 abbrev pub frame : List ℕ → PlainRun → ℕ → Step → PlainRun → List ℕ
-frame word old worker step new = word ++ (turn_line worker step ++ changes (lines_of old) (length old.ledger.order) new)
+frame word old worker step new = word ++ (turn_line worker step ++ changes (lines_of old) (length old.outcome.order) new)

@@ -7,4 +7,4 @@ use Rattle.blink_show.specs.declared.frame.Shown.{Shown}
 -- the lines of this run, and how many of its operations have decided
 pub record Keeps (shown : Shown) (run : PlainRun) : Type 0 where
   pub lines : map string_bytes shown.lines.items ≡ lines_of run
-  pub decided : shown.decided ≡ length run.ledger.order
+  pub decided : shown.decided ≡ length run.outcome.order

@@ -6,7 +6,7 @@ use Rattle.blink_batch.specs.declared.Op.{Op}
 use Rattle.blink_batch.specs.declared.Part.{Part}
 use Rattle.blink_batch.specs.declared.Part.TheVariants.{Batch}
 use Rattle.blink_batch.specs.Script.{script_of}
-use Rattle.blink_run.specs.Served.{IsFrontOf, WritesText, is_batch}
+use Rattle.blink_run.specs.Served.{IsPrefixOf, WritesText, is_batch}
 use Rattle.blink_run.specs.ServedReplay.{HaveRunParts}
 use Rattle.blink_settings.specs.declared.error.ServeError.{ServeError}
 use Rattle.blink_settings.specs.declared.error.ServeError.TheVariants as serve
@@ -16,15 +16,15 @@ use Rattle.blink_show.specs.Batch.{ShowsBatch}
 use Rattle.blink_show.specs.Turns.{ShowsDrawn, ShowsSchedule}
 
 -- this batch is the last of some parts
-pub record IsLastBatch (parts front : List Part) (ops : List Op) : Type 0 where
+pub record IsLastBatch (parts prefix : List Part) (ops : List Op) : Type 0 where
   pub rest : List Part
-  pub in_order : parts ≡ front ++ Batch ops ∷ rest
+  pub in_order : parts ≡ prefix ++ Batch ops ∷ rest
   pub last : count_by is_batch rest ≡ 0
 
 -- the text of some parts over a tree: that of the last batch, over the tree that those before it leave; without a batch there is none
 pub data ShowsParts (workers : ℕ) (asked : PlainWorld → PlainWorld → List ℕ → Type 0) (start : PlainStore) (parts : List Part) (text : List ℕ) : Type 0 where
   no_batch : count_by is_batch parts ≡ 0 → text ≡ [] → ShowsParts workers asked start parts text
-  last_batch : (front : List Part) (ops : List Op) (before : PlainStore) → IsLastBatch parts front ops → HaveRunParts workers start front before
+  last_batch : (prefix : List Part) (ops : List Op) (before : PlainStore) → IsLastBatch parts prefix ops → HaveRunParts workers start prefix before
       → ShowsBatch workers asked before ops text → ShowsParts workers asked start parts text
 
 -- the first two lines: the workers and the fan
@@ -50,7 +50,7 @@ IsSeedText head tail workers fan seed records text = IsTextOf head tail workers 
 
 -- nothing was written, unless the writer failed: then a beginning of such a text was
 abbrev pub LeavesShow : (List (List (List ℕ)) → List ℕ → Type 0) → Option (List ℕ) → ServeError → Option (List ℕ) → Option (List ℕ) → Type 0
-LeavesShow is_text to_read serve.Output before after = WritesText (IsFrontOf is_text) to_read before after
+LeavesShow is_text to_read serve.Output before after = WritesText (IsPrefixOf is_text) to_read before after
 LeavesShow is_text to_read error before after = Keeps before after
 
 -- such a text of parts is added behind what was there

@@ -1,4 +1,4 @@
-//! The text of a replay that is to be looked at: a frame for each moment of a script's last batch, which shows the pages by number,
+//! The text of a replay that is to be looked at: a frame for each tree state of a script's last batch, which shows the pages by number,
 //! who has latched what, each worker's operation, and what is decided.
 #![tactic(auto)]
 

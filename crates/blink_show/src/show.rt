@@ -21,7 +21,7 @@ use std::io::{Read, Write};
 /// one takes a turn for each number of the schedule and is then finished, and those before it are finished at once.
 ///
 /// When all turns are taken, `head` is written; then the workers and the fan; where there is a batch, its operations, a frame for its
-/// first moment and one for each turn, of the schedule and of the finish; and then `tail`. The first frame has a line for the prime
+/// first tree state and one for each turn, of the schedule and of the finish; and then `tail`. The first frame has a line for the prime
 /// block, for each worker and for each page, and each other one those that have changed, with the operations that have decided since.
 /// A schedule with a number that isn't below the workers is refused before anything is read. After every error but `Output`
 /// nothing was written.
@@ -146,10 +146,10 @@ fn show_parts(
         (string_bytes text.old) (string_bytes text.new)) }
     ensures refused { IfErr result IsPartsFault }
 {
-    let mut front = parts;
-    match take_last_batch(&mut front) {
+    let mut prefix = parts;
+    match take_last_batch(&mut prefix) {
         Some(batch) => {
-            let index = run_parts(alloc, index, front, workers)?;
+            let index = run_parts(alloc, index, prefix, workers)?;
             show_batch(alloc, index, batch, workers, turns, text)
         }
         None => Ok(()),

@@ -25,7 +25,7 @@ pub(crate) enum Turns<'a> {
     Seed(u64),
 }
 
-/// Adds the frame of the first moment.
+/// Adds the frame of the first tree state.
 pub(crate) fn show_first(
     alloc: Global,
     world: &World,

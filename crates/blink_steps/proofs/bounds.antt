@@ -12,7 +12,7 @@ pub mod ReadsKeepTrack
 pub mod StepsKeepTrack
 pub mod PagesOfTurns
 pub mod FindsReadOnTheirWay
-pub mod MovesKeepWaysShort
-pub mod WaysStayShort
+pub mod MovesKeepStepBounds
+pub mod StepBoundsStay
 pub mod TurnsAddedUp
-pub mod HistoryIsShort
+pub mod HistoryWithinStepBound

@@ -6,7 +6,7 @@ use Rattle.blink_batch.specs.Batch.{is_insert}
 use Rattle.blink_machine.specs.declared.step.Step.{Step}
 use Rattle.blink_machine.specs.declared.step.Step.TheVariants.{Waited}
 use Rattle.blink_machine.specs.Kinds.{has_moved, is_page_read, is_page_write, is_prime_write, moved_by, writes_new_page}
-use Rattle.blink_steps.specs.Run.{Taken}
+use Rattle.blink_steps.specs.Run.{Event}
 
 abbrev pub HasMoved : Step → Type 0
 HasMoved step = has_moved step ≡ true
@@ -15,31 +15,31 @@ abbrev pub HasWaited : Step → Type 0
 HasWaited step = step ≡ Waited
 
 -- how many turns of the operation at a place, of such a kind, there are in a history
-abbrev pub turns_of : ℕ → (Taken → Bool) → List Taken → ℕ
-turns_of place of_kind history = count_by (λ (taken : Taken). taken.place == place && of_kind taken) history
+abbrev pub turns_of : ℕ → (Event → Bool) → List Event → ℕ
+turns_of place of_kind history = count_by (λ (taken : Event). taken.place == place && of_kind taken) history
 
-abbrev pub takes_number : Taken → Bool
+abbrev pub takes_number : Event → Bool
 takes_number taken = has_moved taken.step && writes_new_page taken.before.state
 
 -- how many page numbers the operation at a place has taken
-abbrev pub numbers_in : List Taken → ℕ → ℕ
+abbrev pub numbers_in : List Event → ℕ → ℕ
 numbers_in history place = turns_of place takes_number history
 
 -- how often it has written a page
-abbrev pub page_writes_in : List Taken → ℕ → ℕ
-page_writes_in history place = turns_of place (λ (taken : Taken). moved_by is_page_write taken.step) history
+abbrev pub page_writes_in : List Event → ℕ → ℕ
+page_writes_in history place = turns_of place (λ (taken : Event). moved_by is_page_write taken.step) history
 
 -- how often it has written the prime block
-abbrev pub prime_writes_in : List Taken → ℕ → ℕ
-prime_writes_in history place = turns_of place (λ (taken : Taken). moved_by is_prime_write taken.step) history
+abbrev pub prime_writes_in : List Event → ℕ → ℕ
+prime_writes_in history place = turns_of place (λ (taken : Event). moved_by is_prime_write taken.step) history
 
 -- how many pages it has read, those under latches with them
-abbrev pub page_reads_in : List Taken → ℕ → ℕ
-page_reads_in history place = turns_of place (λ (taken : Taken). moved_by is_page_read taken.step) history
+abbrev pub page_reads_in : List Event → ℕ → ℕ
+page_reads_in history place = turns_of place (λ (taken : Event). moved_by is_page_read taken.step) history
 
 -- how many steps it has taken; waits are not counted
-abbrev pub moves_in : List Taken → ℕ → ℕ
-moves_in history place = turns_of place (λ (taken : Taken). has_moved taken.step) history
+abbrev pub moves_in : List Event → ℕ → ℕ
+moves_in history place = turns_of place (λ (taken : Event). has_moved taken.step) history
 
 -- the insertions that have taken a step
 abbrev pub begun_inserts : List Op → List ℕ → ℕ

@@ -6,7 +6,7 @@ use Rattle.blink_batch.specs.declared.Entry.{Entry}
 use Rattle.blink_batch.specs.declared.Op.{Op}
 use Rattle.blink_batch.specs.Operation.{answers, map_after_all}
 use Rattle.blink_batch.specs.Order.{operations_at}
-use Rattle.blink_steps.specs.Run.{PlainRun, moment_of}
+use Rattle.blink_steps.specs.Run.{PlainRun, tree_state_of}
 use Rattle.blink_machine.specs.TreeMap.{Keeps}
 
 -- the answers so far are those of a run in the given order on a map, each at its operation's place
@@ -17,12 +17,12 @@ AnswersSoFar entries ops order given =
 
 -- what the operations decided so far leave of a map, one after another in the order of their deciding steps
 abbrev pub map_now : List Entry → PlainRun → List Entry
-map_now entries run = map_after_all entries (operations_at run.ops run.ledger.order)
+map_now entries run = map_after_all entries (operations_at run.ops run.outcome.order)
 
 -- what is decided is the run of the operations on the entries at the start, in the order of their deciding steps
 pub record IsDecided (entries : List Entry) (run : PlainRun) : Type 0 where
-  pub places_of_batch : All (λ place. place < length run.ops) run.ledger.order
-  pub answered : AnswersSoFar entries run.ops run.ledger.order run.ledger.answers
-  pub undecided : (place : ℕ) → place < length run.ops → ¬ Contains run.ledger.order place
-      → slice_get run.ledger.answers place ≡ Some None
-  pub kept : Keeps (moment_of run) (map_now entries run)
+  pub places_of_batch : All (λ place. place < length run.ops) run.outcome.order
+  pub answered : AnswersSoFar entries run.ops run.outcome.order run.outcome.answers
+  pub undecided : (place : ℕ) → place < length run.ops → ¬ Contains run.outcome.order place
+      → slice_get run.outcome.answers place ≡ Some None
+  pub kept : Keeps (tree_state_of run) (map_now entries run)

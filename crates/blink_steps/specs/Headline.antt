@@ -1,4 +1,4 @@
--- What one thread would answer and leave, whatever the schedule was; and that at every moment each key then present is reached.
+-- What one thread would answer and leave, whatever the schedule was; and that in every state of the tree each key then present is reached.
 use Rattle.std.specs.Prelude.{◌≡◌, ℕ, ◌+◌, ◌*◌, ◌≤◌, Some, List, length, map, count_by}
 use Rattle.blink_batch.specs.declared.Entry.{Entry}
 use Rattle.blink_batch.specs.declared.Op.{Op}
@@ -9,17 +9,17 @@ use Rattle.blink_batch.specs.PlainMap.{pointer_of}
 use Rattle.blink_rest.specs.Reach.{IsReached}
 use Rattle.blink_store.specs.Store.{PlainStore, page_of}
 use Rattle.blink_steps.specs.Decided.{map_now}
-use Rattle.blink_page.specs.declared.limits.TheConstants.{NUMBERS_OF_INSERTION}
+use Rattle.blink_page.specs.declared.limits.TheConstants.{MAX_NEW_PAGES_PER_INSERT}
 use Rattle.blink_steps.specs.Run.{PlainRun}
 use Rattle.blink_machine.specs.TreeMap.{IsMapOf}
-use Rattle.blink_steps.specs.Ways.{all_moves, steps_at_most_with}
+use Rattle.blink_steps.specs.StepBounds.{all_moves, steps_at_most_with}
 use Rattle.blink_steps.specs.World.{PlainWorld, IsWorldOf, HasEnded, AfterEachTurn}
 
 -- the answers, and the entries that the tree keeps afterwards, are those of one thread that runs the batch in its own order on
 -- the plain list of the entries at the start
 pub record IsOneThread (start : PlainStore) (run : PlainRun) : Type 0 where
   pub same_answers : (entries : List Entry) → IsMapOf start entries
-      → run.ledger.answers ≡ map Some (answers entries run.ops)
+      → run.outcome.answers ≡ map Some (answers entries run.ops)
   pub same_entries : (entries : List Entry) → IsMapOf start entries
       → IsMapOf run.shared.store (map_after_all entries run.ops)
 
@@ -28,7 +28,7 @@ abbrev pub ReachesPresent : List Entry → PlainRun → Type 0
 ReachesPresent entries run = (key pointer : ℕ) → pointer_of (map_now entries run) key ≡ Some pointer
     → IsReached run.shared.store.prime (page_of run.shared.store) key pointer
 
--- it is so at the first moment, and after each turn
+-- it is so at the first tree state, and after each turn
 pub record IsReachedThroughout (start : PlainStore) (world : PlainWorld)
     (is_world : IsWorldOf start world) : Type 0 where
   pub at_first : (entries : List Entry) → IsMapOf start entries → ReachesPresent entries is_world.opening
@@ -39,12 +39,12 @@ pub record IsReachedThroughout (start : PlainStore) (world : PlainWorld)
 pub record NoKeyIsLost (start : PlainStore) (ops : List Op) (assignment : Assignment) (world : PlainWorld) : Type 0 where
   -- where each key is one worker's and all operations have ended, answer i is the one that one thread gives to operation i
   pub answers_place_by_place : (entries : List Entry) → IsMapOf start entries → IsLawfulCut ops assignment.workers assignment.lanes → HasEnded world.run
-      → world.run.ledger.answers ≡ map Some (answers entries ops)
+      → world.run.outcome.answers ≡ map Some (answers entries ops)
   -- and the tree's entries are those that one thread leaves
   pub entries_of_one_thread : (entries : List Entry) → IsMapOf start entries → IsLawfulCut ops assignment.workers assignment.lanes → HasEnded world.run
       → IsMapOf world.run.shared.store (map_after_all entries ops)
-  -- at every moment, whatever the lanes, each key then present is reached from the root
-  pub reached_at_every_moment : (is_world : IsWorldOf start world) → IsReachedThroughout start world is_world
+  -- in every state of the tree, whatever the lanes, each key then present is reached from the root
+  pub reached_at_every_tree_state : (is_world : IsWorldOf start world) → IsReachedThroughout start world is_world
   -- no schedule has more steps that move than this
   pub steps_bounded : (is_world : IsWorldOf start world)
-      → all_moves is_world.history ≤ length ops * steps_at_most_with (length start.pages + NUMBERS_OF_INSERTION * count_by is_insert ops)
+      → all_moves is_world.history ≤ length ops * steps_at_most_with (length start.pages + MAX_NEW_PAGES_PER_INSERT * count_by is_insert ops)

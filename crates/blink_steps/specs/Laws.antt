@@ -5,9 +5,9 @@ use Rattle.blink_machine.specs.declared.step.Step.{Step}
 use Rattle.blink_machine.specs.declared.step.Step.TheVariants.{Moved, Idle}
 use Rattle.blink_machine.specs.Kinds.{write_page}
 use Rattle.blink_machine.specs.Machine.{PlainMachine, NeedsNew}
-use Rattle.blink_machine.specs.Moment.{Moment, IsItsOperation, Steps}
-use Rattle.blink_machine.specs.Sound.{IsSound}
-use Rattle.blink_steps.specs.Run.{PlainRun, Taken, TakesTurn, IsNextOf, idle_seat, moment_of}
+use Rattle.blink_machine.specs.TreeState.{TreeState, IsItsOperation, Steps}
+use Rattle.blink_machine.specs.Invariant.{Invariant}
+use Rattle.blink_steps.specs.Run.{PlainRun, Event, AppliesEvent, IsNextOf, idle_seat, tree_state_of}
 use Rattle.blink_steps.specs.World.{PlainWorld, IsWorld}
 
 -- ---- turns and steps
@@ -16,30 +16,30 @@ use Rattle.blink_steps.specs.World.{PlainWorld, IsWorld}
 abbrev pub TakesNextNumber : PlainStore → PlainMachine → Step → Type 0
 TakesNextNumber store m step = NeedsNew m → step ≡ Moved (write_page (length store.pages + 1))
 
--- the turn is an atomic step of the worker's operation, between the moments before and after it
-pub record IsStepOfMoments (old : PlainRun) (taken : Taken) (new : PlainRun) : Type 0 where
-  pub its : IsItsOperation (moment_of old) taken.worker taken.before
-  pub steps : Steps (moment_of old) taken.worker taken.before taken.step taken.after (moment_of new)
+-- the turn is an atomic step of the worker's operation, between the tree states before and after it
+pub record IsStepOfTreeStates (old : PlainRun) (taken : Event) (new : PlainRun) : Type 0 where
+  pub its : IsItsOperation (tree_state_of old) taken.worker taken.before
+  pub steps : Steps (tree_state_of old) taken.worker taken.before taken.step taken.after (tree_state_of new)
   pub next_number : TakesNextNumber old.shared.store taken.before taken.step
 
 -- each turn that moves or waits is such a step
 abbrev pub TurnsAreSteps : Type 0
-TurnsAreSteps = (old new : PlainRun) (taken : Taken) → TakesTurn old taken new → taken.step ≢ Idle → IsStepOfMoments old taken new
+TurnsAreSteps = (old new : PlainRun) (taken : Event) → AppliesEvent old taken new → taken.step ≢ Idle → IsStepOfTreeStates old taken new
 
 -- the turn that takes a step of an operation of this place
-abbrev pub turn_of : ℕ → ℕ → PlainMachine → Step → PlainMachine → Taken
+abbrev pub turn_of : ℕ → ℕ → PlainMachine → Step → PlainMachine → Event
 turn_of worker place m step after = record { worker = worker; step = step; place = place; before = m; after = after }
 
--- a turn that leads to this moment
-pub record HasTurnTo (old : PlainRun) (taken : Taken) (then : Moment) : Type 0 where
+-- a turn that leads to this tree state
+pub record HasTurnTo (old : PlainRun) (taken : Event) (then : TreeState) : Type 0 where
   pub new : PlainRun
-  pub turn : TakesTurn old taken new
-  pub same_moment : moment_of new ≡ then
+  pub turn : AppliesEvent old taken new
+  pub same_tree_state : tree_state_of new ≡ then
 
 -- and each such step of a world's operation, with that number for a new page, is a turn
 abbrev pub StepsAreTurns : Type 0
-StepsAreTurns = (world : PlainWorld) (worker place : ℕ) (m after : PlainMachine) (next : Option ℕ) (step : Step) (then : Moment) → IsWorld world
-    → IsNextOf world.run worker place m next → Steps (moment_of world.run) worker m step after then
+StepsAreTurns = (world : PlainWorld) (worker place : ℕ) (m after : PlainMachine) (next : Option ℕ) (step : Step) (then : TreeState) → IsWorld world
+    → IsNextOf world.run worker place m next → Steps (tree_state_of world.run) worker m step after then
     → TakesNextNumber world.run.shared.store m step → HasTurnTo world.run (turn_of worker place m step after) then
 
 -- ---- idle workers
@@ -48,6 +48,6 @@ StepsAreTurns = (world : PlainWorld) (worker place : ℕ) (m after : PlainMachin
 abbrev pub with_idle_worker : PlainRun → Option ℕ → PlainRun
 with_idle_worker run next = record run { seats = run.seats ++ idle_seat next ∷ [] }
 
--- with it the moment is sound exactly where it was without
+-- with it the tree state has the invariant exactly where it was without
 abbrev pub IdleWorkersDontMatter : Type 0
-IdleWorkersDontMatter = (run : PlainRun) (next : Option ℕ) → IsSound (moment_of (with_idle_worker run next)) ↔ IsSound (moment_of run)
+IdleWorkersDontMatter = (run : PlainRun) (next : Option ℕ) → Invariant (tree_state_of (with_idle_worker run next)) ↔ Invariant (tree_state_of run)

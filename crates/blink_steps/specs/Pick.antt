@@ -4,8 +4,8 @@ use Rattle.blink_page.specs.declared.limits.TheConstants.{MAX_PAGE}
 use Rattle.blink_machine.specs.declared.step.Step.TheVariants.{Waited}
 use Rattle.blink_steps.specs.Acts.{Acts}
 use Rattle.blink_machine.specs.Machine.{PlainMachine}
-use Rattle.blink_steps.specs.Run.{PlainRun, Taken, Follows, IsNextOf, idle_seat}
-use Rattle.blink_steps.specs.Ways.{steps_at_most_with}
+use Rattle.blink_steps.specs.Run.{PlainRun, Event, IsHistory, IsNextOf, idle_seat}
+use Rattle.blink_steps.specs.StepBounds.{steps_at_most_with}
 use Rattle.blink_steps.specs.World.{PlainWorld, IsAtLanesEnd, OnEachTurn}
 
 -- the worker has no operation that is begun and not ended
@@ -35,10 +35,10 @@ pub record IsFirstMover (run : PlainRun) (worker : ℕ) : Type 0 where
 -- from one world to another by turns that the schedule tells, each of them the first mover's
 pub record GoesOnPicked (old new : PlainWorld) : Type 0 where
   -- the last turn first
-  pub turns : List Taken
-  pub follows : Follows old.run turns new.run
-  pub picked : OnEachTurn (λ (before : PlainRun) (taken : Taken) (after : PlainRun). IsFirstMover before taken.worker) old.run turns new.run follows
-  pub told : new.schedule ≡ old.schedule ++ reverse (map (λ (taken : Taken). taken.worker) turns)
+  pub turns : List Event
+  pub follows : IsHistory old.run turns new.run
+  pub picked : OnEachTurn (λ (before : PlainRun) (taken : Event) (after : PlainRun). IsFirstMover before taken.worker) old.run turns new.run follows
+  pub told : new.schedule ≡ old.schedule ++ reverse (map (λ (taken : Event). taken.worker) turns)
 
 -- a run's operations take no more steps than this together, however many pages there are
 abbrev pub steps_at_most : PlainRun → ℕ
@@ -46,4 +46,4 @@ steps_at_most run = length run.ops * steps_at_most_with MAX_PAGE
 
 -- so no more than these are left
 abbrev pub steps_left : PlainRun → ℕ
-steps_left run = steps_at_most run - sum run.ledger.moves
+steps_left run = steps_at_most run - sum run.outcome.moves

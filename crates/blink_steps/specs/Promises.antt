@@ -7,12 +7,12 @@ use Rattle.blink_batch.specs.Order.{part_of, lane_of, AnswersInOrder, IsWholeOrd
 use Rattle.blink_rest.specs.Rest.{IsStoreAtRest}
 use Rattle.blink_store.specs.Latches.{holder_of}
 use Rattle.blink_store.specs.Store.{PlainStore}
-use Rattle.blink_steps.specs.Ways.{IsShort}
+use Rattle.blink_steps.specs.StepBounds.{WithinStepBound}
 use Rattle.blink_steps.specs.Bounds.{IsBounded}
 use Rattle.blink_steps.specs.Decided.{IsDecided}
 use Rattle.blink_steps.specs.Headline.{IsOneThread, IsReachedThroughout, ReachesPresent}
 use Rattle.blink_machine.specs.Owned.{HoldOneLatchEach}
-use Rattle.blink_steps.specs.Run.{PlainRun, moment_of}
+use Rattle.blink_steps.specs.Run.{PlainRun, tree_state_of}
 use Rattle.blink_machine.specs.TreeMap.{IsMapOf, HasMap}
 use Rattle.blink_machine.specs.TreeWithDebts.{IsTreeWithDebts}
 use Rattle.blink_steps.specs.World.{PlainWorld, IsWorldOf, HasEnded, IsAtLanesEnd, OnEachTurn, WritesItsOwn}
@@ -23,35 +23,35 @@ HasAnswerAt given place = (answer : Answer) × (slice_get given place ≡ Some (
 
 -- no place is decided twice, and those that are decided are those with an answer
 pub record EachOnce (run : PlainRun) : Type 0 where
-  pub at_most_once : (first second place : ℕ) → slice_get run.ledger.order first ≡ Some place
-      → slice_get run.ledger.order second ≡ Some place → first ≡ second
-  pub has_answer : (place : ℕ) → Contains run.ledger.order place → HasAnswerAt run.ledger.answers place
-  pub is_decided : (place : ℕ) → HasAnswerAt run.ledger.answers place → Contains run.ledger.order place
+  pub at_most_once : (first second place : ℕ) → slice_get run.outcome.order first ≡ Some place
+      → slice_get run.outcome.order second ≡ Some place → first ≡ second
+  pub has_answer : (place : ℕ) → Contains run.outcome.order place → HasAnswerAt run.outcome.answers place
+  pub is_decided : (place : ℕ) → HasAnswerAt run.outcome.answers place → Contains run.outcome.order place
 
--- what is decided of a worker's lane is its front, in the lane's order
-abbrev pub IsFrontOfLane : PlainRun → ℕ → Type 0
-IsFrontOfLane run worker =
+-- what is decided of a worker's lane is its prefix, in the lane's order
+abbrev pub IsPrefixOfLane : PlainRun → ℕ → Type 0
+IsPrefixOfLane run worker =
     (count : ℕ)
-    × (part_of run.assignment.lanes worker run.ledger.order
+    × (part_of run.assignment.lanes worker run.outcome.order
     ≡ take count (lane_of run.assignment.lanes worker))
 
 -- the worker's lane has an operation that isn't decided
 pub record HasUndecided (run : PlainRun) (worker : ℕ) : Type 0 where
   pub place : ℕ
   pub of_lane : slice_get run.assignment.lanes place ≡ Some worker
-  pub undecided : slice_get run.ledger.answers place ≡ Some None
+  pub undecided : slice_get run.outcome.answers place ≡ Some None
 
 -- every operation has its answer and is decided in its lane's order, and the tree is at rest
 pub record IsWholeRun (run : PlainRun) : Type 0 where
-  pub all_answered : (place : ℕ) → place < length run.ops → HasAnswerAt run.ledger.answers place
-  pub whole_order : IsWholeOrder run.ops run.assignment.lanes run.ledger.order
+  pub all_answered : (place : ℕ) → place < length run.ops → HasAnswerAt run.outcome.answers place
+  pub whole_order : IsWholeOrder run.ops run.assignment.lanes run.outcome.order
   pub at_rest : IsStoreAtRest run.shared.store
 
 -- at the end the answers are those of the order, each at its operation's place
 pub record IsAnsweredInOrder (entries : List Entry) (run : PlainRun) : Type 0 where
   pub given : List Answer
-  pub all_given : run.ledger.answers ≡ map Some given
-  pub in_order : AnswersInOrder entries run.ops run.ledger.order given
+  pub all_given : run.outcome.answers ≡ map Some given
+  pub in_order : AnswersInOrder entries run.ops run.outcome.order given
 
 -- each key has one worker's operations
 abbrev pub IsLawfullyCut : PlainRun → Type 0
@@ -59,7 +59,7 @@ IsLawfullyCut run = IsLawfulCut run.ops run.assignment.workers run.assignment.la
 
 pub record KeepsItsPromises (start : PlainStore) (world : PlainWorld)
     (is_world : IsWorldOf start world) : Type 0 where
-  pub tree : IsTreeWithDebts (moment_of world.run)
+  pub tree : IsTreeWithDebts (tree_state_of world.run)
   pub has_map : HasMap world.run.shared.store
   pub one_latch : HoldOneLatchEach (holder_of world.run.shared.latches)
   pub writes_its_own : OnEachTurn WritesItsOwn is_world.opening is_world.history world.run is_world.follows
@@ -68,12 +68,12 @@ pub record KeepsItsPromises (start : PlainStore) (world : PlainWorld)
   pub reached : (entries : List Entry) → IsMapOf start entries → ReachesPresent entries world.run
   pub reached_throughout : IsReachedThroughout start world is_world
   pub once : EachOnce world.run
-  pub lanes_in_order : (worker : ℕ) → IsFrontOfLane world.run worker
+  pub lanes_in_order : (worker : ℕ) → IsPrefixOfLane world.run worker
   -- an operation whose lane comes to it has its turn
   pub each_has_its_turn : (worker : ℕ) → HasUndecided world.run worker
       → ¬ IsAtLanesEnd world.run worker
   pub bounded : IsBounded start is_world.history world.run
-  pub short : IsShort start is_world.history world.run
+  pub short : WithinStepBound start is_world.history world.run
   pub ended : HasEnded world.run → IsWholeRun world.run
   pub ended_in_order : (entries : List Entry) → IsMapOf start entries → HasEnded world.run
       → IsAnsweredInOrder entries world.run

@@ -5,31 +5,31 @@ use Rattle.blink_batch.specs.Cut.{Assignment}
 use Rattle.blink_batch.specs.Order.{next_place}
 use Rattle.blink_store.specs.Latches.{holder_of}
 use Rattle.blink_store.specs.Store.{PlainStore, page_of}
-use Rattle.blink_steps.specs.declared.seat.Seat.{Seat}
+use Rattle.blink_steps.specs.declared.seat.WorkerState.{WorkerState}
 use Rattle.blink_steps.specs.declared.seat.Working.{Working}
 use Rattle.blink_machine.specs.declared.step.Kind.{Kind}
 use Rattle.blink_machine.specs.declared.step.Step.{Step}
 use Rattle.blink_machine.specs.declared.step.Step.TheVariants.{Moved, Waited, Idle}
 use Rattle.blink_steps.specs.Acts.{PlainShared, Acts}
-use Rattle.blink_steps.specs.Ledger.{PlainLedger, empty_ledger, noted}
+use Rattle.blink_steps.specs.Outcome.{PlainOutcome, empty_outcome, recorded}
 use Rattle.blink_machine.specs.Machine.{PlainMachine, fresh}
-use Rattle.blink_machine.specs.Moment.{Moment, goes_on}
+use Rattle.blink_machine.specs.TreeState.{TreeState, goes_on}
 
 pub record PlainRun : Type 0 where
   pub shared : PlainShared
   pub ops : List Op
   pub assignment : Assignment
   -- a seat for each worker
-  pub seats : List Seat
+  pub seats : List WorkerState
   -- what is decided, and how far each operation has come
-  pub ledger : PlainLedger
+  pub outcome : PlainOutcome
 
 -- a worker without an operation, and the place of its next one
-abbrev pub idle_seat : Option ℕ → Seat
+abbrev pub idle_seat : Option ℕ → WorkerState
 idle_seat next = record { working = None; next = next }
 
 -- a worker with an operation of this place, and the place of its next one
-abbrev pub busy_seat : ℕ → PlainMachine → Option ℕ → Seat
+abbrev pub busy_seat : ℕ → PlainMachine → Option ℕ → WorkerState
 busy_seat place m next = record { working = Some (record { place = place; machine = m }); next = next }
 
 -- the operation that a worker has under way
@@ -38,17 +38,17 @@ machine_in None = None
 machine_in (Some working) = Some working.machine
 
 -- what a worker's seat has under way
-abbrev pub working_of : Option Seat → Option Working
+abbrev pub working_of : Option WorkerState → Option Working
 working_of None = None
 working_of (Some seat) = seat.working
 
-abbrev pub machine_of_seat : Option Seat → Option PlainMachine
+abbrev pub machine_of_seat : Option WorkerState → Option PlainMachine
 machine_of_seat None = None
 machine_of_seat (Some seat) = machine_in seat.working
 
--- the moment of a run: what a step of the tree is about
-abbrev pub moment_with : PlainShared → (ℕ → Option PlainMachine) → Moment
-moment_with shared machines = record {
+-- the tree state of a run: what a step of the tree is about
+abbrev pub tree_state_with : PlainShared → (ℕ → Option PlainMachine) → TreeState
+tree_state_with shared machines = record {
   fan = shared.store.fan;
   prime = shared.store.prime;
   pages = page_of shared.store;
@@ -56,11 +56,11 @@ moment_with shared machines = record {
   machines = machines;
 }
 
-abbrev pub moment_of : PlainRun → Moment
-moment_of run = moment_with run.shared (λ worker. machine_of_seat (slice_get run.seats worker))
+abbrev pub tree_state_of : PlainRun → TreeState
+tree_state_of run = tree_state_with run.shared (λ worker. machine_of_seat (slice_get run.seats worker))
 
 -- the seat of a worker after a step of its operation: with the operation, or, where that has ended, without
-abbrev pub seat_after : Option PlainMachine → ℕ → Option ℕ → Seat
+abbrev pub seat_after : Option PlainMachine → ℕ → Option ℕ → WorkerState
 seat_after None place next = idle_seat next
 seat_after (Some m) place next = busy_seat place m next
 
@@ -69,7 +69,7 @@ abbrev pub after_move : PlainRun → ℕ → ℕ → Option ℕ → PlainMachine
 after_move old worker place next m kind after shared = record old {
   shared = shared;
   seats = slice_set old.seats worker (seat_after (goes_on after after.state) place next);
-  ledger = noted old.ledger place kind m.answer after.answer;
+  outcome = recorded old.outcome place kind m.answer after.answer;
 }
 
 -- the operation of a worker's step: the one under way, or, where it is idle, the next of its lane, which has taken no step;
@@ -81,7 +81,7 @@ pub data IsNextOf (run : PlainRun) (worker place : ℕ) (m : PlainMachine) (next
 
 -- one turn of a worker: what became of it, and, where it took a step, the place of the operation, and the operation before
 -- and after
-pub record Taken : Type 0 where
+pub record Event : Type 0 where
   pub worker : ℕ
   pub step : Step
   pub place : ℕ
@@ -90,24 +90,24 @@ pub record Taken : Type 0 where
 
 -- a turn is taken: the worker's operation moves; or it waits, and nothing changes; or the lane is at its end, and nothing
 -- changes
-pub data TakesTurn (old : PlainRun) (taken : Taken) (new : PlainRun) : Type 0 where
+pub data AppliesEvent (old : PlainRun) (taken : Event) (new : PlainRun) : Type 0 where
   moves : (next : Option ℕ) (kind : Kind) → IsNextOf old taken.worker taken.place taken.before next → taken.step ≡ Moved kind
       → Acts old.shared taken.worker taken.before (Moved kind) taken.after new.shared
-      → new ≡ after_move old taken.worker taken.place next taken.before kind taken.after new.shared → TakesTurn old taken new
+      → new ≡ after_move old taken.worker taken.place next taken.before kind taken.after new.shared → AppliesEvent old taken new
   waits : (next : Option ℕ) → IsNextOf old taken.worker taken.place taken.before next → taken.step ≡ Waited
-      → Acts old.shared taken.worker taken.before Waited taken.after old.shared → new ≡ old → TakesTurn old taken new
-  idles : slice_get old.seats taken.worker ≡ Some (idle_seat None) → taken.step ≡ Idle → new ≡ old → TakesTurn old taken new
+      → Acts old.shared taken.worker taken.before Waited taken.after old.shared → new ≡ old → AppliesEvent old taken new
+  idles : slice_get old.seats taken.worker ≡ Some (idle_seat None) → taken.step ≡ Idle → new ≡ old → AppliesEvent old taken new
 
 -- the worker takes a turn, of which this becomes
-abbrev pub TakesSomeTurn : PlainRun → ℕ → Step → PlainRun → Type 0
-TakesSomeTurn old worker step new = (taken : Taken) × (taken.worker ≡ worker) × (taken.step ≡ step) × TakesTurn old taken new
+abbrev pub AppliesSomeEvent : PlainRun → ℕ → Step → PlainRun → Type 0
+AppliesSomeEvent old worker step new = (taken : Event) × (taken.worker ≡ worker) × (taken.step ≡ step) × AppliesEvent old taken new
 
--- turns taken one after another, the last first, lead from one moment of a run to another
-abbrev pub Follows : PlainRun → List Taken → PlainRun → Type 0
-Follows start [] run = run ≡ start
-Follows start (taken ∷ history) run = (before : PlainRun) × Follows start history before × TakesTurn before taken run
+-- turns taken one after another, the last first, lead from one tree state of a run to another
+abbrev pub IsHistory : PlainRun → List Event → PlainRun → Type 0
+IsHistory start [] run = run ≡ start
+IsHistory start (taken ∷ history) run = (before : PlainRun) × IsHistory start history before × AppliesEvent before taken run
 
--- the first moment of a run: no latch is held, every worker is idle, and nothing is decided
+-- the first tree state of a run: no latch is held, every worker is idle, and nothing is decided
 pub record IsOpeningRun (start : PlainStore) (ops : List Op) (assignment : Assignment) (run : PlainRun) : Type 0 where
   pub same_store : run.shared.store ≡ start
   pub no_latch : (page : ℕ) → holder_of run.shared.latches page ≡ None
@@ -115,4 +115,4 @@ pub record IsOpeningRun (start : PlainStore) (ops : List Op) (assignment : Assig
   pub same_assignment : run.assignment ≡ assignment
   pub a_seat_each : length run.seats ≡ assignment.workers
   pub all_idle : (worker : ℕ) → worker < assignment.workers → slice_get run.seats worker ≡ Some (idle_seat (next_place assignment.lanes worker 0))
-  pub nothing_noted : run.ledger ≡ empty_ledger (length ops)
+  pub nothing_recorded : run.outcome ≡ empty_outcome (length ops)

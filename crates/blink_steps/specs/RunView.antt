@@ -1,7 +1,7 @@
 -- What a contract sees of a `Run`, and what its links keep.
 use Rattle.std.specs.Prelude.{◌≡◌, length}
 use Rattle.blink_steps.specs.declared.run.Run.TheInside.{Inside}
-use Rattle.blink_steps.specs.Links.{AreLinks}
+use Rattle.blink_steps.specs.LaneQueues.{NextInLane}
 use Rattle.blink_steps.specs.Run.{PlainRun}
 use Rattle.blink_steps.specs.Seats.{AreOfLanes}
 
@@ -12,12 +12,12 @@ plain run = record {
   ops = run.batch;
   assignment = run.lanes;
   seats = run.seats.items;
-  ledger = run.ledger;
+  outcome = run.outcome;
 }
 
 -- each place has its link, to the next of its lane
 pub record IsLinked (run : Inside) : Type 0 where
   pub a_lane_each : length run.lanes.lanes ≡ length run.batch
   pub a_link_each : length run.following.items ≡ length run.lanes.lanes
-  pub links : AreLinks run.lanes.lanes run.following.items 0
+  pub links : NextInLane run.lanes.lanes run.following.items 0
   pub of_lanes : AreOfLanes run.lanes.lanes run.seats.items

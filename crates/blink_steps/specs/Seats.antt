@@ -4,10 +4,10 @@ use Rattle.blink_batch.specs.declared.Answer.{Answer}
 use Rattle.blink_steps.specs.Acts.{PlainShared, Acts, CanAct}
 use Rattle.blink_steps.specs.declared.error.StepError.{StepError}
 use Rattle.blink_machine.specs.declared.step.Step.{Step}
-use Rattle.blink_steps.specs.declared.seat.Seat.{Seat}
+use Rattle.blink_steps.specs.declared.seat.WorkerState.{WorkerState}
 use Rattle.blink_steps.specs.declared.seat.Working.{Working}
 use Rattle.blink_machine.specs.Machine.{PlainMachine}
-use Rattle.blink_machine.specs.Moment.{goes_on}
+use Rattle.blink_machine.specs.TreeState.{goes_on}
 use Rattle.blink_steps.specs.Run.{PlainRun, busy_seat}
 
 -- the operation of a place, where it goes on
@@ -16,7 +16,7 @@ working_after None place = None
 working_after (Some m) place = Some (record { place = place; machine = m })
 
 -- what is left in a seat: its operation, where that goes on
-abbrev pub left_in_seat : Seat → Seat
+abbrev pub left_in_seat : WorkerState → WorkerState
 left_in_seat seat = record { working = left_of seat.working; next = seat.next }
   where
     left_of : Option Working → Option Working
@@ -24,7 +24,7 @@ left_in_seat seat = record { working = left_of seat.working; next = seat.next }
     left_of (Some working) = working_after (goes_on working.machine working.machine.state) working.place
 
 -- what the operation in a seat answers
-abbrev pub answer_in_seat : Seat → Option Answer
+abbrev pub answer_in_seat : WorkerState → Option Answer
 answer_in_seat seat = answer_of seat.working
   where
     answer_of : Option Working → Option Answer
@@ -32,11 +32,11 @@ answer_in_seat seat = answer_of seat.working
     answer_of (Some working) = working.machine.answer
 
 -- the operation in the seat can take its next step
-abbrev pub IsAbleInSeat : PlainShared → ℕ → Seat → Type 0
+abbrev pub IsAbleInSeat : PlainShared → ℕ → WorkerState → Type 0
 IsAbleInSeat shared worker seat = (working : Working) × (seat.working ≡ Some working) × CanAct shared worker working.machine
 
 -- the operation in the seat took this step, and is there still
-abbrev pub ActsInSeat : PlainShared → ℕ → Seat → Result Step StepError → Seat → PlainShared → Type 0
+abbrev pub ActsInSeat : PlainShared → ℕ → WorkerState → Result Step StepError → WorkerState → PlainShared → Type 0
 ActsInSeat old worker before result after new = (working : Working) → before.working ≡ Some working →
     (m : PlainMachine) × (after ≡ record { working = Some (record { place = working.place; machine = m }); next = before.next })
     × IfOk result (λ step. Acts old worker working.machine step m new) × OnErr result ((m ≡ working.machine) × (new ≡ old))
@@ -49,5 +49,5 @@ pub record HasOperation (run : PlainRun) (worker : ℕ) : Type 0 where
   pub seated : slice_get run.seats worker ≡ Some (busy_seat place m next)
 
 -- the next place of each worker is one of its own lane
-abbrev pub AreOfLanes : List ℕ → List Seat → Type 0
-AreOfLanes lanes seats = (worker place : ℕ) (seat : Seat) → slice_get seats worker ≡ Some seat → seat.next ≡ Some place → slice_get lanes place ≡ Some worker
+abbrev pub AreOfLanes : List ℕ → List WorkerState → Type 0
+AreOfLanes lanes seats = (worker place : ℕ) (seat : WorkerState) → slice_get seats worker ≡ Some seat → seat.next ≡ Some place → slice_get lanes place ≡ Some worker

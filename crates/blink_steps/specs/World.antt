@@ -11,10 +11,10 @@ use Rattle.blink_steps.specs.declared.error.StepError.{StepError}
 use Rattle.blink_steps.specs.declared.error.StepError.TheVariants.{OutOfMemory, NoWorker, TooLarge}
 use Rattle.blink_machine.specs.declared.step.Step.{Step}
 use Rattle.blink_machine.specs.declared.step.Step.TheVariants.{Moved}
-use Rattle.blink_page.specs.declared.limits.TheConstants.{NUMBERS_OF_INSERTION}
+use Rattle.blink_page.specs.declared.limits.TheConstants.{MAX_NEW_PAGES_PER_INSERT}
 use Rattle.blink_machine.specs.Kinds.{write_page}
 use Rattle.blink_machine.specs.Owned.{IsItsToWrite}
-use Rattle.blink_steps.specs.Run.{PlainRun, Taken, TakesTurn, Follows, IsOpeningRun, idle_seat}
+use Rattle.blink_steps.specs.Run.{PlainRun, Event, AppliesEvent, IsHistory, IsOpeningRun, idle_seat}
 
 -- a tree at rest, and a batch with lanes, that a run may begin with
 pub record MayBegin (start : PlainStore) (ops : List Op) (assignment : Assignment) : Type 0 where
@@ -23,22 +23,22 @@ pub record MayBegin (start : PlainStore) (ops : List Op) (assignment : Assignmen
   pub words : All FitsWords ops
   pub lanes : AreLanes assignment.workers assignment.lanes
   pub a_lane_each : length assignment.lanes ≡ length ops
-  pub numbers_suffice : length start.pages + NUMBERS_OF_INSERTION * count_by is_insert ops ≤ MAX_PAGE
+  pub numbers_suffice : length start.pages + MAX_NEW_PAGES_PER_INSERT * count_by is_insert ops ≤ MAX_PAGE
 
 -- the schedule is the worker of each turn so far
 pub record PlainWorld : Type 0 where
   pub run : PlainRun
   pub schedule : List ℕ
 
--- the world of a schedule: from the first moment over this tree, one turn for each number of the schedule
+-- the world of a schedule: from the first tree state over this tree, one turn for each number of the schedule
 pub record IsWorldOf (start : PlainStore) (world : PlainWorld) : Type 0 where
   pub may_begin : MayBegin start world.run.ops world.run.assignment
   pub opening : PlainRun
   pub is_opening : IsOpeningRun start world.run.ops world.run.assignment opening
   -- the last turn first
-  pub history : List Taken
-  pub follows : Follows opening history world.run
-  pub same_schedule : world.schedule ≡ reverse (map (λ (taken : Taken). taken.worker) history)
+  pub history : List Event
+  pub follows : IsHistory opening history world.run
+  pub same_schedule : world.schedule ≡ reverse (map (λ (taken : Event). taken.worker) history)
 
 -- it is that of some start
 abbrev pub IsWorld : PlainWorld → Type 0
@@ -60,18 +60,18 @@ pub record IsReplay (start : PlainStore) (ops : List Op) (assignment : Assignmen
 
 -- one turn of a worker, which the schedule tells afterwards
 pub record TakesStep (old : PlainWorld) (worker : ℕ) (step : Step) (new : PlainWorld) : Type 0 where
-  pub taken : Taken
+  pub taken : Event
   pub same_worker : taken.worker ≡ worker
   pub same_step : taken.step ≡ step
-  pub turn : TakesTurn old.run taken new.run
+  pub turn : AppliesEvent old.run taken new.run
   pub told : new.schedule ≡ old.schedule ++ worker ∷ []
 
 -- the world has one turn more: its history is the old one with this turn in front
 pub record HasTurnMore (start : PlainStore) (old : PlainWorld) (is_world : IsWorldOf start old) (worker : ℕ) (step : Step) (new : PlainWorld) : Type 0 where
-  pub taken : Taken
+  pub taken : Event
   pub same_worker : taken.worker ≡ worker
   pub same_step : taken.step ≡ step
-  pub turn : TakesTurn old.run taken new.run
+  pub turn : AppliesEvent old.run taken new.run
   pub now : IsWorldOf start new
   pub same_opening : now.opening ≡ is_world.opening
   pub one_more : now.history ≡ taken ∷ is_world.history
@@ -85,7 +85,7 @@ abbrev pub KeepsItsStart : PlainWorld → PlainWorld → Type 0
 KeepsItsStart old new = (start : PlainStore) → IsWorldOf start old → IsWorldOf start new
 
 -- the fact of its history, over whatever tree it began
-abbrev pub InItsHistory : PlainWorld → (List Taken → Type 0) → Type 0
+abbrev pub InItsHistory : PlainWorld → (List Event → Type 0) → Type 0
 InItsHistory world fact = (start : PlainStore) (is_world : IsWorldOf start world) → fact is_world.history
 
 -- the batch and its lanes are as before
@@ -99,15 +99,15 @@ with_turn world worker = record world { schedule = world.schedule ++ worker ∷ 
 
 -- a run can't begin where its insertions might need more page numbers than there are, the prime block's with them
 abbrev pub IsTooLarge : PlainStore → List Op → Type 0
-IsTooLarge start ops = MAX_PAGE + 1 < 1 + length start.pages + NUMBERS_OF_INSERTION * count_by is_insert ops
+IsTooLarge start ops = MAX_PAGE + 1 < 1 + length start.pages + MAX_NEW_PAGES_PER_INSERT * count_by is_insert ops
 
 -- the first number of a schedule that is no worker's
 pub record IsFirstNoWorker (workers : ℕ) (schedule : List ℕ) (number : ℕ) : Type 0 where
-  pub front : List ℕ
+  pub prefix : List ℕ
   pub rest : List ℕ
-  pub parts : schedule ≡ front ++ number ∷ rest
+  pub parts : schedule ≡ prefix ++ number ∷ rest
   pub no_worker : workers ≤ number
-  pub workers_before : All (λ worker. worker < workers) front
+  pub workers_before : All (λ worker. worker < workers) prefix
 
 -- the worker is idle, with its lane at its end
 abbrev pub IsAtLanesEnd : PlainRun → ℕ → Type 0
@@ -118,16 +118,16 @@ abbrev pub HasEnded : PlainRun → Type 0
 HasEnded run = (worker : ℕ) → worker < run.assignment.workers → IsAtLanesEnd run worker
 
 -- what is so of each turn of a history
-abbrev pub OnEachTurn : (PlainRun → Taken → PlainRun → Type 0) → (start : PlainRun) (history : List Taken) (run : PlainRun) → Follows start history run → Type 0
+abbrev pub OnEachTurn : (PlainRun → Event → PlainRun → Type 0) → (start : PlainRun) (history : List Event) (run : PlainRun) → IsHistory start history run → Type 0
 OnEachTurn fact start [] run follows = ⊤
 OnEachTurn fact start (taken ∷ history) run follows = fact follows.0 taken run × OnEachTurn fact start history follows.0 follows.1
 
 -- what is so of the run after each turn of a history
-abbrev pub AfterEachTurn : (PlainRun → Type 0) → (start : PlainRun) (history : List Taken) (run : PlainRun) → Follows start history run → Type 0
-AfterEachTurn fact start history run follows = OnEachTurn (λ (before : PlainRun) (taken : Taken) (after : PlainRun). fact after) start history run follows
+abbrev pub AfterEachTurn : (PlainRun → Type 0) → (start : PlainRun) (history : List Event) (run : PlainRun) → IsHistory start history run → Type 0
+AfterEachTurn fact start history run follows = OnEachTurn (λ (before : PlainRun) (taken : Event) (after : PlainRun). fact after) start history run follows
 
 -- a page is written only by the worker that holds its latch, or at a number that no page has
-abbrev pub WritesItsOwn : PlainRun → Taken → PlainRun → Type 0
+abbrev pub WritesItsOwn : PlainRun → Event → PlainRun → Type 0
 WritesItsOwn before taken after = (number : ℕ) → taken.step ≡ Moved (write_page number)
     → IsItsToWrite (holder_of before.shared.latches) (page_of before.shared.store) taken.worker number
 

@@ -16,14 +16,14 @@ pub fn each_world_is_of_its_schedule(world: &World)
     let _schedule = world.schedule();
 }
 
-/// A turn that moves or waits is an atomic step between the moments before and after it, as the table of states has it for any
+/// A turn that moves or waits is an atomic step between the tree states before and after it, as the table of states has it for any
 /// pages and any free number, with the number after the last for a new page; and each such step is a turn.
 pub fn turns_are_steps()
     ensures turns { TurnsAreSteps }
     ensures steps { StepsAreTurns }
 {}
 
-/// One idle worker more, or one fewer, is all the same: the moment is sound with it exactly where it is without.
+/// One idle worker more, or one fewer, is all the same: the tree state has the invariant with it exactly where it is without.
 pub fn idle_workers_dont_matter()
     ensures { IdleWorkersDontMatter }
 {}

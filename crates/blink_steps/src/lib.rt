@@ -4,8 +4,8 @@
 
 mod error;
 pub mod laws;
-mod ledger;
-mod links;
+mod outcome;
+mod lane_queues;
 mod run;
 mod seat;
 mod shared;
@@ -13,7 +13,7 @@ mod world;
 
 pub use blink_machine::laws::step_keeps;
 pub use blink_machine::{Debt, Job, Kind, Machine, Need, Next, State, Step};
-pub use blink_page::{NUMBERS_OF_INSERTION, WRITES_OF_INSERTION};
+pub use blink_page::{MAX_NEW_PAGES_PER_INSERT, WRITES_OF_INSERTION};
 pub use error::StepError;
 pub use seat::Working;
-pub use world::{World, is_too_large, replay};
+pub use world::{World, exceeds_page_limit, replay};

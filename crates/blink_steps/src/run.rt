@@ -1,15 +1,15 @@
 //! A batch's run over a tree, turn by turn.
 ghost use Rattle.std.specs.Prelude.{◌≡◌, ◌↔◌, ◌+◌, ◌<◌, ℕ, Some, length, option_map, slice_get, IsTrue, IsNone, IfOk, IfSome, OnErr, IsOkUnless};
 ghost use Rattle.blink_steps.specs.Pick.{IsFirstMover, IsIdleWorker, WouldMove, WouldWait};
-ghost use Rattle.blink_steps.specs.Run.{TakesSomeTurn, IsOpeningRun, idle_seat, working_of};
+ghost use Rattle.blink_steps.specs.Run.{AppliesSomeEvent, IsOpeningRun, idle_seat, working_of};
 ghost use Rattle.blink_steps.specs.Seats.{HasOperation};
-ghost use Rattle.blink_steps.specs.SoundRun.{CanTakeTurn};
+ghost use Rattle.blink_steps.specs.RunInvariant.{CanTakeTurn};
 ghost use Rattle.blink_steps.specs.World.{HasEnded};
 
 use crate::error::StepError;
-use crate::ledger::Ledger;
-use crate::links::links;
-use crate::seat::{Seat, Working};
+use crate::outcome::Outcome;
+use crate::lane_queues::lane_queues;
+use crate::seat::{WorkerState, Working};
 use crate::shared::Shared;
 use blink_batch::{Answer, Batch, Lanes};
 use blink_machine::{Machine, Step};
@@ -26,8 +26,8 @@ pub(crate) struct Run {
     // For each operation, the place of the next one in its lane.
     following: Vec<Option<u32>>,
     // For each worker.
-    seats: Vec<Seat>,
-    ledger: Ledger,
+    seats: Vec<WorkerState>,
+    outcome: Outcome,
 }
 
 impl Model for Run {
@@ -43,7 +43,7 @@ impl Model for Run {
 }
 
 impl Run {
-    /// The first moment of a run of a batch over a tree: every worker is idle.
+    /// The first tree state of a run of a batch over a tree: every worker is idle.
     pub(crate) fn new(
         alloc: Global,
         store: Store,
@@ -54,11 +54,11 @@ impl Run {
         ensures { IfOk result (λ run. IsOpeningRun store batch lanes run) }
     {
         let places = batch.ops().len();
-        let (following, firsts) = links(alloc, lanes.lanes())?;
+        let (following, firsts) = lane_queues(alloc, lanes.lanes())?;
         let workers = usize::from(lanes.workers());
         let mut seats = Vec::with_capacity(alloc, workers)?;
         for worker in 0..workers {
-            seats.push_reserved(Seat {
+            seats.push_reserved(WorkerState {
                 working: None,
                 next: firsts[worker],
             });
@@ -72,7 +72,7 @@ impl Run {
             lanes,
             following,
             seats,
-            ledger: Ledger::new(alloc, places)?,
+            outcome: Outcome::new(alloc, places)?,
         })
     }
 
@@ -80,7 +80,7 @@ impl Run {
     /// lane's end, nothing. A refusal of memory changes nothing.
     pub(crate) fn turn(&mut self, worker: u8) -> Result<Step, StepError>
         requires { CanTakeTurn self.old worker }
-        ensures turn { IfOk result (λ step. TakesSomeTurn self.old worker step self.new) }
+        ensures turn { IfOk result (λ step. AppliesSomeEvent self.old worker step self.new) }
         ensures refused { IsOkUnless result StepError.OutOfMemory }
         ensures unchanged { OnErr result (self.new ≡ self.old) }
     {
@@ -98,7 +98,7 @@ impl Run {
     fn go_on(&mut self, worker: u8) -> Result<Step, StepError>
         requires ready { CanTakeTurn self.old worker }
         requires busy { HasOperation self.old worker }
-        ensures turn { IfOk result (λ step. TakesSomeTurn self.old worker step self.new) }
+        ensures turn { IfOk result (λ step. AppliesSomeEvent self.old worker step self.new) }
         ensures refused { IsOkUnless result StepError.OutOfMemory }
         ensures unchanged { OnErr result (self.new ≡ self.old) }
     {
@@ -113,7 +113,7 @@ impl Run {
         seat.forget_ended();
         let step = acted?;
         if let Step::Moved(kind) = step {
-            self.ledger.note(place, kind, before, after);
+            self.outcome.note(place, kind, before, after);
         }
         Ok(step)
     }
@@ -122,7 +122,7 @@ impl Run {
     fn begin(&mut self, worker: u8, place: u32) -> Result<Step, StepError>
         requires ready { CanTakeTurn self.old worker }
         requires idle { slice_get self.old.seats worker ≡ Some (idle_seat (Some place)) }
-        ensures turn { IfOk result (λ step. TakesSomeTurn self.old worker step self.new) }
+        ensures turn { IfOk result (λ step. AppliesSomeEvent self.old worker step self.new) }
         ensures refused { IsOkUnless result StepError.OutOfMemory }
         ensures unchanged { OnErr result (self.new ≡ self.old) }
     {
@@ -130,9 +130,9 @@ impl Run {
         let mut machine = Machine::new(op, self.shared.fan());
         let step = self.shared.act(worker, &mut machine)?;
         if let Step::Moved(kind) = step {
-            self.ledger.note(place, kind, None, machine.answer());
+            self.outcome.note(place, kind, None, machine.answer());
             let next = self.following[place as usize];
-            self.seats[usize::from(worker)] = Seat {
+            self.seats[usize::from(worker)] = WorkerState {
                 working: Some(Working { place, machine }),
                 next,
             };
@@ -229,30 +229,30 @@ impl Run {
 
     /// The answers so far.
     pub(crate) fn answers(&self) -> &[Option<Answer>]
-        ensures { result.now ≡ self.now.ledger.answers }
+        ensures { result.now ≡ self.now.outcome.answers }
     {
-        &self.ledger.answers
+        &self.outcome.answers
     }
 
     /// The places of the operations that have decided, in the order of their deciding steps.
     pub(crate) fn order(&self) -> &[u32]
-        ensures { result.now ≡ self.now.ledger.order }
+        ensures { result.now ≡ self.now.outcome.order }
     {
-        &self.ledger.order
+        &self.outcome.order
     }
 
     /// How many pages each operation has read.
     pub(crate) fn reads(&self) -> &[u64]
-        ensures { result.now ≡ self.now.ledger.reads }
+        ensures { result.now ≡ self.now.outcome.reads }
     {
-        &self.ledger.reads
+        &self.outcome.reads
     }
 
     /// How many steps each operation has taken.
     pub(crate) fn moves(&self) -> &[u64]
-        ensures { result.now ≡ self.now.ledger.moves }
+        ensures { result.now ≡ self.now.outcome.moves }
     {
-        &self.ledger.moves
+        &self.outcome.moves
     }
 
     /// The tree, at the run's end.

@@ -18,12 +18,12 @@ pub struct Working {
 
 /// A worker: its operation under way, where it isn't idle, and the place of its next one, where its lane has one more.
 #[derive(Debug, Drop)]
-pub(crate) struct Seat {
+pub(crate) struct WorkerState {
     pub working: Option<Working>,
     pub next: Option<u32>,
 }
 
-impl Seat {
+impl WorkerState {
     /// A step of the operation, which stays in the seat meanwhile, since it is large.
     pub(crate) fn act(&mut self, shared: &mut Shared, worker: u8) -> Result<Step, StepError>
         requires { IsAbleInSeat shared.old worker self.old }

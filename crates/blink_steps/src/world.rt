@@ -6,7 +6,7 @@ ghost use Rattle.blink_steps.specs.Headline.{NoKeyIsLost};
 ghost use Rattle.blink_steps.specs.Pick.{GoesOnPicked, IsFirstMover, IsIdleWorker, WouldMove, WouldWait, steps_left};
 ghost use Rattle.blink_steps.specs.Promises.{IsPromised};
 ghost use Rattle.blink_steps.specs.Run.{working_of};
-ghost use Rattle.blink_steps.specs.Ways.{steps_at_most_with};
+ghost use Rattle.blink_steps.specs.StepBounds.{steps_at_most_with};
 ghost use Rattle.blink_steps.specs.World.{GoesOnBy, HasEnded, InItsHistory, IsReplay, IsReplayRefusal, IsStart, IsStepRefusal, IsTooLarge, IsWorld, KeepsItsStart, SameBatch, TakesStep, with_turn};
 
 use crate::error::StepError;
@@ -14,13 +14,13 @@ use crate::run::Run;
 use crate::seat::Working;
 use blink_batch::{Answer, Batch, Lanes};
 use blink_machine::Step;
-use blink_page::{MAX_PAGE, NUMBERS_OF_INSERTION};
+use blink_page::{MAX_PAGE, MAX_NEW_PAGES_PER_INSERT};
 use blink_rest::Rest;
 use blink_store::{Latches, Store};
 use std::alloc::Global;
 use std::marker::Model;
 
-/// A batch's run over a tree at rest, up to some moment: one turn for each number of its schedule.
+/// A batch's run over a tree at rest, up to some tree state: one turn for each number of its schedule.
 ///
 /// Its type keeps that it is the world of its own schedule, over the tree, the batch and the lanes that it began with: so
 /// what is promised of every schedule can be said of any `World`.
@@ -41,7 +41,7 @@ impl Model for World {
 }
 
 impl World {
-    /// The first moment of a run: nothing is latched, every worker is idle, and nothing is decided. The lanes need be no
+    /// The first tree state of a run: nothing is latched, every worker is idle, and nothing is decided. The lanes need be no
     /// lawful cut. A refusal gives up what was handed in.
     ///
     /// The refusal `TooLarge` comes before memory is asked for; then no later step wants for page numbers.
@@ -56,7 +56,7 @@ impl World {
         let _tree = rest.store();
         let _words = batch.ops();
         let _allowed = lanes.lanes();
-        if is_too_large(&rest, &batch) {
+        if exceeds_page_limit(&rest, &batch) {
             return Err(StepError::TooLarge);
         }
         match Run::new(alloc, rest.into_store(), batch, lanes) {
@@ -100,7 +100,7 @@ impl World {
     /// are those of the operations one after another, on a plain map of the entries at the start, in the order of
     /// [`World::order`]; and where the lanes are a lawful cut, once all operations have ended, those of the batch's own order.
     pub fn answers(&self) -> &[Option<Answer>]
-        ensures answers { result.now ≡ self.now.run.ledger.answers }
+        ensures answers { result.now ≡ self.now.run.outcome.answers }
         ensures one_each { length result.now ≡ length self.now.run.ops }
         ensures promised { IsPromised self.now }
     {
@@ -111,7 +111,7 @@ impl World {
     /// that answers a find, the read under the latch of an update that changes nothing, and the write of the leaf of one
     /// that changes something (in a split, of the old leaf).
     pub fn order(&self) -> &[u32]
-        ensures order { result.now ≡ self.now.run.ledger.order }
+        ensures order { result.now ≡ self.now.run.outcome.order }
         ensures promised { IsPromised self.now }
     {
         self.run.order()
@@ -262,19 +262,19 @@ impl World {
 
 /// Whether a run of the batch over this tree is too large: its insertions might need more page numbers than there are. It takes no
 /// memory.
-pub fn is_too_large(rest: &Rest, batch: &Batch) -> bool
+pub fn exceeds_page_limit(rest: &Rest, batch: &Batch) -> bool
     ensures { IsTrue result ↔ IsTooLarge rest.now batch.now }
 {
     let pages = u64::from(rest.store().pages());
     let _few = batch.ops();
-    1 + pages + NUMBERS_OF_INSERTION * batch.inserts() as u64 > u64::from(MAX_PAGE) + 1
+    1 + pages + MAX_NEW_PAGES_PER_INSERT * batch.inserts() as u64 > u64::from(MAX_PAGE) + 1
 }
 
-/// The world of a schedule: the first moment, and then one turn for each number. The first refusal is the answer.
+/// The world of a schedule: the first tree state, and then one turn for each number. The first refusal is the answer.
 ///
 /// Where the lanes are a lawful cut and all operations have ended, the answers are those of one thread that runs the batch in
 /// its own order on the plain list of the tree's entries, place by place, and the tree's entries are that list's. And at every
-/// moment on the way each key then present is reached from the root.
+/// tree state on the way each key then present is reached from the root.
 pub fn replay(
     alloc: Global,
     rest: Rest,

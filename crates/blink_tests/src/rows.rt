@@ -21,10 +21,10 @@ fn leaf() -> Page {
 }
 
 // A row with these words from the first on, and 0 behind them.
-fn row_with(rt: &impl Abort, front: &[u64]) -> [u64; ROW_WORDS] {
-    assert!(rt; front.len() <= ROW_WORDS);
+fn row_with(rt: &impl Abort, prefix: &[u64]) -> [u64; ROW_WORDS] {
+    assert!(rt; prefix.len() <= ROW_WORDS);
     let mut words = [0; ROW_WORDS];
-    words[..front.len()].copy_from_slice(front);
+    words[..prefix.len()].copy_from_slice(prefix);
     words
 }
 

@@ -3,12 +3,12 @@ use Rattle.std.proofs.Common.{◌≡◌, ◌⊎◌, ℕ, List, [], ◌∷◌, �
 use Rattle.std.specs.Io.KnownBytes.{Keeps, append_known}
 use Rattle.blink_batch.specs.declared.Part.TheVariants.{Batch}
 use Rattle.blink_batch.specs.Script.{records_of}
-use Rattle.blink_run.specs.Served.{IsFrontOf, IsTextBeforeBatch, IsTextOf, IsTextOfFront, LeavesLines, WritesText}
+use Rattle.blink_run.specs.Served.{IsPrefixOf, IsTextBeforeBatch, IsTextOf, IsTextOfPrefix, OutputAfterError, WritesText}
 use Rattle.blink_run.specs.ServedReplay.{IsReplayText, LeavesReplay}
 use Rattle.blink_settings.specs.declared.error.ServeError.{ServeError}
 use Rattle.blink_settings.specs.declared.error.ServeError.TheVariants as serve
-use Rattle.blink_run.proofs.Offered.{front_of_text}
-use Rattle.index_main.specs.Program.{HasLeftFront, IsText, Leaves, LetsOut, Writes}
+use Rattle.blink_run.proofs.Offered.{prefix_of_text}
+use Rattle.index_main.specs.Program.{HasLeftPrefix, IsText, Leaves, LetsOut, Writes}
 use Rattle.blink_line.specs.declared.line.Line.{Line}
 use Rattle.blink_line.specs.declared.line.Line.TheVariants.{Run, Replay}
 
@@ -53,19 +53,19 @@ module _ (before between after : Option (List ℕ)) (keeps : Keeps between (appe
   writes_left (Replay settings schedule) to_read writes = text_left (IsReplayText settings.workers settings.fan schedule.items) to_read writes
 
   -- of a run
-  lines_left : (error : ServeError) (to_read : Option (List ℕ)) → LeavesLines to_read error (append_known before []) between → LeavesLines to_read error before after
+  lines_left : (error : ServeError) (to_read : Option (List ℕ)) → OutputAfterError to_read error (append_known before []) between → OutputAfterError to_read error before after
   lines_left (serve.Script error) to_read left = nothing_left left
   lines_left (serve.Run number error) to_read left = text_left (IsTextBeforeBatch number) to_read left
   lines_left (serve.Step error) to_read left = absurd left
-  lines_left serve.Output to_read left = text_left (IsFrontOf IsTextOf) to_read left
-  lines_left serve.OutOfMemory to_read left = text_left IsTextOfFront to_read left
+  lines_left serve.Output to_read left = text_left (IsPrefixOf IsTextOf) to_read left
+  lines_left serve.OutOfMemory to_read left = text_left IsTextOfPrefix to_read left
 
   -- of a replay
   replay_left : (workers fan : ℕ) (schedule : List ℕ) (error : ServeError) (to_read : Option (List ℕ)) → LeavesReplay workers fan schedule to_read error (append_known before []) between → LeavesReplay workers fan schedule to_read error before after
   replay_left workers fan schedule (serve.Script error) to_read left = nothing_left left
   replay_left workers fan schedule (serve.Run number error) to_read left = nothing_left left
   replay_left workers fan schedule (serve.Step error) to_read left = nothing_left left
-  replay_left workers fan schedule serve.Output to_read left = text_left (IsFrontOf (IsReplayText workers fan schedule)) to_read left
+  replay_left workers fan schedule serve.Output to_read left = text_left (IsPrefixOf (IsReplayText workers fan schedule)) to_read left
   replay_left workers fan schedule serve.OutOfMemory to_read left = nothing_left left
 
   leaves_left : (line : Line) (to_read : Option (List ℕ)) (error : ServeError) → Leaves line to_read error (append_known before []) between → Leaves line to_read error before after
@@ -81,25 +81,25 @@ module _ (before between after : Option (List ℕ)) (keeps : Keeps between (appe
   refusal_left line to_read serve.OutOfMemory not_output left = leaves_left line to_read serve.OutOfMemory left
 
 -- what was written of a text: a beginning, and the rest
-record FrontWritten (line : Line) (records : List (List (List ℕ))) (written : List ℕ) (between : Option (List ℕ)) : Type 0 where
-  front : List ℕ
+record PrefixWritten (line : Line) (records : List (List (List ℕ))) (written : List ℕ) (between : Option (List ℕ)) : Type 0 where
+  prefix : List ℕ
   more : List ℕ
-  its_text : IsText line records (front ++ more) ⊎ (front ++ more ≡ [])
-  known : between ≡ Some (written ++ front)
+  its_text : IsText line records (prefix ++ more) ⊎ (prefix ++ more ≡ [])
+  known : between ≡ Some (written ++ prefix)
 
 -- behind a buffer, a beginning of that has left
-front_left : (line : Line) (records : List (List (List ℕ))) (written buffer : List ℕ) (between after : Option (List ℕ)) → FrontWritten line records written between → Keeps between (append_known after buffer) → HasLeftFront line records written after
-front_left line records written buffer between after front keeps = by_after after (kept_as between (append_known after buffer) (written ++ front.front) front.known keeps)
+prefix_left : (line : Line) (records : List (List (List ℕ))) (written buffer : List ℕ) (between after : Option (List ℕ)) → PrefixWritten line records written between → Keeps between (append_known after buffer) → HasLeftPrefix line records written after
+prefix_left line records written buffer between after prefix keeps = by_after after (kept_as between (append_known after buffer) (written ++ prefix.prefix) prefix.known keeps)
   where
-    by_after : (known : Option (List ℕ)) → append_known known buffer ≡ Some (written ++ front.front) → HasLeftFront line records written known
+    by_after : (known : Option (List ℕ)) → append_known known buffer ≡ Some (written ++ prefix.prefix) → HasLeftPrefix line records written known
     by_after None same = absurd (cc same)
     by_after (Some left) same = record {
-      text = front.front ++ front.more;
-      its_text = front.its_text;
+      text = prefix.prefix ++ prefix.more;
+      its_text = prefix.its_text;
       left = left;
-      rest = buffer ++ front.more;
+      rest = buffer ++ prefix.more;
       known = refl;
-      in_order = sym (append_assoc written front.front front.more) ∙ ap (λ (t : List ℕ). t ++ front.more) (sym (cc same)) ∙ append_assoc left buffer front.more;
+      in_order = sym (append_assoc written prefix.prefix prefix.more) ∙ ap (λ (t : List ℕ). t ++ prefix.more) (sym (cc same)) ∙ append_assoc left buffer prefix.more;
     }
 
 -- known bytes that aren't touched stay
@@ -109,60 +109,60 @@ untouched (Some bytes) = refl
 
 module _ (line : Line) (to_read before between after : Option (List ℕ)) (buffer : List ℕ) (keeps : Keeps between (append_known after buffer)) where
   -- of what was written a beginning has left, where the writer failed
-  lets_out : ((read written : List ℕ) → to_read ≡ Some read → before ≡ Some written → FrontWritten line (records_of read) written between) → LetsOut line to_read serve.Output before after
-  lets_out front = λ read written known known_before. front_left line (records_of read) written buffer between after (front read written known known_before) keeps
+  lets_out : ((read written : List ℕ) → to_read ≡ Some read → before ≡ Some written → PrefixWritten line (records_of read) written between) → LetsOut line to_read serve.Output before after
+  lets_out prefix = λ read written known known_before. prefix_left line (records_of read) written buffer between after (prefix read written known known_before) keeps
 
 -- a beginning of a text, with what had left before
-front_of : (line : Line) (to_read before between : Option (List ℕ)) → WritesText (IsFrontOf (IsText line)) to_read (append_known before []) between → (read written : List ℕ) → to_read ≡ Some read → before ≡ Some written → FrontWritten line (records_of read) written between
-front_of line to_read before between writes read written known known_before =
+prefix_of : (line : Line) (to_read before between : Option (List ℕ)) → WritesText (IsPrefixOf (IsText line)) to_read (append_known before []) between → (read written : List ℕ) → to_read ≡ Some read → before ≡ Some written → PrefixWritten line (records_of read) written between
+prefix_of line to_read before between writes read written known known_before =
     let wrote = writes read written known (with_nothing before ∙ known_before) in
-    record { front = wrote.0; more = wrote.1.0; its_text = inl wrote.1.1; known = wrote.2 }
+    record { prefix = wrote.0; more = wrote.1.0; its_text = inl wrote.1.1; known = wrote.2 }
 
 -- the whole of it
-whole_of : (line : Line) (to_read before between : Option (List ℕ)) → WritesText (IsText line) to_read (append_known before []) between → (read written : List ℕ) → to_read ≡ Some read → before ≡ Some written → FrontWritten line (records_of read) written between
+whole_of : (line : Line) (to_read before between : Option (List ℕ)) → WritesText (IsText line) to_read (append_known before []) between → (read written : List ℕ) → to_read ≡ Some read → before ≡ Some written → PrefixWritten line (records_of read) written between
 whole_of line to_read before between writes read written known known_before =
     let wrote = writes read written known (with_nothing before ∙ known_before) in
-    record { front = wrote.0; more = []; its_text = inl (rw append-nil wrote.1); known = wrote.2 }
+    record { prefix = wrote.0; more = []; its_text = inl (rw append-nil wrote.1); known = wrote.2 }
 
 -- nothing of it
-nothing_of : (line : Line) (to_read before between : Option (List ℕ)) → Keeps (append_known before []) between → (read written : List ℕ) → to_read ≡ Some read → before ≡ Some written → FrontWritten line (records_of read) written between
+nothing_of : (line : Line) (to_read before between : Option (List ℕ)) → Keeps (append_known before []) between → (read written : List ℕ) → to_read ≡ Some read → before ≡ Some written → PrefixWritten line (records_of read) written between
 nothing_of line to_read before between stays read written known known_before =
-    record { front = []; more = []; its_text = inr refl; known = kept_as (append_known before []) between (written ++ []) (with_nothing before ∙ known_before ∙ ap (λ (t : List ℕ). Some t) (sym (append-nil written))) stays }
+    record { prefix = []; more = []; its_text = inr refl; known = kept_as (append_known before []) between (written ++ []) (with_nothing before ∙ known_before ∙ ap (λ (t : List ℕ). Some t) (sym (append-nil written))) stays }
 
 -- what was written before the flush
-front_written : (line : Line) (to_read before between : Option (List ℕ)) (outcome : Result (Unit {0}) ServeError) → (outcome ≡ Err serve.Output → ⊥) → OnOk outcome (Writes line to_read (append_known before []) between)
-    → IfErr outcome (λ error. Leaves line to_read error (append_known before []) between) → (read written : List ℕ) → to_read ≡ Some read → before ≡ Some written → FrontWritten line (records_of read) written between
-front_written (Run settings) to_read before between (Ok done) not_output writes left = whole_of (Run settings) to_read before between writes
-front_written (Replay settings schedule) to_read before between (Ok done) not_output writes left = whole_of (Replay settings schedule) to_read before between writes
-front_written (Run settings) to_read before between (Err (serve.Script error)) not_output writes left = nothing_of (Run settings) to_read before between left
-front_written (Run settings) to_read before between (Err (serve.Run number error)) not_output writes left = λ read written known known_before.
+prefix_written : (line : Line) (to_read before between : Option (List ℕ)) (outcome : Result (Unit {0}) ServeError) → (outcome ≡ Err serve.Output → ⊥) → OnOk outcome (Writes line to_read (append_known before []) between)
+    → IfErr outcome (λ error. Leaves line to_read error (append_known before []) between) → (read written : List ℕ) → to_read ≡ Some read → before ≡ Some written → PrefixWritten line (records_of read) written between
+prefix_written (Run settings) to_read before between (Ok done) not_output writes left = whole_of (Run settings) to_read before between writes
+prefix_written (Replay settings schedule) to_read before between (Ok done) not_output writes left = whole_of (Replay settings schedule) to_read before between writes
+prefix_written (Run settings) to_read before between (Err (serve.Script error)) not_output writes left = nothing_of (Run settings) to_read before between left
+prefix_written (Run settings) to_read before between (Err (serve.Run number error)) not_output writes left = λ read written known known_before.
     let wrote = left read written known (with_nothing before ∙ known_before) in
-    let whole = front_of_text (records_of read) wrote.1.front (Batch wrote.1.ops ∷ wrote.1.rest) wrote.0 wrote.1.before in
-    record { front = wrote.0; more = whole.0; its_text = inl whole.1; known = wrote.2 }
-front_written (Run settings) to_read before between (Err (serve.Step error)) not_output writes left = absurd left
-front_written (Run settings) to_read before between (Err serve.OutOfMemory) not_output writes left = λ read written known known_before.
+    let whole = prefix_of_text (records_of read) wrote.1.prefix (Batch wrote.1.ops ∷ wrote.1.rest) wrote.0 wrote.1.before in
+    record { prefix = wrote.0; more = whole.0; its_text = inl whole.1; known = wrote.2 }
+prefix_written (Run settings) to_read before between (Err (serve.Step error)) not_output writes left = absurd left
+prefix_written (Run settings) to_read before between (Err serve.OutOfMemory) not_output writes left = λ read written known known_before.
     let wrote = left read written known (with_nothing before ∙ known_before) in
-    let whole = front_of_text (records_of read) wrote.1.0 wrote.1.1 wrote.0 wrote.1.2 in
-    record { front = wrote.0; more = whole.0; its_text = inl whole.1; known = wrote.2 }
-front_written line to_read before between (Err serve.Output) not_output writes left = absurd (not_output refl)
-front_written (Replay settings schedule) to_read before between (Err (serve.Script error)) not_output writes left = nothing_of (Replay settings schedule) to_read before between left
-front_written (Replay settings schedule) to_read before between (Err (serve.Run number error)) not_output writes left = nothing_of (Replay settings schedule) to_read before between left
-front_written (Replay settings schedule) to_read before between (Err (serve.Step error)) not_output writes left = nothing_of (Replay settings schedule) to_read before between left
-front_written (Replay settings schedule) to_read before between (Err serve.OutOfMemory) not_output writes left = nothing_of (Replay settings schedule) to_read before between left
+    let whole = prefix_of_text (records_of read) wrote.1.0 wrote.1.1 wrote.0 wrote.1.2 in
+    record { prefix = wrote.0; more = whole.0; its_text = inl whole.1; known = wrote.2 }
+prefix_written line to_read before between (Err serve.Output) not_output writes left = absurd (not_output refl)
+prefix_written (Replay settings schedule) to_read before between (Err (serve.Script error)) not_output writes left = nothing_of (Replay settings schedule) to_read before between left
+prefix_written (Replay settings schedule) to_read before between (Err (serve.Run number error)) not_output writes left = nothing_of (Replay settings schedule) to_read before between left
+prefix_written (Replay settings schedule) to_read before between (Err (serve.Step error)) not_output writes left = nothing_of (Replay settings schedule) to_read before between left
+prefix_written (Replay settings schedule) to_read before between (Err serve.OutOfMemory) not_output writes left = nothing_of (Replay settings schedule) to_read before between left
 
 module _ (line : Line) (to_read before after : Option (List ℕ)) where
   -- the writer fails at a write
   pub write_failed : (buffer : List ℕ) → Leaves line to_read serve.Output (append_known before []) (append_known after buffer) → LetsOut line to_read serve.Output before after
-  write_failed buffer left = lets_out line to_read before (append_known after buffer) after buffer (untouched (append_known after buffer)) (front_of line to_read before (append_known after buffer) (by_line line left))
+  write_failed buffer left = lets_out line to_read before (append_known after buffer) after buffer (untouched (append_known after buffer)) (prefix_of line to_read before (append_known after buffer) (by_line line left))
     where
-      by_line : (l : Line) → Leaves l to_read serve.Output (append_known before []) (append_known after buffer) → WritesText (IsFrontOf (IsText l)) to_read (append_known before []) (append_known after buffer)
+      by_line : (l : Line) → Leaves l to_read serve.Output (append_known before []) (append_known after buffer) → WritesText (IsPrefixOf (IsText l)) to_read (append_known before []) (append_known after buffer)
       by_line (Run settings) left = left
       by_line (Replay settings schedule) left = left
 
   module _ (between : Option (List ℕ)) (outcome : Result (Unit {0}) ServeError) (not_output : outcome ≡ Err serve.Output → ⊥) (left : IfErr outcome (λ error. Leaves line to_read error (append_known before []) between)) where
     -- it fails at the flush
     pub flush_failed : (buffer : List ℕ) → OnOk outcome (Writes line to_read (append_known before []) between) → Keeps between (append_known after buffer) → LetsOut line to_read serve.Output before after
-    flush_failed buffer writes keeps = lets_out line to_read before between after buffer keeps (front_written line to_read before between outcome not_output writes left)
+    flush_failed buffer writes keeps = lets_out line to_read before between after buffer keeps (prefix_written line to_read before between outcome not_output writes left)
 
     -- it doesn't fail
     pub refusals_left : Keeps between (append_known after []) → IfErr outcome (λ error. LetsOut line to_read error before after)

@@ -1,7 +1,7 @@
 -- What the program writes for a command line, and what it leaves behind after a refusal.
 use Rattle.std.specs.Prelude.{◌≡◌, ◌⊎◌, ⊤, ℕ, List, [], ◌++◌, Option, Some, Result, Ok, Err}
 use Rattle.blink_batch.specs.Script.{records_of}
-use Rattle.blink_run.specs.Served.{IsTextOf, LeavesLines, Serves}
+use Rattle.blink_run.specs.Served.{IsTextOf, OutputAfterError, Serves}
 use Rattle.blink_run.specs.ServedReplay.{IsReplayText, LeavesReplay, Replays}
 use Rattle.blink_settings.specs.declared.error.ServeError.{ServeError}
 use Rattle.blink_settings.specs.declared.error.ServeError.TheVariants as serve
@@ -16,7 +16,7 @@ Writes (Replay settings schedule) to_read before after = Replays settings.worker
 -- what a refusal leaves: of a run the lines of the parts before, and of a replay nothing; where the writer failed, a beginning of
 -- the text
 abbrev pub Leaves : Line → Option (List ℕ) → ServeError → Option (List ℕ) → Option (List ℕ) → Type 0
-Leaves (Run settings) to_read error before after = LeavesLines to_read error before after
+Leaves (Run settings) to_read error before after = OutputAfterError to_read error before after
 Leaves (Replay settings schedule) to_read error before after = LeavesReplay settings.workers settings.fan schedule.items to_read error before after
 
 -- the text of some records, where they are a script
@@ -25,7 +25,7 @@ IsText (Run settings) records text = IsTextOf records text
 IsText (Replay settings schedule) records text = IsReplayText settings.workers settings.fan schedule.items records text
 
 -- what has left is a beginning of what had left before and the text behind it; what is refused has no text
-pub record HasLeftFront (line : Line) (records : List (List (List ℕ))) (written : List ℕ) (after : Option (List ℕ)) : Type 0 where
+pub record HasLeftPrefix (line : Line) (records : List (List (List ℕ))) (written : List ℕ) (after : Option (List ℕ)) : Type 0 where
   pub text : List ℕ
   pub its_text : IsText line records text ⊎ (text ≡ [])
   pub left : List ℕ
@@ -38,7 +38,7 @@ abbrev pub LetsOut : Line → Option (List ℕ) → ServeError → Option (List 
 LetsOut line to_read (serve.Script error) before after = Leaves line to_read (serve.Script error) before after
 LetsOut line to_read (serve.Run number error) before after = Leaves line to_read (serve.Run number error) before after
 LetsOut line to_read (serve.Step error) before after = Leaves line to_read (serve.Step error) before after
-LetsOut line to_read serve.Output before after = (read written : List ℕ) → to_read ≡ Some read → before ≡ Some written → HasLeftFront line (records_of read) written after
+LetsOut line to_read serve.Output before after = (read written : List ℕ) → to_read ≡ Some read → before ≡ Some written → HasLeftPrefix line (records_of read) written after
 LetsOut line to_read serve.OutOfMemory before after = Leaves line to_read serve.OutOfMemory before after
 
 -- nothing is left in the buffer, unless the writer failed

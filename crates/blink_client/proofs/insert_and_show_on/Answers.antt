@@ -8,7 +8,7 @@ use Rattle.blink_batch.specs.declared.Op.TheVariants.{Insert}
 use Rattle.blink_batch.specs.PlainMap.{pointer_of}
 use Rattle.blink_live.specs.Changes.{changes_made, last_state, states_of}
 use Rattle.blink_live.specs.Handles.{IsChangedBy, keys_of, opening_of, own_changes_of, seen_changes_of, seen_of}
-use Rattle.blink_live.proofs.Offered.{after-exactly, last_state-push, own_changes-own_key, front_of_front}
+use Rattle.blink_live.proofs.Offered.{after-exactly, last_state-push, own_changes-own_key, prefix_of_prefix}
 use Rattle.blink_client.proofs.insert_and_show_on.Goals as goal
 
 when_ok : {T E P : Type 0} (r : Result T E) → false ≡ is_err r → OnOk r P → P
@@ -27,6 +27,6 @@ returns g c =
     subst (IsPrefix (seen_changes_of c.glance-shown.new.pass key)) (ap (states_of key) c.tell.ensures.from.same_changes)
     (c.tell-3.ensures.own_before.1 key (subst (λ (keys : List ℕ). Contains keys key) (sym c.tell.ensures.from.same_keys) mine)) in
     record {
-      shown = c.glance-shown.ensures.state ∙ (after-exactly kept key (seen_of c.tell.new.to) (seen_of c.glance-shown.new.pass) (own_changes_of c.insert.new.pass key) (c.tell.ensures.own_after key mine) (front_of_front (seen_of c.tell.new.to) (seen_of c.tell-2.new.to) (seen_of c.glance-shown.new.pass) c.tell-2.ensures.told c.glance-shown.ensures.same.saw) no_more
+      shown = c.glance-shown.ensures.state ∙ (after-exactly kept key (seen_of c.tell.new.to) (seen_of c.glance-shown.new.pass) (own_changes_of c.insert.new.pass key) (c.tell.ensures.own_after key mine) (prefix_of_prefix (seen_of c.tell.new.to) (seen_of c.tell-2.new.to) (seen_of c.glance-shown.new.pass) c.tell-2.ensures.told c.glance-shown.ensures.same.saw) no_more
           ∙ (ap (last_state (kept key)) own ∙ last_state-push (kept key) (own_changes_of c.args.one.now key) (Some c.args.pointer)));
     }

@@ -16,9 +16,9 @@ use Rattle.blink_machine.specs.declared.step.Step.TheVariants.{Moved}
 use Rattle.blink_machine.specs.declared.step.Kind.TheVariants as kind
 use Rattle.blink_machine.specs.Kinds.{latch, unlatch}
 use Rattle.blink_machine.specs.Machine.{PlainMachine, NeedsLatch, NeedsUnlatch, need_at}
-use Rattle.blink_machine.specs.Moment.{Moment, goes_on, Steps, latches, unlatches, IsItsOperation, under_way}
-use Rattle.blink_machine.specs.Places.{way_left}
-use Rattle.blink_machine.specs.Sound.{IsSound}
+use Rattle.blink_machine.specs.TreeState.{TreeState, goes_on, Steps, latches, unlatches, IsItsOperation, under_way}
+use Rattle.blink_machine.specs.Places.{descent_bound}
+use Rattle.blink_machine.specs.Invariant.{Invariant}
 use Rattle.blink_machine.specs.Table.{done}
 use Rattle.blink_machine.proofs.Offered.{step_law, has_answer_at_end}
 use Rattle.blink_live.specs.declared.view.Plan.{Plan}
@@ -26,8 +26,8 @@ use Rattle.blink_live.specs.declared.view.Role.TheVariants.{Pass}
 use Rattle.blink_live.specs.declared.view.View.{View}
 use Rattle.blink_live.specs.Changes.{put}
 use Rattle.blink_live.specs.Rule.{Owners, PageWordIs, latch_word, IsInRole, IsBoundedWay, Knows, IsTableAt, IsTable}
-use Rattle.blink_live.specs.Plays.{GoesOn, CanGoOn, tries_latch, lets_go}
-use Rattle.blink_live.specs.Views.{Sat, going_on}
+use Rattle.blink_live.specs.AtomicSteps.{GoesOn, CanGoOn, tries_latch, lets_go}
+use Rattle.blink_live.specs.Views.{SeatState, going_on}
 use Rattle.blink_live.proofs.found.OperationBegins.{goes_on_as}
 use Rattle.blink_live.proofs.table.MapsWithOneChange.{put_here, put_else}
 use Rattle.blink_live.proofs.table.NextPageIsThere.{next_page_is_there}
@@ -39,14 +39,14 @@ pub nobody_has : (owners : Owners) (holder : Option ℕ) → ((seat : ℕ) → h
 nobody_has owners None some_number zero_is = refl
 nobody_has owners (Some seat) some_number zero_is = absurd (let least = some_number seat refl in omega (arith, least, zero_is))
 
--- the moment in which a page's latch has this holder, and a worker has another operation
-abbrev pub passed : Moment → ℕ → Option ℕ → ℕ → Option PlainMachine → Moment
-passed moment number holder worker operation = record moment { holder = put moment.holder number holder; machines = put moment.machines worker operation }
+-- the tree state in which a page's latch has this holder, and a worker has another operation
+abbrev pub passed : TreeState → ℕ → Option ℕ → ℕ → Option PlainMachine → TreeState
+passed tree_state number holder worker operation = record tree_state { holder = put tree_state.holder number holder; machines = put tree_state.machines worker operation }
 
-module _ (plan : Plan) (s : State ℕ View) (moment : Moment) (h : IsTableAt plan s moment) (id number x way : ℕ) (v : View) (after : PlainMachine) (holder : Option ℕ) (at : get_elem? s.views id ≡ some v) (role : v.role ≡ Pass)
+module _ (plan : Plan) (s : State ℕ View) (tree_state : TreeState) (h : IsTableAt plan s tree_state) (id number x way : ℕ) (v : View) (after : PlainMachine) (holder : Option ℕ) (at : get_elem? s.views id ≡ some v) (role : v.role ≡ Pass)
     (in_range : number < plan.counts.numbers) where
-  abbrev pub then : Moment
-  then = passed moment number holder id (goes_on after after.state)
+  abbrev pub then : TreeState
+  then = passed tree_state number holder id (goes_on after after.state)
 
   abbrev pub words : List ℕ
   words = set s.words (plan.counts.numbers + number) x
@@ -54,9 +54,9 @@ module _ (plan : Plan) (s : State ℕ View) (moment : Moment) (h : IsTableAt pla
   abbrev pub w : View
   w = going_on v after way
 
-  leaves : LeavesOthers plan s moment then h id words h.owners h.log
+  leaves : LeavesOthers plan s tree_state then h id words h.owners h.log
   leaves = record {
-    machines = λ seat other. put_else moment.machines id seat (goes_on after after.state) other;
+    machines = λ seat other. put_else tree_state.machines id seat (goes_on after after.state) other;
     ways = λ seat m other is. refl;
     rows = λ row least apart. (refl, row_stays plan s.words (plan.counts.numbers + number) x row (omega (arith, in_range)));
     numbers = λ n apart. (refl, λ free. free);
@@ -72,12 +72,12 @@ module _ (plan : Plan) (s : State ℕ View) (moment : Moment) (h : IsTableAt pla
       let kept = subst (IsInRole plan h.owners h.log id v) role known.in_role in
       let stays : (row : ℕ) → RowStays plan s.words words row = λ row. row_stays plan s.words (plan.counts.numbers + number) x row (omega (arith, in_range)) in record {
         same_plan = known.same_plan;
-        operation = put_here moment.machines id (goes_on after after.state);
+        operation = put_here tree_state.machines id (goes_on after after.state);
         bounded = bounded;
-        reads = reads_still plan s moment then h id kept.0 words h.owners h.log leaves v.reads known.reads;
+        reads = reads_still plan s tree_state then h id kept.0 words h.owners h.log leaves v.reads known.reads;
         rows = rows_kept plan h.owners s.words words stays (suc id) v.rows known.rows;
         numbers = record { in_range = known.numbers.in_range; own = known.numbers.own; free = known.numbers.free };
-        for_call = call_kept plan h.owners s.words words stays moment then (suc id) v.call v.rows.next v.pages.next (λ n own free. free) known.for_call;
+        for_call = call_kept plan h.owners s.words words stays tree_state then (suc id) v.call v.rows.next v.pages.next (λ n own free. free) known.for_call;
         share = known.share;
         saw = known.saw;
         heard = known.heard;
@@ -85,74 +85,74 @@ module _ (plan : Plan) (s : State ℕ View) (moment : Moment) (h : IsTableAt pla
       }
 
   -- the words and the tree afterwards
-  stored : IsSound then → x ≡ latch_word h.owners holder → ((seat : ℕ) → holder ≡ Some seat → 1 ≤ h.owners.latch_number seat) → IsStored plan s moment then h words h.owners h.log h.now
-  stored sound is some_number =
+  stored : Invariant then → x ≡ latch_word h.owners holder → ((seat : ℕ) → holder ≡ Some seat → 1 ≤ h.owners.latch_number seat) → IsStored plan s tree_state then h words h.owners h.log h.now
+  stored invariant is some_number =
       let place = plan.counts.numbers + number in
       let wide = h.width in
       let here : slice_index words place ≡ x = get_or-set_same s.words place x 0 (omega (arith, wide, in_range)) in record {
         same_fan = refl;
-        sound = sound;
+        invariant = invariant;
         prime_numbers = h.prime_numbers;
-        prime = prime_still plan s moment then h id (subst (IsInRole plan h.owners h.log id v) role (h.views id v at).in_role).0 words h.owners h.log leaves (get_or-set_other s.words place 0 x 0 (λ e. omega (arith, e, in_range))) refl;
+        prime = prime_still plan s tree_state then h id (subst (IsInRole plan h.owners h.log id v) role (h.views id v at).in_role).0 words h.owners h.log leaves (get_or-set_other s.words place 0 x 0 (λ e. omega (arith, e, in_range))) refl;
         pages = λ n least below.
             let other : slice_index words n ≡ slice_index s.words n = get_or-set_other s.words place n x 0 (λ e. omega (arith, e, below)) in
-            subst (λ (word : ℕ). PageWordIs plan h.owners words word (moment.pages n)) (sym other)
-            (page_word_still plan s moment then h id (subst (IsInRole plan h.owners h.log id v) role (h.views id v at).in_role).0 words h.owners h.log leaves (slice_index s.words n) (moment.pages n) (h.pages n least below));
+            subst (λ (word : ℕ). PageWordIs plan h.owners words word (tree_state.pages n)) (sym other)
+            (page_word_still plan s tree_state then h id (subst (IsInRole plan h.owners h.log id v) role (h.views id v at).in_role).0 words h.owners h.log leaves (slice_index s.words n) (tree_state.pages n) (h.pages n least below));
         no_other_page = h.no_other_page;
-        no_other_latch = λ n beyond. put_else moment.holder number n holder (λ same. omega (arith, same, beyond, in_range)) ∙ h.no_other_latch n beyond;
+        no_other_latch = λ n beyond. put_else tree_state.holder number n holder (λ same. omega (arith, same, beyond, in_range)) ∙ h.no_other_latch n beyond;
         latches = λ n below. dite (ℕ_discrete n number)
-            (λ same. ap (λ (k : ℕ). slice_index words (plan.counts.numbers + k)) same ∙ (here ∙ (is ∙ (ap (latch_word h.owners) (sym (put_here moment.holder number holder)) ∙ ap (λ (k : ℕ). latch_word h.owners (put moment.holder number holder k)) (sym same)))))
+            (λ same. ap (λ (k : ℕ). slice_index words (plan.counts.numbers + k)) same ∙ (here ∙ (is ∙ (ap (latch_word h.owners) (sym (put_here tree_state.holder number holder)) ∙ ap (λ (k : ℕ). latch_word h.owners (put tree_state.holder number holder k)) (sym same)))))
             (λ differ.
             get_or-set_other s.words place (plan.counts.numbers + n) x 0 (λ e. differ (omega (arith, e)))
-            ∙ (h.latches n below ∙ ap (latch_word h.owners) (sym (put_else moment.holder number n holder differ))));
+            ∙ (h.latches n below ∙ ap (latch_word h.owners) (sym (put_else tree_state.holder number n holder differ))));
         holders = λ n seat has. dite (ℕ_discrete n number)
-            (λ same. some_number seat (sym (put_here moment.holder number holder) ∙ (ap (put moment.holder number holder) (sym same) ∙ has)))
-            (λ differ. h.holders n seat (sym (put_else moment.holder number n holder differ) ∙ has));
+            (λ same. some_number seat (sym (put_here tree_state.holder number holder) ∙ (ap (put tree_state.holder number holder) (sym same) ∙ has)))
+            (λ differ. h.holders n seat (sym (put_else tree_state.holder number n holder differ) ∙ has));
         is_map = record { ascending = h.is_map.ascending; kept = h.is_map.kept };
         kept = h.kept;
         untouched = h.untouched;
       }
 
   -- and the page that it needs next
-  pub next_there : IsSound then → CanGoOn v.plan after
-  next_there sound = next_page_is_there plan then (record { no_page = h.no_other_page; no_latch = λ n beyond. put_else moment.holder number n holder (λ same. omega (arith, same, beyond, in_range)) ∙ h.no_other_latch n beyond }) v.plan id after
-      (h.views id v at).same_plan sound (put_here moment.machines id (goes_on after after.state))
+  pub next_there : Invariant then → CanGoOn v.plan after
+  next_there invariant = next_page_is_there plan then (record { no_page = h.no_other_page; no_latch = λ n beyond. put_else tree_state.holder number n holder (λ same. omega (arith, same, beyond, in_range)) ∙ h.no_other_latch n beyond }) v.plan id after
+      (h.views id v at).same_plan invariant (put_here tree_state.machines id (goes_on after after.state))
 
-  pub passes_latch : IsSound then → IsBoundedWay then w → x ≡ latch_word h.owners holder → ((seat : ℕ) → holder ≡ Some seat → 1 ≤ h.owners.latch_number seat)
+  pub passes_latch : Invariant then → IsBoundedWay then w → x ≡ latch_word h.owners holder → ((seat : ℕ) → holder ≡ Some seat → 1 ≤ h.owners.latch_number seat)
       → IsTable plan record { words = words; homes = s.homes; views = set s.views id w }
-  passes_latch sound bounded is some_number =
+  passes_latch invariant bounded is some_number =
       let kept = subst (IsInRole plan h.owners h.log id v) role (h.views id v at).in_role in
-      store_keeps plan s moment then h id (plan.counts.numbers + number) x kept.0 v w at h.owners h.log h.now leaves (stored sound is some_number) refl (knows bounded)
+      store_keeps plan s tree_state then h id (plan.counts.numbers + number) x kept.0 v w at h.owners h.log h.now leaves (stored invariant is some_number) refl (knows bounded)
 
 -- ---- the latch is got, or not
 
-pub latch_is_tried : (plan : Plan) (slots id number : ℕ) (me : Sat) (m : PlainMachine) → me.0.role ≡ Pass → me.0.operation ≡ Some m → FitsWords m.op → NeedsLatch m number → number < plan.counts.numbers → 2 ≤ me.0.rows.stop
+pub latch_is_tried : (plan : Plan) (slots id number : ℕ) (me : SeatState) (m : PlainMachine) → me.0.role ≡ Pass → me.0.operation ≡ Some m → FitsWords m.op → NeedsLatch m number → number < plan.counts.numbers → 2 ≤ me.0.rows.stop
     → Allows (IsTable plan) slots id me (plan.counts.numbers + number) (λ n. either (eqb n 0) (me.0.rows.stop - 1) n)
     (tries_latch (step slots (plan.counts.numbers + number) 0 (me.0.rows.stop - 1) none) me)
 latch_is_tried plan slots id number me m role at_m fits needs in_range some_row s table homes at small =
-    let moment : Moment = table.0 in
-    let h : IsTableAt plan s moment = table.1 in
+    let tree_state : TreeState = table.0 in
+    let h : IsTableAt plan s tree_state = table.1 in
     let known = h.views id me.0 at in
     let place : ℕ = plan.counts.numbers + number in
     let x : ℕ = me.0.rows.stop - 1 in
     let found : ℕ = slice_index s.words place in
     let after : PlainMachine = done m 0 in
-    let under : moment.machines id ≡ Some m = known.operation ∙ at_m in
-    let its : IsItsOperation moment id m = under_way under in
-    let new : Moment = passed moment number (Some id) id (goes_on after after.state) in
-    let way : ℕ = way_left moment.pages after in
+    let under : tree_state.machines id ≡ Some m = known.operation ∙ at_m in
+    let its : IsItsOperation tree_state id m = under_way under in
+    let new : TreeState = passed tree_state number (Some id) id (goes_on after after.state) in
+    let way : ℕ = descent_bound tree_state.pages after in
     let kept = subst (IsInRole plan h.owners h.log id me.0) role known.in_role in
     exchanged found 0 x (λ (k : ℕ). (w : View) × (a : Act ℕ) × Valid s.homes me.1 a × IsTable plan (stepped s place k id me.1 w a) × tries_latch (step slots place 0 x none) me found (w, carried_after me.1 a))
     (λ free.
-    let nobody : moment.holder number ≡ None = nobody_has h.owners (moment.holder number) (λ seat has. h.holders number seat has) (sym (h.latches number in_range) ∙ free) in
-    let stepped_so : Steps moment id m (Moved (kind.Latch number)) after new = latches number needs nobody refl refl refl refl refl
-    (record { changed = put_here moment.holder number (Some id); others = λ other ne. put_else moment.holder number other (Some id) ne })
-    (record { own = put_here moment.machines id (goes_on after after.state); others = λ other ne. put_else moment.machines id other (goes_on after after.state) ne }) in
-    let sound = step_law.step_keeps_sound moment new id m after (Moved (kind.Latch number)) h.sound fits its stepped_so in (
+    let nobody : tree_state.holder number ≡ None = nobody_has h.owners (tree_state.holder number) (λ seat has. h.holders number seat has) (sym (h.latches number in_range) ∙ free) in
+    let stepped_so : Steps tree_state id m (Moved (kind.Latch number)) after new = latches number needs nobody refl refl refl refl refl
+    (record { changed = put_here tree_state.holder number (Some id); others = λ other ne. put_else tree_state.holder number other (Some id) ne })
+    (record { own = put_here tree_state.machines id (goes_on after after.state); others = λ other ne. put_else tree_state.machines id other (goes_on after after.state) ne }) in
+    let invariant = step_law.step_keeps_invariant tree_state new id m after (Moved (kind.Latch number)) h.invariant fits its stepped_so in (
       going_on me.0 after way,
       keeps,
       tt,
-      passes_latch plan s moment h id number x way me.0 after (Some id) at role in_range sound (λ other is. ap (way_left moment.pages) (sym (goes_on_as after after.state other is))) (sym kept.1)
+      passes_latch plan s tree_state h id number x way me.0 after (Some id) at role in_range invariant (λ other is. ap (descent_bound tree_state.pages) (sym (goes_on_as after after.state other is))) (sym kept.1)
           (λ seat is. let same : id ≡ seat = cc in let its_number : h.owners.latch_number id ≡ me.0.rows.stop - 1 = kept.1 in subst (λ (j : ℕ). 1 ≤ h.owners.latch_number j) same (omega (arith, its_number, some_row))),
       λ k n at_k needs_k is. record {
         got = λ none_found.
@@ -163,9 +163,9 @@ latch_is_tried plan slots id number me m role at_m fits needs in_range some_row 
             (record {
               way = way;
               is = refl;
-              next = next_there plan s moment h id number x way me.0 after (Some id) at role in_range sound;
-              uses = step_law.allowance_is_used_up.by_step moment new id m after (Moved (kind.Latch number)) h.sound fits its stepped_so;
-              answers_at_end = λ ends. has_answer_at_end moment h.sound id m after its ends (Moved (kind.Latch number)) new stepped_so;
+              next = next_there plan s tree_state h id number x way me.0 after (Some id) at role in_range invariant;
+              uses = step_law.allowance_is_used_up.by_step tree_state new id m after (Moved (kind.Latch number)) h.invariant fits its stepped_so;
+              answers_at_end = λ ends. has_answer_at_end tree_state h.invariant id m after its ends (Moved (kind.Latch number)) new stepped_so;
             });
         lost = λ other. absurd (other free);
       },
@@ -180,25 +180,25 @@ latch_is_tried plan slots id number me m role at_m fits needs in_range some_row 
 
 -- ---- the latch is let go
 
-pub latch_is_let_go : (plan : Plan) (slots id number : ℕ) (me : Sat) (m : PlainMachine) → me.0.role ≡ Pass → me.0.operation ≡ Some m → FitsWords m.op → NeedsUnlatch m number → number < plan.counts.numbers
+pub latch_is_let_go : (plan : Plan) (slots id number : ℕ) (me : SeatState) (m : PlainMachine) → me.0.role ≡ Pass → me.0.operation ≡ Some m → FitsWords m.op → NeedsUnlatch m number → number < plan.counts.numbers
     → Allows (IsTable plan) slots id me (plan.counts.numbers + number) (λ n. 0) (λ n. lets_go (step slots (plan.counts.numbers + number) 0 0 none) me 0)
 latch_is_let_go plan slots id number me m role at_m fits needs in_range s table homes at small =
-    let moment : Moment = table.0 in
-    let h : IsTableAt plan s moment = table.1 in
+    let tree_state : TreeState = table.0 in
+    let h : IsTableAt plan s tree_state = table.1 in
     let known = h.views id me.0 at in
     let after : PlainMachine = done m 0 in
-    let under : moment.machines id ≡ Some m = known.operation ∙ at_m in
-    let its : IsItsOperation moment id m = under_way under in
-    let new : Moment = passed moment number None id (goes_on after after.state) in
-    let way : ℕ = way_left moment.pages after in
-    let stepped_so : Steps moment id m (Moved (kind.Unlatch number)) after new = unlatches number needs refl refl refl refl refl
-    (record { changed = put_here moment.holder number None; others = λ other ne. put_else moment.holder number other None ne })
-    (record { own = put_here moment.machines id (goes_on after after.state); others = λ other ne. put_else moment.machines id other (goes_on after after.state) ne }) in
-    let sound = step_law.step_keeps_sound moment new id m after (Moved (kind.Unlatch number)) h.sound fits its stepped_so in (
+    let under : tree_state.machines id ≡ Some m = known.operation ∙ at_m in
+    let its : IsItsOperation tree_state id m = under_way under in
+    let new : TreeState = passed tree_state number None id (goes_on after after.state) in
+    let way : ℕ = descent_bound tree_state.pages after in
+    let stepped_so : Steps tree_state id m (Moved (kind.Unlatch number)) after new = unlatches number needs refl refl refl refl refl
+    (record { changed = put_here tree_state.holder number None; others = λ other ne. put_else tree_state.holder number other None ne })
+    (record { own = put_here tree_state.machines id (goes_on after after.state); others = λ other ne. put_else tree_state.machines id other (goes_on after after.state) ne }) in
+    let invariant = step_law.step_keeps_invariant tree_state new id m after (Moved (kind.Unlatch number)) h.invariant fits its stepped_so in (
       going_on me.0 after way,
       keeps,
       tt,
-      passes_latch plan s moment h id number 0 way me.0 after None at role in_range sound (λ other is. ap (way_left moment.pages) (sym (goes_on_as after after.state other is))) refl (λ seat is. absurd (cc)),
+      passes_latch plan s tree_state h id number 0 way me.0 after None at role in_range invariant (λ other is. ap (descent_bound tree_state.pages) (sym (goes_on_as after after.state other is))) refl (λ seat is. absurd (cc)),
       λ k n at_k needs_k is.
           let same : m ≡ k = cc in
           let one : Unlatch number ≡ Unlatch n = sym needs ∙ (ap (λ (j : PlainMachine). need_at j.state) same ∙ needs_k) in
@@ -207,8 +207,8 @@ latch_is_let_go plan slots id number me m role at_m fits needs in_range s table 
           (record {
             way = way;
             is = refl;
-            next = next_there plan s moment h id number 0 way me.0 after None at role in_range sound;
-            uses = step_law.allowance_is_used_up.by_step moment new id m after (Moved (kind.Unlatch number)) h.sound fits its stepped_so;
-            answers_at_end = λ ends. has_answer_at_end moment h.sound id m after its ends (Moved (kind.Unlatch number)) new stepped_so;
+            next = next_there plan s tree_state h id number 0 way me.0 after None at role in_range invariant;
+            uses = step_law.allowance_is_used_up.by_step tree_state new id m after (Moved (kind.Unlatch number)) h.invariant fits its stepped_so;
+            answers_at_end = λ ends. has_answer_at_end tree_state h.invariant id m after its ends (Moved (kind.Unlatch number)) new stepped_so;
           }),
     )

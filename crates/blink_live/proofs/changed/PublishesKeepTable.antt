@@ -19,8 +19,8 @@ use Rattle.blink_machine.specs.declared.step.Kind.TheVariants as kinds
 use Rattle.blink_machine.specs.Allowance.{UsesUp}
 use Rattle.blink_machine.specs.Kinds.{write_page, write_prime}
 use Rattle.blink_machine.specs.Machine.{PlainMachine, NeedsNew, NeedsWrite, NeedsPrimeWrite}
-use Rattle.blink_machine.specs.Moment.{Moment, goes_on, Steps, writes_page, writes_new, writes_prime, IsItsOperation, under_way}
-use Rattle.blink_machine.specs.Places.{way_left}
+use Rattle.blink_machine.specs.TreeState.{TreeState, goes_on, Steps, writes_page, writes_new, writes_prime, IsItsOperation, under_way}
+use Rattle.blink_machine.specs.Places.{descent_bound}
 use Rattle.blink_machine.specs.StepLaw.{deciding, other}
 use Rattle.blink_machine.specs.Table.{done, page_out, PrimeOut}
 use Rattle.blink_machine.specs.TreeMap.{Keeps}
@@ -31,9 +31,9 @@ use Rattle.blink_live.specs.declared.view.Role.TheVariants.{Pass}
 use Rattle.blink_live.specs.declared.view.Share.{Share}
 use Rattle.blink_live.specs.declared.view.View.{View}
 use Rattle.blink_live.specs.Changes.{put, after, states_of, changes_made, Learns}
-use Rattle.blink_live.specs.Plays.{Decided, CanGoOn, PublishesPage, PublishesNew, PublishesPrime, publishes_page, publishes_new, publishes_prime}
+use Rattle.blink_live.specs.AtomicSteps.{Decided, CanGoOn, PublishesPage, PublishesNew, PublishesPrime, publishes_page, publishes_new, publishes_prime}
 use Rattle.blink_live.specs.Rule.{IsOwnKey, IsShare, HasNumbers, IsTableAt, IsTable}
-use Rattle.blink_live.specs.Views.{Sat, KnowsItsOwn, span, changed_by, publishes}
+use Rattle.blink_live.specs.Views.{SeatState, KnowsItsOwn, span, changed_by, publishes}
 use Rattle.blink_live.proofs.changed.ChangesAreTheMaps.{states_of-append, none_of_other, other_stays, map_is_changed}
 use Rattle.blink_live.proofs.changed.RowsArePublished.{gives_row, IsStepOfTree, ChangesOwn, publish_keeps}
 use Rattle.blink_live.proofs.found.OperationBegins.{goes_on_as}
@@ -42,7 +42,7 @@ use Rattle.blink_live.proofs.table.NextPageIsThere.{EndsAt, next_page_is_there}
 use Rattle.blink_live.proofs.table.SharesAreKnown.{share_is_known}
 
 -- what the table becomes, and what the seat is told
-pub record BecomesPublished (plan : Plan) (s : State ℕ View) (id number : ℕ) (kind : Kind) (pages : Span) (me : Sat) (m after_it : PlainMachine) : Type 0 where
+pub record BecomesPublished (plan : Plan) (s : State ℕ View) (id number : ℕ) (kind : Kind) (pages : Span) (me : SeatState) (m after_it : PlainMachine) : Type 0 where
   pub way : ℕ
   pub share : Share
   pub seen : List Change
@@ -54,10 +54,10 @@ pub record BecomesPublished (plan : Plan) (s : State ℕ View) (id number : ℕ)
   pub answers_at_end : after_it.state ≡ Ended → IsSome after_it.answer
   pub knows_own : KnowsItsOwn (publishes me.0 after_it way pages share seen)
 
-module _ (plan : Plan) (s : State ℕ View) (moment then : Moment) (h : IsTableAt plan s moment) (id number : ℕ) (kind : Kind) (pages : Span) (me : Sat) (m after_it : PlainMachine) (content : List ℕ)
-    (at : get_elem? s.views id ≡ some me.0) (role : me.0.role ≡ Pass) (its : IsItsOperation moment id m) (fits : FitsWords m.op) (stepped : Steps moment id m (Moved kind) after_it then)
-    (tree : IsStepOfTree plan s moment then h id number (way_left then.pages after_it) me.0 after_it content pages at role)
-    (in_range : number < plan.counts.numbers) (room : me.0.call.rows.next < me.0.call.rows.stop) (is_row : IsRowOf me.0.call.draft content) (among : Contains me.0.share.keys (key_of m.op)) where
+module _ (plan : Plan) (s : State ℕ View) (tree_state then : TreeState) (h : IsTableAt plan s tree_state) (id number : ℕ) (kind : Kind) (pages : Span) (me : SeatState) (m after_it : PlainMachine) (content : List ℕ)
+    (at : get_elem? s.views id ≡ some me.0) (role : me.0.role ≡ Pass) (its : IsItsOperation tree_state id m) (fits : FitsWords m.op) (stepped : Steps tree_state id m (Moved kind) after_it then)
+    (tree : IsStepOfTree plan s tree_state then h id number (descent_bound then.pages after_it) me.0 after_it content pages at role)
+    (in_range : number < plan.counts.numbers) (room : me.0.call.rows.next < me.0.call.rows.stop) (is_row : IsRowOf me.0.call.staged content) (among : Contains me.0.share.keys (key_of m.op)) where
   own_key : IsOwnKey plan h.owners h.log (suc id) me.0.share (key_of m.op)
   own_key = (h.views id me.0 at).share (key_of m.op) among
 
@@ -75,7 +75,7 @@ module _ (plan : Plan) (s : State ℕ View) (moment then : Moment) (h : IsTableA
 
   -- the changes where the step decides the operation
   decides_here : Keeps then (map_after h.now m.op)
-      → ChangesOwn plan s moment then h id number (way_left then.pages after_it) me.0 after_it content pages at role tree in_range room is_row its_changes (map_after h.now m.op) (changed_by m.op me.0.share)
+      → ChangesOwn plan s tree_state then h id number (descent_bound then.pages after_it) me.0 after_it content pages at role tree in_range room is_row its_changes (map_after h.now m.op) (changed_by m.op me.0.share)
   decides_here keeps_map = record {
     other_changes = λ key apart. none_of_other m.op kept_before key (its_key key apart);
     other_kept = λ key apart. other_stays (after (pointer_of plan.opening) h.log) m.op kept_before key (its_key key apart);
@@ -90,7 +90,7 @@ module _ (plan : Plan) (s : State ℕ View) (moment then : Moment) (h : IsTableA
   }
 
   -- and where it doesn't
-  decides_nothing : Keeps then h.now → ChangesOwn plan s moment then h id number (way_left then.pages after_it) me.0 after_it content pages at role tree in_range room is_row [] h.now me.0.share
+  decides_nothing : Keeps then h.now → ChangesOwn plan s tree_state then h id number (descent_bound then.pages after_it) me.0 after_it content pages at role tree in_range room is_row [] h.now me.0.share
   decides_nothing keeps_map = record {
     other_changes = λ key apart. refl;
     other_kept = λ key apart. refl;
@@ -105,28 +105,28 @@ module _ (plan : Plan) (s : State ℕ View) (moment then : Moment) (h : IsTableA
   }
 
   -- of its own keys the seat knows what its share says of them
-  own_known : (made : List Change) (share : Share) → IsShare plan (gives_row h.owners me.0.call.rows.next) (h.log ++ made) (suc id) share → KnowsItsOwn (publishes me.0 after_it (way_left then.pages after_it) pages share (h.log ++ made))
-  own_known made share is = share_is_known plan (gives_row h.owners me.0.call.rows.next) (suc id) (publishes me.0 after_it (way_left then.pages after_it) pages share (h.log ++ made)) (h.views id me.0 at).same_plan is
+  own_known : (made : List Change) (share : Share) → IsShare plan (gives_row h.owners me.0.call.rows.next) (h.log ++ made) (suc id) share → KnowsItsOwn (publishes me.0 after_it (descent_bound then.pages after_it) pages share (h.log ++ made))
+  own_known made share is = share_is_known plan (gives_row h.owners me.0.call.rows.next) (suc id) (publishes me.0 after_it (descent_bound then.pages after_it) pages share (h.log ++ made)) (h.views id me.0 at).same_plan is
 
   pub becomes_published : BecomesPublished plan s id number kind pages me m after_it
   becomes_published =
       let known = h.views id me.0 at in
-      let way : ℕ = way_left then.pages after_it in
+      let way : ℕ = descent_bound then.pages after_it in
       let ends : EndsAt plan then = record { no_page = tree.no_other_page; no_latch = λ n beyond. tree.same_holder n ∙ h.no_other_latch n beyond } in
-      let next = next_page_is_there plan then ends me.0.plan id after_it known.same_plan tree.sound tree.own in
-      let uses = step_law.allowance_is_used_up.by_step moment then id m after_it (Moved kind) h.sound fits its stepped in
-      let answers_at_end : after_it.state ≡ Ended → IsSome after_it.answer = λ at_end. has_answer_at_end moment h.sound id m after_it its at_end (Moved kind) then stepped in
-      let bounded : (k : PlainMachine) → goes_on after_it after_it.state ≡ Some k → way_left then.pages k ≡ way = λ k is. ap (way_left then.pages) (sym (goes_on_as after_it after_it.state k is)) in
+      let next = next_page_is_there plan then ends me.0.plan id after_it known.same_plan tree.invariant tree.own in
+      let uses = step_law.allowance_is_used_up.by_step tree_state then id m after_it (Moved kind) h.invariant fits its stepped in
+      let answers_at_end : after_it.state ≡ Ended → IsSome after_it.answer = λ at_end. has_answer_at_end tree_state h.invariant id m after_it its at_end (Moved kind) then stepped in
+      let bounded : (k : PlainMachine) → goes_on after_it after_it.state ≡ Some k → descent_bound then.pages k ≡ way = λ k is. ap (descent_bound then.pages) (sym (goes_on_as after_it after_it.state k is)) in
       let learns : (made : List Change) → Learns me.0 (h.log ++ made) = λ made. record {
         saw = (known.saw.0 ++ made, sym (append_assoc me.0.seen known.saw.0 made) ∙ ap (λ (l : List Change). l ++ made) known.saw.1);
         heard = (known.heard.0 ++ made, sym (append_assoc me.0.told known.heard.0 made) ∙ ap (λ (l : List Change). l ++ made) known.heard.1);
       } in
-      elim (step_law.step_decides moment then id m after_it (Moved kind) h.now h.sound fits its stepped h.is_map.ascending h.is_map.kept) as (λ d. BecomesPublished plan s id number kind pages me m after_it) [
+      elim (step_law.step_decides tree_state then id m after_it (Moved kind) h.now h.invariant fits its stepped h.is_map.ascending h.is_map.kept) as (λ d. BecomesPublished plan s id number kind pages me m after_it) [
         | deciding none_yet answers keeps_map ↦ record {
           way = way;
           share = changed_by m.op me.0.share;
           seen = h.log ++ its_changes;
-          table = publish_keeps plan s moment then h id number way me.0 after_it content pages at role tree in_range room is_row its_changes (map_after h.now m.op) (changed_by m.op me.0.share) (decides_here keeps_map) bounded;
+          table = publish_keeps plan s tree_state then h id number way me.0 after_it content pages at role tree in_range room is_row its_changes (map_after h.now m.op) (changed_by m.op me.0.share) (decides_here keeps_map) bounded;
           learns = learns its_changes;
           decided = Decided.deciding none_yet (answers ∙ ap (λ (k : Option ℕ). Some (answer_at m.op k)) in_map) refl;
           next = next;
@@ -138,7 +138,7 @@ module _ (plan : Plan) (s : State ℕ View) (moment then : Moment) (h : IsTableA
           way = way;
           share = me.0.share;
           seen = h.log ++ [];
-          table = publish_keeps plan s moment then h id number way me.0 after_it content pages at role tree in_range room is_row [] h.now me.0.share (decides_nothing keeps_map) bounded;
+          table = publish_keeps plan s tree_state then h id number way me.0 after_it content pages at role tree in_range room is_row [] h.now me.0.share (decides_nothing keeps_map) bounded;
           learns = learns [];
           decided = Decided.other same_answer refl;
           next = next;
@@ -150,35 +150,35 @@ module _ (plan : Plan) (s : State ℕ View) (moment then : Moment) (h : IsTableA
 
 -- ---- a page
 
--- the moment in which a page is another, and a worker has another operation
-abbrev written : Moment → ℕ → PlainPage → ℕ → Option PlainMachine → Moment
-written moment number page worker operation = record moment { pages = put moment.pages number (Some page); machines = put moment.machines worker operation }
+-- the tree state in which a page is another, and a worker has another operation
+abbrev written : TreeState → ℕ → PlainPage → ℕ → Option PlainMachine → TreeState
+written tree_state number page worker operation = record tree_state { pages = put tree_state.pages number (Some page); machines = put tree_state.machines worker operation }
 
-module _ (plan : Plan) (s : State ℕ View) (moment : Moment) (h : IsTableAt plan s moment) (id number way : ℕ) (v : View) (after_it : PlainMachine) (page : PlainPage) (pages : Span) (at : get_elem? s.views id ≡ some v) (role : v.role ≡ Pass)
+module _ (plan : Plan) (s : State ℕ View) (tree_state : TreeState) (h : IsTableAt plan s tree_state) (id number way : ℕ) (v : View) (after_it : PlainMachine) (page : PlainPage) (pages : Span) (at : get_elem? s.views id ≡ some v) (role : v.role ≡ Pass)
     (some_number : 1 ≤ number) (in_range : number < plan.counts.numbers) where
-  abbrev after_write : Moment
-  after_write = written moment number page id (goes_on after_it after_it.state)
+  abbrev after_write : TreeState
+  after_write = written tree_state number page id (goes_on after_it after_it.state)
 
-  free_else : (n : ℕ) → n ≢ number → moment.pages n ≡ None → after_write.pages n ≡ None
-  free_else n differ none_there = put_else moment.pages number n (Some page) differ ∙ none_there
+  free_else : (n : ℕ) → n ≢ number → tree_state.pages n ≡ None → after_write.pages n ≡ None
+  free_else n differ none_there = put_else tree_state.pages number n (Some page) differ ∙ none_there
 
   -- the page numbers from one on that isn't the page's
-  numbers_else : (numbers : Span) → ((n : ℕ) → numbers.next ≤ n → n < numbers.stop → n ≢ number) → HasNumbers plan h.owners moment (suc id) numbers → HasNumbers plan h.owners after_write (suc id) numbers
+  numbers_else : (numbers : Span) → ((n : ℕ) → numbers.next ≤ n → n < numbers.stop → n ≢ number) → HasNumbers plan h.owners tree_state (suc id) numbers → HasNumbers plan h.owners after_write (suc id) numbers
   numbers_else numbers differ has = record { in_range = has.in_range; own = has.own; free = λ n low high. free_else n (differ n low high) (has.free n low high) }
 
-  tree_written : Rattle.blink_machine.specs.Sound.IsSound after_write → Rattle.blink_machine.specs.Places.KeepsPlaces moment.pages after_write.pages
-      → ((n : ℕ) → h.owners.page n ≢ suc id → moment.pages n ≡ None → n ≢ number)
+  tree_written : Rattle.blink_machine.specs.Invariant.Invariant after_write → Rattle.blink_machine.specs.Places.KeepsPlaces tree_state.pages after_write.pages
+      → ((n : ℕ) → h.owners.page n ≢ suc id → tree_state.pages n ≡ None → n ≢ number)
       → HasNumbers plan h.owners after_write (suc id) v.pages → HasNumbers plan h.owners after_write (suc id) pages → pages.stop ≤ v.pages.next
-      → IsStepOfTree plan s moment after_write h id number way v after_it (page_words page) pages at role
-  tree_written sound places apart own_free call_free call_before = record {
+      → IsStepOfTree plan s tree_state after_write h id number way v after_it (page_words page) pages at role
+  tree_written invariant places apart own_free call_free call_before = record {
     same_fan = refl;
     same_holder = λ n. refl;
-    own = put_here moment.machines id (goes_on after_it after_it.state);
-    others = λ seat ne. put_else moment.machines id seat (goes_on after_it after_it.state) ne;
-    sound = sound;
+    own = put_here tree_state.machines id (goes_on after_it after_it.state);
+    others = λ seat ne. put_else tree_state.machines id seat (goes_on after_it after_it.state) ne;
+    invariant = invariant;
     places = places;
-    page_here = λ least. (page, put_here moment.pages number (Some page), refl);
-    other_pages = λ n least differ. put_else moment.pages number n (Some page) differ;
+    page_here = λ least. (page, put_here tree_state.pages number (Some page), refl);
+    other_pages = λ n least differ. put_else tree_state.pages number n (Some page) differ;
     prime_here = λ zero_is. absurd (omega (arith, zero_is, some_number));
     other_prime = λ least. refl;
     prime_numbers = h.prime_numbers;
@@ -190,38 +190,38 @@ module _ (plan : Plan) (s : State ℕ View) (moment : Moment) (h : IsTableAt pla
   }
 
 -- in a page's place
-page_becomes_published : (plan : Plan) (s : State ℕ View) (table : IsTable plan s) (id number : ℕ) (me : Sat) (m : PlainMachine) → get_elem? s.views id ≡ some me.0 → me.0.role ≡ Pass → me.0.operation ≡ Some m → FitsWords m.op
-    → NeedsWrite m number → 1 ≤ number → number < plan.counts.numbers → me.0.call.rows.next < me.0.call.rows.stop → IsRowOf me.0.call.draft (page_words (page_out m 0)) → Contains me.0.share.keys (key_of m.op)
+page_becomes_published : (plan : Plan) (s : State ℕ View) (table : IsTable plan s) (id number : ℕ) (me : SeatState) (m : PlainMachine) → get_elem? s.views id ≡ some me.0 → me.0.role ≡ Pass → me.0.operation ≡ Some m → FitsWords m.op
+    → NeedsWrite m number → 1 ≤ number → number < plan.counts.numbers → me.0.call.rows.next < me.0.call.rows.stop → IsRowOf me.0.call.staged (page_words (page_out m 0)) → Contains me.0.share.keys (key_of m.op)
     → BecomesPublished plan s id number (write_page number) me.0.call.pages me m (done m 0)
 page_becomes_published plan s table id number me m at role at_m fits needs some_number in_range room is_row among =
-    let moment : Moment = table.0 in
-    let h : IsTableAt plan s moment = table.1 in
+    let tree_state : TreeState = table.0 in
+    let h : IsTableAt plan s tree_state = table.1 in
     let known = h.views id me.0 at in
     let after_it : PlainMachine = done m 0 in
-    let its : IsItsOperation moment id m = under_way (known.operation ∙ at_m) in
-    let well = (step_law.sound_is_in_order moment h.sound).writes_page id number m its needs in
+    let its : IsItsOperation tree_state id m = under_way (known.operation ∙ at_m) in
+    let well = (step_law.invariant_gives_order tree_state h.invariant).writes_page id number m its needs in
     let page : PlainPage = page_out m 0 in
-    let then : Moment = written moment number page id (goes_on after_it after_it.state) in
-    let stepped : Steps moment id m (Moved (kinds.WritePage number)) after_it then = writes_page number needs refl refl refl refl
-    (record { written = put_here moment.pages number (Some page); others = λ n ne. put_else moment.pages number n (Some page) ne })
+    let then : TreeState = written tree_state number page id (goes_on after_it after_it.state) in
+    let stepped : Steps tree_state id m (Moved (kinds.WritePage number)) after_it then = writes_page number needs refl refl refl refl
+    (record { written = put_here tree_state.pages number (Some page); others = λ n ne. put_else tree_state.pages number n (Some page) ne })
     refl
-    (record { own = put_here moment.machines id (goes_on after_it after_it.state); others = λ seat ne. put_else moment.machines id seat (goes_on after_it after_it.state) ne }) in
-    let sound = step_law.step_keeps_sound moment then id m after_it (Moved (kinds.WritePage number)) h.sound fits its stepped in
-    let places = step_law.places_stay.stay moment then id m after_it (Moved (kinds.WritePage number)) h.sound its stepped in
-    let differs : (n : ℕ) → moment.pages n ≡ None → n ≢ number = λ n none_there same. let there : moment.pages n ≡ Some well.before = ap moment.pages same ∙ well.there in cc in
-    let way : ℕ = way_left then.pages after_it in
-    let tree = tree_written plan s moment h id number way me.0 after_it page me.0.call.pages at role some_number in_range sound places (λ n not_own none_there. differs n none_there)
-    (numbers_else plan s moment h id number way me.0 after_it page me.0.call.pages at role some_number in_range me.0.pages (λ n low high. differs n (known.numbers.free n low high)) known.numbers)
-    (numbers_else plan s moment h id number way me.0 after_it page me.0.call.pages at role some_number in_range me.0.call.pages (λ n low high. differs n (known.for_call.numbers.free n low high)) known.for_call.numbers)
+    (record { own = put_here tree_state.machines id (goes_on after_it after_it.state); others = λ seat ne. put_else tree_state.machines id seat (goes_on after_it after_it.state) ne }) in
+    let invariant = step_law.step_keeps_invariant tree_state then id m after_it (Moved (kinds.WritePage number)) h.invariant fits its stepped in
+    let places = step_law.places_stay.stay tree_state then id m after_it (Moved (kinds.WritePage number)) h.invariant its stepped in
+    let differs : (n : ℕ) → tree_state.pages n ≡ None → n ≢ number = λ n none_there same. let there : tree_state.pages n ≡ Some well.before = ap tree_state.pages same ∙ well.there in cc in
+    let way : ℕ = descent_bound then.pages after_it in
+    let tree = tree_written plan s tree_state h id number way me.0 after_it page me.0.call.pages at role some_number in_range invariant places (λ n not_own none_there. differs n none_there)
+    (numbers_else plan s tree_state h id number way me.0 after_it page me.0.call.pages at role some_number in_range me.0.pages (λ n low high. differs n (known.numbers.free n low high)) known.numbers)
+    (numbers_else plan s tree_state h id number way me.0 after_it page me.0.call.pages at role some_number in_range me.0.call.pages (λ n low high. differs n (known.for_call.numbers.free n low high)) known.for_call.numbers)
     known.for_call.before.1 in
-    becomes_published plan s moment then h id number (kinds.WritePage number) me.0.call.pages me m after_it (page_words page) at role its fits stepped tree in_range room is_row among
+    becomes_published plan s tree_state then h id number (kinds.WritePage number) me.0.call.pages me m after_it (page_words page) at role its fits stepped tree in_range room is_row among
 
-pub page_is_published : (plan : Plan) (slots id number : ℕ) (me : Sat) (m : PlainMachine) → me.0.role ≡ Pass → me.0.operation ≡ Some m → FitsWords m.op → NeedsWrite m number
-    → 1 ≤ number → number < plan.counts.numbers → me.0.call.rows.next < me.0.call.rows.stop → IsRowOf me.0.call.draft (page_words (page_out m 0)) → Contains me.0.share.keys (key_of m.op)
+pub page_is_published : (plan : Plan) (slots id number : ℕ) (me : SeatState) (m : PlainMachine) → me.0.role ≡ Pass → me.0.operation ≡ Some m → FitsWords m.op → NeedsWrite m number
+    → 1 ≤ number → number < plan.counts.numbers → me.0.call.rows.next < me.0.call.rows.stop → IsRowOf me.0.call.staged (page_words (page_out m 0)) → Contains me.0.share.keys (key_of m.op)
     → Allows (IsTable plan) slots id me number (λ n. me.0.call.rows.next) (λ n. publishes_page (step slots number me.0.call.rows.next 0 none) me n)
 page_is_published plan slots id number me m role at_m fits needs some_number in_range room is_row among s table homes at small =
     let to = page_becomes_published plan s table id number me m at role at_m fits needs some_number in_range room is_row among in
-    let then : Sat = (publishes me.0 (done m 0) to.way me.0.call.pages to.share to.seen, me.1) in (
+    let then : SeatState = (publishes me.0 (done m 0) to.way me.0.call.pages to.share to.seen, me.1) in (
       then.0,
       keeps,
       tt,
@@ -234,12 +234,12 @@ page_is_published plan slots id number me m role at_m fits needs some_number in_
 
 -- ---- a new page
 
-new_becomes_published : (plan : Plan) (s : State ℕ View) (table : IsTable plan s) (id : ℕ) (me : Sat) (m : PlainMachine) → get_elem? s.views id ≡ some me.0 → me.0.role ≡ Pass → me.0.operation ≡ Some m → FitsWords m.op → NeedsNew m
-    → me.0.call.pages.next < me.0.call.pages.stop → me.0.call.rows.next < me.0.call.rows.stop → IsRowOf me.0.call.draft (page_words (page_out m me.0.call.pages.next)) → Contains me.0.share.keys (key_of m.op)
+new_becomes_published : (plan : Plan) (s : State ℕ View) (table : IsTable plan s) (id : ℕ) (me : SeatState) (m : PlainMachine) → get_elem? s.views id ≡ some me.0 → me.0.role ≡ Pass → me.0.operation ≡ Some m → FitsWords m.op → NeedsNew m
+    → me.0.call.pages.next < me.0.call.pages.stop → me.0.call.rows.next < me.0.call.rows.stop → IsRowOf me.0.call.staged (page_words (page_out m me.0.call.pages.next)) → Contains me.0.share.keys (key_of m.op)
     → BecomesPublished plan s id me.0.call.pages.next (write_page me.0.call.pages.next) (span (suc me.0.call.pages.next) me.0.call.pages.stop) me m (done m me.0.call.pages.next)
 new_becomes_published plan s table id me m at role at_m fits needs number_left room is_row among =
-    let moment : Moment = table.0 in
-    let h : IsTableAt plan s moment = table.1 in
+    let tree_state : TreeState = table.0 in
+    let h : IsTableAt plan s tree_state = table.1 in
     let known = h.views id me.0 at in
     let number : ℕ = me.0.call.pages.next in
     let rest : Span = span (suc number) me.0.call.pages.stop in
@@ -249,31 +249,31 @@ new_becomes_published plan s table id me m at role at_m fits needs number_left r
     let in_range : number < plan.counts.numbers = omega (arith, last, number_left) in
     let few = h.bounded.numbers_bounded in
     let after_it : PlainMachine = done m number in
-    let its : IsItsOperation moment id m = under_way (known.operation ∙ at_m) in
+    let its : IsItsOperation tree_state id m = under_way (known.operation ∙ at_m) in
     let page : PlainPage = page_out m number in
-    let then : Moment = written moment number page id (goes_on after_it after_it.state) in
-    let none_there : moment.pages number ≡ None = numbers.free number (omega arith) number_left in
-    let stepped : Steps moment id m (Moved (kinds.WritePage number)) after_it then = writes_new number needs (some_number, omega (arith, in_range, few)) none_there refl refl refl refl
-    (record { written = put_here moment.pages number (Some page); others = λ n ne. put_else moment.pages number n (Some page) ne })
+    let then : TreeState = written tree_state number page id (goes_on after_it after_it.state) in
+    let none_there : tree_state.pages number ≡ None = numbers.free number (omega arith) number_left in
+    let stepped : Steps tree_state id m (Moved (kinds.WritePage number)) after_it then = writes_new number needs (some_number, omega (arith, in_range, few)) none_there refl refl refl refl
+    (record { written = put_here tree_state.pages number (Some page); others = λ n ne. put_else tree_state.pages number n (Some page) ne })
     refl
-    (record { own = put_here moment.machines id (goes_on after_it after_it.state); others = λ seat ne. put_else moment.machines id seat (goes_on after_it after_it.state) ne }) in
-    let sound = step_law.step_keeps_sound moment then id m after_it (Moved (kinds.WritePage number)) h.sound fits its stepped in
-    let places = step_law.places_stay.stay moment then id m after_it (Moved (kinds.WritePage number)) h.sound its stepped in
-    let way : ℕ = way_left then.pages after_it in
+    (record { own = put_here tree_state.machines id (goes_on after_it after_it.state); others = λ seat ne. put_else tree_state.machines id seat (goes_on after_it after_it.state) ne }) in
+    let invariant = step_law.step_keeps_invariant tree_state then id m after_it (Moved (kinds.WritePage number)) h.invariant fits its stepped in
+    let places = step_law.places_stay.stay tree_state then id m after_it (Moved (kinds.WritePage number)) h.invariant its stepped in
+    let way : ℕ = descent_bound then.pages after_it in
     let before = known.for_call.before.1 in
-    let tree = tree_written plan s moment h id number way me.0 after_it page rest at role some_number in_range sound places (λ n not_own free same. not_own (ap h.owners.page same ∙ numbers.own number (omega arith) number_left))
-    (numbers_else plan s moment h id number way me.0 after_it page rest at role some_number in_range me.0.pages (λ n low high same. omega (arith, low, same, before, number_left)) known.numbers)
-    (numbers_else plan s moment h id number way me.0 after_it page rest at role some_number in_range rest (λ n low high same. omega (arith, low, same))
+    let tree = tree_written plan s tree_state h id number way me.0 after_it page rest at role some_number in_range invariant places (λ n not_own free same. not_own (ap h.owners.page same ∙ numbers.own number (omega arith) number_left))
+    (numbers_else plan s tree_state h id number way me.0 after_it page rest at role some_number in_range me.0.pages (λ n low high same. omega (arith, low, same, before, number_left)) known.numbers)
+    (numbers_else plan s tree_state h id number way me.0 after_it page rest at role some_number in_range rest (λ n low high same. omega (arith, low, same))
     (record { in_range = (omega arith, last); own = λ n low high. numbers.own n (omega (arith, low)) high; free = λ n low high. numbers.free n (omega (arith, low)) high }))
     before in
-    becomes_published plan s moment then h id number (kinds.WritePage number) rest me m after_it (page_words page) at role its fits stepped tree in_range room is_row among
+    becomes_published plan s tree_state then h id number (kinds.WritePage number) rest me m after_it (page_words page) at role its fits stepped tree in_range room is_row among
 
-pub new_is_published : (plan : Plan) (slots id : ℕ) (me : Sat) (m : PlainMachine) → me.0.role ≡ Pass → me.0.operation ≡ Some m → FitsWords m.op → NeedsNew m
-    → me.0.call.pages.next < me.0.call.pages.stop → me.0.call.rows.next < me.0.call.rows.stop → IsRowOf me.0.call.draft (page_words (page_out m me.0.call.pages.next)) → Contains me.0.share.keys (key_of m.op)
+pub new_is_published : (plan : Plan) (slots id : ℕ) (me : SeatState) (m : PlainMachine) → me.0.role ≡ Pass → me.0.operation ≡ Some m → FitsWords m.op → NeedsNew m
+    → me.0.call.pages.next < me.0.call.pages.stop → me.0.call.rows.next < me.0.call.rows.stop → IsRowOf me.0.call.staged (page_words (page_out m me.0.call.pages.next)) → Contains me.0.share.keys (key_of m.op)
     → Allows (IsTable plan) slots id me me.0.call.pages.next (λ n. me.0.call.rows.next) (λ n. publishes_new (step slots me.0.call.pages.next me.0.call.rows.next 0 none) me n)
 new_is_published plan slots id me m role at_m fits needs number_left room is_row among s table homes at small =
     let to = new_becomes_published plan s table id me m at role at_m fits needs number_left room is_row among in
-    let then : Sat = (publishes me.0 (done m me.0.call.pages.next) to.way (span (suc me.0.call.pages.next) me.0.call.pages.stop) to.share to.seen, me.1) in (
+    let then : SeatState = (publishes me.0 (done m me.0.call.pages.next) to.way (span (suc me.0.call.pages.next) me.0.call.pages.stop) to.share to.seen, me.1) in (
       then.0,
       keeps,
       tt,
@@ -286,51 +286,51 @@ new_is_published plan slots id me m role at_m fits needs number_left room is_row
 
 -- ---- the prime block
 
--- the moment in which the prime block is another, and a worker has another operation
-abbrev grown : Moment → List ℕ → ℕ → Option PlainMachine → Moment
-grown moment prime worker operation = record moment { prime = prime; machines = put moment.machines worker operation }
+-- the tree state in which the prime block is another, and a worker has another operation
+abbrev grown : TreeState → List ℕ → ℕ → Option PlainMachine → TreeState
+grown tree_state prime worker operation = record tree_state { prime = prime; machines = put tree_state.machines worker operation }
 
-prime_becomes_published : (plan : Plan) (s : State ℕ View) (table : IsTable plan s) (id : ℕ) (me : Sat) (m : PlainMachine) (prime : List ℕ) → get_elem? s.views id ≡ some me.0 → me.0.role ≡ Pass → me.0.operation ≡ Some m → FitsWords m.op
-    → NeedsPrimeWrite m → PrimeOut m prime → 1 ≤ plan.counts.numbers → me.0.call.rows.next < me.0.call.rows.stop → IsRowOf me.0.call.draft (prime_words prime) → Contains me.0.share.keys (key_of m.op)
+prime_becomes_published : (plan : Plan) (s : State ℕ View) (table : IsTable plan s) (id : ℕ) (me : SeatState) (m : PlainMachine) (prime : List ℕ) → get_elem? s.views id ≡ some me.0 → me.0.role ≡ Pass → me.0.operation ≡ Some m → FitsWords m.op
+    → NeedsPrimeWrite m → PrimeOut m prime → 1 ≤ plan.counts.numbers → me.0.call.rows.next < me.0.call.rows.stop → IsRowOf me.0.call.staged (prime_words prime) → Contains me.0.share.keys (key_of m.op)
     → BecomesPublished plan s id 0 write_prime me.0.call.pages me m (done m 0)
 prime_becomes_published plan s table id me m prime at role at_m fits needs out some_number room is_row among =
-    let moment : Moment = table.0 in
-    let h : IsTableAt plan s moment = table.1 in
+    let tree_state : TreeState = table.0 in
+    let h : IsTableAt plan s tree_state = table.1 in
     let known = h.views id me.0 at in
     let after_it : PlainMachine = done m 0 in
-    let its : IsItsOperation moment id m = under_way (known.operation ∙ at_m) in
-    let then : Moment = grown moment prime id (goes_on after_it after_it.state) in
-    let stepped : Steps moment id m (Moved kinds.WritePrime) after_it then = writes_prime needs out refl refl refl refl refl
-    (record { own = put_here moment.machines id (goes_on after_it after_it.state); others = λ seat ne. put_else moment.machines id seat (goes_on after_it after_it.state) ne }) in
-    let sound = step_law.step_keeps_sound moment then id m after_it (Moved kinds.WritePrime) h.sound fits its stepped in
-    let places = step_law.places_stay.stay moment then id m after_it (Moved kinds.WritePrime) h.sound its stepped in
-    let way : ℕ = way_left then.pages after_it in
-    let tree : IsStepOfTree plan s moment then h id 0 way me.0 after_it (prime_words prime) me.0.call.pages at role = record {
+    let its : IsItsOperation tree_state id m = under_way (known.operation ∙ at_m) in
+    let then : TreeState = grown tree_state prime id (goes_on after_it after_it.state) in
+    let stepped : Steps tree_state id m (Moved kinds.WritePrime) after_it then = writes_prime needs out refl refl refl refl refl
+    (record { own = put_here tree_state.machines id (goes_on after_it after_it.state); others = λ seat ne. put_else tree_state.machines id seat (goes_on after_it after_it.state) ne }) in
+    let invariant = step_law.step_keeps_invariant tree_state then id m after_it (Moved kinds.WritePrime) h.invariant fits its stepped in
+    let places = step_law.places_stay.stay tree_state then id m after_it (Moved kinds.WritePrime) h.invariant its stepped in
+    let way : ℕ = descent_bound then.pages after_it in
+    let tree : IsStepOfTree plan s tree_state then h id 0 way me.0 after_it (prime_words prime) me.0.call.pages at role = record {
       same_fan = refl;
       same_holder = λ n. refl;
-      own = put_here moment.machines id (goes_on after_it after_it.state);
-      others = λ seat ne. put_else moment.machines id seat (goes_on after_it after_it.state) ne;
-      sound = sound;
+      own = put_here tree_state.machines id (goes_on after_it after_it.state);
+      others = λ seat ne. put_else tree_state.machines id seat (goes_on after_it after_it.state) ne;
+      invariant = invariant;
       places = places;
       page_here = λ least. absurd (omega (arith, least));
       other_pages = λ n least differ. refl;
       prime_here = λ zero_is. refl;
       other_prime = λ least. absurd (omega (arith, least));
-      prime_numbers = (step_law.sound_is_in_order moment h.sound).writes_prime id m prime its needs out h.prime_numbers;
+      prime_numbers = (step_law.invariant_gives_order tree_state h.invariant).writes_prime id m prime its needs out h.prime_numbers;
       others_free = λ n not_own none_there. none_there;
       own_free = record { in_range = known.numbers.in_range; own = known.numbers.own; free = known.numbers.free };
       call_free = record { in_range = known.for_call.numbers.in_range; own = known.for_call.numbers.own; free = known.for_call.numbers.free };
       call_before = known.for_call.before.1;
       no_other_page = h.no_other_page;
     } in
-    becomes_published plan s moment then h id 0 kinds.WritePrime me.0.call.pages me m after_it (prime_words prime) at role its fits stepped tree (omega (arith, some_number)) room is_row among
+    becomes_published plan s tree_state then h id 0 kinds.WritePrime me.0.call.pages me m after_it (prime_words prime) at role its fits stepped tree (omega (arith, some_number)) room is_row among
 
-pub prime_is_published : (plan : Plan) (slots id : ℕ) (me : Sat) (m : PlainMachine) (prime : List ℕ) → me.0.role ≡ Pass → me.0.operation ≡ Some m → FitsWords m.op → NeedsPrimeWrite m → PrimeOut m prime
-    → 1 ≤ plan.counts.numbers → me.0.call.rows.next < me.0.call.rows.stop → IsRowOf me.0.call.draft (prime_words prime) → Contains me.0.share.keys (key_of m.op)
+pub prime_is_published : (plan : Plan) (slots id : ℕ) (me : SeatState) (m : PlainMachine) (prime : List ℕ) → me.0.role ≡ Pass → me.0.operation ≡ Some m → FitsWords m.op → NeedsPrimeWrite m → PrimeOut m prime
+    → 1 ≤ plan.counts.numbers → me.0.call.rows.next < me.0.call.rows.stop → IsRowOf me.0.call.staged (prime_words prime) → Contains me.0.share.keys (key_of m.op)
     → Allows (IsTable plan) slots id me 0 (λ n. me.0.call.rows.next) (λ n. publishes_prime (step slots 0 me.0.call.rows.next 0 none) me n)
 prime_is_published plan slots id me m prime role at_m fits needs out some_number room is_row among s table homes at small =
     let to = prime_becomes_published plan s table id me m prime at role at_m fits needs out some_number room is_row among in
-    let then : Sat = (publishes me.0 (done m 0) to.way me.0.call.pages to.share to.seen, me.1) in (
+    let then : SeatState = (publishes me.0 (done m 0) to.way me.0.call.pages to.share to.seen, me.1) in (
       then.0,
       keeps,
       tt,

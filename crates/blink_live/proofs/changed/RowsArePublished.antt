@@ -19,11 +19,11 @@ use Rattle.blink_rows.specs.declared.span.Span.{Span}
 use Rattle.blink_machine.specs.declared.machine.State.{State as MachineState}
 use Rattle.blink_machine.specs.declared.machine.State.TheVariants.{Going}
 use Rattle.blink_machine.specs.Machine.{PlainMachine, need_at, target}
-use Rattle.blink_machine.specs.Moment.{Moment, goes_on, under_way}
-use Rattle.blink_machine.specs.Places.{KeepsPlaces, way_left, way_left_at}
-use Rattle.blink_machine.specs.Sound.{IsSound}
+use Rattle.blink_machine.specs.TreeState.{TreeState, goes_on, under_way}
+use Rattle.blink_machine.specs.Places.{KeepsPlaces, descent_bound, descent_bound_at}
+use Rattle.blink_machine.specs.Invariant.{Invariant}
 use Rattle.blink_machine.specs.StepLaw.{IsMapAt}
-use Rattle.blink_machine.proofs.Offered.{step_law, way_left_stays}
+use Rattle.blink_machine.proofs.Offered.{step_law, descent_bound_stays}
 use Rattle.blink_live.specs.declared.view.Change.{Change}
 use Rattle.blink_live.specs.declared.view.Plan.{Plan}
 use Rattle.blink_live.specs.declared.view.Role.TheVariants.{Pass}
@@ -39,40 +39,40 @@ use Rattle.blink_live.proofs.table.OthersKnowTheSame.{LeavesOthers, RowStays, ro
 use Rattle.blink_live.proofs.table.StoresKeepTable.{row_stays, IsStored, prime_still, store_keeps}
 
 -- a step that keeps pages in their places leaves the ways of operations as they are
-pub ways_stay : (moment : Moment) (new : Pages) (seat : ℕ) (m : PlainMachine) → IsSound moment → KeepsPlaces moment.pages new → moment.machines seat ≡ Some m → way_left new m ≡ way_left moment.pages m
-ways_stay moment new seat m sound stay under = go m.state refl
+pub ways_stay : (tree_state : TreeState) (new : Pages) (seat : ℕ) (m : PlainMachine) → Invariant tree_state → KeepsPlaces tree_state.pages new → tree_state.machines seat ≡ Some m → descent_bound new m ≡ descent_bound tree_state.pages m
+ways_stay tree_state new seat m invariant stay under = go m.state refl
   where
-    go : (state : MachineState) → m.state ≡ state → way_left new m ≡ way_left moment.pages m
+    go : (state : MachineState) → m.state ≡ state → descent_bound new m ≡ descent_bound tree_state.pages m
     go (Going number level) at =
-        let reads = (step_law.sound_is_in_order moment sound).reads_page seat number m (under_way under) (ap need_at at) in
-        way_left_stays moment.pages new m number level reads.page stay at reads.there
-    go state at = ap (way_left_at new (target m)) at ∙ sym (ap (way_left_at moment.pages (target m)) at)
+        let reads = (step_law.invariant_gives_order tree_state invariant).reads_page seat number m (under_way under) (ap need_at at) in
+        descent_bound_stays tree_state.pages new m number level reads.page stay at reads.there
+    go state at = ap (descent_bound_at new (target m)) at ∙ sym (ap (descent_bound_at tree_state.pages (target m)) at)
 
 -- the row is nobody's any more
 abbrev pub gives_row : Owners → ℕ → Owners
 gives_row owners row = record owners { row = put owners.row row 0 }
 
-module _ (plan : Plan) (s : State ℕ View) (moment then : Moment) (h : IsTableAt plan s moment) (id number way : ℕ) (v : View) (after_it : PlainMachine) (content : List ℕ) (pages : Span) (at : get_elem? s.views id ≡ some v) (role : v.role ≡ Pass) where
+module _ (plan : Plan) (s : State ℕ View) (tree_state then : TreeState) (h : IsTableAt plan s tree_state) (id number way : ℕ) (v : View) (after_it : PlainMachine) (content : List ℕ) (pages : Span) (at : get_elem? s.views id ≡ some v) (role : v.role ≡ Pass) where
   -- the tree's step: what the row keeps is the page of this number now, or for number 0 the prime block, and else all is as it was
   pub record IsStepOfTree : Type 0 where
-    pub same_fan : then.fan ≡ moment.fan
-    pub same_holder : (n : ℕ) → then.holder n ≡ moment.holder n
+    pub same_fan : then.fan ≡ tree_state.fan
+    pub same_holder : (n : ℕ) → then.holder n ≡ tree_state.holder n
     pub own : then.machines id ≡ goes_on after_it after_it.state
-    pub others : (seat : ℕ) → seat ≢ id → then.machines seat ≡ moment.machines seat
-    pub sound : IsSound then
-    pub places : KeepsPlaces moment.pages then.pages
+    pub others : (seat : ℕ) → seat ≢ id → then.machines seat ≡ tree_state.machines seat
+    pub invariant : Invariant then
+    pub places : KeepsPlaces tree_state.pages then.pages
     pub page_here : 1 ≤ number → (page : PlainPage) × (then.pages number ≡ Some page) × (content ≡ page_words page)
-    pub other_pages : (n : ℕ) → 1 ≤ n → n ≢ number → then.pages n ≡ moment.pages n
+    pub other_pages : (n : ℕ) → 1 ≤ n → n ≢ number → then.pages n ≡ tree_state.pages n
     pub prime_here : number ≡ 0 → content ≡ prime_words then.prime
-    pub other_prime : 1 ≤ number → then.prime ≡ moment.prime
+    pub other_prime : 1 ≤ number → then.prime ≡ tree_state.prime
     pub prime_numbers : All IsPageNumber then.prime
-    pub others_free : (n : ℕ) → h.owners.page n ≢ suc id → moment.pages n ≡ None → then.pages n ≡ None
+    pub others_free : (n : ℕ) → h.owners.page n ≢ suc id → tree_state.pages n ≡ None → then.pages n ≡ None
     pub own_free : HasNumbers plan h.owners then (suc id) v.pages
     pub call_free : HasNumbers plan h.owners then (suc id) pages
     pub call_before : pages.stop ≤ v.pages.next
     pub no_other_page : (n : ℕ) → plan.counts.numbers ≤ n → then.pages n ≡ None
 
-  module _ (step : IsStepOfTree) (in_range : number < plan.counts.numbers) (room : v.call.rows.next < v.call.rows.stop) (is_row : IsRowOf v.call.draft content) (made : List Change) (now : List Entry) (share : Share) where
+  module _ (step : IsStepOfTree) (in_range : number < plan.counts.numbers) (room : v.call.rows.next < v.call.rows.stop) (is_row : IsRowOf v.call.staged content) (made : List Change) (now : List Entry) (share : Share) where
     abbrev pub words : List ℕ
     words = set s.words number v.call.rows.next
 
@@ -85,7 +85,7 @@ module _ (plan : Plan) (s : State ℕ View) (moment then : Moment) (h : IsTableA
     abbrev pub w : View
     w = publishes v after_it way pages share log
 
-    known : Knows plan h.owners s.words moment h.log id v
+    known : Knows plan h.owners s.words tree_state h.log id v
     known = h.views id v at
 
     kept : IsInRole plan h.owners h.log id v Pass
@@ -103,10 +103,10 @@ module _ (plan : Plan) (s : State ℕ View) (moment then : Moment) (h : IsTableA
       pub kept_now : (key : ℕ) → pointer_of now key ≡ after (pointer_of plan.opening) log key
 
     module _ (own : ChangesOwn) (bounded : IsBoundedWay then w) where
-      leaves : LeavesOthers plan s moment then h id words new log
+      leaves : LeavesOthers plan s tree_state then h id words new log
       leaves = record {
         machines = step.others;
-        ways = λ seat m apart is. ways_stay moment then.pages seat m h.sound step.places is;
+        ways = λ seat m apart is. ways_stay tree_state then.pages seat m h.invariant step.places is;
         rows = λ row least apart. (put_else h.owners.row v.call.rows.next row 0 (λ same. apart (ap h.owners.row same ∙ (known.for_call.first_own room).1)), stays row);
         numbers = λ n apart. (refl, step.others_free n apart);
         keys = λ key apart. (
@@ -137,7 +137,7 @@ module _ (plan : Plan) (s : State ℕ View) (moment then : Moment) (h : IsTableA
             same_plan = known.same_plan;
             operation = step.own;
             bounded = bounded;
-            reads = reads_still plan s moment then h id kept.0 words new log leaves v.reads known.reads;
+            reads = reads_still plan s tree_state then h id kept.0 words new log leaves v.reads known.reads;
             rows = later_rows v.rows (let before_rows = known.for_call.before.0 in omega (arith, before_rows, room)) known.rows;
             numbers = still_numbers v.pages step.own_free;
             for_call = record {
@@ -147,7 +147,7 @@ module _ (plan : Plan) (s : State ℕ View) (moment then : Moment) (h : IsTableA
                 omega arith,
                 put_else h.owners.row v.call.rows.next (suc v.call.rows.next) 0 (λ same. omega (arith, same)) ∙ others.own (suc v.call.rows.next) (omega arith) more,
               );
-              drafted = λ more i inside. stays (suc v.call.rows.next) i inside ∙ (others.blank (suc v.call.rows.next) (omega arith) more i inside ∙ sym (get_or-replicate ROW_WORDS i 0 0 inside));
+              staged = λ more i inside. stays (suc v.call.rows.next) i inside ∙ (others.blank (suc v.call.rows.next) (omega arith) more i inside ∙ sym (get_or-replicate ROW_WORDS i 0 0 inside));
               others = later_rows (span (suc (suc v.call.rows.next)) v.call.rows.stop) (omega arith) record {
                 in_range = (omega arith, others.in_range.1);
                 own = λ row low high. others.own row (omega (arith, low)) high;
@@ -166,7 +166,7 @@ module _ (plan : Plan) (s : State ℕ View) (moment then : Moment) (h : IsTableA
       is_published =
           let high = known.for_call.others.in_range.1 in (
             ((row_number, omega (arith, high, room)), put_here h.owners.row v.call.rows.next 0),
-            λ i inside. stays v.call.rows.next i inside ∙ (known.for_call.drafted room i inside ∙ is_row.filled i inside),
+            λ i inside. stays v.call.rows.next i inside ∙ (known.for_call.staged room i inside ∙ is_row.filled i inside),
           )
 
       word_here : slice_index words number ≡ v.call.rows.next
@@ -188,24 +188,24 @@ module _ (plan : Plan) (s : State ℕ View) (moment then : Moment) (h : IsTableA
       prime_now zero is =
           let word : slice_index words 0 ≡ v.call.rows.next = ap (slice_index words) (sym is) ∙ word_here in
           subst (λ (t : ℕ × List ℕ). IsPublished plan new t.0 × RowIs plan.counts words t.0 t.1) (λ i. (sym word i, step.prime_here is i)) is_published
-      prime_now (suc n) is = prime_still plan s moment then h id kept.0 words new log leaves (word_else 0 (λ e. omega (arith, e, is))) (step.other_prime (omega (arith, is)))
+      prime_now (suc n) is = prime_still plan s tree_state then h id kept.0 words new log leaves (word_else 0 (λ e. omega (arith, e, is))) (step.other_prime (omega (arith, is)))
 
       same_latch_word : (holder : Option ℕ) → latch_word h.owners holder ≡ latch_word new holder
       same_latch_word None = refl
       same_latch_word (Some seat) = refl
 
-      stored : IsStored plan s moment then h words new log now
+      stored : IsStored plan s tree_state then h words new log now
       stored = record {
         same_fan = step.same_fan;
-        sound = step.sound;
+        invariant = step.invariant;
         prime_numbers = step.prime_numbers;
         prime = prime_now number refl;
         pages = λ n least below. dite (ℕ_discrete n number) (names_row n least) (λ differ.
             subst (λ (t : ℕ × Option PlainPage). PageWordIs plan new words t.0 t.1) (λ i. (sym (word_else n differ) i, sym (step.other_pages n least differ) i))
-            (page_word_still plan s moment then h id kept.0 words new log leaves (slice_index s.words n) (moment.pages n) (h.pages n least below)));
+            (page_word_still plan s tree_state then h id kept.0 words new log leaves (slice_index s.words n) (tree_state.pages n) (h.pages n least below)));
         no_other_page = step.no_other_page;
         no_other_latch = λ n beyond. step.same_holder n ∙ h.no_other_latch n beyond;
-        latches = λ n below. word_else (plan.counts.numbers + n) (λ e. omega (arith, e, in_range)) ∙ (h.latches n below ∙ (same_latch_word (moment.holder n) ∙ ap (latch_word new) (sym (step.same_holder n))));
+        latches = λ n below. word_else (plan.counts.numbers + n) (λ e. omega (arith, e, in_range)) ∙ (h.latches n below ∙ (same_latch_word (tree_state.holder n) ∙ ap (latch_word new) (sym (step.same_holder n))));
         holders = λ n seat holds. h.holders n seat (sym (step.same_holder n) ∙ holds);
         is_map = own.is_map;
         kept = own.kept_now;
@@ -215,4 +215,4 @@ module _ (plan : Plan) (s : State ℕ View) (moment then : Moment) (h : IsTableA
       }
 
       pub publish_keeps : IsTable plan record { words = words; homes = s.homes; views = set s.views id w }
-      publish_keeps = store_keeps plan s moment then h id number v.call.rows.next kept.0 v w at new log now leaves stored refl knows
+      publish_keeps = store_keeps plan s tree_state then h id number v.call.rows.next kept.0 v w at new log now leaves stored refl knows

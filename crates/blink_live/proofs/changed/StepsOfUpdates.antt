@@ -21,17 +21,17 @@ use Rattle.blink_machine.specs.declared.machine.State.{State}
 use Rattle.blink_machine.specs.declared.machine.State.TheVariants.{Want, Change, SplitNew, SplitOld, Root, NewPrime, Leave, Posting, Ended}
 use Rattle.blink_machine.specs.declared.step.Kind.{Kind}
 use Rattle.blink_machine.specs.Machine.{PlainMachine, need_at}
-use Rattle.blink_machine.specs.Moment.{goes_on}
+use Rattle.blink_machine.specs.TreeState.{goes_on}
 use Rattle.blink_machine.specs.Table.{SeesPrime, SeesPage, SeesOnItsWay, SeesUnderLatch, WaitsForLevel, decided_with, done, done_at, leaves_for, sets_out}
 use Rattle.blink_live.specs.declared.view.Change.{Change as MapChange}
 use Rattle.blink_live.specs.declared.view.Share.{Share}
 use Rattle.blink_live.specs.Changes.{after as after_changes, changes_made}
-use Rattle.blink_live.specs.Plays.{AnswersAfter, AsksPrime, CanGoOn, Decided, deciding, other, GoesOn, LoadsPage, LoadsPrime, Publishes}
+use Rattle.blink_live.specs.AtomicSteps.{AnswersAfter, AsksPrime, CanGoOn, Decided, deciding, other, GoesOn, LoadsPage, LoadsPrime, Publishes}
 use Rattle.blink_live.specs.Updating.{SameBesideCall, IsPastDescent}
-use Rattle.blink_live.specs.Views.{Sat, KnowsItsOwn, changed_by, reading}
+use Rattle.blink_live.specs.Views.{SeatState, KnowsItsOwn, changed_by, reading}
 
 -- what a step of the operation makes of it and of its seat's view, but for what the call has left
-pub record Takes (m after : PlainMachine) (me then : Sat) : Type 0 where
+pub record Takes (m after : PlainMachine) (me then : SeatState) : Type 0 where
   pub same : SameBesideCall me.0 then.0 × (then.1 ≡ me.1)
   pub saw : IsPrefix me.0.seen then.0.seen
   pub knows_own : KnowsItsOwn then.0
@@ -76,16 +76,16 @@ pub unlatch_answers : (m : PlainMachine) (state : State) (number : ℕ) → need
 unlatch_answers m (Leave page next) number needs = (leaves_so m next).0
 unlatch_answers m state number needs = absurd (cc)
 
-pub goes_on_takes : (kind : Kind) (m : PlainMachine) (me then : Sat) → IsPastDescent m.state → KnowsItsOwn me.0 → (done m 0).answer ≡ m.answer → GoesOn kind m me then → Takes m (done m 0) me then
+pub goes_on_takes : (kind : Kind) (m : PlainMachine) (me then : SeatState) → IsPastDescent m.state → KnowsItsOwn me.0 → (done m 0).answer ≡ m.answer → GoesOn kind m me then → Takes m (done m 0) me then
 goes_on_takes kind m me then past knows answer goes =
     let is : then ≡ _ = goes.is in record {
-      same = (subst (λ (x : Sat). SameBesideCall me.0 x.0) (sym is) refl, ap (λ (x : Sat). x.1) is);
-      saw = subst (λ (x : Sat). IsPrefix me.0.seen x.0.seen) (sym is) ([], append-nil me.0.seen);
-      knows_own = subst (λ (x : Sat). KnowsItsOwn x.0) (sym is) (record { state = knows.state; changes = knows.changes });
-      operation = ap (λ (x : Sat). x.0.operation) is;
+      same = (subst (λ (x : SeatState). SameBesideCall me.0 x.0) (sym is) refl, ap (λ (x : SeatState). x.1) is);
+      saw = subst (λ (x : SeatState). IsPrefix me.0.seen x.0.seen) (sym is) ([], append-nil me.0.seen);
+      knows_own = subst (λ (x : SeatState). KnowsItsOwn x.0) (sym is) (record { state = knows.state; changes = knows.changes });
+      operation = ap (λ (x : SeatState). x.0.operation) is;
       same_op = goes.uses.same_op;
       next = goes.next;
-      decides = other answer (ap (λ (x : Sat). x.0.share) is);
+      decides = other answer (ap (λ (x : SeatState). x.0.share) is);
       past_descent = done_past m m.state 0 past past;
       answers_at_end = goes.answers_at_end;
     }
@@ -154,18 +154,18 @@ module _ (m after : PlainMachine) (number : ℕ) (page : PlainPage) (share : Sha
   page_decides past (SeesPage.on_its_way sees) = absurd (on_no_way past sees)
   page_decides past (SeesPage.under_latch held sees) = under_latch sees
 
-pub page_takes : (m after : PlainMachine) (number row : ℕ) (me then : Sat) → IsPastDescent m.state → Contains me.0.share.keys (key_of m.op) → LoadsPage m number me row after then → Takes m after me then
+pub page_takes : (m after : PlainMachine) (number row : ℕ) (me then : SeatState) → IsPastDescent m.state → Contains me.0.share.keys (key_of m.op) → LoadsPage m number me row after then → Takes m after me then
 page_takes m after number row me then past own loads =
     let is : then ≡ (reading me.0 after loads.way row (page_words loads.page) loads.seen, me.1) = loads.is in
-    let known : KnowsItsOwn (reading me.0 after loads.way row (page_words loads.page) loads.seen) = subst (λ (x : Sat). KnowsItsOwn x.0) is loads.knows_own in
+    let known : KnowsItsOwn (reading me.0 after loads.way row (page_words loads.page) loads.seen) = subst (λ (x : SeatState). KnowsItsOwn x.0) is loads.knows_own in
     let reads = page_decides m after number loads.page me.0.share (after_changes (pointer_of me.0.plan.opening) loads.seen) (known.state (key_of m.op) own) loads.answers past loads.sees in record {
-      same = (subst (λ (x : Sat). SameBesideCall me.0 x.0) (sym is) refl, ap (λ (x : Sat). x.1) is);
-      saw = subst (λ (x : Sat). IsPrefix me.0.seen x.0.seen) (sym is) loads.learns.saw;
+      same = (subst (λ (x : SeatState). SameBesideCall me.0 x.0) (sym is) refl, ap (λ (x : SeatState). x.1) is);
+      saw = subst (λ (x : SeatState). IsPrefix me.0.seen x.0.seen) (sym is) loads.learns.saw;
       knows_own = loads.knows_own;
-      operation = ap (λ (x : Sat). x.0.operation) is;
+      operation = ap (λ (x : SeatState). x.0.operation) is;
       same_op = loads.uses.same_op;
       next = loads.next;
-      decides = subst (λ (x : Sat). Decided m after me.0.share x.0.share) (sym is) reads.0;
+      decides = subst (λ (x : SeatState). Decided m after me.0.share x.0.share) (sym is) reads.0;
       past_descent = reads.1;
       answers_at_end = loads.answers_at_end;
     }
@@ -193,33 +193,33 @@ asks_prime : (m after : PlainMachine) (prime : List ℕ) → IsPastDescent m.sta
 asks_prime m after prime past (AsksPrime.moves sees only goes) = sees_prime m after prime past sees
 asks_prime m after prime past (AsksPrime.waits waits never is) = asks_so m after Posting (is ∙ (λ i. record m { state = waits.posting i })) tt (λ e. absurd (cc))
 
-pub prime_takes : (m after : PlainMachine) (row : ℕ) (me then : Sat) → IsPastDescent m.state → LoadsPrime m me row after then → Takes m after me then
+pub prime_takes : (m after : PlainMachine) (row : ℕ) (me then : SeatState) → IsPastDescent m.state → LoadsPrime m me row after then → Takes m after me then
 prime_takes m after row me then past loads =
     let is : then ≡ _ = loads.is in
     let asks = asks_prime m after loads.prime past loads.asks in record {
-      same = (subst (λ (x : Sat). SameBesideCall me.0 x.0) (sym is) refl, ap (λ (x : Sat). x.1) is);
-      saw = subst (λ (x : Sat). IsPrefix me.0.seen x.0.seen) (sym is) loads.learns.saw;
+      same = (subst (λ (x : SeatState). SameBesideCall me.0 x.0) (sym is) refl, ap (λ (x : SeatState). x.1) is);
+      saw = subst (λ (x : SeatState). IsPrefix me.0.seen x.0.seen) (sym is) loads.learns.saw;
       knows_own = loads.knows_own;
-      operation = ap (λ (x : Sat). x.0.operation) is;
+      operation = ap (λ (x : SeatState). x.0.operation) is;
       same_op = loads.uses.same_op;
       next = loads.next;
-      decides = other asks.answer (ap (λ (x : Sat). x.0.share) is);
+      decides = other asks.answer (ap (λ (x : SeatState). x.0.share) is);
       past_descent = asks.past_descent;
       answers_at_end = λ ends. absurd (asks.no_end ends);
     }
 
 -- ---- writes
 
-pub publish_takes : (kind : Kind) (pages : Span) (m : PlainMachine) (new : ℕ) (me then : Sat) → IsPastDescent m.state → Publishes kind pages m (done m new) me then → Takes m (done m new) me then
+pub publish_takes : (kind : Kind) (pages : Span) (m : PlainMachine) (new : ℕ) (me then : SeatState) → IsPastDescent m.state → Publishes kind pages m (done m new) me then → Takes m (done m new) me then
 publish_takes kind pages m new me then past does =
     let is : then ≡ _ = does.is in record {
-      same = (subst (λ (x : Sat). SameBesideCall me.0 x.0) (sym is) refl, ap (λ (x : Sat). x.1) is);
-      saw = subst (λ (x : Sat). IsPrefix me.0.seen x.0.seen) (sym is) does.learns.saw;
+      same = (subst (λ (x : SeatState). SameBesideCall me.0 x.0) (sym is) refl, ap (λ (x : SeatState). x.1) is);
+      saw = subst (λ (x : SeatState). IsPrefix me.0.seen x.0.seen) (sym is) does.learns.saw;
       knows_own = does.knows_own;
-      operation = ap (λ (x : Sat). x.0.operation) is;
+      operation = ap (λ (x : SeatState). x.0.operation) is;
       same_op = does.uses.same_op;
       next = does.next;
-      decides = subst (λ (x : Sat). Decided m (done m new) me.0.share x.0.share) (sym is) does.decided;
+      decides = subst (λ (x : SeatState). Decided m (done m new) me.0.share x.0.share) (sym is) does.decided;
       past_descent = done_past m m.state new past past;
       answers_at_end = does.answers_at_end;
     }

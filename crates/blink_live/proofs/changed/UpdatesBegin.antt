@@ -17,14 +17,14 @@ use Rattle.blink_live.specs.declared.view.Call.{Call}
 use Rattle.blink_live.specs.declared.view.View.{View}
 use Rattle.blink_live.specs.Seats.{HasRead, IsAtLeaf, IsPassSeat, found, wants as wants_leaf}
 use Rattle.blink_live.specs.Updating.{SameBesideCall, not_yet, HasLeft, IsUpdating, IsPastDescent, CanUpdate, IsUnderWay}
-use Rattle.blink_live.specs.Views.{Sat, CanBegin, SameBesideReads, rows_of, pages_of, for_call, known_of, span}
+use Rattle.blink_live.specs.Views.{SeatState, CanBegin, SameBesideReads, rows_of, pages_of, for_call, known_of, span}
 use Rattle.blink_live.specs.Words.{AreNumbersIn, AreRowsIn}
 
 within_call : (v w : View) → SameBesideReads v w → SameBesideCall v w
 within_call v w same =
     let share : v.share ≡ w.share = sym (ap (λ (x : View). x.share) same) in
     let call : v.call ≡ w.call = sym (ap (λ (x : View). x.call) same) in
-    same ∙ (λ i. record v { operation = w.operation; way_left = w.way_left; reads = w.reads; seen = w.seen; share = share i; call = call i })
+    same ∙ (λ i. record v { operation = w.operation; descent_bound = w.descent_bound; reads = w.reads; seen = w.seen; share = share i; call = call i })
 
 -- an operation that wants its leaf's latch
 abbrev wanting : PlainMachine → ℕ → Op → PlainMachine
@@ -42,7 +42,7 @@ left_at_leaf op m page same_op same_job at =
     subst (λ (k : PlainMachine). (writes_left k + primes_left k ≤ rows_of op) × (numbers_left k ≤ pages_of op))
     (λ i. record { fan = m.fan; op = sym same_op i; job = sym same_job i; remembered = m.remembered; state = sym at i; answer = m.answer }) (all_left m page op)
 
-update_begins : (op : Op) (v : View) (first me : Sat) (m : PlainMachine) (kept : Option ℕ) → IsUpdate op → first.0 ≡ for_call v op → HasRead op first me m → IsAtLeaf op kept m → IsUpdating op first me m
+update_begins : (op : Op) (v : View) (first me : SeatState) (m : PlainMachine) (kept : Option ℕ) → IsUpdate op → first.0 ≡ for_call v op → HasRead op first me m → IsAtLeaf op kept m → IsUpdating op first me m
 update_begins op v first me m kept updates is read (found key is_find at_end answer) = absurd (subst IsUpdate is_find updates)
 update_begins op v first me m kept updates is read (wants_leaf page update at none_yet) =
     let left = left_at_leaf op m page read.same_op read.same_job at in

@@ -17,7 +17,7 @@ use Rattle.blink_machine.specs.declared.step.Kind.{Kind}
 use Rattle.blink_machine.specs.declared.step.Step.TheVariants.{Moved}
 use Rattle.blink_machine.specs.Kinds.{latch, unlatch, write_page, write_prime, writes_new_page}
 use Rattle.blink_machine.specs.Machine.{PlainMachine, NeedsPage, NeedsLatch, NeedsNew, NeedsWrite, NeedsPrimeWrite, NeedsUnlatch, need_at}
-use Rattle.blink_machine.specs.Moment.{goes_on}
+use Rattle.blink_machine.specs.TreeState.{goes_on}
 use Rattle.blink_machine.specs.Needs.{IsPageWrite}
 use Rattle.blink_machine.specs.Table.{done}
 use Rattle.blink_live.specs.declared.live.Live.{Live}
@@ -26,19 +26,19 @@ use Rattle.blink_live.specs.declared.view.Call.{Call}
 use Rattle.blink_live.specs.declared.view.Plan.{Plan}
 use Rattle.blink_live.specs.declared.view.Share.{Share}
 use Rattle.blink_live.specs.declared.view.View.{View}
-use Rattle.blink_live.specs.Plays.{CanGoOn, Decided, deciding, other, GoesOn, LoadsPage, LoadsPrime, Publishes, PublishesNew, PublishesPage, PublishesPrime}
+use Rattle.blink_live.specs.AtomicSteps.{CanGoOn, Decided, deciding, other, GoesOn, LoadsPage, LoadsPrime, Publishes, PublishesNew, PublishesPage, PublishesPrime}
 use Rattle.blink_live.specs.Seats.{IsFirst, IsPassSeat}
 use Rattle.blink_live.specs.Updating.{SameBesideCall, HasDecided, not_yet, decided, HasLeft, IsUpdating, IsUnderWay}
-use Rattle.blink_live.specs.Views.{Sat, changed_by, for_call, no_words, span}
+use Rattle.blink_live.specs.Views.{SeatState, changed_by, for_call, no_words, pages_of, rows_of, span}
 use Rattle.blink_live.specs.Words.{IsRowNumber}
-use Rattle.blink_live.proofs.told.FrontsOfOneList.{front_of_front}
+use Rattle.blink_live.proofs.told.PrefixesOfOneList.{prefix_of_prefix}
 use Rattle.blink_live.proofs.changed.StepsOfUpdates.{Takes, latch_answers, unlatch_answers, goes_on_takes, page_takes, prime_takes, publish_takes}
 
 -- ---- what a step makes of the operation
 
 same_call_trans : (u v w : View) → SameBesideCall u v → SameBesideCall v w → SameBesideCall u w
 same_call_trans u v w first second =
-    second ∙ ap (λ (x : View). record x { operation = w.operation; way_left = w.way_left; reads = w.reads; seen = w.seen; share = w.share; call = w.call }) first
+    second ∙ ap (λ (x : View). record x { operation = w.operation; descent_bound = w.descent_bound; reads = w.reads; seen = w.seen; share = w.share; call = w.call }) first
 
 -- it has decided once
 decided_on : (op : Op) (before now share : Share) (m after : PlainMachine) → m.op ≡ op → HasDecided op before now m → Decided m after now share → HasDecided op before share after
@@ -48,10 +48,10 @@ decided_on op before now share m after same (not_yet none is) (other kept stays)
 decided_on op before now share m after same (decided given is) (deciding was answers changed) = absurd (cc)
 decided_on op before now share m after same (decided given is) (other kept stays) = decided (kept ∙ given) (stays ∙ is)
 
-updating_on : (op : Op) (first me then : Sat) (m after : PlainMachine) → IsUpdating op first me m → Takes m after me then → HasLeft first.0.call then.0.call after → IsUpdating op first then after
+updating_on : (op : Op) (first me then : SeatState) (m after : PlainMachine) → IsUpdating op first me m → Takes m after me then → HasLeft first.0.call then.0.call after → IsUpdating op first then after
 updating_on op first me then m after is takes left = record {
   same = (same_call_trans first.0 me.0 then.0 is.same.0 takes.same.0, takes.same.1 ∙ is.same.1);
-  saw = front_of_front first.0.seen me.0.seen then.0.seen is.saw takes.saw;
+  saw = prefix_of_prefix first.0.seen me.0.seen then.0.seen is.saw takes.saw;
   knows_own = takes.knows_own;
   operation = takes.operation;
   same_op = takes.same_op ∙ is.same_op;
@@ -78,7 +78,7 @@ still_left first call then m after left same writes primes numbers =
     }
 
 -- a row is used, and these page numbers are left
-row_is_used : (first call then : Call) (pages : Span) (m after : PlainMachine) → HasLeft first call m → then ≡ record { rows = span (suc call.rows.next) call.rows.stop; pages = pages; draft = no_words }
+row_is_used : (first call then : Call) (pages : Span) (m after : PlainMachine) → HasLeft first call m → then ≡ record { rows = span (suc call.rows.next) call.rows.stop; pages = pages; staged = no_words }
     → suc (writes_left after + primes_left after) ≤ writes_left m + primes_left m → (pages.stop ≡ call.pages.stop) × (call.pages.next ≤ pages.next) → pages.next + numbers_left after ≤ pages.stop
     → HasLeft first then after
 row_is_used first call then pages m after left is writes later numbers =
@@ -117,7 +117,7 @@ one_less numbers others same =
 -- ---- a turn
 
 module _ {live : Live} {op : Op} {own : ℕ} {first seat : Seat ℕ View} {m : PlainMachine} {room : Room} (is : IsUnderWay live op own first seat m room) where
-  abbrev begun : Sat
+  abbrev begun : SeatState
   begun = (for_call first.me.0 op, first.me.1)
 
   same_counts : first.me.0.plan.counts ≡ live.counts
@@ -227,11 +227,11 @@ module _ {live : Live} {op : Op} {own : ℕ} {first seat : Seat ℕ View} {m : P
         let pages = loads.uses.numbers in
         let writes = loads.uses.page_writes in
         let primes = loads.uses.prime_writes in
-        in_its_room (page_takes m after number row seat.me next.me is.updating.past_descent is_its_key loads) (ap (λ (x : Sat). x.0.call) loads.is) (omega (arith, writes)) (omega (arith, primes)) (omega (arith, pages))
+        in_its_room (page_takes m after number row seat.me next.me is.updating.past_descent is_its_key loads) (ap (λ (x : SeatState). x.0.call) loads.is) (omega (arith, writes)) (omega (arith, primes)) (omega (arith, pages))
 
     pub after_prime : (row : ℕ) → LoadsPrime m seat.me row after next.me → IsUnderWay live op own first next after room
     after_prime row loads =
-        in_its_room (prime_takes m after row seat.me next.me is.updating.past_descent loads) (ap (λ (x : Sat). x.0.call) loads.is) loads.uses.page_writes loads.uses.prime_writes loads.uses.numbers
+        in_its_room (prime_takes m after row seat.me next.me is.updating.past_descent loads) (ap (λ (x : SeatState). x.0.call) loads.is) loads.uses.page_writes loads.uses.prime_writes loads.uses.numbers
 
     after_done : (kind : Kind) → after ≡ done m 0 → (done m 0).answer ≡ m.answer → GoesOn kind m seat.me next.me → IsUnderWay live op own first next after room
     after_done kind is_done answers goes =
@@ -239,7 +239,7 @@ module _ {live : Live} {op : Op} {own : ℕ} {first seat : Seat ℕ View} {m : P
         let writes = goes.uses.page_writes in
         let primes = goes.uses.prime_writes in
         let takes = goes_on_takes kind m seat.me next.me is.updating.past_descent is.updating.knows_own answers goes in
-        in_its_room (subst (λ (k : PlainMachine). Takes m k seat.me next.me) (sym is_done) takes) (ap (λ (x : Sat). x.0.call) goes.is)
+        in_its_room (subst (λ (k : PlainMachine). Takes m k seat.me next.me) (sym is_done) takes) (ap (λ (x : SeatState). x.0.call) goes.is)
         (subst (λ (k : PlainMachine). writes_left k ≤ writes_left m) (sym is_done) (omega (arith, writes)))
         (subst (λ (k : PlainMachine). primes_left k ≤ primes_left m) (sym is_done) (omega (arith, primes)))
         (subst (λ (k : PlainMachine). numbers_left k ≤ numbers_left m) (sym is_done) (omega (arith, pages)))
@@ -255,8 +255,8 @@ module _ {live : Live} {op : Op} {own : ℕ} {first seat : Seat ℕ View} {m : P
         let same_view = (lost (λ e. absurd (cc))).1 in record {
           can = is.can;
           same_table = (same.0 ∙ is.same_table.0, same.1 ∙ is.same_table.1);
-          updating = subst (λ (x : Sat × PlainMachine). IsUpdating op begun x.0 x.1) (λ i. (sym same_view i, sym same_machine i)) is.updating;
-          room_is = subst (λ (x : Sat). (room.rows ≡ x.0.call.rows) × (room.pages ≡ x.0.call.pages)) (sym same_view) is.room_is;
+          updating = subst (λ (x : SeatState × PlainMachine). IsUpdating op begun x.0 x.1) (λ i. (sym same_view i, sym same_machine i)) is.updating;
+          room_is = subst (λ (x : SeatState). (room.rows ≡ x.0.call.rows) × (room.pages ≡ x.0.call.pages)) (sym same_view) is.room_is;
         }
 
     -- which uses a row
@@ -264,7 +264,7 @@ module _ {live : Live} {op : Op} {own : ℕ} {first seat : Seat ℕ View} {m : P
         → suc (writes_left (done m new) + primes_left (done m new)) ≤ writes_left m + primes_left m → (pages.stop ≡ seat.me.0.call.pages.stop) × (seat.me.0.call.pages.next ≤ pages.next)
         → pages.next + numbers_left (done m new) ≤ pages.stop → (then.rows ≡ span (suc seat.me.0.call.rows.next) seat.me.0.call.rows.stop) × (then.pages ≡ pages) → IsUnderWay live op own first next after then
     after_write kind pages new then is_done does writes later numbers same_room =
-        let call : next.me.0.call ≡ record { rows = span (suc seat.me.0.call.rows.next) seat.me.0.call.rows.stop; pages = pages; draft = no_words } = ap (λ (x : Sat). x.0.call) does.is in
+        let call : next.me.0.call ≡ record { rows = span (suc seat.me.0.call.rows.next) seat.me.0.call.rows.stop; pages = pages; staged = no_words } = ap (λ (x : SeatState). x.0.call) does.is in
         turned then
         (subst (λ (k : PlainMachine). Takes m k seat.me next.me) (sym is_done) (publish_takes kind pages m new seat.me next.me is.updating.past_descent does))
         (subst (λ (k : PlainMachine). HasLeft begun.0.call next.me.0.call k) (sym is_done) (row_is_used begun.0.call seat.me.0.call next.me.0.call pages m (done m new) is.updating.left call writes later numbers))
@@ -301,3 +301,13 @@ module _ {live : Live} {op : Op} {own : ℕ} {first seat : Seat ℕ View} {m : P
 pub as_decided : (op : Op) (before share : Share) (m : PlainMachine) (answer : Answer) → HasDecided op before share m → m.answer ≡ Some answer → (answer ≡ answer_of before.entries op) × (share ≡ changed_by op before)
 as_decided op before share m answer (not_yet none is) some = absurd (cc)
 as_decided op before share m answer (decided given is) some = (cc, is)
+
+-- the seat has used what the operation takes
+pub record IsAfterCall (op : Op) (v w : View) : Type 0 where
+  pub rows : w.rows ≡ span (v.rows.next + rows_of op) v.rows.stop
+  pub pages : w.pages ≡ span (v.pages.next + pages_of op) v.pages.stop
+  pub role : w.role ≡ v.role
+  pub told : w.told ≡ v.told
+
+pub after_call : (op : Op) (v w : View) → SameBesideCall (for_call v op) w → IsAfterCall op v w
+after_call op v w same = record { rows = ap (λ (x : View). x.rows) same; pages = ap (λ (x : View). x.pages) same; role = ap (λ (x : View). x.role) same; told = ap (λ (x : View). x.told) same }

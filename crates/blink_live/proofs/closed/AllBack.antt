@@ -3,7 +3,7 @@ use Rattle.std.proofs.Common.{◌≡◌, ◌⊎◌, ℕ, zero, suc, ◌≤◌, N
 use mathlib.Core.Option.{some, some-ne-none, some-injective}
 use lib.ListN.{get_elem?}
 use Rattle.atomic_table.specs.Table.{State}
-use Rattle.blink_machine.specs.Moment.{Moment}
+use Rattle.blink_machine.specs.TreeState.{TreeState}
 use Rattle.blink_live.specs.declared.view.Change.{Change}
 use Rattle.blink_live.specs.declared.view.Plan.{Plan}
 use Rattle.blink_live.specs.declared.view.Role.{Role}
@@ -35,10 +35,10 @@ back_of : Role → ℕ
 back_of (Keeper dealt back) = back
 back_of role = 0
 
-pub all_back : (plan : Plan) (s : State ℕ View) (moment : Moment) (h : IsTableAt plan s moment) (id : ℕ) (v : View) (dealt : ℕ) → get_elem? s.views id ≡ some v → v.role ≡ Keeper dealt dealt
-    → (worker : ℕ) → moment.machines worker ≡ None
+pub all_back : (plan : Plan) (s : State ℕ View) (tree_state : TreeState) (h : IsTableAt plan s tree_state) (id : ℕ) (v : View) (dealt : ℕ) → get_elem? s.views id ≡ some v → v.role ≡ Keeper dealt dealt
+    → (worker : ℕ) → tree_state.machines worker ≡ None
 unfolding dealt_of back_of
-all_back plan s moment h id v dealt at role worker =
+all_back plan s tree_state h id v dealt at role worker =
     let in_role : IsInRole plan h.owners h.log id v (Keeper dealt dealt) = subst (IsInRole plan h.owners h.log id v) role (h.views id v at).in_role in
     let was = h.counted in
     let is : v ≡ was.keeper = some-injective v was.keeper (sym at ∙ (ap (get_elem? s.views) in_role.0 ∙ was.first)) in

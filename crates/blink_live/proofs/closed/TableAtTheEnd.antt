@@ -10,7 +10,7 @@ use Rattle.blink_batch.specs.PlainMap.{pointer_of}
 use Rattle.blink_page.specs.Page.{PlainPage}
 use Rattle.blink_rest.specs.Entries.{AreEntries}
 use Rattle.blink_rest.specs.Rest.{IsAtRest}
-use Rattle.blink_machine.specs.Moment.{Moment}
+use Rattle.blink_machine.specs.TreeState.{TreeState}
 use Rattle.blink_machine.specs.TreeMap.{pairs_of}
 use Rattle.blink_machine.proofs.Offered.{step_law}
 use Rattle.blink_live.specs.declared.view.Plan.{Plan}
@@ -31,12 +31,12 @@ pub record IsAtEnd (plan : Plan) (words : List ℕ) (v : View) : Type 0 where
   pub shares : (share : Share) (key : ℕ) → Contains v.back share → Contains share.keys key → pointer_of now key ≡ pointer_of share.entries key
   pub others : (key : ℕ) → ¬ Contains v.taken key → pointer_of now key ≡ pointer_of plan.opening key
 
-module _ (plan : Plan) (s : State ℕ View) (moment : Moment) (h : IsTableAt plan s moment) (idle : (worker : ℕ) → moment.machines worker ≡ None) where
-  kept_page : (number : ℕ) (page : PlainPage) → moment.pages number ≡ Some page → KeepsPage plan.counts s.words number page
+module _ (plan : Plan) (s : State ℕ View) (tree_state : TreeState) (h : IsTableAt plan s tree_state) (idle : (worker : ℕ) → tree_state.machines worker ≡ None) where
+  kept_page : (number : ℕ) (page : PlainPage) → tree_state.pages number ≡ Some page → KeepsPage plan.counts s.words number page
   kept_page number page there =
-      let some_number : 1 ≤ number = (h.sound.1.numbers_in_range number page there).0 in
+      let some_number : 1 ≤ number = (h.invariant.1.numbers_in_range number page there).0 in
       let in_range : number < plan.counts.numbers = elim (dec_le plan.counts.numbers number) [
-        | yes beyond ↦ absurd (let missing : moment.pages number ≡ None = h.no_other_page number beyond in cc)
+        | yes beyond ↦ absurd (let missing : tree_state.pages number ≡ None = h.no_other_page number beyond in cc)
         | no inside ↦ omega (arith, inside)
       ] in
       let word : PageWordIs plan h.owners s.words (slice_index s.words number) (Some page) = subst (PageWordIs plan h.owners s.words (slice_index s.words number)) there (h.pages number some_number in_range) in
@@ -44,18 +44,18 @@ module _ (plan : Plan) (s : State ℕ View) (moment : Moment) (h : IsTableAt pla
 
   keeps_tree : KeepsTree plan.counts s.words plan.fan h.now
   keeps_tree =
-      let order = step_law.sound_is_in_order moment h.sound in record {
-        prime = moment.prime;
-        pages = moment.pages;
+      let order = step_law.invariant_gives_order tree_state h.invariant in record {
+        prime = tree_state.prime;
+        pages = tree_state.pages;
         prime_kept = record {
           row_in_range = h.prime.0.0;
           row_is = h.prime.1;
           lawful = record { one_at_least = order.tree.1.tree.chains.some_level; at_most_levels = let few = order.few_levels in omega (arith, few); page_numbers = h.prime_numbers };
         };
         pages_kept = kept_page;
-        at_rest = subst (λ fan. IsAtRest fan moment.prime moment.pages) h.same_fan (step_law.all_idle_is_at_rest moment h.sound idle).at_rest;
+        at_rest = subst (λ fan. IsAtRest fan tree_state.prime tree_state.pages) h.same_fan (step_law.all_idle_is_at_rest tree_state h.invariant idle).at_rest;
         ascending = h.is_map.ascending;
-        are = subst (λ fan. AreEntries fan moment.prime moment.pages (pairs_of h.now)) h.same_fan h.is_map.kept;
+        are = subst (λ fan. AreEntries fan tree_state.prime tree_state.pages (pairs_of h.now)) h.same_fan h.is_map.kept;
       }
 
   at_end_with : (id : ℕ) (v : View) (dealt back : ℕ) → get_elem? s.views id ≡ some v → v.role ≡ Keeper dealt back → IsAtEnd plan s.words v
@@ -81,8 +81,8 @@ pub at_end : (plan : Plan) (id : ℕ) (v : View) (dealt back : ℕ) (words slots
 unfolding back_of dealt_of
 at_end plan id v dealt back words slots role enough final =
     let s : State ℕ View = final.0 in
-    let moment : Moment = final.1.0.0 in
-    let h : IsTableAt plan s moment = final.1.0.1 in
+    let tree_state : TreeState = final.1.0.0 in
+    let h : IsTableAt plan s tree_state = final.1.0.1 in
     let at : get_elem? s.views id ≡ some v = final.1.1 in
     let first : id ≡ 0 = (subst (IsInRole plan h.owners h.log id v) role (h.views id v at).in_role).0 in
     let counted = h.counted in
@@ -92,5 +92,5 @@ at_end plan id v dealt back words slots role enough final =
     let same_dealt : dealt ≡ counted.dealt = ap dealt_of roles in
     let count = counted.counted in
     let all : back ≡ dealt = omega (arith, same_back, same_dealt, count, enough) in
-    let idle = all_back plan s moment h id v dealt at (role ∙ ap (λ (n : ℕ). let r : Role = Keeper dealt n in r) all) in
-    subst (λ (ws : List ℕ). IsAtEnd plan ws v) final.2 (at_end_with plan s moment h idle id v dealt back at role)
+    let idle = all_back plan s tree_state h id v dealt at (role ∙ ap (λ (n : ℕ). let r : Role = Keeper dealt n in r) all) in
+    subst (λ (ws : List ℕ). IsAtEnd plan ws v) final.2 (at_end_with plan s tree_state h idle id v dealt back at role)

@@ -5,7 +5,7 @@ use mathlib.Core.Option.{some, some-injective}
 use lib.ListN.{get_elem?}
 use Rattle.atomic_table.specs.Table.{State, Joins}
 use Rattle.atomic_table.proofs.Lists.{at_set, set_else}
-use Rattle.blink_machine.specs.Moment.{Moment}
+use Rattle.blink_machine.specs.TreeState.{TreeState}
 use Rattle.blink_live.specs.declared.view.Plan.{Plan}
 use Rattle.blink_live.specs.declared.view.Role.TheVariants.{Keeper, Pass}
 use Rattle.blink_live.specs.declared.view.Share.{Share}
@@ -27,7 +27,7 @@ owners_after old other = record {
   latch_number = old.latch_number;
 }
 
-module _ (plan : Plan) (some_number : 1 ≤ plan.counts.numbers) (s : State ℕ View) (moment : Moment) (h : IsTableAt plan s moment) (id other : ℕ) (v w : View)
+module _ (plan : Plan) (some_number : 1 ≤ plan.counts.numbers) (s : State ℕ View) (tree_state : TreeState) (h : IsTableAt plan s tree_state) (id other : ℕ) (v w : View)
     (at : get_elem? s.views id ≡ some v) (apart : ¬ (other ≡ id)) (there : get_elem? (set s.views id (takes_back v w)) other ≡ some w)
     (dealt back : ℕ) (role : v.role ≡ Keeper dealt back) (its_role : w.role ≡ Pass) (idle : w.operation ≡ None) where
   abbrev old : Owners
@@ -39,13 +39,13 @@ module _ (plan : Plan) (some_number : 1 ≤ plan.counts.numbers) (s : State ℕ 
   abbrev both : View
   both = takes_back v w
 
-  known : Knows plan old s.words moment h.log id v
+  known : Knows plan old s.words tree_state h.log id v
   known = h.views id v at
 
   in_role : IsInRole plan old h.log id v (Keeper dealt back)
   in_role = subst (IsInRole plan old h.log id v) role known.in_role
 
-  its : Knows plan old s.words moment h.log other w
+  its : Knows plan old s.words tree_state h.log other w
   its = h.views other w (sym (set_else s.views id other both apart) ∙ there)
 
   -- ---- keys
@@ -80,7 +80,7 @@ module _ (plan : Plan) (some_number : 1 ≤ plan.counts.numbers) (s : State ℕ 
   both_role : both.role ≡ Keeper dealt (suc back)
   both_role = ap takes_one role
 
-  both_knows : Knows plan new s.words moment h.log id both
+  both_knows : Knows plan new s.words tree_state h.log id both
   both_knows = record {
     same_plan = known.same_plan;
     operation = known.operation;
@@ -88,7 +88,7 @@ module _ (plan : Plan) (some_number : 1 ≤ plan.counts.numbers) (s : State ℕ 
     reads = reads_still plan old new s.words h.log published v.reads known.reads;
     rows = record { in_range = known.rows.in_range; own = known.rows.own; blank = known.rows.blank };
     numbers = record { in_range = known.numbers.in_range; own = known.numbers.own; free = known.numbers.free };
-    for_call = call_still plan old new s.words moment moment (suc id) v.call v.rows.next v.pages.next v.rows.next v.pages.next known.for_call (omega arith, omega arith) (λ r below own. own) (λ n below own. own) (λ n none. none);
+    for_call = call_still plan old new s.words tree_state tree_state (suc id) v.call v.rows.next v.pages.next v.rows.next v.pages.next known.for_call (omega arith, omega arith) (λ r below own. own) (λ n below own. own) (λ n none. none);
     share = share_still plan old new s.words h.log published (suc id) (suc id) v.share
         (λ key is. key_else key (suc id) is (λ e. apart (omega (arith, e)))) known.share;
     saw = known.saw;
@@ -103,7 +103,7 @@ module _ (plan : Plan) (some_number : 1 ≤ plan.counts.numbers) (s : State ℕ 
 
   -- ---- the seat that is left
 
-  spent_knows : Knows plan new s.words moment h.log other (spent plan)
+  spent_knows : Knows plan new s.words tree_state h.log other (spent plan)
   spent_knows = record {
     same_plan = refl;
     operation = its.operation ∙ idle;
@@ -119,7 +119,7 @@ module _ (plan : Plan) (some_number : 1 ≤ plan.counts.numbers) (s : State ℕ 
       own = λ number low high. absurd (omega (arith, low, high));
       free = λ number low high. absurd (omega (arith, low, high));
     };
-    for_call = nothing_for_call plan new s.words moment (suc other) 1 1 (omega arith) (omega arith) some_number;
+    for_call = nothing_for_call plan new s.words tree_state (suc other) 1 1 (omega arith) (omega arith) some_number;
     share = λ key has. absurd (let inside = has.1 in omega (arith, inside));
     saw = (h.log, refl);
     heard = (h.log, refl);
@@ -139,11 +139,11 @@ module _ (plan : Plan) (some_number : 1 ≤ plan.counts.numbers) (s : State ℕ 
   abbrev views_then : List View
   views_then = set (set s.views id both) other (spent plan)
 
-  all_know : (seat : ℕ) (u : View) → get_elem? views_then seat ≡ some u → Knows plan new s.words moment h.log seat u
-  all_know = views_stay (Knows plan new s.words moment h.log) (set s.views id both) other (spent plan) spent_knows
+  all_know : (seat : ℕ) (u : View) → get_elem? views_then seat ≡ some u → Knows plan new s.words tree_state h.log seat u
+  all_know = views_stay (Knows plan new s.words tree_state h.log) (set s.views id both) other (spent plan) spent_knows
       (λ seat u not_spent at_seat. ⊎_elim
-      (λ (t : (seat ≡ id) × (both ≡ u)). subst (λ (x : ℕ × View). Knows plan new s.words moment h.log x.0 x.1) (λ i. (sym t.0 i, t.1 i)) both_knows)
-      (λ (t : (seat ≢ id) × (get_elem? s.views seat ≡ some u)). knows_still plan old new s.words h.log published moment seat u
+      (λ (t : (seat ≡ id) × (both ≡ u)). subst (λ (x : ℕ × View). Knows plan new s.words tree_state h.log x.0 x.1) (λ i. (sym t.0 i, t.1 i)) both_knows)
+      (λ (t : (seat ≢ id) × (get_elem? s.views seat ≡ some u)). knows_still plan old new s.words h.log published tree_state seat u
       (let first : id ≡ 0 = in_role.0 in let ne = t.0 in omega (arith, first, ne))
       (still_owns seat not_spent) (h.views seat u t.1))
       (at_set s.views id seat both u at_seat))
@@ -171,8 +171,8 @@ module _ (plan : Plan) (some_number : 1 ≤ plan.counts.numbers) (s : State ℕ 
         counted = omega (arith, one, two, no_pass, no_pass_then, a_pass, counted);
       }
 
-  takes_back_at : IsTableAt plan record { words = s.words; homes = s.homes; views = views_then } moment
-  takes_back_at = owners_change plan s moment h new views_then published (λ number seat holds. refl) untouched_still all_know
+  takes_back_at : IsTableAt plan record { words = s.words; homes = s.homes; views = views_then } tree_state
+  takes_back_at = owners_change plan s tree_state h new views_then published (λ number seat holds. refl) untouched_still all_know
       (let one : length (set s.views id both) ≡ length s.views = length-set s.views id both in
       let two : length views_then ≡ length (set s.views id both) = length-set (set s.views id both) other (spent plan) in
       omega (arith, one, two)) counted_then

@@ -6,7 +6,7 @@ use lib.ListN.{get_elem?}
 use Rattle.atomic_table.specs.Table.{State, Splits}
 use Rattle.atomic_table.proofs.Lists.{at_longer}
 use Rattle.blink_batch.specs.PlainMap.{pointer_of}
-use Rattle.blink_machine.specs.Moment.{Moment}
+use Rattle.blink_machine.specs.TreeState.{TreeState}
 use Rattle.blink_live.specs.declared.view.Plan.{Plan}
 use Rattle.blink_live.specs.declared.view.Role.TheVariants.{Keeper}
 use Rattle.blink_live.specs.declared.view.View.{View}
@@ -31,7 +31,7 @@ owners_after old seat v rows pages keys = record {
   latch_number = put old.latch_number seat (v.rows.next + rows - 1);
 }
 
-module _ (plan : Plan) (s : State ℕ View) (moment : Moment) (h : IsTableAt plan s moment) (id : ℕ) (v : View) (at : get_elem? s.views id ≡ some v)
+module _ (plan : Plan) (s : State ℕ View) (tree_state : TreeState) (h : IsTableAt plan s tree_state) (id : ℕ) (v : View) (at : get_elem? s.views id ≡ some v)
     (rows pages : ℕ) (keys taken : List ℕ) (can : CanDeal v rows pages keys taken) where
   abbrev new_seat : ℕ
   new_seat = length s.views
@@ -48,7 +48,7 @@ module _ (plan : Plan) (s : State ℕ View) (moment : Moment) (h : IsTableAt pla
   abbrev right : View
   right = gets_first v rows pages keys
 
-  known : Knows plan old s.words moment h.log id v
+  known : Knows plan old s.words tree_state h.log id v
   known = h.views id v at
 
   in_role : IsInRole plan old h.log id v (Keeper can.dealt can.back)
@@ -88,11 +88,11 @@ module _ (plan : Plan) (s : State ℕ View) (moment : Moment) (h : IsTableAt pla
   latch_else seat other = put_else old.latch_number new_seat seat (v.rows.next + rows - 1) other
 
   -- whoever holds a latch has an operation, and the new seat has none
-  holder_else : (number seat : ℕ) → moment.holder number ≡ Some seat → new.latch_number seat ≡ old.latch_number seat
+  holder_else : (number seat : ℕ) → tree_state.holder number ≡ Some seat → new.latch_number seat ≡ old.latch_number seat
   holder_else number seat holds = latch_else seat (λ e.
-      let its = h.sound.1.latches.by_holder seat number holds in
-      let idle : moment.machines seat ≡ None = h.others_idle seat (omega (arith, e)) in
-      let under : moment.machines seat ≡ Some its.0 = its.1 in
+      let its = h.invariant.1.latches.by_holder seat number holds in
+      let idle : tree_state.machines seat ≡ None = h.others_idle seat (omega (arith, e)) in
+      let under : tree_state.machines seat ≡ Some its.0 = its.1 in
       absurd (cc))
 
   still_owns : (seat : ℕ) → seat ≢ id → seat < new_seat → StillOwns old new seat
@@ -123,7 +123,7 @@ module _ (plan : Plan) (s : State ℕ View) (moment : Moment) (h : IsTableAt pla
     λ share has. share_still plan old new s.words h.log published 1 1 share (λ key is. key_else key 1 is (λ e. absurd (omega (arith, e)))) (in_role.3 share has),
   )
 
-  left_knows : Knows plan new s.words moment h.log id left
+  left_knows : Knows plan new s.words tree_state h.log id left
   left_knows = record {
     same_plan = known.same_plan;
     operation = known.operation;
@@ -139,7 +139,7 @@ module _ (plan : Plan) (s : State ℕ View) (moment : Moment) (h : IsTableAt pla
       own = λ number low high. ranged_out v.pages.next (v.pages.next + pages) (suc new_seat) old.page number (λ a b. omega (arith, low, b)) ∙ known.numbers.own number (omega (arith, low)) high;
       free = λ number low high. known.numbers.free number (omega (arith, low)) high;
     };
-    for_call = call_still plan old new s.words moment moment (suc id) v.call v.rows.next v.pages.next (v.rows.next + rows) (v.pages.next + pages) known.for_call (omega arith, omega arith)
+    for_call = call_still plan old new s.words tree_state tree_state (suc id) v.call v.rows.next v.pages.next (v.rows.next + rows) (v.pages.next + pages) known.for_call (omega arith, omega arith)
         (λ r below own. ranged_out v.rows.next (v.rows.next + rows) (suc new_seat) old.row r (λ a b. omega (arith, a, below)) ∙ own)
         (λ n below own. ranged_out v.pages.next (v.pages.next + pages) (suc new_seat) old.page n (λ a b. omega (arith, a, below)) ∙ own) (λ n none. none);
     share = share_still plan old new s.words h.log published (suc id) (suc id) v.share (λ key is. key_else key (suc id) is (λ e. absurd (omega (arith, e)))) known.share;
@@ -163,7 +163,7 @@ module _ (plan : Plan) (s : State ℕ View) (moment : Moment) (h : IsTableAt pla
         changes = none;
       }
 
-  right_knows : Knows plan new s.words moment h.log new_seat right
+  right_knows : Knows plan new s.words tree_state h.log new_seat right
   right_knows = record {
     same_plan = known.same_plan;
     operation = h.others_idle new_seat (omega arith);
@@ -179,7 +179,7 @@ module _ (plan : Plan) (s : State ℕ View) (moment : Moment) (h : IsTableAt pla
       own = λ number low high. ranged_in v.pages.next (v.pages.next + pages) (suc new_seat) old.page number low high;
       free = λ number low high. known.numbers.free number low (let enough = can.enough_pages in omega (arith, enough, high));
     };
-    for_call = nothing_for_call plan new s.words moment (suc new_seat) v.rows.next v.pages.next known.rows.in_range.0 known.numbers.in_range.0 (let low = known.numbers.in_range in let enough = can.enough_pages in omega (arith, low, enough));
+    for_call = nothing_for_call plan new s.words tree_state (suc new_seat) v.rows.next v.pages.next known.rows.in_range.0 known.numbers.in_range.0 (let low = known.numbers.in_range in let enough = can.enough_pages in omega (arith, low, enough));
     share = new_share;
     saw = (h.log, refl);
     heard = (h.log, refl);
@@ -191,15 +191,15 @@ module _ (plan : Plan) (s : State ℕ View) (moment : Moment) (h : IsTableAt pla
   abbrev views_then : List View
   views_then = set s.views id left ++ right ∷ []
 
-  older_knows : (seat : ℕ) (u : View) → get_elem? (set s.views id left) seat ≡ some u → Knows plan new s.words moment h.log seat u
-  older_knows = views_stay (Knows plan new s.words moment h.log) s.views id left left_knows
-      (λ seat u other there. knows_still plan old new s.words h.log published moment seat u
+  older_knows : (seat : ℕ) (u : View) → get_elem? (set s.views id left) seat ≡ some u → Knows plan new s.words tree_state h.log seat u
+  older_knows = views_stay (Knows plan new s.words tree_state h.log) s.views id left left_knows
+      (λ seat u other there. knows_still plan old new s.words h.log published tree_state seat u
       (let first : id ≡ 0 = in_role.0 in omega (arith, first, other))
       (still_owns seat other (at_inside s.views seat u there)) (h.views seat u there))
 
-  all_know : (seat : ℕ) (u : View) → get_elem? views_then seat ≡ some u → Knows plan new s.words moment h.log seat u
+  all_know : (seat : ℕ) (u : View) → get_elem? views_then seat ≡ some u → Knows plan new s.words tree_state h.log seat u
   all_know seat u there = ⊎_elim (λ (t : get_elem? (set s.views id left) seat ≡ some u). older_knows seat u t)
-      (λ (t : (seat ≡ length (set s.views id left)) × (right ≡ u)). subst (λ (x : ℕ × View). Knows plan new s.words moment h.log x.0 x.1)
+      (λ (t : (seat ≡ length (set s.views id left)) × (right ≡ u)). subst (λ (x : ℕ × View). Knows plan new s.words tree_state h.log x.0 x.1)
       (λ i. (sym (t.0 ∙ length-set s.views id left) i, t.1 i)) right_knows)
       (at_end (set s.views id left) right u seat there)
 
@@ -224,8 +224,8 @@ module _ (plan : Plan) (s : State ℕ View) (moment : Moment) (h : IsTableAt pla
         counted = omega (arith, changed, no_pass, no_pass_then, more, counted);
       }
 
-  deals_at : IsTableAt plan record { words = s.words; homes = s.homes; views = views_then } moment
-  deals_at = owners_change plan s moment h new views_then published holder_else untouched_still all_know
+  deals_at : IsTableAt plan record { words = s.words; homes = s.homes; views = views_then } tree_state
+  deals_at = owners_change plan s tree_state h new views_then published holder_else untouched_still all_know
       (let same : length (set s.views id left) ≡ length s.views = length-set s.views id left in
       let longer : length views_then ≡ length (set s.views id left) + 1 = length-append (set s.views id left) (right ∷ []) in
       omega (arith, same, longer)) counted_then

@@ -5,7 +5,7 @@ use Rattle.std.specs.List.Sorted.{IsPermutation}
 use Rattle.std.proofs.lemmas.List.{get_or_default}
 use Rattle.std.proofs.lemmas.List.Sorted.{Contains-permutation, IsPermutation-sym}
 use native.Mathlib.Decide.{dec_le}
-use Rattle.blink_page.specs.declared.limits.TheConstants.{NUMBERS_OF_INSERTION}
+use Rattle.blink_page.specs.declared.limits.TheConstants.{MAX_NEW_PAGES_PER_INSERT}
 use Rattle.blink_rows.specs.declared.span.Span.{Span}
 use Rattle.blink_live.specs.declared.keeper.Keeper.{Keeper}
 use Rattle.blink_live.specs.Allowed.{inserts_left, deletes_left}
@@ -41,7 +41,7 @@ module _ (keeper : Keeper) (keys others taken_now : List ℕ) (inserts deletes :
         (λ (new : Contains others key). inr (there key new)) either),
   )
 
-  pub keeper_can_deal : CanDeal keeper.seat.me.0 (rows_for inserts deletes) (NUMBERS_OF_INSERTION * inserts) others taken_now
+  pub keeper_can_deal : CanDeal keeper.seat.me.0 (rows_for inserts deletes) (MAX_NEW_PAGES_PER_INSERT * inserts) others taken_now
   keeper_can_deal =
       let few_inserts = enough_inserts keeper inserts deletes allowed in
       let few_deletes = enough_deletes keeper inserts deletes allowed in
@@ -52,7 +52,7 @@ module _ (keeper : Keeper) (keys others taken_now : List ℕ) (inserts deletes :
         back = 0;
         role = keeper.role_is;
         enough_rows = subst (λ (s : Span). s.next + rows_for inserts deletes ≤ s.stop) keeper.rows_are rows;
-        enough_pages = subst (λ (s : Span). s.next + NUMBERS_OF_INSERTION * inserts ≤ s.stop) keeper.pages_are pages;
+        enough_pages = subst (λ (s : Span). s.next + MAX_NEW_PAGES_PER_INSERT * inserts ≤ s.stop) keeper.pages_are pages;
         free_keys = λ key has was. not_taken (taken_of keeper) keys none key (there key has) (subst (λ (l : List ℕ). Contains l key) (sym keeper.taken_are) was);
         taken_now = taken_by_view;
       }

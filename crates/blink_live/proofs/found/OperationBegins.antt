@@ -18,16 +18,16 @@ use Rattle.blink_machine.specs.declared.step.Step.TheVariants.{Moved}
 use Rattle.blink_machine.specs.declared.step.Kind.TheVariants as kind
 use Rattle.blink_machine.specs.InOrder.{ReadsPrimeWell}
 use Rattle.blink_machine.specs.Machine.{PlainMachine, NeedsPrime, fresh}
-use Rattle.blink_machine.specs.Moment.{Moment, goes_on, Steps, reads_prime, IsItsOperation, taken_on}
-use Rattle.blink_machine.specs.Places.{way_left}
+use Rattle.blink_machine.specs.TreeState.{TreeState, goes_on, Steps, reads_prime, IsItsOperation, taken_on}
+use Rattle.blink_machine.specs.Places.{descent_bound}
 use Rattle.blink_machine.specs.Table.{SeesPrime}
 use Rattle.blink_machine.proofs.Offered.{step_law}
 use Rattle.blink_live.specs.declared.view.Plan.{Plan}
 use Rattle.blink_live.specs.declared.view.Role.TheVariants.{Pass}
 use Rattle.blink_live.specs.declared.view.View.{View}
-use Rattle.blink_live.specs.Plays.{begins}
+use Rattle.blink_live.specs.AtomicSteps.{begins}
 use Rattle.blink_live.specs.Rule.{ReadsRow, IsInRole, IsBoundedWay, Knows, IsTable, IsTableAt}
-use Rattle.blink_live.specs.Views.{Sat, CanBegin, for_call, reading}
+use Rattle.blink_live.specs.Views.{SeatState, CanBegin, for_call, reading}
 use Rattle.blink_live.proofs.table.LoadsKeepTable.{moved, load_keeps_with}
 use Rattle.blink_live.proofs.table.SharesAreKnown.{share_is_known}
 use Rattle.blink_live.proofs.table.MapsWithOneChange.{put_here, put_else}
@@ -48,16 +48,16 @@ sees_first : (m : PlainMachine) (prime : List ℕ) → m.state ≡ Start → Rea
 sees_first m prime start (ReadsPrimeWell.waits waits never) = absurd (let posts : m.state ≡ Posting = waits.posting in cc)
 sees_first m prime start (ReadsPrimeWell.goes_on after sees only goes) = record { after = after; sees = sees; only = only }
 
-module _ (moment : Moment) (worker : ℕ) (m after : PlainMachine) where
-  pub prime_step : NeedsPrime m → SeesPrime m moment.prime after → Steps moment worker m (Moved kind.ReadPrime) after (moved moment worker (goes_on after after.state))
+module _ (tree_state : TreeState) (worker : ℕ) (m after : PlainMachine) where
+  pub prime_step : NeedsPrime m → SeesPrime m tree_state.prime after → Steps tree_state worker m (Moved kind.ReadPrime) after (moved tree_state worker (goes_on after after.state))
   prime_step needs sees = reads_prime needs sees refl
       (record { same_fan = refl; same_prime = refl; same_pages = refl; same_holder = refl })
-      (record { own = put_here moment.machines worker (goes_on after after.state); others = λ other ne. put_else moment.machines worker other (goes_on after after.state) ne })
+      (record { own = put_here tree_state.machines worker (goes_on after after.state); others = λ other ne. put_else tree_state.machines worker other (goes_on after after.state) ne })
 
-module _ (plan : Plan) (s : State ℕ View) (moment : Moment) (h : IsTableAt plan s moment) (id : ℕ) (v : View) (after : PlainMachine) (row way : ℕ) (content : List ℕ) (at : get_elem? s.views id ≡ some v) (role : v.role ≡ Pass) where
+module _ (plan : Plan) (s : State ℕ View) (tree_state : TreeState) (h : IsTableAt plan s tree_state) (id : ℕ) (v : View) (after : PlainMachine) (row way : ℕ) (content : List ℕ) (at : get_elem? s.views id ≡ some v) (role : v.role ≡ Pass) where
   -- the seat of an operation that begins
-  begin_knows : (op : Op) → CanBegin v op → IsBoundedWay moment (reading (for_call v op) after way row content h.log) → ReadsRow plan h.owners s.words (Some (row, content))
-      → Knows plan h.owners s.words (moved moment id (goes_on after after.state)) h.log id (reading (for_call v op) after way row content h.log)
+  begin_knows : (op : Op) → CanBegin v op → IsBoundedWay tree_state (reading (for_call v op) after way row content h.log) → ReadsRow plan h.owners s.words (Some (row, content))
+      → Knows plan h.owners s.words (moved tree_state id (goes_on after after.state)) h.log id (reading (for_call v op) after way row content h.log)
   begin_knows op can bounded reads =
       let known = h.views id v at in
       let w : View = reading (for_call v op) after way row content h.log in
@@ -69,7 +69,7 @@ module _ (plan : Plan) (s : State ℕ View) (moment : Moment) (h : IsTableAt pla
       let enough_pages = can.pages in
       let kept = subst (IsInRole plan h.owners h.log id v) role known.in_role in record {
         same_plan = known.same_plan;
-        operation = put_here moment.machines id (goes_on after after.state);
+        operation = put_here tree_state.machines id (goes_on after after.state);
         bounded = bounded;
         reads = reads;
         rows = record {
@@ -86,7 +86,7 @@ module _ (plan : Plan) (s : State ℕ View) (moment : Moment) (h : IsTableAt pla
           before = (omega arith, omega arith);
           width = length-replicate {A = ℕ} ROW_WORDS 0;
           first_own = λ some. (low_row, known.rows.own v.rows.next (omega arith) (omega (arith, some, enough_rows)));
-          drafted = λ some i inside. known.rows.blank v.rows.next (omega arith) (omega (arith, some, enough_rows)) i inside ∙ sym (get_or-replicate ROW_WORDS i 0 0 inside);
+          staged = λ some i inside. known.rows.blank v.rows.next (omega arith) (omega (arith, some, enough_rows)) i inside ∙ sym (get_or-replicate ROW_WORDS i 0 0 inside);
           others = record {
             in_range = (omega arith, omega (arith, high_row, enough_rows));
             own = λ r low high. known.rows.own r (omega (arith, low)) (omega (arith, high, enough_rows));
@@ -104,33 +104,33 @@ module _ (plan : Plan) (s : State ℕ View) (moment : Moment) (h : IsTableAt pla
         in_role = subst (IsInRole plan h.owners h.log id w) (sym role) kept;
       }
 
-pub begins_operation : (plan : Plan) (slots id : ℕ) (me : Sat) (op : Op) → me.0.role ≡ Pass → me.0.operation ≡ None → FitsWords op → CanBegin me.0 op
+pub begins_operation : (plan : Plan) (slots id : ℕ) (me : SeatState) (op : Op) → me.0.role ≡ Pass → me.0.operation ≡ None → FitsWords op → CanBegin me.0 op
     → Allows (IsTable plan) slots id me 0 (λ k. k) (begins op (step slots 0 0 0 none) me)
 begins_operation plan slots id me op role idle fits enough s table homes at small =
-    let moment : Moment = table.0 in
-    let h : IsTableAt plan s moment = table.1 in
+    let tree_state : TreeState = table.0 in
+    let h : IsTableAt plan s tree_state = table.1 in
     let known = h.views id me.0 at in
     let m : PlainMachine = fresh me.0.plan.fan op in
-    let none_yet : moment.machines id ≡ None = known.operation ∙ idle in
-    let same_fan : me.0.plan.fan ≡ moment.fan = ap (λ (p : Plan). p.fan) known.same_plan ∙ sym h.same_fan in
-    let its : IsItsOperation moment id m = taken_on op none_yet (ap (λ fan. fresh fan op) same_fan) in
-    let order = step_law.sound_is_in_order moment h.sound in
-    let first : SeesFirst m moment.prime = sees_first m moment.prime refl (order.reads_prime id m its refl) in
+    let none_yet : tree_state.machines id ≡ None = known.operation ∙ idle in
+    let same_fan : me.0.plan.fan ≡ tree_state.fan = ap (λ (p : Plan). p.fan) known.same_plan ∙ sym h.same_fan in
+    let its : IsItsOperation tree_state id m = taken_on op none_yet (ap (λ fan. fresh fan op) same_fan) in
+    let order = step_law.invariant_gives_order tree_state h.invariant in
+    let first : SeesFirst m tree_state.prime = sees_first m tree_state.prime refl (order.reads_prime id m its refl) in
     let after : PlainMachine = first.after in
-    let way : ℕ = way_left moment.pages after in
+    let way : ℕ = descent_bound tree_state.pages after in
     let row : ℕ = slice_index s.words 0 in
-    let w : View = reading (for_call me.0 op) after way row (prime_words moment.prime) h.log in
-    let sound = step_law.step_keeps_sound moment (moved moment id (goes_on after after.state)) id m after (Moved kind.ReadPrime) h.sound fits its
-    (prime_step moment id m after refl first.sees) in (
+    let w : View = reading (for_call me.0 op) after way row (prime_words tree_state.prime) h.log in
+    let invariant = step_law.step_keeps_invariant tree_state (moved tree_state id (goes_on after after.state)) id m after (Moved kind.ReadPrime) h.invariant fits its
+    (prime_step tree_state id m after refl first.sees) in (
       w,
       keeps,
       tt,
-      load_keeps_with plan s moment h id 0 me.0 w at role sound refl
-          (begin_knows plan s moment h id me.0 after row way (prime_words moment.prime) at role op enough (λ other is. ap (way_left moment.pages) (sym (goes_on_as after after.state other is))) h.prime),
+      load_keeps_with plan s tree_state h id 0 me.0 w at role invariant refl
+          (begin_knows plan s tree_state h id me.0 after row way (prime_words tree_state.prime) at role op enough (λ other is. ap (descent_bound tree_state.pages) (sym (goes_on_as after after.state other is))) h.prime),
       (
         after,
         record {
-          prime = moment.prime;
+          prime = tree_state.prime;
           way = way;
           seen = h.log;
           is = refl;
@@ -144,7 +144,7 @@ begins_operation plan slots id me op role idle fits enough s table homes at smal
           rows_in_range = subst (λ (p : Plan). (1 ≤ me.0.rows.next) × (me.0.rows.stop ≤ p.counts.rows + 1)) (sym known.same_plan) known.rows.in_range;
           knows_own = share_is_known plan h.owners (suc id) w known.same_plan known.share;
           pages_in_range = subst (λ (p : Plan). (1 ≤ me.0.pages.next) × (me.0.pages.stop ≤ p.counts.numbers) × (p.counts.numbers ≤ MAX_PAGE + 1)) (sym known.same_plan) (known.numbers.in_range.0, known.numbers.in_range.1, h.bounded.numbers_bounded);
-          next = next_page_is_there plan (moved moment id (goes_on after after.state)) (record { no_page = h.no_other_page; no_latch = h.no_other_latch }) me.0.plan id after known.same_plan sound (put_here moment.machines id (goes_on after after.state));
+          next = next_page_is_there plan (moved tree_state id (goes_on after after.state)) (record { no_page = h.no_other_page; no_latch = h.no_other_latch }) me.0.plan id after known.same_plan invariant (put_here tree_state.machines id (goes_on after after.state));
         },
       ),
     )

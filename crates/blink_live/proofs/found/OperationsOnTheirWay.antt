@@ -1,36 +1,42 @@
 -- An operation on its way down: it has begun, goes on, or has come to the leaf of its key.
-use Rattle.std.proofs.Common.{◌≡◌, ◌⊎◌, ℕ, inl, inr, Option, Some, None, List, ap, sym, ◌∙◌, subst, refl}
+use Rattle.std.proofs.Common.{◌≡◌, ◌<◌, ◌≤◌, ◌⊎◌, ℕ, inl, inr, Option, Some, None, List, ap, sym, ◌∙◌, subst, refl}
 use mathlib.Core.List.{IsPrefix}
+use Rattle.atomic_table.specs.Seated.{TableId}
+use Rattle.blink_batch.specs.Batch.{FitsWords}
 use Rattle.blink_batch.specs.declared.Op.{Op}
 use Rattle.blink_batch.specs.declared.Op.TheVariants.{Find}
 use Rattle.blink_batch.specs.Operation.{answer_at, key_of}
 use Rattle.blink_batch.specs.PlainMap.{pointer_of}
 use Rattle.blink_page.specs.Page.{PlainPage}
+use Rattle.blink_rows.specs.Counts.{PlainCounts}
+use Rattle.blink_machine.specs.declared.machine.State.TheVariants.{Going}
 use Rattle.blink_machine.specs.Machine.{PlainMachine, NeedsPage, need_at}
 use Rattle.blink_machine.specs.Table.{SeesPrime, SeesPage, SeesOnItsWay}
+use Rattle.blink_machine.proofs.Offered.{goes_on_if_needed}
+use Rattle.blink_live.specs.declared.live.Live.{Live}
 use Rattle.blink_live.specs.declared.view.Change.{Change}
 use Rattle.blink_live.specs.declared.view.Plan.{Plan}
 use Rattle.blink_live.specs.declared.view.View.{View}
 use Rattle.blink_live.specs.Changes.{after}
-use Rattle.blink_live.specs.Plays.{LoadsPage, AnswersAfter, CanGoOn}
-use Rattle.blink_live.specs.Seats.{IsGoing, IsAtLeaf, found, wants, IsDescending, going, at_leaf, HasRead}
-use Rattle.blink_live.specs.Views.{Sat, SameBesideReads, reading, known_of}
-use Rattle.blink_live.proofs.told.FrontsOfOneList.{front_of_front}
+use Rattle.blink_live.specs.AtomicSteps.{LoadsPage, AnswersAfter, CanGoOn}
+use Rattle.blink_live.specs.Seats.{IsGoing, IsAtLeaf, IsPassSeat, found, wants, IsDescending, going, at_leaf, HasRead}
+use Rattle.blink_live.specs.Views.{SeatState, SameBesideReads, reading, known_of}
+use Rattle.blink_live.proofs.told.PrefixesOfOneList.{prefix_of_prefix}
 
 pub same_trans : (u v w : View) → SameBesideReads u v → SameBesideReads v w → SameBesideReads u w
-same_trans u v w first second = second ∙ ap (λ (x : View). record x { operation = w.operation; way_left = w.way_left; reads = w.reads; seen = w.seen }) first
+same_trans u v w first second = second ∙ ap (λ (x : View). record x { operation = w.operation; descent_bound = w.descent_bound; reads = w.reads; seen = w.seen }) first
 
 pub same_reading : (v : View) (then : PlainMachine) (way row : ℕ) (words : List ℕ) (seen : List Change) (w : View) → w ≡ reading v then way row words seen → SameBesideReads v w
 same_reading v then way row words seen w is = subst (SameBesideReads v) (sym is) refl
 
 -- and after each page
-module _ (op : Op) (number row : ℕ) (first me : Sat) (m then : PlainMachine) (new : Sat) (has : HasRead op first me m) (is_going : IsGoing m) (loads : LoadsPage m number me row then new) where
+module _ (op : Op) (number row : ℕ) (first me : SeatState) (m then : PlainMachine) (new : SeatState) (has : HasRead op first me m) (is_going : IsGoing m) (loads : LoadsPage m number me row then new) where
   pub read_one_more : then.op ≡ m.op → then.job ≡ m.job → HasRead op first new then
   read_one_more same_op same_job = record {
-    same = (same_trans first.0 me.0 new.0 has.same.0 (same_reading me.0 then loads.way row _ loads.seen new.0 (ap (λ (x : Sat). x.0) loads.is)), ap (λ (x : Sat). x.1) loads.is ∙ has.same.1);
-    saw = front_of_front first.0.seen me.0.seen new.0.seen has.saw (subst (λ (seen : List Change). IsPrefix me.0.seen seen) (sym (ap (λ (x : Sat). x.0.seen) loads.is)) loads.learns.saw);
+    same = (same_trans first.0 me.0 new.0 has.same.0 (same_reading me.0 then loads.way row _ loads.seen new.0 (ap (λ (x : SeatState). x.0) loads.is)), ap (λ (x : SeatState). x.1) loads.is ∙ has.same.1);
+    saw = prefix_of_prefix first.0.seen me.0.seen new.0.seen has.saw (subst (λ (seen : List Change). IsPrefix me.0.seen seen) (sym (ap (λ (x : SeatState). x.0.seen) loads.is)) loads.learns.saw);
     knows_own = loads.knows_own;
-    operation = ap (λ (x : Sat). x.0.operation) loads.is;
+    operation = ap (λ (x : SeatState). x.0.operation) loads.is;
     same_op = same_op ∙ has.same_op;
     same_job = same_job ∙ has.same_job;
     next = subst (λ (p : Plan). CanGoOn p then) (ap (λ (v : View). v.plan) has.same.0) loads.next;
@@ -40,11 +46,11 @@ module _ (op : Op) (number row : ℕ) (first me : Sat) (m then : PlainMachine) (
   pub answers_as_told : AnswersAfter (after (pointer_of me.0.plan.opening) loads.seen) m then → m.answer ≡ None → (then.answer ≡ None) ⊎ (then.answer ≡ Some (answer_at op (known_of new.0 (key_of op))))
   answers_as_told (inl same) none_yet = inl (same ∙ none_yet)
   answers_as_told (inr (was_none, given)) none_yet =
-      inr (given ∙ ap (λ (o : Op). Some (answer_at o (after (pointer_of me.0.plan.opening) loads.seen (key_of o)))) has.same_op ∙ ap (λ (x : Sat). Some (answer_at op (known_of x.0 (key_of op)))) (sym loads.is))
+      inr (given ∙ ap (λ (o : Op). Some (answer_at o (after (pointer_of me.0.plan.opening) loads.seen (key_of o)))) has.same_op ∙ ap (λ (x : SeatState). Some (answer_at op (known_of x.0 (key_of op)))) (sym loads.is))
 
 -- ---- a page that is read on the way down
 
-module _ (op : Op) (number row : ℕ) (first me : Sat) (m then : PlainMachine) (new : Sat) (has : HasRead op first me m) (is_going : IsGoing m) (none_yet : m.answer ≡ None)
+module _ (op : Op) (number row : ℕ) (first me : SeatState) (m then : PlainMachine) (new : SeatState) (has : HasRead op first me m) (is_going : IsGoing m) (none_yet : m.answer ≡ None)
     (loads : LoadsPage m number me row then new) where
   abbrev Now : Type 0
   Now = HasRead op first new then × IsDescending op (known_of new.0 (key_of op)) then
@@ -88,3 +94,32 @@ needs_on_its_way op kept m number (at_leaf (wants page updates wants_it none_yet
 pub else_at_leaf : (op : Op) (kept : Option ℕ) (m : PlainMachine) → ((number : ℕ) → ¬ NeedsPage m number) → IsDescending op kept m → IsAtLeaf op kept m
 else_at_leaf op kept m none (going is_going none_yet) = absurd (none is_going.on_its_way.0 (ap need_at is_going.on_its_way.2))
 else_at_leaf op kept m none (at_leaf there) = there
+
+-- ---- the page that it reads next
+
+module _ {op : Op} {first me : SeatState} {m : PlainMachine} (read : HasRead op first me m) where
+  pub is_its_seat : (live : Live) (before table : TableId) → table ≡ before → IsPassSeat live before first → IsPassSeat live table me
+  is_its_seat live before table same seat = record {
+    same_table = same ∙ seat.same_table;
+    same_plan = ap (λ (v : View). v.plan) read.same.0 ∙ seat.same_plan;
+    role = ap (λ (v : View). v.role) read.same.0 ∙ seat.role;
+  }
+
+  pub is_its_operation : (number : ℕ) → NeedsPage m number → me.0.operation ≡ Some m
+  is_its_operation number needs = read.operation ∙ goes_on_if_needed m m.state (λ ends. absurd (cc))
+
+  pub its_words_fit : FitsWords op → FitsWords m.op
+  its_words_fit fits = subst FitsWords (sym read.same_op) fits
+
+  pub page_in_range : (counts : PlainCounts) (number : ℕ) → NeedsPage m number → first.0.plan.counts ≡ counts → (1 ≤ number) × (number < counts.numbers)
+  page_in_range counts number needs same =
+      let there = read.next.reads number needs in
+      (there.0, subst (λ (k : PlainCounts). number < k.numbers) same there.1)
+
+-- each page is nearer to the leaf
+pub comes_nearer : (m then : PlainMachine) (number row : ℕ) (me new : SeatState) → IsGoing m → NeedsPage m number → LoadsPage m number me row then new → new.0.descent_bound < me.0.descent_bound
+comes_nearer m then number row me new goes needs loads =
+    let at = goes.on_its_way.2 in
+    let needed = ap need_at at in
+    let same : goes.on_its_way.0 ≡ number = cc in
+    subst (λ (x : SeatState). x.0.descent_bound < me.0.descent_bound) (sym loads.is) (loads.nearer goes.on_its_way.1 (at ∙ (λ i. Going (same i) goes.on_its_way.1)))

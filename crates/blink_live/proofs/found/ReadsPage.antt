@@ -13,35 +13,35 @@ use Rattle.blink_rows.specs.Row.{page_words}
 use Rattle.blink_machine.specs.declared.step.Step.TheVariants.{Moved}
 use Rattle.blink_machine.specs.declared.step.Kind.TheVariants as kind
 use Rattle.blink_machine.specs.Machine.{PlainMachine, NeedsPage}
-use Rattle.blink_machine.specs.Moment.{Moment, goes_on, Steps, reads_page, IsItsOperation, under_way}
-use Rattle.blink_machine.specs.Places.{way_left}
+use Rattle.blink_machine.specs.TreeState.{TreeState, goes_on, Steps, reads_page, IsItsOperation, under_way}
+use Rattle.blink_machine.specs.Places.{descent_bound}
 use Rattle.blink_machine.specs.StepLaw.{Decides, deciding, other}
 use Rattle.blink_machine.specs.Table.{SeesPage}
-use Rattle.blink_machine.proofs.Offered.{step_law, way_left_falls, has_answer_at_end}
+use Rattle.blink_machine.proofs.Offered.{step_law, descent_bound_falls, has_answer_at_end}
 use Rattle.blink_live.specs.declared.view.Plan.{Plan}
 use Rattle.blink_live.specs.declared.view.Role.TheVariants.{Pass}
 use Rattle.blink_live.specs.declared.view.View.{View}
 use Rattle.blink_live.specs.Changes.{after}
-use Rattle.blink_live.specs.Plays.{loads_page, LoadsPage, AnswersAfter}
+use Rattle.blink_live.specs.AtomicSteps.{loads_page, LoadsPage, AnswersAfter}
 use Rattle.blink_live.specs.Rule.{IsTable, IsTableAt, PageWordIs}
-use Rattle.blink_live.specs.Views.{Sat, reading}
+use Rattle.blink_live.specs.Views.{SeatState, reading}
 use Rattle.blink_live.proofs.table.LoadsKeepTable.{moved, load_keeps}
 use Rattle.blink_live.proofs.table.SharesAreKnown.{share_is_known}
 use Rattle.blink_live.proofs.table.MapsWithOneChange.{put_here, put_else}
 use Rattle.blink_live.proofs.table.NextPageIsThere.{next_page_is_there}
 use Rattle.blink_live.proofs.found.OperationBegins.{goes_on_as}
 
-module _ (moment : Moment) (worker number : ℕ) (m then : PlainMachine) (page : PlainPage) where
-  read_step : NeedsPage m number → moment.pages number ≡ Some page → SeesPage m number page then
-      → Steps moment worker m (Moved (kind.ReadPage number)) then (moved moment worker (goes_on then then.state))
+module _ (tree_state : TreeState) (worker number : ℕ) (m then : PlainMachine) (page : PlainPage) where
+  read_step : NeedsPage m number → tree_state.pages number ≡ Some page → SeesPage m number page then
+      → Steps tree_state worker m (Moved (kind.ReadPage number)) then (moved tree_state worker (goes_on then then.state))
   read_step needs there sees = reads_page number page needs there sees refl
       (record { same_fan = refl; same_prime = refl; same_pages = refl; same_holder = refl })
-      (record { own = put_here moment.machines worker (goes_on then then.state); others = λ some_other ne. put_else moment.machines worker some_other (goes_on then then.state) ne })
+      (record { own = put_here tree_state.machines worker (goes_on then then.state); others = λ some_other ne. put_else tree_state.machines worker some_other (goes_on then then.state) ne })
 
 -- what it answers is what its key keeps after the changes so far
-answers_after : (kept : ℕ → Option ℕ) (moment : Moment) (m then : PlainMachine) (now : List _) → ((key : ℕ) → pointer_of now key ≡ kept key) → Decides moment m then now → AnswersAfter kept m then
-answers_after kept moment m then now is (deciding none_yet answered keeps_map) = inr (none_yet, answered ∙ ap (λ (o : Option ℕ). Some (answer_at m.op o)) (is (key_of m.op)))
-answers_after kept moment m then now is (other same keeps_map) = inl same
+answers_after : (kept : ℕ → Option ℕ) (tree_state : TreeState) (m then : PlainMachine) (now : List _) → ((key : ℕ) → pointer_of now key ≡ kept key) → Decides tree_state m then now → AnswersAfter kept m then
+answers_after kept tree_state m then now is (deciding none_yet answered keeps_map) = inr (none_yet, answered ∙ ap (λ (o : Option ℕ). Some (answer_at m.op o)) (is (key_of m.op)))
+answers_after kept tree_state m then now is (other same keeps_map) = inl same
 
 -- a page of some tree is lawful under the greatest fan
 lawful_within : (fan : ℕ) (page : PlainPage) → fan ≤ MAX_FAN → IsLawfulPage fan page → IsLawfulPage MAX_FAN page
@@ -57,32 +57,32 @@ lawful_within fan page less lawful = record {
   inner = lawful.inner;
 }
 
-pub reads_page_word : (plan : Plan) (slots id number : ℕ) (me : Sat) (m : PlainMachine) → me.0.role ≡ Pass → me.0.operation ≡ Some m → FitsWords m.op → NeedsPage m number
+pub reads_page_word : (plan : Plan) (slots id number : ℕ) (me : SeatState) (m : PlainMachine) → me.0.role ≡ Pass → me.0.operation ≡ Some m → FitsWords m.op → NeedsPage m number
     → 1 ≤ number → number < plan.counts.numbers
     → Allows (IsTable plan) slots id me number (λ k. k) (loads_page (step slots number 0 0 none) me)
 reads_page_word plan slots id number me m role at_m fits needs some_number in_range s table homes at small =
-    let moment : Moment = table.0 in
-    let h : IsTableAt plan s moment = table.1 in
+    let tree_state : TreeState = table.0 in
+    let h : IsTableAt plan s tree_state = table.1 in
     let known = h.views id me.0 at in
-    let under : moment.machines id ≡ Some m = known.operation ∙ at_m in
-    let its : IsItsOperation moment id m = under_way under in
-    let order = step_law.sound_is_in_order moment h.sound in
+    let under : tree_state.machines id ≡ Some m = known.operation ∙ at_m in
+    let its : IsItsOperation tree_state id m = under_way under in
+    let order = step_law.invariant_gives_order tree_state h.invariant in
     let reads = order.reads_page id number m its needs in
     let then : PlainMachine = reads.one_machine.after in
     let sees = reads.one_machine.sees in
     let row : ℕ = slice_index s.words number in
     let is_page : PageWordIs plan h.owners s.words row (Some reads.page) = subst (PageWordIs plan h.owners s.words row) reads.there (h.pages number some_number in_range) in
-    let way : ℕ = way_left moment.pages then in
+    let way : ℕ = descent_bound tree_state.pages then in
     let w : View = reading me.0 then way row (page_words reads.page) h.log in
-    let stepped = read_step moment id number m then reads.page needs reads.there sees in
-    let new : Moment = moved moment id (goes_on then then.state) in
-    let sound = step_law.step_keeps_sound moment new id m then (Moved (kind.ReadPage number)) h.sound fits its stepped in
-    let decides = step_law.step_decides moment new id m then (Moved (kind.ReadPage number)) h.now h.sound fits its stepped h.is_map.ascending h.is_map.kept in (
+    let stepped = read_step tree_state id number m then reads.page needs reads.there sees in
+    let new : TreeState = moved tree_state id (goes_on then then.state) in
+    let invariant = step_law.step_keeps_invariant tree_state new id m then (Moved (kind.ReadPage number)) h.invariant fits its stepped in
+    let decides = step_law.step_decides tree_state new id m then (Moved (kind.ReadPage number)) h.now h.invariant fits its stepped h.is_map.ascending h.is_map.kept in (
       w,
       keeps,
       tt,
-      load_keeps plan s moment h id number me.0 w at role sound refl
-          (λ some_other is. ap (way_left moment.pages) (sym (goes_on_as then then.state some_other is)))
+      load_keeps plan s tree_state h id number me.0 w at role invariant refl
+          (λ some_other is. ap (descent_bound tree_state.pages) (sym (goes_on_as then then.state some_other is)))
           is_page
           ([], append-nil h.log),
       λ same at_same needed. subst (λ (k : PlainMachine). (machine : PlainMachine) × LoadsPage k number me row machine (w, me.1)) (let e : m ≡ same = cc in e) (
@@ -94,16 +94,16 @@ reads_page_word plan slots id number me m role at_m fits needs some_number in_ra
           is = refl;
           learns = record { saw = known.saw; heard = known.heard };
           row_in_range = subst (λ (p : Plan). (1 ≤ row) × (row ≤ p.counts.rows)) (sym known.same_plan) is_page.0.0;
-          lawful = lawful_within moment.fan reads.page h.sound.1.fan_in_range.1 reads.lawful;
+          lawful = lawful_within tree_state.fan reads.page h.invariant.1.fan_in_range.1 reads.lawful;
           readable = reads.readable;
           sees = sees;
           only = reads.one_machine.only;
-          next = next_page_is_there plan new (record { no_page = h.no_other_page; no_latch = h.no_other_latch }) me.0.plan id then known.same_plan sound (put_here moment.machines id (goes_on then then.state));
-          uses = step_law.allowance_is_used_up.by_step moment new id m then (Moved (kind.ReadPage number)) h.sound fits its stepped;
-          answers_at_end = λ ends. has_answer_at_end moment h.sound id m then its ends (Moved (kind.ReadPage number)) new stepped;
+          next = next_page_is_there plan new (record { no_page = h.no_other_page; no_latch = h.no_other_latch }) me.0.plan id then known.same_plan invariant (put_here tree_state.machines id (goes_on then then.state));
+          uses = step_law.allowance_is_used_up.by_step tree_state new id m then (Moved (kind.ReadPage number)) h.invariant fits its stepped;
+          answers_at_end = λ ends. has_answer_at_end tree_state h.invariant id m then its ends (Moved (kind.ReadPage number)) new stepped;
           nearer = λ level going.
-              let before : way_left moment.pages m ≡ me.0.way_left = known.bounded m at_m in
-              let falls : way < way_left moment.pages m = way_left_falls moment h.sound id number level m then reads.page its going reads.there sees in
+              let before : descent_bound tree_state.pages m ≡ me.0.descent_bound = known.bounded m at_m in
+              let falls : way < descent_bound tree_state.pages m = descent_bound_falls tree_state h.invariant id number level m then reads.page its going reads.there sees in
               omega (arith, before, falls);
           answers = answers_after (after (pointer_of me.0.plan.opening) h.log) new m then h.now
               (subst (λ (p : Plan). (key : ℕ) → pointer_of h.now key ≡ after (pointer_of p.opening) h.log key) (sym known.same_plan) h.kept) decides;

@@ -1,4 +1,4 @@
--- The loads of a row's words tell the words that the page word's load has noted.
+-- The loads of a row's words tell the words that the page word's load has recorded.
 use Rattle.std.proofs.Common.{ℕ, ◌+◌, Some, List, refl, sym, ap, ◌∙◌, subst}
 use Rattle.std.specs.Prelude.{slice_index}
 use mathlib.Core.Option.{none}
@@ -7,12 +7,12 @@ use Rattle.atomic_table.specs.Table.{step, keeps, Allows}
 use Rattle.atomic_table.proofs.Lists.{set_again}
 use Rattle.blink_live.specs.declared.view.Plan.{Plan}
 use Rattle.blink_live.specs.declared.view.View.{View}
-use Rattle.blink_live.specs.Plays.{loads_word}
+use Rattle.blink_live.specs.AtomicSteps.{loads_word}
 use Rattle.blink_live.specs.Rule.{IsTable, IsTableAt, ReadsRow}
-use Rattle.blink_live.specs.Views.{Sat}
+use Rattle.blink_live.specs.Views.{SeatState}
 use Rattle.blink_live.specs.Words.{row_start}
 
-pub reads_row_word : (plan : Plan) (slots id word : ℕ) (me : Sat) → Allows (IsTable plan) slots id me word (λ k. k) (loads_word (step slots word 0 0 none) me)
+pub reads_row_word : (plan : Plan) (slots id word : ℕ) (me : SeatState) → Allows (IsTable plan) slots id me word (λ k. k) (loads_word (step slots word 0 0 none) me)
 reads_row_word plan slots id word me s table homes at small =
     let h : IsTableAt plan s table.0 = table.1 in
     let known = h.views id me.0 at in (

@@ -6,7 +6,7 @@ use Rattle.blink_page.specs.declared.limits.TheConstants.{MAX_PAGE}
 use Rattle.blink_page.specs.Page.{PlainPage}
 use Rattle.blink_rest.specs.Chain.{Cell, Pages}
 use Rattle.blink_rest.specs.Level.{entries_along, numbers_of}
-use Rattle.blink_rest.specs.Rest.{AreChains, AreLevels, EachNames}
+use Rattle.blink_rest.specs.Rest.{AreChains, AreLevels, EachIsParent}
 use Rattle.blink_rows.specs.Counts.{PlainCounts}
 use Rattle.blink_live.specs.ToCome.{AddsPages, AreToCome, HasLeavesToCome, HasPagesToCome}
 use Rattle.blink_live.specs.Renumbered.{cells_anew, firsts_anew, levels_anew, pages_in, pages_in_all}
@@ -26,7 +26,7 @@ module _ (counts : PlainCounts) (words : List ℕ) (fan : ℕ) (pages : Pages) w
     pub below : List Cell
     pub left : List (List Cell)
     pub chains : AreChains fan pages level prime left
-    pub named : EachNames (below ∷ left)
+    pub named : EachIsParent (below ∷ left)
     pub below_is_last : child + length below ≡ suc (length stored)
     pub first_child : 1 ≤ child
     pub room : length stored + length (flat_map numbers_of left) ≤ MAX_PAGE
@@ -77,7 +77,7 @@ module _ (counts : PlainCounts) (words : List ℕ) (fan : ℕ) (pages : Pages) w
 
     -- the next level is to be added
     next_level : (leftmost : ℕ) (prime : List ℕ) (level child : ℕ) (stored : List PlainPage) (below cells : List Cell) (above : List (List Cell))
-        → AreChains fan pages level (leftmost ∷ prime) (cells ∷ above) → EachNames (below ∷ cells ∷ above) → child + length below ≡ suc (length stored) → 1 ≤ child
+        → AreChains fan pages level (leftmost ∷ prime) (cells ∷ above) → EachIsParent (below ∷ cells ∷ above) → child + length below ≡ suc (length stored) → 1 ≤ child
         → length stored + length (flat_map numbers_of (cells ∷ above)) ≤ MAX_PAGE → AreToCome counts words fan level None (Some leftmost) (length stored) child cells
     next_level leftmost prime level child stored below cells above chains named last from room =
         let total = total-cons cells above in
@@ -89,7 +89,7 @@ module _ (counts : PlainCounts) (words : List ℕ) (fan : ℕ) (pages : Pages) w
         → LevelsLeft (leftmost ∷ prime) level child stored firsts levels → HasPagesToCome counts words fan (Some leftmost) (length stored) child
     level_to_come leftmost prime level child stored firsts levels it = at it.left it.chains it.named it.room
       where
-        at : (left : List (List Cell)) → AreChains fan pages level (leftmost ∷ prime) left → EachNames (it.below ∷ left) → length stored + length (flat_map numbers_of left) ≤ MAX_PAGE
+        at : (left : List (List Cell)) → AreChains fan pages level (leftmost ∷ prime) left → EachIsParent (it.below ∷ left) → length stored + length (flat_map numbers_of left) ≤ MAX_PAGE
             → HasPagesToCome counts words fan (Some leftmost) (length stored) child
         at [] chains named room = absurd chains
         at (cells ∷ above) chains named room = record {
@@ -105,7 +105,7 @@ module _ (counts : PlainCounts) (words : List ℕ) (fan : ℕ) (pages : Pages) w
         → LevelsLeft prime (level + 1) (suc (length stored)) new (firsts ++ suc (length stored) ∷ []) levels
     level_added leftmost prime level child stored new firsts levels it adds = at it.left it.chains it.named it.room it.same_pages it.same_firsts
       where
-        at : (left : List (List Cell)) → AreChains fan pages level (leftmost ∷ prime) left → EachNames (it.below ∷ left) → length stored + length (flat_map numbers_of left) ≤ MAX_PAGE
+        at : (left : List (List Cell)) → AreChains fan pages level (leftmost ∷ prime) left → EachIsParent (it.below ∷ left) → length stored + length (flat_map numbers_of left) ≤ MAX_PAGE
             → stored ++ pages_in_all (levels_anew (suc (length stored)) child left) ≡ pages_in_all (levels_anew 1 1 levels)
             → firsts ++ firsts_anew (suc (length stored)) left ≡ firsts_anew 1 levels
             → LevelsLeft prime (level + 1) (suc (length stored)) new (firsts ++ suc (length stored) ∷ []) levels

@@ -9,16 +9,16 @@ use Rattle.blink_store.specs.Store.{PlainStore, page_of}
 use Rattle.blink_store.proofs.Offered.{has_page}
 use Rattle.blink_rest.specs.Chain.{Cell, IsChain, Pages}
 use Rattle.blink_rest.specs.Entries.{AreEntries}
-use Rattle.blink_rest.specs.Level.{children, entries_along, high_keys, numbers_of, separators, Names}
-use Rattle.blink_rest.specs.Numbers.{IsAmong}
-use Rattle.blink_rest.specs.Rest.{AreChains, AreLevels, EachNames, TopHasOne}
+use Rattle.blink_rest.specs.Level.{children, entries_along, high_keys, numbers_of, separators, IsParentOf}
+use Rattle.blink_rest.specs.Numbers.{IsMember}
+use Rattle.blink_rest.specs.Rest.{AreChains, AreLevels, EachIsParent, TopHasOne}
 use Rattle.blink_rest.proofs.Offered.{Contains-from_among, same_entries}
 use Rattle.blink_live.specs.Renumbered.{cells_anew, child_count, firsts_anew, levels_anew, numbers_from, pages_in, pages_in_all}
 use Rattle.blink_live.proofs.gathered.RenumberedPageIsLawful.{child_count-at_most}
 use Rattle.blink_live.proofs.gathered.RenumberedLineIsInLine.{among-cells_anew, children-cells_anew, entries-cells_anew, high_keys-cells_anew, length-cells_anew, line-cells_anew, numbers-cells_anew, numbers_from-add, separators-cells_anew}
 
 -- a number among those in a row
-pub among_row : (first count n : ℕ) → first ≤ n → n < first + count → IsAmong n (numbers_from first count)
+pub among_row : (first count n : ℕ) → first ≤ n → n < first + count → IsMember n (numbers_from first count)
 among_row first zero n from below = absurd (omega arith)
 among_row first (suc count) n from below = elim (cases_eq n first) [
   | inl same ↦ inl same
@@ -34,7 +34,7 @@ pub total-cons : (cells : List Cell) (above : List (List Cell)) → length (flat
 total-cons cells above = omega (arith, length-append (numbers_of cells) (flat_map numbers_of above), length-map cells (λ (c : Cell). c.number))
 
 -- a level that names another has an entry for each of its pages
-pub entry_for_each : (upper lower : List Cell) → Names upper lower → length (entries_along upper) ≡ length lower
+pub entry_for_each : (upper lower : List Cell) → IsParentOf upper lower → length (entries_along upper) ≡ length lower
 entry_for_each upper lower names =
     omega (
       arith,
@@ -74,7 +74,7 @@ top-levels_anew number child (cells ∷ upper ∷ above) one = top-levels_anew (
 
 module _ (fan : ℕ) (pages : Pages) where
   -- each level names the one below it
-  names-levels_anew : (level number child : ℕ) (prime : List ℕ) (levels : List (List Cell)) → AreChains fan pages level prime levels → EachNames levels → EachNames (levels_anew number child levels)
+  names-levels_anew : (level number child : ℕ) (prime : List ℕ) (levels : List (List Cell)) → AreChains fan pages level prime levels → EachIsParent levels → EachIsParent (levels_anew number child levels)
   names-levels_anew level number child prime [] chains named = tt
   names-levels_anew level number child prime (cells ∷ []) chains named = tt
   names-levels_anew level number child [] (cells ∷ upper ∷ above) chains named = absurd chains
@@ -104,7 +104,7 @@ module _ (fan : ℕ) (pages : Pages) where
 
     -- and so are all levels
     pub chains-levels_anew : (level number child leftmost : ℕ) (prime : List ℕ) (cells : List Cell) (above : List (List Cell)) (before : List PlainPage)
-        → AreChains fan pages level (leftmost ∷ prime) (cells ∷ above) → EachNames (cells ∷ above) → number ≡ suc (length before)
+        → AreChains fan pages level (leftmost ∷ prime) (cells ∷ above) → EachIsParent (cells ∷ above) → number ≡ suc (length before)
         → store.pages ≡ before ++ pages_in_all (levels_anew number child (cells ∷ above))
         → number + length (flat_map numbers_of (cells ∷ above)) ≤ MAX_PAGE + 1 → 1 ≤ child → child + child_count level (entries_along cells) ≤ MAX_PAGE + 1
         → AreChains fan (page_of store) level (firsts_anew number (cells ∷ above)) (levels_anew number child (cells ∷ above))
@@ -136,7 +136,7 @@ module _ (fan : ℕ) (pages : Pages) where
       no_other_page = λ number page there.
           let has = has_page store number page there in
           let count = ap length stand ∙ length-levels_anew 1 1 (cells ∷ above) in
-          Contains-from_among _ number (subst (IsAmong number) (sym (numbers-levels_anew 1 1 (cells ∷ above)))
+          Contains-from_among _ number (subst (IsMember number) (sym (numbers-levels_anew 1 1 (cells ∷ above)))
           (among_row 1 (length (flat_map numbers_of (cells ∷ above))) number has.0 (omega (arith, has.1, count))));
     }
 

@@ -13,8 +13,8 @@ use Rattle.blink_rows.specs.Counts.{PlainCounts, AreBounded}
 use Rattle.blink_rows.specs.Row.{prime_words}
 use Rattle.blink_store.specs.Store.{PlainStore, page_of, IsLawfulStore}
 use Rattle.blink_store.proofs.Offered.{has_page, page_there}
-use Rattle.blink_machine.specs.Moment.{Moment}
-use Rattle.blink_machine.specs.Sound.{IsSound}
+use Rattle.blink_machine.specs.TreeState.{TreeState}
+use Rattle.blink_machine.specs.Invariant.{Invariant}
 use Rattle.blink_machine.specs.StepLaw.{IsOpening}
 use Rattle.blink_machine.specs.TreeMap.{IsMapOf}
 use Rattle.blink_machine.proofs.Offered.{step_law}
@@ -31,8 +31,8 @@ abbrev pub plan_over : PlainStore → PlainCounts → Plan
 plan_over store counts = record { fan = store.fan; counts = counts; opening = map_of store }
 
 -- nobody is at work on the tree
-abbrev pub moment_over : PlainStore → Moment
-moment_over store = record {
+abbrev pub tree_state_over : PlainStore → TreeState
+tree_state_over store = record {
   fan = store.fan;
   prime = store.prime;
   pages = page_of store;
@@ -74,11 +74,11 @@ one_view : (K : ℕ → View → Type 0) (v : View) → K 0 v → (seat : ℕ) (
 one_view K v known zero u is = subst (K 0) (some-injective v u is) known
 one_view K v known (suc seat) u is = absurd (some-ne-none u (sym is))
 
--- such a moment is sound
-opening_moment : (store : PlainStore) → IsStoreAtRest store → IsLawfulStore store → IsSound (moment_over store)
-opening_moment store at_rest lawful = step_law.opening_is_sound (moment_over store) opens
+-- such a tree state has the invariant
+opening_tree_state : (store : PlainStore) → IsStoreAtRest store → IsLawfulStore store → Invariant (tree_state_over store)
+opening_tree_state store at_rest lawful = step_law.opening_has_invariant (tree_state_over store) opens
   where
-    opens : IsOpening (moment_over store)
+    opens : IsOpening (tree_state_over store)
     opens = record {
       fan_in_range = lawful.fan_in_range;
       some_level = lawful.some_level;
@@ -105,7 +105,7 @@ module _ (store : PlainStore) (counts : PlainCounts) (words : List ℕ) (numbers
       ]
 
   -- the keeper knows what is so
-  keeper_knows : Knows (plan_over store counts) (owners_over (length store.pages)) words (moment_over store) [] 0 (first_view (length store.pages) (plan_over store counts))
+  keeper_knows : Knows (plan_over store counts) (owners_over (length store.pages)) words (tree_state_over store) [] 0 (first_view (length store.pages) (plan_over store counts))
   keeper_knows = record {
     same_plan = refl;
     operation = refl;
@@ -121,7 +121,7 @@ module _ (store : PlainStore) (counts : PlainCounts) (words : List ℕ) (numbers
       own = λ number late early. owner_on (length store.pages + 1) number late;
       free = λ number late early. no_page_past store number (omega arith);
     };
-    for_call = nothing_for_call (plan_over store counts) (owners_over (length store.pages)) words (moment_over store) 1 (length store.pages + 2) (length store.pages + 1) (omega arith) (omega arith) (omega arith);
+    for_call = nothing_for_call (plan_over store counts) (owners_over (length store.pages)) words (tree_state_over store) 1 (length store.pages + 2) (length store.pages + 1) (omega arith) (omega arith) (omega arith);
     share = λ key among. absurd (omega (arith, among.1));
     saw = ([], refl);
     heard = ([], refl);
@@ -135,13 +135,13 @@ module _ (store : PlainStore) (counts : PlainCounts) (words : List ℕ) (numbers
       let plan = plan_over store counts in
       let owners = owners_over (length store.pages) in
       let named : slice_index words 0 ≡ 1 = laid.page_words_named 0 (omega arith) in (
-        moment_over store,
+        tree_state_over store,
         record {
           owners = owners;
           log = [];
           now = map_of store;
           same_fan = refl;
-          sound = opening_moment store at_rest lawful;
+          invariant = opening_tree_state store at_rest lawful;
           prime_numbers = lawful.prime_numbers;
           bounded = bounded;
           width = laid.width;
@@ -155,7 +155,7 @@ module _ (store : PlainStore) (counts : PlainCounts) (words : List ℕ) (numbers
           is_map = record { ascending = is_map.ascending; kept = is_map.kept };
           kept = λ key. refl;
           untouched = λ key free. refl;
-          views = one_view (Knows plan owners words (moment_over store) []) (first_view (length store.pages) plan) keeper_knows;
+          views = one_view (Knows plan owners words (tree_state_over store) []) (first_view (length store.pages) plan) keeper_knows;
           others_idle = λ seat late. refl;
           counted = record { keeper = first_view (length store.pages) plan; dealt = 0; back = 0; first = refl; role = refl; counted = refl };
         },

@@ -6,8 +6,8 @@ use lib.ListN.{get_elem?}
 use lib.Seq.{set-get_or}
 use Rattle.atomic_table.specs.Table.{State}
 use Rattle.blink_machine.specs.Machine.{PlainMachine}
-use Rattle.blink_machine.specs.Moment.{Moment}
-use Rattle.blink_machine.specs.Sound.{IsSound}
+use Rattle.blink_machine.specs.TreeState.{TreeState}
+use Rattle.blink_machine.specs.Invariant.{Invariant}
 use Rattle.blink_live.specs.declared.view.Plan.{Plan}
 use Rattle.blink_live.specs.declared.view.Role.TheVariants.{Pass}
 use Rattle.blink_live.specs.declared.view.View.{View}
@@ -18,43 +18,43 @@ use Rattle.blink_live.proofs.table.MapsWithOneChange.{put_here, put_else}
 use Rattle.blink_live.proofs.table.SeatsThatStay.{at_inside, views_stay, counted_stays}
 use Rattle.blink_live.proofs.table.CallsOfSeats.{call_still}
 
--- the moment where one worker has another operation, or none
-abbrev pub moved : Moment → ℕ → Option PlainMachine → Moment
-moved moment worker operation = record moment { machines = put moment.machines worker operation }
+-- the tree state where one worker has another operation, or none
+abbrev pub moved : TreeState → ℕ → Option PlainMachine → TreeState
+moved tree_state worker operation = record tree_state { machines = put tree_state.machines worker operation }
 
-module _ (plan : Plan) (s : State ℕ View) (moment : Moment) (h : IsTableAt plan s moment) (id word : ℕ) (v w : View) (at : get_elem? s.views id ≡ some v) (role : v.role ≡ Pass) where
+module _ (plan : Plan) (s : State ℕ View) (tree_state : TreeState) (h : IsTableAt plan s tree_state) (id word : ℕ) (v w : View) (at : get_elem? s.views id ≡ some v) (role : v.role ≡ Pass) where
   -- the seat knows what it knew, but for its operation, what it reads and what it has seen
-  pub load_knows : SameBesideReads v w → IsBoundedWay moment w → ReadsRow plan h.owners s.words w.reads → IsPrefix w.seen h.log
-      → Knows plan h.owners s.words (moved moment id w.operation) h.log id w
+  pub load_knows : SameBesideReads v w → IsBoundedWay tree_state w → ReadsRow plan h.owners s.words w.reads → IsPrefix w.seen h.log
+      → Knows plan h.owners s.words (moved tree_state id w.operation) h.log id w
   load_knows same bounded reads saw =
       let known = h.views id v at in
       let kept = subst (IsInRole plan h.owners h.log id v) role known.in_role in
-      let knows : Knows plan h.owners s.words (moved moment id w.operation) h.log id (record v { operation = w.operation; way_left = w.way_left; reads = w.reads; seen = w.seen }) = record {
+      let knows : Knows plan h.owners s.words (moved tree_state id w.operation) h.log id (record v { operation = w.operation; descent_bound = w.descent_bound; reads = w.reads; seen = w.seen }) = record {
         same_plan = known.same_plan;
-        operation = put_here moment.machines id w.operation;
+        operation = put_here tree_state.machines id w.operation;
         bounded = bounded;
         reads = reads;
         rows = record { in_range = known.rows.in_range; own = known.rows.own; blank = known.rows.blank };
         numbers = record { in_range = known.numbers.in_range; own = known.numbers.own; free = known.numbers.free };
-        for_call = call_still plan h.owners h.owners s.words moment (moved moment id w.operation) (suc id) v.call v.rows.next v.pages.next v.rows.next v.pages.next known.for_call (omega arith, omega arith) (λ r below own. own)
+        for_call = call_still plan h.owners h.owners s.words tree_state (moved tree_state id w.operation) (suc id) v.call v.rows.next v.pages.next v.rows.next v.pages.next known.for_call (omega arith, omega arith) (λ r below own. own)
             (λ n below own. own) (λ n none. none);
         share = known.share;
         saw = saw;
         heard = known.heard;
-        in_role = subst (IsInRole plan h.owners h.log id (record v { operation = w.operation; way_left = w.way_left; reads = w.reads; seen = w.seen })) (sym role) kept;
+        in_role = subst (IsInRole plan h.owners h.log id (record v { operation = w.operation; descent_bound = w.descent_bound; reads = w.reads; seen = w.seen })) (sym role) kept;
       } in
-      subst (Knows plan h.owners s.words (moved moment id w.operation) h.log id) (sym same) knows
+      subst (Knows plan h.owners s.words (moved tree_state id w.operation) h.log id) (sym same) knows
 
-  pub load_keeps_with : IsSound (moved moment id w.operation) → w.role ≡ v.role → Knows plan h.owners s.words (moved moment id w.operation) h.log id w
+  pub load_keeps_with : Invariant (moved tree_state id w.operation) → w.role ≡ v.role → Knows plan h.owners s.words (moved tree_state id w.operation) h.log id w
       → IsTable plan record { words = set s.words word (get_or s.words word 0); homes = s.homes; views = set s.views id w }
-  load_keeps_with sound same_role knows = subst (λ (words : List ℕ). IsTable plan record { words = words; homes = s.homes; views = set s.views id w }) (sym (set-get_or s.words word 0)) (
-    moved moment id w.operation,
+  load_keeps_with invariant same_role knows = subst (λ (words : List ℕ). IsTable plan record { words = words; homes = s.homes; views = set s.views id w }) (sym (set-get_or s.words word 0)) (
+    moved tree_state id w.operation,
     record {
       owners = h.owners;
       log = h.log;
       now = h.now;
       same_fan = h.same_fan;
-      sound = sound;
+      invariant = invariant;
       prime_numbers = h.prime_numbers;
       bounded = h.bounded;
       width = h.width;
@@ -67,15 +67,15 @@ module _ (plan : Plan) (s : State ℕ View) (moment : Moment) (h : IsTableAt pla
       is_map = record { ascending = h.is_map.ascending; kept = h.is_map.kept };
       kept = h.kept;
       untouched = h.untouched;
-      views = views_stay (Knows plan h.owners s.words (moved moment id w.operation) h.log) s.views id w knows
+      views = views_stay (Knows plan h.owners s.words (moved tree_state id w.operation) h.log) s.views id w knows
           (λ j u other there. let known = h.views j u there in record {
             same_plan = known.same_plan;
-            operation = put_else moment.machines id j w.operation other ∙ known.operation;
+            operation = put_else tree_state.machines id j w.operation other ∙ known.operation;
             bounded = known.bounded;
             reads = known.reads;
             rows = known.rows;
             numbers = record { in_range = known.numbers.in_range; own = known.numbers.own; free = known.numbers.free };
-            for_call = call_still plan h.owners h.owners s.words moment (moved moment id w.operation) (suc j) u.call u.rows.next u.pages.next u.rows.next u.pages.next known.for_call (omega arith, omega arith) (λ r below own. own)
+            for_call = call_still plan h.owners h.owners s.words tree_state (moved tree_state id w.operation) (suc j) u.call u.rows.next u.pages.next u.rows.next u.pages.next known.for_call (omega arith, omega arith) (λ r below own. own)
                 (λ n below own. own) (λ n none. none);
             share = known.share;
             saw = known.saw;
@@ -85,11 +85,11 @@ module _ (plan : Plan) (s : State ℕ View) (moment : Moment) (h : IsTableAt pla
       others_idle = λ seat beyond.
           let inside = at_inside s.views id v at in
           let longer : length (set s.views id w) ≡ length s.views = length-set s.views id w in
-          put_else moment.machines id seat w.operation (λ e. omega (arith, e, inside, longer, beyond)) ∙ h.others_idle seat (omega (arith, beyond, longer));
+          put_else tree_state.machines id seat w.operation (λ e. omega (arith, e, inside, longer, beyond)) ∙ h.others_idle seat (omega (arith, beyond, longer));
       counted = counted_stays s.views id v w at same_role h.counted;
     },
   )
 
-  pub load_keeps : IsSound (moved moment id w.operation) → SameBesideReads v w → IsBoundedWay moment w → ReadsRow plan h.owners s.words w.reads → IsPrefix w.seen h.log
+  pub load_keeps : Invariant (moved tree_state id w.operation) → SameBesideReads v w → IsBoundedWay tree_state w → ReadsRow plan h.owners s.words w.reads → IsPrefix w.seen h.log
       → IsTable plan record { words = set s.words word (get_or s.words word 0); homes = s.homes; views = set s.views id w }
-  load_keeps sound same bounded reads saw = load_keeps_with sound (ap (λ (x : View). x.role) same) (load_knows same bounded reads saw)
+  load_keeps invariant same bounded reads saw = load_keeps_with invariant (ap (λ (x : View). x.role) same) (load_knows same bounded reads saw)

@@ -11,8 +11,8 @@ use Rattle.blink_rows.specs.Row.{page_words}
 use Rattle.blink_rows.specs.declared.limits.TheConstants.{ROW_WORDS}
 use Rattle.blink_rows.specs.declared.span.Span.{Span}
 use Rattle.blink_machine.specs.Machine.{PlainMachine}
-use Rattle.blink_machine.specs.Moment.{Moment}
-use Rattle.blink_machine.specs.Places.{way_left}
+use Rattle.blink_machine.specs.TreeState.{TreeState}
+use Rattle.blink_machine.specs.Places.{descent_bound}
 use Rattle.blink_live.specs.declared.view.Change.{Change}
 use Rattle.blink_live.specs.declared.view.Plan.{Plan}
 use Rattle.blink_live.specs.declared.view.Role.{Role}
@@ -31,19 +31,19 @@ RowStays plan old new row = (i : ℕ) → i < ROW_WORDS → slice_index new (row
 pub row_is_still : (plan : Plan) (old new : List ℕ) (row : ℕ) (content : List ℕ) → RowStays plan old new row → RowIs plan.counts old row content → RowIs plan.counts new row content
 row_is_still plan old new row content stays is i inside = stays i inside ∙ is i inside
 
--- a step of the seat `id` after which words, moment, owners and changes are these touches nothing that another seat has
-pub record LeavesOthers (plan : Plan) (s : State ℕ View) (moment then : Moment) (h : IsTableAt plan s moment) (id : ℕ) (words : List ℕ) (new : Owners) (log : List Change) : Type 0 where
-  pub machines : (seat : ℕ) → seat ≢ id → then.machines seat ≡ moment.machines seat
-  pub ways : (seat : ℕ) (m : PlainMachine) → seat ≢ id → moment.machines seat ≡ Some m → way_left then.pages m ≡ way_left moment.pages m
+-- a step of the seat `id` after which words, tree state, owners and changes are these touches nothing that another seat has
+pub record LeavesOthers (plan : Plan) (s : State ℕ View) (tree_state then : TreeState) (h : IsTableAt plan s tree_state) (id : ℕ) (words : List ℕ) (new : Owners) (log : List Change) : Type 0 where
+  pub machines : (seat : ℕ) → seat ≢ id → then.machines seat ≡ tree_state.machines seat
+  pub ways : (seat : ℕ) (m : PlainMachine) → seat ≢ id → tree_state.machines seat ≡ Some m → descent_bound then.pages m ≡ descent_bound tree_state.pages m
   pub rows : (row : ℕ) → 1 ≤ row → h.owners.row row ≢ suc id → (new.row row ≡ h.owners.row row) × RowStays plan s.words words row
-  pub numbers : (number : ℕ) → h.owners.page number ≢ suc id → (new.page number ≡ h.owners.page number) × (moment.pages number ≡ None → then.pages number ≡ None)
+  pub numbers : (number : ℕ) → h.owners.page number ≢ suc id → (new.page number ≡ h.owners.page number) × (tree_state.pages number ≡ None → then.pages number ≡ None)
   pub keys : (key : ℕ) → h.owners.key key ≢ suc id
       → (new.key key ≡ h.owners.key key) × (states_of key log ≡ states_of key h.log) × (after (pointer_of plan.opening) log key ≡ after (pointer_of plan.opening) h.log key)
   pub latch_numbers : (seat : ℕ) → new.latch_number seat ≡ h.owners.latch_number seat
   pub longer : (seen : List Change) → IsPrefix seen h.log → IsPrefix seen log
 
-module _ (plan : Plan) (s : State ℕ View) (moment then : Moment) (h : IsTableAt plan s moment) (id : ℕ) (some_pass : 1 ≤ id) (words : List ℕ) (new : Owners) (log : List Change)
-    (leaves : LeavesOthers plan s moment then h id words new log) where
+module _ (plan : Plan) (s : State ℕ View) (tree_state then : TreeState) (h : IsTableAt plan s tree_state) (id : ℕ) (some_pass : 1 ≤ id) (words : List ℕ) (new : Owners) (log : List Change)
+    (leaves : LeavesOthers plan s tree_state then h id words new log) where
   pub still_published : (row : ℕ) → IsPublished plan h.owners row → IsPublished plan new row × RowStays plan s.words words row
   still_published row is =
       let t = leaves.rows row is.0.0 (λ e. let zero_is : 0 ≡ suc id = sym is.1 ∙ e in absurd (omega (arith, zero_is))) in
@@ -70,21 +70,21 @@ module _ (plan : Plan) (s : State ℕ View) (moment then : Moment) (h : IsTableA
           row_is_still plan s.words words row [] (leaves.rows row (omega (arith, least, low)) (λ e. apart (sym (has.own row low high) ∙ e))).1 (has.blank row low high);
     }
 
-    numbers_still : (pages : Span) → HasNumbers plan h.owners moment (suc seat) pages → HasNumbers plan new then (suc seat) pages
+    numbers_still : (pages : Span) → HasNumbers plan h.owners tree_state (suc seat) pages → HasNumbers plan new then (suc seat) pages
     numbers_still pages has = record {
       in_range = has.in_range;
       own = λ number low high. (leaves.numbers number (λ e. apart (sym (has.own number low high) ∙ e))).0 ∙ has.own number low high;
       free = λ number low high. (leaves.numbers number (λ e. apart (sym (has.own number low high) ∙ e))).1 (has.free number low high);
     }
 
-    call_stays : (v : View) → HasForCall plan h.owners s.words moment (suc seat) v.call v.rows.next v.pages.next → HasForCall plan new words then (suc seat) v.call v.rows.next v.pages.next
+    call_stays : (v : View) → HasForCall plan h.owners s.words tree_state (suc seat) v.call v.rows.next v.pages.next → HasForCall plan new words then (suc seat) v.call v.rows.next v.pages.next
     call_stays v has = record {
       before = has.before;
       width = has.width;
       first_own = λ some_row. let own = has.first_own some_row in (own.0, (leaves.rows v.call.rows.next own.0 (λ e. apart (sym own.1 ∙ e))).0 ∙ own.1);
-      drafted = λ some_row.
+      staged = λ some_row.
           let own = has.first_own some_row in
-          row_is_still plan s.words words v.call.rows.next v.call.draft (leaves.rows v.call.rows.next own.0 (λ e. apart (sym own.1 ∙ e))).1 (has.drafted some_row);
+          row_is_still plan s.words words v.call.rows.next v.call.staged (leaves.rows v.call.rows.next own.0 (λ e. apart (sym own.1 ∙ e))).1 (has.staged some_row);
       others = rows_still (span (suc v.call.rows.next) v.call.rows.stop) has.others;
       numbers = numbers_still v.call.pages has.numbers;
     }

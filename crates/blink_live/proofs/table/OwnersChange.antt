@@ -1,11 +1,11 @@
--- Rows, page numbers and keys get other owners; the words and the moment stay as they are.
+-- Rows, page numbers and keys get other owners; the words and the tree state stay as they are.
 use Rattle.std.proofs.Common.{◌≡◌, ℕ, suc, ◌≤◌, Option, Some, None, List, length, refl, sym, ◌∙◌, arith}
 use Rattle.std.specs.Prelude.{slice_index}
 use mathlib.Core.Option.{some}
 use lib.ListN.{get_elem?}
 use Rattle.atomic_table.specs.Table.{State}
 use Rattle.blink_page.specs.Page.{PlainPage}
-use Rattle.blink_machine.specs.Moment.{Moment}
+use Rattle.blink_machine.specs.TreeState.{TreeState}
 use Rattle.blink_live.specs.declared.view.Change.{Change}
 use Rattle.blink_live.specs.declared.view.Plan.{Plan}
 use Rattle.blink_live.specs.declared.view.Role.{Role}
@@ -45,15 +45,15 @@ module _ (plan : Plan) (old new : Owners) (words : List ℕ) (log : List Change)
   role_still seat v Spent later same is = is
 
   -- a seat that isn't the keeper's knows what it knew
-  pub knows_still : (moment : Moment) (seat : ℕ) (v : View) → 1 ≤ seat → StillOwns old new seat → Knows plan old words moment log seat v → Knows plan new words moment log seat v
-  knows_still moment seat v later owns known = record {
+  pub knows_still : (tree_state : TreeState) (seat : ℕ) (v : View) → 1 ≤ seat → StillOwns old new seat → Knows plan old words tree_state log seat v → Knows plan new words tree_state log seat v
+  knows_still tree_state seat v later owns known = record {
     same_plan = known.same_plan;
     operation = known.operation;
     bounded = known.bounded;
     reads = reads_still v.reads known.reads;
     rows = record { in_range = known.rows.in_range; own = λ row low high. owns.row row (known.rows.own row low high); blank = known.rows.blank };
     numbers = record { in_range = known.numbers.in_range; own = λ number low high. owns.page number (known.numbers.own number low high); free = known.numbers.free };
-    for_call = call_still plan old new words moment moment (suc seat) v.call v.rows.next v.pages.next v.rows.next v.pages.next known.for_call (omega arith, omega arith) (λ r below. owns.row r) (λ n below. owns.page n) (λ n none. none);
+    for_call = call_still plan old new words tree_state tree_state (suc seat) v.call v.rows.next v.pages.next v.rows.next v.pages.next known.for_call (omega arith, omega arith) (λ r below. owns.row r) (λ n below. owns.page n) (λ n none. none);
     share = share_still (suc seat) (suc seat) v.share owns.key known.share;
     saw = known.saw;
     heard = known.heard;
@@ -65,27 +65,27 @@ latch_still old new None same = refl
 latch_still old new (Some seat) same = sym (same seat refl)
 
 -- the table with these owners and seats
-pub owners_change : (plan : Plan) (s : State ℕ View) (moment : Moment) (h : IsTableAt plan s moment) (new : Owners) (views : List View)
+pub owners_change : (plan : Plan) (s : State ℕ View) (tree_state : TreeState) (h : IsTableAt plan s tree_state) (new : Owners) (views : List View)
     → StaysPublished h.owners new
-    → ((number seat : ℕ) → moment.holder number ≡ Some seat → new.latch_number seat ≡ h.owners.latch_number seat)
+    → ((number seat : ℕ) → tree_state.holder number ≡ Some seat → new.latch_number seat ≡ h.owners.latch_number seat)
     → ((key : ℕ) → new.key key ≡ 0 → h.owners.key key ≡ 0)
-    → ((seat : ℕ) (v : View) → get_elem? views seat ≡ some v → Knows plan new s.words moment h.log seat v)
+    → ((seat : ℕ) (v : View) → get_elem? views seat ≡ some v → Knows plan new s.words tree_state h.log seat v)
     → length s.views ≤ length views → AreCounted views
-    → IsTableAt plan record { words = s.words; homes = s.homes; views = views } moment
-owners_change plan s moment h new views published same_latch untouched knows longer counted = record {
+    → IsTableAt plan record { words = s.words; homes = s.homes; views = views } tree_state
+owners_change plan s tree_state h new views published same_latch untouched knows longer counted = record {
   owners = new;
   log = h.log;
   now = h.now;
   same_fan = h.same_fan;
-  sound = h.sound;
+  invariant = h.invariant;
   prime_numbers = h.prime_numbers;
   bounded = h.bounded;
   width = h.width;
   prime = ((h.prime.0.0, published (slice_index s.words 0) h.prime.0.1), h.prime.1);
-  pages = λ number low high. page_still plan h.owners new s.words h.log published (slice_index s.words number) (moment.pages number) (h.pages number low high);
+  pages = λ number low high. page_still plan h.owners new s.words h.log published (slice_index s.words number) (tree_state.pages number) (h.pages number low high);
   no_other_page = h.no_other_page;
   no_other_latch = h.no_other_latch;
-  latches = λ number inside. h.latches number inside ∙ latch_still h.owners new (moment.holder number) (same_latch number);
+  latches = λ number inside. h.latches number inside ∙ latch_still h.owners new (tree_state.holder number) (same_latch number);
   holders = λ number seat holds. let same = same_latch number seat holds in let some_number = h.holders number seat holds in omega (arith, same, some_number);
   is_map = record { ascending = h.is_map.ascending; kept = h.is_map.kept };
   kept = h.kept;

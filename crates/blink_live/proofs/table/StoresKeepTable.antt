@@ -7,8 +7,8 @@ use Rattle.atomic_table.specs.Table.{State}
 use Rattle.blink_batch.specs.declared.Entry.{Entry}
 use Rattle.blink_batch.specs.PlainMap.{pointer_of}
 use Rattle.blink_rows.specs.Row.{prime_words}
-use Rattle.blink_machine.specs.Moment.{Moment}
-use Rattle.blink_machine.specs.Sound.{IsSound}
+use Rattle.blink_machine.specs.TreeState.{TreeState}
+use Rattle.blink_machine.specs.Invariant.{Invariant}
 use Rattle.blink_machine.specs.StepLaw.{IsMapAt}
 use Rattle.blink_rows.specs.declared.span.Span.{Span}
 use Rattle.blink_live.specs.declared.view.Call.{Call}
@@ -32,21 +32,21 @@ module _ (plan : Plan) (owners : Owners) (old new : List ℕ) (stays : (row : �
   pub rows_kept : (owner : ℕ) (rows : Span) → HasRows plan owners old owner rows → HasRows plan owners new owner rows
   rows_kept owner rows has = record { in_range = has.in_range; own = has.own; blank = λ row low high. row_is_still plan old new row [] (stays row) (has.blank row low high) }
 
-  pub call_kept : (moment then : Moment) (owner : ℕ) (call : Call) (row page : ℕ) → ((number : ℕ) → owners.page number ≡ owner → moment.pages number ≡ None → then.pages number ≡ None)
-      → HasForCall plan owners old moment owner call row page → HasForCall plan owners new then owner call row page
-  call_kept moment then owner call row page free has = record {
+  pub call_kept : (tree_state then : TreeState) (owner : ℕ) (call : Call) (row page : ℕ) → ((number : ℕ) → owners.page number ≡ owner → tree_state.pages number ≡ None → then.pages number ≡ None)
+      → HasForCall plan owners old tree_state owner call row page → HasForCall plan owners new then owner call row page
+  call_kept tree_state then owner call row page free has = record {
     before = has.before;
     width = has.width;
     first_own = has.first_own;
-    drafted = λ some_row. row_is_still plan old new call.rows.next call.draft (stays call.rows.next) (has.drafted some_row);
+    staged = λ some_row. row_is_still plan old new call.rows.next call.staged (stays call.rows.next) (has.staged some_row);
     others = rows_kept owner (span (suc call.rows.next) call.rows.stop) has.others;
     numbers = record { in_range = has.numbers.in_range; own = has.numbers.own; free = λ number low high. free number (has.numbers.own number low high) (has.numbers.free number low high) };
   }
 
 -- the words and the tree after a step of the seat
-pub record IsStored (plan : Plan) (s : State ℕ View) (moment then : Moment) (h : IsTableAt plan s moment) (words : List ℕ) (new : Owners) (log : List Change) (now : List Entry) : Type 0 where
-  pub same_fan : then.fan ≡ moment.fan
-  pub sound : IsSound then
+pub record IsStored (plan : Plan) (s : State ℕ View) (tree_state then : TreeState) (h : IsTableAt plan s tree_state) (words : List ℕ) (new : Owners) (log : List Change) (now : List Entry) : Type 0 where
+  pub same_fan : then.fan ≡ tree_state.fan
+  pub invariant : Invariant then
   pub prime_numbers : All IsPageNumber then.prime
   pub prime : IsPublished plan new (slice_index words 0) × RowIs plan.counts words (slice_index words 0) (prime_words then.prime)
   pub pages : (number : ℕ) → 1 ≤ number → number < plan.counts.numbers → PageWordIs plan new words (slice_index words number) (then.pages number)
@@ -59,16 +59,16 @@ pub record IsStored (plan : Plan) (s : State ℕ View) (moment then : Moment) (h
   pub untouched : (key : ℕ) → new.key key ≡ 0 → states_of key log ≡ []
 
 -- a prime block that no step of the seat changes
-pub prime_still : (plan : Plan) (s : State ℕ View) (moment then : Moment) (h : IsTableAt plan s moment) (id : ℕ) → 1 ≤ id → (words : List ℕ) (new : Owners) (log : List Change) → LeavesOthers plan s moment then h id words new log
-    → slice_index words 0 ≡ slice_index s.words 0 → then.prime ≡ moment.prime → IsPublished plan new (slice_index words 0) × RowIs plan.counts words (slice_index words 0) (prime_words then.prime)
-prime_still plan s moment then h id some_pass words new log leaves same_word same_prime =
-    let published = still_published plan s moment then h id some_pass words new log leaves (slice_index s.words 0) h.prime.0 in
-    let content : List ℕ = prime_words moment.prime in
+pub prime_still : (plan : Plan) (s : State ℕ View) (tree_state then : TreeState) (h : IsTableAt plan s tree_state) (id : ℕ) → 1 ≤ id → (words : List ℕ) (new : Owners) (log : List Change) → LeavesOthers plan s tree_state then h id words new log
+    → slice_index words 0 ≡ slice_index s.words 0 → then.prime ≡ tree_state.prime → IsPublished plan new (slice_index words 0) × RowIs plan.counts words (slice_index words 0) (prime_words then.prime)
+prime_still plan s tree_state then h id some_pass words new log leaves same_word same_prime =
+    let published = still_published plan s tree_state then h id some_pass words new log leaves (slice_index s.words 0) h.prime.0 in
+    let content : List ℕ = prime_words tree_state.prime in
     subst (λ (t : ℕ × List ℕ). IsPublished plan new t.0 × RowIs plan.counts words t.0 (prime_words t.1)) (λ i. (sym same_word i, sym same_prime i))
     (published.0, row_is_still plan s.words words (slice_index s.words 0) content published.1 h.prime.1)
 
-module _ (plan : Plan) (s : State ℕ View) (moment then : Moment) (h : IsTableAt plan s moment) (id place x : ℕ) (some_pass : 1 ≤ id) (v w : View) (at : get_elem? s.views id ≡ some v) (new : Owners) (log : List Change) (now : List Entry) where
-  pub store_keeps : LeavesOthers plan s moment then h id (set s.words place x) new log → IsStored plan s moment then h (set s.words place x) new log now → w.role ≡ v.role
+module _ (plan : Plan) (s : State ℕ View) (tree_state then : TreeState) (h : IsTableAt plan s tree_state) (id place x : ℕ) (some_pass : 1 ≤ id) (v w : View) (at : get_elem? s.views id ≡ some v) (new : Owners) (log : List Change) (now : List Entry) where
+  pub store_keeps : LeavesOthers plan s tree_state then h id (set s.words place x) new log → IsStored plan s tree_state then h (set s.words place x) new log now → w.role ≡ v.role
       → Knows plan new (set s.words place x) then log id w → IsTable plan record { words = set s.words place x; homes = s.homes; views = set s.views id w }
   store_keeps leaves stored same_role knows =
       let words : List ℕ = set s.words place x in (
@@ -78,7 +78,7 @@ module _ (plan : Plan) (s : State ℕ View) (moment then : Moment) (h : IsTableA
           log = log;
           now = now;
           same_fan = stored.same_fan ∙ h.same_fan;
-          sound = stored.sound;
+          invariant = stored.invariant;
           prime_numbers = stored.prime_numbers;
           bounded = h.bounded;
           width = length-set s.words place x ∙ h.width;
@@ -91,7 +91,7 @@ module _ (plan : Plan) (s : State ℕ View) (moment then : Moment) (h : IsTableA
           is_map = stored.is_map;
           kept = stored.kept;
           untouched = stored.untouched;
-          views = views_stay (Knows plan new words then log) s.views id w knows (λ j u other there. other_knows plan s moment then h id some_pass words new log leaves j u other there);
+          views = views_stay (Knows plan new words then log) s.views id w knows (λ j u other there. other_knows plan s tree_state then h id some_pass words new log leaves j u other there);
           others_idle = λ seat beyond.
               let inside = at_inside s.views id v at in
               let longer : length (set s.views id w) ≡ length s.views = length-set s.views id w in

@@ -4,7 +4,7 @@ use mathlib.Core.Option.{some}
 use lib.ListN.{get_elem?}
 use Rattle.atomic_table.specs.Table.{State, Splits, Joins}
 use Rattle.atomic_table.proofs.Lists.{at_set, at_longer, set_else, set_again}
-use Rattle.blink_machine.specs.Moment.{Moment}
+use Rattle.blink_machine.specs.TreeState.{TreeState}
 use Rattle.blink_live.specs.declared.view.Plan.{Plan}
 use Rattle.blink_live.specs.declared.view.Role.TheVariants.{Pass, Spent}
 use Rattle.blink_live.specs.declared.view.View.{View}
@@ -17,9 +17,9 @@ use Rattle.blink_live.proofs.table.PassesOut.{at_end, passes_more}
 use Rattle.blink_live.proofs.table.SeatsThatStay.{views_stay, counted_stays}
 use Rattle.blink_live.proofs.table.CallsOfSeats.{nothing_for_call}
 
-module _ (plan : Plan) (some_number : 1 ≤ plan.counts.numbers) (s : State ℕ View) (moment : Moment) (h : IsTableAt plan s moment) where
+module _ (plan : Plan) (some_number : 1 ≤ plan.counts.numbers) (s : State ℕ View) (tree_state : TreeState) (h : IsTableAt plan s tree_state) where
   -- a seat that has nothing knows what it was told
-  told_knows : (seat : ℕ) (told : List Change) → moment.machines seat ≡ None → IsPrefix told h.log → Knows plan h.owners s.words moment h.log seat (record (spent plan) { told = told })
+  told_knows : (seat : ℕ) (told : List Change) → tree_state.machines seat ≡ None → IsPrefix told h.log → Knows plan h.owners s.words tree_state h.log seat (record (spent plan) { told = told })
   told_knows seat told idle heard = record {
     same_plan = refl;
     operation = idle;
@@ -35,7 +35,7 @@ module _ (plan : Plan) (some_number : 1 ≤ plan.counts.numbers) (s : State ℕ 
       own = λ number low high. absurd (omega (arith, low, high));
       free = λ number low high. absurd (omega (arith, low, high));
     };
-    for_call = nothing_for_call plan h.owners s.words moment (suc seat) 1 1 (omega arith) (omega arith) some_number;
+    for_call = nothing_for_call plan h.owners s.words tree_state (suc seat) 1 1 (omega arith) (omega arith) some_number;
     share = λ key has. absurd (let inside = has.1 in omega (arith, inside));
     saw = (h.log, refl);
     heard = heard;
@@ -45,19 +45,19 @@ module _ (plan : Plan) (some_number : 1 ≤ plan.counts.numbers) (s : State ℕ 
   -- ---- a note
 
   module _ (id : ℕ) (v : View) (at : get_elem? s.views id ≡ some v) where
-    known : Knows plan h.owners s.words moment h.log id v
+    known : Knows plan h.owners s.words tree_state h.log id v
     known = h.views id v at
 
-    right_knows : Knows plan h.owners s.words moment h.log (length s.views) (note_of v)
-    right_knows = subst (λ (p : Plan). Knows plan h.owners s.words moment h.log (length s.views) (record (spent p) { told = v.seen })) (sym known.same_plan)
+    right_knows : Knows plan h.owners s.words tree_state h.log (length s.views) (note_of v)
+    right_knows = subst (λ (p : Plan). Knows plan h.owners s.words tree_state h.log (length s.views) (record (spent p) { told = v.seen })) (sym known.same_plan)
         (told_knows (length s.views) v.seen (h.others_idle (length s.views) (omega arith)) known.saw)
 
     abbrev views_then : List View
     views_then = s.views ++ note_of v ∷ []
 
-    all_know : (seat : ℕ) (u : View) → get_elem? views_then seat ≡ some u → Knows plan h.owners s.words moment h.log seat u
+    all_know : (seat : ℕ) (u : View) → get_elem? views_then seat ≡ some u → Knows plan h.owners s.words tree_state h.log seat u
     all_know seat u there = ⊎_elim (λ (t : get_elem? s.views seat ≡ some u). h.views seat u t)
-        (λ (t : (seat ≡ length s.views) × (note_of v ≡ u)). subst (λ (x : ℕ × View). Knows plan h.owners s.words moment h.log x.0 x.1) (λ i. (sym t.0 i, t.1 i)) right_knows)
+        (λ (t : (seat ≡ length s.views) × (note_of v ≡ u)). subst (λ (x : ℕ × View). Knows plan h.owners s.words tree_state h.log x.0 x.1) (λ i. (sym t.0 i, t.1 i)) right_knows)
         (at_end s.views (note_of v) u seat there)
 
     counted_then : AreCounted views_then
@@ -74,8 +74,8 @@ module _ (plan : Plan) (some_number : 1 ≤ plan.counts.numbers) (s : State ℕ 
           counted = omega (arith, more, counted);
         }
 
-    noted : IsTableAt plan record { words = s.words; homes = s.homes; views = views_then } moment
-    noted = owners_change plan s moment h h.owners views_then (λ row is. is) (λ number seat holds. refl) (λ key is. is) all_know
+    recorded : IsTableAt plan record { words = s.words; homes = s.homes; views = views_then } tree_state
+    recorded = owners_change plan s tree_state h h.owners views_then (λ row is. is) (λ number seat holds. refl) (λ key is. is) all_know
         (let longer : length views_then ≡ length s.views + 1 = length-append s.views (note_of v ∷ []) in omega (arith, longer)) counted_then
 
   -- ---- it is taken
@@ -85,10 +85,10 @@ module _ (plan : Plan) (some_number : 1 ≤ plan.counts.numbers) (s : State ℕ 
     abbrev both : View
     both = hears v w
 
-    its : Knows plan h.owners s.words moment h.log other w
+    its : Knows plan h.owners s.words tree_state h.log other w
     its = h.views other w (sym (set_else s.views id other both apart) ∙ there)
 
-    both_knows : Knows plan h.owners s.words moment h.log id both
+    both_knows : Knows plan h.owners s.words tree_state h.log id both
     both_knows =
         let was = h.views id v at in
         let kept = subst (IsInRole plan h.owners h.log id v) role was.in_role in record {
@@ -108,15 +108,15 @@ module _ (plan : Plan) (some_number : 1 ≤ plan.counts.numbers) (s : State ℕ 
     abbrev taken : List View
     taken = set (set s.views id both) other (spent plan)
 
-    taken_know : (seat : ℕ) (u : View) → get_elem? taken seat ≡ some u → Knows plan h.owners s.words moment h.log seat u
-    taken_know = views_stay (Knows plan h.owners s.words moment h.log) (set s.views id both) other (spent plan) (told_knows other [] (its.operation ∙ idle) (h.log, refl))
+    taken_know : (seat : ℕ) (u : View) → get_elem? taken seat ≡ some u → Knows plan h.owners s.words tree_state h.log seat u
+    taken_know = views_stay (Knows plan h.owners s.words tree_state h.log) (set s.views id both) other (spent plan) (told_knows other [] (its.operation ∙ idle) (h.log, refl))
         (λ seat u not_spent at_seat. ⊎_elim
-        (λ (t : (seat ≡ id) × (both ≡ u)). subst (λ (x : ℕ × View). Knows plan h.owners s.words moment h.log x.0 x.1) (λ i. (sym t.0 i, t.1 i)) both_knows)
+        (λ (t : (seat ≡ id) × (both ≡ u)). subst (λ (x : ℕ × View). Knows plan h.owners s.words tree_state h.log x.0 x.1) (λ i. (sym t.0 i, t.1 i)) both_knows)
         (λ (t : (seat ≢ id) × (get_elem? s.views seat ≡ some u)). h.views seat u t.1)
         (at_set s.views id seat both u at_seat))
 
-    heard : IsTableAt plan record { words = s.words; homes = s.homes; views = taken } moment
-    heard = owners_change plan s moment h h.owners taken (λ row is. is) (λ number seat holds. refl) (λ key is. is) taken_know
+    heard : IsTableAt plan record { words = s.words; homes = s.homes; views = taken } tree_state
+    heard = owners_change plan s tree_state h h.owners taken (λ row is. is) (λ number seat holds. refl) (λ key is. is) taken_know
         (let one : length (set s.views id both) ≡ length s.views = length-set s.views id both in
         let two : length taken ≡ length (set s.views id both) = length-set (set s.views id both) other (spent plan) in
         omega (arith, one, two))
@@ -124,7 +124,7 @@ module _ (plan : Plan) (some_number : 1 ≤ plan.counts.numbers) (s : State ℕ 
 
 pub note_keeps_table : (plan : Plan) (id : ℕ) (v : View) → 1 ≤ plan.counts.numbers → Splits (IsTable plan) id v v (note_of v)
 note_keeps_table plan id v some_number s table at = subst (λ (views : List View). IsTable plan record { words = s.words; homes = s.homes; views = views ++ note_of v ∷ [] }) (sym (set_again s.views id v at))
-    (table.0, noted plan some_number s table.0 table.1 id v at)
+    (table.0, recorded plan some_number s table.0 table.1 id v at)
 
 pub hearing_keeps_table : (plan : Plan) (id other : ℕ) (v w : View) → 1 ≤ plan.counts.numbers → v.role ≡ Pass → w.role ≡ Spent → w.operation ≡ None → Joins (IsTable plan) id v other w (hears v w) (spent plan)
 hearing_keeps_table plan id other v w some_number role its_role idle s table at apart there = (table.0, heard plan some_number s table.0 table.1 id other v w at apart there role its_role idle)

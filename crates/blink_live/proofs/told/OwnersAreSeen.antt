@@ -9,13 +9,13 @@ use Rattle.blink_live.specs.declared.view.View.{View}
 use Rattle.blink_live.specs.Changes.{states_of}
 use Rattle.blink_live.specs.Rule.{Owners, IsShare}
 use Rattle.blink_live.specs.Views.{SawItsOwn, ShowsNoMore}
-use Rattle.blink_live.proofs.told.FrontsOfOneList.{front_of_front}
-use Rattle.blink_live.proofs.told.StatesOfKeys.{states_of-front, fronts_of_each_other}
+use Rattle.blink_live.proofs.told.PrefixesOfOneList.{prefix_of_prefix}
+use Rattle.blink_live.proofs.told.StatesOfKeys.{states_of-prefix, prefixes_of_each_other}
 
--- a front of the list of changes shows of a share's keys no more than its own operations made: so does what any seat has seen, or was told
-pub front_shows_no_more : (plan : Plan) (owners : Owners) (log : List Change) (owner : ℕ) (share : Share) (seen : List Change) → IsShare plan owners log owner share → IsPrefix seen log → ShowsNoMore seen share
-front_shows_no_more plan owners log owner share seen its_own front key mine =
-    subst (λ (states : List (Option ℕ)). IsPrefix (states_of key seen) states) ((its_own key mine).changes) (states_of-front key seen log front)
+-- a prefix of the list of changes shows of a share's keys no more than its own operations made: so does what any seat has seen, or was told
+pub prefix_shows_no_more : (plan : Plan) (owners : Owners) (log : List Change) (owner : ℕ) (share : Share) (seen : List Change) → IsShare plan owners log owner share → IsPrefix seen log → ShowsNoMore seen share
+prefix_shows_no_more plan owners log owner share seen its_own prefix key mine =
+    subst (λ (states : List (Option ℕ)). IsPrefix (states_of key seen) states) ((its_own key mine).changes) (states_of-prefix key seen log prefix)
 
 -- so it is with what a pass was told that looks back
 pub no_more_of : (seen : List Change) (share : Share) (v : View) → v.told ≡ seen → v.share ≡ share → ShowsNoMore v.told v.share → ShowsNoMore seen share
@@ -27,15 +27,15 @@ no_more_of_own seen share v now_seen same_share saw =
     subst (λ (x : List Change × Share). ShowsNoMore x.0 x.1) (λ i. (now_seen i, same_share i))
     (λ key mine. subst (λ (states : List (Option ℕ)). IsPrefix (states_of key v.seen) states) (saw key mine) ([], append-nil (states_of key v.seen)))
 
--- a front of them shows no more either
-pub front_of_made : (seen : List Change) (share : Share) (keys : List ℕ) (front : List Change) → keys ≡ share.keys → ShowsNoMore seen share → IsPrefix front seen
-    → (key : ℕ) → Contains keys key → IsPrefix (states_of key front) (states_of key share.changes)
-front_of_made seen share keys front its_keys no_more is key mine =
-    front_of_front (states_of key front) (states_of key seen) (states_of key share.changes) (states_of-front key front seen is) (no_more key (subst (λ (all : List ℕ). Contains all key) its_keys mine))
+-- a prefix of them shows no more either
+pub prefix_of_made : (seen : List Change) (share : Share) (keys : List ℕ) (prefix : List Change) → keys ≡ share.keys → ShowsNoMore seen share → IsPrefix prefix seen
+    → (key : ℕ) → Contains keys key → IsPrefix (states_of key prefix) (states_of key share.changes)
+prefix_of_made seen share keys prefix its_keys no_more is key mine =
+    prefix_of_prefix (states_of key prefix) (states_of key seen) (states_of key share.changes) (states_of-prefix key prefix seen is) (no_more key (subst (λ (all : List ℕ). Contains all key) its_keys mine))
 
 -- and where they go on from what the pass has seen, they show just that
 pub all_that_was_made : (seen : List Change) (v : View) (keys : List ℕ) → keys ≡ v.share.keys → SawItsOwn v → IsPrefix v.seen seen → ShowsNoMore seen v.share → (key : ℕ) → Contains keys key → states_of key seen ≡ states_of key v.share.changes
-all_that_was_made seen v keys its_keys saw front no_more key mine =
+all_that_was_made seen v keys its_keys saw prefix no_more key mine =
     let its : Contains v.share.keys key = subst (λ (all : List ℕ). Contains all key) its_keys mine in
-    fronts_of_each_other (states_of key seen) (states_of key v.share.changes) (no_more key its)
-    (subst (λ (states : List (Option ℕ)). IsPrefix states (states_of key seen)) (saw key its) (states_of-front key v.seen seen front))
+    prefixes_of_each_other (states_of key seen) (states_of key v.share.changes) (no_more key its)
+    (subst (λ (states : List (Option ℕ)). IsPrefix states (states_of key seen)) (saw key its) (states_of-prefix key v.seen seen prefix))

@@ -6,7 +6,7 @@ ghost use Rattle.blink_batch.specs.Batch.{FitsWords};
 ghost use Rattle.blink_rows.specs.Row.{IsPrimeRow};
 ghost use Rattle.blink_machine.specs.Machine.{NeedsPrime};
 ghost use Rattle.blink_machine.specs.Table.{SeesPrime};
-ghost use Rattle.blink_live.specs.Plays.{LoadsPrime};
+ghost use Rattle.blink_live.specs.AtomicSteps.{LoadsPrime};
 ghost use Rattle.blink_live.specs.Seats.{IsPassSeat, IsSameSeat, ReadsPrime};
 ghost use Rattle.blink_live.specs.Words.{IsRowNumber};
 

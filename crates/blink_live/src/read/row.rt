@@ -5,7 +5,7 @@ ghost use Rattle.blink_batch.specs.Batch.{FitsWords};
 ghost use Rattle.blink_page.specs.Page.{PlainPage};
 ghost use Rattle.blink_rows.specs.Row.{IsPageRow};
 ghost use Rattle.blink_machine.specs.Machine.{NeedsPage};
-ghost use Rattle.blink_live.specs.Plays.{LoadsPage};
+ghost use Rattle.blink_live.specs.AtomicSteps.{LoadsPage};
 ghost use Rattle.blink_live.specs.Seats.{IsPassSeat, IsSameSeat, ReadsPage};
 ghost use Rattle.blink_live.specs.Words.{IsRowNumber};
 

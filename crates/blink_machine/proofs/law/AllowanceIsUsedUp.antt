@@ -18,10 +18,10 @@ use Rattle.blink_machine.specs.Allowance.{numbers_for, numbers_left_at, numbers_
 use Rattle.blink_machine.specs.Kinds.{has_moved, moved_by, writes_new_page}
 use Rattle.blink_machine.specs.Kinds.{read_page, read_prime, latch, unlatch, write_page, write_prime, is_page_write, is_prime_write}
 use Rattle.blink_machine.specs.Machine.{PlainMachine, NeedsNew, NeedsWrite, fresh, level_of, need_at}
-use Rattle.blink_machine.specs.Moment.{Moment, IsItsOperation, Steps, reads_prime, waits_for_level, reads_page, latches, waits_for_latch, writes_new, writes_page, writes_prime, unlatches}
+use Rattle.blink_machine.specs.TreeState.{TreeState, IsItsOperation, Steps, reads_prime, waits_for_level, reads_page, latches, waits_for_latch, writes_new, writes_page, writes_prime, unlatches}
 use Rattle.blink_machine.specs.Needs.{IsPageWrite}
 use Rattle.blink_machine.specs.Owned.{latch_at}
-use Rattle.blink_machine.specs.Sound.{IsSoundWith}
+use Rattle.blink_machine.specs.Invariant.{InvariantWith}
 use Rattle.blink_machine.specs.StepLaw.{AllowanceIsUsedUp}
 use Rattle.blink_machine.specs.Table.{SeesPrime, SeesPage, SeesOnItsWay, SeesUnderLatch, Brings, IsChange, decided_with, sets_out, done_at, adds_root}
 use Rattle.blink_machine.specs.TreeWithDebts.{Levels}
@@ -152,25 +152,25 @@ uses_leaving m after step page (Post debt) is at is_after = uses_setting_out m a
 
 -- ---- each step
 
-module _ (laws : TreeLaws) (old new : Moment) (levels : Levels) (sound : IsSoundWith old levels) (worker : ℕ) (m after : PlainMachine) (step : Step) (its : IsItsOperation old worker m) where
+module _ (laws : TreeLaws) (old new : TreeState) (levels : Levels) (invariant : InvariantWith old levels) (worker : ℕ) (m after : PlainMachine) (step : Step) (its : IsItsOperation old worker m) where
   -- an operation that holds a latch, and isn't about to let it go, has its job on one of 20 levels
   low_under_latch : (page : ℕ) → old.machines worker ≡ Some m → latch_at m.state ≡ Some page → ((next : Next) → m.state ≡ Leave page next → ⊥) → level_of m.job ≤ 20
   low_under_latch page under latch stays =
-      let on = jobs_are_on_levels old worker m page (levels, sound) under latch stays in
-      let few = levels_are_few laws old (levels, sound) in
+      let on = jobs_are_on_levels old worker m page (levels, invariant) under latch stays in
+      let few = levels_are_few laws old (levels, invariant) in
       omega arith
 
   -- one that asks the prime block has split a page of its job's level
   asks_of_its_level : (page : ℕ) (debt : Debt) → m.state ≡ AskPrime page debt → debt.level ≡ level_of m.job
   asks_of_its_level page debt at =
-      let under = its_own old levels sound worker m its (λ start. cc) in
-      (at_state old levels sound worker m (AskPrime page debt) under at).1.same_level
+      let under = its_own old levels invariant worker m its (λ start. cc) in
+      (at_state old levels invariant worker m (AskPrime page debt) under at).1.same_level
 
   -- the write of an upper half
   uses_upper_half : (number : ℕ) → step ≡ Moved (write_page number) → after ≡ done_at m m.state number → IsAtSplitNew m.state → UsesUp m step after
   uses_upper_half number is is_after at =
-      let under = its_own old levels sound worker m its (λ start. let here = at.here in cc) in
-      let placed = at_state old levels sound worker m (SplitNew at.number at.page) under at.here in
+      let under = its_own old levels invariant worker m its (λ start. let here = at.here in cc) in
+      let placed = at_state old levels invariant worker m (SplitNew at.number at.page) under at.here in
       let low = low_under_latch at.number under (ap latch_at at.here) (λ next leaves. let here = at.here in cc) in
       let may = may_split m.job m.op placed.3.brings low in
       uses_when m after _ step (Moved (write_page number)) (SplitNew at.number at.page) at.here is (is_after ∙ ap (λ (s : State). done_at m s number) at.here) refl
@@ -179,7 +179,7 @@ module _ (laws : TreeLaws) (old new : Moment) (levels : Levels) (sound : IsSound
   -- of a new root
   uses_root : (number : ℕ) → step ≡ Moved (write_page number) → after ≡ done_at m m.state number → IsAtRoot m.state → UsesUp m step after
   uses_root number is is_after at =
-      let under = its_own old levels sound worker m its (λ start. let here = at.here in cc) in
+      let under = its_own old levels invariant worker m its (λ start. let here = at.here in cc) in
       let low = low_under_latch at.number under (ap latch_at at.here) (λ next leaves. let here = at.here in cc) in
       uses_when m after _ step (Moved (write_page number)) (Root at.number at.debt at.prime) at.here is (is_after ∙ ap (λ (s : State). done_at m s number) at.here) refl
       (omega arith) (omega arith) (omega arith)
@@ -187,8 +187,8 @@ module _ (laws : TreeLaws) (old new : Moment) (levels : Levels) (sound : IsSound
   -- of a change
   uses_change : (number : ℕ) → step ≡ Moved (write_page number) → after ≡ done_at m m.state 0 → IsAtChange m.state number → UsesUp m step after
   uses_change number is is_after at =
-      let under = its_own old levels sound worker m its (λ start. let here = at.here in cc) in
-      let placed = at_state old levels sound worker m (Change number at.changed at.kept) under at.here in
+      let under = its_own old levels invariant worker m its (λ start. let here = at.here in cc) in
+      let placed = at_state old levels invariant worker m (Change number at.changed at.kept) under at.here in
       let low = low_under_latch number under (ap latch_at at.here) (λ next leaves. let here = at.here in cc) in
       let may = may_write m placed.2 at.changed at.kept low placed.4 in
       uses_deciding m after step (Moved (write_page number)) (Change number at.changed at.kept) (Leave number Finish) at.kept at.here is
@@ -197,7 +197,7 @@ module _ (laws : TreeLaws) (old new : Moment) (levels : Levels) (sound : IsSound
   -- and of a lower half
   uses_lower_half : (number : ℕ) → step ≡ Moved (write_page number) → after ≡ done_at m m.state 0 → IsAtSplitOld m.state number → UsesUp m step after
   uses_lower_half number is is_after at =
-      let under = its_own old levels sound worker m its (λ start. let here = at.here in cc) in
+      let under = its_own old levels invariant worker m its (λ start. let here = at.here in cc) in
       let low = low_under_latch number under (ap latch_at at.here) (λ next leaves. let here = at.here in cc) in
       uses_deciding m after step (Moved (write_page number)) (SplitOld number at.lower at.debt) (AskPrime number at.debt) None at.here is
       (is_after ∙ ap (λ (s : State). done_at m s 0) at.here) (omega arith) (omega arith) (omega arith)
@@ -231,21 +231,21 @@ module _ (laws : TreeLaws) (old new : Moment) (levels : Levels) (sound : IsSound
 
 -- ---- before it
 
-module _ (laws : TreeLaws) (moment : Moment) (levels : Levels) (sound : IsSoundWith moment levels) (worker : ℕ) (m : PlainMachine) (its : IsItsOperation moment worker m) where
+module _ (laws : TreeLaws) (tree_state : TreeState) (levels : Levels) (invariant : InvariantWith tree_state levels) (worker : ℕ) (m : PlainMachine) (its : IsItsOperation tree_state worker m) where
   -- one that writes a new page has a number left, and a write
   enough_for_new : NeedsNew m → (1 ≤ numbers_left m) × (1 ≤ writes_left m)
   enough_for_new needs = elim (needs_new m.state needs) [
     | inl at ↦
-        let under = its_own moment levels sound worker m its (λ start. let here = at.here in cc) in
-        let placed = at_state moment levels sound worker m (SplitNew at.number at.page) under at.here in
-        let low = low_under_latch laws moment moment levels sound worker m m Waited its at.number under (ap latch_at at.here) (λ next leaves. let here = at.here in cc) in
+        let under = its_own tree_state levels invariant worker m its (λ start. let here = at.here in cc) in
+        let placed = at_state tree_state levels invariant worker m (SplitNew at.number at.page) under at.here in
+        let low = low_under_latch laws tree_state tree_state levels invariant worker m m Waited its at.number under (ap latch_at at.here) (λ next leaves. let here = at.here in cc) in
         let may = may_split m.job m.op placed.3.brings low in
         let numbers = may.numbers in
         let page_writes = may.page_writes in
         (rw at.here (omega arith), rw at.here (omega arith))
     | inr at ↦
-        let under = its_own moment levels sound worker m its (λ start. let here = at.here in cc) in
-        let low = low_under_latch laws moment moment levels sound worker m m Waited its at.number under (ap latch_at at.here) (λ next leaves. let here = at.here in cc) in
+        let under = its_own tree_state levels invariant worker m its (λ start. let here = at.here in cc) in
+        let low = low_under_latch laws tree_state tree_state levels invariant worker m m Waited its at.number under (ap latch_at at.here) (λ next leaves. let here = at.here in cc) in
         (rw at.here (omega arith), rw at.here (omega arith))
   ]
 
@@ -253,14 +253,14 @@ module _ (laws : TreeLaws) (moment : Moment) (levels : Levels) (sound : IsSoundW
   enough_for_write : (number : ℕ) → NeedsWrite m number → 1 ≤ writes_left m
   enough_for_write number needs = elim (needs_write m.state number needs) [
     | inl at ↦
-        let under = its_own moment levels sound worker m its (λ start. let here = at.here in cc) in
-        let placed = at_state moment levels sound worker m (Change number at.changed at.kept) under at.here in
-        let low = low_under_latch laws moment moment levels sound worker m m Waited its number under (ap latch_at at.here) (λ next leaves. let here = at.here in cc) in
+        let under = its_own tree_state levels invariant worker m its (λ start. let here = at.here in cc) in
+        let placed = at_state tree_state levels invariant worker m (Change number at.changed at.kept) under at.here in
+        let low = low_under_latch laws tree_state tree_state levels invariant worker m m Waited its number under (ap latch_at at.here) (λ next leaves. let here = at.here in cc) in
         let may = may_write m placed.2 at.changed at.kept low placed.4 in
         rw at.here may
     | inr at ↦
-        let under = its_own moment levels sound worker m its (λ start. let here = at.here in cc) in
-        let low = low_under_latch laws moment moment levels sound worker m m Waited its number under (ap latch_at at.here) (λ next leaves. let here = at.here in cc) in
+        let under = its_own tree_state levels invariant worker m its (λ start. let here = at.here in cc) in
+        let low = low_under_latch laws tree_state tree_state levels invariant worker m m Waited its number under (ap latch_at at.here) (λ next leaves. let here = at.here in cc) in
         rw at.here (omega arith)
   ]
 
@@ -286,10 +286,10 @@ at_its_begin fan (Replace key pointer) = (omega arith, omega arith, omega arith)
 pub allowance_is_used_up : TreeLaws → AllowanceIsUsedUp
 allowance_is_used_up laws = record {
   at_its_begin = at_its_begin;
-  enough = λ moment worker m sound its. record {
-    numbers = λ needs. (enough_for_new laws moment sound.0 sound.1 worker m its needs).0;
-    page_writes = λ writes. enough_for laws moment sound.0 sound.1 worker m its (need_at m.state) refl writes;
-    prime_writes = λ needs. enough_for_prime laws moment sound.0 sound.1 worker m its m.state refl needs;
+  enough = λ tree_state worker m invariant its. record {
+    numbers = λ needs. (enough_for_new laws tree_state invariant.0 invariant.1 worker m its needs).0;
+    page_writes = λ writes. enough_for laws tree_state invariant.0 invariant.1 worker m its (need_at m.state) refl writes;
+    prime_writes = λ needs. enough_for_prime laws tree_state invariant.0 invariant.1 worker m its m.state refl needs;
   };
-  by_step = λ old new worker m after step sound words its steps. uses_up laws old new sound.0 sound.1 worker m after step its steps;
+  by_step = λ old new worker m after step invariant words its steps. uses_up laws old new invariant.0 invariant.1 worker m after step its steps;
 }

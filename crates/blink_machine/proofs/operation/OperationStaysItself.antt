@@ -10,9 +10,9 @@ use Rattle.blink_machine.specs.declared.machine.State.{State}
 use Rattle.blink_machine.specs.declared.machine.State.TheVariants.{Start, Going, Want, Held, Change, SplitNew, SplitOld, AskPrime, Root, NewPrime, Leave, Posting, Ended}
 use Rattle.blink_machine.specs.declared.step.Step.{Step}
 use Rattle.blink_machine.specs.Machine.{PlainMachine, answered}
-use Rattle.blink_machine.specs.Moment.{Moment, IsItsOperation, under_way, taken_on, Steps, reads_prime, waits_for_level, reads_page, latches, waits_for_latch, writes_new, writes_page, writes_prime, unlatches}
+use Rattle.blink_machine.specs.TreeState.{TreeState, IsItsOperation, under_way, taken_on, Steps, reads_prime, waits_for_level, reads_page, latches, waits_for_latch, writes_new, writes_page, writes_prime, unlatches}
 use Rattle.blink_machine.specs.Placed.{PlacedAt}
-use Rattle.blink_machine.specs.Sound.{IsSound}
+use Rattle.blink_machine.specs.Invariant.{Invariant}
 use Rattle.blink_machine.specs.Table.{SeesPrime, begins, asks_of_root, asks_of_other, finds_leftmost, SeesOnItsWay, goes_right, goes_down, find_answers, update_wants, SeesUnderLatch, is_above_high_key, insertion_finds_key, deletion_finds_none, replacement_finds_none, posting_finds_separator, is_to_change, is_to_split, SeesPage, on_its_way, under_latch, decided_with, sets_out, leaves_for, done_at}
 
 -- the operation is the same, and if it has ended it is answered
@@ -102,27 +102,27 @@ done_stays m Ended new at on answered = absurd (on refl)
 -- ---- a step
 
 -- an operation that is about to end has its answer
-leaving_answered : (moment : Moment) (worker : ℕ) (m : PlainMachine) → IsSound moment → IsItsOperation moment worker m → (page : ℕ) → m.state ≡ Leave page Finish → IsSome m.answer
-leaving_answered moment worker m sound (under_way has) page at =
-    let placed = sound.1.placed worker m has in
-    subst (PlacedAt moment sound.0 m) at placed.at_its_state
-leaving_answered moment worker m sound (taken_on op none is) page at =
+leaving_answered : (tree_state : TreeState) (worker : ℕ) (m : PlainMachine) → Invariant tree_state → IsItsOperation tree_state worker m → (page : ℕ) → m.state ≡ Leave page Finish → IsSome m.answer
+leaving_answered tree_state worker m invariant (under_way has) page at =
+    let placed = invariant.1.placed worker m has in
+    subst (PlacedAt tree_state invariant.0 m) at placed.at_its_state
+leaving_answered tree_state worker m invariant (taken_on op none is) page at =
     let start : m.state ≡ Start = ap (λ (x : PlainMachine). x.state) is in absurd (cc)
 
--- every step of a sound moment leaves the operation itself
-pub step_stays : (old new : Moment) (worker : ℕ) (m after : PlainMachine) (step : Step) → IsSound old → IsItsOperation old worker m → Steps old worker m step after new
+-- every step of a sound tree state leaves the operation itself
+pub step_stays : (old new : TreeState) (worker : ℕ) (m after : PlainMachine) (step : Step) → Invariant old → IsItsOperation old worker m → Steps old worker m step after new
     → m.state ≢ Ended → StaysItself m after
-step_stays old new worker m after step sound its (reads_prime needs sees is leaves now) on = sees_prime_stays m after old.prime sees
-step_stays old new worker m after step sound its (waits_for_level needs waits is same still) on = goes_on_itself m after m still refl on
-step_stays old new worker m after step sound its (reads_page number page needs there sees is leaves now) on = sees_page_stays m after number page sees
-step_stays old new worker m after step sound its (latches number needs free is kind fan prime pages passes now) on =
-    subst (StaysItself m) (sym is) (done_stays m m.state 0 refl on (leaving_answered old worker m sound its))
-step_stays old new worker m after step sound its (waits_for_latch number holder needs held is same still) on = goes_on_itself m after m still refl on
-step_stays old new worker m after step sound its (writes_new number needs range free is kind fan prime pages holder now) on =
-    subst (StaysItself m) (sym is) (done_stays m m.state number refl on (leaving_answered old worker m sound its))
-step_stays old new worker m after step sound its (writes_page number needs is kind fan prime pages holder now) on =
-    subst (StaysItself m) (sym is) (done_stays m m.state 0 refl on (leaving_answered old worker m sound its))
-step_stays old new worker m after step sound its (writes_prime needs out is kind fan pages holder now) on =
-    subst (StaysItself m) (sym is) (done_stays m m.state 0 refl on (leaving_answered old worker m sound its))
-step_stays old new worker m after step sound its (unlatches number needs is kind fan prime pages passes now) on =
-    subst (StaysItself m) (sym is) (done_stays m m.state 0 refl on (leaving_answered old worker m sound its))
+step_stays old new worker m after step invariant its (reads_prime needs sees is leaves now) on = sees_prime_stays m after old.prime sees
+step_stays old new worker m after step invariant its (waits_for_level needs waits is same still) on = goes_on_itself m after m still refl on
+step_stays old new worker m after step invariant its (reads_page number page needs there sees is leaves now) on = sees_page_stays m after number page sees
+step_stays old new worker m after step invariant its (latches number needs free is kind fan prime pages passes now) on =
+    subst (StaysItself m) (sym is) (done_stays m m.state 0 refl on (leaving_answered old worker m invariant its))
+step_stays old new worker m after step invariant its (waits_for_latch number holder needs held is same still) on = goes_on_itself m after m still refl on
+step_stays old new worker m after step invariant its (writes_new number needs range free is kind fan prime pages holder now) on =
+    subst (StaysItself m) (sym is) (done_stays m m.state number refl on (leaving_answered old worker m invariant its))
+step_stays old new worker m after step invariant its (writes_page number needs is kind fan prime pages holder now) on =
+    subst (StaysItself m) (sym is) (done_stays m m.state 0 refl on (leaving_answered old worker m invariant its))
+step_stays old new worker m after step invariant its (writes_prime needs out is kind fan pages holder now) on =
+    subst (StaysItself m) (sym is) (done_stays m m.state 0 refl on (leaving_answered old worker m invariant its))
+step_stays old new worker m after step invariant its (unlatches number needs is kind fan prime pages passes now) on =
+    subst (StaysItself m) (sym is) (done_stays m m.state 0 refl on (leaving_answered old worker m invariant its))

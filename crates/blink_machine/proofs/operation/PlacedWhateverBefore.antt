@@ -8,13 +8,13 @@ use Rattle.blink_machine.specs.declared.machine.Next.TheVariants.{Finish, MoveRi
 use Rattle.blink_machine.specs.declared.machine.State.{State}
 use Rattle.blink_machine.specs.declared.machine.State.TheVariants.{Start, Going, Want, Held, Change, SplitNew, SplitOld, AskPrime, Root, NewPrime, Leave, Posting, Ended}
 use Rattle.blink_machine.specs.Machine.{PlainMachine, at_state}
-use Rattle.blink_machine.specs.Moment.{Moment, IsItsOperation, under_way, taken_on}
+use Rattle.blink_machine.specs.TreeState.{TreeState, IsItsOperation, under_way, taken_on}
 use Rattle.blink_machine.specs.Placed.{StandsAt, IsAtWork, HasRead, HasHalved, HasSplit, PlacedForNext, PlacedAt, IsPlaced}
-use Rattle.blink_machine.specs.Sound.{IsSoundWith}
+use Rattle.blink_machine.specs.Invariant.{InvariantWith}
 use Rattle.blink_machine.specs.Table.{IsChange, IsFullFor, gains, loses, exchanges}
 use Rattle.blink_machine.specs.TreeWithDebts.{Levels}
 
-module _ (moment : Moment) (levels : Levels) (m : PlainMachine) (s : State) where
+module _ (tree_state : TreeState) (levels : Levels) (m : PlainMachine) (s : State) where
   -- where it stands
   pub StandsAt-moved : (level page : ℕ) → StandsAt levels m level page → StandsAt levels (at_state m s) level page
   StandsAt-moved level page stands_at = record { begins = stands_at.begins; remembers = stands_at.remembers }
@@ -24,7 +24,7 @@ module _ (moment : Moment) (levels : Levels) (m : PlainMachine) (s : State) wher
   IsAtWork-moved page at_work = record { may_change = at_work.may_change; stands_at = record { begins = at_work.stands_at.begins; remembers = at_work.stands_at.remembers } }
 
   -- the page that it has read
-  HasRead-moved : (number : ℕ) (page : PlainPage) → HasRead moment m number page → HasRead moment (at_state m s) number page
+  HasRead-moved : (number : ℕ) (page : PlainPage) → HasRead tree_state m number page → HasRead tree_state (at_state m s) number page
   HasRead-moved number page read = record { there = read.there; belongs = read.belongs }
 
   -- that the page is full for it
@@ -38,7 +38,7 @@ module _ (moment : Moment) (levels : Levels) (m : PlainMachine) (s : State) wher
   IsChange-moved page changed kept (exchanges key new pointer leaf op there some is_changed) = exchanges key new pointer leaf op there some is_changed
 
   -- the page of which it has written the upper half
-  HasHalved-moved : (number : ℕ) (lower : PlainPage) (debt : Debt) → HasHalved moment m number lower debt → HasHalved moment (at_state m s) number lower debt
+  HasHalved-moved : (number : ℕ) (lower : PlainPage) (debt : Debt) → HasHalved tree_state m number lower debt → HasHalved tree_state (at_state m s) number lower debt
   HasHalved-moved number lower debt halved = record {
     page = halved.page;
     read = HasRead-moved number halved.page halved.read;
@@ -50,7 +50,7 @@ module _ (moment : Moment) (levels : Levels) (m : PlainMachine) (s : State) wher
   }
 
   -- the page that it has split
-  HasSplit-moved : (number : ℕ) (debt : Debt) → HasSplit moment levels m number debt → HasSplit moment levels (at_state m s) number debt
+  HasSplit-moved : (number : ℕ) (debt : Debt) → HasSplit tree_state levels m number debt → HasSplit tree_state levels (at_state m s) number debt
   HasSplit-moved number debt split = record {
     cell = split.cell;
     stands = split.stands;
@@ -70,7 +70,7 @@ module _ (moment : Moment) (levels : Levels) (m : PlainMachine) (s : State) wher
   next_moved (Post debt) placed = placed
 
   -- a state each
-  state_moved : (at : State) → PlacedAt moment levels m at → PlacedAt moment levels (at_state m s) at
+  state_moved : (at : State) → PlacedAt tree_state levels m at → PlacedAt tree_state levels (at_state m s) at
   state_moved Start placed = placed
   state_moved (Going page level) placed = (placed.0, StandsAt-moved level page placed.1, placed.2)
   state_moved (Want page) placed = (IsAtWork-moved page placed.0, placed.1)
@@ -87,15 +87,15 @@ module _ (moment : Moment) (levels : Levels) (m : PlainMachine) (s : State) wher
   state_moved Ended placed = placed
 
   -- so an operation goes to a state where what that state says is so
-  pub goes_to : IsPlaced moment levels m → PlacedAt moment levels m s → IsPlaced moment levels (at_state m s)
+  pub goes_to : IsPlaced tree_state levels m → PlacedAt tree_state levels m s → IsPlaced tree_state levels (at_state m s)
   goes_to placed there = record { same_fan = placed.same_fan; words = placed.words; at_its_state = state_moved s there }
 
 -- what its state says
-pub placed_at : (moment : Moment) (levels : Levels) (m : PlainMachine) (s : State) → IsPlaced moment levels m → m.state ≡ s → PlacedAt moment levels m s
-placed_at moment levels m s placed same = subst (PlacedAt moment levels m) same placed.at_its_state
+pub placed_at : (tree_state : TreeState) (levels : Levels) (m : PlainMachine) (s : State) → IsPlaced tree_state levels m → m.state ≡ s → PlacedAt tree_state levels m s
+placed_at tree_state levels m s placed same = subst (PlacedAt tree_state levels m) same placed.at_its_state
 
 -- an operation is in place before each step, also where it is taken on
-pub its_place : (old : Moment) (levels : Levels) (worker : ℕ) (m : PlainMachine) → IsSoundWith old levels → FitsWords m.op → IsItsOperation old worker m → IsPlaced old levels m
-its_place old levels worker m sound words (under_way here) = sound.placed worker m here
-its_place old levels worker m sound words (taken_on op idle is_fresh) =
+pub its_place : (old : TreeState) (levels : Levels) (worker : ℕ) (m : PlainMachine) → InvariantWith old levels → FitsWords m.op → IsItsOperation old worker m → IsPlaced old levels m
+its_place old levels worker m invariant words (under_way here) = invariant.placed worker m here
+its_place old levels worker m invariant words (taken_on op idle is_fresh) =
     rw is_fresh (record { same_fan = refl; words = subst (λ (n : PlainMachine). FitsWords n.op) is_fresh words; at_its_state = (refl, refl) })

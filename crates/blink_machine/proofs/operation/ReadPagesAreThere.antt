@@ -4,20 +4,20 @@ use Rattle.blink_machine.specs.declared.machine.Need.TheVariants.{ReadPage}
 use Rattle.blink_machine.specs.declared.machine.State.{State}
 use Rattle.blink_machine.specs.declared.machine.State.TheVariants.{Going, Held}
 use Rattle.blink_machine.specs.Machine.{PlainMachine, target, level_of, level_read, level_read_at, need_at}
-use Rattle.blink_machine.specs.Moment.{Moment}
+use Rattle.blink_machine.specs.TreeState.{TreeState}
 use Rattle.blink_machine.specs.Placed.{PlacedAt}
-use Rattle.blink_machine.specs.Sound.{IsSoundWith}
+use Rattle.blink_machine.specs.Invariant.{InvariantWith}
 use Rattle.blink_machine.specs.Tree.{BeginsBelow}
 use Rattle.blink_machine.specs.TreeWithDebts.{Levels}
 use Rattle.blink_machine.proofs.tree.TreeStatements.{TreeLaws}
-use Rattle.blink_machine.proofs.moment.SoundStatements.{IsThereToRead, ReadsAreGood, LevelsAreFew}
+use Rattle.blink_machine.proofs.tree_state.InvariantStatements.{IsThereToRead, ReadsAreGood, LevelsAreFew}
 use Rattle.blink_machine.proofs.operation.OperationIsPlaced.{begun, its_own, at_state}
 
-module _ (laws : TreeLaws) (moment : Moment) (levels : Levels) (sound : IsSoundWith moment levels) (m : PlainMachine) where
+module _ (laws : TreeLaws) (tree_state : TreeState) (levels : Levels) (invariant : InvariantWith tree_state levels) (m : PlainMachine) where
   -- a page of a level that begins below the key is there to be read
-  read_well : (number level : ℕ) → BeginsBelow (levels level) number (target m) → level_read m ≡ level → IsThereToRead moment m number
+  read_well : (number level : ℕ) → BeginsBelow (levels level) number (target m) → level_read m ≡ level → IsThereToRead tree_state m number
   read_well number level begins same =
-      let it = laws.cells_are_of_level moment.fan moment.prime moment.pages levels level begins.cell sound.lawful.tree begins.stands in
+      let it = laws.cells_are_of_level tree_state.fan tree_state.prime tree_state.pages levels level begins.cell invariant.lawful.tree begins.stands in
       record {
         page = begins.cell.page;
         there = rw (← begins.same_number) it.there;
@@ -27,7 +27,7 @@ module _ (laws : TreeLaws) (moment : Moment) (levels : Levels) (sound : IsSoundW
       }
 
   -- the states that read a page stand at it
-  read_at : (state : State) (number : ℕ) → m.state ≡ state → PlacedAt moment levels m state → need_at state ≡ ReadPage number → IsThereToRead moment m number
+  read_at : (state : State) (number : ℕ) → m.state ≡ state → PlacedAt tree_state levels m state → need_at state ≡ ReadPage number → IsThereToRead tree_state m number
   read_at (Going page level) number is placed needs =
       let same : page ≡ number = cc in
       read_well number level (subst (λ n. BeginsBelow (levels level) n (target m)) same placed.1.begins) (ap (λ s. level_read_at s m.job) is)
@@ -38,10 +38,10 @@ module _ (laws : TreeLaws) (moment : Moment) (levels : Levels) (sound : IsSoundW
 
 -- so each page that is read is there
 pub reads_are_good : TreeLaws → ReadsAreGood
-reads_are_good laws moment worker m number sound its reads =
-    let under = its_own moment sound.0 sound.1 worker m its (begun m (λ same_need. cc)) in
-    read_at laws moment sound.0 sound.1 m m.state number refl (at_state moment sound.0 sound.1 worker m m.state under refl) reads
+reads_are_good laws tree_state worker m number invariant its reads =
+    let under = its_own tree_state invariant.0 invariant.1 worker m its (begun m (λ same_need. cc)) in
+    read_at laws tree_state invariant.0 invariant.1 m m.state number refl (at_state tree_state invariant.0 invariant.1 worker m m.state under refl) reads
 
 -- fewer than 21 levels are named
 pub levels_are_few : TreeLaws → LevelsAreFew
-levels_are_few laws moment sound = laws.few_levels moment.fan moment.prime moment.pages sound.0 sound.1.lawful.tree sound.1.numbers_in_range
+levels_are_few laws tree_state invariant = laws.few_levels tree_state.fan tree_state.prime tree_state.pages invariant.0 invariant.1.lawful.tree invariant.1.numbers_in_range

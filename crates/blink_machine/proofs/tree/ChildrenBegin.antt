@@ -5,7 +5,8 @@ use Rattle.std.proofs.lemmas.Bool.Decides.{nat_tests}
 use Rattle.blink_page.specs.Rising.{least_above, IsRising}
 use Rattle.blink_page.specs.Entries.{value_at, child_for}
 use Rattle.blink_page.specs.declared.limits.TheConstants.{GREATEST_KEY}
-use Rattle.blink_rest.specs.Chain.{Cell, StandsIn}
+use Rattle.blink_rest.specs.Chain.{Cell}
+use Rattle.blink_rest.specs.Numbers.{IsMember}
 use Rattle.blink_rest.specs.Level.{entries_along}
 use Rattle.blink_rest.specs.References.{Refers, IsHighKey}
 use Rattle.blink_rest.proofs.Offered.{page_refers}
@@ -24,7 +25,7 @@ module _ (lower : List Cell) where
   -- the page of a child for a key: it begins below the key, and not before the floor of the entries
   pub record IsChildFor (floor : Option ℕ) (key child : ℕ) : Type 0 where
     pub cell : Cell
-    pub stands : StandsIn cell lower
+    pub stands : IsMember cell lower
     pub same_number : cell.number ≡ child
     pub floor_below : least_above cell.page.floor ≤ key
     pub not_before : least_above floor ≤ least_above cell.page.floor

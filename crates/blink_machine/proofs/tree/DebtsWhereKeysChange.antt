@@ -9,7 +9,7 @@ use Rattle.blink_machine.specs.declared.machine.Debt.{Debt}
 use Rattle.blink_machine.specs.TreeWithDebts.{Levels, IsDebt}
 use Rattle.blink_rest.specs.References.{IsHighKey, BeginsAt}
 use Rattle.blink_machine.proofs.tree.TreeStatements.{GainsSeparator}
-use Rattle.blink_machine.proofs.moment.WhatMayPass.{Owes, DebtsPass}
+use Rattle.blink_machine.proofs.tree_state.WhatMayPass.{Owes, DebtsPass}
 
 -- a debt is what an operation owes, or isn't
 pub owes_or_not : (owed : Option Debt) (level separator : ℕ) → Owes owed level separator ⊎ ¬ Owes owed level separator

@@ -4,7 +4,7 @@ use Rattle.blink_page.specs.Entries.{added, removed, replaced, posted}
 use Rattle.blink_page.specs.Page.{IsKeyOf}
 use Rattle.blink_page.specs.Rising.{least_above, IsRising}
 use Rattle.blink_page.specs.declared.limits.TheConstants.{GREATEST_KEY}
-use Rattle.blink_page.proofs.Offered.{added-append_front, added-append_rest, posted-append_front, posted-append_rest, removed-append_front, removed-append_rest, replaced-append_front, replaced-append_rest}
+use Rattle.blink_page.proofs.Offered.{added-append_prefix, added-append_rest, posted-append_prefix, posted-append_rest, removed-append_prefix, removed-append_rest, replaced-append_prefix, replaced-append_rest}
 use Rattle.blink_rest.specs.Chain.{Cell, Pages}
 use Rattle.blink_rest.specs.Level.{entries_along}
 use Rattle.blink_rest.proofs.Offered.{entries_along-append, line_rising}
@@ -49,7 +49,7 @@ module _ (fan : ℕ) (prime : List ℕ) (pages : Pages) (levels : Levels) (level
       added_across value same =
           let below = belongs.1 in
           entries_become (added (key, value) c.page.entries) same
-          ∙ ap (λ (es : List (ℕ × ℕ)). entries_before ++ es) (sym (added-append_front key value (c.page.high + 1) c.page.entries entries_rest (GREATEST_KEY + 1) rises_rest (omega arith)))
+          ∙ ap (λ (es : List (ℕ × ℕ)). entries_before ++ es) (sym (added-append_prefix key value (c.page.high + 1) c.page.entries entries_rest (GREATEST_KEY + 1) rises_rest (omega arith)))
           ∙ sym (added-append_rest key value 0 entries_before (c.page.entries ++ entries_rest) (least_above c.page.floor) rises_before belongs.0)
           ∙ ap (added (key, value)) (sym entries_were)
 
@@ -58,7 +58,7 @@ module _ (fan : ℕ) (prime : List ℕ) (pages : Pages) (levels : Levels) (level
       removed_across same =
           let below = belongs.1 in
           entries_become (removed key c.page.entries) same
-          ∙ ap (λ (es : List (ℕ × ℕ)). entries_before ++ es) (sym (removed-append_front key (c.page.high + 1) c.page.entries entries_rest (GREATEST_KEY + 1) rises_rest (omega arith)))
+          ∙ ap (λ (es : List (ℕ × ℕ)). entries_before ++ es) (sym (removed-append_prefix key (c.page.high + 1) c.page.entries entries_rest (GREATEST_KEY + 1) rises_rest (omega arith)))
           ∙ sym (removed-append_rest key 0 entries_before (c.page.entries ++ entries_rest) (least_above c.page.floor) rises_before belongs.0)
           ∙ ap (removed key) (sym entries_were)
 
@@ -67,7 +67,7 @@ module _ (fan : ℕ) (prime : List ℕ) (pages : Pages) (levels : Levels) (level
       replaced_across value same =
           let below = belongs.1 in
           entries_become (replaced (key, value) c.page.entries) same
-          ∙ ap (λ (es : List (ℕ × ℕ)). entries_before ++ es) (sym (replaced-append_front key value (c.page.high + 1) c.page.entries entries_rest (GREATEST_KEY + 1) rises_rest (omega arith)))
+          ∙ ap (λ (es : List (ℕ × ℕ)). entries_before ++ es) (sym (replaced-append_prefix key value (c.page.high + 1) c.page.entries entries_rest (GREATEST_KEY + 1) rises_rest (omega arith)))
           ∙ sym (replaced-append_rest key value 0 entries_before (c.page.entries ++ entries_rest) (least_above c.page.floor) rises_before belongs.0)
           ∙ ap (replaced (key, value)) (sym entries_were)
 
@@ -78,6 +78,6 @@ module _ (fan : ℕ) (prime : List ℕ) (pages : Pages) (levels : Levels) (level
           let own = here.has_level in
           entries_become (posted (key, child) c.page.entries) same
           ∙ ap (λ (es : List (ℕ × ℕ)). entries_before ++ es)
-          (sym (posted-append_front key child (least_above c.page.floor) c.page.entries entries_rest (c.page.high + 1) (here.lawful.inner (omega arith)).last_is_high belongs.0 (omega arith)))
+          (sym (posted-append_prefix key child (least_above c.page.floor) c.page.entries entries_rest (c.page.high + 1) (here.lawful.inner (omega arith)).last_is_high belongs.0 (omega arith)))
           ∙ sym (posted-append_rest key child 0 entries_before (c.page.entries ++ entries_rest) (least_above c.page.floor) rises_before belongs.0)
           ∙ ap (posted (key, child)) (sym entries_were)

@@ -5,7 +5,8 @@ use Rattle.std.proofs.lemmas.List.{length-map}
 use Rattle.blink_page.specs.Rising.{least_above, IsRising}
 use Rattle.blink_page.specs.declared.limits.TheConstants.{GREATEST_KEY, MAX_PAGE}
 use Rattle.blink_page.proofs.Offered.{from_at_most_to, rising_from_below}
-use Rattle.blink_rest.specs.Chain.{Cell, Pages, InLine, IsChain, StandsIn}
+use Rattle.blink_rest.specs.Chain.{Cell, Pages, InLine, IsChain}
+use Rattle.blink_rest.specs.Numbers.{IsMember}
 use Rattle.blink_rest.specs.Level.{entries_along, numbers_of}
 use Rattle.blink_rest.proofs.Offered.{at_most_n, cells_within, chain_differs, chain_rising, two_each, two_to}
 use Rattle.blink_machine.specs.Tree.{IsTree}
@@ -17,7 +18,7 @@ use Rattle.blink_machine.proofs.tree.PagesOfLevels.{some_stand, high_key_past, n
 module _ (fan level leftmost : ℕ) (pages : Pages) (lower : List Cell) (chain : IsChain fan pages level leftmost lower) where
   -- separators that rise from a floor of a chain, and are high keys there, are no more than its pages from that floor on
   no_more : (entries : List (ℕ × ℕ)) (before floor link : Option ℕ) (cells : List Cell) → Refers lower before entries → IsRising (least_above floor) entries (GREATEST_KEY + 1)
-      → InLine fan level floor link cells (Some GREATEST_KEY) None → ((c : Cell) → StandsIn c cells → StandsIn c lower) → length entries ≤ length cells
+      → InLine fan level floor link cells (Some GREATEST_KEY) None → ((c : Cell) → IsMember c cells → IsMember c lower) → length entries ≤ length cells
   no_more [] before floor link cells refers rising line inside = omega arith
   no_more ((separator, child) ∷ rest) before floor link [] refers rising line inside =
       absurd (omega (arith, rising.0, ap least_above line.0, from_at_most_to (separator + 1) rest (GREATEST_KEY + 1) rising.1))

@@ -7,7 +7,8 @@ use Rattle.blink_page.specs.Page.{IsKeyOf}
 use Rattle.blink_page.specs.declared.limits.TheConstants.{GREATEST_KEY}
 use Rattle.blink_page.proofs.Offered.{child_for-covers}
 use Rattle.blink_store.proofs.Offered.{some_or_none}
-use Rattle.blink_rest.specs.Chain.{Cell, Pages, AreAmong, InLine, StandsIn}
+use Rattle.blink_rest.specs.Chain.{Cell, Pages, AreAmong, InLine}
+use Rattle.blink_rest.specs.Numbers.{IsMember}
 use Rattle.blink_rest.specs.Reach.{IsRoot, Reaches, at_root, to_right, down}
 use Rattle.blink_rest.proofs.Offered.{chain_spans, root_at_end, stands_of}
 use Rattle.blink_machine.specs.Tree.{IsTree, BeginsBelow}
@@ -25,7 +26,7 @@ module _ (fan level root key : ℕ) (pages : Pages) where
   -- a search that is at the first page of a line goes right to the page that the key belongs to
   walks_from_first : (floor link : Option ℕ) (d : Cell) (cells : List Cell) (last_floor last_link : Option ℕ) (c : Cell)
       → AreAmong pages (d ∷ cells) → InLine fan level floor link (d ∷ cells) last_floor last_link → Reaches pages root key d.number
-      → StandsIn c (d ∷ cells) → IsKeyOf c.page key → Reaches pages root key c.number
+      → IsMember c (d ∷ cells) → IsKeyOf c.page key → Reaches pages root key c.number
   walks_from_first floor link d cells last_floor last_link c among line reached (inl same) belongs =
       subst (λ (x : Cell). Reaches pages root key x.number) (sym same) reached
   walks_from_first floor link d [] last_floor last_link c among line reached (inr later) belongs = absurd later
@@ -37,8 +38,8 @@ module _ (fan level root key : ℕ) (pages : Pages) where
 
   -- and so from any page whose floor is below the key
   walks : (floor link : Option ℕ) (cells : List Cell) (last_floor last_link : Option ℕ) (d c : Cell)
-      → AreAmong pages cells → InLine fan level floor link cells last_floor last_link → StandsIn d cells → Reaches pages root key d.number
-      → least_above d.page.floor ≤ key → StandsIn c cells → IsKeyOf c.page key → Reaches pages root key c.number
+      → AreAmong pages cells → InLine fan level floor link cells last_floor last_link → IsMember d cells → Reaches pages root key d.number
+      → least_above d.page.floor ≤ key → IsMember c cells → IsKeyOf c.page key → Reaches pages root key c.number
   walks floor link [] last_floor last_link d c among line stands reached below too belongs = absurd stands
   walks floor link (x ∷ cells) last_floor last_link d c among line (inl same) reached below too belongs =
       walks_from_first floor link x cells last_floor last_link c among line (subst (λ (y : Cell). Reaches pages root key y.number) same reached) too belongs
@@ -51,7 +52,7 @@ module _ (fan level root key : ℕ) (pages : Pages) where
 
 module _ (fan : ℕ) (prime : List ℕ) (pages : Pages) (levels : Levels) (tree : IsTree fan prime pages levels) (root key : ℕ) (is_root : IsRoot prime root) (in_range : key ≤ GREATEST_KEY) where
   -- a page that a key belongs to has a child for it, where it is an inner page
-  child_there : (level : ℕ) (d : Cell) → StandsIn d (levels (level + 1)) → IsKeyOf d.page key → HasChild d.page.entries key
+  child_there : (level : ℕ) (d : Cell) → IsMember d (levels (level + 1)) → IsKeyOf d.page key → HasChild d.page.entries key
   child_there level d stands belongs =
       let it = cells_are_of_level fan prime pages levels (level + 1) d tree stands in
       let same_level = it.has_level in
@@ -62,14 +63,14 @@ module _ (fan : ℕ) (prime : List ℕ) (pages : Pages) (levels : Levels) (tree 
       ]
 
   -- on each level the page that the key belongs to is reached from a page there that begins below the key
-  level_walks : (level number : ℕ) (c : Cell) → BeginsBelow (levels level) number key → Reaches pages root key number → StandsIn c (levels level) → IsKeyOf c.page key → Reaches pages root key c.number
+  level_walks : (level number : ℕ) (c : Cell) → BeginsBelow (levels level) number key → Reaches pages root key number → IsMember c (levels level) → IsKeyOf c.page key → Reaches pages root key c.number
   level_walks level number c begins reached stands belongs =
       let it = named_standing fan prime pages levels tree level c stands in
       walks fan level root key pages None (Some it.leftmost) (levels level) (Some GREATEST_KEY) None begins.cell c it.chain.pages_there it.chain.in_line begins.stands
       (subst (Reaches pages root key) {y = begins.cell.number} (sym begins.same_number) reached) begins.floor_below stands belongs
 
   -- and so the one on the level that is `height` levels below the top one
-  page_reached : (height level : ℕ) (c : Cell) → level + height + 1 ≡ length prime → StandsIn c (levels level) → IsKeyOf c.page key → Reaches pages root key c.number
+  page_reached : (height level : ℕ) (c : Cell) → level + height + 1 ≡ length prime → IsMember c (levels level) → IsKeyOf c.page key → Reaches pages root key c.number
   page_reached zero level c top stands belongs =
       let it = named_below fan prime pages levels tree level (omega arith) in
       let first = leftmost_begins fan prime pages levels level it.leftmost tree it.is_there in

@@ -4,10 +4,11 @@ use Rattle.std.proofs.lemmas.Bool.{cases_eq}
 use Rattle.std.proofs.lemmas.Bool.Decides.{nat_tests}
 use Rattle.blink_page.specs.Page.{PlainPage}
 use Rattle.blink_page.specs.declared.limits.TheConstants.{GREATEST_KEY}
-use Rattle.blink_rest.specs.Chain.{Cell, Pages, StandsIn, AreAmong, InLine, IsChain}
+use Rattle.blink_rest.specs.Chain.{Cell, Pages, AreAmong, InLine, IsChain}
+use Rattle.blink_rest.specs.Numbers.{IsMember}
 use Rattle.blink_rest.specs.Level.{entries_along}
 use Rattle.blink_rest.proofs.Offered.{AreAmong-append, InLine-append}
-use Rattle.blink_machine.specs.Moment.{WritesOne}
+use Rattle.blink_machine.specs.TreeState.{WritesOne}
 use Rattle.blink_machine.specs.Tree.{IsTree}
 use Rattle.blink_machine.specs.TreeWithDebts.{Levels}
 use Rattle.blink_rest.specs.References.{Refers, BeginsAt, IsHighKey}
@@ -29,7 +30,7 @@ with_level-other levels level other cells apart = grind (arith, nat_tests)
 
 -- pages that weren't written are there as before
 pub among_kept : (pages after : Pages) (number : ℕ) (page : PlainPage) (cells : List Cell) → WritesOne pages after number page
-    → ((d : Cell) → StandsIn d cells → d.number ≢ number) → AreAmong pages cells → AreAmong after cells
+    → ((d : Cell) → IsMember d cells → d.number ≢ number) → AreAmong pages cells → AreAmong after cells
 among_kept pages after number page [] writes apart among = tt
 among_kept pages after number page (d ∷ cells) writes apart among =
     (writes.others d.number (apart d (inl refl)) ∙ among.0, among_kept pages after number page cells writes (λ e later. apart e (inr later)) among.1)
@@ -74,20 +75,20 @@ module _ {fan : ℕ} {prime : List ℕ} {pages : Pages} {levels : Levels} {level
 
 module _ (fan : ℕ) (prime : List ℕ) (pages : Pages) (levels : Levels) (level : ℕ) (c : Cell) (here : Stands fan prime pages levels level c) (middle : List Cell) where
   -- what stands before the page stands there still
-  before_stay : (d : Cell) → StandsIn d here.before → StandsIn d (cells_after here middle)
+  before_stay : (d : Cell) → IsMember d here.before → IsMember d (cells_after here middle)
   before_stay d stands = rw (cells_after-is here middle) (stands_first d here.before (middle ++ here.rest) stands)
 
   -- so does what stands after it
-  rest_stay : (d : Cell) → StandsIn d here.rest → StandsIn d (cells_after here middle)
+  rest_stay : (d : Cell) → IsMember d here.rest → IsMember d (cells_after here middle)
   rest_stay d stands = rw (cells_after-is here middle) (stands_last d here.before (middle ++ here.rest) (stands_last d middle here.rest stands))
 
   -- and what takes its place
-  pub middle_stands : (d : Cell) → StandsIn d middle → StandsIn d (cells_after here middle)
+  pub middle_stands : (d : Cell) → IsMember d middle → IsMember d (cells_after here middle)
   middle_stands d stands = rw (cells_after-is here middle) (stands_last d here.before (middle ++ here.rest) (stands_first d middle here.rest stands))
 
   -- each page stood there before, or takes the page's place
-  pub after_cases : (d : Cell) → StandsIn d (cells_after here middle) → StandsIn d (levels level) ⊎ StandsIn d middle
-  after_cases d stands = elim (stands_append d here.before (middle ++ here.rest) (subst (StandsIn d) (cells_after-is here middle) stands)) [
+  pub after_cases : (d : Cell) → IsMember d (cells_after here middle) → IsMember d (levels level) ⊎ IsMember d middle
+  after_cases d stands = elim (stands_append d here.before (middle ++ here.rest) (subst (IsMember d) (cells_after-is here middle) stands)) [
     | inl first ↦ inl (before_stands fan prime pages levels level c here d first)
     | inr last ↦ elim (stands_append d middle here.rest last) [
       | inl new ↦ inr new
@@ -96,7 +97,7 @@ module _ (fan : ℕ) (prime : List ℕ) (pages : Pages) (levels : Levels) (level
   ]
 
   -- every other page stays
-  pub others_stay : (d : Cell) → StandsIn d (levels level) → d ≢ c → StandsIn d (cells_after here middle)
+  pub others_stay : (d : Cell) → IsMember d (levels level) → d ≢ c → IsMember d (cells_after here middle)
   others_stay d stands apart = elim (stands_cases fan prime pages levels level c here d stands) [
     | inl first ↦ before_stay d first
     | inr last ↦ elim last [ inl same ↦ absurd (apart same) | inr later ↦ rest_stay d later ]
@@ -144,7 +145,7 @@ module _ (fan : ℕ) (prime : List ℕ) (pages : Pages) (levels : Levels) (level
 
     module _ (page : PlainPage) (tree : IsTree fan prime pages levels) (writes : WritesOne pages after c.number page) where
       -- the page stood in the level
-      stood : StandsIn c (levels level)
+      stood : IsMember c (levels level)
       stood = own_stands fan prime pages levels level c here
 
       -- each other level is as before
@@ -184,8 +185,8 @@ module _ (fan : ℕ) (prime : List ℕ) (pages : Pages) (levels : Levels) (level
       }
 
   -- what stood in other levels stands there still, and what stood in this one, but for the page
-  pub each_stays : (other : ℕ) (d : Cell) → StandsIn d (levels other) → d.number ≢ c.number → StandsIn d (levels_after here middle other)
+  pub each_stays : (other : ℕ) (d : Cell) → IsMember d (levels other) → d.number ≢ c.number → IsMember d (levels_after here middle other)
   each_stays other d stands apart = elim (cases_eq other level) [
-    | inl same ↦ rw (same, levels_after-same here middle) (others_stay d (subst (λ (n : ℕ). StandsIn d (levels n)) same stands) (λ e. apart (ap (λ (x : Cell). x.number) e)))
+    | inl same ↦ rw (same, levels_after-same here middle) (others_stay d (subst (λ (n : ℕ). IsMember d (levels n)) same stands) (λ e. apart (ap (λ (x : Cell). x.number) e)))
     | inr far ↦ rw (levels_after-other here middle other far) stands
   ]

@@ -2,9 +2,10 @@
 use Rattle.std.proofs.Common.{◌≡◌, ℕ, ◌+◌, Some, None, List, [], ◌∷◌, ◌++◌, length, ◌⊎◌, inl, inr, refl, sym, subst, ap, ◌∙◌, arith, length-append}
 use Rattle.std.proofs.lemmas.Bool.{cases_eq}
 use Rattle.blink_page.specs.Page.{PlainPage}
-use Rattle.blink_rest.specs.Chain.{Cell, Pages, StandsIn}
+use Rattle.blink_rest.specs.Chain.{Cell, Pages}
+use Rattle.blink_rest.specs.Numbers.{IsMember}
 use Rattle.blink_rest.specs.Level.{entries_along}
-use Rattle.blink_machine.specs.Moment.{WritesOne}
+use Rattle.blink_machine.specs.TreeState.{WritesOne}
 use Rattle.blink_machine.specs.Tree.{IsTree}
 use Rattle.blink_machine.specs.TreeWithDebts.{Levels, IsInChain}
 use Rattle.blink_rest.specs.References.{Refers, IsHighKey}
@@ -14,20 +15,20 @@ use Rattle.blink_machine.proofs.tree.PageGivesWay.{TakesPlace, cells_after, cell
 
 module _ (fan : ℕ) (prime : List ℕ) (pages : Pages) (levels : Levels) (level : ℕ) (c : Cell) (here : Stands fan prime pages levels level c) (middle : List Cell) where
   -- each page that is in a level now was so before, or takes the page's place
-  pub now_cases : (other : ℕ) (d : Cell) → StandsIn d (levels_after here middle other) → StandsIn d (levels other) ⊎ ((other ≡ level) × StandsIn d middle)
+  pub now_cases : (other : ℕ) (d : Cell) → IsMember d (levels_after here middle other) → IsMember d (levels other) ⊎ ((other ≡ level) × IsMember d middle)
   now_cases other d stands = elim (cases_eq other level) [
     | inl same ↦ (
-        let L : ℕ → Type 0 = λ n. StandsIn d (levels_after here middle n) in
-        let B : ℕ → Type 0 = λ n. StandsIn d (levels n) in
-        elim (after_cases fan prime pages levels level c here middle d (subst (StandsIn d) (levels_after-same here middle) (subst L same stands))) [
+        let L : ℕ → Type 0 = λ n. IsMember d (levels_after here middle n) in
+        let B : ℕ → Type 0 = λ n. IsMember d (levels n) in
+        elim (after_cases fan prime pages levels level c here middle d (subst (IsMember d) (levels_after-same here middle) (subst L same stands))) [
           | inl old ↦ inl (subst B (sym same) old)
           | inr new ↦ inr (same, new)
         ])
-    | inr far ↦ inl (subst (StandsIn d) (levels_after-other here middle other far) stands)
+    | inr far ↦ inl (subst (IsMember d) (levels_after-other here middle other far) stands)
   ]
 
   -- what takes the page's place stands in its level
-  pub now_stands : (d : Cell) → StandsIn d middle → StandsIn d (levels_after here middle level)
+  pub now_stands : (d : Cell) → IsMember d middle → IsMember d (levels_after here middle level)
   now_stands d stands = rw (levels_after-same here middle) (middle_stands fan prime pages levels level c here middle d stands)
 
   -- how many pages the level has now
@@ -42,7 +43,7 @@ module _ (fan : ℕ) (prime : List ℕ) (pages : Pages) (levels : Levels) (level
     pub grows_after : Grows levels (levels_after here middle)
     grows_after other d stands = elim (cases_eq other level) [
       | inl same ↦ rw (same, levels_after-same here middle) (
-          let L : ℕ → Type 0 = λ n. StandsIn d (levels n) in
+          let L : ℕ → Type 0 = λ n. IsMember d (levels n) in
           begins_stay fan prime pages levels level c here middle after takes d.number d.page.floor
           (record { cell = d; stands = subst L same stands; same_number = refl; same_floor = refl }))
       | inr far ↦ rw (levels_after-other here middle other far) (record { cell = d; stands = stands; same_number = refl; same_floor = refl })
@@ -82,7 +83,7 @@ module _ (fan : ℕ) (prime : List ℕ) (pages after : Pages) (levels : Levels) 
   takes = replacement_takes fan level after c page here.has_level writes.written replaces
 
   -- the page that stood there
-  page_before : StandsIn c (levels level)
+  page_before : IsMember c (levels level)
   page_before = own_stands fan prime pages levels level c here
 
   -- no high key is new
@@ -92,7 +93,7 @@ module _ (fan : ℕ) (prime : List ℕ) (pages after : Pages) (levels : Levels) 
     | inr new ↦ elim new.1 [
       | inl same ↦ record {
         cell = c;
-        stands = (let B : ℕ → Type 0 = λ n. StandsIn c (levels n) in subst B (sym new.0) page_before);
+        stands = (let B : ℕ → Type 0 = λ n. IsMember c (levels n) in subst B (sym new.0) page_before);
         same_high = sym replaces.same_high ∙ ap (λ (d : Cell). d.page.high) (sym same) ∙ high.same_high;
       }
       | inr never ↦ absurd never

@@ -6,7 +6,8 @@ use Rattle.std.proofs.lemmas.Option.{slice_get-get_or}
 use Rattle.blink_page.specs.Rising.{least_above}
 use Rattle.blink_page.specs.Page.{PlainPage}
 use Rattle.blink_page.specs.declared.limits.TheConstants.{GREATEST_KEY}
-use Rattle.blink_rest.specs.Chain.{Cell, Pages, InLine, IsChain, StandsIn}
+use Rattle.blink_rest.specs.Chain.{Cell, Pages, InLine, IsChain}
+use Rattle.blink_rest.specs.Numbers.{IsMember}
 use Rattle.blink_rest.proofs.Offered.{chain_begins, chain_spans_once, chain_value, line_right, only_page, same_cell, stands_of, stands_there}
 use Rattle.blink_machine.specs.Tree.{IsTree}
 use Rattle.blink_machine.specs.TreeWithDebts.{Levels}
@@ -15,14 +16,14 @@ use Rattle.blink_machine.proofs.tree.TreeStatements.{CellsAreOfLevel, NumbersDif
 use Rattle.blink_machine.proofs.tree.WherePagesStand.{level_named}
 
 -- where a cell stands there is one
-pub some_stand : (c : Cell) (cells : List Cell) → StandsIn c cells → 0 < length cells
+pub some_stand : (c : Cell) (cells : List Cell) → IsMember c cells → 0 < length cells
 some_stand c [] stands = absurd stands
 some_stand c (d ∷ cells) stands = omega arith
 
 module _ (fan level : ℕ) where
   -- a page that ends before its line does is not the only one
   line_two : (floor link : Option ℕ) (cells : List Cell) (last : ℕ) (last_link : Option ℕ) (c : Cell)
-      → InLine fan level floor link cells (Some last) last_link → StandsIn c cells → c.page.high < last → 2 ≤ length cells
+      → InLine fan level floor link cells (Some last) last_link → IsMember c cells → c.page.high < last → 2 ≤ length cells
   line_two floor link [] last last_link c line stands below = absurd stands
   line_two floor link (d ∷ []) last last_link c line (inl same) below =
       let ends : d.page.high ≡ last = cc (line.4.0) in absurd (omega (arith, ap (λ (x : Cell). x.page.high) same))
@@ -31,7 +32,7 @@ module _ (fan level : ℕ) where
 
 module _ (fan level leftmost : ℕ) (pages : Pages) (lower : List Cell) (chain : IsChain fan pages level leftmost lower) where
   -- two pages of a chain with the same floor are one
-  pub same_floor_same : (c d : Cell) → StandsIn c lower → StandsIn d lower → c.page.floor ≡ d.page.floor → c ≡ d
+  pub same_floor_same : (c d : Cell) → IsMember c lower → IsMember d lower → c.page.floor ≡ d.page.floor → c ≡ d
   same_floor_same c d stands too same =
       let it = stands_of fan level None (Some leftmost) lower (Some GREATEST_KEY) None c chain.in_line stands in
       let is = stands_of fan level None (Some leftmost) lower (Some GREATEST_KEY) None d chain.in_line too in
@@ -39,7 +40,7 @@ module _ (fan level leftmost : ℕ) (pages : Pages) (lower : List Cell) (chain :
       (omega arith, it.lawful.floor_below_high) (omega (arith, ap least_above same), omega (arith, ap least_above same, is.lawful.floor_below_high))
 
   -- a high key from a page's floor on is that page's or above it
-  pub high_key_past : (key : ℕ) (x : Cell) → StandsIn x lower → IsHighKey lower key → least_above x.page.floor ≤ key → x.page.high ≤ key
+  pub high_key_past : (key : ℕ) (x : Cell) → IsMember x lower → IsHighKey lower key → least_above x.page.floor ≤ key → x.page.high ≤ key
   high_key_past key x stands is_high above =
       let of_line = stands_of fan level None (Some leftmost) lower (Some GREATEST_KEY) None is_high.cell chain.in_line is_high.stands in
       let same_high = is_high.same_high in
@@ -64,7 +65,7 @@ module _ (fan : ℕ) (prime : List ℕ) (pages : Pages) (levels : Levels) (tree 
       record { leftmost = get_or prime level 0; is_there = there; chain = tree.chains.named level (get_or prime level 0) there }
 
   -- so it is named
-  pub named_standing : (level : ℕ) (c : Cell) → StandsIn c (levels level) → IsNamed fan prime pages level (levels level)
+  pub named_standing : (level : ℕ) (c : Cell) → IsMember c (levels level) → IsNamed fan prime pages level (levels level)
   named_standing level c stands = named_below level (level_named fan prime pages levels tree level c stands)
 
 -- each page of a chain is there, is lawful and has the chain's level

@@ -8,9 +8,10 @@ use Rattle.blink_page.specs.Rising.{least_above, Covers}
 use Rattle.blink_page.specs.Entries.{value_at}
 use Rattle.blink_page.specs.declared.limits.TheConstants.{GREATEST_KEY}
 use Rattle.blink_page.proofs.Offered.{covers_rising, from_at_most_to, value_at-below}
-use Rattle.blink_rest.specs.Chain.{Cell, Pages, InLine, IsChain, StandsIn}
-use Rattle.blink_rest.specs.Level.{Names, entries_along, high_keys, numbers_of}
-use Rattle.blink_rest.specs.Rest.{AreChains, EachNames, TopHasOne}
+use Rattle.blink_rest.specs.Chain.{Cell, Pages, InLine, IsChain}
+use Rattle.blink_rest.specs.Numbers.{IsMember}
+use Rattle.blink_rest.specs.Level.{IsParentOf, entries_along, high_keys, numbers_of}
+use Rattle.blink_rest.specs.Rest.{AreChains, EachIsParent, TopHasOne}
 use Rattle.blink_rest.proofs.Offered.{chain_covers, Contains-from_among, stands_among}
 use Rattle.blink_machine.specs.Tree.{IsTree}
 use Rattle.blink_machine.specs.TreeWithDebts.{Levels}
@@ -26,7 +27,7 @@ module _ (fan level leftmost : ℕ) (pages : Pages) (lower : List Cell) (chain :
 
   -- so entries that cover all keys and refer to the pages of the chain are its high keys and its numbers
   names_all : (entries : List (ℕ × ℕ)) (floor link : Option ℕ) (cells : List Cell) → Refers lower floor entries → Covers (least_above floor) entries (GREATEST_KEY + 1)
-      → InLine fan level floor link cells (Some GREATEST_KEY) None → ((c : Cell) → StandsIn c cells → StandsIn c lower) → HasSeparators (least_above floor) entries
+      → InLine fan level floor link cells (Some GREATEST_KEY) None → ((c : Cell) → IsMember c cells → IsMember c lower) → HasSeparators (least_above floor) entries
       → (map (λ (entry : ℕ × ℕ). entry.0) entries ≡ high_keys cells) × (map (λ (entry : ℕ × ℕ). entry.1) entries ≡ numbers_of cells)
   names_all [] floor link [] refers covers line inside has = (refl, refl)
   names_all [] floor link (x ∷ cells) refers covers line inside has =
@@ -72,7 +73,7 @@ module _ (fan : ℕ) (pages : Pages) (levels : Levels) where
 
 module _ (levels : Levels) where
   -- each level of the list names the one before it, if each of these levels names the one below
-  names_from : (start count : ℕ) → ((level : ℕ) → start ≤ level → level + 1 < start + count → Names (levels (level + 1)) (levels level)) → EachNames (levels_from levels start count)
+  names_from : (start count : ℕ) → ((level : ℕ) → start ≤ level → level + 1 < start + count → IsParentOf (levels (level + 1)) (levels level)) → EachIsParent (levels_from levels start count)
   names_from start zero named = tt
   names_from start (suc zero) named = tt
   names_from start (suc (suc count)) named =
@@ -85,11 +86,11 @@ module _ (levels : Levels) where
       let next : start + suc count ≡ start + 1 + count = omega arith in one_from (start + 1) count (subst (λ (m : ℕ). length (levels m) ≡ 1) next one)
 
   -- the number of a page of these levels is among theirs
-  among_from : (start count level : ℕ) (c : Cell) → start ≤ level → level < start + count → StandsIn c (levels level) → Contains (flat_map numbers_of (levels_from levels start count)) c.number
+  among_from : (start count level : ℕ) (c : Cell) → start ≤ level → level < start + count → IsMember c (levels level) → Contains (flat_map numbers_of (levels_from levels start count)) c.number
   among_from start zero level c from below stands = absurd (omega arith)
   among_from start (suc count) level c from below stands = elim (cases_eq start level) [
     | inl same ↦ Contains-append_left (numbers_of (levels start)) (flat_map numbers_of (levels_from levels (start + 1) count)) c.number
-        (Contains-from_among (numbers_of (levels start)) c.number (stands_among c (levels start) (subst (λ (m : ℕ). StandsIn c (levels m)) (sym same) stands)))
+        (Contains-from_among (numbers_of (levels start)) c.number (stands_among c (levels start) (subst (λ (m : ℕ). IsMember c (levels m)) (sym same) stands)))
     | inr other ↦ Contains-append_right (numbers_of (levels start)) (flat_map numbers_of (levels_from levels (start + 1) count)) c.number
         (among_from (start + 1) count level c (omega arith) (omega arith) stands)
   ]
@@ -106,7 +107,7 @@ module _ (fan : ℕ) (prime : List ℕ) (pages : Pages) (levels : Levels) (tree 
 
   module _ (quiet : IsQuiet prime pages levels) where
     -- without debts each level names the one below
-    quiet_names : (level : ℕ) → level + 1 < length prime → Names (levels (level + 1)) (levels level)
+    quiet_names : (level : ℕ) → level + 1 < length prime → IsParentOf (levels (level + 1)) (levels level)
     quiet_names level inside =
         let low = named_below fan prime pages levels tree level (omega arith) in
         let high = named_below fan prime pages levels tree (level + 1) inside in

@@ -5,11 +5,11 @@ use Rattle.std.proofs.lemmas.Bool.{cases_lt, cases_eq}
 use Rattle.std.proofs.lemmas.Bool.Decides.{nat_tests}
 use Rattle.std.proofs.lemmas.Option.{slice_get-get_or}
 use Rattle.blink_page.specs.Entries.{value_at}
-use Rattle.blink_rest.specs.Chain.{Cell, Pages, IsChain, StandsIn}
-use Rattle.blink_rest.specs.Level.{Names, entries_along, high_keys, numbers_of}
-use Rattle.blink_rest.specs.Rest.{AreChains, AreLevels, EachNames, TopHasOne}
+use Rattle.blink_rest.specs.Chain.{Cell, Pages, IsChain}
+use Rattle.blink_rest.specs.Level.{IsParentOf, entries_along, high_keys, numbers_of}
+use Rattle.blink_rest.specs.Rest.{AreChains, AreLevels, EachIsParent, TopHasOne}
 use Rattle.blink_rest.proofs.Offered.{among_append, among_from_Contains, as_many_levels, named_refers, standing}
-use Rattle.blink_rest.specs.Numbers.{IsAmong}
+use Rattle.blink_rest.specs.Numbers.{IsMember}
 use Rattle.blink_machine.specs.Tree.{IsTree}
 use Rattle.blink_machine.specs.TreeWithDebts.{Levels, IsDebt, IsInChain}
 use Rattle.blink_rest.specs.References.{Refers}
@@ -42,13 +42,13 @@ none_past zero (cells ∷ above) past = absurd (omega arith)
 none_past (suc n) (cells ∷ above) past = none_past n above (omega arith)
 
 -- each level but the top one is named by the one above
-names_at : (n : ℕ) (all : List (List Cell)) → EachNames all → n + 1 < length all → Names (level_at all (n + 1)) (level_at all n)
+names_at : (n : ℕ) (all : List (List Cell)) → EachIsParent all → n + 1 < length all → IsParentOf (level_at all (n + 1)) (level_at all n)
 names_at n [] named inside = absurd (omega arith)
 names_at n (cells ∷ []) named inside = absurd (omega arith)
 names_at zero (lower ∷ upper ∷ above) named inside = named.0
 names_at (suc n) (lower ∷ upper ∷ above) named inside =
     let e : suc n + 1 ≡ suc (n + 1) = omega arith in
-    subst (λ (m : ℕ). Names (level_at (lower ∷ upper ∷ above) m) (level_at (upper ∷ above) n)) (sym e) (names_at n (upper ∷ above) named.1 (omega arith))
+    subst (λ (m : ℕ). IsParentOf (level_at (lower ∷ upper ∷ above) m) (level_at (upper ∷ above) n)) (sym e) (names_at n (upper ∷ above) named.1 (omega arith))
 
 -- the top level has one page
 one_at_top : (n : ℕ) (all : List (List Cell)) → TopHasOne all → length all ≡ n + 1 → length (level_at all n) ≡ 1
@@ -59,7 +59,7 @@ one_at_top zero (cells ∷ next ∷ above) one top = absurd (omega arith)
 one_at_top (suc n) (cells ∷ next ∷ above) one top = one_at_top n (next ∷ above) one (omega arith)
 
 -- a number among the levels' is that of a page in a chain
-in_chain_among : (number : ℕ) (all : List (List Cell)) → IsAmong number (flat_map numbers_of all) → IsInChain (level_at all) number
+in_chain_among : (number : ℕ) (all : List (List Cell)) → IsMember number (flat_map numbers_of all) → IsInChain (level_at all) number
 in_chain_among number [] among = absurd among
 in_chain_among number (cells ∷ above) among = elim (among_append number (numbers_of cells) (flat_map numbers_of above) among) [
   | inl here ↦ (let it = standing number cells here in record { level = 0; cell = it.0; stands = it.2; same_number = sym it.1 })
@@ -67,7 +67,7 @@ in_chain_among number (cells ∷ above) among = elim (among_append number (numbe
 ]
 
 -- where entries name a line, each high key of it is a separator there
-named_separator : (entries : List (ℕ × ℕ)) (lower : List Cell) (c : Cell) → map (λ (entry : ℕ × ℕ). entry.0) entries ≡ high_keys lower → StandsIn c lower
+named_separator : (entries : List (ℕ × ℕ)) (lower : List Cell) (c : Cell) → map (λ (entry : ℕ × ℕ). entry.0) entries ≡ high_keys lower → IsMember c lower
     → value_at c.page.high entries ≡ None → ⊥
 named_separator entries [] c separators stands missing = stands
 named_separator [] (x ∷ lower) c separators stands missing = absurd (cc)

@@ -6,7 +6,8 @@ use Rattle.blink_page.specs.Rising.{least_above}
 use Rattle.blink_page.specs.Split.{lower_half, upper_half, separator_of}
 use Rattle.blink_page.specs.declared.limits.TheConstants.{GREATEST_KEY}
 use Rattle.blink_page.proofs.Offered.{lawful_entries_with, lawful_lower, lawful_upper, length-entries_with, lower-append-upper, separator_above_floor, separator_below_high}
-use Rattle.blink_rest.specs.Chain.{Cell, Pages, StandsIn}
+use Rattle.blink_rest.specs.Chain.{Cell, Pages}
+use Rattle.blink_rest.specs.Numbers.{IsMember}
 use Rattle.blink_rest.specs.Level.{entries_along}
 use Rattle.blink_rest.proofs.Offered.{stands_of}
 use Rattle.blink_machine.specs.Tree.{IsTree}
@@ -115,7 +116,7 @@ module _ (fan : ℕ) (prime : List ℕ) (pages after : Pages) (levels : Levels) 
       | inr rest ↦ elim rest [
         | inl is_upper ↦ inl (record {
           cell = c;
-          stands = (let B : ℕ → Type 0 = λ n. StandsIn c (levels n) in subst B (sym new.0) split.stands);
+          stands = (let B : ℕ → Type 0 = λ n. IsMember c (levels n) in subst B (sym new.0) split.stands);
           same_high = ap (λ (d : Cell). d.page.high) (sym is_upper) ∙ high.same_high;
         })
         | inr never ↦ absurd never

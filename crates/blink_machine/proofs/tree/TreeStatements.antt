@@ -6,11 +6,12 @@ use Rattle.blink_page.specs.Page.{PlainPage, IsLawfulPage, IsKeyOf, entries_with
 use Rattle.blink_page.specs.Rising.{least_above}
 use Rattle.blink_page.specs.Split.{lower_half, upper_half, separator_of}
 use Rattle.blink_page.specs.declared.limits.TheConstants.{GREATEST_KEY}
-use Rattle.blink_rest.specs.Chain.{Cell, Pages, StandsIn}
+use Rattle.blink_rest.specs.Chain.{Cell, Pages}
+use Rattle.blink_rest.specs.Numbers.{IsMember}
 use Rattle.blink_rest.specs.Level.{entries_along}
 use Rattle.blink_rest.specs.Reach.{IsRoot, Reaches}
 use Rattle.blink_rest.specs.Rest.{IsAtRest}
-use Rattle.blink_machine.specs.Moment.{WritesOne}
+use Rattle.blink_machine.specs.TreeState.{WritesOne}
 use Rattle.blink_machine.specs.Table.{IsTopLeftmost}
 use Rattle.blink_machine.specs.Tree.{IsTree, BeginsBelow}
 use Rattle.blink_machine.specs.TreeWithDebts.{Levels, IsInChain, IsDebt}
@@ -26,17 +27,17 @@ pub record IsOfLevel (fan : ℕ) (pages : Pages) (level : ℕ) (c : Cell) : Type
 
 abbrev pub CellsAreOfLevel : Type 0
 CellsAreOfLevel = (fan : ℕ) (prime : List ℕ) (pages : Pages) (levels : Levels) (level : ℕ) (c : Cell) → IsTree fan prime pages levels
-    → StandsIn c (levels level) → IsOfLevel fan pages level c
+    → IsMember c (levels level) → IsOfLevel fan pages level c
 
 -- so a number stands in one chain, once
 abbrev pub NumbersDiffer : Type 0
 NumbersDiffer = (fan : ℕ) (prime : List ℕ) (pages : Pages) (levels : Levels) (level other : ℕ) (c d : Cell) → IsTree fan prime pages levels
-    → StandsIn c (levels level) → StandsIn d (levels other) → c.number ≡ d.number → (c ≡ d) × (level ≡ other)
+    → IsMember c (levels level) → IsMember d (levels other) → c.number ≡ d.number → (c ≡ d) × (level ≡ other)
 
 -- a level with pages is named
 abbrev pub LevelsAreNamed : Type 0
 LevelsAreNamed = (fan : ℕ) (prime : List ℕ) (pages : Pages) (levels : Levels) (level : ℕ) (c : Cell) → IsTree fan prime pages levels
-    → StandsIn c (levels level) → level < length prime
+    → IsMember c (levels level) → level < length prime
 
 -- the leftmost page of a level has no floor
 abbrev pub LeftmostBegins : Type 0
@@ -46,12 +47,12 @@ LeftmostBegins = (fan : ℕ) (prime : List ℕ) (pages : Pages) (levels : Levels
 -- where the level has one page, that is the leftmost
 abbrev pub OnlyIsLeftmost : Type 0
 OnlyIsLeftmost = (fan : ℕ) (prime : List ℕ) (pages : Pages) (levels : Levels) (level leftmost : ℕ) (c : Cell) → IsTree fan prime pages levels
-    → slice_get prime level ≡ Some leftmost → StandsIn c (levels level) → length (levels level) < 2 → c.number ≡ leftmost
+    → slice_get prime level ≡ Some leftmost → IsMember c (levels level) → length (levels level) < 2 → c.number ≡ leftmost
 
 -- the right link leads to the page that begins where this one ends
 abbrev pub RightBegins : Type 0
 RightBegins = (fan : ℕ) (prime : List ℕ) (pages : Pages) (levels : Levels) (level next : ℕ) (c : Cell) → IsTree fan prime pages levels
-    → StandsIn c (levels level) → c.page.right ≡ Some next → BeginsAt (levels level) next (Some c.page.high)
+    → IsMember c (levels level) → c.page.right ≡ Some next → BeginsAt (levels level) next (Some c.page.high)
 
 -- the child for a key begins below the key, and not before the page
 pub record ChildBegins (levels : Levels) (level child key : ℕ) (page : PlainPage) : Type 0 where
@@ -60,12 +61,12 @@ pub record ChildBegins (levels : Levels) (level child key : ℕ) (page : PlainPa
 
 abbrev pub ChildrenBegin : Type 0
 ChildrenBegin = (fan : ℕ) (prime : List ℕ) (pages : Pages) (levels : Levels) (level child key : ℕ) (c : Cell) → IsTree fan prime pages levels
-    → StandsIn c (levels (level + 1)) → IsKeyOf c.page key → child_for key c.page.entries ≡ Some child → ChildBegins levels level child key c.page
+    → IsMember c (levels (level + 1)) → IsKeyOf c.page key → child_for key c.page.entries ≡ Some child → ChildBegins levels level child key c.page
 
 -- a key has in the whole level the value that it has in its page
 abbrev pub LevelKeeps : Type 0
 LevelKeeps = (fan : ℕ) (prime : List ℕ) (pages : Pages) (levels : Levels) (level key : ℕ) (c : Cell) → IsTree fan prime pages levels
-    → StandsIn c (levels level) → IsKeyOf c.page key → value_at key (entries_along (levels level)) ≡ value_at key c.page.entries
+    → IsMember c (levels level) → IsKeyOf c.page key → value_at key (entries_along (levels level)) ≡ value_at key c.page.entries
 
 -- a separator of the level above is a high key of the level
 abbrev pub SeparatorsAreHighKeys : Type 0
@@ -87,7 +88,7 @@ pub record ReachesItsLeaf (prime : List ℕ) (pages : Pages) (levels : Levels) (
   pub root : ℕ
   pub is_root : IsRoot prime root
   pub cell : Cell
-  pub stands : StandsIn cell (levels 0)
+  pub stands : IsMember cell (levels 0)
   pub belongs : IsKeyOf cell.page key
   pub reached : Reaches pages root key cell.number
 
@@ -113,7 +114,7 @@ QuietIsRest = (fan : ℕ) (prime : List ℕ) (pages : Pages) (levels : Levels) �
 
 -- every page of a chain stays in it, with its floor
 abbrev pub Grows : Levels → Levels → Type 0
-Grows levels new = (level : ℕ) (c : Cell) → StandsIn c (levels level) → BeginsAt (new level) c.number c.page.floor
+Grows levels new = (level : ℕ) (c : Cell) → IsMember c (levels level) → BeginsAt (new level) c.number c.page.floor
 
 -- a page at a free number is in no chain, and changes none
 abbrev pub FreeWriteKeeps : Type 0
@@ -132,8 +133,8 @@ pub record Replaces (fan : ℕ) (old new : PlainPage) : Type 0 where
 pub record IsReplaced (fan : ℕ) (prime : List ℕ) (after : Pages) (levels new : Levels) (level : ℕ) (c : Cell) (page : PlainPage) : Type 0 where
   pub tree : IsTree fan prime after new
   pub grows : Grows levels new
-  pub others_stay : (other : ℕ) (d : Cell) → StandsIn d (levels other) → d.number ≢ c.number → StandsIn d (new other)
-  pub stands : StandsIn (record { number = c.number; page = page }) (new level)
+  pub others_stay : (other : ℕ) (d : Cell) → IsMember d (levels other) → d.number ≢ c.number → IsMember d (new other)
+  pub stands : IsMember (record { number = c.number; page = page }) (new level)
   pub high_keys_kept : (other key : ℕ) → IsHighKey (levels other) key → IsHighKey (new other) key
   pub no_high_keys : (other key : ℕ) → IsHighKey (new other) key → IsHighKey (levels other) key
   pub none_linked : (number : ℕ) → IsInChain new number → IsInChain levels number
@@ -148,7 +149,7 @@ pub record LeafGains (fan : ℕ) (prime : List ℕ) (after : Pages) (levels : Le
 
 abbrev pub LeafGainKeeps : Type 0
 LeafGainKeeps = (fan : ℕ) (prime : List ℕ) (pages after : Pages) (levels : Levels) (c : Cell) (page : PlainPage) (entry : ℕ × ℕ) → IsTree fan prime pages levels
-    → StandsIn c (levels 0) → WritesOne pages after c.number page → Replaces fan c.page page → IsKeyOf c.page entry.0 → value_at entry.0 c.page.entries ≡ None
+    → IsMember c (levels 0) → WritesOne pages after c.number page → Replaces fan c.page page → IsKeyOf c.page entry.0 → value_at entry.0 c.page.entries ≡ None
     → page.entries ≡ added entry c.page.entries → LeafGains fan prime after levels c page entry
 
 -- or removed
@@ -160,7 +161,7 @@ pub record LeafLoses (fan : ℕ) (prime : List ℕ) (after : Pages) (levels : Le
 
 abbrev pub LeafLossKeeps : Type 0
 LeafLossKeeps = (fan : ℕ) (prime : List ℕ) (pages after : Pages) (levels : Levels) (c : Cell) (page : PlainPage) (key pointer : ℕ) → IsTree fan prime pages levels
-    → StandsIn c (levels 0) → WritesOne pages after c.number page → Replaces fan c.page page → IsKeyOf c.page key → value_at key c.page.entries ≡ Some pointer
+    → IsMember c (levels 0) → WritesOne pages after c.number page → Replaces fan c.page page → IsKeyOf c.page key → value_at key c.page.entries ≡ Some pointer
     → page.entries ≡ removed key c.page.entries → LeafLoses fan prime after levels c page key
 
 -- or its value was replaced
@@ -172,7 +173,7 @@ pub record LeafExchanges (fan : ℕ) (prime : List ℕ) (after : Pages) (levels 
 
 abbrev pub LeafExchangeKeeps : Type 0
 LeafExchangeKeeps = (fan : ℕ) (prime : List ℕ) (pages after : Pages) (levels : Levels) (c : Cell) (page : PlainPage) (entry : ℕ × ℕ) (pointer : ℕ) → IsTree fan prime pages levels
-    → StandsIn c (levels 0) → WritesOne pages after c.number page → Replaces fan c.page page → IsKeyOf c.page entry.0 → value_at entry.0 c.page.entries ≡ Some pointer
+    → IsMember c (levels 0) → WritesOne pages after c.number page → Replaces fan c.page page → IsKeyOf c.page entry.0 → value_at entry.0 c.page.entries ≡ Some pointer
     → page.entries ≡ replaced entry c.page.entries → LeafExchanges fan prime after levels c page entry
 
 -- the separators of the levels above level 0: as they were, and one more; the one after it leads to the new child now
@@ -195,16 +196,16 @@ pub record LeadsBelow (levels : Levels) (level : ℕ) (entry : ℕ × ℕ) : Typ
 
 abbrev pub PostingKeeps : Type 0
 PostingKeeps = (fan : ℕ) (prime : List ℕ) (pages after : Pages) (levels : Levels) (level : ℕ) (c : Cell) (page : PlainPage) (entry : ℕ × ℕ) → IsTree fan prime pages levels
-    → StandsIn c (levels (level + 1)) → WritesOne pages after c.number page → Replaces fan c.page page → IsKeyOf c.page entry.0 → value_at entry.0 c.page.entries ≡ None
+    → IsMember c (levels (level + 1)) → WritesOne pages after c.number page → Replaces fan c.page page → IsKeyOf c.page entry.0 → value_at entry.0 c.page.entries ≡ None
     → page.entries ≡ posted entry c.page.entries → LeadsBelow levels level entry → InnerGains fan prime after levels level c page entry.0
 
 -- a full page is split: the upper half stands at a number that was in no chain, and the lower half takes the page's place
 pub record IsSplitIn (fan : ℕ) (prime : List ℕ) (after : Pages) (levels new : Levels) (level : ℕ) (c : Cell) (lower upper : PlainPage) (number separator : ℕ) : Type 0 where
   pub tree : IsTree fan prime after new
   pub grows : Grows levels new
-  pub others_stay : (other : ℕ) (d : Cell) → StandsIn d (levels other) → d.number ≢ c.number → StandsIn d (new other)
-  pub lower_stands : StandsIn (record { number = c.number; page = lower }) (new level)
-  pub upper_stands : StandsIn (record { number = number; page = upper }) (new level)
+  pub others_stay : (other : ℕ) (d : Cell) → IsMember d (levels other) → d.number ≢ c.number → IsMember d (new other)
+  pub lower_stands : IsMember (record { number = c.number; page = lower }) (new level)
+  pub upper_stands : IsMember (record { number = number; page = upper }) (new level)
   pub high_keys_kept : (other key : ℕ) → IsHighKey (levels other) key → IsHighKey (new other) key
   pub one_high_key : (other key : ℕ) → IsHighKey (new other) key → IsHighKey (levels other) key ⊎ ((other ≡ level) × (key ≡ separator))
   pub is_new : ¬ IsHighKey (levels level) separator
@@ -218,7 +219,7 @@ pub record IsSplitIn (fan : ℕ) (prime : List ℕ) (after : Pages) (levels new 
 -- what a split begins with: a full page that its entry belongs to, and the upper half already written
 pub record CanBeSplit (fan : ℕ) (pages after : Pages) (levels : Levels) (level : ℕ) (c : Cell) (entry : ℕ × ℕ) (number : ℕ) : Type 0 where
   pub fan_in_range : IsFan fan
-  pub stands : StandsIn c (levels level)
+  pub stands : IsMember c (levels level)
   pub full : length c.page.entries ≡ fan
   pub belongs : IsKeyOf c.page entry.0
   pub absent : value_at entry.0 c.page.entries ≡ None
@@ -253,7 +254,7 @@ pub record CanGrow (fan : ℕ) (prime : List ℕ) (pages : Pages) (levels : Leve
   pub fan_in_range : IsFan fan
   pub numbers_in_range : (number : ℕ) (page : PlainPage) → pages number ≡ Some page → IsPageNumber number
   pub is_top : IsTopLeftmost prime level c.number
-  pub stands : StandsIn c (levels level)
+  pub stands : IsMember c (levels level)
   pub begins : BeginsAt (levels level) right (Some c.page.high)
   pub below_greatest : c.page.high < GREATEST_KEY
   pub not_in_chain : ¬ IsInChain levels root

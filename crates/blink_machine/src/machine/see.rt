@@ -100,7 +100,7 @@ impl Machine {
     }
 
     /// It has read the page that it needs, which has the level that its state says, no floor or one below its key, and at most
-    /// `fan` entries; in a sound moment each page that it needs is such a page.
+    /// `fan` entries; in a sound tree state each page that it needs is such a page.
     pub fn saw_page(&mut self, page: &Page)
         requires needs { NeedsSomePage self.old }
         requires level { page.now.level ≡ level_read self.old }

@@ -8,31 +8,31 @@ use Rattle.blink_machine.specs.declared.step.Step.TheVariants.{Moved, Waited, Id
 use Rattle.blink_machine.specs.declared.step.Kind.{Kind}
 use Rattle.blink_steps.specs.Counts.{turns_of, takes_number, numbers_in, moves_in}
 use Rattle.blink_machine.specs.Kinds.{has_moved, moved_by}
-use Rattle.blink_steps.specs.Run.{Taken}
+use Rattle.blink_steps.specs.Run.{Event}
 
 -- a list with one more element has one more of a kind, where the element is of that kind
 pub count_by-cons : {X : Type 0} (of_kind : X → Bool) (x : X) (xs : List X) → count_by of_kind (x ∷ xs) ≡ one_if (of_kind x) + count_by of_kind xs
 count_by-cons of_kind x xs = sum_by-cons (λ y. one_if (of_kind y)) x xs
 
 -- another operation's turn doesn't count
-pub turns_of-other : (place : ℕ) (of_kind : Taken → Bool) (taken : Taken) (history : List Taken) → (taken.place ≡ place → ⊥)
+pub turns_of-other : (place : ℕ) (of_kind : Event → Bool) (taken : Event) (history : List Event) → (taken.place ≡ place → ⊥)
     → turns_of place of_kind (taken ∷ history) ≡ turns_of place of_kind history
 turns_of-other place of_kind taken history other =
     let different : (taken.place == place) ≡ false = ne_eqb taken.place place other in
-    count_by-cons (λ (turn : Taken). turn.place == place && of_kind turn) taken history
+    count_by-cons (λ (turn : Event). turn.place == place && of_kind turn) taken history
     ∙ ap (λ (test : Bool). one_if (test && of_kind taken) + turns_of place of_kind history) different
     ∙ omega arith
 
 -- a turn of the operation itself counts, where it is of the kind
-pub turns_of-own : (place : ℕ) (of_kind : Taken → Bool) (taken : Taken) (history : List Taken) → taken.place ≡ place
+pub turns_of-own : (place : ℕ) (of_kind : Event → Bool) (taken : Event) (history : List Event) → taken.place ≡ place
     → turns_of place of_kind (taken ∷ history) ≡ one_if (of_kind taken) + turns_of place of_kind history
 turns_of-own place of_kind taken history same =
     let own : (taken.place == place) ≡ true = eq-eqb taken.place place same in
-    count_by-cons (λ (turn : Taken). turn.place == place && of_kind turn) taken history
+    count_by-cons (λ (turn : Event). turn.place == place && of_kind turn) taken history
     ∙ ap (λ (test : Bool). one_if (test && of_kind taken) + turns_of place of_kind history) own
 
 -- a turn that isn't of the kind doesn't count
-pub turns_of-unlike : (place : ℕ) (of_kind : Taken → Bool) (taken : Taken) (history : List Taken) → of_kind taken ≡ false
+pub turns_of-unlike : (place : ℕ) (of_kind : Event → Bool) (taken : Event) (history : List Event) → of_kind taken ≡ false
     → turns_of place of_kind (taken ∷ history) ≡ turns_of place of_kind history
 turns_of-unlike place of_kind taken history unlike = elim (cases_eq taken.place place) [
   | inl same ↦ turns_of-own place of_kind taken history same ∙ ap (λ (test : Bool). one_if test + turns_of place of_kind history) unlike ∙ omega arith
@@ -40,11 +40,11 @@ turns_of-unlike place of_kind taken history unlike = elim (cases_eq taken.place 
 ]
 
 -- no operation has more turns than the history
-pub turns_of-few : (place : ℕ) (of_kind : Taken → Bool) (history : List Taken) → turns_of place of_kind history ≤ length history
-turns_of-few place of_kind history = count_by-le-length (λ (taken : Taken). taken.place == place && of_kind taken) history
+pub turns_of-few : (place : ℕ) (of_kind : Event → Bool) (history : List Event) → turns_of place of_kind history ≤ length history
+turns_of-few place of_kind history = count_by-le-length (λ (taken : Event). taken.place == place && of_kind taken) history
 
 -- an operation has no more turns of a kind than of a wider one
-pub turns_of-wider : (place : ℕ) (of_kind wider : Taken → Bool) (history : List Taken) → ((taken : Taken) → of_kind taken ≡ true → wider taken ≡ true)
+pub turns_of-wider : (place : ℕ) (of_kind wider : Event → Bool) (history : List Event) → ((taken : Event) → of_kind taken ≡ true → wider taken ≡ true)
     → turns_of place of_kind history ≤ turns_of place wider history
 turns_of-wider place of_kind wider [] implies = omega arith
 turns_of-wider place of_kind wider (taken ∷ history) implies =
@@ -69,11 +69,11 @@ moved_from_number true writes both = refl
 moved_from_number false writes both = both
 
 -- so an operation takes no more numbers than steps
-pub numbers_in-few : (history : List Taken) (place : ℕ) → numbers_in history place ≤ moves_in history place
-numbers_in-few history place = turns_of-wider place takes_number (λ (taken : Taken). has_moved taken.step) history (λ taken takes. moved_from_number _ _ takes)
+pub numbers_in-few : (history : List Event) (place : ℕ) → numbers_in history place ≤ moves_in history place
+numbers_in-few history place = turns_of-wider place takes_number (λ (taken : Event). has_moved taken.step) history (λ taken takes. moved_from_number _ _ takes)
 
 -- and has no more of its steps of one kind
-pub moves_of-few : (of_kind : Kind → Bool) (history : List Taken) (place : ℕ)
-    → turns_of place (λ (taken : Taken). moved_by of_kind taken.step) history ≤ moves_in history place
+pub moves_of-few : (of_kind : Kind → Bool) (history : List Event) (place : ℕ)
+    → turns_of place (λ (taken : Event). moved_by of_kind taken.step) history ≤ moves_in history place
 moves_of-few of_kind history place =
-    turns_of-wider place (λ (taken : Taken). moved_by of_kind taken.step) (λ (taken : Taken). has_moved taken.step) history (λ taken moved. has_moved_from of_kind taken.step moved)
+    turns_of-wider place (λ (taken : Event). moved_by of_kind taken.step) (λ (taken : Event). has_moved taken.step) history (λ taken moved. has_moved_from of_kind taken.step moved)

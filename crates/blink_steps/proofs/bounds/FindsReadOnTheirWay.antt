@@ -11,10 +11,10 @@ use Rattle.blink_machine.specs.declared.step.Kind.{Kind}
 use Rattle.blink_machine.specs.declared.step.Step.TheVariants.{Moved}
 use Rattle.blink_steps.specs.Acts.{PlainShared, ActsOn, Acts}
 use Rattle.blink_machine.specs.Allowance.{primes_for, primes_left, one_if}
-use Rattle.blink_steps.specs.Ways.{page_on_way}
+use Rattle.blink_steps.specs.StepBounds.{page_on_way}
 use Rattle.blink_machine.specs.Kinds.{is_page_read}
 use Rattle.blink_machine.specs.Machine.{PlainMachine, need_at}
-use Rattle.blink_machine.specs.Moment.{Moment}
+use Rattle.blink_machine.specs.TreeState.{TreeState}
 use Rattle.blink_machine.specs.Placed.{MayChange, IsPlaced}
 use Rattle.blink_machine.specs.TreeWithDebts.{Levels}
 use Rattle.blink_machine.proofs.operation.PlacedWhateverBefore.{placed_at}
@@ -31,10 +31,10 @@ find_changes_none m key few is_find number is_state may = by_job m.job refl (rw 
         absurd (omega arith)
 
 -- so it reads pages on its way down only
-pub find_reads_on_way : (old new : PlainShared) (moment : Moment) (levels : Levels) (worker : ℕ) (m after : PlainMachine) (kind : Kind) (key : ℕ) (reads : List ℕ)
-    → IsPlaced moment levels m → primes_left m ≤ primes_for Leaf m.op → m.op ≡ Find key → Acts old worker m (Moved kind) after new
+pub find_reads_on_way : (old new : PlainShared) (tree_state : TreeState) (levels : Levels) (worker : ℕ) (m after : PlainMachine) (kind : Kind) (key : ℕ) (reads : List ℕ)
+    → IsPlaced tree_state levels m → primes_left m ≤ primes_for Leaf m.op → m.op ≡ Find key → Acts old worker m (Moved kind) after new
     → one_if (is_page_read kind) + length reads ≤ length (cons_option (page_on_way m.state) reads)
-find_reads_on_way old new moment levels worker m after kind key reads placed few is_find acts = by_state m.state refl acts
+find_reads_on_way old new tree_state levels worker m after kind key reads placed few is_find acts = by_state m.state refl acts
   where
     reads_none : (like : Kind) → kind ≡ like → is_page_read like ≡ false → one_if (is_page_read kind) + length reads ≤ length reads
     reads_none like is_like none = let no_read : is_page_read kind ≡ false = ap is_page_read is_like ∙ none in rw no_read (omega arith)
@@ -44,7 +44,7 @@ find_reads_on_way old new moment levels worker m after kind key reads placed few
     by_state Start is_state acts = reads_none _ acts.0 refl
     by_state (Going page level) is_state acts = rw (acts.0) (omega arith)
     by_state (Want page) is_state acts = reads_none _ acts.0 refl
-    by_state (Held page) is_state acts = absurd (find_changes_none m key few is_find page is_state (placed_at moment levels m (Held page) placed is_state).0.may_change)
+    by_state (Held page) is_state acts = absurd (find_changes_none m key few is_find page is_state (placed_at tree_state levels m (Held page) placed is_state).0.may_change)
     by_state (Change page changed kept) is_state acts = reads_none _ acts.0 refl
     by_state (SplitNew page before) is_state acts = reads_none _ acts.0 refl
     by_state (SplitOld page lower debt) is_state acts = reads_none _ acts.0 refl

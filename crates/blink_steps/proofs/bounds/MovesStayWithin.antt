@@ -15,47 +15,47 @@ use Rattle.blink_steps.specs.Counts.{takes_number, numbers_in, page_writes_in, p
 use Rattle.blink_machine.specs.Kinds.{has_moved, moved_by, writes_new_page}
 use Rattle.blink_machine.specs.Kinds.{is_page_write, is_prime_write}
 use Rattle.blink_machine.specs.Machine.{PlainMachine}
-use Rattle.blink_machine.specs.Moment.{goes_on}
-use Rattle.blink_steps.specs.Run.{Taken, seat_after}
+use Rattle.blink_machine.specs.TreeState.{goes_on}
+use Rattle.blink_steps.specs.Run.{Event, seat_after}
 use Rattle.blink_machine.proofs.law.EachPart.{step_law}
 use Rattle.blink_steps.proofs.bounds.CountsOfOperations.{IsWithin, IsLimited}
 use Rattle.blink_steps.proofs.bounds.CountedTurns.{turns_of-own, turns_of-other}
 
 -- the turn writes a page
-abbrev pub is_write_turn : Taken → Bool
+abbrev pub is_write_turn : Event → Bool
 is_write_turn taken = moved_by is_page_write taken.step
 
 -- the turn writes the prime block
-abbrev pub is_prime_turn : Taken → Bool
+abbrev pub is_prime_turn : Event → Bool
 is_prime_turn taken = moved_by is_prime_write taken.step
 
 -- the turn is a step
-abbrev pub is_moving_turn : Taken → Bool
+abbrev pub is_moving_turn : Event → Bool
 is_moving_turn taken = has_moved taken.step
 
 -- a turn that moves counts in the numbers of its operation, where it takes one
-pub own_numbers : (history : List Taken) (taken : Taken) (kind : Kind) → taken.step ≡ Moved kind
+pub own_numbers : (history : List Event) (taken : Event) (kind : Kind) → taken.step ≡ Moved kind
     → numbers_in (taken ∷ history) taken.place ≡ one_if (writes_new_page taken.before.state) + numbers_in history taken.place
 own_numbers history taken kind moved =
     turns_of-own taken.place takes_number taken history refl
     ∙ ap (λ (step : Step). one_if (has_moved step && writes_new_page taken.before.state) + numbers_in history taken.place) moved
 
 -- in its writes of pages, where it is one
-own_writes : (history : List Taken) (taken : Taken) (kind : Kind) → taken.step ≡ Moved kind
+own_writes : (history : List Event) (taken : Event) (kind : Kind) → taken.step ≡ Moved kind
     → page_writes_in (taken ∷ history) taken.place ≡ one_if (is_page_write kind) + page_writes_in history taken.place
 own_writes history taken kind moved =
     turns_of-own taken.place is_write_turn taken history refl
     ∙ ap (λ (step : Step). one_if (moved_by is_page_write step) + page_writes_in history taken.place) moved
 
 -- and in its writes of the prime block, where it is one
-own_primes : (history : List Taken) (taken : Taken) (kind : Kind) → taken.step ≡ Moved kind
+own_primes : (history : List Event) (taken : Event) (kind : Kind) → taken.step ≡ Moved kind
     → prime_writes_in (taken ∷ history) taken.place ≡ one_if (is_prime_write kind) + prime_writes_in history taken.place
 own_primes history taken kind moved =
     turns_of-own taken.place is_prime_turn taken history refl
     ∙ ap (λ (step : Step). one_if (moved_by is_prime_write step) + prime_writes_in history taken.place) moved
 
 -- the turn's own operation stays within what it may need
-pub own_within : (history : List Taken) (taken : Taken) (kind : Kind) → taken.step ≡ Moved kind → IsWithin history taken.place taken.before
+pub own_within : (history : List Event) (taken : Event) (kind : Kind) → taken.step ≡ Moved kind → IsWithin history taken.place taken.before
     → UsesUp taken.before taken.step taken.after → IsWithin (taken ∷ history) taken.place taken.after
 own_within history taken kind moved within uses =
     let numbers = within.numbers in
@@ -74,7 +74,7 @@ own_within history taken kind moved within uses =
     }
 
 -- so does every other operation
-pub other_within : (history : List Taken) (taken : Taken) (place : ℕ) (m : PlainMachine) → (taken.place ≡ place → ⊥) → IsWithin history place m
+pub other_within : (history : List Event) (taken : Event) (place : ℕ) (m : PlainMachine) → (taken.place ≡ place → ⊥) → IsWithin history place m
     → IsWithin (taken ∷ history) place m
 other_within history taken place m other within = record {
   numbers = rw (turns_of-other place takes_number taken history other) within.numbers;
@@ -83,7 +83,7 @@ other_within history taken place m other within = record {
 }
 
 -- what is within what an operation may need is within what any may have
-pub within_is_limited : (history : List Taken) (place : ℕ) (m : PlainMachine) → IsWithin history place m → IsLimited history place
+pub within_is_limited : (history : List Event) (place : ℕ) (m : PlainMachine) → IsWithin history place m → IsLimited history place
 within_is_limited history place m within =
     let numbers = within.numbers in
     let page_writes = within.page_writes in
@@ -102,7 +102,7 @@ numbers_for_inserts (Delete key) some = absurd (omega arith)
 numbers_for_inserts (Replace key pointer) some = absurd (omega arith)
 
 -- the counts of every other operation stay
-pub other_limited : (history : List Taken) (taken : Taken) (place : ℕ) → (taken.place ≡ place → ⊥) → IsLimited history place → IsLimited (taken ∷ history) place
+pub other_limited : (history : List Event) (taken : Event) (place : ℕ) → (taken.place ≡ place → ⊥) → IsLimited history place → IsLimited (taken ∷ history) place
 other_limited history taken place other limited = record {
   numbers = rw (turns_of-other place takes_number taken history other) limited.numbers;
   page_writes = rw (turns_of-other place is_write_turn taken history other) limited.page_writes;

@@ -5,31 +5,31 @@ use Rattle.blink_page.specs.Page.{PlainPage}
 use Rattle.blink_page.specs.Rising.{least_above}
 use Rattle.blink_rest.specs.Chain.{Cell, Pages}
 use Rattle.blink_machine.specs.Machine.{PlainMachine, target}
-use Rattle.blink_machine.specs.Moment.{Moment}
+use Rattle.blink_machine.specs.TreeState.{TreeState}
 use Rattle.blink_machine.specs.Placed.{StandsAt}
 use Rattle.blink_machine.specs.Places.{BeginsFurther}
-use Rattle.blink_machine.specs.Sound.{IsSoundWith}
+use Rattle.blink_machine.specs.Invariant.{InvariantWith}
 use Rattle.blink_machine.specs.TreeWithDebts.{Levels}
 use Rattle.blink_steps.proofs.bounds.MetPages.{ArePagesWith, ComesAfter, IsPassed, IsBelow, IsUpTo, IsNotAbove, pages_wider}
 use Rattle.blink_machine.proofs.tree.TreeStatements.{TreeLaws}
 use Rattle.blink_machine.proofs.operation.WhereMovesLead.{IsOnLevel, stands_on, page_of_cell, belongs_here}
 
-module _ (laws : TreeLaws) (moment : Moment) (levels : Levels) (sound : IsSoundWith moment levels) where
+module _ (laws : TreeLaws) (tree_state : TreeState) (levels : Levels) (invariant : InvariantWith tree_state levels) where
   -- the leftmost page of a level is on it
-  pub leftmost_on : (level leftmost : ℕ) → slice_get moment.prime level ≡ Some leftmost → IsOnLevel moment.pages leftmost level
+  pub leftmost_on : (level leftmost : ℕ) → slice_get tree_state.prime level ≡ Some leftmost → IsOnLevel tree_state.pages leftmost level
   leftmost_on level leftmost there =
-      let it = laws.leftmost_begins moment.fan moment.prime moment.pages levels level leftmost sound.lawful.tree there in
-      stands_on laws moment levels sound level leftmost it.cell it.stands it.same_number
+      let it = laws.leftmost_begins tree_state.fan tree_state.prime tree_state.pages levels level leftmost invariant.lawful.tree there in
+      stands_on laws tree_state levels invariant level leftmost it.cell it.stands it.same_number
 
   -- a child is on the level below
-  pub child_is_lower : (m : PlainMachine) (level number : ℕ) (page : PlainPage) (child : ℕ) → moment.pages number ≡ Some page → StandsAt levels m (level + 1) number
-      → target m ≤ page.high → child_for (target m) page.entries ≡ Some child → IsOnLevel moment.pages child level
+  pub child_is_lower : (m : PlainMachine) (level number : ℕ) (page : PlainPage) (child : ℕ) → tree_state.pages number ≡ Some page → StandsAt levels m (level + 1) number
+      → target m ≤ page.high → child_for (target m) page.entries ≡ Some child → IsOnLevel tree_state.pages child level
   child_is_lower m level number page child there stands_at below leads =
       let c : Cell = stands_at.begins.cell in
-      let same : c.page ≡ page = page_of_cell laws moment levels sound (level + 1) number c page stands_at.begins.stands stands_at.begins.same_number there in
-      let it = laws.children_begin moment.fan moment.prime moment.pages levels level child (target m) c sound.lawful.tree stands_at.begins.stands
-      (rw same (belongs_here laws moment levels sound m (level + 1) number page there stands_at below)) (ap (λ (p : PlainPage). child_for (target m) p.entries) same ∙ leads) in
-      stands_on laws moment levels sound level child it.begins.cell it.begins.stands it.begins.same_number
+      let same : c.page ≡ page = page_of_cell laws tree_state levels invariant (level + 1) number c page stands_at.begins.stands stands_at.begins.same_number there in
+      let it = laws.children_begin tree_state.fan tree_state.prime tree_state.pages levels level child (target m) c invariant.lawful.tree stands_at.begins.stands
+      (rw same (belongs_here laws tree_state levels invariant m (level + 1) number page there stands_at below)) (ap (λ (p : PlainPage). child_for (target m) p.entries) same ∙ leads) in
+      stands_on laws tree_state levels invariant level child it.begins.cell it.begins.stands it.begins.same_number
 
 module _ (pages : Pages) (number : ℕ) (page : PlainPage) (there : pages number ≡ Some page) where
   -- the page that comes after others is this one

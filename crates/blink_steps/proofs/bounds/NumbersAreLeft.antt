@@ -12,13 +12,13 @@ use Rattle.blink_batch.specs.declared.Op.TheVariants.{Find, Insert, Delete, Repl
 use Rattle.blink_machine.specs.declared.machine.Job.TheVariants.{Leaf}
 use Rattle.blink_machine.specs.Allowance.{one_if, numbers_for, numbers_left}
 use Rattle.blink_steps.specs.Counts.{numbers_in, moves_in, takes_number, begun_inserts}
-use Rattle.blink_steps.specs.Run.{PlainRun, Taken, moment_of}
+use Rattle.blink_steps.specs.Run.{PlainRun, Event, tree_state_of}
 use Rattle.blink_machine.proofs.law.EachPart.{step_law}
 use Rattle.blink_steps.proofs.runs.OperationOfTurn.{next_is_its}
-use Rattle.blink_steps.proofs.runs.RunStatements.{OpeningRunIsSound, TurnKeepsSoundRun, HistoryIsBounded, NumberIsLeft, CountsAreOf}
+use Rattle.blink_steps.proofs.runs.RunStatements.{OpeningRunHasInvariant, TurnKeepsRunInvariant, HistoryIsBounded, NumberIsLeft, CountsAreOf}
 use Rattle.blink_steps.proofs.bounds.CountedTurns.{numbers_in-few}
 use Rattle.blink_steps.proofs.bounds.CountsOfOperations.{IsInsertAt, IsCounted, IsKnown, next_is_known}
-use Rattle.blink_steps.proofs.bounds.HistoriesStayWithin.{IsSoundAndCounted, counted_along}
+use Rattle.blink_steps.proofs.bounds.HistoriesStayWithin.{InvariantAndCounts, counted_along}
 use Rattle.blink_steps.proofs.bounds.KeptCounts.{counts_are_kept, same_ops_along}
 use Rattle.blink_steps.proofs.bounds.PagesOfRun.{pages_along, numbers_are_of_places, numbers_by_test, numbers_by_test_less}
 
@@ -37,19 +37,19 @@ abbrev pub has_begun : Op × ℕ → Bool
 has_begun begun = is_insert begun.0 && nat_lt 0 begun.1
 
 -- an operation takes at most 22 numbers, and none unless it is an insertion that has taken a step
-numbers_of_begun : (history : List Taken) (run : PlainRun) → IsCounted history run → CountsAreOf history run → (i at : ℕ) (begun : Op × ℕ)
-    → slice_get (zip run.ops run.ledger.moves) i ≡ Some begun → at ≡ 0 + i → numbers_in history at ≤ 22 * one_if (has_begun begun)
+numbers_of_begun : (history : List Event) (run : PlainRun) → IsCounted history run → CountsAreOf history run → (i at : ℕ) (begun : Op × ℕ)
+    → slice_get (zip run.ops run.outcome.moves) i ≡ Some begun → at ≡ 0 + i → numbers_in history at ≤ 22 * one_if (has_begun begun)
 numbers_of_begun history run counted counts i at begun there is_at = elim (cases_lt 0 (numbers_in history at)) [
   | inr none ↦ omega arith
   | inl some ↦
       let same : at ≡ i = omega arith in
-      let halves = slice_get-zip run.ops run.ledger.moves i begun there in
+      let halves = slice_get-zip run.ops run.outcome.moves i begun there in
       let found : IsInsertAt run.ops at = counted.inserts at some in
       let op_there : slice_get run.ops at ≡ Some begun.0 = rw same halves.0 in
       let same_op : Some found.op ≡ Some begun.0 = sym found.there ∙ op_there in
       let is_op : found.op ≡ begun.0 = cc in
       let inserts : is_insert begun.0 ≡ true = sym (ap is_insert is_op) ∙ found.inserts in
-      let count_there : slice_get run.ledger.moves at ≡ Some begun.1 = rw same halves.1 in
+      let count_there : slice_get run.outcome.moves at ≡ Some begun.1 = rw same halves.1 in
       let within : at < length run.ops = slice_get_within run.ops at found.op found.there in
       let same_count : Some (moves_in history at) ≡ Some begun.1 = sym (counts.moves at within) ∙ count_there in
       let is_count : moves_in history at ≡ begun.1 = cc in
@@ -60,7 +60,7 @@ numbers_of_begun history run counted counts i at begun there is_at = elim (cases
 ]
 
 -- and none unless it is an insertion
-numbers_of_insert : (history : List Taken) (run : PlainRun) → IsCounted history run → (i at : ℕ) (op : Op) → slice_get run.ops i ≡ Some op → at ≡ 0 + i
+numbers_of_insert : (history : List Event) (run : PlainRun) → IsCounted history run → (i at : ℕ) (op : Op) → slice_get run.ops i ≡ Some op → at ≡ 0 + i
     → numbers_in history at ≤ 22 * one_if (is_insert op)
 numbers_of_insert history run counted i at op there is_at = elim (cases_lt 0 (numbers_in history at)) [
   | inr none ↦ omega arith
@@ -76,31 +76,31 @@ numbers_of_insert history run counted i at op there is_at = elim (cases_lt 0 (nu
 ]
 
 -- the pages of a run are at most those of its start and 22 for each insertion that has begun
-pages_are_few : (history : List Taken) (run : PlainRun) → IsCounted history run → CountsAreOf history run → length run.ledger.moves ≡ length run.ops
-    → count_by takes_number history ≤ 22 * begun_inserts run.ops run.ledger.moves
+pages_are_few : (history : List Event) (run : PlainRun) → IsCounted history run → CountsAreOf history run → length run.outcome.moves ≡ length run.ops
+    → count_by takes_number history ≤ 22 * begun_inserts run.ops run.outcome.moves
 pages_are_few history run counted counts a_move_count_each =
-    let places = numbers_are_of_places history (zip run.ops run.ledger.moves) (λ place some.
+    let places = numbers_are_of_places history (zip run.ops run.outcome.moves) (λ place some.
     let found : IsInsertAt run.ops place = counted.inserts place some in
     let within : place < length run.ops = slice_get_within run.ops place found.op found.there in
-    rw (length-zip run.ops run.ledger.moves) (omega arith)) in
-    let sum = numbers_by_test has_begun history 0 (zip run.ops run.ledger.moves) (numbers_of_begun history run counted counts) in
+    rw (length-zip run.ops run.outcome.moves) (omega arith)) in
+    let sum = numbers_by_test has_begun history 0 (zip run.ops run.outcome.moves) (numbers_of_begun history run counted counts) in
     omega arith
 
 -- along a history no operation takes more than its numbers and writes
-pub history_is_bounded : OpeningRunIsSound → TurnKeepsSoundRun → HistoryIsBounded
-history_is_bounded opening_run_is_sound turn_keeps_sound_run start ops assignment opening run history entries may_begin ascending are_entries begins follows =
-    let along : IsSoundAndCounted entries history run =
-    counted_along opening_run_is_sound turn_keeps_sound_run start ops assignment opening run history entries may_begin ascending are_entries begins follows in
+pub history_is_bounded : OpeningRunHasInvariant → TurnKeepsRunInvariant → HistoryIsBounded
+history_is_bounded opening_run_has_invariant turn_keeps_run_invariant start ops assignment opening run history entries may_begin ascending are_entries begins follows =
+    let along : InvariantAndCounts entries history run =
+    counted_along opening_run_has_invariant turn_keeps_run_invariant start ops assignment opening run history entries may_begin ascending are_entries begins follows in
     let counts : CountsAreOf history run = counts_are_kept start ops assignment opening run history begins follows in
     let made = pages_along opening run history follows in
     let begun : length opening.shared.store.pages ≡ length start.pages = ap (λ (store : PlainStore). length store.pages) begins.same_store in
-    let few = pages_are_few history run along.counted counts along.sound.shaped.a_move_count_each in
+    let few = pages_are_few history run along.counted counts along.invariant.shaped.a_move_count_each in
     record {
       numbers = λ place. (along.counted.everywhere place).numbers;
       page_writes = λ place. (along.counted.everywhere place).page_writes;
       prime_writes = λ place. (along.counted.everywhere place).prime_writes;
       pages = omega arith;
-      levels = let few = (step_law.sound_is_in_order (moment_of run) along.sound.sound).few_levels in omega arith;
+      levels = let few = (step_law.invariant_gives_order (tree_state_of run) along.invariant.invariant).few_levels in omega arith;
     }
 
 -- an insertion needs 22 numbers at most, and another operation none
@@ -111,13 +111,13 @@ numbers_by_kind (Delete key) = omega arith
 numbers_by_kind (Replace key pointer) = omega arith
 
 -- a worker whose operation writes a new page finds a number left for it
-pub number_is_left : OpeningRunIsSound → TurnKeepsSoundRun → NumberIsLeft
-number_is_left opening_run_is_sound turn_keeps_sound_run start ops assignment opening run history entries worker place m next may_begin ascending are_entries begins follows is_next needs =
-    let along : IsSoundAndCounted entries history run =
-    counted_along opening_run_is_sound turn_keeps_sound_run start ops assignment opening run history entries may_begin ascending are_entries begins follows in
-    let known : IsKnown history run worker place m next = next_is_known entries history run worker place m next along.sound along.counted is_next in
+pub number_is_left : OpeningRunHasInvariant → TurnKeepsRunInvariant → NumberIsLeft
+number_is_left opening_run_has_invariant turn_keeps_run_invariant start ops assignment opening run history entries worker place m next may_begin ascending are_entries begins follows is_next needs =
+    let along : InvariantAndCounts entries history run =
+    counted_along opening_run_has_invariant turn_keeps_run_invariant start ops assignment opening run history entries may_begin ascending are_entries begins follows in
+    let known : IsKnown history run worker place m next = next_is_known entries history run worker place m next along.invariant along.counted is_next in
     let its = next_is_its run worker place m next is_next in
-    let some : 1 ≤ numbers_left m = (step_law.allowance_is_used_up.enough (moment_of run) worker m along.sound.sound its).numbers needs in
+    let some : 1 ≤ numbers_left m = (step_law.allowance_is_used_up.enough (tree_state_of run) worker m along.invariant.invariant its).numbers needs in
     let bound = known.within.numbers in
     let most = numbers_by_kind m.op in
     let own : numbers_in history place < 22 * one_if (is_insert m.op) = omega arith in

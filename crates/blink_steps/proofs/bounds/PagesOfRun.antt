@@ -10,7 +10,7 @@ use Rattle.blink_steps.specs.Acts.{PlainShared, ActsOn, Acts}
 use Rattle.blink_steps.specs.Counts.{numbers_in, takes_number}
 use Rattle.blink_machine.specs.Kinds.{writes_new_page}
 use Rattle.blink_machine.specs.Machine.{PlainMachine, need_at}
-use Rattle.blink_steps.specs.Run.{PlainRun, Taken, TakesTurn, Follows}
+use Rattle.blink_steps.specs.Run.{PlainRun, Event, AppliesEvent, IsHistory}
 use Rattle.blink_machine.specs.Allowance.{one_if}
 use Rattle.blink_steps.proofs.bounds.CountedTurns.{count_by-cons, turns_of-own, turns_of-other}
 
@@ -39,7 +39,7 @@ pages_after old new worker m after kind acts = by_state old new worker m after k
     by_state old new worker m after kind Ended acts = absurd acts
 
 -- so a run has a page more for each number taken
-pub pages_along : (start run : PlainRun) (history : List Taken) → Follows start history run
+pub pages_along : (start run : PlainRun) (history : List Event) → IsHistory start history run
     → length run.shared.store.pages ≡ length start.shared.store.pages + count_by takes_number history
 pages_along start run [] same = ap (λ (run : PlainRun). length run.shared.store.pages) same ∙ omega arith
 pages_along start run (taken ∷ history) (before, follows, turn) =
@@ -48,29 +48,29 @@ pages_along start run (taken ∷ history) (before, follows, turn) =
     let more = count_by-cons takes_number taken history in
     omega arith
   where
-    pages_of_turn : (before : PlainRun) (taken : Taken) (run : PlainRun) → TakesTurn before taken run
+    pages_of_turn : (before : PlainRun) (taken : Event) (run : PlainRun) → AppliesEvent before taken run
         → length run.shared.store.pages ≡ length before.shared.store.pages + one_if (takes_number taken)
-    pages_of_turn before taken run (TakesTurn.moves next kind is_next moved acts same) =
+    pages_of_turn before taken run (AppliesEvent.moves next kind is_next moved acts same) =
         rw moved (pages_after before.shared run.shared taken.worker taken.before taken.after kind acts)
-    pages_of_turn before taken run (TakesTurn.waits next is_next waited acts same) =
+    pages_of_turn before taken run (AppliesEvent.waits next is_next waited acts same) =
         rw waited (ap (λ (run : PlainRun). length run.shared.store.pages) same ∙ omega arith)
-    pages_of_turn before taken run (TakesTurn.idles idle idled same) =
+    pages_of_turn before taken run (AppliesEvent.idles idle idled same) =
         rw idled (ap (λ (run : PlainRun). length run.shared.store.pages) same ∙ omega arith)
 
 -- the numbers that were taken at some places, from one on, as many as the list is long
-abbrev pub numbers_from : {X : Type 0} → List Taken → ℕ → List X → ℕ
+abbrev pub numbers_from : {X : Type 0} → List Event → ℕ → List X → ℕ
 numbers_from history place [] = 0
 numbers_from history place (x ∷ xs) = numbers_in history place + numbers_from history (place + 1) xs
 
 -- one more turn takes none away at a place
-numbers_in_grow : (taken : Taken) (history : List Taken) (place : ℕ) → numbers_in history place ≤ numbers_in (taken ∷ history) place
+numbers_in_grow : (taken : Event) (history : List Event) (place : ℕ) → numbers_in history place ≤ numbers_in (taken ∷ history) place
 numbers_in_grow taken history place = elim (cases_eq taken.place place) [
   | inl same ↦ rw (turns_of-own place takes_number taken history same) (omega arith)
   | inr other ↦ rw (turns_of-other place takes_number taken history other) (omega arith)
 ]
 
 -- nor at any places
-numbers_grow : {X : Type 0} (taken : Taken) (history : List Taken) (place : ℕ) (xs : List X) → numbers_from history place xs ≤ numbers_from (taken ∷ history) place xs
+numbers_grow : {X : Type 0} (taken : Event) (history : List Event) (place : ℕ) (xs : List X) → numbers_from history place xs ≤ numbers_from (taken ∷ history) place xs
 numbers_grow taken history place [] = omega arith
 numbers_grow taken history place (x ∷ xs) =
     let here = numbers_in_grow taken history place in
@@ -78,7 +78,7 @@ numbers_grow taken history place (x ∷ xs) =
     omega arith
 
 -- and a turn at one of the places adds its own
-numbers_more : {X : Type 0} (taken : Taken) (history : List Taken) (place : ℕ) (xs : List X) → place ≤ taken.place → taken.place < place + length xs
+numbers_more : {X : Type 0} (taken : Event) (history : List Event) (place : ℕ) (xs : List X) → place ≤ taken.place → taken.place < place + length xs
     → numbers_from history place xs + one_if (takes_number taken) ≤ numbers_from (taken ∷ history) place xs
 numbers_more taken history place [] from to = absurd (omega arith)
 numbers_more taken history place (x ∷ xs) from to = elim (cases_eq taken.place place) [
@@ -93,7 +93,7 @@ numbers_more taken history place (x ∷ xs) from to = elim (cases_eq taken.place
 ]
 
 -- so all numbers that were taken were taken at the places of a list, if none was taken at another
-pub numbers_are_of_places : {X : Type 0} (history : List Taken) (xs : List X) → ((place : ℕ) → 0 < numbers_in history place → place < length xs)
+pub numbers_are_of_places : {X : Type 0} (history : List Event) (xs : List X) → ((place : ℕ) → 0 < numbers_in history place → place < length xs)
     → count_by takes_number history ≤ numbers_from history 0 xs
 numbers_are_of_places [] xs within = omega arith
 numbers_are_of_places (taken ∷ history) xs within =
@@ -113,7 +113,7 @@ numbers_are_of_places (taken ∷ history) xs within =
     ]
 
 -- the numbers taken at the places of a list, where at most 22 are taken at those that pass a test and none at the others
-pub numbers_by_test : {X : Type 0} (test : X → Bool) (history : List Taken) (place : ℕ) (xs : List X)
+pub numbers_by_test : {X : Type 0} (test : X → Bool) (history : List Event) (place : ℕ) (xs : List X)
     → ((i at : ℕ) (x : X) → slice_get xs i ≡ Some x → at ≡ place + i → numbers_in history at ≤ 22 * one_if (test x))
     → numbers_from history place xs ≤ 22 * count_by test xs
 numbers_by_test test history place [] each = omega arith
@@ -124,7 +124,7 @@ numbers_by_test test history place (x ∷ xs) each =
     omega arith
 
 -- they are fewer where at one of those that pass the test fewer are taken
-pub numbers_by_test_less : {X : Type 0} (test : X → Bool) (history : List Taken) (place : ℕ) (xs : List X)
+pub numbers_by_test_less : {X : Type 0} (test : X → Bool) (history : List Event) (place : ℕ) (xs : List X)
     → ((i at : ℕ) (x : X) → slice_get xs i ≡ Some x → at ≡ place + i → numbers_in history at ≤ 22 * one_if (test x))
     → (i at : ℕ) (x : X) → slice_get xs i ≡ Some x → at ≡ place + i → numbers_in history at < 22 * one_if (test x)
     → numbers_from history place xs < 22 * count_by test xs

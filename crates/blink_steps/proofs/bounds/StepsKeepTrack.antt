@@ -11,11 +11,11 @@ use Rattle.blink_machine.specs.declared.step.Kind.{Kind}
 use Rattle.blink_machine.specs.declared.step.Step.TheVariants.{Moved}
 use Rattle.blink_steps.specs.Acts.{PlainShared, ActsOn, Acts}
 use Rattle.blink_machine.specs.Machine.{PlainMachine, need_at}
-use Rattle.blink_machine.specs.Moment.{Moment, IsItsOperation}
+use Rattle.blink_machine.specs.TreeState.{TreeState, IsItsOperation}
 use Rattle.blink_machine.specs.Owned.{debt_at}
 use Rattle.blink_machine.specs.Placed.{IsPlaced, AreRemembered}
-use Rattle.blink_steps.specs.Run.{moment_with}
-use Rattle.blink_machine.specs.Sound.{IsSoundWith}
+use Rattle.blink_steps.specs.Run.{tree_state_with}
+use Rattle.blink_machine.specs.Invariant.{InvariantWith}
 use Rattle.blink_machine.specs.Table.{decided_with, sets_out, done_at}
 use Rattle.blink_machine.specs.TreeWithDebts.{Levels}
 use Rattle.blink_steps.proofs.bounds.MetPages.{IsNotAbove, pages_wider}
@@ -28,72 +28,72 @@ use Rattle.blink_machine.proofs.law.AllowanceIsUsedUp.{decided_parts}
 use Rattle.blink_steps.proofs.bounds.ReadsKeepTrack.{GoesOnTrack, track_at, sees_prime_tracks, sees_page_tracks}
 use Rattle.blink_machine.proofs.tree.TreeStatements.{TreeLaws}
 
-module _ (laws : TreeLaws) (moment : Moment) (levels : Levels) (sound : IsSoundWith moment levels) (worker : ℕ) (m : PlainMachine) (its : IsItsOperation moment worker m)
-    (words : FitsWords m.op) (reads latched : List ℕ) (moves : ℕ) (track : IsOnTrack moment.pages m reads latched moves) where
+module _ (laws : TreeLaws) (tree_state : TreeState) (levels : Levels) (invariant : InvariantWith tree_state levels) (worker : ℕ) (m : PlainMachine) (its : IsItsOperation tree_state worker m)
+    (words : FitsWords m.op) (reads latched : List ℕ) (moves : ℕ) (track : IsOnTrack tree_state.pages m reads latched moves) where
   -- it is in place
-  placed : IsPlaced moment levels m
-  placed = its_place moment levels worker m sound words its
+  placed : IsPlaced tree_state levels m
+  placed = its_place tree_state levels worker m invariant words its
 
   -- a posting goes to a level that is there or is to come
   posts_within : (page : ℕ) (debt : Debt) → m.state ≡ Leave page (Post debt) → debt.level + 1 ≤ 20
   posts_within page debt is_state =
-      let under : moment.machines worker ≡ Some m = its_own moment levels sound worker m its (λ start. let both : Start ≡ Leave page (Post debt) = sym start ∙ is_state in cc) in
-      let owed = sound.lawful.debts.is_debt worker m debt (under, ap (debt_at m.job) is_state) in
-      let named : debt.level < length moment.prime =
-      laws.levels_are_named moment.fan moment.prime moment.pages levels debt.level owed.0.is_high_key.cell sound.lawful.tree owed.0.is_high_key.stands in
-      let few : length moment.prime ≤ 20 = laws.few_levels moment.fan moment.prime moment.pages levels sound.lawful.tree sound.numbers_in_range in
+      let under : tree_state.machines worker ≡ Some m = its_own tree_state levels invariant worker m its (λ start. let both : Start ≡ Leave page (Post debt) = sym start ∙ is_state in cc) in
+      let owed = invariant.lawful.debts.is_debt worker m debt (under, ap (debt_at m.job) is_state) in
+      let named : debt.level < length tree_state.prime =
+      laws.levels_are_named tree_state.fan tree_state.prime tree_state.pages levels debt.level owed.0.is_high_key.cell invariant.lawful.tree owed.0.is_high_key.stands in
+      let few : length tree_state.prime ≤ 20 = laws.few_levels tree_state.fan tree_state.prime tree_state.pages levels invariant.lawful.tree invariant.numbers_in_range in
       omega arith
 
   -- an operation that sets out to post
   sets_out_tracks : (after : PlainMachine) (page : ℕ) (debt : Debt) (remembered : List ℕ) → m.state ≡ Leave page (Post debt)
       → AreRemembered levels (debt.level + 1) debt.separator remembered → after ≡ sets_out m debt remembered
-      → GoesOnTrack moment.pages (Leave page (Post debt)) after reads latched moves
+      → GoesOnTrack tree_state.pages (Leave page (Post debt)) after reads latched moves
   sets_out_tracks after page debt [] is_state are_remembered is_after =
-      let here = track_at moment.pages m (Leave page (Post debt)) reads latched moves is_state track in
+      let here = track_at tree_state.pages m (Leave page (Post debt)) reads latched moves is_state track in
       let few = here.few in
       let own_level = here.are.0 in
-      on_track moment.pages after (Parent debt) Posting reads latched (1 + moves) (ap (λ (m : PlainMachine). m.job) is_after) (ap (λ (m : PlainMachine). m.state) is_after) tt
-      (pages_wider moment.pages (IsNotAbove debt.level) (IsUnder (debt.level + 1)) latched (λ level least under. omega arith) here.are.1)
+      on_track tree_state.pages after (Parent debt) Posting reads latched (1 + moves) (ap (λ (m : PlainMachine). m.job) is_after) (ap (λ (m : PlainMachine). m.state) is_after) tt
+      (pages_wider tree_state.pages (IsNotAbove debt.level) (IsUnder (debt.level + 1)) latched (λ level least under. omega arith) here.are.1)
       (omega arith) (posts_within page debt is_state)
   sets_out_tracks after page debt (next ∷ above) is_state are_remembered is_after =
-      let here = track_at moment.pages m (Leave page (Post debt)) reads latched moves is_state track in
+      let here = track_at tree_state.pages m (Leave page (Post debt)) reads latched moves is_state track in
       let few = here.few in
       let own_level = here.are.0 in
       let begins = are_remembered.0 in
-      let it = stands_on laws moment levels sound (debt.level + 1) next begins.cell begins.stands begins.same_number in
-      on_track moment.pages after (Parent debt) (Want next) reads latched (1 + moves) (ap (λ (m : PlainMachine). m.job) is_after) (ap (λ (m : PlainMachine). m.state) is_after) tt
-      (comes_after_lower moment.pages next (debt.level + 1) debt.level latched it (omega arith) here.are.1)
+      let it = stands_on laws tree_state levels invariant (debt.level + 1) next begins.cell begins.stands begins.same_number in
+      on_track tree_state.pages after (Parent debt) (Want next) reads latched (1 + moves) (ap (λ (m : PlainMachine). m.job) is_after) (ap (λ (m : PlainMachine). m.state) is_after) tt
+      (comes_after_lower tree_state.pages next (debt.level + 1) debt.level latched it (omega arith) here.are.1)
       (omega arith) (posts_within page debt is_state)
 
   -- an operation that leaves a page, wherever it goes
   leaves_tracks : (after : PlainMachine) (page : ℕ) (next : Next) → m.state ≡ Leave page next → after ≡ done_at m (Leave page next) 0
-      → GoesOnTrack moment.pages (Leave page next) after reads latched moves
+      → GoesOnTrack tree_state.pages (Leave page next) after reads latched moves
   leaves_tracks after page Finish is_state is_after =
-      let here = track_at moment.pages m (Leave page Finish) reads latched moves is_state track in
+      let here = track_at tree_state.pages m (Leave page Finish) reads latched moves is_state track in
       let few = here.few in
-      on_track moment.pages after m.job Ended reads latched (1 + moves) (ap (λ (m : PlainMachine). m.job) is_after) (ap (λ (m : PlainMachine). m.state) is_after) tt tt
+      on_track tree_state.pages after m.job Ended reads latched (1 + moves) (ap (λ (m : PlainMachine). m.job) is_after) (ap (λ (m : PlainMachine). m.state) is_after) tt tt
       (omega arith) here.levels
   leaves_tracks after page (MoveRight next) is_state is_after =
-      let here = track_at moment.pages m (Leave page (MoveRight next)) reads latched moves is_state track in
+      let here = track_at tree_state.pages m (Leave page (MoveRight next)) reads latched moves is_state track in
       let few = here.few in
-      on_track moment.pages after m.job (Want next) reads latched (1 + moves) (ap (λ (m : PlainMachine). m.job) is_after) (ap (λ (m : PlainMachine). m.state) is_after) tt here.are
+      on_track tree_state.pages after m.job (Want next) reads latched (1 + moves) (ap (λ (m : PlainMachine). m.job) is_after) (ap (λ (m : PlainMachine). m.state) is_after) tt here.are
       (omega arith) here.levels
   leaves_tracks after page (Post debt) is_state is_after =
-      sets_out_tracks after page debt m.remembered is_state (placed_at moment levels m (Leave page (Post debt)) placed is_state).0 is_after
+      sets_out_tracks after page debt m.remembered is_state (placed_at tree_state levels m (Leave page (Post debt)) placed is_state).0 is_after
 
-module _ (laws : TreeLaws) (old new : PlainShared) (machines : ℕ → Option PlainMachine) (levels : Levels) (sound : IsSoundWith (moment_with old machines) levels) (worker : ℕ)
-    (m after : PlainMachine) (kind : Kind) (its : IsItsOperation (moment_with old machines) worker m) (words : FitsWords m.op)
-    (reads latched : List ℕ) (moves : ℕ) (track : IsOnTrack (moment_with old machines).pages m reads latched moves) where
-  -- the moment before the step
-  abbrev before : Moment
-  before = moment_with old machines
+module _ (laws : TreeLaws) (old new : PlainShared) (machines : ℕ → Option PlainMachine) (levels : Levels) (invariant : InvariantWith (tree_state_with old machines) levels) (worker : ℕ)
+    (m after : PlainMachine) (kind : Kind) (its : IsItsOperation (tree_state_with old machines) worker m) (words : FitsWords m.op)
+    (reads latched : List ℕ) (moves : ℕ) (track : IsOnTrack (tree_state_with old machines).pages m reads latched moves) where
+  -- the tree state before the step
+  abbrev before : TreeState
+  before = tree_state_with old machines
 
   -- a step from each state
   steps_from : (state : State) → m.state ≡ state → ActsOn (need_at state) old worker m (Moved kind) after new → GoesOnTrack before.pages m.state after reads latched moves
   steps_from Start is_state acts =
-      sees_prime_tracks laws before levels sound m (placed laws before levels sound worker m its words reads latched moves track) reads latched moves track after acts.1
+      sees_prime_tracks laws before levels invariant m (placed laws before levels invariant worker m its words reads latched moves track) reads latched moves track after acts.1
   steps_from (Going number level) is_state acts =
-      sees_page_tracks laws before levels sound m (placed laws before levels sound worker m its words reads latched moves track) reads latched moves track number acts.1.0 acts.1.1 after acts.1.2
+      sees_page_tracks laws before levels invariant m (placed laws before levels invariant worker m its words reads latched moves track) reads latched moves track number acts.1.0 acts.1.1 after acts.1.2
   steps_from (Want number) is_state acts =
       let here = track_at before.pages m (Want number) reads latched moves is_state track in
       let few = here.few in
@@ -103,7 +103,7 @@ module _ (laws : TreeLaws) (old new : PlainShared) (machines : ℕ → Option Pl
       (latched_up_to before.pages number latched here.are) (omega arith) here.levels in
       rw is_state goes
   steps_from (Held number) is_state acts =
-      sees_page_tracks laws before levels sound m (placed laws before levels sound worker m its words reads latched moves track) reads latched moves track number acts.1.0 acts.1.1 after acts.1.2
+      sees_page_tracks laws before levels invariant m (placed laws before levels invariant worker m its words reads latched moves track) reads latched moves track number acts.1.0 acts.1.1 after acts.1.2
   steps_from (Change number changed kept) is_state acts =
       let here = track_at before.pages m (Change number changed kept) reads latched moves is_state track in
       let few = here.few in
@@ -131,7 +131,7 @@ module _ (laws : TreeLaws) (old new : PlainShared) (machines : ℕ → Option Pl
       (ap (λ (m : PlainMachine). m.state) is_after ∙ parts.0) tt here.are (omega arith) here.levels in
       rw is_state goes
   steps_from (AskPrime number debt) is_state acts =
-      sees_prime_tracks laws before levels sound m (placed laws before levels sound worker m its words reads latched moves track) reads latched moves track after acts.1
+      sees_prime_tracks laws before levels invariant m (placed laws before levels invariant worker m its words reads latched moves track) reads latched moves track after acts.1
   steps_from (Root number debt prime) is_state acts =
       let here = track_at before.pages m (Root number debt prime) reads latched moves is_state track in
       let few = here.few in
@@ -150,9 +150,9 @@ module _ (laws : TreeLaws) (old new : PlainShared) (machines : ℕ → Option Pl
       rw is_state goes
   steps_from (Leave number next) is_state acts =
       let is_after : after ≡ done_at m (Leave number next) 0 = acts.1 ∙ ap (λ (state : State). done_at m state 0) is_state in
-      rw is_state (leaves_tracks laws before levels sound worker m its words reads latched moves track after number next is_state is_after)
+      rw is_state (leaves_tracks laws before levels invariant worker m its words reads latched moves track after number next is_state is_after)
   steps_from Posting is_state acts =
-      sees_prime_tracks laws before levels sound m (placed laws before levels sound worker m its words reads latched moves track) reads latched moves track after acts.1
+      sees_prime_tracks laws before levels invariant m (placed laws before levels invariant worker m its words reads latched moves track) reads latched moves track after acts.1
   steps_from Ended is_state acts = absurd acts
 
   -- so does every step

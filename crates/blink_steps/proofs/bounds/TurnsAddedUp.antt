@@ -3,24 +3,24 @@ use Rattle.std.proofs.Common.{◌≡◌, ℕ, ◌+◌, ◌*◌, ◌<◌, ◌≤�
 use Rattle.std.specs.List.{zip}
 use Rattle.std.proofs.lemmas.Bool.{cases_Bool, cases_eq}
 use Rattle.blink_steps.specs.Counts.{turns_of}
-use Rattle.blink_steps.specs.Run.{Taken}
+use Rattle.blink_steps.specs.Run.{Event}
 use Rattle.blink_machine.specs.Allowance.{one_if}
 use Rattle.blink_steps.proofs.bounds.CountedTurns.{count_by-cons, turns_of-own, turns_of-other}
 
 -- the turns of a kind at some places, from one on, as many as the list is long
-abbrev pub turns_from : {X : Type 0} → (Taken → Bool) → List Taken → ℕ → List X → ℕ
+abbrev pub turns_from : {X : Type 0} → (Event → Bool) → List Event → ℕ → List X → ℕ
 turns_from of_kind history place [] = 0
 turns_from of_kind history place (x ∷ xs) = turns_of place of_kind history + turns_from of_kind history (place + 1) xs
 
 -- one more turn takes none away at a place
-turns_of-grow : (of_kind : Taken → Bool) (taken : Taken) (history : List Taken) (place : ℕ) → turns_of place of_kind history ≤ turns_of place of_kind (taken ∷ history)
+turns_of-grow : (of_kind : Event → Bool) (taken : Event) (history : List Event) (place : ℕ) → turns_of place of_kind history ≤ turns_of place of_kind (taken ∷ history)
 turns_of-grow of_kind taken history place = elim (cases_eq taken.place place) [
   | inl same ↦ rw (turns_of-own place of_kind taken history same) (omega arith)
   | inr other ↦ rw (turns_of-other place of_kind taken history other) (omega arith)
 ]
 
 -- nor at any places
-turns_grow : {X : Type 0} (of_kind : Taken → Bool) (taken : Taken) (history : List Taken) (place : ℕ) (xs : List X)
+turns_grow : {X : Type 0} (of_kind : Event → Bool) (taken : Event) (history : List Event) (place : ℕ) (xs : List X)
     → turns_from of_kind history place xs ≤ turns_from of_kind (taken ∷ history) place xs
 turns_grow of_kind taken history place [] = omega arith
 turns_grow of_kind taken history place (x ∷ xs) =
@@ -29,7 +29,7 @@ turns_grow of_kind taken history place (x ∷ xs) =
     omega arith
 
 -- and a turn at one of the places adds its own
-turns_more : {X : Type 0} (of_kind : Taken → Bool) (taken : Taken) (history : List Taken) (place : ℕ) (xs : List X) → place ≤ taken.place → taken.place < place + length xs
+turns_more : {X : Type 0} (of_kind : Event → Bool) (taken : Event) (history : List Event) (place : ℕ) (xs : List X) → place ≤ taken.place → taken.place < place + length xs
     → turns_from of_kind history place xs + one_if (of_kind taken) ≤ turns_from of_kind (taken ∷ history) place xs
 turns_more of_kind taken history place [] from to = absurd (omega arith)
 turns_more of_kind taken history place (x ∷ xs) from to = elim (cases_eq taken.place place) [
@@ -44,7 +44,7 @@ turns_more of_kind taken history place (x ∷ xs) from to = elim (cases_eq taken
 ]
 
 -- so all turns of a kind are of the places of a list, if none is of another
-pub turns_are_of_places : {X : Type 0} (of_kind : Taken → Bool) (history : List Taken) (xs : List X)
+pub turns_are_of_places : {X : Type 0} (of_kind : Event → Bool) (history : List Event) (xs : List X)
     → ((place : ℕ) → 0 < turns_of place of_kind history → place < length xs) → count_by of_kind history ≤ turns_from of_kind history 0 xs
 turns_are_of_places of_kind [] xs within = omega arith
 turns_are_of_places of_kind (taken ∷ history) xs within =
@@ -64,7 +64,7 @@ turns_are_of_places of_kind (taken ∷ history) xs within =
     ]
 
 -- where each place has at most so many, all have at most so many times their number
-pub turns_at_most : {X : Type 0} (of_kind : Taken → Bool) (history : List Taken) (place most : ℕ) (xs : List X) → ((at : ℕ) → turns_of at of_kind history ≤ most)
+pub turns_at_most : {X : Type 0} (of_kind : Event → Bool) (history : List Event) (place most : ℕ) (xs : List X) → ((at : ℕ) → turns_of at of_kind history ≤ most)
     → turns_from of_kind history place xs ≤ length xs * most
 turns_at_most of_kind history place most [] each = omega arith
 turns_at_most of_kind history place most (x ∷ xs) each =

@@ -13,9 +13,9 @@ use Rattle.blink_batch.specs.Operation.{answer_of, answers, map_after, map_after
 use Rattle.blink_batch.specs.Order.{operations_at, part_of, places_from}
 use Rattle.blink_batch.proofs.Offered.{answers-push, length-answers, length-operations_at, map_after_all-push, operations_at-push, part_of-push_other, part_of-push_own, part_of_first-own, zip-push}
 use Rattle.blink_store.proofs.Offered.{slice_get-set_other, slice_get-set_same}
-use Rattle.blink_steps.specs.Run.{PlainRun, moment_of}
-use Rattle.blink_steps.specs.Ledger.{decides_now}
-use Rattle.blink_steps.specs.SoundRun.{is_answered}
+use Rattle.blink_steps.specs.Run.{PlainRun, tree_state_of}
+use Rattle.blink_steps.specs.Outcome.{decides_now}
+use Rattle.blink_steps.specs.RunInvariant.{is_answered}
 use Rattle.blink_steps.specs.Decided.{AnswersSoFar, IsDecided}
 use Rattle.blink_machine.specs.TreeMap.{Keeps}
 
@@ -71,7 +71,7 @@ decides_not_same (Some kept) after same = refl
 
 module _ (entries : List Entry) (old new : PlainRun) (decided : IsDecided entries old) (same_ops : new.ops ≡ old.ops) (place : ℕ) where
   -- a step that doesn't decide leaves what is decided, if the tree keeps the same entries
-  pub decided_stays : Keeps (moment_of new) (map_after_all entries (operations_at old.ops old.ledger.order)) → new.ledger.order ≡ old.ledger.order → new.ledger.answers ≡ old.ledger.answers → IsDecided entries new
+  pub decided_stays : Keeps (tree_state_of new) (map_after_all entries (operations_at old.ops old.outcome.order)) → new.outcome.order ≡ old.outcome.order → new.outcome.answers ≡ old.outcome.answers → IsDecided entries new
   decided_stays kept same_order same_answers = record {
     places_of_batch = rw (same_ops, same_order) decided.places_of_batch;
     answered = rw (same_ops, same_order, same_answers) decided.answered;
@@ -79,27 +79,27 @@ module _ (entries : List Entry) (old new : PlainRun) (decided : IsDecided entrie
     kept = rw (same_ops, same_order) kept;
   }
 
-  module _ (op : Op) (answer : Answer) (there : slice_get old.ops place ≡ Some op) (undecided : slice_get old.ledger.answers place ≡ Some None) (fresh : Contains old.ledger.order place → ⊥)
-      (is_answer : answer ≡ answer_of (map_after_all entries (operations_at old.ops old.ledger.order)) op)
-      (kept : Keeps (moment_of new) (map_after (map_after_all entries (operations_at old.ops old.ledger.order)) op)) where
+  module _ (op : Op) (answer : Answer) (there : slice_get old.ops place ≡ Some op) (undecided : slice_get old.outcome.answers place ≡ Some None) (fresh : Contains old.outcome.order place → ⊥)
+      (is_answer : answer ≡ answer_of (map_after_all entries (operations_at old.ops old.outcome.order)) op)
+      (kept : Keeps (tree_state_of new) (map_after (map_after_all entries (operations_at old.ops old.outcome.order)) op)) where
     -- what the tree keeps is what the run of all that is decided leaves
-    kept_more : Keeps (moment_of new) (map_after_all entries (operations_at old.ops (old.ledger.order ++ place ∷ [])))
-    kept_more = rw (operations_at-push old.ops old.ledger.order place op there, map_after_all-push entries (operations_at old.ops old.ledger.order) op) kept
+    kept_more : Keeps (tree_state_of new) (map_after_all entries (operations_at old.ops (old.outcome.order ++ place ∷ [])))
+    kept_more = rw (operations_at-push old.ops old.outcome.order place op there, map_after_all-push entries (operations_at old.ops old.outcome.order) op) kept
 
     -- a place that isn't in the longer order has no answer
-    undecided_more : (other : ℕ) → other < length old.ops → (Contains (old.ledger.order ++ place ∷ []) other → ⊥) → slice_get (set old.ledger.answers place (Some answer)) other ≡ Some None
+    undecided_more : (other : ℕ) → other < length old.ops → (Contains (old.outcome.order ++ place ∷ []) other → ⊥) → slice_get (set old.outcome.answers place (Some answer)) other ≡ Some None
     undecided_more other within outside =
-        let differs : other ≡ place → ⊥ = λ same. outside (subst (Contains (old.ledger.order ++ place ∷ [])) (sym same) (Contains-push old.ledger.order place)) in
-        slice_get-set_other old.ledger.answers place other (Some answer) differs ∙ decided.undecided other within (λ inside. outside (Contains-append_left old.ledger.order (place ∷ []) other inside))
+        let differs : other ≡ place → ⊥ = λ same. outside (subst (Contains (old.outcome.order ++ place ∷ [])) (sym same) (Contains-push old.outcome.order place)) in
+        slice_get-set_other old.outcome.answers place other (Some answer) differs ∙ decided.undecided other within (λ inside. outside (Contains-append_left old.outcome.order (place ∷ []) other inside))
 
     -- a deciding step adds its operation at the end
-    pub decided_more : new.ledger.order ≡ old.ledger.order ++ place ∷ [] → new.ledger.answers ≡ set old.ledger.answers place (Some answer) → IsDecided entries new
+    pub decided_more : new.outcome.order ≡ old.outcome.order ++ place ∷ [] → new.outcome.answers ≡ set old.outcome.answers place (Some answer) → IsDecided entries new
     decided_more more_order more_answers =
-        let inside : place < length old.ledger.answers = slice_get_within old.ledger.answers place None undecided in
+        let inside : place < length old.outcome.answers = slice_get_within old.outcome.answers place None undecided in
         let within : place < length old.ops = slice_get_within old.ops place op there in
         record {
-          places_of_batch = rw (same_ops, more_order) (All-push (λ n. n < length old.ops) old.ledger.order place decided.places_of_batch within);
-          answered = rw (same_ops, more_order, more_answers) (AnswersSoFar-push entries old.ops old.ledger.order old.ledger.answers place op answer decided.places_of_batch decided.answered there fresh inside is_answer);
+          places_of_batch = rw (same_ops, more_order) (All-push (λ n. n < length old.ops) old.outcome.order place decided.places_of_batch within);
+          answered = rw (same_ops, more_order, more_answers) (AnswersSoFar-push entries old.ops old.outcome.order old.outcome.answers place op answer decided.places_of_batch decided.answered there fresh inside is_answer);
           undecided = rw (same_ops, more_order, more_answers) undecided_more;
           kept = rw (same_ops, more_order) kept_more;
         }
@@ -107,17 +107,17 @@ module _ (entries : List Entry) (old new : PlainRun) (decided : IsDecided entrie
 -- ---- as many as are answered
 
 -- a step that doesn't decide leaves as many decided as answered
-pub as_many_stay : (old new : PlainRun) → count_by is_answered old.ledger.answers ≡ length old.ledger.order → new.ledger.order ≡ old.ledger.order → new.ledger.answers ≡ old.ledger.answers
-    → count_by is_answered new.ledger.answers ≡ length new.ledger.order
+pub as_many_stay : (old new : PlainRun) → count_by is_answered old.outcome.answers ≡ length old.outcome.order → new.outcome.order ≡ old.outcome.order → new.outcome.answers ≡ old.outcome.answers
+    → count_by is_answered new.outcome.answers ≡ length new.outcome.order
 as_many_stay old new as_many same_order same_answers = rw (same_order, same_answers) as_many
 
 -- and a deciding step has one more of both
-pub as_many_more : (old new : PlainRun) (place : ℕ) (answer : Answer) → count_by is_answered old.ledger.answers ≡ length old.ledger.order → slice_get old.ledger.answers place ≡ Some None
-    → new.ledger.order ≡ old.ledger.order ++ place ∷ [] → new.ledger.answers ≡ set old.ledger.answers place (Some answer) → count_by is_answered new.ledger.answers ≡ length new.ledger.order
+pub as_many_more : (old new : PlainRun) (place : ℕ) (answer : Answer) → count_by is_answered old.outcome.answers ≡ length old.outcome.order → slice_get old.outcome.answers place ≡ Some None
+    → new.outcome.order ≡ old.outcome.order ++ place ∷ [] → new.outcome.answers ≡ set old.outcome.answers place (Some answer) → count_by is_answered new.outcome.answers ≡ length new.outcome.order
 as_many_more old new place answer as_many undecided more_order more_answers =
-    let count : count_by is_answered (set old.ledger.answers place (Some answer)) ≡ count_by is_answered old.ledger.answers + 1 = one_more_answered old.ledger.answers place answer undecided in
-    let long : length (old.ledger.order ++ place ∷ []) ≡ length old.ledger.order + 1 = length-append old.ledger.order (place ∷ []) in
-    let both : count_by is_answered (set old.ledger.answers place (Some answer)) ≡ length (old.ledger.order ++ place ∷ []) = omega arith in
+    let count : count_by is_answered (set old.outcome.answers place (Some answer)) ≡ count_by is_answered old.outcome.answers + 1 = one_more_answered old.outcome.answers place answer undecided in
+    let long : length (old.outcome.order ++ place ∷ []) ≡ length old.outcome.order + 1 = length-append old.outcome.order (place ∷ []) in
+    let both : count_by is_answered (set old.outcome.answers place (Some answer)) ≡ length (old.outcome.order ++ place ∷ []) = omega arith in
     rw (more_order, more_answers) both
 
 -- ---- a worker's part

@@ -1,4 +1,4 @@
--- What a sound run has decided: each operation once, the fronts of the lanes, and at the end all.
+-- What a sound run has decided: each operation once, the prefixes of the lanes, and at the end all.
 use Rattle.std.proofs.Common.{◌≡◌, ◌≢◌, ℕ, ◌<◌, ◌≤◌, List, [], ◌∷◌, length, get_or, take, true, false, Option, Some, None, refl, ap, sym, ◌∙◌, subst, inl, inr, arith}
 use Rattle.std.proofs.lemmas.Bool.{cases_Bool, cases_lt, eq-eqb}
 use Rattle.std.proofs.lemmas.List.Elements.{Contains-get_or, recursion_from_All}
@@ -14,41 +14,41 @@ use Rattle.blink_batch.specs.Order.{is_worker, lane_of, operations_at, part_of, 
 use Rattle.blink_batch.proofs.Offered.{get_or-places_from, length-answers, length-operations_at, length-places_from, part_of-no_next_place, part_of-nobody}
 use Rattle.blink_store.proofs.Offered.{one_page_each}
 use Rattle.blink_rest.specs.Numbers.{AllDiffer}
-use Rattle.blink_steps.specs.declared.seat.Seat.{Seat}
+use Rattle.blink_steps.specs.declared.seat.WorkerState.{WorkerState}
 use Rattle.blink_steps.specs.declared.seat.Working.{Working}
-use Rattle.blink_steps.specs.Run.{PlainRun, idle_seat, machine_of_seat, moment_of}
-use Rattle.blink_steps.specs.SoundRun.{HasDecided, IsSoundIdle, IsSoundRun, IsSoundSeat, decided_below}
+use Rattle.blink_steps.specs.Run.{PlainRun, idle_seat, machine_of_seat, tree_state_of}
+use Rattle.blink_steps.specs.RunInvariant.{HasDecided, IdleInvariant, RunInvariant, WorkerInvariant, decided_below}
 use Rattle.blink_steps.specs.Decided.{AnswersSoFar}
 use Rattle.blink_machine.specs.StepLaw.{StepLaw}
 use Rattle.blink_machine.proofs.tree.NumbersApart.{contains_or_not, filter-take, holds_at_passing, holds_of_both, holds_of_filter, one_index, AllDiffer-filter, AllDiffer-places_from, AllDiffer-take}
-use Rattle.blink_steps.proofs.runs.RunStatements.{EachHasItsTurn, EachIsDecidedOnce, EndedRunIsWhole, FrontsAreDecided, HasAnswerAt, HasEnded, OneLatchEach}
+use Rattle.blink_steps.proofs.runs.RunStatements.{EachHasItsTurn, EachIsDecidedOnce, EndedRunIsWhole, PrefixesAreDecided, HasAnswerAt, HasEnded, OneLatchEach}
 
--- ---- fronts
+-- ---- prefixes
 
 -- a worker with a seat has decided its lane up to some place
-seat_front : (run : PlainRun) (worker : ℕ) (working : Option Working) (next : Option ℕ) → IsSoundSeat run worker working next → (place : ℕ) × HasDecided run worker place
-seat_front run worker None next idle = (idle.from, idle.decided)
-seat_front run worker (Some working) next busy = (decided_below working.place working.machine.answer, busy.decided)
+seat_prefix : (run : PlainRun) (worker : ℕ) (working : Option Working) (next : Option ℕ) → WorkerInvariant run worker working next → (place : ℕ) × HasDecided run worker place
+seat_prefix run worker None next idle = (idle.from, idle.decided)
+seat_prefix run worker (Some working) next busy = (decided_below working.place working.machine.answer, busy.decided)
 
 -- and every worker has
-front : (entries : List Entry) (run : PlainRun) (worker : ℕ) → IsSoundRun entries run → (place : ℕ) × HasDecided run worker place
-front entries run worker sound = elim (cases_lt worker (length run.seats)) [
+prefix : (entries : List Entry) (run : PlainRun) (worker : ℕ) → RunInvariant entries run → (place : ℕ) × HasDecided run worker place
+prefix entries run worker invariant = elim (cases_lt worker (length run.seats)) [
   | inl within ↦
-      let seat : Seat = get_or run.seats worker (idle_seat None) in
-      seat_front run worker seat.working seat.next (sound.seats worker seat (slice_get-get_or run.seats worker (idle_seat None) within))
+      let seat : WorkerState = get_or run.seats worker (idle_seat None) in
+      seat_prefix run worker seat.working seat.next (invariant.seats worker seat (slice_get-get_or run.seats worker (idle_seat None) within))
   | inr past ↦
-      let above : run.assignment.workers ≤ worker = omega (arith, sound.shaped.a_seat_each) in
-      let all = sound.shaped.lanes.lanes_are_workers in (
+      let above : run.assignment.workers ≤ worker = omega (arith, invariant.shaped.a_seat_each) in
+      let all = invariant.shaped.lanes.lanes_are_workers in (
         0,
-        part_of-nobody run.assignment.workers run.assignment.lanes worker run.ledger.order all above
+        part_of-nobody run.assignment.workers run.assignment.lanes worker run.outcome.order all above
             ∙ sym (part_of-nobody run.assignment.workers run.assignment.lanes worker (take 0 (places_from 0 run.assignment.lanes)) all above),
       )
 ]
 
 -- what is decided of a worker's lane is its beginning
-pub fronts_are_decided : FrontsAreDecided
-fronts_are_decided entries run worker sound =
-    let its = front entries run worker sound in
+pub prefixes_are_decided : PrefixesAreDecided
+prefixes_are_decided entries run worker invariant =
+    let its = prefix entries run worker invariant in
     let lanes : List ℕ = run.assignment.lanes in (
       length (part_of lanes worker (take its.0 (places_from 0 lanes))),
       its.1 ∙ filter-take (λ place. is_worker worker (slice_get lanes place)) its.0 (places_from 0 lanes),
@@ -77,12 +77,12 @@ apart_from_parts lanes (place ∷ order) within parts =
     ]
 
 -- the decided places differ
-order_apart : (entries : List Entry) (run : PlainRun) → IsSoundRun entries run → AllDiffer run.ledger.order
-order_apart entries run sound =
+order_apart : (entries : List Entry) (run : PlainRun) → RunInvariant entries run → AllDiffer run.outcome.order
+order_apart entries run invariant =
     let lanes : List ℕ = run.assignment.lanes in
-    let within : All (λ place. place < length lanes) run.ledger.order = rw sound.shaped.a_lane_each sound.decided.places_of_batch in
-    apart_from_parts lanes run.ledger.order (recursion_from_All (λ place. place < length lanes) run.ledger.order within) (λ worker.
-    let its = front entries run worker sound in
+    let within : All (λ place. place < length lanes) run.outcome.order = rw invariant.shaped.a_lane_each invariant.decided.places_of_batch in
+    apart_from_parts lanes run.outcome.order (recursion_from_All (λ place. place < length lanes) run.outcome.order within) (λ worker.
+    let its = prefix entries run worker invariant in
     subst AllDiffer (sym its.1) (AllDiffer-filter (λ place. is_worker worker (slice_get lanes place)) (take its.0 (places_from 0 lanes)) (AllDiffer-take its.0 (places_from 0 lanes) (AllDiffer-places_from 0 lanes))))
 
 -- a decided place has its answer
@@ -101,14 +101,14 @@ decided_has_answer entries ops order given place within answered inside =
 
 -- each operation is decided once, where it has its answer
 pub each_is_decided_once : EachIsDecidedOnce
-each_is_decided_once entries run sound = record {
-  at_most_once = λ first second place at also. one_index run.ledger.order first second place (order_apart entries run sound) at also;
-  has_answer = λ place inside. decided_has_answer entries run.ops run.ledger.order run.ledger.answers place sound.decided.places_of_batch sound.decided.answered inside;
-  is_decided = λ place has. elim (contains_or_not run.ledger.order place) [
+each_is_decided_once entries run invariant = record {
+  at_most_once = λ first second place at also. one_index run.outcome.order first second place (order_apart entries run invariant) at also;
+  has_answer = λ place inside. decided_has_answer entries run.ops run.outcome.order run.outcome.answers place invariant.decided.places_of_batch invariant.decided.answered inside;
+  is_decided = λ place has. elim (contains_or_not run.outcome.order place) [
     | inl inside ↦ inside
     | inr outside ↦
-        let within : place < length run.ledger.answers = slice_get_within run.ledger.answers place (Some has.0) has.1 in
-        let none : slice_get run.ledger.answers place ≡ Some None = sound.decided.undecided place (omega (arith, sound.shaped.an_answer_each)) outside in
+        let within : place < length run.outcome.answers = slice_get_within run.outcome.answers place (Some has.0) has.1 in
+        let none : slice_get run.outcome.answers place ≡ Some None = invariant.decided.undecided place (omega (arith, invariant.shaped.an_answer_each)) outside in
         let some = has.1 in
         absurd (cc)
   ];
@@ -133,48 +133,48 @@ lane_decided lanes order worker place whole within lane = elim (contains_or_not 
 
 -- a worker at its lane's end has decided all of it
 pub each_has_its_turn : EachHasItsTurn
-each_has_its_turn entries run worker sound undecided at_end =
+each_has_its_turn entries run worker invariant undecided at_end =
     let lanes : List ℕ = run.assignment.lanes in
-    let idle : IsSoundIdle run worker None = sound.seats worker (idle_seat None) at_end in
-    let whole : part_of lanes worker run.ledger.order ≡ lane_of lanes worker = idle.decided ∙ part_of-no_next_place lanes worker idle.from (sym idle.next_of_lane) in
+    let idle : IdleInvariant run worker None = invariant.seats worker (idle_seat None) at_end in
+    let whole : part_of lanes worker run.outcome.order ≡ lane_of lanes worker = idle.decided ∙ part_of-no_next_place lanes worker idle.from (sym idle.next_of_lane) in
     let within : undecided.place < length lanes = slice_get_within lanes undecided.place worker undecided.of_lane in
-    let answered = (each_is_decided_once entries run sound).has_answer undecided.place (lane_decided lanes run.ledger.order worker undecided.place whole within undecided.of_lane) in
+    let answered = (each_is_decided_once entries run invariant).has_answer undecided.place (lane_decided lanes run.outcome.order worker undecided.place whole within undecided.of_lane) in
     absurd (cc (answered.1, undecided.undecided))
 
 -- ---- the end
 
-module _ (entries : List Entry) (run : PlainRun) (sound : IsSoundRun entries run) (ended : HasEnded run) where
+module _ (entries : List Entry) (run : PlainRun) (invariant : RunInvariant entries run) (ended : HasEnded run) where
   -- each worker has decided its lane
-  pub each_lane : (worker : ℕ) → part_of run.assignment.lanes worker run.ledger.order ≡ lane_of run.assignment.lanes worker
+  pub each_lane : (worker : ℕ) → part_of run.assignment.lanes worker run.outcome.order ≡ lane_of run.assignment.lanes worker
   each_lane worker = elim (cases_lt worker run.assignment.workers) [
     | inl within ↦
-        let idle : IsSoundIdle run worker None = sound.seats worker (idle_seat None) (ended worker within) in
+        let idle : IdleInvariant run worker None = invariant.seats worker (idle_seat None) (ended worker within) in
         idle.decided ∙ part_of-no_next_place run.assignment.lanes worker idle.from (sym idle.next_of_lane)
     | inr above ↦
-        let all = sound.shaped.lanes.lanes_are_workers in
-        part_of-nobody run.assignment.workers run.assignment.lanes worker run.ledger.order all above
+        let all = invariant.shaped.lanes.lanes_are_workers in
+        part_of-nobody run.assignment.workers run.assignment.lanes worker run.outcome.order all above
         ∙ sym (part_of-nobody run.assignment.workers run.assignment.lanes worker (places_from 0 run.assignment.lanes) all above)
   ]
 
   -- each place is decided
-  pub each_decided : (place : ℕ) → place < length run.assignment.lanes → Contains run.ledger.order place
+  pub each_decided : (place : ℕ) → place < length run.assignment.lanes → Contains run.outcome.order place
   each_decided place within =
       let worker : ℕ = get_or run.assignment.lanes place 0 in
-      lane_decided run.assignment.lanes run.ledger.order worker place (each_lane worker) within (slice_get-get_or run.assignment.lanes place 0 within)
+      lane_decided run.assignment.lanes run.outcome.order worker place (each_lane worker) within (slice_get-get_or run.assignment.lanes place 0 within)
 
   -- no worker has an operation
   all_idle : (worker : ℕ) → machine_of_seat (slice_get run.seats worker) ≡ None
   all_idle worker = elim (cases_lt worker run.assignment.workers) [
     | inl within ↦ ap machine_of_seat (ended worker within)
-    | inr above ↦ ap machine_of_seat (slice_get_past run.seats worker (omega (arith, sound.shaped.a_seat_each)))
+    | inr above ↦ ap machine_of_seat (slice_get_past run.seats worker (omega (arith, invariant.shaped.a_seat_each)))
   ]
 
 -- at the end every operation is decided and answered, and the tree is at rest
 pub ended_run_is_whole : StepLaw → EndedRunIsWhole
-ended_run_is_whole laws entries run sound ended = record {
-  all_answered = λ place within. (each_is_decided_once entries run sound).has_answer place (each_decided entries run sound ended place (omega (arith, sound.shaped.a_lane_each)));
-  whole_order = record { places_of_batch = sound.decided.places_of_batch; each_lane_in_order = each_lane entries run sound ended };
-  at_rest = (laws.all_idle_is_at_rest (moment_of run) sound.sound (all_idle entries run sound ended)).at_rest;
+ended_run_is_whole laws entries run invariant ended = record {
+  all_answered = λ place within. (each_is_decided_once entries run invariant).has_answer place (each_decided entries run invariant ended place (omega (arith, invariant.shaped.a_lane_each)));
+  whole_order = record { places_of_batch = invariant.decided.places_of_batch; each_lane_in_order = each_lane entries run invariant ended };
+  at_rest = (laws.all_idle_is_at_rest (tree_state_of run) invariant.invariant (all_idle entries run invariant ended)).at_rest;
 }
 
 -- ---- latches

@@ -13,9 +13,9 @@ use Rattle.blink_machine.specs.declared.step.Kind.{Kind}
 use Rattle.blink_machine.specs.declared.step.Step.TheVariants.{Moved}
 use Rattle.blink_steps.specs.Acts.{PlainShared, Acts, ActsOn}
 use Rattle.blink_machine.specs.Machine.{PlainMachine, need_at}
-use Rattle.blink_machine.specs.Moment.{IsItsOperation}
-use Rattle.blink_steps.specs.Run.{moment_with}
-use Rattle.blink_machine.specs.Sound.{IsSound}
+use Rattle.blink_machine.specs.TreeState.{IsItsOperation}
+use Rattle.blink_steps.specs.Run.{tree_state_with}
+use Rattle.blink_machine.specs.Invariant.{Invariant}
 use Rattle.blink_machine.specs.StepLaw.{StepLaw}
 use Rattle.blink_machine.specs.Table.{PrimeOut, adds_root, page_out}
 
@@ -54,7 +54,7 @@ prime_out_some m prime (adds_root page debt root read at is) =
     let long = ap length is ∙ length-append read (root ∷ []) in omega arith
 
 module _ (laws : StepLaw) (old new : PlainShared) (machines : ℕ → Option PlainMachine) (worker : ℕ) (m after : PlainMachine) (kind : Kind)
-    (sound : IsSound (moment_with old machines)) (its : IsItsOperation (moment_with old machines) worker m) (lawful : IsLawfulStore old.store) where
+    (invariant : Invariant (tree_state_with old machines)) (its : IsItsOperation (tree_state_with old machines) worker m) (lawful : IsLawfulStore old.store) where
   -- where the store stays it stays lawful
   lawful_same : new.store ≡ old.store → IsLawfulStore new.store
   lawful_same same = subst IsLawfulStore (sym same) lawful
@@ -66,14 +66,14 @@ module _ (laws : StepLaw) (old new : PlainShared) (machines : ℕ → Option Pla
   lawful_at_need (Latch number) needs acts = lawful_same acts.3
   lawful_at_need WriteNew needs acts =
       let number = length old.store.pages + 1 in
-      let good = (laws.sound_is_in_order (moment_with old machines) sound).writes_new worker number m its needs acts.1 in
+      let good = (laws.invariant_gives_order (tree_state_with old machines) invariant).writes_new worker number m its needs acts.1 in
       lawful_with_new old.store new.store lawful (page_out m number) good acts.3 acts.1
   lawful_at_need (WritePage number) needs acts =
-      let good = (laws.sound_is_in_order (moment_with old machines) sound).writes_page worker number m its needs in
+      let good = (laws.invariant_gives_order (tree_state_with old machines) invariant).writes_page worker number m its needs in
       lawful_with_page old.store new.store lawful (page_out m 0) good.lawful number good.before good.there acts.2
   lawful_at_need WritePrime needs acts =
       let prime = prime_out_some m new.store.prime acts.2 in
-      let numbers = (laws.sound_is_in_order (moment_with old machines) sound).writes_prime worker m new.store.prime its needs acts.2 lawful.prime_numbers in
+      let numbers = (laws.invariant_gives_order (tree_state_with old machines) invariant).writes_prime worker m new.store.prime its needs acts.2 lawful.prime_numbers in
       let changed : IsLawfulStore (record old.store { prime = new.store.prime }) = record {
         fan_in_range = lawful.fan_in_range;
         some_level = prime;

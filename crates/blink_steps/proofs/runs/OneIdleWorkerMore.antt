@@ -1,16 +1,16 @@
--- A moment is the same with one idle worker more.
+-- A tree state is the same with one idle worker more.
 use Rattle.std.proofs.Common.{◌≡◌, ℕ, ◌≤◌, Option, Some, None, List, [], ◌∷◌, ◌++◌, length, slice_get, refl, ap, sym, inl, inr, ◌∙◌, arith}
 use Rattle.std.proofs.lemmas.Bool.{cases_eq}
 use Rattle.std.proofs.lemmas.Option.{slice_get_past}
 use Rattle.blink_store.proofs.Offered.{slice_get-push_same, slice_get-push_other}
 use Rattle.blink_machine.specs.StepLaw.{TellTheSame}
 use Rattle.blink_machine.proofs.Offered.{step_law}
-use Rattle.blink_steps.specs.declared.seat.Seat.{Seat}
+use Rattle.blink_steps.specs.declared.seat.WorkerState.{WorkerState}
 use Rattle.blink_steps.specs.Laws.{IdleWorkersDontMatter, with_idle_worker}
-use Rattle.blink_steps.specs.Run.{PlainRun, idle_seat, machine_of_seat, moment_of}
+use Rattle.blink_steps.specs.Run.{PlainRun, idle_seat, machine_of_seat, tree_state_of}
 
 -- nobody has another operation
-same_machine : (seats : List Seat) (next : Option ℕ) (worker : ℕ)
+same_machine : (seats : List WorkerState) (next : Option ℕ) (worker : ℕ)
     → machine_of_seat (slice_get (seats ++ idle_seat next ∷ []) worker) ≡ machine_of_seat (slice_get seats worker)
 same_machine seats next worker = elim (cases_eq worker (length seats)) [
   | inl same ↦
@@ -21,7 +21,7 @@ same_machine seats next worker = elim (cases_eq worker (length seats)) [
   | inr other ↦ ap machine_of_seat (slice_get-push_other seats worker (idle_seat next) other)
 ]
 
-tell_the_same : (run : PlainRun) (next : Option ℕ) → TellTheSame (moment_of run) (moment_of (with_idle_worker run next))
+tell_the_same : (run : PlainRun) (next : Option ℕ) → TellTheSame (tree_state_of run) (tree_state_of (with_idle_worker run next))
 tell_the_same run next = record {
   same_fan = refl;
   same_prime = refl;
@@ -30,7 +30,7 @@ tell_the_same run next = record {
   same_machines = same_machine run.seats next;
 }
 
-tell_the_same_without : (run : PlainRun) (next : Option ℕ) → TellTheSame (moment_of (with_idle_worker run next)) (moment_of run)
+tell_the_same_without : (run : PlainRun) (next : Option ℕ) → TellTheSame (tree_state_of (with_idle_worker run next)) (tree_state_of run)
 tell_the_same_without run next = record {
   same_fan = refl;
   same_prime = refl;

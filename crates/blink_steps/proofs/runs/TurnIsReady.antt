@@ -13,9 +13,9 @@ use Rattle.blink_machine.specs.declared.machine.State.TheVariants.{Start, Going,
 use Rattle.blink_machine.specs.InOrder.{IsInOrder}
 use Rattle.blink_steps.specs.Acts.{CanAct, CanActOn}
 use Rattle.blink_machine.specs.Machine.{PlainMachine, NeedsNew, need_at}
-use Rattle.blink_machine.specs.Moment.{IsItsOperation}
-use Rattle.blink_steps.specs.Run.{PlainRun, IsNextOf, moment_of}
-use Rattle.blink_steps.specs.SoundRun.{IsSoundRun}
+use Rattle.blink_machine.specs.TreeState.{IsItsOperation}
+use Rattle.blink_steps.specs.Run.{PlainRun, IsNextOf, tree_state_of}
+use Rattle.blink_steps.specs.RunInvariant.{RunInvariant}
 use Rattle.blink_machine.specs.StepLaw.{StepLaw}
 use Rattle.blink_steps.proofs.runs.OperationOfTurn.{next_has_seat, next_is_busy, next_is_its}
 use Rattle.blink_steps.proofs.runs.RunStatements.{TurnIsReady}
@@ -38,23 +38,23 @@ at_end Ended needs = refl
 
 -- ---- the turn
 
-module _ (laws : StepLaw) (entries : List Entry) (run : PlainRun) (worker place : ℕ) (m : PlainMachine) (next : Option ℕ) (sound : IsSoundRun entries run)
+module _ (laws : StepLaw) (entries : List Entry) (run : PlainRun) (worker place : ℕ) (m : PlainMachine) (next : Option ℕ) (invariant : RunInvariant entries run)
     (is_next : IsNextOf run worker place m next) (room : NeedsNew m → length run.shared.store.pages < MAX_PAGE) where
   -- the operation is the worker's
-  its : IsItsOperation (moment_of run) worker m
+  its : IsItsOperation (tree_state_of run) worker m
   its = next_is_its run worker place m next is_next
 
-  -- the run's moment is in order
-  order : IsInOrder (moment_of run)
-  order = laws.sound_is_in_order (moment_of run) sound.sound
+  -- the run's tree state is in order
+  order : IsInOrder (tree_state_of run)
+  order = laws.invariant_gives_order (tree_state_of run) invariant.invariant
 
   -- its worker is one of those that may hold a latch
   may_hold : worker < WORKERS
   may_hold =
       let seat = next_has_seat run worker place m next is_next in
       let within : worker < length run.seats = slice_get_within run.seats worker seat.0 seat.1 in
-      let many : length run.seats ≡ run.assignment.workers = sound.shaped.a_seat_each in
-      let few : run.assignment.workers ≤ WORKER_LIMIT = sound.shaped.lanes.allowed.1 in
+      let many : length run.seats ≡ run.assignment.workers = invariant.shaped.a_seat_each in
+      let few : run.assignment.workers ≤ WORKER_LIMIT = invariant.shaped.lanes.allowed.1 in
       omega arith
 
   -- for each need
@@ -79,7 +79,7 @@ module _ (laws : StepLaw) (entries : List Entry) (run : PlainRun) (worker place 
       }
   can_act_on WritePrime needs = tt
   can_act_on (Unlatch number) needs = order.unlatches worker number m its needs
-  can_act_on End needs = (next_is_busy entries run worker place m next sound is_next).goes_on (at_end m.state needs)
+  can_act_on End needs = (next_is_busy entries run worker place m next invariant is_next).goes_on (at_end m.state needs)
 
   -- so the turn can be taken
   pub can_act : CanAct run.shared worker m
@@ -87,4 +87,4 @@ module _ (laws : StepLaw) (entries : List Entry) (run : PlainRun) (worker place 
 
 -- each worker's turn can be taken, if there is a number left for a new page
 pub turn_is_ready : StepLaw → TurnIsReady
-turn_is_ready laws entries run worker place m next sound is_next room = can_act laws entries run worker place m next sound is_next room
+turn_is_ready laws entries run worker place m next invariant is_next room = can_act laws entries run worker place m next invariant is_next room

@@ -3,7 +3,7 @@ use Rattle.std.proofs.Common.{◌≡◌, ℕ, Bool, true, false, not, Option, So
 use Rattle.std.specs.Option.{is_some}
 use Rattle.blink_batch.specs.declared.Op.{Op}
 use Rattle.blink_machine.specs.declared.machine.State.TheVariants.{Start, Posting}
-use Rattle.blink_steps.specs.declared.seat.Seat.{Seat}
+use Rattle.blink_steps.specs.declared.seat.WorkerState.{WorkerState}
 use Rattle.blink_steps.specs.declared.seat.Working.{Working}
 use Rattle.blink_machine.specs.declared.step.Step.TheVariants.{Waited}
 use Rattle.blink_steps.specs.Acts.{Acts}
@@ -20,10 +20,10 @@ fresh_moves run worker op m is waits =
     cc
 
 -- a seat has one content
-pub one_seat : (run : PlainRun) (worker : ℕ) (seat other : Seat) → slice_get run.seats worker ≡ Some seat → slice_get run.seats worker ≡ Some other → seat.working ≡ other.working
-one_seat run worker seat other seated also = let same : seat ≡ other = cc in ap (λ (s : Seat). s.working) same
+pub one_seat : (run : PlainRun) (worker : ℕ) (seat other : WorkerState) → slice_get run.seats worker ≡ Some seat → slice_get run.seats worker ≡ Some other → seat.working ≡ other.working
+one_seat run worker seat other seated also = let same : seat ≡ other = cc in ap (λ (s : WorkerState). s.working) same
 
-module _ (run : PlainRun) (worker : ℕ) (seat : Seat) (seated : slice_get run.seats worker ≡ Some seat) where
+module _ (run : PlainRun) (worker : ℕ) (seat : WorkerState) (seated : slice_get run.seats worker ≡ Some seat) where
   -- a worker is idle where its seat has nothing under way
   pub idle_from : (working : Option Working) (answer : Bool) → seat.working ≡ working → is_some working ≡ not answer
       → (answer ≡ true → IsIdleWorker run worker) × (IsIdleWorker run worker → answer ≡ true)

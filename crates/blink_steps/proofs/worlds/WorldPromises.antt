@@ -5,16 +5,16 @@ use Rattle.blink_batch.specs.Cut.{Assignment}
 use Rattle.blink_steps.specs.Headline.{NoKeyIsLost}
 use Rattle.blink_batch.specs.declared.Entry.{Entry}
 use Rattle.blink_store.specs.Store.{PlainStore}
-use Rattle.blink_steps.specs.Ways.{IsShort}
+use Rattle.blink_steps.specs.StepBounds.{WithinStepBound}
 use Rattle.blink_machine.specs.Machine.{PlainMachine}
 use Rattle.blink_steps.specs.Promises.{KeepsItsPromises}
 use Rattle.blink_steps.specs.Run.{IsNextOf}
-use Rattle.blink_steps.specs.SoundRun.{IsShaped, IsSoundRun, CanTakeTurn}
+use Rattle.blink_steps.specs.RunInvariant.{IsShaped, RunInvariant, CanTakeTurn}
 use Rattle.blink_steps.specs.World.{PlainWorld, IsWorldOf, IsWorld, IsReplay}
 use Rattle.blink_steps.proofs.runs.RunLaws.{run_laws}
 use Rattle.blink_steps.proofs.runs.RunStatements.{CountsAreOf}
 use Rattle.blink_machine.proofs.law.EntriesAtStart.{entries_at_start}
-use Rattle.blink_steps.proofs.worlds.WorldsGoFurther.{counts_with, place_within, promises_with, shaped_with, sound_now, turn_can_be_taken}
+use Rattle.blink_steps.proofs.worlds.WorldsGoFurther.{counts_with, place_within, promises_with, shaped_with, invariant_now, turn_can_be_taken}
 
 -- what is promised of a world
 pub promises : (start : PlainStore) (world : PlainWorld) (is_world : IsWorldOf start world) → KeepsItsPromises start world is_world
@@ -32,12 +32,12 @@ can_take_turn world is worker within short = let found = entries_at_start is.0 i
 pub counted : (start : PlainStore) (world : PlainWorld) (is_world : IsWorldOf start world) → CountsAreOf is_world.history world.run
 counted start world is_world = let found = entries_at_start start is_world.may_begin.at_rest in counts_with run_laws start world is_world found.0 found.1
 
--- its run is sound, whatever map its tree kept at the start
-pub sound : (world : PlainWorld) → IsWorld world → (entries : List Entry) × IsSoundRun entries world.run
-sound world is = let found = entries_at_start is.0 is.1.may_begin.at_rest in (found.0, sound_now run_laws is.0 world is.1 found.0 found.1)
+-- its run has the invariant, whatever map its tree kept at the start
+pub invariant : (world : PlainWorld) → IsWorld world → (entries : List Entry) × RunInvariant entries world.run
+invariant world is = let found = entries_at_start is.0 is.1.may_begin.at_rest in (found.0, invariant_now run_laws is.0 world is.1 found.0 found.1)
 
 -- the way of each of its operations is short
-pub short : (start : PlainStore) (world : PlainWorld) (is_world : IsWorldOf start world) → IsShort start is_world.history world.run
+pub short : (start : PlainStore) (world : PlainWorld) (is_world : IsWorldOf start world) → WithinStepBound start is_world.history world.run
 short start world is_world =
     let found = entries_at_start start is_world.may_begin.at_rest in
     run_laws.history_is_short start world.run.ops world.run.assignment is_world.opening world.run is_world.history found.0 is_world.may_begin found.1.ascending found.1.kept is_world.is_opening is_world.follows
@@ -55,6 +55,6 @@ replay_loses_no_key start ops assignment schedule world is =
     (subst (λ (a : Assignment). NoKeyIsLost start world.run.ops a world) is.same_assignment (record {
       answers_place_by_place = λ entries is_map cut ended. ((promises start world is.is_world).one_thread cut ended).same_answers entries is_map;
       entries_of_one_thread = λ entries is_map cut ended. ((promises start world is.is_world).one_thread cut ended).same_entries entries is_map;
-      reached_at_every_moment = λ is_world. (promises start world is_world).reached_throughout;
+      reached_at_every_tree_state = λ is_world. (promises start world is_world).reached_throughout;
       steps_bounded = λ is_world. (short start world is_world).moves_in_all;
     }))

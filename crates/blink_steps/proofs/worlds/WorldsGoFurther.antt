@@ -18,8 +18,8 @@ use Rattle.blink_steps.specs.Decided.{map_now}
 use Rattle.blink_steps.specs.Headline.{ReachesPresent}
 use Rattle.blink_steps.specs.Promises.{KeepsItsPromises}
 use Rattle.blink_machine.specs.TreeMap.{IsMapOf}
-use Rattle.blink_steps.specs.Run.{PlainRun, Taken, TakesTurn, Follows, IsOpeningRun, IsNextOf, idle_seat, busy_seat}
-use Rattle.blink_steps.specs.SoundRun.{is_answered, IsShaped, IsSoundRun, CanTakeTurn}
+use Rattle.blink_steps.specs.Run.{PlainRun, Event, AppliesEvent, IsHistory, IsOpeningRun, IsNextOf, idle_seat, busy_seat}
+use Rattle.blink_steps.specs.RunInvariant.{is_answered, IsShaped, RunInvariant, CanTakeTurn}
 use Rattle.blink_steps.specs.World.{PlainWorld, IsFirstNoWorker, IsReplay, IsReplayRefusal, IsStepRefusal, IsWorldOf, MayBegin, TakesStep, HasTurnMore, SameBatch, OnEachTurn, AfterEachTurn, WritesItsOwn}
 use Rattle.blink_batch.specs.Order.{operations_at}
 use Rattle.blink_batch.proofs.Offered.{IsAscending-map_after_all, next_place_is}
@@ -27,10 +27,10 @@ use Rattle.blink_steps.proofs.worlds.OneThread.{one_thread}
 use Rattle.blink_steps.proofs.runs.RunStatements.{CountsAreOf, RunLaws}
 
 -- a turn leaves the batch and its lanes
-pub same_batch : (old new : PlainRun) (taken : Taken) → TakesTurn old taken new → SameBatch old new
-same_batch old new taken (TakesTurn.moves next kind is_next step acts same) = record { same_ops = ap (λ (r : PlainRun). r.ops) same; same_assignment = ap (λ (r : PlainRun). r.assignment) same }
-same_batch old new taken (TakesTurn.waits next is_next step acts same) = record { same_ops = ap (λ (r : PlainRun). r.ops) same; same_assignment = ap (λ (r : PlainRun). r.assignment) same }
-same_batch old new taken (TakesTurn.idles seat step same) = record { same_ops = ap (λ (r : PlainRun). r.ops) same; same_assignment = ap (λ (r : PlainRun). r.assignment) same }
+pub same_batch : (old new : PlainRun) (taken : Event) → AppliesEvent old taken new → SameBatch old new
+same_batch old new taken (AppliesEvent.moves next kind is_next step acts same) = record { same_ops = ap (λ (r : PlainRun). r.ops) same; same_assignment = ap (λ (r : PlainRun). r.assignment) same }
+same_batch old new taken (AppliesEvent.waits next is_next step acts same) = record { same_ops = ap (λ (r : PlainRun). r.ops) same; same_assignment = ap (λ (r : PlainRun). r.assignment) same }
+same_batch old new taken (AppliesEvent.idles seat step same) = record { same_ops = ap (λ (r : PlainRun). r.ops) same; same_assignment = ap (λ (r : PlainRun). r.assignment) same }
 
 -- a run that begins is the world of the empty schedule
 pub begins : (start : PlainStore) (ops : List Op) (assignment : Assignment) (run : PlainRun) → MayBegin start ops assignment → IsOpeningRun start ops assignment run
@@ -54,7 +54,7 @@ goes_further start old new worker step world takes =
       is_opening = subst (λ (xs : List Op). IsOpeningRun start xs new.run.assignment world.opening) (sym same.same_ops) (subst (λ (a : Assignment). IsOpeningRun start old.run.ops a world.opening) (sym same.same_assignment) world.is_opening);
       history = takes.taken ∷ world.history;
       follows = (old.run, world.follows, takes.turn);
-      same_schedule = takes.told ∙ ap (λ (xs : List ℕ). xs ++ worker ∷ []) world.same_schedule ∙ ap (λ (n : ℕ). reverse (map (λ (taken : Taken). taken.worker) world.history) ++ n ∷ []) (sym takes.same_worker) ∙ sym (reverse-append (takes.taken.worker ∷ []) (map (λ (taken : Taken). taken.worker) world.history));
+      same_schedule = takes.told ∙ ap (λ (xs : List ℕ). xs ++ worker ∷ []) world.same_schedule ∙ ap (λ (n : ℕ). reverse (map (λ (taken : Event). taken.worker) world.history) ++ n ∷ []) (sym takes.same_worker) ∙ sym (reverse-append (takes.taken.worker ∷ []) (map (λ (taken : Event). taken.worker) world.history));
     }
 
 -- its history is the old one with the turn in front
@@ -71,7 +71,7 @@ has_turn_more start old new worker step is_world takes = record {
   one_more = refl;
 }
 
--- the world of a front of a schedule, and after one number more
+-- the world of a prefix of a schedule, and after one number more
 pub replays_further : (start : PlainStore) (ops : List Op) (assignment : Assignment) (schedule : List ℕ) (old new : PlainWorld) (worker : ℕ) (step : Step)
     → IsReplay start ops assignment schedule old → TakesStep old worker step new → IsReplay start ops assignment (schedule ++ worker ∷ []) new
 replays_further start ops assignment schedule old new worker step is takes =
@@ -83,18 +83,18 @@ replays_further start ops assignment schedule old new worker step is takes =
       same_schedule = takes.told ∙ ap (λ (xs : List ℕ). xs ++ worker ∷ []) is.same_schedule;
     }
 
--- a number after a front of workers that is no worker's is the first
+-- a number after a prefix of workers that is no worker's is the first
 pub first_no_worker : (workers : ℕ) (schedule : List ℕ) (index : ℕ) → index < length schedule → All (λ worker. worker < workers) (take index schedule)
     → workers ≤ get_or schedule index 0 → IsFirstNoWorker workers schedule (get_or schedule index 0)
 first_no_worker workers schedule index within before no_worker = record {
-  front = take index schedule;
+  prefix = take index schedule;
   rest = drop (index + 1) schedule;
   parts = sym (take-append-drop index schedule) ∙ ap (λ (xs : List ℕ). take index schedule ++ xs) (drop_more schedule index 0 within);
   no_worker = no_worker;
   workers_before = before;
 }
 
--- a step that is refused after a front of workers is why the schedule isn't replayed
+-- a step that is refused after a prefix of workers is why the schedule isn't replayed
 pub replay_refusal : (start : PlainStore) (ops : List Op) (workers : ℕ) (schedule : List ℕ) (index : ℕ) (refusal : StepError) → index < length schedule
     → All (λ worker. worker < workers) (take index schedule) → IsStepRefusal workers (get_or schedule index 0) refusal → IsReplayRefusal start ops workers schedule refusal
 replay_refusal start ops workers schedule index OutOfMemory within before refused = tt
@@ -102,7 +102,7 @@ replay_refusal start ops workers schedule index (NoWorker number) within before 
     subst (IsFirstNoWorker workers schedule) (sym refused.0) (first_no_worker workers schedule index within before refused.1)
 replay_refusal start ops workers schedule index TooLarge within before refused = absurd refused
 
--- a front of workers and one more
+-- a prefix of workers and one more
 pub workers_more : (workers : ℕ) (schedule : List ℕ) (index : ℕ) → index < length schedule → All (λ worker. worker < workers) (take index schedule)
     → get_or schedule index 0 < workers → All (λ worker. worker < workers) (take (index + 1) schedule)
 workers_more workers schedule index within before worker =
@@ -111,7 +111,7 @@ workers_more workers schedule index within before worker =
 -- a world's history is as long as its schedule
 pub history_long : (start : PlainStore) (world : PlainWorld) (is_world : IsWorldOf start world) → length is_world.history ≡ length world.schedule
 history_long start world is_world =
-    sym (ap (λ (xs : List ℕ). length xs) is_world.same_schedule ∙ length-reverse (map (λ (taken : Taken). taken.worker) is_world.history) ∙ length-map is_world.history (λ (taken : Taken). taken.worker))
+    sym (ap (λ (xs : List ℕ). length xs) is_world.same_schedule ∙ length-reverse (map (λ (taken : Event). taken.worker) is_world.history) ∙ length-map is_world.history (λ (taken : Event). taken.worker))
 
 -- one place more counts for its own answer
 one_place_more : (given : Option Answer) (answers : List (Option Answer)) → count_by is_answered (given ∷ answers) ≡ cond {A = ℕ} (is_answered given) 1 0 + count_by is_answered answers
@@ -132,89 +132,89 @@ fewer_given (given ∷ answers) zero missing = omega (arith, count_by-le-length 
 fewer_given (given ∷ answers) (suc place) missing = omega (arith, fewer_given answers place missing, one_at_most (is_answered given), one_place_more given answers)
 
 module _ (laws : RunLaws) where
-  -- every moment of a run is sound
-  pub sound_after : (start : PlainStore) (ops : List Op) (assignment : Assignment) (opening run : PlainRun) (history : List Taken) (entries : List Entry)
-      → MayBegin start ops assignment → IsMapOf start entries → IsOpeningRun start ops assignment opening → Follows opening history run → IsSoundRun entries run
-  sound_after start ops assignment opening run [] entries may_begin is_map is_opening follows =
-      subst (IsSoundRun entries) (sym follows) (laws.opening_run_is_sound start ops assignment opening entries may_begin is_map.ascending is_map.kept is_opening)
-  sound_after start ops assignment opening run (taken ∷ history) entries may_begin is_map is_opening follows =
-      laws.turn_keeps_sound_run entries follows.0 run taken (sound_after start ops assignment opening follows.0 history entries may_begin is_map is_opening follows.1) follows.2
+  -- every tree state of a run has the invariant
+  pub invariant_after : (start : PlainStore) (ops : List Op) (assignment : Assignment) (opening run : PlainRun) (history : List Event) (entries : List Entry)
+      → MayBegin start ops assignment → IsMapOf start entries → IsOpeningRun start ops assignment opening → IsHistory opening history run → RunInvariant entries run
+  invariant_after start ops assignment opening run [] entries may_begin is_map is_opening follows =
+      subst (RunInvariant entries) (sym follows) (laws.opening_run_has_invariant start ops assignment opening entries may_begin is_map.ascending is_map.kept is_opening)
+  invariant_after start ops assignment opening run (taken ∷ history) entries may_begin is_map is_opening follows =
+      laws.turn_keeps_run_invariant entries follows.0 run taken (invariant_after start ops assignment opening follows.0 history entries may_begin is_map is_opening follows.1) follows.2
 
   -- each write of it is the writer's own
-  writes_after : (start : PlainStore) (ops : List Op) (assignment : Assignment) (opening run : PlainRun) (history : List Taken) (entries : List Entry)
-      → MayBegin start ops assignment → IsMapOf start entries → IsOpeningRun start ops assignment opening → (follows : Follows opening history run)
+  writes_after : (start : PlainStore) (ops : List Op) (assignment : Assignment) (opening run : PlainRun) (history : List Event) (entries : List Entry)
+      → MayBegin start ops assignment → IsMapOf start entries → IsOpeningRun start ops assignment opening → (follows : IsHistory opening history run)
       → OnEachTurn WritesItsOwn opening history run follows
   writes_after start ops assignment opening run [] entries may_begin is_map is_opening follows = tt
   writes_after start ops assignment opening run (taken ∷ history) entries may_begin is_map is_opening follows = (
-    laws.writes_are_own entries follows.0 run taken (sound_after start ops assignment opening follows.0 history entries may_begin is_map is_opening follows.1) follows.2,
+    laws.writes_are_own entries follows.0 run taken (invariant_after start ops assignment opening follows.0 history entries may_begin is_map is_opening follows.1) follows.2,
     writes_after start ops assignment opening follows.0 history entries may_begin is_map is_opening follows.1,
   )
 
   -- after each turn of it each key present is reached
-  reached_after : (start : PlainStore) (ops : List Op) (assignment : Assignment) (opening run : PlainRun) (history : List Taken) (entries : List Entry)
-      → MayBegin start ops assignment → IsMapOf start entries → IsOpeningRun start ops assignment opening → (follows : Follows opening history run)
+  reached_after : (start : PlainStore) (ops : List Op) (assignment : Assignment) (opening run : PlainRun) (history : List Event) (entries : List Entry)
+      → MayBegin start ops assignment → IsMapOf start entries → IsOpeningRun start ops assignment opening → (follows : IsHistory opening history run)
       → AfterEachTurn (ReachesPresent entries) opening history run follows
   reached_after start ops assignment opening run [] entries may_begin is_map is_opening follows = tt
   reached_after start ops assignment opening run (taken ∷ history) entries may_begin is_map is_opening follows = (
-    λ key pointer. laws.present_is_reached entries run key pointer (sound_after start ops assignment opening run (taken ∷ history) entries may_begin is_map is_opening follows),
+    λ key pointer. laws.present_is_reached entries run key pointer (invariant_after start ops assignment opening run (taken ∷ history) entries may_begin is_map is_opening follows),
     reached_after start ops assignment opening follows.0 history entries may_begin is_map is_opening follows.1,
   )
 
   module _ (start : PlainStore) (world : PlainWorld) (is_world : IsWorldOf start world) (entries : List Entry) (is_map : IsMapOf start entries) where
-    -- the moment of its run is sound
-    pub sound_now : IsSoundRun entries world.run
-    sound_now = sound_after start world.run.ops world.run.assignment is_world.opening world.run is_world.history entries is_world.may_begin is_map is_world.is_opening is_world.follows
+    -- the tree state of its run has the invariant
+    pub invariant_now : RunInvariant entries world.run
+    invariant_now = invariant_after start world.run.ops world.run.assignment is_world.opening world.run is_world.history entries is_world.may_begin is_map is_world.is_opening is_world.follows
 
     -- the lists of its run have their lengths
     pub shaped_with : IsShaped world.run
-    shaped_with = sound_now.shaped
+    shaped_with = invariant_now.shaped
 
     -- what its run counts of an operation is what its history has
     pub counts_with : CountsAreOf is_world.history world.run
     counts_with = laws.counts_are_kept start world.run.ops world.run.assignment is_world.opening world.run is_world.history is_world.is_opening is_world.follows
 
     -- whatever map the tree kept at the start
-    sound_with : (others : List Entry) → IsMapOf start others → IsSoundRun others world.run
-    sound_with others are = sound_after start world.run.ops world.run.assignment is_world.opening world.run is_world.history others is_world.may_begin are is_world.is_opening is_world.follows
+    invariant_with : (others : List Entry) → IsMapOf start others → RunInvariant others world.run
+    invariant_with others are = invariant_after start world.run.ops world.run.assignment is_world.opening world.run is_world.history others is_world.may_begin are is_world.is_opening is_world.follows
 
     -- what is promised of a world, from the entries at its start
     pub promises_with : KeepsItsPromises start world is_world
     promises_with =
-        let sound = sound_now in
+        let invariant = invariant_now in
         let ops : List Op = world.run.ops in
         let assignment : Assignment = world.run.assignment in
         record {
-          tree = (sound.sound.0, sound.sound.1.lawful);
-          has_map = (map_now entries world.run, record { ascending = IsAscending-map_after_all entries (operations_at ops world.run.ledger.order) is_map.ascending; kept = sound.decided.kept });
+          tree = (invariant.invariant.0, invariant.invariant.1.lawful);
+          has_map = (map_now entries world.run, record { ascending = IsAscending-map_after_all entries (operations_at ops world.run.outcome.order) is_map.ascending; kept = invariant.decided.kept });
           one_latch = laws.one_latch_each world.run;
           writes_its_own = writes_after start ops assignment is_world.opening world.run is_world.history entries is_world.may_begin is_map is_world.is_opening is_world.follows;
-          decided = λ others are. (sound_with others are).decided;
-          reached = λ others are key pointer. laws.present_is_reached others world.run key pointer (sound_with others are);
+          decided = λ others are. (invariant_with others are).decided;
+          reached = λ others are key pointer. laws.present_is_reached others world.run key pointer (invariant_with others are);
           reached_throughout = record {
             at_first = λ others are key pointer. laws.present_is_reached others is_world.opening key pointer
-                (laws.opening_run_is_sound start ops assignment is_world.opening others is_world.may_begin are.ascending are.kept is_world.is_opening);
+                (laws.opening_run_has_invariant start ops assignment is_world.opening others is_world.may_begin are.ascending are.kept is_world.is_opening);
             after_each = λ others are. reached_after start ops assignment is_world.opening world.run is_world.history others is_world.may_begin are is_world.is_opening is_world.follows;
           };
-          once = laws.each_is_decided_once entries world.run sound;
-          lanes_in_order = λ worker. laws.fronts_are_decided entries world.run worker sound;
-          each_has_its_turn = λ worker. laws.each_has_its_turn entries world.run worker sound;
+          once = laws.each_is_decided_once entries world.run invariant;
+          lanes_in_order = λ worker. laws.prefixes_are_decided entries world.run worker invariant;
+          each_has_its_turn = λ worker. laws.each_has_its_turn entries world.run worker invariant;
           bounded = laws.history_is_bounded start ops assignment is_world.opening world.run is_world.history entries is_world.may_begin is_map.ascending is_map.kept is_world.is_opening is_world.follows;
           short = laws.history_is_short start ops assignment is_world.opening world.run is_world.history entries is_world.may_begin is_map.ascending is_map.kept is_world.is_opening is_world.follows;
-          ended = laws.ended_run_is_whole entries world.run sound;
-          ended_in_order = λ others are. laws.ended_run_is_answered others world.run (sound_with others are);
-          one_thread = one_thread laws start world.run sound_with entries is_map;
+          ended = laws.ended_run_is_whole entries world.run invariant;
+          ended_in_order = λ others are. laws.ended_run_is_answered others world.run (invariant_with others are);
+          one_thread = one_thread laws start world.run invariant_with entries is_map;
         }
 
     -- an idle worker's next place is one of the batch
     next_within : (worker place : ℕ) → slice_get world.run.seats worker ≡ Some (idle_seat (Some place)) → place < length world.run.ops
     next_within worker place seat =
-        let idle = sound_now.seats worker (idle_seat (Some place)) seat in
+        let idle = invariant_now.seats worker (idle_seat (Some place)) seat in
         let is_place = next_place_is world.run.assignment.lanes worker idle.from place (sym idle.next_of_lane) in
-        omega (arith, is_place.1, sound_now.shaped.a_lane_each)
+        omega (arith, is_place.1, invariant_now.shaped.a_lane_each)
 
     -- the place of a worker's next operation is one of the batch
     pub place_within : (worker place : ℕ) (m : PlainMachine) (next : Option ℕ) → IsNextOf world.run worker place m next → place < length world.run.ops
-    place_within worker place m next (IsNextOf.under_way seat) = slice_get_within world.run.ops place m.op (sound_now.seats worker (busy_seat place m next) seat).same_op
+    place_within worker place m next (IsNextOf.under_way seat) = slice_get_within world.run.ops place m.op (invariant_now.seats worker (busy_seat place m next) seat).same_op
     place_within worker place m next (IsNextOf.taken_on op seat there fresh after) = slice_get_within world.run.ops place op there
 
     -- a count that a run keeps is at most the number of its turns
@@ -228,20 +228,20 @@ module _ (laws : RunLaws) where
     -- a worker's turn can be taken
     pub turn_can_be_taken : (worker : ℕ) → worker < world.run.assignment.workers → length world.schedule + 1 < 2 ^ 64 → CanTakeTurn world.run worker
     turn_can_be_taken worker within short =
-        let shaped = sound_now.shaped in
+        let shaped = invariant_now.shaped in
         let counts = counts_with in
         record {
           seated = omega (arith, shaped.a_seat_each);
           next_of_batch = λ place seat. next_within worker place seat;
-          can_act = λ place m next is_next. laws.turn_is_ready entries world.run worker place m next sound_now is_next
+          can_act = λ place m next is_next. laws.turn_is_ready entries world.run worker place m next invariant_now is_next
               (laws.number_is_left start world.run.ops world.run.assignment is_world.opening world.run is_world.history entries worker place m next is_world.may_begin is_map.ascending is_map.kept is_world.is_opening is_world.follows is_next);
           place_of_batch = λ place m next is_next. let within = place_within worker place m next is_next in omega (arith, shaped.an_answer_each);
           room = λ place m next is_next unanswered.
-              let fewer = fewer_given world.run.ledger.answers place (laws.next_is_unanswered entries world.run worker place m next sound_now is_next unanswered) in
-              omega (arith, sound_now.as_many_decided);
+              let fewer = fewer_given world.run.outcome.answers place (laws.next_is_unanswered entries world.run worker place m next invariant_now is_next unanswered) in
+              omega (arith, invariant_now.as_many_decided);
           countable = λ place m next is_next.
               let within = place_within worker place m next is_next in (
-                count_within world.run.ledger.reads place (page_reads_in is_world.history place) (counts.reads place within) (counts.few_reads place) short,
-                count_within world.run.ledger.moves place (moves_in is_world.history place) (counts.moves place within) (counts.few_moves place) short,
+                count_within world.run.outcome.reads place (page_reads_in is_world.history place) (counts.reads place within) (counts.few_reads place) short,
+                count_within world.run.outcome.moves place (moves_in is_world.history place) (counts.moves place within) (counts.few_moves place) short,
               );
         }

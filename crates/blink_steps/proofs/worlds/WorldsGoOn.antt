@@ -20,11 +20,11 @@ use Rattle.blink_machine.specs.declared.step.Step.TheVariants.{Moved, Waited}
 use Rattle.blink_steps.specs.Acts.{PlainShared, Acts, ActsOn}
 use Rattle.blink_steps.specs.Counts.{moves_in}
 use Rattle.blink_machine.specs.Kinds.{has_moved}
-use Rattle.blink_steps.specs.Ways.{steps_at_most_with}
-use Rattle.blink_steps.specs.Ledger.{one_more_at}
+use Rattle.blink_steps.specs.StepBounds.{steps_at_most_with}
+use Rattle.blink_steps.specs.Outcome.{one_more_at}
 use Rattle.blink_machine.specs.Machine.{PlainMachine, need_at}
 use Rattle.blink_steps.specs.Pick.{GoesOnPicked, IsFirstMover, WouldMove, WouldWait, steps_at_most, steps_left}
-use Rattle.blink_steps.specs.Run.{PlainRun, Taken, TakesTurn, Follows, IsNextOf, IsOpeningRun, busy_seat, idle_seat}
+use Rattle.blink_steps.specs.Run.{PlainRun, Event, AppliesEvent, IsHistory, IsNextOf, IsOpeningRun, busy_seat, idle_seat}
 use Rattle.blink_machine.specs.Table.{SeesPrime, WaitsForLevel}
 use Rattle.blink_steps.specs.World.{PlainWorld, IsWorldOf, MayBegin, SameBatch, TakesStep}
 use Rattle.blink_steps.proofs.worlds.WorkersBySeat.{idle_never_waits, only_next}
@@ -35,18 +35,18 @@ use Rattle.blink_steps.proofs.worlds.WorldPromises.{counted, place_of_next, shap
 -- ---- a turn of a worker that would move
 
 -- what became of a turn of a worker that would move: a step of an operation of its
-pub data MovesOn (old : PlainRun) (taken : Taken) (new : PlainRun) : Type 0 where
-  by_step : (next : Option ℕ) → IsNextOf old taken.worker taken.place taken.before next → has_moved taken.step ≡ true → new.ledger.moves ≡ one_more_at old.ledger.moves taken.place → MovesOn old taken new
+pub data MovesOn (old : PlainRun) (taken : Event) (new : PlainRun) : Type 0 where
+  by_step : (next : Option ℕ) → IsNextOf old taken.worker taken.place taken.before next → has_moved taken.step ≡ true → new.outcome.moves ≡ one_more_at old.outcome.moves taken.place → MovesOn old taken new
 
 -- it is neither a wait nor passed over
-pub mover_moves : (old new : PlainRun) (taken : Taken) → TakesTurn old taken new → WouldMove old taken.worker → MovesOn old taken new
-mover_moves old new taken (TakesTurn.moves next kind is_next step acts same) moves =
-    MovesOn.by_step next is_next (ap has_moved step) (ap (λ (run : PlainRun). run.ledger.moves) same)
-mover_moves old new taken (TakesTurn.waits next is_next step acts same) moves =
+pub mover_moves : (old new : PlainRun) (taken : Event) → AppliesEvent old taken new → WouldMove old taken.worker → MovesOn old taken new
+mover_moves old new taken (AppliesEvent.moves next kind is_next step acts same) moves =
+    MovesOn.by_step next is_next (ap has_moved step) (ap (λ (run : PlainRun). run.outcome.moves) same)
+mover_moves old new taken (AppliesEvent.waits next is_next step acts same) moves =
     let unchanged = waits_unchanged (need_at taken.before.state) old.shared taken.worker taken.before taken.after old.shared acts in
     let waits = subst (λ (m : PlainMachine). Acts old.shared taken.worker taken.before Waited m old.shared) unchanged.0 acts in
     absurd (moves.not_waiting (record { place = taken.place; m = taken.before; next = next; is_next = is_next; waits = waits }))
-mover_moves old new taken (TakesTurn.idles seat step same) moves = absurd (moves.not_at_end seat)
+mover_moves old new taken (AppliesEvent.idles seat step same) moves = absurd (moves.not_at_end seat)
 
 -- so a worker that would move does, at its turn
 pub would_move_moves : (old new : PlainWorld) (worker : ℕ) (step : Step) → TakesStep old worker step new → WouldMove old.run worker → has_moved step ≡ true
@@ -78,8 +78,8 @@ never_both (Unlatch number) shared after_shared worker m after kind waits moves 
 never_both End shared after_shared worker m after kind waits moves = waits
 
 -- so the operation of a worker that would wait does
-waiter_waits : (old new : PlainRun) (taken : Taken) → TakesTurn old taken new → WouldWait old taken.worker → taken.step ≡ Waited
-waiter_waits old new taken (TakesTurn.moves next kind is_next step acts same) wait = absurd (by_next is_next)
+waiter_waits : (old new : PlainRun) (taken : Event) → AppliesEvent old taken new → WouldWait old taken.worker → taken.step ≡ Waited
+waiter_waits old new taken (AppliesEvent.moves next kind is_next step acts same) wait = absurd (by_next is_next)
   where
     by_next : IsNextOf old taken.worker taken.place taken.before next → ⊥
     by_next (IsNextOf.under_way busy) =
@@ -88,8 +88,8 @@ waiter_waits old new taken (TakesTurn.moves next kind is_next step acts same) wa
         let waits = subst (λ (m : PlainMachine). Acts old.shared taken.worker m Waited m old.shared) its wait.waits in
         never_both (need_at taken.before.state) old.shared new.shared taken.worker taken.before taken.after kind waits acts
     by_next (IsNextOf.taken_on op idle there is_fresh after) = idle_never_waits old taken.worker (idle_seat (Some taken.place)) idle refl wait
-waiter_waits old new taken (TakesTurn.waits next is_next step acts same) wait = step
-waiter_waits old new taken (TakesTurn.idles seat step same) wait = absurd (idle_never_waits old taken.worker (idle_seat None) seat refl wait)
+waiter_waits old new taken (AppliesEvent.waits next is_next step acts same) wait = step
+waiter_waits old new taken (AppliesEvent.idles seat step same) wait = absurd (idle_never_waits old taken.worker (idle_seat None) seat refl wait)
 
 -- and so its turn is a wait
 pub would_wait_waits : (old new : PlainWorld) (worker : ℕ) (step : Step) → TakesStep old worker step new → WouldWait old.run worker → step ≡ Waited
@@ -103,21 +103,21 @@ sum-one_more_at : (counts : List ℕ) (place : ℕ) → place < length counts �
 sum-one_more_at counts place within = omega (arith, sum_by-set (λ (x : ℕ). x) counts place (slice_index_or counts place 0 + 1) 0 within)
 
 -- no operation has taken more steps than the pages allow that there can be
-counted_moves_are_few : (start : PlainStore) (world : PlainWorld) → IsWorldOf start world → All (λ count. count ≤ steps_at_most_with MAX_PAGE) world.run.ledger.moves
+counted_moves_are_few : (start : PlainStore) (world : PlainWorld) → IsWorldOf start world → All (λ count. count ≤ steps_at_most_with MAX_PAGE) world.run.outcome.moves
 counted_moves_are_few start world is_world place default within =
     let lists = shaped world (start, is_world) in
     let at_place : place < length world.run.ops = omega (arith, lists.a_move_count_each) in
-    let count = get_or_from_slice_get world.run.ledger.moves place (moves_in is_world.history place) default ((counted start world is_world).moves place at_place) in
+    let count = get_or_from_slice_get world.run.outcome.moves place (moves_in is_world.history place) default ((counted start world is_world).moves place at_place) in
     let few = (short start world is_world).moves place in
     let pages : length world.run.shared.store.pages ≤ MAX_PAGE = lists.lawful_store.count_in_range.1 in
     omega arith
 
 -- so all of them together have a limit
-moves_within : (start : PlainStore) (world : PlainWorld) → IsWorldOf start world → sum world.run.ledger.moves ≤ steps_at_most world.run
+moves_within : (start : PlainStore) (world : PlainWorld) → IsWorldOf start world → sum world.run.outcome.moves ≤ steps_at_most world.run
 moves_within start world is_world =
-    let each = sum_by-le (λ (count : ℕ). count) (steps_at_most_with MAX_PAGE) world.run.ledger.moves (counted_moves_are_few start world is_world) in
+    let each = sum_by-le (λ (count : ℕ). count) (steps_at_most_with MAX_PAGE) world.run.outcome.moves (counted_moves_are_few start world is_world) in
     let as_many = (shaped world (start, is_world)).a_move_count_each in
-    subst (λ (n : ℕ). sum world.run.ledger.moves ≤ n * steps_at_most_with MAX_PAGE) as_many each
+    subst (λ (n : ℕ). sum world.run.outcome.moves ≤ n * steps_at_most_with MAX_PAGE) as_many each
 
 nearer_to : (limit before after : ℕ) → after ≡ before + 1 → after ≤ limit → limit - after < limit - before
 nearer_to limit before after more within = omega arith
@@ -129,12 +129,12 @@ nearer start old new worker step is_world takes moves = elim (mover_moves old.ru
   | MovesOn.by_step next is_next moved counts ↦
       let lists = shaped old (start, is_world) in
       let place : takes.taken.place < length old.run.ops = place_of_next old (start, is_world) takes.taken.worker takes.taken.place takes.taken.before next is_next in
-      let more : sum new.run.ledger.moves ≡ sum old.run.ledger.moves + 1 = ap (λ (xs : List ℕ). sum xs) counts ∙ sum-one_more_at old.run.ledger.moves takes.taken.place (omega (arith, lists.a_move_count_each)) in
-      let within : sum new.run.ledger.moves ≤ steps_at_most old.run =
-      subst (λ (ops : List Op). sum new.run.ledger.moves ≤ length ops * steps_at_most_with MAX_PAGE) (same_batch old.run new.run takes.taken takes.turn).same_ops
+      let more : sum new.run.outcome.moves ≡ sum old.run.outcome.moves + 1 = ap (λ (xs : List ℕ). sum xs) counts ∙ sum-one_more_at old.run.outcome.moves takes.taken.place (omega (arith, lists.a_move_count_each)) in
+      let within : sum new.run.outcome.moves ≤ steps_at_most old.run =
+      subst (λ (ops : List Op). sum new.run.outcome.moves ≤ length ops * steps_at_most_with MAX_PAGE) (same_batch old.run new.run takes.taken takes.turn).same_ops
       (moves_within start new (goes_further start old new worker step is_world takes)) in
-      subst (λ (ops : List Op). length ops * steps_at_most_with MAX_PAGE - sum new.run.ledger.moves < steps_left old.run) (sym (same_batch old.run new.run takes.taken takes.turn).same_ops)
-      (nearer_to (steps_at_most old.run) (sum old.run.ledger.moves) (sum new.run.ledger.moves) more within)
+      subst (λ (ops : List Op). length ops * steps_at_most_with MAX_PAGE - sum new.run.outcome.moves < steps_left old.run) (sym (same_batch old.run new.run takes.taken takes.turn).same_ops)
+      (nearer_to (steps_at_most old.run) (sum old.run.outcome.moves) (sum new.run.outcome.moves) more within)
 ]
 
 -- ---- a world that goes on
@@ -147,7 +147,7 @@ picked_none world = record { turns = []; follows = refl; picked = tt; told = sym
 pub picked_further : (old between new : PlainWorld) (worker : ℕ) (step : Step) → GoesOnPicked old between → IsFirstMover between.run worker → TakesStep between worker step new
     → GoesOnPicked old new
 picked_further old between new worker step goes first takes =
-    let workers : List ℕ = map (λ (taken : Taken). taken.worker) goes.turns in
+    let workers : List ℕ = map (λ (taken : Event). taken.worker) goes.turns in
     record {
       turns = takes.taken ∷ goes.turns;
       follows = (between.run, goes.follows, takes.turn);
@@ -160,12 +160,12 @@ picked_further old between new worker step goes first takes =
     }
 
 -- turns after turns
-follows_on : (start between run : PlainRun) (earlier later : List Taken) → Follows start earlier between → Follows between later run → Follows start (later ++ earlier) run
-follows_on start between run earlier [] first same = subst (λ (r : PlainRun). Follows start earlier r) (sym same) first
+follows_on : (start between run : PlainRun) (earlier later : List Event) → IsHistory start earlier between → IsHistory between later run → IsHistory start (later ++ earlier) run
+follows_on start between run earlier [] first same = subst (λ (r : PlainRun). IsHistory start earlier r) (sym same) first
 follows_on start between run earlier (taken ∷ later) first follows = (follows.0, follows_on start between follows.0 earlier later first follows.1, follows.2)
 
 -- they leave the batch and its lanes
-pub same_batch_along : (start run : PlainRun) (history : List Taken) → Follows start history run → SameBatch start run
+pub same_batch_along : (start run : PlainRun) (history : List Event) → IsHistory start history run → SameBatch start run
 same_batch_along start run [] same = record { same_ops = ap (λ (r : PlainRun). r.ops) same; same_assignment = ap (λ (r : PlainRun). r.assignment) same }
 same_batch_along start run (taken ∷ history) follows =
     let last = same_batch follows.0 run taken follows.2 in
@@ -179,7 +179,7 @@ same_batch_then old new goes = same_batch_along old.run new.run goes.turns goes.
 pub world_goes_on : (start : PlainStore) (old new : PlainWorld) → GoesOnPicked old new → IsWorldOf start old → IsWorldOf start new
 world_goes_on start old new goes is_world =
     let same = same_batch_along old.run new.run goes.turns goes.follows in
-    let worker_of : Taken → ℕ = λ taken. taken.worker in
+    let worker_of : Event → ℕ = λ taken. taken.worker in
     record {
       may_begin = subst (λ (ops : List Op). MayBegin start ops new.run.assignment) (sym same.same_ops) (subst (λ (a : Assignment). MayBegin start old.run.ops a) (sym same.same_assignment) is_world.may_begin);
       opening = is_world.opening;

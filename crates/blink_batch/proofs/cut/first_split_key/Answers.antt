@@ -15,7 +15,7 @@ loop-place-preserved c =
         | in_default-via-in-Some+else-lanes-earlier w ↦ unsplit_by_last ops lanes c.loop-place.place w.in-Some.earlier so_far.whole w.in-Some.ensures w.if-lanes-earlier.false
         | in_default-via-in_default w ↦ λ split. w.in_default.ensures split.0 split.1.before split.1.same_key
       ]);
-      noted = c.note.ensures;
+      recorded = c.note.ensures;
     }
 
 pub returns : goal.returns

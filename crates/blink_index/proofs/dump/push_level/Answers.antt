@@ -22,6 +22,6 @@ loop-link-preserved c =
     let rest = level_text (cells_of c.args.store.now c.read-page.result.now.right) in
     let added : string_bytes c.push_line.new.text ≡ string_bytes c.loop-link.text ++ line = c.in_ok-push_line.ensures in
     let joined : string_bytes c.push_line.new.text ++ rest ≡ string_bytes c.loop-link.text ++ level_text (cells_of c.args.store.now c.loop-link.link)
-    = ap (λ (front : List ℕ). front ++ rest) added ∙ append_assoc (string_bytes c.loop-link.text) line rest
+    = ap (λ (prefix : List ℕ). prefix ++ rest) added ∙ append_assoc (string_bytes c.loop-link.text) line rest
     ∙ ap (λ (cs : List Cell). string_bytes c.loop-link.text ++ level_text cs) (sym on.first) in
     rw (ap (λ (p : PlainPage). p.right) c.page.view_is) (record { is_link = on.onward; rest_is_left = joined ∙ c.loop-link.invariant.rest_is_left })

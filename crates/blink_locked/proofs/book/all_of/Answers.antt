@@ -13,12 +13,12 @@ pub loop-answer-preserved : goal.loop-answer-preserved
 loop-answer-preserved c =
     let so_far = c.loop-answer.invariant in
     let given : List (Option Answer) = c.args.given.now in
-    let front : List (Option Answer) = take c.loop-answer.answer-index given in
+    let prefix : List (Option Answer) = take c.loop-answer.answer-index given in
     record {
       first_answers = rw c.push_reserved.ensures.items
           (map-append Some c.loop-answer.answers.items (c.unwrap.result ∷ [])
           ∙ ap (λ (answers : List (Option Answer)). answers ++ Some c.unwrap.result ∷ []) so_far.first_answers
-          ∙ ap (λ (answer : Option Answer). front ++ answer ∷ []) (sym c.unwrap.ensures)
+          ∙ ap (λ (answer : Option Answer). prefix ++ answer ∷ []) (sym c.unwrap.ensures)
           ∙ sym (take_more given c.loop-answer.answer-index None (omega (arith, c.loop-answer-test.true))));
       room = omega (arith, so_far.room, c.push_reserved.ensures.capacity);
       as_many = omega (arith, so_far.as_many, c.push_reserved.ensures.len);

@@ -14,7 +14,7 @@ loop-i-preserved c =
     let own : c.page.inside.items.items ≡ page.entries = ap (λ (p : PlainPage). p.entries) c.page.view_is in
     let read : c.deref-key-items.result.now ≡ page.entries = cc in
     let inside : c.loop-i.i < length page.entries = omega (arith, ap length read) in
-    let front : length (take c.loop-i.i page.entries) ≡ c.loop-i.i = length-take-le c.loop-i.i page.entries (omega arith) in
+    let prefix : length (take c.loop-i.i page.entries) ≡ c.loop-i.i = length-take-le c.loop-i.i page.entries (omega arith) in
     let written : length (flat (take c.loop-i.i page.entries)) ≡ 2 * c.loop-i.i = omega (arith, length-flat (take c.loop-i.i page.entries)) in
     let room : length page.entries ≤ MAX_FAN = omega (arith, ap length own, c.page.invariant.at_most_fan) in
     rw (read, flat_more page.entries c.loop-i.i (0, 0) inside)

@@ -9,7 +9,7 @@ returns-then-worker-workers c =
     let at = c.loop-worker.worker-index in
     let schedule : List ℕ = c.args.schedule.now in
     record {
-      front = take at schedule;
+      prefix = take at schedule;
       rest = drop (at + 1) schedule;
       parts = sym (take-append-drop at schedule) ∙ ap (λ (rest : List ℕ). take at schedule ++ rest) (drop_more schedule at 0 (omega (arith, c.loop-worker-test.true)));
       no_worker = omega (arith, c.if-worker-workers.true);

@@ -1,7 +1,7 @@
 use Rattle.std.proofs.Common.{◌++◌}
 use Rattle.std.proofs.lemmas.Result.{IfErr-weaker, on_ok_weaker}
 use Rattle.blink_run.specs.ServedReplay.{AreToWrite, IsReplayText, LeavesReplay, TellsReplayOf}
-use Rattle.blink_run.proofs.WhatWritersTake.{writes_front, writes_whole}
+use Rattle.blink_run.proofs.WhatWritersTake.{writes_prefix, writes_whole}
 use Rattle.blink_run.proofs.replay.replay_script.Goals as goal
 
 -- all of it is written
@@ -11,7 +11,7 @@ returns-clause-replayed g c =
     let is_text : AreToWrite c.args.settings.now.workers c.args.settings.now.fan c.args.schedule.now to_read (c.deref.result.now ++ (c.deref-2.result.now ++ c.deref-3.result.now)) =
     rw (c.deref.ensures, c.deref-2.ensures, c.deref-3.ensures) c.in_ok-pages.ensures.texts in
     on_ok_weaker c.write_replay.result
-    (λ out. writes_whole g.W.Write.contents to_read c.args.writer.now c.write_replay.new.outlet (IsReplayText c.args.settings.now.workers c.args.settings.now.fan c.args.schedule.now) _ is_text out)
+    (λ out. writes_whole g.W.Write.contents to_read c.args.writer.now c.write_replay.new.tracked_writer (IsReplayText c.args.settings.now.workers c.args.settings.now.fan c.args.schedule.now) _ is_text out)
     c.write_replay.ensures.written
 
 -- or a beginning of it
@@ -21,9 +21,9 @@ returns-clause-left g c =
     let is_text : AreToWrite c.args.settings.now.workers c.args.settings.now.fan c.args.schedule.now to_read (c.deref.result.now ++ (c.deref-2.result.now ++ c.deref-3.result.now)) =
     rw (c.deref.ensures, c.deref-2.ensures, c.deref-3.ensures) c.in_ok-pages.ensures.texts in
     IfErr-weaker c.write_replay.result _
-    (λ error. LeavesReplay c.args.settings.now.workers c.args.settings.now.fan c.args.schedule.now to_read error (g.W.Write.contents c.args.writer.now) (g.W.Write.contents c.write_replay.new.outlet))
+    (λ error. LeavesReplay c.args.settings.now.workers c.args.settings.now.fan c.args.schedule.now to_read error (g.W.Write.contents c.args.writer.now) (g.W.Write.contents c.write_replay.new.tracked_writer))
     (λ error broken. rw broken.0
-    (writes_front g.W.Write.contents to_read c.args.writer.now c.write_replay.new.outlet (IsReplayText c.args.settings.now.workers c.args.settings.now.fan c.args.schedule.now) _ is_text broken.1))
+    (writes_prefix g.W.Write.contents to_read c.args.writer.now c.write_replay.new.tracked_writer (IsReplayText c.args.settings.now.workers c.args.settings.now.fan c.args.schedule.now) _ is_text broken.1))
     c.write_replay.ensures.broken_off
 
 -- of a script

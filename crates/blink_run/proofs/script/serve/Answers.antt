@@ -21,18 +21,18 @@ pub returns-clause-fault : goal.returns-clause-fault
 returns-clause-fault g c =
     let to_read = g.R.Read.remaining c.args.reader.now in
     let reads = subst (λ (parts : List Part). ReadsAs to_read (Ok parts)) (sym c.deref.ensures.value) c.in_ok-script.ensures.script in
-    IfErr-weaker c.serve_script.result _ _ (λ error left. fault_told g.W.Write.contents to_read c.args.writer.now c.serve_script.new.outlet c.deref.result.now reads error (rw c.in_ok-index.ensures.empty at left)) c.serve_script.ensures.left
+    IfErr-weaker c.serve_script.result _ _ (λ error left. fault_told g.W.Write.contents to_read c.args.writer.now c.serve_script.new.tracked_writer c.deref.result.now reads error (rw c.in_ok-index.ensures.empty at left)) c.serve_script.ensures.left
 
 -- all parts are served
 pub returns-clause-served : goal.returns-clause-served
 returns-clause-served g c =
     let to_read = g.R.Read.remaining c.args.reader.now in
     let reads = subst (λ (parts : List Part). ReadsAs to_read (Ok parts)) (sym c.deref.ensures.value) c.in_ok-script.ensures.script in
-    on_ok_weaker c.serve_script.result (λ out. serves_script g.W.Write.contents to_read c.args.writer.now c.serve_script.new.outlet c.deref.result.now reads (rw c.in_ok-index.ensures.empty at out)) c.serve_script.ensures.served
+    on_ok_weaker c.serve_script.result (λ out. serves_script g.W.Write.contents to_read c.args.writer.now c.serve_script.new.tracked_writer c.deref.result.now reads (rw c.in_ok-index.ensures.empty at out)) c.serve_script.ensures.served
 
 -- some aren't
 pub returns-clause-left : goal.returns-clause-left
 returns-clause-left g c =
     let to_read = g.R.Read.remaining c.args.reader.now in
     let reads = subst (λ (parts : List Part). ReadsAs to_read (Ok parts)) (sym c.deref.ensures.value) c.in_ok-script.ensures.script in
-    IfErr-weaker c.serve_script.result _ _ (λ error left. lines_left g.W.Write.contents to_read c.args.writer.now c.serve_script.new.outlet c.deref.result.now reads error (rw c.in_ok-index.ensures.empty at left)) c.serve_script.ensures.left
+    IfErr-weaker c.serve_script.result _ _ (λ error left. lines_left g.W.Write.contents to_read c.args.writer.now c.serve_script.new.tracked_writer c.deref.result.now reads error (rw c.in_ok-index.ensures.empty at left)) c.serve_script.ensures.left

@@ -4,9 +4,9 @@ use Rattle.std.proofs.lemmas.Result.{err_from_is_err_and}
 use Rattle.blink_batch.specs.declared.Part.{Part}
 use Rattle.blink_index.specs.Index.{map_of}
 use Rattle.blink_run.specs.BySettings.{RunsPartsBy}
-use Rattle.blink_run.specs.Outlet.{nothing}
+use Rattle.blink_run.specs.TrackedWriter.{nothing}
 use Rattle.blink_run.specs.Served.{is_batch}
-use Rattle.blink_run.proofs.PartsAreServed.{HasServed, leaves_front, serves_more}
+use Rattle.blink_run.proofs.PartsAreServed.{HasServed, prefix_output_after_error, serves_more}
 use Rattle.blink_run.proofs.PartsRunBySettings.{runs_one_more, stops_at}
 use Rattle.blink_run.proofs.script.serve_parts.Goals as goal
 
@@ -17,15 +17,15 @@ loop-part-init g c = (record { written = nothing; same_map = refl; counted = ref
 -- one part more is served
 pub loop-part-preserved : goal.loop-part-preserved
 loop-part-preserved g c =
-    let offered = g.O.Outlet.offered in
-    let front : List Part = take c.loop-part.part-index c.args.parts.now in
-    let more : front ++ c.part-item.result ∷ [] ≡ take (c.loop-part.part-index + 1) c.args.parts.now =
-    ap (λ (p : Part). front ++ p ∷ []) c.part-item.is ∙ sym (take_more c.args.parts.now c.loop-part.part-index c.part-item.result (omega (arith, c.loop-part-test.true))) in (
-      subst (λ (n : ℕ). HasServed offered (map_of c.args.index.now) (take (c.loop-part.part-index + 1) c.args.parts.now) c.args.outlet.now c.serve_part.new.outlet (map_of c.serve_part.new.index) n) (sym c.batches_with-batches.ensures)
-          (subst (λ (parts : List Part). HasServed offered (map_of c.args.index.now) parts c.args.outlet.now c.serve_part.new.outlet (map_of c.serve_part.new.index) (c.loop-part.batches + count_by is_batch (c.part-item.result ∷ []))) more
-          (serves_more offered (map_of c.args.index.now) front c.part-item.result _ c.loop-part.outlet _ (map_of c.loop-part.index) _ c.loop-part.batches c.loop-part.invariant.0 c.in_ok-serve_part.ensures.served c.in_ok-serve_part.ensures.map)),
+    let offered = g.O.TrackedWriter.offered in
+    let prefix : List Part = take c.loop-part.part-index c.args.parts.now in
+    let more : prefix ++ c.part-item.result ∷ [] ≡ take (c.loop-part.part-index + 1) c.args.parts.now =
+    ap (λ (p : Part). prefix ++ p ∷ []) c.part-item.is ∙ sym (take_more c.args.parts.now c.loop-part.part-index c.part-item.result (omega (arith, c.loop-part-test.true))) in (
+      subst (λ (n : ℕ). HasServed offered (map_of c.args.index.now) (take (c.loop-part.part-index + 1) c.args.parts.now) c.args.tracked_writer.now c.serve_part.new.tracked_writer (map_of c.serve_part.new.index) n) (sym c.batches_with-batches.ensures)
+          (subst (λ (parts : List Part). HasServed offered (map_of c.args.index.now) parts c.args.tracked_writer.now c.serve_part.new.tracked_writer (map_of c.serve_part.new.index) (c.loop-part.batches + count_by is_batch (c.part-item.result ∷ []))) more
+          (serves_more offered (map_of c.args.index.now) prefix c.part-item.result _ c.loop-part.tracked_writer _ (map_of c.loop-part.index) _ c.loop-part.batches c.loop-part.invariant.0 c.in_ok-serve_part.ensures.served c.in_ok-serve_part.ensures.map)),
       subst (λ (parts : List Part). RunsPartsBy c.args.settings.now c.args.index.now parts c.serve_part.new.index) more
-          (runs_one_more c.args.settings.now c.args.index.now c.loop-part.index c.serve_part.new.index front c.part-item.result c.loop-part.invariant.1 c.in_ok-serve_part.ensures.by_settings),
+          (runs_one_more c.args.settings.now c.args.index.now c.loop-part.index c.serve_part.new.index prefix c.part-item.result c.loop-part.invariant.1 c.in_ok-serve_part.ensures.by_settings),
     )
 
 -- a part that isn't served
@@ -33,7 +33,7 @@ pub returns-in_err-serve_part-clause-left : goal.returns-in_err-serve_part-claus
 returns-in_err-serve_part-clause-left g c =
     let passed = err_from_is_err_and c.from_residual.result c.from_residual.ensures.1 in
     rw (passed.1, passed.2)
-    (leaves_front g.O.Outlet.offered g.O.Outlet.settled (map_of c.args.index.now) c.args.parts.now c.loop-part.part-index c.batches_with-batches.result c.part-item.result (omega (arith, c.loop-part-test.true)) c.args.outlet.now c.loop-part.outlet _
+    (prefix_output_after_error g.O.TrackedWriter.offered g.O.TrackedWriter.settled (map_of c.args.index.now) c.args.parts.now c.loop-part.part-index c.batches_with-batches.result c.part-item.result (omega (arith, c.loop-part-test.true)) c.args.tracked_writer.now c.loop-part.tracked_writer _
     (map_of c.loop-part.index) c.loop-part.batches c.loop-part.invariant.0 c.in_err-serve_part.field-0.0 (sym c.part-item.is) c.batches_with-batches.ensures c.in_err-serve_part.ensures.fault c.in_err-serve_part.ensures.left)
 
 -- its refusal is one of its run

@@ -6,5 +6,5 @@ use Rattle.blink_run.proofs.script.serve_parts.Given as goal
 
 -- the parts so far are served
 abbrev pub invariant-loop-part : goal.invariant-loop-part
-invariant-loop-part g l = HasServed g.O.Outlet.offered (map_of l.initial.index) (take l.part-index l.parts) l.initial.outlet l.outlet (map_of l.index) l.batches
+invariant-loop-part g l = HasServed g.O.TrackedWriter.offered (map_of l.initial.index) (take l.part-index l.parts) l.initial.tracked_writer l.tracked_writer (map_of l.index) l.batches
     × RunsPartsBy l.settings l.initial.index (take l.part-index l.parts) l.index

@@ -11,5 +11,5 @@ returns-in_err-flush_out-clause-left g c =
     let passed = err_from_is_err_and c.from_residual.result c.from_residual.ensures.1 in
     let not_output : c.serve_parts-outcome.result ≡ Err serve.Output → ⊥ = λ same. let is_so : c.eq.result ≡ true = c.eq.ensures ∙ rw same refl in cc in
     rw (passed.1, passed.2, c.in_err-flush_out.ensures.unflushed.0)
-    (unflushed g.O.Outlet.offered g.O.Outlet.settled (map_of c.args.index.now) c.args.parts.now c.args.outlet.now c.serve_parts-outcome.new.outlet c.flush_out.new.outlet c.in_err-flush_out.ensures.unflushed.1
+    (unflushed g.O.TrackedWriter.offered g.O.TrackedWriter.settled (map_of c.args.index.now) c.args.parts.now c.args.tracked_writer.now c.serve_parts-outcome.new.tracked_writer c.flush_out.new.tracked_writer c.in_err-flush_out.ensures.unflushed.1
     c.serve_parts-outcome.result c.serve_parts-outcome.ensures.served c.serve_parts-outcome.ensures.left not_output)

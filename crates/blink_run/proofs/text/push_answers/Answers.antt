@@ -18,8 +18,8 @@ loop-answer-preserved c =
     c.in_ok-writeln.ensures.bytes
     ∙ ap (λ (told : List ℕ). told ++ line_of answer) c.loop-answer.invariant
     ∙ flat_map_more line_of (string_bytes c.args.text.now) (take c.loop-answer.answer-index answers) answer
-    ∙ ap (λ (front : List Answer). string_bytes c.args.text.now ++ text_of front) (sym more)
+    ∙ ap (λ (prefix : List Answer). string_bytes c.args.text.now ++ text_of prefix) (sym more)
 
 -- all lines are added
 pub returns : goal.returns
-returns c = c.loop-answer.invariant ∙ ap (λ (front : List Answer). string_bytes c.args.text.now ++ text_of front) (take_all c.loop-answer.answer-index c.args.answers.now (omega (arith, c.loop-answer-test.false)))
+returns c = c.loop-answer.invariant ∙ ap (λ (prefix : List Answer). string_bytes c.args.text.now ++ text_of prefix) (take_all c.loop-answer.answer-index c.args.answers.now (omega (arith, c.loop-answer-test.false)))

@@ -20,7 +20,7 @@ loop-worker-preserved c =
     let line = turn_line worker c.in_ok-step.step in
     let traced = one_turn c.args.world.now c.loop-worker.world c.step.new.self _ so_far.0 so_far.1 worker c.in_ok-step.step c.in_ok-step.ensures.step c.in_ok-step.ensures.goes_on c.step.ensures.same_batch in (
       so_far.0 ++ line,
-      subst (λ (front : List ℕ). IsTraced c.args.world.now front c.step.new.self (so_far.0 ++ line)) (sym (take_more c.args.schedule.now c.loop-worker.worker-index 0 (omega (arith, c.loop-worker-test.true)))) traced,
+      subst (λ (prefix : List ℕ). IsTraced c.args.world.now prefix c.step.new.self (so_far.0 ++ line)) (sym (take_more c.args.schedule.now c.loop-worker.worker-index 0 (omega (arith, c.loop-worker-test.true)))) traced,
       c.in_ok-push_turn.ensures ∙ ap (λ (told : List ℕ). told ++ line) so_far.2 ∙ append_assoc (string_bytes c.args.trace.now) so_far.0 line,
     )
 
@@ -37,6 +37,6 @@ pub returns-clause-traced : goal.returns-clause-traced
 returns-clause-traced c =
     let so_far = c.loop-worker.invariant in (
       so_far.0,
-      subst (λ (front : List ℕ). IsTraced c.args.world.now front c.loop-worker.world so_far.0) (take_all c.loop-worker.worker-index c.args.schedule.now (omega (arith, c.loop-worker-test.false))) so_far.1,
+      subst (λ (prefix : List ℕ). IsTraced c.args.world.now prefix c.loop-worker.world so_far.0) (take_all c.loop-worker.worker-index c.args.schedule.now (omega (arith, c.loop-worker-test.false))) so_far.1,
       so_far.2,
     )

@@ -3,7 +3,7 @@ use Rattle.std.proofs.lemmas.Option.{slice_get-get_or}
 use Rattle.std.specs.List.{slice_get}
 use Rattle.rand_xoshiro.specs.SplitMix64.{mix_u64}
 use Rattle.blink_steps.proofs.worlds.SomeoneWouldMove as worlds
-use Rattle.blink_steps.proofs.worlds.WorldPromises.{sound}
+use Rattle.blink_steps.proofs.worlds.WorldPromises.{invariant}
 use Rattle.blink_show.proofs.MoversAreThose.{IsMoverBelow, each_moves, nobody_moves}
 use Rattle.blink_show.proofs.draw.draw.Goals as goal
 
@@ -11,7 +11,7 @@ use Rattle.blink_show.proofs.draw.draw.Goals as goal
 pub returns-then-is_empty-clause-drawn : goal.returns-then-is_empty-clause-drawn
 returns-then-is_empty-clause-drawn c =
     let run = c.args.world.now.run in
-    let its = sound c.args.world.now c.schedule-lawful.ensures.of_its_schedule in
+    let its = invariant c.args.world.now c.schedule-lawful.ensures.of_its_schedule in
     let none : length c.in_ok-movers.movers.items ≡ 0 = search rules in
     worlds.nobody_moves run its.0 its.1 (nobody_moves run run.assignment.workers c.in_ok-movers.movers.items c.in_ok-movers.ensures none)
 

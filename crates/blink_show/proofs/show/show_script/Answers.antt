@@ -1,7 +1,7 @@
 use Rattle.std.proofs.Common.{◌≡◌, ◌++◌, ◌∙◌, List, ℕ, Some, refl, string_bytes}
 use Rattle.std.proofs.lemmas.Result.{IfErr-weaker, on_ok_weaker}
 use Rattle.blink_batch.specs.Script.{records_of}
-use Rattle.blink_run.proofs.Offered.{writes_front, writes_whole}
+use Rattle.blink_run.proofs.Offered.{writes_prefix, writes_whole}
 use Rattle.blink_show.specs.Show.{IsTextOf, LeavesShow, sizes_text}
 use Rattle.blink_show.specs.Ways.{ShowsAsked}
 use Rattle.blink_show.proofs.TextOfReplay.{is_show_text}
@@ -22,14 +22,14 @@ is_text g c =
 pub returns-clause-shown : goal.returns-clause-shown
 returns-clause-shown g c =
     on_ok_weaker c.write_replay.result
-    (λ out. writes_whole g.W.Write.contents (g.R.Read.remaining c.args.reader.now) c.args.writer.now c.write_replay.new.outlet (IsTextOf c.args.head.now c.args.tail.now c.args.settings.now.workers c.args.settings.now.fan (ShowsAsked c.args.turns)) _ (is_text g c) out)
+    (λ out. writes_whole g.W.Write.contents (g.R.Read.remaining c.args.reader.now) c.args.writer.now c.write_replay.new.tracked_writer (IsTextOf c.args.head.now c.args.tail.now c.args.settings.now.workers c.args.settings.now.fan (ShowsAsked c.args.turns)) _ (is_text g c) out)
     c.write_replay.ensures.written
 
 -- or a beginning of it
 pub returns-clause-left : goal.returns-clause-left
 returns-clause-left g c =
     IfErr-weaker c.write_replay.result _
-    (λ error. LeavesShow (IsTextOf c.args.head.now c.args.tail.now c.args.settings.now.workers c.args.settings.now.fan (ShowsAsked c.args.turns)) (g.R.Read.remaining c.args.reader.now) error (g.W.Write.contents c.args.writer.now) (g.W.Write.contents c.write_replay.new.outlet))
+    (λ error. LeavesShow (IsTextOf c.args.head.now c.args.tail.now c.args.settings.now.workers c.args.settings.now.fan (ShowsAsked c.args.turns)) (g.R.Read.remaining c.args.reader.now) error (g.W.Write.contents c.args.writer.now) (g.W.Write.contents c.write_replay.new.tracked_writer))
     (λ error broken. rw broken.0
-    (writes_front g.W.Write.contents (g.R.Read.remaining c.args.reader.now) c.args.writer.now c.write_replay.new.outlet (IsTextOf c.args.head.now c.args.tail.now c.args.settings.now.workers c.args.settings.now.fan (ShowsAsked c.args.turns)) _ (is_text g c) broken.1))
+    (writes_prefix g.W.Write.contents (g.R.Read.remaining c.args.reader.now) c.args.writer.now c.write_replay.new.tracked_writer (IsTextOf c.args.head.now c.args.tail.now c.args.settings.now.workers c.args.settings.now.fan (ShowsAsked c.args.turns)) _ (is_text g c) broken.1))
     c.write_replay.ensures.broken_off

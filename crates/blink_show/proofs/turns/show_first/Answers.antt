@@ -8,10 +8,10 @@ use Rattle.blink_show.proofs.turns.show_first.Goals as goal
 pub returns-clause-text : goal.returns-clause-text
 returns-clause-text c =
     let run = c.args.world.now.run in
-    let front = string_bytes c.push_str.new.self in
+    let prefix = string_bytes c.push_str.new.self in
     let new = string_bytes c.show.new.text in
     on_ok_weaker c.show.result
-    (λ shown. behind (string_bytes c.args.text.now) front (codes "first\n") (changes [] 0 run) new c.in_ok-push_str.ensures.bytes
-    (subst (λ (lines : List (String Global)). new ≡ front ++ changes (map string_bytes lines) 0 run) c.requires.lines
-    (subst (λ (decided : ℕ). new ≡ front ++ changes (map string_bytes c.args.shown.now.lines.items) decided run) c.requires.decided shown)))
+    (λ shown. behind (string_bytes c.args.text.now) prefix (codes "first\n") (changes [] 0 run) new c.in_ok-push_str.ensures.bytes
+    (subst (λ (lines : List (String Global)). new ≡ prefix ++ changes (map string_bytes lines) 0 run) c.requires.lines
+    (subst (λ (decided : ℕ). new ≡ prefix ++ changes (map string_bytes c.args.shown.now.lines.items) decided run) c.requires.decided shown)))
     c.show.ensures.text

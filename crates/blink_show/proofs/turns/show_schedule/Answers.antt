@@ -21,6 +21,6 @@ loop-worker-preserved c =
     record {
       kept = c.in_ok-show_turn.ensures.kept;
       same_assignment = c.step.ensures.same_batch.same_assignment ∙ so_far.same_assignment;
-      shown = subst (λ (front : List ℕ). AddsTurns (codes "turn ") (λ turns run worker. ⊤) c.args.world.now front c.step.new.self (string_bytes c.args.text.now) (string_bytes c.show_turn.new.text))
+      shown = subst (λ (prefix : List ℕ). AddsTurns (codes "turn ") (λ turns run worker. ⊤) c.args.world.now prefix c.step.new.self (string_bytes c.args.text.now) (string_bytes c.show_turn.new.text))
           (sym (take_more c.args.schedule.now c.loop-worker.worker-index 0 (omega (arith, c.loop-worker-test.true)))) more;
     }

@@ -16,7 +16,7 @@ is_worker c =
 
 pub loop-worker-preserved : goal.loop-worker-preserved
 loop-worker-preserved c = (
-  subst (λ (front : List ℕ). IsReplay c.args.rest c.args.batch c.args.lanes front c.step.new.self) (sym (take_more c.args.schedule.now c.loop-worker.worker-index 0 (omega (arith, c.loop-worker-test.true))))
+  subst (λ (prefix : List ℕ). IsReplay c.args.rest c.args.batch c.args.lanes prefix c.step.new.self) (sym (take_more c.args.schedule.now c.loop-worker.worker-index 0 (omega (arith, c.loop-worker-test.true))))
       (replays_further c.args.rest c.args.batch c.args.lanes (take c.loop-worker.worker-index c.args.schedule.now) c.loop-worker.world c.step.new.self (get_or c.args.schedule.now c.loop-worker.worker-index 0) c.in_ok-step.field-0 c.loop-worker.invariant.0 c.in_ok-step.ensures.step),
   workers_more c.args.lanes.workers c.args.schedule.now c.loop-worker.worker-index (omega (arith, c.loop-worker-test.true)) c.loop-worker.invariant.1 (is_worker c),
 )
@@ -27,7 +27,7 @@ returns-clause-promised c start is_world = promises start _ is_world
 pub returns-clause-headline : goal.returns-clause-headline
 returns-clause-headline c =
     let all : take c.loop-worker.worker-index c.args.schedule.now ≡ c.args.schedule.now = take_all c.loop-worker.worker-index c.args.schedule.now (omega arith) in
-    let is = subst (λ (front : List ℕ). IsReplay c.args.rest c.args.batch c.args.lanes front c.loop-worker.world) all c.loop-worker.invariant.0 in
+    let is = subst (λ (prefix : List ℕ). IsReplay c.args.rest c.args.batch c.args.lanes prefix c.loop-worker.world) all c.loop-worker.invariant.0 in
     replay_loses_no_key c.args.rest c.args.batch c.args.lanes c.args.schedule.now c.loop-worker.world is
 
 pub returns-clause-workers : goal.returns-clause-workers

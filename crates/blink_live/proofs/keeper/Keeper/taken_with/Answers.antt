@@ -1,26 +1,85 @@
-use Rattle.std.proofs.Common.{◌⊎◌, ◌↔◌, ℕ, Option, List, IfSome, Err, refl, ap, subst}
-use Rattle.std.specs.Prelude.{Contains}
-use Rattle.blink_live.specs.declared.error.LiveError.TheVariants.{Taken}
-use Rattle.blink_live.specs.Deals.{IsFirstTaken, IsDealRefusal}
+use Rattle.std.proofs.Common.{◌≡◌, ◌⊎◌, ◌↔◌, ℕ, Option, None, List, IfSome, Ok, Err, Vec, Global, refl, sym, subst, false, true}
+use Rattle.std.specs.Prelude.{Contains, IfNone}
+use Rattle.blink_live.specs.declared.error.LiveError.TheVariants.{DealOutOfMemory, NoAllowance, Taken}
+use Rattle.blink_live.specs.Deals.{IsFirstTaken, NoneIsTaken, IsDealRefusal, LacksAllowance}
 use Rattle.blink_live.specs.Handles.{taken_of}
-use Rattle.blink_live.proofs.dealt.KeysMet.{first_is_one}
-use Rattle.blink_live.proofs.dealt.RefusalsOfDeal.{same_refusal, same_key}
+use Rattle.blink_live.proofs.dealt.RefusalsOfDeal.{Tells, tells_first, tells_lack, tells_neither}
 use Rattle.blink_live.proofs.keeper.Keeper.taken_with.Goals as goal
 
--- src/deal.rt:125:13
-pub returns-in-Some-clause-taken : goal.returns-in-Some-clause-taken
-returns-in-Some-clause-taken c key =
-    let taken : List ℕ = taken_of c.args.self.now in
-    let keys : List ℕ = c.args.keys.now in
-    let found : IsFirstTaken taken keys c.in-Some.key = subst (λ (x : List ℕ × Option ℕ). IfSome x.1 (IsFirstTaken x.0 keys)) (λ i. (c.deref.ensures.value i, c.in-Some.is i)) c.first_taken-found.ensures.first in (
-      λ same. subst (IsFirstTaken taken keys) (same_key c.in-Some.key key (same_refusal (Taken c.in-Some.key) (Taken key) same)) found,
-      λ first. ap (λ (k : ℕ). Err (Taken k)) (first_is_one taken keys c.in-Some.key key found first),
-    )
+none_taken : (taken before keys : List ℕ) (first : Option ℕ) → taken ≡ before → first ≡ None → IfNone first (NoneIsTaken taken keys) → NoneIsTaken before keys
+none_taken taken before keys first same none is = subst (λ (x : List ℕ × Option ℕ). IfNone x.1 (NoneIsTaken x.0 keys)) (λ i. (same i, none i)) is
 
--- src/deal.rt:125:13
-pub returns-in-Some-clause-refused : goal.returns-in-Some-clause-refused
-returns-in-Some-clause-refused c = IsDealRefusal.taken c.in-Some.key refl
+pub returns-in-Some : goal.returns-in-Some
+returns-in-Some c =
+    let before : List ℕ = taken_of c.args.self.now in
+    let found : IsFirstTaken before c.args.keys.now c.in-Some.key =
+        subst (λ (x : List ℕ × Option ℕ). IfSome x.1 (IsFirstTaken x.0 c.args.keys.now)) (λ i. (c.deref.ensures.value i, c.in-Some.is i)) c.first_taken-found.ensures.first in
+    let tells = tells_first {T = Vec ℕ Global} before c.args.keys.now (LacksAllowance c.args.self.now c.args.inserts c.args.deletes) c.in-Some.key found in record {
+      free = tt;
+      allowed = tt;
+      ascending = tt;
+      all = tt;
+      taken = tells.taken;
+      no_allowance = tells.no_allowance;
+      refused = IsDealRefusal.taken c.in-Some.key refl;
+    }
 
--- src/deal.rt:112:5
-pub returns-in-Ok-clause-all : goal.returns-in-Ok-clause-all
-returns-in-Ok-clause-all c = subst (λ (l : List ℕ). (key : ℕ) → Contains c.in-Ok.all.items key ↔ (Contains l key ⊎ Contains c.args.keys.now key)) c.deref-2.ensures.value c.in-Ok.ensures.of_both
+pub returns-then-lacks_allowance : goal.returns-then-lacks_allowance
+returns-then-lacks_allowance c =
+    let before : List ℕ = taken_of c.args.self.now in
+    let none = none_taken c.deref.result.now before c.args.keys.now c.first_taken-found.result.first c.deref.ensures.value c.in_default.is c.first_taken-found.ensures.none in
+    let tells = tells_lack {T = Vec ℕ Global} before c.args.keys.now (LacksAllowance c.args.self.now c.args.inserts c.args.deletes) none (c.lacks_allowance.ensures.0 c.if-lacks_allowance.true) in record {
+      free = tt;
+      allowed = tt;
+      ascending = tt;
+      all = tt;
+      taken = tells.taken;
+      no_allowance = tells.no_allowance;
+      refused = IsDealRefusal.no_allowance refl;
+    }
+
+enough : {P : Type 0} (test : _) → (test ≡ true → P) × (P → test ≡ true) → test ≡ false → P → ⊥
+enough test is not holds = let told = is.1 holds in cc
+
+pub returns-then-found : goal.returns-then-found
+returns-then-found c =
+    let before : List ℕ = taken_of c.args.self.now in
+    let none = none_taken c.deref.result.now before c.args.keys.now c.first_taken-found.result.first c.deref.ensures.value c.in_default.is c.first_taken-found.ensures.none in
+    let tells = tells_neither {T = Vec ℕ Global} before c.args.keys.now (LacksAllowance c.args.self.now c.args.inserts c.args.deletes) (Err DealOutOfMemory) (λ key e. absurd (cc)) (λ e. absurd (cc)) none (enough c.lacks_allowance.result c.lacks_allowance.ensures c.if-lacks_allowance.false) in record {
+      free = tt;
+      allowed = tt;
+      ascending = tt;
+      all = tt;
+      taken = tells.taken;
+      no_allowance = tells.no_allowance;
+      refused = IsDealRefusal.no_memory refl;
+    }
+
+pub returns-in-Err : goal.returns-in-Err
+returns-in-Err c =
+    let before : List ℕ = taken_of c.args.self.now in
+    let none = none_taken c.deref.result.now before c.args.keys.now c.first_taken-found.result.first c.deref.ensures.value c.in_default.is c.first_taken-found.ensures.none in
+    let tells = tells_neither {T = Vec ℕ Global} before c.args.keys.now (LacksAllowance c.args.self.now c.args.inserts c.args.deletes) (Err DealOutOfMemory) (λ key e. absurd (cc)) (λ e. absurd (cc)) none (enough c.lacks_allowance.result c.lacks_allowance.ensures c.if-lacks_allowance.false) in record {
+      free = tt;
+      allowed = tt;
+      ascending = tt;
+      all = tt;
+      taken = tells.taken;
+      no_allowance = tells.no_allowance;
+      refused = IsDealRefusal.no_memory refl;
+    }
+
+pub returns-in-Ok : goal.returns-in-Ok
+returns-in-Ok c =
+    let before : List ℕ = taken_of c.args.self.now in
+    let none = none_taken c.deref.result.now before c.args.keys.now c.first_taken-found.result.first c.deref.ensures.value c.in_default.is c.first_taken-found.ensures.none in
+    let allowed = enough c.lacks_allowance.result c.lacks_allowance.ensures c.if-lacks_allowance.false in
+    let tells = tells_neither {T = Vec ℕ Global} before c.args.keys.now (LacksAllowance c.args.self.now c.args.inserts c.args.deletes) (Ok c.in-Ok.all) (λ key e. absurd (cc)) (λ e. absurd (cc)) none allowed in record {
+      free = none;
+      allowed = allowed;
+      ascending = c.in-Ok.ensures.ascending;
+      all = subst (λ (l : List ℕ). (key : ℕ) → Contains c.in-Ok.all.items key ↔ (Contains l key ⊎ Contains c.args.keys.now key)) c.deref-2.ensures.value c.in-Ok.ensures.of_both;
+      taken = tells.taken;
+      no_allowance = tells.no_allowance;
+      refused = tt;
+    }

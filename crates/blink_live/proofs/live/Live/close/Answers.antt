@@ -1,4 +1,4 @@
-use Rattle.std.proofs.Common.{◌≡◌, ℕ, zero, suc, ◌+◌, ◌≤◌, Some, List, [], ◌∷◌, ◌++◌, length, sym, ap, ◌∙◌, subst, arith}
+use Rattle.std.proofs.Common.{◌≡◌, ℕ, zero, suc, ◌+◌, ◌<◌, ◌≤◌, Some, List, [], ◌∷◌, ◌++◌, length, sym, ap, ◌∙◌, subst, arith}
 use Rattle.std.specs.Prelude.{Contains, slice_get}
 use Rattle.std.specs.Mem.Slots.{slots_items}
 use Rattle.blink_batch.specs.declared.Entry.{Entry}
@@ -20,7 +20,7 @@ use Rattle.std.proofs.lemmas.List.{length-map}
 use Rattle.blink_live.specs.declared.view.Share.{Share}
 use Rattle.blink_live.specs.declared.view.View.{View}
 use Rattle.blink_live.specs.Merge.{KeepsTree, IsMerge, shares_of}
-use Rattle.blink_live.specs.Views.{Sat, plan_of, takes_more, takes_all_back}
+use Rattle.blink_live.specs.Views.{SeatState, plan_of, takes_more, takes_all_back}
 use Rattle.blink_live.proofs.closed.TableAtTheEnd.{IsAtEnd, at_end}
 use Rattle.blink_live.proofs.live.Live.close.Goals as goal
 
@@ -28,25 +28,35 @@ use Rattle.blink_live.proofs.live.Live.close.Goals as goal
 map_is : (store : PlainStore) (entries : List Entry) → IsMapOf store entries → map_of store ≡ entries
 map_is store entries is = map_of-entries store (pairs_of entries) is.kept ∙ entries_from-pairs_of entries
 
+-- facts on plain numbers, since passes and keepers have many fields to read
+some : (count : ℕ) → 0 < suc count
+some count = omega arith
+
+one_more : (place count : ℕ) → place < count → suc place < suc count
+one_more place count inside = omega (arith, inside)
+
+enough : (dealt count passes : ℕ) → count ≡ passes → dealt ≤ count → dealt ≤ passes
+enough dealt count passes is all = omega (arith, is, all)
+
+enough_back : (dealt passes shares : ℕ) → dealt ≤ passes → shares ≡ passes → dealt ≤ 0 + shares
+enough_back dealt passes shares all long = omega (arith, all, long)
+
 share_came : (passes : List Pass) (rest : List Share) (place : ℕ) (pass : Pass) → slice_get passes place ≡ Some pass → Contains (shares_of passes ++ rest) pass.seat.me.0.share
 share_came [] rest place pass at = absurd (cc)
-share_came (first ∷ passes) rest zero pass at = (0, omega arith, let same : first ≡ pass = cc in ap (λ (p : Pass). p.seat.me.0.share) same)
-share_came (first ∷ passes) rest (suc place) pass at = let t = share_came passes rest place pass at in (suc t.0, let inside = t.1 in omega (arith, inside), t.2)
-
-enough : (passes : List Pass) (dealt count : ℕ) → count ≡ length passes → dealt ≤ count → dealt ≤ length passes
-enough passes dealt count is all = omega (arith, is, all)
+share_came (first ∷ passes) rest zero pass at = (0, some (length (shares_of passes ++ rest)), let same : first ≡ pass = cc in ap (λ (p : Pass). p.seat.me.0.share) same)
+share_came (first ∷ passes) rest (suc place) pass at = let t = share_came passes rest place pass at in (suc t.0, one_more t.0 (length (shares_of passes ++ rest)) t.1, t.2)
 
 -- the keeper with all shares back
 abbrev view_at_end : (keeper : Keeper) (passes : List Pass) → View
 view_at_end keeper passes = takes_all_back keeper.seat.me.0 (shares_of passes)
 
-its_end : (live : Live) (keeper : Keeper) (passes : List Pass) (id : ℕ) (me : Sat) (words slots : List ℕ) → me ≡ (view_at_end keeper passes, keeper.seat.me.1) → keeper.dealt ≤ length passes
+its_end : (live : Live) (keeper : Keeper) (passes : List Pass) (id : ℕ) (me : SeatState) (words slots : List ℕ) → me ≡ (view_at_end keeper passes, keeper.seat.me.1) → keeper.dealt ≤ length passes
     → Final (Seen (IsTable (plan_of live.table.shared.key)) id me.0) words slots → IsAtEnd (plan_of live.table.shared.key) words (view_at_end keeper passes)
-its_end live keeper passes id me words slots is enough final =
-    let same : me.0 ≡ view_at_end keeper passes = ap (λ (x : Sat). x.0) is in
+its_end live keeper passes id me words slots is all final =
+    let same : me.0 ≡ view_at_end keeper passes = ap (λ (x : SeatState). x.0) is in
     let long : length (shares_of passes) ≡ length passes = length-map passes (λ (pass : Pass). pass.seat.me.0.share) in
     let role : (view_at_end keeper passes).role ≡ KeeperRole keeper.dealt (0 + length (shares_of passes)) = ap (λ (r : Role). takes_more r (length (shares_of passes))) keeper.role_is in
-    at_end (plan_of live.table.shared.key) id (view_at_end keeper passes) keeper.dealt (0 + length (shares_of passes)) words slots role (omega (arith, enough, long))
+    at_end (plan_of live.table.shared.key) id (view_at_end keeper passes) keeper.dealt (0 + length (shares_of passes)) words slots role (enough_back keeper.dealt (length passes) (length (shares_of passes)) all long)
     (subst (λ (v : View). Final (Seen (IsTable (plan_of live.table.shared.key)) id v) words slots) same final)
 
 -- in the words of the table's own counts and fan
@@ -69,7 +79,7 @@ merges live keeper passes words store end taken_is is =
 pub tree_at_end-tree-requires-clause-tree : goal.tree_at_end-tree-requires-clause-tree
 tree_at_end-tree-requires-clause-tree c =
     let end = its_end c.args.self c.args.keeper c.args.passes.items c.take_back.new.seat.id c.take_back.new.seat.me (slots_items c.close_with-closed.result.words) (slots_items c.close_with-closed.result.slots)
-    c.take_back.ensures.back (enough c.args.passes.items c.args.keeper.dealt c.len.result (c.len.ensures ∙ c.args.passes.ok.0) c.if-len-keeper.false) c.close_with-closed.ensures.values.2 in
+    c.take_back.ensures.back (enough c.args.keeper.dealt c.len.result (length c.args.passes.items) (c.len.ensures ∙ c.args.passes.ok.0) c.if-len-keeper.false) c.close_with-closed.ensures.values.2 in
     (end.now, its_tree c.args.self (view_at_end c.args.keeper c.args.passes.items) (slots_items c.close_with-closed.result.words) end)
 
 -- src/close.rt:43:5
@@ -77,7 +87,7 @@ pub returns-in-Ok-clause-entries : goal.returns-in-Ok-clause-entries
 returns-in-Ok-clause-entries c =
     let words = slots_items c.close_with-closed.result.words in
     let end = its_end c.args.self c.args.keeper c.args.passes.items c.take_back.new.seat.id c.take_back.new.seat.me words (slots_items c.close_with-closed.result.slots)
-    c.take_back.ensures.back (enough c.args.passes.items c.args.keeper.dealt c.len.result (c.len.ensures ∙ c.args.passes.ok.0) c.if-len-keeper.false) c.close_with-closed.ensures.values.2 in
+    c.take_back.ensures.back (enough c.args.keeper.dealt c.len.result (length c.args.passes.items) (c.len.ensures ∙ c.args.passes.ok.0) c.if-len-keeper.false) c.close_with-closed.ensures.values.2 in
     let tree = its_tree c.args.self (view_at_end c.args.keeper c.args.passes.items) words end in
     merges c.args.self c.args.keeper c.args.passes.items words c.from_rest.result end (sym c.args.keeper.taken_are)
     (subst (λ (store : PlainStore). IsMapOf store end.now) (sym c.from_rest.ensures) (c.in-Ok.ensures.entries end.now tree))

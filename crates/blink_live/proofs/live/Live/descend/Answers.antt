@@ -4,7 +4,7 @@ use Rattle.blink_page.specs.declared.limits.TheConstants.{MAX_PAGE}
 use Rattle.blink_rows.specs.Counts.{PlainCounts}
 use Rattle.blink_live.specs.declared.view.Plan.{Plan}
 use Rattle.blink_live.specs.Views.{for_call, known_of}
-use Rattle.blink_live.proofs.found.OperationsOnTheirWay.{goes_down, needs_on_its_way, else_at_leaf}
+use Rattle.blink_live.proofs.found.OperationsOnTheirWay.{comes_nearer, else_at_leaf, goes_down, is_its_operation, is_its_seat, its_words_fit, needs_on_its_way, page_in_range}
 use Rattle.blink_live.proofs.live.Live.descend.Goals as goal
 
 pub loop-number-preserved : goal.loop-number-preserved
@@ -29,3 +29,25 @@ returns c =
       read = c.loop-number.invariant.read;
       at_leaf = else_at_leaf c.args.op (known_of c.loop-number.seat.me.0 (key_of c.args.op)) c.loop-number.machine (λ number needs. c.in_default.not-ReadPage number (c.need.ensures ∙ needs)) c.loop-number.invariant.descends;
     }
+
+pub begin-machine-requires : goal.begin-machine-requires
+begin-machine-requires c = record { seat = c.requires.seat; idle = c.requires.idle; fits = c.requires.fits; can_begin = c.requires.can_begin }
+
+pub read_page-requires : goal.read_page-requires
+read_page-requires c =
+    let read = c.loop-number.invariant.read in
+    let needs = sym c.need.ensures ∙ c.in-ReadPage.is in
+    let same_counts : c.args.seat.now.me.0.plan.counts ≡ c.args.self.now.counts = ap (λ (p : Plan). p.counts) c.requires.seat.same_plan ∙ sym c.args.self.now.counts_are in record {
+      seat = is_its_seat read c.args.self.now c.args.seat.now.table_id c.loop-number.seat.table_id c.loop-number.invariant.same_table.0 record { same_table = c.requires.seat.same_table; same_plan = c.requires.seat.same_plan; role = c.requires.seat.role };
+      at = is_its_operation read c.in-ReadPage.number needs;
+      fits = its_words_fit read c.requires.fits;
+      going = (needs_on_its_way c.args.op (known_of c.loop-number.seat.me.0 (key_of c.args.op)) c.loop-number.machine c.in-ReadPage.number c.loop-number.invariant.descends needs).0;
+      needs = needs;
+      in_range = page_in_range read c.args.self.now.counts c.in-ReadPage.number needs same_counts;
+    }
+
+pub loop-number-smaller : goal.loop-number-smaller
+loop-number-smaller c =
+    let needs = sym c.need.ensures ∙ c.in-ReadPage.is in
+    let goes = (needs_on_its_way c.args.op (known_of c.loop-number.seat.me.0 (key_of c.args.op)) c.loop-number.machine c.in-ReadPage.number c.loop-number.invariant.descends needs).0 in
+    comes_nearer c.loop-number.machine c.read_page.new.machine c.in-ReadPage.number c.read_page.ensures.read.0 c.loop-number.seat.me c.read_page.new.seat.me goes needs c.read_page.ensures.read.1

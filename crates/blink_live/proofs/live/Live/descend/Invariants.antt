@@ -12,4 +12,4 @@ invariant-loop-number l = record {
 }
 
 abbrev pub decreases-loop-number : goal.decreases-loop-number
-decreases-loop-number l = l.seat.me.0.way_left
+decreases-loop-number l = l.seat.me.0.descent_bound

@@ -4,7 +4,7 @@ use Rattle.std.proofs.lemmas.Option.{slice_get-get_or}
 use Rattle.blink_page.specs.Place.{place_of}
 use Rattle.blink_rows.specs.Row.{page_words}
 use Rattle.blink_live.specs.Seats.{ReadsPage}
-use Rattle.blink_live.specs.Views.{Sat}
+use Rattle.blink_live.specs.Views.{SeatState}
 use Rattle.blink_live.proofs.found.EntriesInRow.{key_word, value_word, goes_on_behind, ends_at}
 use Rattle.blink_live.proofs.live.Live.entry_from.Goals as goal
 
@@ -17,7 +17,7 @@ pub loop-place-init : goal.loop-place-init
 loop-place-init c = record {
   same = (refl, refl, refl);
   before = λ page reads.
-      let first : ReadsPage c.args.seat.now.me c.args.row page = subst (λ (x : Sat). ReadsPage x c.args.row page) c.load_word-count.ensures.same.2 reads in
+      let first : ReadsPage c.args.seat.now.me c.args.row page = subst (λ (x : SeatState). ReadsPage x c.args.row page) c.load_word-count.ensures.same.2 reads in
       (c.load_word-count.ensures.word (page_words page) first.reads, omega arith);
 }
 
@@ -28,7 +28,7 @@ loop-place-preserved c =
       same = (load.same.0 ∙ same.0, load.same.1 ∙ same.1, load.same.2 ∙ same.2);
       before = λ page reads.
           let before = c.loop-place.invariant.before page reads in
-          let its = load.word (page_words page) (ap (λ (x : Sat). x.0.reads) same.2 ∙ reads.reads) in
+          let its = load.word (page_words page) (ap (λ (x : SeatState). x.0.reads) same.2 ∙ reads.reads) in
           let key : c.load_word-found.result ≡ (get_or page.entries c.loop-place.place (0, 0)).0 = its ∙ key_word page c.loop-place.place _ refl in
           let further = goes_on_behind c.args.key page.entries c.loop-place.place before.1 (omega (arith, before.0, c.loop-place-test.true)) (omega (arith, key, c.if-key-found.false)) in
           (before.0, omega (arith, further));
@@ -37,12 +37,12 @@ loop-place-preserved c =
 pub returns-then-key-found-clause-entry : goal.returns-then-key-found-clause-entry
 returns-then-key-found-clause-entry c page reads =
     let same = c.loop-place.invariant.same in
-    let first : ReadsPage c.load_word-count.new.seat.me c.args.row page = subst (λ (x : Sat). ReadsPage x c.args.row page) (sym c.load_word-count.ensures.same.2) reads in
+    let first : ReadsPage c.load_word-count.new.seat.me c.args.row page = subst (λ (x : SeatState). ReadsPage x c.args.row page) (sym c.load_word-count.ensures.same.2) reads in
     let before = c.loop-place.invariant.before page first in
     let place = c.loop-place.place in
-    let at_loop = ap (λ (x : Sat). x.0.reads) same.2 ∙ first.reads in
+    let at_loop = ap (λ (x : SeatState). x.0.reads) same.2 ∙ first.reads in
     let key : c.load_word-found.result ≡ (get_or page.entries place (0, 0)).0 = c.load_word-found.ensures.word (page_words page) at_loop ∙ key_word page place _ refl in
-    let at_found = ap (λ (x : Sat). x.0.reads) c.load_word-found.ensures.same.2 ∙ at_loop in
+    let at_found = ap (λ (x : SeatState). x.0.reads) c.load_word-found.ensures.same.2 ∙ at_loop in
     let value : c.load_word.result ≡ (get_or page.entries place (0, 0)).1 = c.load_word.ensures.word (page_words page) at_found ∙ value_word page place _ refl in
     let inside : place < length page.entries = omega (arith, before.0, c.loop-place-test.true) in
     let end : place_of c.args.key page.entries ≡ place = ends_at c.args.key page.entries place before.1 inside (omega (arith, key, c.if-key-found.true)) in
@@ -50,6 +50,6 @@ returns-then-key-found-clause-entry c page reads =
 
 pub returns-clause-entry : goal.returns-clause-entry
 returns-clause-entry c page reads =
-    let first : ReadsPage c.load_word-count.new.seat.me c.args.row page = subst (λ (x : Sat). ReadsPage x c.args.row page) (sym c.load_word-count.ensures.same.2) reads in
+    let first : ReadsPage c.load_word-count.new.seat.me c.args.row page = subst (λ (x : SeatState). ReadsPage x c.args.row page) (sym c.load_word-count.ensures.same.2) reads in
     let before = c.loop-place.invariant.before page first in
     sym (none_past page.entries (place_of c.args.key page.entries) (omega (arith, before.0, before.1, c.loop-place-test.false)))

@@ -1,7 +1,7 @@
 use Rattle.std.proofs.Common.{ℕ, ◌+◌, ◌*◌, List, sym, ap, ◌∙◌, subst}
 use Rattle.blink_live.specs.declared.view.Plan.{Plan}
 use Rattle.blink_live.specs.Dealing.{CanDeal}
-use Rattle.blink_live.specs.Views.{Sat, span, entries_of}
+use Rattle.blink_live.specs.Views.{SeatState, span, entries_of}
 use Rattle.blink_live.proofs.dealt.KeeperCanDeal.{keeper_can_deal}
 use Rattle.blink_live.proofs.dealt.KeysOfShare.{same_entries}
 use Rattle.blink_live.proofs.live.Live.hand_out.Goals as goal
@@ -21,14 +21,14 @@ returns-clause-dealt c =
     let sorted : List ℕ = c.sort_unstable.new.self.items in
     let plan : Plan = c.args.keeper.now.seat.me.0.plan in
     record {
-      its_own = (right.0 ∙ c.requires.its_own.0, ap (λ (me : Sat). me.0.plan) right.1 ∙ c.requires.its_own.1);
+      its_own = (right.0 ∙ c.requires.its_own.0, ap (λ (me : SeatState). me.0.plan) right.1 ∙ c.requires.its_own.1);
       same_keys = c.sort_unstable.ensures.permutation;
-      share = ap (λ (me : Sat). me.0.share.entries) right.1
+      share = ap (λ (me : SeatState). me.0.share.entries) right.1
           ∙ (ap (λ (keys : List ℕ). entries_of keys plan.opening) c.deref.ensures.value
           ∙ (same_entries c.args.keys.items sorted c.sort_unstable.ensures.permutation plan.opening
           ∙ ap (λ (p : Plan). entries_of c.args.keys.items p.opening) c.requires.its_own.1));
-      none_seen = ap (λ (me : Sat). me.0.seen) right.1;
-      none_made = ap (λ (me : Sat). me.0.share.changes) right.1;
+      none_seen = ap (λ (me : SeatState). me.0.seen) right.1;
+      none_made = ap (λ (me : SeatState). me.0.share.changes) right.1;
       rows = c.first_of.ensures.first ∙ λ i. span c.args.keeper.now.rows.next (c.args.keeper.now.rows.next + (44 * c.from.ensures i + c.from-2.ensures i));
       pages = c.first_of-2.ensures.first ∙ λ i. span c.args.keeper.now.pages.next (c.args.keeper.now.pages.next + 22 * c.from-page_count.ensures i);
     }

@@ -3,9 +3,9 @@ use mathlib.Core.Option.{none}
 use Rattle.atomic_table.specs.Table.{step, Allows}
 use Rattle.blink_rows.specs.Counts.{PlainCounts}
 use Rattle.blink_live.specs.declared.view.Plan.{Plan}
-use Rattle.blink_live.specs.Plays.{lets_go}
+use Rattle.blink_live.specs.AtomicSteps.{lets_go}
 use Rattle.blink_live.specs.Rule.{IsTable}
-use Rattle.blink_live.specs.Views.{Sat, plan_of}
+use Rattle.blink_live.specs.Views.{SeatState, plan_of}
 use Rattle.blink_live.proofs.changed.LatchesKeepTable.{latch_is_let_go}
 use Rattle.blink_live.proofs.live.Live.let_go.Goals as goal
 
@@ -17,7 +17,7 @@ store-requires c =
     let in_range = c.requires.in_range in
     let plan : Plan = plan_of c.args.self.now.table.shared.key in
     let slots : ℕ = c.args.self.now.table.shared.table_id.slots in
-    let me : Sat = c.args.seat.now.me in
+    let me : SeatState = c.args.seat.now.me in
     let counts_are = c.args.self.now.counts_are in (
       c.requires.seat.same_table,
       omega (arith, c.args.self.now.width, in_range, c.latch_place-word.ensures),

@@ -1,11 +1,15 @@
-use Rattle.std.proofs.Common.{ℕ, ◌<◌, List, [], length, sym, ◌∙◌, subst, arith}
+use Rattle.std.proofs.Common.{ℕ, ◌≡◌, ◌+◌, ◌*◌, ◌<◌, ◌≤◌, List, [], length, ap, sym, ◌∙◌, subst, arith}
+use Rattle.std.specs.Ordering.{nat_cmp}
+use Rattle.std.specs.Prelude.{IsSorted}
 use Rattle.atomic_table.specs.Table.{opening}
 use Rattle.blink_rest.specs.Rest.{IsStoreAtRest}
 use Rattle.blink_rows.specs.Counts.{PlainCounts, AreBounded}
 use Rattle.blink_store.specs.Store.{PlainStore, IsLawfulStore}
 use Rattle.blink_live.specs.Laid.{IsLaid}
 use Rattle.blink_live.specs.Rule.{IsTable}
-use Rattle.blink_live.specs.Views.{first_view}
+use Rattle.blink_live.specs.declared.view.Opened.{Opened}
+use Rattle.blink_live.specs.Views.{SeatState, first_view, span}
+use Rattle.blink_live.proofs.dealt.ChangesLeft.{opened_for_changes}
 use Rattle.blink_live.proofs.opened.OpeningIsTable.{plan_over, opens}
 use Rattle.blink_live.proofs.live.Live.open.Goals as goal
 
@@ -24,3 +28,38 @@ of_words-requires c =
     let opened = opens store counts words numbers rows laid at_rest lawful c.rest.ensures.map bounded in
     let T : PlainStore → List ℕ → Type 0 = λ s ws. IsTable (plan_over s counts) (opening ws [] (first_view (length s.pages) (plan_over s counts))) in
     subst (λ (s : PlainStore). T s c.deref.result.now) (sym c.of.ensures) (subst (T store) (sym c.deref.ensures.value) opened)
+
+at_least_one : (numbers count more : ℕ) → numbers ≡ 1 + count + more → 1 ≤ numbers
+at_least_one numbers count more is = omega (arith, is)
+
+pub invariant_of-result : goal.invariant_of-result
+invariant_of-result c =
+    let made = c.in-Ok-of_words.ensures in
+    let store = c.store-store.ensures.store ∙ (c.rest.ensures.tree ∙ sym c.of.ensures) in record {
+      counts_are = sym (ap (λ (o : Opened). o.counts) made.5);
+      fan_is = (c.fan-fan.ensures.fan ∙ (ap (λ (s : PlainStore). s.fan) store ∙ sym (ap (λ (o : Opened). o.index.value.fan) made.5)), c.fan-fan.ensures.in_range);
+      some_number = at_least_one c.of-counts.result.numbers c.page_count-count.result (22 * c.args.allowance.inserts) c.of-counts.ensures.numbers;
+      no_slot = made.1;
+      width = made.0 ∙ (ap length c.deref.ensures.value ∙ c.in-Ok.ensures.width);
+    }
+
+none_in_order : (keys : List ℕ) → keys ≡ [] → IsSorted nat_cmp keys
+none_in_order keys is = subst (IsSorted nat_cmp) (sym is) (λ k d least inside. absurd (omega (arith, inside)))
+
+pub invariant_of-keeper : goal.invariant_of-keeper
+invariant_of-keeper c =
+    let made = c.in-Ok-of_words.ensures in
+    let numbers : c.counts.inside.numbers ≡ c.of-counts.result.numbers = ap (λ (k : PlainCounts). k.numbers) c.counts.view_is in
+    let rows : c.counts.inside.rows ≡ c.of-counts.result.rows = ap (λ (k : PlainCounts). k.rows) c.counts.view_is in
+    let pages : c.page_count-count.result ≡ length c.of.result.value.pages = c.page_count-count.ensures.count ∙ ap (λ (s : PlainStore). length s.pages) (sym c.of.ensures) in
+    let first = opened_for_changes c.page_count-count.result c.args.allowance.inserts c.args.allowance.deletes (span (c.from-2.result + 1) c.counts.inside.numbers) (span (c.from.result + 2) (c.counts.inside.rows + 1))
+            (λ i. span (c.from-2.ensures i + 1) ((numbers ∙ c.of-counts.ensures.numbers) i)) (λ i. span (c.from.ensures i + 2) ((rows ∙ c.of-counts.ensures.rows) i + 1)) in record {
+      taken_are = c.new.ensures.items ∙ sym (ap (λ (x : SeatState). x.0.taken) made.4);
+      rows_are = (λ i. span ((c.from.ensures ∙ pages) i + 2) (rows i + 1)) ∙ sym (ap (λ (x : SeatState). x.0.rows) made.4);
+      pages_are = (λ i. span ((c.from-2.ensures ∙ pages) i + 1) (numbers i)) ∙ sym (ap (λ (x : SeatState). x.0.pages) made.4);
+      in_order = first.in_order;
+      for_changes = first.for_changes;
+      ascending = none_in_order c.new.result.items c.new.ensures.items;
+      role_is = ap (λ (x : SeatState). x.0.role) made.4;
+      no_slot = ap (λ (x : SeatState). x.1) made.4;
+    }

@@ -6,11 +6,11 @@ use Rattle.blink_rows.specs.Row.{prime_words}
 use Rattle.blink_rows.specs.declared.limits.TheConstants.{HEAD_WORDS, ROW_WORDS}
 use Rattle.blink_rows.proofs.Offered.{length-prime_words}
 use Rattle.blink_live.specs.Seats.{ReadsPrime}
-use Rattle.blink_live.specs.Views.{Sat}
+use Rattle.blink_live.specs.Views.{SeatState}
 use Rattle.blink_live.proofs.live.Live.prime_words.Goals as goal
 
 -- the head's words tell where the prime block's words end, which is in the row
-ends : (me : Sat) (row : ℕ) (head prime : List ℕ) → ReadsPrime me row prime
+ends : (me : SeatState) (row : ℕ) (head prime : List ℕ) → ReadsPrime me row prime
     → ((content : List ℕ) → me.0.reads ≡ Some (row, content) → (n : ℕ) → 0 ≤ n → n < HEAD_WORDS → slice_index head n ≡ slice_index content n)
     → (HEAD_WORDS + slice_index head 5 ≡ length (prime_words prime)) × (length (prime_words prime) ≤ ROW_WORDS)
 ends me row head prime reads loaded =
@@ -28,7 +28,7 @@ load_words-requires-2-clause-places c = let end = ends _ _ _ c.requires.prime.0 
 pub returns-clause-words : goal.returns-clause-words
 returns-clause-words c prime reads =
     let content = prime_words prime in
-    let again = ap (λ (x : Sat). x.0.reads) c.load_words.ensures.same.2 ∙ reads.reads in
+    let again = ap (λ (x : SeatState). x.0.reads) c.load_words.ensures.same.2 ∙ reads.reads in
     let end = ends _ _ _ prime reads c.load_words.ensures.loaded in
     record {
       width = c.load_words-2.ensures.width;

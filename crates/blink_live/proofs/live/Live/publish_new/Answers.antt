@@ -4,9 +4,9 @@ use Rattle.atomic_table.specs.Table.{step, Allows}
 use Rattle.blink_rows.specs.Row.{page_words, IsRowOf}
 use Rattle.blink_machine.specs.Table.{page_out}
 use Rattle.blink_live.specs.declared.view.Plan.{Plan}
-use Rattle.blink_live.specs.Plays.{publishes_new}
+use Rattle.blink_live.specs.AtomicSteps.{publishes_new}
 use Rattle.blink_live.specs.Rule.{IsTable}
-use Rattle.blink_live.specs.Views.{Sat, plan_of}
+use Rattle.blink_live.specs.Views.{SeatState, plan_of}
 use Rattle.blink_live.proofs.changed.PublishesKeepTable.{new_is_published}
 use Rattle.blink_live.proofs.live.Live.publish_new.Goals as goal
 
@@ -15,7 +15,7 @@ store-requires c =
     let in_range = c.requires.in_range.1 in
     let plan : Plan = plan_of c.args.self.now.table.shared.key in
     let slots : ℕ = c.args.self.now.table.shared.table_id.slots in
-    let me : Sat = c.args.seat.now.me in
+    let me : SeatState = c.args.seat.now.me in
     let number = c.requires.number in
     let row = c.requires.row in (
       c.requires.seat.same_table,
@@ -24,5 +24,5 @@ store-requires c =
           (new_is_published plan slots c.args.seat.now.id me c.args.machine.now c.requires.seat.role c.requires.at c.requires.fits c.requires.needs
           (subst (λ (x : ℕ). x < me.0.call.pages.stop) number.0 number.1)
           (subst (λ (x : ℕ). x < me.0.call.rows.stop) row.0 row.1)
-          (subst (λ (x : ℕ). IsRowOf me.0.call.draft (page_words (page_out c.args.machine.now x))) number.0 c.requires.drafted) c.requires.among),
+          (subst (λ (x : ℕ). IsRowOf me.0.call.staged (page_words (page_out c.args.machine.now x))) number.0 c.requires.staged) c.requires.among),
     )

@@ -7,9 +7,9 @@ use Rattle.blink_rows.proofs.Offered.{row_has_one_page}
 use Rattle.blink_machine.specs.InOrder.{IsReadable}
 use Rattle.blink_machine.specs.Machine.{PlainMachine}
 use Rattle.blink_machine.specs.Table.{SeesPage}
-use Rattle.blink_live.specs.Plays.{LoadsPage}
+use Rattle.blink_live.specs.AtomicSteps.{LoadsPage}
 use Rattle.blink_live.specs.Seats.{ReadsPage}
-use Rattle.blink_live.specs.Views.{Sat}
+use Rattle.blink_live.specs.Views.{SeatState}
 use Rattle.blink_live.proofs.found.ReadsPage.{reads_page_word}
 use Rattle.blink_live.proofs.live.Live.read_latched.Goals as goal
 
@@ -23,10 +23,10 @@ load-row-requires c =
     )
 
 -- the page that the row's words tell is the one that the page word's load told
-same_page : (m : PlainMachine) (number row : ℕ) (me : Sat) (machine : PlainMachine) (then : Sat) (page : PlainPage) (words : List ℕ) (loads : LoadsPage m number me row machine then)
+same_page : (m : PlainMachine) (number row : ℕ) (me : SeatState) (machine : PlainMachine) (then : SeatState) (page : PlainPage) (words : List ℕ) (loads : LoadsPage m number me row machine then)
     → ((told : PlainPage) → ReadsPage then row told → IsPageRow told words) → IsLawfulPage MAX_FAN page → IsPageRow page words → loads.page ≡ page
 same_page m number row me machine then page words loads read lawful is =
-    row_has_one_page loads.page page words loads.lawful lawful (read loads.page (record { reads = ap (λ (x : Sat). x.0.reads) loads.is; lawful = loads.lawful })) is
+    row_has_one_page loads.page page words loads.lawful lawful (read loads.page (record { reads = ap (λ (x : SeatState). x.0.reads) loads.is; lawful = loads.lawful })) is
 
 readable : (c : goal.After-page-2-1) → IsReadable c.args.machine.now c.in-Some.page
 readable c =
@@ -46,11 +46,11 @@ saw_page-requires-clause-at_most_fan c = (readable c).at_most_fan
 pub returns-clause-read : goal.returns-clause-read
 returns-clause-read c =
     let m : PlainMachine = c.args.machine.now in
-    let me : Sat = c.args.seat.now.me in
+    let me : SeatState = c.args.seat.now.me in
     let row = c.load-row.result in
     let after : PlainMachine = c.saw_page.new.self in
     let loads = c.load-row.ensures.2 m c.requires.at c.requires.needs in
     let page_is = same_page _ _ _ _ _ _ _ _ loads.1 c.read_row-words.ensures.words (rw c.page.view_is at c.page.invariant) c.in-Some.ensures.page in
     let sees : SeesPage m c.args.number loads.1.page after = subst (λ (page : PlainPage). SeesPage m c.args.number page after) (sym page_is) (c.saw_page.ensures c.args.number c.requires.needs) in
     let same : after ≡ loads.0 = loads.1.only after sees in
-    (row, subst (λ (x : PlainMachine × Sat). LoadsPage m c.args.number me row x.0 x.1) (λ i. (sym same i, sym c.read_row-words.ensures.same.2 i)) loads.1)
+    (row, subst (λ (x : PlainMachine × SeatState). LoadsPage m c.args.number me row x.0 x.1) (λ i. (sym same i, sym c.read_row-words.ensures.same.2 i)) loads.1)

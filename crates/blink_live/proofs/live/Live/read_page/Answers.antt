@@ -11,8 +11,8 @@ use Rattle.blink_machine.specs.InOrder.{IsReadable}
 use Rattle.blink_machine.specs.Machine.{PlainMachine, key_of_job, target}
 use Rattle.blink_live.specs.Seats.{IsGoing, ReadsPage, TellsWayFor}
 use Rattle.blink_machine.specs.Table.{SeesPage, on_its_way}
-use Rattle.blink_live.specs.Plays.{LoadsPage}
-use Rattle.blink_live.specs.Views.{Sat}
+use Rattle.blink_live.specs.AtomicSteps.{LoadsPage}
+use Rattle.blink_live.specs.Views.{SeatState}
 use Rattle.blink_live.proofs.found.ReadsPage.{reads_page_word}
 use Rattle.blink_live.proofs.live.Live.read_page.Goals as goal
 
@@ -38,12 +38,12 @@ tells_way m key number page way kept going same readable tells = record {
 pub returns-clause-read : goal.returns-clause-read
 returns-clause-read c =
     let m : PlainMachine = c.args.machine.now in
-    let me : Sat = c.args.seat.now.me in
+    let me : SeatState = c.args.seat.now.me in
     let row = c.load-row.result in
     let after : PlainMachine = c.saw_way.new.self in
     let loads = c.load-row.ensures.2 m c.requires.at c.requires.needs in
-    let reads : ReadsPage c.load-row.new.seat.me row loads.1.page = record { reads = ap (λ (x : Sat). x.0.reads) loads.1.is; lawful = loads.1.lawful } in
+    let reads : ReadsPage c.load-row.new.seat.me row loads.1.page = record { reads = ap (λ (x : SeatState). x.0.reads) loads.1.is; lawful = loads.1.lawful } in
     let tells = tells_way m c.target.result c.args.number loads.1.page c.way_from-way.result.0 c.way_from-way.result.1 c.requires.going c.target.ensures loads.1.readable (c.way_from-way.ensures.way loads.1.page reads) in
     let sees : SeesPage m c.args.number loads.1.page after = on_its_way (c.saw_way.ensures c.args.number loads.1.page c.requires.needs tells) in
     let same : after ≡ loads.0 = loads.1.only after sees in
-    (row, subst (λ (x : PlainMachine × Sat). LoadsPage m c.args.number me row x.0 x.1) (λ i. (sym same i, sym c.way_from-way.ensures.same.2 i)) loads.1)
+    (row, subst (λ (x : PlainMachine × SeatState). LoadsPage m c.args.number me row x.0 x.1) (λ i. (sym same i, sym c.way_from-way.ensures.same.2 i)) loads.1)

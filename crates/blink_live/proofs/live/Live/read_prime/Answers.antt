@@ -6,9 +6,9 @@ use Rattle.blink_rows.specs.Row.{IsPrimeRow}
 use Rattle.blink_rows.proofs.Offered.{row_has_one_prime}
 use Rattle.blink_machine.specs.Machine.{PlainMachine}
 use Rattle.blink_machine.specs.Table.{SeesPrime, WaitsForLevel}
-use Rattle.blink_live.specs.Plays.{AsksPrime, LoadsPrime}
+use Rattle.blink_live.specs.AtomicSteps.{AsksPrime, LoadsPrime}
 use Rattle.blink_live.specs.Seats.{ReadsPrime}
-use Rattle.blink_live.specs.Views.{Sat}
+use Rattle.blink_live.specs.Views.{SeatState}
 use Rattle.blink_live.proofs.found.ReadsPrime.{reads_prime_word}
 use Rattle.blink_live.proofs.live.Live.read_prime.Goals as goal
 
@@ -20,11 +20,11 @@ load-row-requires c = (
 )
 
 -- the prime block that the row's words tell is the one that the page word's load told
-same_prime : (m : PlainMachine) (row : ℕ) (me : Sat) (machine : PlainMachine) (then : Sat) (prime words : List ℕ) (loads : LoadsPrime m me row machine then)
+same_prime : (m : PlainMachine) (row : ℕ) (me : SeatState) (machine : PlainMachine) (then : SeatState) (prime words : List ℕ) (loads : LoadsPrime m me row machine then)
     → ((told : List ℕ) → ReadsPrime then row told → IsPrimeRow told words) → IsPrimeRow prime words → loads.prime ≡ prime
 same_prime m row me machine then prime words loads read is =
     let few = loads.few_levels in
-    row_has_one_prime loads.prime prime words (omega (arith, few)) (read loads.prime (record { reads = ap (λ (x : Sat). x.0.reads) loads.is; few_levels = few })) is
+    row_has_one_prime loads.prime prime words (omega (arith, few)) (read loads.prime (record { reads = ap (λ (x : SeatState). x.0.reads) loads.is; few_levels = few })) is
 
 pub saw_prime-requires-clause-few_levels : goal.saw_prime-requires-clause-few_levels
 saw_prime-requires-clause-few_levels c =
@@ -42,14 +42,14 @@ same_machine m prime machine after false (AsksPrime.waits waits never is) saw wa
 pub returns-clause-read : goal.returns-clause-read
 returns-clause-read c =
     let m : PlainMachine = c.args.machine.now in
-    let me : Sat = c.args.seat.now.me in
+    let me : SeatState = c.args.seat.now.me in
     let row = c.load-row.result in
     let after : PlainMachine = c.saw_prime.new.self in
     let loads = c.load-row.ensures.2 m c.requires.at c.requires.needs in
     let prime_is = same_prime _ _ _ _ _ _ _ loads.1 c.prime_words-words.ensures.words c.in-Some.ensures.prime in
     let same : after ≡ loads.0 = same_machine m c.in-Some.prime loads.0 after c.saw_prime.result
     (subst (λ (prime : List ℕ). AsksPrime m prime loads.0) prime_is loads.1.asks) c.saw_prime.ensures.moved c.saw_prime.ensures.waits c.saw_prime.ensures.unchanged in
-    (row, subst (λ (x : PlainMachine × Sat). LoadsPrime m me row x.0 x.1) (λ i. (sym same i, sym c.prime_words-words.ensures.same.2 i)) loads.1)
+    (row, subst (λ (x : PlainMachine × SeatState). LoadsPrime m me row x.0 x.1) (λ i. (sym same i, sym c.prime_words-words.ensures.same.2 i)) loads.1)
 
 pub returns-clause-moved : goal.returns-clause-moved
 returns-clause-moved c = OnTrue_from c.saw_prime.result _ (λ saw. (c.in-Some.prime, OnTrue_at saw c.saw_prime.ensures.moved))

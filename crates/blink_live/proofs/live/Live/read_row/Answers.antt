@@ -7,11 +7,11 @@ use Rattle.blink_rows.specs.Row.{page_words}
 use Rattle.blink_rows.specs.declared.limits.TheConstants.{HEAD_WORDS, ROW_WORDS}
 use Rattle.blink_rows.proofs.Offered.{length-page_words}
 use Rattle.blink_live.specs.Seats.{ReadsPage}
-use Rattle.blink_live.specs.Views.{Sat}
+use Rattle.blink_live.specs.Views.{SeatState}
 use Rattle.blink_live.proofs.live.Live.read_row.Goals as goal
 
 -- the head's words tell where the page's words end, which is in the row
-ends : (me : Sat) (row : ℕ) (head : List ℕ) (page : PlainPage) → ReadsPage me row page
+ends : (me : SeatState) (row : ℕ) (head : List ℕ) (page : PlainPage) → ReadsPage me row page
     → ((content : List ℕ) → me.0.reads ≡ Some (row, content) → (n : ℕ) → 0 ≤ n → n < HEAD_WORDS → slice_index head n ≡ slice_index content n)
     → (HEAD_WORDS + 2 * slice_index head 5 ≡ length (page_words page)) × (length (page_words page) ≤ ROW_WORDS)
 ends me row head page reads loaded =
@@ -32,7 +32,7 @@ load_words-requires-2-clause-places c = let end = ends _ _ _ c.requires.page.0 c
 pub returns-clause-words : goal.returns-clause-words
 returns-clause-words c page reads =
     let content = page_words page in
-    let again = ap (λ (x : Sat). x.0.reads) c.load_words.ensures.same.2 ∙ reads.reads in
+    let again = ap (λ (x : SeatState). x.0.reads) c.load_words.ensures.same.2 ∙ reads.reads in
     let end = ends _ _ _ page reads c.load_words.ensures.loaded in
     record {
       width = c.load_words-2.ensures.width;

@@ -4,7 +4,7 @@ use Rattle.blink_live.specs.declared.pass.Pass.{Pass}
 use Rattle.blink_live.specs.declared.view.View.{View}
 use Rattle.blink_live.specs.declared.view.Role.{Role}
 use Rattle.blink_live.specs.Merge.{shares_of}
-use Rattle.blink_live.specs.Views.{Sat, takes_more, takes_back, takes_all_back}
+use Rattle.blink_live.specs.Views.{SeatState, takes_more, takes_back, takes_all_back}
 use Rattle.blink_live.proofs.closed.SharesComeBack.{none_back, one_more_back}
 use Rattle.blink_live.proofs.live.Live.take_back.Goals as goal
 
@@ -12,7 +12,7 @@ pub take_one-requires-clause-keeper : goal.take_one-requires-clause-keeper
 take_one-requires-clause-keeper c =
     let back = c.loop-pass.invariant.back in
     let keeper = c.requires.role in
-    (keeper.0, keeper.1 + length (shares_of back.0), ap (λ (x : Sat). x.0.role) back.2 ∙ ap (λ (r : Role). takes_more r (length (shares_of back.0))) keeper.2)
+    (keeper.0, keeper.1 + length (shares_of back.0), ap (λ (x : SeatState). x.0.role) back.2 ∙ ap (λ (r : Role). takes_more r (length (shares_of back.0))) keeper.2)
 
 pub loop-pass-preserved : goal.loop-pass-preserved
 loop-pass-preserved c =
@@ -25,7 +25,7 @@ loop-pass-preserved c =
         pass ∷ back.0,
         back.1 ∙ (ap (λ (ps : List Pass). ps ++ back.0) popped ∙ append_assoc c.pop.new.self.items (pass ∷ []) back.0),
         c.take_one.ensures.back
-            ∙ (ap (λ (x : Sat). let y : Sat = (takes_back x.0 pass.seat.me.0, x.1) in y) back.2
+            ∙ (ap (λ (x : SeatState). let y : SeatState = (takes_back x.0 pass.seat.me.0, x.1) in y) back.2
             ∙ (λ i. (one_more_back v pass.seat.me.0 (shares_of back.0) i, c.args.seat.now.me.1))),
       );
     }
@@ -47,5 +47,5 @@ returns c =
     let all : c.args.passes.items ≡ back.0 = back.1 ∙ ap (λ (ps : List Pass). ps ++ back.0) (none_left c.loop-pass.passes.items none) in
     record {
       same = c.loop-pass.invariant.same;
-      back = back.2 ∙ ap (λ (ps : List Pass). let y : Sat = (takes_all_back c.args.seat.now.me.0 (shares_of ps), c.args.seat.now.me.1) in y) (sym all);
+      back = back.2 ∙ ap (λ (ps : List Pass). let y : SeatState = (takes_all_back c.args.seat.now.me.0 (shares_of ps), c.args.seat.now.me.1) in y) (sym all);
     }

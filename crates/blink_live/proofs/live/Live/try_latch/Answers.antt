@@ -5,9 +5,9 @@ use Rattle.std.proofs.Common.{eqb}
 use Rattle.atomic_table.specs.Table.{step, Allows}
 use Rattle.blink_rows.specs.Counts.{PlainCounts}
 use Rattle.blink_live.specs.declared.view.Plan.{Plan}
-use Rattle.blink_live.specs.Plays.{tries_latch}
+use Rattle.blink_live.specs.AtomicSteps.{tries_latch}
 use Rattle.blink_live.specs.Rule.{IsTable}
-use Rattle.blink_live.specs.Views.{Sat, plan_of}
+use Rattle.blink_live.specs.Views.{SeatState, plan_of}
 use Rattle.blink_live.proofs.changed.LatchesKeepTable.{latch_is_tried}
 use Rattle.blink_live.proofs.live.Live.try_latch.Goals as goal
 
@@ -20,7 +20,7 @@ compare_exchange-requires c =
     let own = c.requires.own in
     let plan : Plan = plan_of c.args.self.now.table.shared.key in
     let slots : ℕ = c.args.self.now.table.shared.table_id.slots in
-    let me : Sat = c.args.seat.now.me in
+    let me : SeatState = c.args.seat.now.me in
     let counts_are = c.args.self.now.counts_are in (
       c.requires.seat.same_table,
       omega (arith, c.args.self.now.width, in_range, c.latch_place-word.ensures),

@@ -3,7 +3,7 @@ use Rattle.std.specs.Prelude.{unwrap_or}
 use Rattle.blink_page.specs.Page.{PlainPage}
 use Rattle.blink_rows.specs.Row.{page_words}
 use Rattle.blink_live.specs.Seats.{ReadsPage}
-use Rattle.blink_live.specs.Views.{Sat}
+use Rattle.blink_live.specs.Views.{SeatState}
 use Rattle.blink_live.proofs.found.WaysFromRow.{HasLink, has_link, leads_right, child_there, some_child, leads_down, ends_here}
 use Rattle.blink_live.proofs.live.Live.way_from.Goals as goal
 
@@ -12,7 +12,7 @@ use Rattle.blink_live.proofs.live.Live.way_from.Goals as goal
 its_link : (c : goal.After-load_word-right) (page : PlainPage) → ReadsPage c.args.seat.now.me c.args.row page → HasLink page c.load_word-right.result
 its_link c page reads =
     let high : c.load_word.result ≡ page.high = c.load_word.ensures.word (page_words page) reads.reads in
-    let word : c.load_word-right.result ≡ unwrap_or page.right 0 = c.load_word-right.ensures.word (page_words page) (ap (λ (x : Sat). x.0.reads) c.load_word.ensures.same.2 ∙ reads.reads) in
+    let word : c.load_word-right.result ≡ unwrap_or page.right 0 = c.load_word-right.ensures.word (page_words page) (ap (λ (x : SeatState). x.0.reads) c.load_word.ensures.same.2 ∙ reads.reads) in
     has_link page c.args.key c.load_word-right.result reads.lawful (let fits = c.ranges.key.fits in omega (arith, fits)) (let above = c.if-key-load_word.true in omega (arith, high, above)) word
 
 pub overflow_cast-result : goal.overflow_cast-result
@@ -29,8 +29,8 @@ returns-then-key-load_word-clause-way c page reads =
 pub returns-then-load_word-eq0-clause-way : goal.returns-then-load_word-eq0-clause-way
 returns-then-load_word-eq0-clause-way c page reads =
     let high : c.load_word.result ≡ page.high = c.load_word.ensures.word (page_words page) reads.reads in
-    let first : ReadsPage c.load_word.new.seat.me c.args.row page = subst (λ (x : Sat). ReadsPage x c.args.row page) (sym c.load_word.ensures.same.2) reads in
-    let level : c.load_word-2.result ≡ page.level = c.load_word-2.ensures.word (page_words page) (ap (λ (x : Sat). x.0.reads) c.entry_from-entry.ensures.same.2 ∙ first.reads) in
+    let first : ReadsPage c.load_word.new.seat.me c.args.row page = subst (λ (x : SeatState). ReadsPage x c.args.row page) (sym c.load_word.ensures.same.2) reads in
+    let level : c.load_word-2.result ≡ page.level = c.load_word-2.ensures.word (page_words page) (ap (λ (x : SeatState). x.0.reads) c.entry_from-entry.ensures.same.2 ∙ first.reads) in
     let entry = c.entry_from-entry.ensures.entry page first in
     let not_right = c.if-key-load_word.false in
     ends_here page c.args.key c.kept_under.result (omega (arith, high, not_right)) (sym level ∙ c.if-load_word-eq0.true) (c.kept_under.ensures _ _ page.entries reads.lawful.keys_rise entry)
@@ -40,8 +40,8 @@ unreachable-requires c =
     let page = c.requires.page.0 in
     let reads = c.requires.page.1 in
     let high : c.load_word.result ≡ page.high = c.load_word.ensures.word (page_words page) reads.reads in
-    let first : ReadsPage c.load_word.new.seat.me c.args.row page = subst (λ (x : Sat). ReadsPage x c.args.row page) (sym c.load_word.ensures.same.2) reads in
-    let level : c.load_word-2.result ≡ page.level = c.load_word-2.ensures.word (page_words page) (ap (λ (x : Sat). x.0.reads) c.entry_from-entry.ensures.same.2 ∙ first.reads) in
+    let first : ReadsPage c.load_word.new.seat.me c.args.row page = subst (λ (x : SeatState). ReadsPage x c.args.row page) (sym c.load_word.ensures.same.2) reads in
+    let level : c.load_word-2.result ≡ page.level = c.load_word-2.ensures.word (page_words page) (ap (λ (x : SeatState). x.0.reads) c.entry_from-entry.ensures.same.2 ∙ first.reads) in
     let entry = c.entry_from-entry.ensures.entry page first in
     let not_right = c.if-key-load_word.false in
     let not_leaf = c.if-load_word-eq0.false in
@@ -52,8 +52,8 @@ overflow_cast-result-2 c =
     let page = c.requires.page.0 in
     let reads = c.requires.page.1 in
     let high : c.load_word.result ≡ page.high = c.load_word.ensures.word (page_words page) reads.reads in
-    let first : ReadsPage c.load_word.new.seat.me c.args.row page = subst (λ (x : Sat). ReadsPage x c.args.row page) (sym c.load_word.ensures.same.2) reads in
-    let level : c.load_word-2.result ≡ page.level = c.load_word-2.ensures.word (page_words page) (ap (λ (x : Sat). x.0.reads) c.entry_from-entry.ensures.same.2 ∙ first.reads) in
+    let first : ReadsPage c.load_word.new.seat.me c.args.row page = subst (λ (x : SeatState). ReadsPage x c.args.row page) (sym c.load_word.ensures.same.2) reads in
+    let level : c.load_word-2.result ≡ page.level = c.load_word-2.ensures.word (page_words page) (ap (λ (x : SeatState). x.0.reads) c.entry_from-entry.ensures.same.2 ∙ first.reads) in
     let entry = c.entry_from-entry.ensures.entry page first in
     let not_right = c.if-key-load_word.false in
     let not_leaf = c.if-load_word-eq0.false in
@@ -63,8 +63,8 @@ overflow_cast-result-2 c =
 pub returns-clause-way : goal.returns-clause-way
 returns-clause-way c page reads =
     let high : c.load_word.result ≡ page.high = c.load_word.ensures.word (page_words page) reads.reads in
-    let first : ReadsPage c.load_word.new.seat.me c.args.row page = subst (λ (x : Sat). ReadsPage x c.args.row page) (sym c.load_word.ensures.same.2) reads in
-    let level : c.load_word-2.result ≡ page.level = c.load_word-2.ensures.word (page_words page) (ap (λ (x : Sat). x.0.reads) c.entry_from-entry.ensures.same.2 ∙ first.reads) in
+    let first : ReadsPage c.load_word.new.seat.me c.args.row page = subst (λ (x : SeatState). ReadsPage x c.args.row page) (sym c.load_word.ensures.same.2) reads in
+    let level : c.load_word-2.result ≡ page.level = c.load_word-2.ensures.word (page_words page) (ap (λ (x : SeatState). x.0.reads) c.entry_from-entry.ensures.same.2 ∙ first.reads) in
     let entry = c.entry_from-entry.ensures.entry page first in
     let not_right = c.if-key-load_word.false in
     let not_leaf = c.if-load_word-eq0.false in

@@ -5,11 +5,11 @@ use Rattle.blink_batch.proofs.Offered.{next_place_is}
 use Rattle.blink_batch.specs.declared.operation.Op.TheVariants.{Find}
 use Rattle.blink_batch.specs.Order.{next_place}
 use Rattle.blink_steps.proofs.runs.TurnFromItsParts.{goes_on-begun, IsLinked-with_seat, turn_moves}
-use Rattle.blink_steps.specs.declared.seat.Seat.{Seat}
+use Rattle.blink_steps.specs.declared.seat.WorkerState.{WorkerState}
 use Rattle.blink_machine.specs.Machine.{fresh}
 use Rattle.blink_steps.specs.Run.{IsNextOf, idle_seat}
 use Rattle.blink_steps.specs.RunView.{plain}
-use Rattle.blink_steps.specs.SoundRun.{CanTakeTurn}
+use Rattle.blink_steps.specs.RunInvariant.{CanTakeTurn}
 use Rattle.blink_steps.proofs.run.Run.begin.Goals as goal
 use Rattle.blink_steps.proofs.run.Run.begin.Goals.{After-new-machine}
 
@@ -69,7 +69,7 @@ invariant_of-self-in-Moved c =
     let lanes = c.self.inside.lanes.lanes in
     let next = c.index-next.result.now in
     let next_is = linked begun next c.index-next.ensures in
-    let seat : Seat = record { working = Some (record { place = c.args.place; machine = c.act.new.machine }); next = next } in
+    let seat : WorkerState = record { working = Some (record { place = c.args.place; machine = c.act.new.machine }); next = next } in
     IsLinked-with_seat c.self.inside c.act.new.self c.note.new.self c.from.result seat c.self.invariant
     (λ place found. rw c.from.ensures ((next_place_is lanes c.args.worker (c.args.place + 1) place (sym next_is ∙ found)).2))
 
@@ -80,7 +80,7 @@ returns-in-Moved-clause-turn c =
     let next_is = linked begun next c.index-next.ensures in
     let m = c.new-machine.result in
     let after = c.act.new.machine in
-    let seat : Seat = record { working = Some (record { place = c.args.place; machine = after }); next = next } in
+    let seat : WorkerState = record { working = Some (record { place = c.args.place; machine = after }); next = next } in
     let acts = rw c.in-Moved.is at c.in_ok-step.ensures.step in
     let sees = rw c.new-machine.ensures at acts in
     let goes = goes_on-begun _ _ _ after sees.1 in

@@ -4,16 +4,16 @@ use Rattle.std.specs.List.{slice_get}
 use Rattle.blink_batch.specs.declared.operation.Answer.{Answer}
 use Rattle.blink_steps.proofs.runs.TurnFromItsParts.{decides_now-before, seat_found, seat_with, seats-same, working_kept, IsLinked-with_seat, turn_moves, turn_waits}
 use Rattle.blink_steps.specs.declared.error.StepError.{StepError}
-use Rattle.blink_steps.specs.declared.seat.Seat.{Seat}
+use Rattle.blink_steps.specs.declared.seat.WorkerState.{WorkerState}
 use Rattle.blink_machine.specs.declared.step.Step.{Step}
 use Rattle.blink_steps.specs.Acts.{Acts}
-use Rattle.blink_steps.specs.Ledger.{noted}
+use Rattle.blink_steps.specs.Outcome.{recorded}
 use Rattle.blink_machine.specs.Machine.{PlainMachine}
-use Rattle.blink_machine.specs.Moment.{goes_on}
+use Rattle.blink_machine.specs.TreeState.{goes_on}
 use Rattle.blink_steps.specs.Run.{IsNextOf}
 use Rattle.blink_steps.specs.RunView.{plain}
 use Rattle.blink_steps.specs.Seats.{working_after, left_in_seat, answer_in_seat}
-use Rattle.blink_steps.specs.SoundRun.{CanTakeTurn}
+use Rattle.blink_steps.specs.RunInvariant.{CanTakeTurn}
 use Rattle.blink_steps.proofs.run.Run.go_on.Goals as goal
 use Rattle.blink_steps.proofs.run.Run.go_on.Goals.{In-Some, After-answer-before, After-forget_ended}
 
@@ -85,13 +85,13 @@ left c = c.forget_ended.ensures ∙ ap left_in_seat (acted c).1
 of_lane : (c : After-forget_ended) → (place : ℕ) → c.forget_ended.new.self.next ≡ Some place → slice_get c.self.inside.lanes.lanes place ≡ Some c.from.result
 of_lane c place next =
     let some = (goal.at.After-forget_ended c).In-Some in
-    let was : c.index_mut-seat.result.now.next ≡ Some place = sym (ap (λ (seat : Seat). seat.next) (left c)) ∙ next in
+    let was : c.index_mut-seat.result.now.next ≡ Some place = sym (ap (λ (seat : WorkerState). seat.next) (left c)) ∙ next in
     c.self.invariant.of_lanes c.from.result place c.index_mut-seat.result.now (rw c.from.ensures (found some)) was
 
 pub invariant_of-self : goal.invariant_of-self
 invariant_of-self c =
     let after = (goal.at.invariant_of-self c).After-forget_ended in
-    IsLinked-with_seat c.self.inside c.act-acted.new.shared c.self.inside.ledger c.from.result c.forget_ended.new.self c.self.invariant (of_lane after)
+    IsLinked-with_seat c.self.inside c.act-acted.new.shared c.self.inside.outcome c.from.result c.forget_ended.new.self c.self.invariant (of_lane after)
 
 pub invariant_of-self-in-Moved : goal.invariant_of-self-in-Moved
 invariant_of-self-in-Moved c =
@@ -101,7 +101,7 @@ invariant_of-self-in-Moved c =
 pub invariant_of-self-in_default-step : goal.invariant_of-self-in_default-step
 invariant_of-self-in_default-step c =
     let after = (goal.at.invariant_of-self-in_default-step c).After-forget_ended in
-    IsLinked-with_seat c.self.inside c.act-acted.new.shared c.self.inside.ledger c.from.result c.forget_ended.new.self c.self.invariant (of_lane after)
+    IsLinked-with_seat c.self.inside c.act-acted.new.shared c.self.inside.outcome c.from.result c.forget_ended.new.self c.self.invariant (of_lane after)
 
 -- where the operation is as it was, the seats are
 kept : (c : After-forget_ended) → (acted c).0 ≡ c.in-Some.working.machine → set c.self.inside.seats.items c.from.result c.forget_ended.new.self ≡ c.self.inside.seats.items
@@ -133,10 +133,10 @@ returns-in-Moved-clause-turn c =
     let seats = set c.self.inside.seats.items c.from.result c.forget_ended.new.self in
     let took = taken (λ step. Acts c.self.inside.shared c.args.worker working.machine step (acted after).0 c.act-acted.new.shared) c.act-acted.result c.in_ok-step.step c.in_ok-step.was (acted after).2 in
     let acts = rw c.in-Moved.is at took in
-    let seats_are = ap (λ (n : ℕ). set c.self.inside.seats.items n c.forget_ended.new.self) c.from.ensures ∙ ap (λ (s : Seat). set c.self.inside.seats.items c.args.worker s) (left after) in
-    let noted_is = c.note.ensures ∙ ap (λ (answer : Option Answer). noted c.self.inside.ledger working.place c.in-Moved.kind answer c.answer-after.result) (before_is read)
-    ∙ ap (λ (answer : Option Answer). noted c.self.inside.ledger working.place c.in-Moved.kind working.machine.answer answer) (after_is after) in
-    rw (← c.self.view_is) (turn_moves (plain c.self.inside) c.args.worker working.place working.machine (acted after).0 seat.next c.act-acted.new.shared (next_of some) c.in-Moved.kind seats c.note.new.self acts seats_are noted_is)
+    let seats_are = ap (λ (n : ℕ). set c.self.inside.seats.items n c.forget_ended.new.self) c.from.ensures ∙ ap (λ (s : WorkerState). set c.self.inside.seats.items c.args.worker s) (left after) in
+    let recorded_is = c.note.ensures ∙ ap (λ (answer : Option Answer). recorded c.self.inside.outcome working.place c.in-Moved.kind answer c.answer-after.result) (before_is read)
+    ∙ ap (λ (answer : Option Answer). recorded c.self.inside.outcome working.place c.in-Moved.kind working.machine.answer answer) (after_is after) in
+    rw (← c.self.view_is) (turn_moves (plain c.self.inside) c.args.worker working.place working.machine (acted after).0 seat.next c.act-acted.new.shared (next_of some) c.in-Moved.kind seats c.note.new.self acts seats_are recorded_is)
 
 pub returns-in_default-step : goal.returns-in_default-step
 returns-in_default-step c =

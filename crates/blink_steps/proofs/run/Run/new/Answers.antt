@@ -3,7 +3,7 @@ use Rattle.std.proofs.lemmas.List.{length_push}
 use Rattle.blink_batch.specs.Cut.{Assignment}
 use Rattle.blink_batch.specs.declared.cut.TheConstants.{WORKER_LIMIT}
 use Rattle.blink_steps.proofs.runs.TurnFromItsParts.{AreIdle, AreIdle-more, AreOfLanes-idle}
-use Rattle.blink_steps.specs.Links.{AreLinks, AreFirsts}
+use Rattle.blink_steps.specs.LaneQueues.{NextInLane, FirstInLane}
 use Rattle.blink_steps.specs.Seats.{AreOfLanes}
 use Rattle.blink_steps.proofs.run.Run.new.Goals as goal
 use Rattle.blink_steps.proofs.run.Run.new.Goals.{In_ok-new}
@@ -25,7 +25,7 @@ loop-worker-preserved c =
     let workers : c.from-workers.result ≡ c.args.lanes.workers = c.from-workers.ensures ∙ c.workers.ensures.workers in
     let allowed : c.args.lanes.workers ≤ WORKER_LIMIT = subst (λ (a : Assignment). a.workers ≤ WORKER_LIMIT) c.lanes.view_is c.lanes.invariant.allowed.1 in
     let a_worker : worker < WORKER_LIMIT = omega arith in
-    let firsts : AreFirsts c.args.lanes.lanes c.in_ok-following.firsts 0 = subst (λ (lanes : List ℕ). AreFirsts lanes c.in_ok-following.firsts 0) c.lanes-2.ensures.lanes c.in_ok-following.ensures.firsts in
+    let firsts : FirstInLane c.args.lanes.lanes c.in_ok-following.firsts 0 = subst (λ (lanes : List ℕ). FirstInLane lanes c.in_ok-following.firsts 0) c.lanes-2.ensures.lanes c.in_ok-following.ensures.firsts in
     let idle = AreIdle-more c.args.lanes.lanes c.in_ok-following.firsts c.loop-worker.seats.items worker firsts a_worker kept.a_seat_each kept.all_idle in
     record {
       reserved = rw c.push_reserved.ensures.capacity kept.reserved;
@@ -47,7 +47,7 @@ pub invariant_of-result-3 : goal.invariant_of-result-3
 invariant_of-result-3 c =
     let lanes = c.lanes-2.ensures.lanes in
     let following = c.in_ok-following.following.items in
-    let links : AreLinks c.args.lanes.lanes following 0 = subst (λ (l : List ℕ). AreLinks l following 0) lanes c.in_ok-following.ensures.following in
+    let links : NextInLane c.args.lanes.lanes following 0 = subst (λ (l : List ℕ). NextInLane l following 0) lanes c.in_ok-following.ensures.following in
     let as_many : length following ≡ length c.args.lanes.lanes = c.in_ok-following.ensures.as_many ∙ ap length lanes in
     let of_lanes : AreOfLanes c.args.lanes.lanes c.loop-worker.seats.items = AreOfLanes-idle c.args.lanes.lanes c.loop-worker.seats.items (all_idle c) in
     rw (c.lanes.view_is, c.batch.view_is) (record { a_lane_each = c.requires; a_link_each = as_many; links = links; of_lanes = of_lanes })
@@ -55,7 +55,7 @@ invariant_of-result-3 c =
 pub returns : goal.returns
 returns c =
     let places : length c.ops-places.result.now ≡ length c.args.batch = ap length c.ops-places.ensures.ops in
-    let ledger = rw places at c.in_ok-new.ensures in
+    let outcome = rw places at c.in_ok-new.ensures in
     let idle : AreIdle c.args.lanes.lanes c.loop-worker.seats.items c.args.lanes.workers = rw (a_seat_each c) at (all_idle c) in
     record {
       same_store = refl;
@@ -64,5 +64,5 @@ returns c =
       same_assignment = c.lanes.view_is;
       a_seat_each = a_seat_each c;
       all_idle = idle;
-      nothing_noted = ledger;
+      nothing_recorded = outcome;
     }

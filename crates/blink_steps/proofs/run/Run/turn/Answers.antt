@@ -6,7 +6,7 @@ use Rattle.blink_steps.specs.declared.seat.Working.{Working}
 use Rattle.blink_steps.specs.Run.{idle_seat}
 use Rattle.blink_steps.specs.RunView.{plain}
 use Rattle.blink_steps.specs.Seats.{HasOperation}
-use Rattle.blink_steps.specs.SoundRun.{CanTakeTurn}
+use Rattle.blink_steps.specs.RunInvariant.{CanTakeTurn}
 use Rattle.blink_steps.proofs.run.Run.turn.Goals as goal
 use Rattle.blink_steps.proofs.run.Run.turn.Goals.{After-is_some}
 

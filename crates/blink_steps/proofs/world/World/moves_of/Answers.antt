@@ -1,6 +1,6 @@
 use Rattle.std.proofs.Common.{◌<◌, ◌≤◌, ℕ, List, length, get_or, ap, sym, subst, ◌∙◌, arith}
 use Rattle.std.proofs.lemmas.Option.{get_or_from_slice_get}
-use Rattle.blink_steps.specs.Ways.{steps_at_most_with}
+use Rattle.blink_steps.specs.StepBounds.{steps_at_most_with}
 use Rattle.blink_steps.specs.World.{PlainWorld, IsWorld}
 use Rattle.blink_steps.proofs.worlds.WorldPromises.{counted, promises, shaped, short}
 use Rattle.blink_steps.proofs.world.World.moves_of.Goals as goal
@@ -13,8 +13,8 @@ bounds-moves-op c =
 
 pub returns-clause-count : goal.returns-clause-count
 returns-clause-count c start is_world =
-    ap (λ (xs : List ℕ). get_or xs c.args.op 0) (c.moves.ensures ∙ ap (λ (world : PlainWorld). world.run.ledger.moves) c.self.view_is)
-    ∙ get_or_from_slice_get c.args.self.now.run.ledger.moves c.args.op _ 0 ((counted start c.args.self.now is_world).moves c.args.op c.requires)
+    ap (λ (xs : List ℕ). get_or xs c.args.op 0) (c.moves.ensures ∙ ap (λ (world : PlainWorld). world.run.outcome.moves) c.self.view_is)
+    ∙ get_or_from_slice_get c.args.self.now.run.outcome.moves c.args.op _ 0 ((counted start c.args.self.now is_world).moves c.args.op c.requires)
 
 pub returns-clause-promised : goal.returns-clause-promised
 returns-clause-promised c start is_world = promises start _ is_world

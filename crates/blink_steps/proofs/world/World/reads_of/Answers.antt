@@ -1,7 +1,7 @@
 use Rattle.std.proofs.Common.{◌<◌, ◌≤◌, ℕ, List, length, get_or, ap, sym, subst, ◌∙◌, arith}
 use Rattle.std.proofs.lemmas.Option.{get_or_from_slice_get}
 use Rattle.blink_machine.specs.Kinds.{is_page_read}
-use Rattle.blink_steps.specs.Ways.{steps_at_most_with}
+use Rattle.blink_steps.specs.StepBounds.{steps_at_most_with}
 use Rattle.blink_steps.specs.World.{PlainWorld, IsWorld}
 use Rattle.blink_steps.proofs.bounds.CountedTurns.{moves_of-few}
 use Rattle.blink_steps.proofs.worlds.WorldPromises.{counted, promises, shaped, short}
@@ -15,8 +15,8 @@ bounds-reads-op c =
 
 pub returns-clause-count : goal.returns-clause-count
 returns-clause-count c start is_world =
-    ap (λ (xs : List ℕ). get_or xs c.args.op 0) (c.reads.ensures ∙ ap (λ (world : PlainWorld). world.run.ledger.reads) c.self.view_is)
-    ∙ get_or_from_slice_get c.args.self.now.run.ledger.reads c.args.op _ 0 ((counted start c.args.self.now is_world).reads c.args.op c.requires)
+    ap (λ (xs : List ℕ). get_or xs c.args.op 0) (c.reads.ensures ∙ ap (λ (world : PlainWorld). world.run.outcome.reads) c.self.view_is)
+    ∙ get_or_from_slice_get c.args.self.now.run.outcome.reads c.args.op _ 0 ((counted start c.args.self.now is_world).reads c.args.op c.requires)
 
 pub returns-clause-promised : goal.returns-clause-promised
 returns-clause-promised c start is_world = promises start _ is_world

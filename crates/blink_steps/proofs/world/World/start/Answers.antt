@@ -15,7 +15,7 @@ may_begin c = record {
   lanes = c.lanes-allowed.ensures.workers;
   a_lane_each = c.requires.a_lane_each;
   numbers_suffice = elim (cases_lt MAX_PAGE (length c.args.rest.pages + 22 * count_by is_insert c.args.batch)) [
-    | inl above ↦ (let too_large : c.is_too_large.result ≡ true = c.is_too_large.ensures.1 (omega arith) in let not = c.if-is_too_large.false in absurd (cc))
+    | inl above ↦ (let too_large : c.exceeds_page_limit.result ≡ true = c.exceeds_page_limit.ensures.1 (omega arith) in let not = c.if-exceeds_page_limit.false in absurd (cc))
     | inr fits ↦ fits
   ];
 }

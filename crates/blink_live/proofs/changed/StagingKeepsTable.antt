@@ -1,0 +1,133 @@
+-- A word that is stored in a row of one's own is no step of the tree, and keeps the rule.
+use Rattle.std.proofs.Common.{◌≡◌, ◌≢◌, ℕ, suc, ◌+◌, ◌*◌, ◌<◌, ◌≤◌, List, [], length, set, refl, sym, ap, ◌∙◌, subst, length-set, get_or-set_same, get_or-set_other, arith}
+use Rattle.std.specs.Prelude.{slice_index}
+use mathlib.Core.Option.{some, none}
+use mathlib.Core.Logic.{dite}
+use native.Mathlib.Decide.{ℕ_discrete}
+use lib.ListN.{get_elem?}
+use Rattle.atomic_table.specs.Table.{State, step, keeps, Allows}
+use Rattle.blink_rows.specs.declared.limits.TheConstants.{ROW_WORDS}
+use Rattle.blink_rows.specs.declared.span.Span.{Span}
+use Rattle.blink_machine.specs.TreeState.{TreeState}
+use Rattle.blink_live.specs.declared.view.Plan.{Plan}
+use Rattle.blink_live.specs.declared.view.Role.TheVariants.{Pass}
+use Rattle.blink_live.specs.declared.view.View.{View}
+use Rattle.blink_live.specs.AtomicSteps.{stores_word}
+use Rattle.blink_live.specs.Rule.{PageWordIs, HasRows, IsInRole, Knows, IsTableAt, IsTable}
+use Rattle.blink_live.specs.Views.{SeatState, span, stage_word}
+use Rattle.blink_live.specs.Words.{row_start, RowIs}
+use Rattle.blink_live.proofs.table.OthersKnowTheSame.{LeavesOthers, RowStays, row_is_still, page_word_still, reads_still}
+use Rattle.blink_live.proofs.table.StoresKeepTable.{prime_still, store_keeps}
+
+-- two rows have no place in common
+other_row_stays : (plan : Plan) (words : List ℕ) (row other i x : ℕ) → 1 ≤ row → 1 ≤ other → other ≢ row → i < ROW_WORDS → RowStays plan words (set words (row_start plan.counts row + i) x) other
+other_row_stays plan words row other i x some_row some_other differ inside k below = get_or-set_other words (row_start plan.counts row + i) (row_start plan.counts other + k) x 0 (λ e. differ (omega (arith, e, some_row, some_other, inside, below)))
+
+module _ (plan : Plan) (s : State ℕ View) (tree_state : TreeState) (h : IsTableAt plan s tree_state) (id i x : ℕ) (v : View) (at : get_elem? s.views id ≡ some v) (role : v.role ≡ Pass) (room : v.call.rows.next < v.call.rows.stop) (inside : i < ROW_WORDS) (some_number : 1 ≤ plan.counts.numbers) where
+  abbrev row : ℕ
+  row = v.call.rows.next
+
+  abbrev place : ℕ
+  place = row_start plan.counts row + i
+
+  abbrev pub words : List ℕ
+  words = set s.words (row_start plan.counts v.call.rows.next + i) x
+
+  abbrev pub w : View
+  w = stage_word v i x
+
+  known : Knows plan h.owners s.words tree_state h.log id v
+  known = h.views id v at
+
+  kept : IsInRole plan h.owners h.log id v Pass
+  kept = subst (IsInRole plan h.owners h.log id v) role known.in_role
+
+  some_row : 1 ≤ row
+  some_row = (known.for_call.first_own room).0
+
+  leaves : LeavesOthers plan s tree_state tree_state h id words h.owners h.log
+  leaves = record {
+    machines = λ seat other. refl;
+    ways = λ seat m other is. refl;
+    rows = λ r least apart. (refl, other_row_stays plan s.words row r i x some_row least (λ same. apart (ap h.owners.row same ∙ (known.for_call.first_own room).1)) inside);
+    numbers = λ n apart. (refl, λ free. free);
+    keys = λ key apart. (refl, refl, refl);
+    latch_numbers = λ seat. refl;
+    longer = λ seen is. is;
+  }
+
+  later_rows : (rows : Span) → (row < rows.next) → HasRows plan h.owners s.words (suc id) rows → HasRows plan h.owners words (suc id) rows
+  later_rows rows later has = record {
+    in_range = has.in_range;
+    own = has.own;
+    blank = λ r low high. row_is_still plan s.words words r [] (other_row_stays plan s.words row r i x some_row (omega (arith, low, later)) (λ same. omega (arith, same, low, later)) inside) (has.blank r low high);
+  }
+
+  inside_words : place < length s.words
+  inside_words = let wide = h.width in let high = known.for_call.others.in_range.1 in omega (arith, wide, high, room, inside, some_row)
+
+  staged : RowIs plan.counts words row w.call.staged
+  staged k below = dite (ℕ_discrete k i)
+      (λ same.
+      ap (λ (n : ℕ). slice_index words (row_start plan.counts row + n)) same
+      ∙ (get_or-set_same s.words place x 0 inside_words
+      ∙ (sym (get_or-set_same v.call.staged i x 0 (let wide = known.for_call.width in omega (arith, wide, inside))) ∙ ap (slice_index w.call.staged) (sym same))))
+      (λ differ.
+      get_or-set_other s.words place (row_start plan.counts row + k) x 0 (λ e. differ (omega (arith, e)))
+      ∙ (known.for_call.staged room k below ∙ sym (get_or-set_other v.call.staged i k x 0 differ)))
+
+  knows : Knows plan h.owners words tree_state h.log id w
+  knows = record {
+    same_plan = known.same_plan;
+    operation = known.operation;
+    bounded = known.bounded;
+    reads = reads_still plan s tree_state tree_state h id kept.0 words h.owners h.log leaves v.reads known.reads;
+    rows = later_rows v.rows (let before = known.for_call.before.0 in omega (arith, before, room)) known.rows;
+    numbers = known.numbers;
+    for_call = record {
+      before = known.for_call.before;
+      width = length-set v.call.staged i x ∙ known.for_call.width;
+      first_own = known.for_call.first_own;
+      staged = λ again. staged;
+      others = later_rows (span (suc row) v.call.rows.stop) (omega arith) known.for_call.others;
+      numbers = known.for_call.numbers;
+    };
+    share = known.share;
+    saw = known.saw;
+    heard = known.heard;
+    in_role = subst (IsInRole plan h.owners h.log id w) (sym role) kept;
+  }
+
+  before_rows : (n : ℕ) → n < 2 * plan.counts.numbers → slice_index words n ≡ slice_index s.words n
+  before_rows n below = get_or-set_other s.words place n x 0 (λ e. omega (arith, e, below))
+
+  pub stage_keeps : IsTable plan record { words = words; homes = s.homes; views = set s.views id w }
+  stage_keeps = store_keeps plan s tree_state tree_state h id place x kept.0 v w at h.owners h.log h.now leaves record {
+    same_fan = refl;
+    invariant = h.invariant;
+    prime_numbers = h.prime_numbers;
+    prime = prime_still plan s tree_state tree_state h id kept.0 words h.owners h.log leaves (before_rows 0 (omega (arith, some_number))) refl;
+    pages = λ n least below. subst (λ (word : ℕ). PageWordIs plan h.owners words word (tree_state.pages n)) (sym (before_rows n (omega (arith, below))))
+        (page_word_still plan s tree_state tree_state h id kept.0 words h.owners h.log leaves (slice_index s.words n) (tree_state.pages n) (h.pages n least below));
+    no_other_page = h.no_other_page;
+    no_other_latch = h.no_other_latch;
+    latches = λ n below. before_rows (plan.counts.numbers + n) (omega (arith, below)) ∙ h.latches n below;
+    holders = h.holders;
+    is_map = h.is_map;
+    kept = h.kept;
+    untouched = h.untouched;
+  } refl knows
+
+pub word_is_staged : (plan : Plan) (slots id i x : ℕ) (me : SeatState) → me.0.role ≡ Pass → me.0.call.rows.next < me.0.call.rows.stop → i < ROW_WORDS → 1 ≤ plan.counts.numbers
+    → Allows (IsTable plan) slots id me (row_start plan.counts me.0.call.rows.next + i) (λ n. x) (λ n. stores_word (step slots (row_start plan.counts me.0.call.rows.next + i) x 0 none) me x)
+word_is_staged plan slots id i x me role room inside some_number s table homes at small =
+    let known = table.1.views id me.0 at in (
+      stage_word me.0 i x,
+      keeps,
+      tt,
+      stage_keeps plan s table.0 table.1 id i x me.0 at role room inside some_number,
+      λ j below is.
+          let place : row_start plan.counts me.0.call.rows.next + i ≡ row_start plan.counts me.0.call.rows.next + j = is ∙ ap (λ (p : Plan). row_start p.counts me.0.call.rows.next + j) known.same_plan in
+          let same : i ≡ j = omega (arith, place) in
+          ap (λ (k : ℕ). let y : SeatState = (stage_word me.0 k x, me.1) in y) same,
+    )

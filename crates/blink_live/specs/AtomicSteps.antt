@@ -1,0 +1,220 @@
+-- What each kind of atomic step tells whoever takes it.
+use Rattle.std.specs.Prelude.{◌≡◌, ◌≢◌, ◌⊎◌, ℕ, suc, ◌+◌, ◌<◌, ◌≤◌, Option, Some, None, IsSome, List, length, All, slice_index}
+use Rattle.atomic_table.specs.Table.{Step}
+use Rattle.blink_batch.specs.declared.Op.{Op}
+use Rattle.blink_batch.specs.Operation.{answer_at, answer_of, key_of}
+use Rattle.blink_batch.specs.PlainMap.{pointer_of}
+use Rattle.blink_page.specs.Limits.{IsPageNumber}
+use Rattle.blink_page.specs.Page.{PlainPage, IsLawfulPage}
+use Rattle.blink_page.specs.declared.limits.TheConstants.{LEVELS, MAX_FAN}
+use Rattle.blink_rows.specs.Row.{page_words, prime_words}
+use Rattle.blink_rows.specs.declared.limits.TheConstants.{ROW_WORDS}
+use Rattle.blink_rows.specs.declared.span.Span.{Span}
+use Rattle.blink_machine.specs.declared.machine.State.TheVariants.{Going, Ended}
+use Rattle.blink_machine.specs.declared.step.Kind.{Kind}
+use Rattle.blink_machine.specs.declared.step.Step.TheVariants.{Moved}
+use Rattle.blink_machine.specs.Allowance.{HasEnough, UsesUp, numbers_left, writes_left, primes_left}
+use Rattle.blink_machine.specs.Kinds.{read_page, latch, unlatch, write_page, write_prime}
+use Rattle.blink_machine.specs.InOrder.{IsReadable}
+use Rattle.blink_machine.specs.Machine.{PlainMachine, NeedsPrime, NeedsPage, NeedsLatch, NeedsNew, NeedsWrite, NeedsPrimeWrite, NeedsUnlatch, fresh}
+use Rattle.blink_machine.specs.Table.{SeesPrime, WaitsForLevel, SeesPage, done}
+use Rattle.blink_live.specs.declared.view.Change.{Change}
+use Rattle.blink_live.specs.declared.view.Plan.{Plan}
+use Rattle.blink_live.specs.declared.view.Share.{Share}
+use Rattle.blink_live.specs.Changes.{after, Learns}
+use Rattle.blink_live.specs.Views.{SeatState, KnowsItsOwn, ShowsNoMore, for_call, going_on, stage_word, changed_by, publishes, reading, forgets_told, learns_of_others, span}
+use Rattle.blink_live.specs.Words.{AreNumbersIn, AreRowsIn, IsRowNumber, row_start}
+
+-- the number of a page that has a page word
+abbrev pub IsNumberIn : Plan → ℕ → Type 0
+IsNumberIn plan number = (1 ≤ number) × (number < plan.counts.numbers)
+
+-- whatever the operation needs next is there: a page's words, and what is left of what it may need
+pub record CanGoOn (plan : Plan) (m : PlainMachine) : Type 0 where
+  pub reads : (number : ℕ) → NeedsPage m number → IsNumberIn plan number
+  pub latches : (number : ℕ) → NeedsLatch m number → IsNumberIn plan number
+  pub writes : (number : ℕ) → NeedsWrite m number → IsNumberIn plan number
+  pub unlatches : (number : ℕ) → NeedsUnlatch m number → number < plan.counts.numbers
+  pub enough : HasEnough m
+
+-- ---- the load of the prime block's page word, which begins an operation
+
+-- it is `machine` now, and has what it takes of rows and page numbers for its call
+pub record Begins (op : Op) (me : SeatState) (row : ℕ) (machine : PlainMachine) (then : SeatState) : Type 0 where
+  pub prime : List ℕ
+  pub way : ℕ
+  pub seen : List Change
+  pub is : then ≡ (reading (for_call me.0 op) machine way row (prime_words prime) seen, me.1)
+  pub learns : Learns me.0 seen
+  pub row_in_range : IsRowNumber me.0.plan.counts row
+  pub some_level : 0 < length prime
+  pub few_levels : length prime < LEVELS
+  pub page_numbers : All IsPageNumber prime
+  pub sees : SeesPrime (fresh me.0.plan.fan op) prime machine
+  pub only : (other : PlainMachine) → SeesPrime (fresh me.0.plan.fan op) prime other → other ≡ machine
+  pub rows_in_range : AreRowsIn me.0.plan.counts me.0.rows
+  pub knows_own : KnowsItsOwn then.0
+  pub pages_in_range : AreNumbersIn me.0.plan.counts me.0.pages
+  pub next : CanGoOn me.0.plan machine
+
+abbrev pub begins : Op → Step ℕ → SeatState → ℕ → SeatState → Type 0
+begins op st me row then = (machine : PlainMachine) × Begins op me row machine then
+
+-- ---- the load of a page word
+
+-- what the operation answers now: nothing new, or what its key keeps after all changes so far
+abbrev pub AnswersAfter : (ℕ → Option ℕ) → PlainMachine → PlainMachine → Type 0
+AnswersAfter kept m machine = (machine.answer ≡ m.answer) ⊎ ((m.answer ≡ None) × (machine.answer ≡ Some (answer_at m.op (kept (key_of m.op)))))
+
+-- the operation is `machine` now
+pub record LoadsPage (m : PlainMachine) (number : ℕ) (me : SeatState) (row : ℕ) (machine : PlainMachine) (then : SeatState) : Type 0 where
+  pub page : PlainPage
+  pub way : ℕ
+  pub seen : List Change
+  pub is : then ≡ (reading me.0 machine way row (page_words page) seen, me.1)
+  pub learns : Learns me.0 seen
+  pub row_in_range : IsRowNumber me.0.plan.counts row
+  pub lawful : IsLawfulPage MAX_FAN page
+  pub readable : IsReadable m page
+  pub sees : SeesPage m number page machine
+  pub only : (other : PlainMachine) → SeesPage m number page other → other ≡ machine
+  pub next : CanGoOn me.0.plan machine
+  pub uses : UsesUp m (Moved (read_page number)) machine
+  pub answers_at_end : machine.state ≡ Ended → IsSome machine.answer
+  pub nearer : (level : ℕ) → m.state ≡ Going number level → way < me.0.descent_bound
+  pub answers : AnswersAfter (after (pointer_of me.0.plan.opening) seen) m machine
+  pub knows_own : KnowsItsOwn then.0
+
+abbrev pub loads_page : Step ℕ → SeatState → ℕ → SeatState → Type 0
+loads_page st me row then = (m : PlainMachine) → me.0.operation ≡ Some m → NeedsPage m st.word → (machine : PlainMachine) × LoadsPage m st.word me row machine then
+
+-- ---- the load of the prime block's page word by an operation under way
+
+-- what the operation makes of the prime block: exactly one machine comes of it, or it waits for a level that isn't there yet, and stays as it is
+pub data AsksPrime (m : PlainMachine) (prime : List ℕ) (machine : PlainMachine) : Type 0 where
+  moves : SeesPrime m prime machine → ((other : PlainMachine) → SeesPrime m prime other → other ≡ machine) → ¬ WaitsForLevel m prime → AsksPrime m prime machine
+  waits : WaitsForLevel m prime → ((other : PlainMachine) → ¬ SeesPrime m prime other) → machine ≡ m → AsksPrime m prime machine
+
+-- it may need no more afterwards than before
+pub record NeedsNoMore (m machine : PlainMachine) : Type 0 where
+  pub same_op : machine.op ≡ m.op
+  pub numbers : numbers_left machine ≤ numbers_left m
+  pub page_writes : writes_left machine ≤ writes_left m
+  pub prime_writes : primes_left machine ≤ primes_left m
+
+-- the operation is `machine` now
+pub record LoadsPrime (m : PlainMachine) (me : SeatState) (row : ℕ) (machine : PlainMachine) (then : SeatState) : Type 0 where
+  pub prime : List ℕ
+  pub way : ℕ
+  pub seen : List Change
+  pub is : then ≡ (reading me.0 machine way row (prime_words prime) seen, me.1)
+  pub learns : Learns me.0 seen
+  pub row_in_range : IsRowNumber me.0.plan.counts row
+  pub some_level : 0 < length prime
+  pub few_levels : length prime < LEVELS
+  pub page_numbers : All IsPageNumber prime
+  pub knows_own : KnowsItsOwn then.0
+  pub asks : AsksPrime m prime machine
+  pub next : CanGoOn me.0.plan machine
+  pub uses : NeedsNoMore m machine
+
+abbrev pub loads_prime : Step ℕ → SeatState → ℕ → SeatState → Type 0
+loads_prime st me row then = (m : PlainMachine) → me.0.operation ≡ Some m → NeedsPrime m → (machine : PlainMachine) × LoadsPrime m me row machine then
+
+-- ---- the load of the prime block's page word by a pass that was told what another has seen
+
+-- it has seen more now, and what it was told is among that
+pub record LooksUp (me then : SeatState) : Type 0 where
+  pub seen : List Change
+  pub is : then ≡ (learns_of_others me.0 seen, me.1)
+  pub learns : Learns me.0 seen
+  pub knows_own : KnowsItsOwn then.0
+
+abbrev pub looks_up : Step ℕ → SeatState → ℕ → SeatState → Type 0
+looks_up st me row then = LooksUp me then
+
+-- or it has seen no more, but what it was told of its own keys is no more than its own operations made
+pub record LooksBack (me then : SeatState) : Type 0 where
+  pub is : then ≡ (forgets_told me.0, me.1)
+  pub no_more : ShowsNoMore me.0.told me.0.share
+
+abbrev pub looks_back : Step ℕ → SeatState → ℕ → SeatState → Type 0
+looks_back st me row then = LooksBack me then
+
+-- ---- the load of a row's word
+
+pub record LoadsWord (word : ℕ) (me : SeatState) (found : ℕ) (then : SeatState) : Type 0 where
+  pub same : then ≡ me
+  pub is_its : (row i : ℕ) (content : List ℕ) → me.0.reads ≡ Some (row, content) → i < ROW_WORDS → word ≡ row_start me.0.plan.counts row + i → found ≡ slice_index content i
+
+abbrev pub loads_word : Step ℕ → SeatState → ℕ → SeatState → Type 0
+loads_word st = LoadsWord st.word
+
+-- ---- a latch word, where 0 becomes the seat's own number
+
+-- the operation has taken its step, of this kind
+pub record GoesOn (kind : Kind) (m : PlainMachine) (me then : SeatState) : Type 0 where
+  pub way : ℕ
+  pub is : then ≡ (going_on me.0 (done m 0) way, me.1)
+  pub next : CanGoOn me.0.plan (done m 0)
+  pub uses : UsesUp m (Moved kind) (done m 0)
+  pub answers_at_end : (done m 0).state ≡ Ended → IsSome (done m 0).answer
+
+-- where 0 was found the seat has the latch, and its operation goes on; else nothing is changed
+pub record TriesLatch (number : ℕ) (m : PlainMachine) (me : SeatState) (found : ℕ) (then : SeatState) : Type 0 where
+  pub got : found ≡ 0 → GoesOn (latch number) m me then
+  pub lost : found ≢ 0 → then ≡ me
+
+abbrev pub tries_latch : Step ℕ → SeatState → ℕ → SeatState → Type 0
+tries_latch st me found then = (m : PlainMachine) (number : ℕ) → me.0.operation ≡ Some m → NeedsLatch m number → st.word ≡ me.0.plan.counts.numbers + number → TriesLatch number m me found then
+
+-- ---- 0 in a latch word that the seat has latched
+
+abbrev pub lets_go : Step ℕ → SeatState → ℕ → SeatState → Type 0
+lets_go st me found then = (m : PlainMachine) (number : ℕ) → me.0.operation ≡ Some m → NeedsUnlatch m number → st.word ≡ me.0.plan.counts.numbers + number → GoesOn (unlatch number) m me then
+
+-- ---- a word of the first row that the seat's call may use
+
+abbrev pub stores_word : Step ℕ → SeatState → ℕ → SeatState → Type 0
+stores_word st me found then = (place : ℕ) → place < ROW_WORDS → st.word ≡ row_start me.0.plan.counts me.0.call.rows.next + place → then ≡ (stage_word me.0 place st.first, me.1)
+
+-- ---- a page word, which names the first row that the seat's call may use
+
+-- the step decides the operation, which answers by the share and changes it as it changes a map; or it was decided before, and the share stays
+pub data Decided (m after : PlainMachine) (before share : Share) : Type 0 where
+  deciding : m.answer ≡ None → after.answer ≡ Some (answer_of before.entries m.op) → share ≡ changed_by m.op before → Decided m after before share
+  other : after.answer ≡ m.answer → share ≡ before → Decided m after before share
+
+-- the row is published by a step of this kind: the operation is `after` now, and the call may still use these page numbers
+pub record Publishes (kind : Kind) (pages : Span) (m after : PlainMachine) (me then : SeatState) : Type 0 where
+  pub way : ℕ
+  pub share : Share
+  pub seen : List Change
+  pub is : then ≡ (publishes me.0 after way pages share seen, me.1)
+  pub learns : Learns me.0 seen
+  pub decided : Decided m after me.0.share share
+  pub next : CanGoOn me.0.plan after
+  pub uses : UsesUp m (Moved kind) after
+  pub answers_at_end : after.state ≡ Ended → IsSome after.answer
+  pub knows_own : KnowsItsOwn then.0
+
+-- in the place of a page
+abbrev pub PublishesPage : ℕ → PlainMachine → SeatState → SeatState → Type 0
+PublishesPage number m me then = Publishes (write_page number) me.0.call.pages m (done m 0) me then
+
+abbrev pub publishes_page : Step ℕ → SeatState → ℕ → SeatState → Type 0
+publishes_page st me found then = (m : PlainMachine) → me.0.operation ≡ Some m → NeedsWrite m st.word → PublishesPage st.word m me then
+
+-- as a new page, with the first page number that the call may use
+abbrev pub PublishesNew : PlainMachine → SeatState → SeatState → Type 0
+PublishesNew m me then = Publishes (write_page me.0.call.pages.next) (span (suc me.0.call.pages.next) me.0.call.pages.stop) m (done m me.0.call.pages.next) me then
+
+abbrev pub publishes_new : Step ℕ → SeatState → ℕ → SeatState → Type 0
+publishes_new st me found then = (m : PlainMachine) → me.0.operation ≡ Some m → NeedsNew m → PublishesNew m me then
+
+-- as the prime block
+abbrev pub PublishesPrime : PlainMachine → SeatState → SeatState → Type 0
+PublishesPrime m me then = Publishes write_prime me.0.call.pages m (done m 0) me then
+
+abbrev pub publishes_prime : Step ℕ → SeatState → ℕ → SeatState → Type 0
+publishes_prime st me found then = (m : PlainMachine) → me.0.operation ≡ Some m → NeedsPrimeWrite m → PublishesPrime m me then

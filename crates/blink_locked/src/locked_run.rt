@@ -1,0 +1,114 @@
+//! The locked run at which workers take turns at the book, each in a thread of its own.
+
+use crate::book::{Book, Turn};
+use crate::gate::Gate;
+use blink_steps::Kind;
+use std::sync::{Condvar, Mutex, MutexGuard, Wait};
+use std::thread;
+
+/// How often a waiting worker looks at the book again before it sleeps until the book has changed.
+const LOOKS: usize = 16;
+
+/// How often a worker tries the lock, and yields, before it sleeps until it has it.
+const TRIES: usize = 20;
+
+/// A book that one worker at a time writes: each step is taken under its lock.
+#[derive(Drop)]
+pub struct LockedRun {
+    book: Mutex<Book>,
+    // Told where a worker has let a latch go, has written the prime block, or has found the run stopped: nothing else is
+    // waited for.
+    changed: Condvar,
+}
+
+impl LockedRun {
+    /// A locked run for this book.
+    pub fn new(book: Book) -> LockedRun {
+        LockedRun {
+            book: Mutex::new(book),
+            changed: Condvar::new(),
+        }
+    }
+
+    /// Runs a worker's lane, one operation after another, to its end or until the run is stopped. The gate is called between
+    /// operations, when the worker has neither the lock nor a latch.
+    pub fn run_lane<R: Wait, G: Gate>(&self, rt: &R, gate: &G, worker: u8, lanes: &[u8]) {
+        for (op, &lane) in (0..u32::MAX).zip(lanes) {
+            if lane == worker {
+                gate.before(worker, op);
+                if !self.run_operation(rt, worker, op) {
+                    return;
+                }
+                gate.after(worker, op);
+            }
+        }
+    }
+
+    // Takes the operation's turns until it has ended, or else the run is stopped.
+    fn run_operation<R: Wait>(&self, rt: &R, worker: u8, op: u32) -> bool {
+        for _ in rt.forever() {
+            match self.turn(rt, worker, op) {
+                Turn::Took(_, false) | Turn::Waits => {}
+                Turn::Took(_, true) | Turn::Over => return true,
+                Turn::Stopped => return false,
+            }
+        }
+        unreachable!()
+    }
+
+    // The worker's next turn that is no wait. After some looks it sleeps until the book has changed.
+    fn turn<R: Wait>(&self, rt: &R, worker: u8, op: u32) -> Turn {
+        for _ in 0..LOOKS {
+            let turn = self.enter(rt).turn(worker, op);
+            if !matches!(turn, Turn::Waits) {
+                return self.told(turn);
+            }
+            thread::yield_now();
+        }
+        let turn = self.turn_after_sleep(rt, worker, op);
+        self.told(turn)
+    }
+
+    // The turn of a worker that sleeps until the book has changed.
+    fn turn_after_sleep<R: Wait>(&self, rt: &R, worker: u8, op: u32) -> Turn {
+        let mut book = self.enter(rt);
+        for _ in rt.forever() {
+            let turn = book.turn(worker, op);
+            if !matches!(turn, Turn::Waits) {
+                return turn;
+            }
+            book = self.changed.wait(rt, book);
+        }
+        unreachable!()
+    }
+
+    // The book, under its lock. A worker that sleeps for each step's lock is mostly asleep: steps are short.
+    fn enter<R: Wait>(&self, rt: &R) -> MutexGuard<'_, Book> {
+        for _ in 0..TRIES {
+            if let Some(book) = self.book.try_lock() {
+                return book;
+            }
+            thread::yield_now();
+        }
+        self.book.lock(rt)
+    }
+
+    // Wakes who may have waited for what this turn has done.
+    fn told(&self, turn: Turn) -> Turn {
+        if let Turn::Took(Kind::Unlatch(_) | Kind::WritePrime, _) | Turn::Stopped = turn {
+            self.changed.notify_all();
+        }
+        turn
+    }
+
+    /// Stops the run.
+    pub fn stop<R: Wait>(&self, rt: &R) {
+        self.enter(rt).stop();
+        self.changed.notify_all();
+    }
+
+    /// The book, when all workers have left.
+    pub fn into_book(self) -> Book {
+        self.book.into_inner()
+    }
+}

@@ -1,0 +1,33 @@
+-- The entries of a sound tree state are one plain map.
+use Rattle.std.proofs.Common.{◌≡◌, ◌+◌, List, [], ◌∷◌, refl, ap, sym, subst, ◌∙◌}
+use Rattle.blink_batch.specs.declared.Entry.{Entry}
+use Rattle.blink_page.specs.declared.limits.TheConstants.{GREATEST_KEY}
+use Rattle.blink_rest.specs.Entries.{AreEntries}
+use Rattle.blink_rest.specs.Level.{entries_along}
+use Rattle.blink_rest.proofs.Offered.{entries_ascend}
+use Rattle.blink_machine.specs.StepLaw.{InvariantGivesOneMap}
+use Rattle.blink_machine.specs.TreeMap.{entries_from, pairs_of}
+use Rattle.blink_machine.proofs.tree_state.EntriesThatATreeKeeps.{are_entries, entries_are}
+use Rattle.blink_machine.proofs.law.EntriesAtStart.{ascending_from, pairs_of-entries_from}
+
+-- a plain map is told by its pairs
+pub entries_from-pairs_of : (entries : List Entry) → entries_from (pairs_of entries) ≡ entries
+entries_from-pairs_of [] = refl
+entries_from-pairs_of (e ∷ entries) = ap (λ (rest : List Entry). e ∷ rest) (entries_from-pairs_of entries)
+
+-- the entries of level 0, and no others
+pub invariant_gives_one_map : InvariantGivesOneMap
+invariant_gives_one_map tree_state invariant =
+    let levels = invariant.0 in
+    let tree = invariant.1.lawful.tree in
+    let pairs = entries_along (levels 0) in
+    let kept = are_entries tree_state.fan tree_state.prime tree_state.pages levels tree in
+    let rising = entries_ascend tree_state.fan tree_state.prime tree_state.pages pairs kept in
+    record {
+      entries = entries_from pairs;
+      is_map = record {
+        ascending = ascending_from 0 pairs (GREATEST_KEY + 1) rising;
+        kept = subst (AreEntries tree_state.fan tree_state.prime tree_state.pages) (sym (pairs_of-entries_from pairs)) kept;
+      };
+      only = λ others is. sym (entries_from-pairs_of others) ∙ ap entries_from (entries_are tree_state.fan tree_state.prime tree_state.pages levels tree (pairs_of others) is.kept);
+    }
