@@ -8,8 +8,8 @@ use Rattle.blink_batch.specs.declared.operation.Op.{Op}
 use Rattle.blink_batch.specs.declared.operation.Op.TheVariants.{Find, Insert, Delete, Replace}
 use Rattle.blink_batch.specs.declared.operation.Answer.{Answer}
 use Rattle.blink_batch.specs.PlainMap.{entry, IsAscending, pointer_of, added, removed, replaced}
-use Rattle.blink_batch.specs.Operation.{key_of, answer_at, map_at, answer_of, map_after, answers, map_after_all}
-use Rattle.blink_batch.specs.Cell.{cell_after, cell_answers, cell_after_all, is_on_key, on_key}
+use Rattle.blink_batch.specs.Operation.{key_of, answer_at, cell_after, map_at, answer_of, map_after, answers, map_after_all}
+use Rattle.blink_batch.specs.Cell.{cell_answers, cell_after_all, is_on_key, on_key}
 
 -- an entry added under a key that had none is what the key keeps
 pub pointer_of-added : (m : List Entry) (k p : ℕ) → pointer_of m k ≡ None → pointer_of (added m (entry k p)) k ≡ Some p

@@ -1,18 +1,8 @@
 -- A map cut by keys: what operations on one key answer and leave, told from the one cell that keeps that key's pointer.
-use Rattle.std.specs.Prelude.{ℕ, ◌==◌, List, [], ◌∷◌, Bool, Option, Some, None, filter}
+use Rattle.std.specs.Prelude.{ℕ, ◌==◌, List, [], ◌∷◌, Bool, Option, filter}
 use Rattle.blink_batch.specs.declared.operation.Op.{Op}
-use Rattle.blink_batch.specs.declared.operation.Op.TheVariants.{Find, Insert, Delete, Replace}
 use Rattle.blink_batch.specs.declared.operation.Answer.{Answer}
-use Rattle.blink_batch.specs.Operation.{key_of, answer_at}
-
--- what one operation leaves kept under its own key
-abbrev pub cell_after : Op → Option ℕ → Option ℕ
-cell_after (Find key) kept = kept
-cell_after (Insert key pointer) (Some kept) = Some kept
-cell_after (Insert key pointer) None = Some pointer
-cell_after (Delete key) kept = None
-cell_after (Replace key pointer) (Some kept) = Some pointer
-cell_after (Replace key pointer) None = None
+use Rattle.blink_batch.specs.Operation.{key_of, answer_at, cell_after}
 
 -- the answers of operations one after another on one cell
 abbrev pub cell_answers : Option ℕ → List Op → List Answer

@@ -14,26 +14,34 @@ key_of (Insert key pointer) = key
 key_of (Delete key) = key
 key_of (Replace key pointer) = key
 
+-- the pointer that it brings: an insertion's or a replacement's, and 0 for the others, which bring none
+abbrev pub pointer_with : Op → ℕ
+pointer_with (Insert key pointer) = pointer
+pointer_with (Replace key pointer) = pointer
+pointer_with op = 0
+
 -- the answer, where the map keeps this pointer, or nothing, under the operation's key
 abbrev pub answer_at : Op → Option ℕ → Answer
 answer_at (Find key) (Some kept) = Found kept
-answer_at (Find key) None = Absent
 answer_at (Insert key pointer) (Some kept) = Exists kept
 answer_at (Insert key pointer) None = Inserted
 answer_at (Delete key) (Some kept) = Removed kept
-answer_at (Delete key) None = Absent
 answer_at (Replace key pointer) (Some kept) = Replaced kept
-answer_at (Replace key pointer) None = Absent
+answer_at op None = Absent
 
--- the map afterwards, likewise
+-- what the map keeps under that key afterwards, likewise
+abbrev pub cell_after : Op → Option ℕ → Option ℕ
+cell_after (Insert key pointer) None = Some pointer
+cell_after (Delete key) kept = None
+cell_after (Replace key pointer) (Some kept) = Some pointer
+cell_after op kept = kept
+
+-- and the whole map
 abbrev pub map_at : Op → Option ℕ → List Entry → List Entry
-map_at (Find key) kept map = map
-map_at (Insert key pointer) (Some kept) map = map
 map_at (Insert key pointer) None map = added map (entry key pointer)
 map_at (Delete key) (Some kept) map = removed map key
-map_at (Delete key) None map = map
 map_at (Replace key pointer) (Some kept) map = replaced map key pointer
-map_at (Replace key pointer) None map = map
+map_at op kept map = map
 
 -- apply: the answer of an operation on a map, and the map afterwards
 abbrev pub answer_of : List Entry → Op → Answer

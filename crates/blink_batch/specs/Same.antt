@@ -34,23 +34,12 @@ same_number one other test = (unsigned_Decides one other).0 test
 
 operations_equal : (one other : Op) → same_operation one other ≡ true → one ≡ other
 operations_equal (Find key) (Find other) test = ap Find (same_number key other test)
-operations_equal (Find key) (Insert other another) test = absurd (true≢false (sym test))
-operations_equal (Find key) (Delete other) test = absurd (true≢false (sym test))
-operations_equal (Find key) (Replace other another) test = absurd (true≢false (sym test))
-operations_equal (Insert key pointer) (Find other) test = absurd (true≢false (sym test))
 operations_equal (Insert key pointer) (Insert other another) test = λ i.
     Insert (same_number key other (first_so (key == other) (pointer == another) test) i) (same_number pointer another (second_so (key == other) (pointer == another) test) i)
-operations_equal (Insert key pointer) (Delete other) test = absurd (true≢false (sym test))
-operations_equal (Insert key pointer) (Replace other another) test = absurd (true≢false (sym test))
-operations_equal (Delete key) (Find other) test = absurd (true≢false (sym test))
-operations_equal (Delete key) (Insert other another) test = absurd (true≢false (sym test))
 operations_equal (Delete key) (Delete other) test = ap Delete (same_number key other test)
-operations_equal (Delete key) (Replace other another) test = absurd (true≢false (sym test))
-operations_equal (Replace key pointer) (Find other) test = absurd (true≢false (sym test))
-operations_equal (Replace key pointer) (Insert other another) test = absurd (true≢false (sym test))
-operations_equal (Replace key pointer) (Delete other) test = absurd (true≢false (sym test))
 operations_equal (Replace key pointer) (Replace other another) test = λ i.
     Replace (same_number key other (first_so (key == other) (pointer == another) test) i) (same_number pointer another (second_so (key == other) (pointer == another) test) i)
+operations_equal one other test = absurd (true≢false (sym test))
 
 operation_itself : (op : Op) → same_operation op op ≡ true
 operation_itself (Find key) = (unsigned_Decides key key).1 refl

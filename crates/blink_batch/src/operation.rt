@@ -1,6 +1,6 @@
 //! What is asked of a map, and what is answered.
 ghost use Rattle.std.specs.Prelude.{◌≡◌};
-ghost use Rattle.blink_batch.specs.Operation.{key_of};
+ghost use Rattle.blink_batch.specs.Operation.{answer_at, key_of, pointer_with};
 ghost use Rattle.blink_batch.specs.Batch.{FitsWords, is_insert};
 
 use std::fmt;
@@ -28,6 +28,30 @@ impl Op {
             Op::Insert(key, _) => key,
             Op::Delete(key) => key,
             Op::Replace(key, _) => key,
+        }
+    }
+
+    /// The pointer that it brings, as an insertion does: 0 where it brings none.
+    pub fn pointer(&self) -> u64
+        ensures { result ≡ pointer_with self.now }
+    {
+        match *self {
+            Op::Insert(_, pointer) | Op::Replace(_, pointer) => pointer,
+            Op::Find(_) | Op::Delete(_) => 0,
+        }
+    }
+
+    /// What it answers, where its key is there with this pointer, or is not there.
+    pub fn answer(&self, kept: Option<u64>) -> Answer
+        ensures { result ≡ answer_at self.now kept }
+    {
+        match (*self, kept) {
+            (Op::Find(_), Some(pointer)) => Answer::Found(pointer),
+            (Op::Insert(..), Some(pointer)) => Answer::Exists(pointer),
+            (Op::Insert(..), None) => Answer::Inserted,
+            (Op::Delete(_), Some(pointer)) => Answer::Removed(pointer),
+            (Op::Replace(..), Some(pointer)) => Answer::Replaced(pointer),
+            (Op::Find(_) | Op::Delete(_) | Op::Replace(..), None) => Answer::Absent,
         }
     }
 
