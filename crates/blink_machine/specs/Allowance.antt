@@ -1,7 +1,7 @@
 -- What one operation may still need, by its state alone: page numbers, page writes, and writes of the prime block.
 use Rattle.std.specs.Prelude.{◌≡◌, ℕ, ◌+◌, ◌-◌, ◌*◌, ◌≤◌, ◌&&◌, Bool, if◌then◌else◌}
 use Rattle.blink_batch.specs.declared.Op.{Op}
-use Rattle.blink_batch.specs.declared.Op.TheVariants.{Find, Insert, Delete, Replace}
+use Rattle.blink_batch.specs.declared.Op.TheVariants.{Find, Insert}
 use Rattle.blink_machine.specs.declared.machine.Job.{Job}
 use Rattle.blink_machine.specs.declared.machine.Job.TheVariants.{Leaf, Parent}
 use Rattle.blink_machine.specs.declared.machine.Next.{Next}
@@ -19,10 +19,8 @@ use Rattle.blink_machine.specs.Needs.{NeedsSomeWrite}
 
 -- for a job: only what brings an entry splits
 abbrev pub numbers_for : Job → Op → ℕ
-numbers_for Leaf (Find key) = 0
 numbers_for Leaf (Insert key pointer) = MAX_NEW_PAGES_PER_INSERT
-numbers_for Leaf (Delete key) = 0
-numbers_for Leaf (Replace key pointer) = 0
+numbers_for Leaf op = 0
 numbers_for (Parent debt) op = 21 - debt.level
 
 -- from a page that the operation leaves
@@ -50,8 +48,7 @@ numbers_left m = numbers_left_at m.job m.op m.state
 abbrev pub writes_for : Job → Op → ℕ
 writes_for Leaf (Find key) = 0
 writes_for Leaf (Insert key pointer) = WRITES_OF_INSERTION
-writes_for Leaf (Delete key) = 1
-writes_for Leaf (Replace key pointer) = 1
+writes_for Leaf op = 1
 writes_for (Parent debt) op = 41 - 2 * debt.level
 
 -- from a page that the operation leaves
@@ -77,10 +74,8 @@ writes_left m = writes_left_at m.job m.op m.state
 
 -- for a job
 abbrev pub primes_for : Job → Op → ℕ
-primes_for Leaf (Find key) = 0
 primes_for Leaf (Insert key pointer) = 1
-primes_for Leaf (Delete key) = 0
-primes_for Leaf (Replace key pointer) = 0
+primes_for Leaf op = 0
 primes_for (Parent debt) op = 1
 
 -- from a page that the operation leaves

@@ -2,8 +2,7 @@
 use Rattle.std.specs.Prelude.{◌≡◌, ℕ, ◌+◌, Option, Some, None, List, []}
 use Rattle.blink_batch.specs.declared.Answer.{Answer}
 use Rattle.blink_batch.specs.declared.Op.{Op}
-use Rattle.blink_batch.specs.declared.Op.TheVariants.{Find, Insert, Delete, Replace}
-use Rattle.blink_batch.specs.Operation.{key_of}
+use Rattle.blink_batch.specs.Operation.{key_of, pointer_with}
 use Rattle.blink_machine.specs.declared.machine.Job.{Job}
 use Rattle.blink_machine.specs.declared.machine.Job.TheVariants.{Leaf, Parent}
 use Rattle.blink_machine.specs.declared.machine.Need.{Need}
@@ -46,13 +45,6 @@ target m = key_of_job m.op m.job
 abbrev pub level_of : Job → ℕ
 level_of Leaf = 0
 level_of (Parent debt) = debt.level + 1
-
--- the pointer that an insertion or a replacement brings; other operations bring none
-abbrev pub pointer_with : Op → ℕ
-pointer_with (Find key) = 0
-pointer_with (Insert key pointer) = pointer
-pointer_with (Delete key) = 0
-pointer_with (Replace key pointer) = pointer
 
 -- what a job brings into a page: a key with its pointer, or a separator with the new page
 abbrev pub value_of_job : Op → Job → ℕ

@@ -49,11 +49,9 @@ IsUpdate op = Unit {0}
 
 -- it brings its entry into a page: an insertion does, and a posting
 abbrev pub Brings : Op → Job → Type 0
-Brings (Find key) Leaf = ⊥
-Brings (Insert key pointer) Leaf = Unit {0}
-Brings (Delete key) Leaf = ⊥
-Brings (Replace key pointer) Leaf = ⊥
 Brings op (Parent debt) = Unit {0}
+Brings (Insert key pointer) Leaf = Unit {0}
+Brings op Leaf = ⊥
 
 -- the page with the change that the operation makes, and what a leaf keeps under the key before
 pub data IsChange (m : PlainMachine) (page changed : PlainPage) (kept : Option ℕ) : Type 0 where

@@ -1,7 +1,6 @@
 //! One operation on its way through a tree, over any pages: the state that it is in, and what it needs next.
 
 ghost use Rattle.std.specs.Prelude.{◌≡◌, ◌↔◌, IsTrue, reverse};
-ghost use Rattle.blink_batch.specs.Operation.{answer_at};
 ghost use Rattle.blink_page.specs.Limits.{IsFan};
 ghost use Rattle.blink_machine.specs.Machine.{fresh, need_at, target, value_of_job, answered};
 ghost use Rattle.blink_machine.specs.Kept.{KeptAt};
@@ -226,10 +225,9 @@ impl Machine {
     fn value(&self) -> u64
         ensures { result ≡ value_of_job self.now.op self.now.job }
     {
-        match (self.job, self.op) {
-            (Job::Parent(debt), _) => u64::from(debt.page),
-            (Job::Leaf, Op::Insert(_, pointer) | Op::Replace(_, pointer)) => pointer,
-            (Job::Leaf, Op::Find(_) | Op::Delete(_)) => 0,
+        match self.job {
+            Job::Parent(debt) => u64::from(debt.page),
+            Job::Leaf => self.op.pointer(),
         }
     }
 
@@ -240,19 +238,5 @@ impl Machine {
     {
         self.state = state;
         self.answer = Some(answer);
-    }
-}
-
-// What an operation answers, where the key was there with this pointer, or not.
-fn answer_with(op: Op, kept: Option<u64>) -> Answer
-    ensures { result ≡ answer_at op kept }
-{
-    match (op, kept) {
-        (Op::Find(_), Some(pointer)) => Answer::Found(pointer),
-        (Op::Insert(..), Some(pointer)) => Answer::Exists(pointer),
-        (Op::Insert(..), None) => Answer::Inserted,
-        (Op::Delete(_), Some(pointer)) => Answer::Removed(pointer),
-        (Op::Replace(..), Some(pointer)) => Answer::Replaced(pointer),
-        (Op::Find(_) | Op::Delete(_) | Op::Replace(..), None) => Answer::Absent,
     }
 }

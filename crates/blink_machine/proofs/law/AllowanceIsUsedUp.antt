@@ -1,7 +1,7 @@
 -- What an operation may still need is as much after a step as before, and one less of what the step took.
 use Rattle.std.proofs.Common.{◌≡◌, ℕ, ◌+◌, ◌-◌, ◌*◌, ◌≤◌, ◌&&◌, inl, inr, Option, Some, None, List, [], ◌∷◌, refl, ap, ◌∙◌, arith}
 use Rattle.blink_batch.specs.declared.Op.{Op}
-use Rattle.blink_batch.specs.declared.Op.TheVariants.{Find, Insert, Delete, Replace}
+use Rattle.blink_batch.specs.declared.Op.TheVariants.{Find, Insert}
 use Rattle.blink_page.specs.Page.{PlainPage}
 use Rattle.blink_machine.specs.declared.machine.Debt.{Debt}
 use Rattle.blink_machine.specs.declared.machine.Job.{Job}
@@ -103,10 +103,8 @@ record MaySplit (job : Job) (op : Op) : Type 0 where
   prime_writes : 1 ≤ primes_for job op
 
 may_split : (job : Job) (op : Op) → Brings op job → level_of job ≤ 20 → MaySplit job op
-may_split Leaf (Find key) brings low = absurd brings
 may_split Leaf (Insert key pointer) brings low = record { numbers = omega arith; page_writes = omega arith; prime_writes = omega arith }
-may_split Leaf (Delete key) brings low = absurd brings
-may_split Leaf (Replace key pointer) brings low = absurd brings
+may_split Leaf op brings low = absurd brings
 may_split (Parent debt) op brings low = record { numbers = omega arith; page_writes = omega arith; prime_writes = omega arith }
 
 -- what changes a page may write it
@@ -278,9 +276,7 @@ module _ (laws : TreeLaws) (tree_state : TreeState) (levels : Levels) (invariant
 -- at its begin
 at_its_begin : (fan : ℕ) (op : Op) → (numbers_left (fresh fan op) ≤ 22) × (writes_left (fresh fan op) ≤ 43) × (primes_left (fresh fan op) ≤ 1)
 at_its_begin fan (Find key) = (omega arith, omega arith, omega arith)
-at_its_begin fan (Insert key pointer) = (omega arith, omega arith, omega arith)
-at_its_begin fan (Delete key) = (omega arith, omega arith, omega arith)
-at_its_begin fan (Replace key pointer) = (omega arith, omega arith, omega arith)
+at_its_begin fan op = (omega arith, omega arith, omega arith)
 
 -- all of it
 pub allowance_is_used_up : TreeLaws → AllowanceIsUsedUp

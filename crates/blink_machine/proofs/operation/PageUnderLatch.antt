@@ -1,7 +1,6 @@
 -- The page that an operation has read under its latch, and that page with the operation's change.
 use Rattle.std.proofs.Common.{◌≡◌, ℕ, ◌+◌, ◌<◌, ◌≤◌, Option, Some, None, length, refl, sym, ap, subst, ◌∙◌, arith}
 use Rattle.blink_batch.specs.Batch.{FitsWords}
-use Rattle.blink_batch.specs.declared.Op.TheVariants.{Replace}
 use Rattle.blink_page.specs.Entries.{value_at}
 use Rattle.blink_page.specs.Limits.{IsPageNumber}
 use Rattle.blink_page.specs.Page.{PlainPage, IsLawfulPage, with_entries}
@@ -103,7 +102,7 @@ module _ (laws : TreeLaws) (tree_state : TreeState) (levels : Levels) (invariant
           })
       change_replaces changed kept (IsChange.exchanges key new pointer leaf op there some same) =
           subst (Replaces tree_state.fan page) (sym same) (record {
-            lawful = lawful_replaced tree_state.fan page read_of_level.lawful key new (read_of_level.has_level ∙ ap level_of leaf) (let words : FitsWords (Replace key new) = subst FitsWords op (invariant.placed worker m under).words in let below = words.1 in omega arith);
+            lawful = lawful_replaced tree_state.fan page read_of_level.lawful key new (read_of_level.has_level ∙ ap level_of leaf) (let words = subst FitsWords op (invariant.placed worker m under).words in let below = words.1 in omega arith);
             same_level = refl;
             same_floor = refl;
             same_high = refl;

@@ -2,7 +2,7 @@
 use Rattle.std.proofs.Common.{◌≡◌, ℕ, ◌+◌, ◌-◌, ◌≤◌, Bool, true, false, cond, Option, Some, None, ◌∷◌, length, refl, ap, sym, ◌∙◌, subst, ltb, arith}
 use Rattle.std.proofs.lemmas.Bool.{le-ltb, lt-ltb}
 use Rattle.blink_batch.specs.declared.Op.{Op}
-use Rattle.blink_batch.specs.declared.Op.TheVariants.{Find, Insert, Delete, Replace}
+use Rattle.blink_batch.specs.declared.Op.TheVariants.{Find, Insert}
 use Rattle.blink_batch.specs.Operation.{answer_at}
 use Rattle.blink_page.specs.Entries.{value_at}
 use Rattle.blink_page.specs.Page.{PlainPage}
@@ -136,10 +136,8 @@ abbrev row_here : Job → Op → Option ℕ → Bool → Row
 row_here Leaf (Find key) kept room = splits
 row_here Leaf (Insert key pointer) (Some kept) room = finds_key
 row_here Leaf (Insert key pointer) None room = cond room changes splits
-row_here Leaf (Delete key) (Some kept) room = changes
-row_here Leaf (Delete key) None room = finds_none
-row_here Leaf (Replace key pointer) (Some kept) room = changes
-row_here Leaf (Replace key pointer) None room = finds_none
+row_here Leaf op (Some kept) room = changes
+row_here Leaf op None room = finds_none
 row_here (Parent debt) op (Some kept) room = finds_separator
 row_here (Parent debt) op None room = cond room changes splits
 
@@ -157,17 +155,13 @@ row_below m page below =
 row_gains : (job : Job) (op : Op) → Brings op job → row_here job op None true ≡ changes
 row_gains Leaf (Insert key pointer) brings = refl
 row_gains (Parent debt) op brings = refl
-row_gains Leaf (Find key) brings = absurd brings
-row_gains Leaf (Delete key) brings = absurd brings
-row_gains Leaf (Replace key pointer) brings = absurd brings
+row_gains Leaf op brings = absurd brings
 
 -- and splits it, where it is full
 row_splits : (job : Job) (op : Op) → Brings op job → row_here job op None false ≡ splits
 row_splits Leaf (Insert key pointer) brings = refl
 row_splits (Parent debt) op brings = refl
-row_splits Leaf (Find key) brings = absurd brings
-row_splits Leaf (Delete key) brings = absurd brings
-row_splits Leaf (Replace key pointer) brings = absurd brings
+row_splits Leaf op brings = absurd brings
 
 -- the row of a change
 row_of_change : (m : PlainMachine) (page changed : PlainPage) (kept : Option ℕ) → IsChange m page changed kept

@@ -1,7 +1,7 @@
 -- What an operation's job is about, and the change that it makes to a page.
 use Rattle.std.proofs.Common.{◌≡◌, ℕ, ◌<◌, Option, Some, None, IsSome, length, refl, ap, sym, ◌∙◌}
 use Rattle.blink_batch.specs.declared.Op.{Op}
-use Rattle.blink_batch.specs.declared.Op.TheVariants.{Find, Insert, Delete, Replace}
+use Rattle.blink_batch.specs.declared.Op.TheVariants.{Insert}
 use Rattle.blink_batch.specs.Operation.{key_of}
 use Rattle.blink_page.specs.Entries.{value_at, added, posted}
 use Rattle.blink_page.specs.Page.{PlainPage, with_entries, entries_with}
@@ -22,10 +22,7 @@ target-parent m debt job = ap (key_of_job m.op) job
 
 -- a posting brings its entry
 pub brings_parent : (op : Op) (debt : Debt) → Brings op (Parent debt)
-brings_parent (Find key) debt = tt
-brings_parent (Insert key pointer) debt = tt
-brings_parent (Delete key) debt = tt
-brings_parent (Replace key pointer) debt = tt
+brings_parent op debt = tt
 
 -- the value that is there
 pub some_value : (o : Option ℕ) → IsSome o → (value : ℕ) × (o ≡ Some value)

@@ -1,14 +1,14 @@
 -- A page that gains or loses an entry, or gets another value in one, stands as it did.
 use Rattle.std.proofs.Common.{◌≡◌, ℕ, ◌+◌, ◌<◌, ◌≤◌, None, length, refl, arith}
 use Rattle.blink_batch.specs.declared.Op.{Op}
-use Rattle.blink_batch.specs.declared.Op.TheVariants.{Find, Insert, Delete, Replace}
+use Rattle.blink_batch.specs.declared.Op.TheVariants.{Find, Delete}
 use Rattle.blink_batch.specs.Batch.{FitsWords}
+use Rattle.blink_batch.specs.Operation.{pointer_with}
 use Rattle.blink_page.specs.Entries.{value_at, removed, replaced}
 use Rattle.blink_page.specs.Limits.{IsPageNumber}
 use Rattle.blink_page.specs.Page.{PlainPage, IsLawfulPage, IsKeyOf, entries_with, with_entries}
 use Rattle.blink_page.specs.declared.limits.TheConstants.{GREATEST_KEY}
 use Rattle.blink_page.proofs.Offered.{lawful_entries_with, lawful_removed, lawful_replaced, lawful_with_room, length-entries_with}
-use Rattle.blink_machine.specs.Machine.{pointer_with}
 use Rattle.blink_machine.proofs.tree.TreeStatements.{Replaces}
 
 -- with room for one more
@@ -34,6 +34,5 @@ exchange_replaces fan key value p lawful leaf fits = record { lawful = lawful_re
 -- the pointer of an operation is a number of 64 bits
 pub pointer_fits : (op : Op) → FitsWords op → pointer_with op ≤ GREATEST_KEY
 pointer_fits (Find key) words = omega arith
-pointer_fits (Insert key pointer) words = let below = words.1 in omega arith
 pointer_fits (Delete key) words = omega arith
-pointer_fits (Replace key pointer) words = let below = words.1 in omega arith
+pointer_fits op words = let below = words.1 in omega arith

@@ -2,7 +2,7 @@
 use Rattle.std.proofs.Common.{◌≡◌, ℕ, ◌+◌, ◌≤◌, Option, Some, None, List, refl, sym, ap, subst, ◌∙◌}
 use Rattle.blink_batch.specs.declared.Entry.{Entry}
 use Rattle.blink_batch.specs.declared.Op.{Op}
-use Rattle.blink_batch.specs.declared.Op.TheVariants.{Find, Insert, Delete, Replace}
+use Rattle.blink_batch.specs.declared.Op.TheVariants.{Find}
 use Rattle.blink_batch.specs.Operation.{key_of, answer_at, map_at}
 use Rattle.blink_batch.specs.PlainMap.{pointer_of}
 use Rattle.blink_page.specs.Entries.{value_at}
@@ -83,11 +83,11 @@ module _ (laws : TreeLaws) (old new : TreeState) (levels : Levels) (invariant : 
   latched_read_decides : PlacedAt old levels m (Held number) → SeesUnderLatch m number page after → Decides new m after entries
   latched_read_decides placed (SeesUnderLatch.is_above_high_key next above right same) = decides_nothing new m after entries _ same refl keeps
   latched_read_decides placed (SeesUnderLatch.insertion_finds_key key pointer found inside leaf op finds same) =
-      held_decides (Insert key pointer) (Some found) placed inside leaf op finds (ap (λ (x : PlainMachine). x.answer) same) refl
+      held_decides _ (Some found) placed inside leaf op finds (ap (λ (x : PlainMachine). x.answer) same) refl
   latched_read_decides placed (SeesUnderLatch.deletion_finds_none key inside leaf op finds same) =
-      held_decides (Delete key) None placed inside leaf op finds (ap (λ (x : PlainMachine). x.answer) same) refl
+      held_decides _ None placed inside leaf op finds (ap (λ (x : PlainMachine). x.answer) same) refl
   latched_read_decides placed (SeesUnderLatch.replacement_finds_none key pointer inside leaf op finds same) =
-      held_decides (Replace key pointer) None placed inside leaf op finds (ap (λ (x : PlainMachine). x.answer) same) refl
+      held_decides _ None placed inside leaf op finds (ap (λ (x : PlainMachine). x.answer) same) refl
   latched_read_decides placed (SeesUnderLatch.posting_finds_separator debt child inside job finds same) = decides_nothing new m after entries _ same refl keeps
   latched_read_decides placed (SeesUnderLatch.is_to_change changed found inside change same) = decides_nothing new m after entries _ same refl keeps
   latched_read_decides placed (SeesUnderLatch.is_to_split inside full same) = decides_nothing new m after entries _ same refl keeps

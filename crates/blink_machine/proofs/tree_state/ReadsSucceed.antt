@@ -107,9 +107,8 @@ module _ (m : PlainMachine) (number : ℕ) (page : PlainPage) (lawful : IsLawful
 -- the key of an operation is at most the greatest
 key_fits : (op : Op) → FitsWords op → key_of op ≤ GREATEST_KEY
 key_fits (Find key) words = omega (arith, words)
-key_fits (Insert key pointer) words = omega (arith, words.0)
 key_fits (Delete key) words = omega (arith, words)
-key_fits (Replace key pointer) words = omega (arith, words.0)
+key_fits op words = omega (arith, words.0)
 
 module _ (tree_state : TreeState) (levels : Levels) (invariant : InvariantWith tree_state levels) (worker : ℕ) (m : PlainMachine) (under : tree_state.machines worker ≡ Some m) where
   -- so is that of its job

@@ -2,8 +2,8 @@
 use Rattle.std.proofs.Common.{◌≡◌, ℕ, Option, Some, None, List, refl, sym, ap, subst, ◌∙◌}
 use Rattle.blink_batch.specs.declared.Entry.{Entry}
 use Rattle.blink_batch.specs.declared.Op.{Op}
-use Rattle.blink_batch.specs.declared.Op.TheVariants.{Insert, Delete, Replace}
-use Rattle.blink_batch.specs.Operation.{key_of, answer_at}
+use Rattle.blink_batch.specs.declared.Op.TheVariants.{Insert}
+use Rattle.blink_batch.specs.Operation.{key_of, pointer_with, answer_at, map_at}
 use Rattle.blink_batch.specs.PlainMap.{entry, pointer_of, IsAscending}
 use Rattle.blink_batch.specs.PlainMap as map
 use Rattle.blink_page.specs.Entries.{value_at, added, removed, replaced}
@@ -15,7 +15,7 @@ use Rattle.blink_machine.specs.declared.machine.Debt.{Debt}
 use Rattle.blink_machine.specs.declared.machine.Job.{Job}
 use Rattle.blink_machine.specs.declared.machine.Job.TheVariants.{Leaf, Parent}
 use Rattle.blink_machine.specs.declared.machine.State.{State}
-use Rattle.blink_machine.specs.Machine.{PlainMachine, target, key_of_job, value_of_job, level_of, entry_of, pointer_with}
+use Rattle.blink_machine.specs.Machine.{PlainMachine, target, key_of_job, value_of_job, level_of, entry_of}
 use Rattle.blink_machine.specs.TreeState.{TreeState, WritesOne}
 use Rattle.blink_machine.specs.Owned.{debt_of, debt_of_job, unlinked_of}
 use Rattle.blink_machine.specs.Placed.{IsAtWork, HasRead, HasHalved, AnsweredInJob}
@@ -69,19 +69,12 @@ module _ (laws : TreeLaws) (old new : TreeState) (levels : Levels) (invariant : 
       (ap (λ (e : ℕ × ℕ). added e (entries_along (levels 0))) (entry_on_leaf m key pointer leaf is) ∙ ap (added (key, pointer)) (sym joined) ∙ added-pairs_of key pointer entries none))
   gain_decides other is leaf answered brings absent are answer = absurd brings
 
-  -- a deletion removes it
-  loss_decides : IsAscending entries → (key pointer : ℕ) → m.op ≡ Delete key → m.job ≡ Leaf → AnsweredInJob m.job m.answer → value_at key page.entries ≡ Some pointer
-      → AreEntries old.fan old.prime new.pages (removed key (entries_along (levels 0))) → after.answer ≡ Some (answer_at (Delete key) (Some pointer)) → Decides new m after entries
-  loss_decides ascending key pointer is leaf answered there are answer =
-      decides_by new m after entries (Delete key) (Some pointer) is (pointer_read (Delete key) leaf is ∙ there) (unanswered_on_leaf m leaf answered) answer
-      (keeps_new _ (map.removed entries key) are (ap (removed key) (sym joined) ∙ removed-pairs_of key entries ascending))
-
-  -- a replacement puts its pointer there
-  exchange_decides : (key to pointer : ℕ) → m.op ≡ Replace key to → m.job ≡ Leaf → AnsweredInJob m.job m.answer → value_at key page.entries ≡ Some pointer
-      → AreEntries old.fan old.prime new.pages (replaced (key, to) (entries_along (levels 0))) → after.answer ≡ Some (answer_at (Replace key to) (Some pointer)) → Decides new m after entries
-  exchange_decides key to pointer is leaf answered there are answer =
-      decides_by new m after entries (Replace key to) (Some pointer) is (pointer_read (Replace key to) leaf is ∙ there) (unanswered_on_leaf m leaf answered) answer
-      (keeps_new _ (map.replaced entries key to) are (ap (replaced (key, to)) (sym joined) ∙ replaced-pairs_of key to entries))
+  -- an operation that finds its key there makes of the entries what it makes of the map
+  found_decides : (op : Op) (pointer : ℕ) → m.op ≡ op → m.job ≡ Leaf → AnsweredInJob m.job m.answer → value_at (key_of op) page.entries ≡ Some pointer
+      → (xs : List (ℕ × ℕ)) → AreEntries old.fan old.prime new.pages xs → xs ≡ pairs_of (map_at op (Some pointer) entries) → after.answer ≡ Some (answer_at op (Some pointer)) → Decides new m after entries
+  found_decides op pointer is leaf answered there xs are made answer =
+      decides_by new m after entries op (Some pointer) is (pointer_read op leaf is ∙ there) (unanswered_on_leaf m leaf answered) answer
+      (keeps_new xs (map_at op (Some pointer) entries) are made)
 
   -- a leaf operation has its answer after its write
   pub answer_on_leaf : (op : Op) (state : State) (found outcome : Option ℕ) → m.op ≡ op → m.job ≡ Leaf → found ≡ outcome → after ≡ decided_with m m.job state found → after.answer ≡ Some (answer_at op outcome)
@@ -101,13 +94,15 @@ module _ (laws : TreeLaws) (old new : TreeState) (levels : Levels) (invariant : 
         (leaf_gains laws old levels invariant worker m under owes number page at_work read new.pages changed found change writes leaf absent eq)
         (answer_on_leaf m.op state found None refl leaf nothing same)
     changes_decide Leaf leaf (IsChange.loses key pointer leaf_too op there some eq) =
-        loss_decides ascending key pointer op leaf answered there
-        (leaf_loses laws old levels invariant worker m under owes number page at_work read new.pages changed found change writes key pointer leaf (target-leaf m (Delete key) leaf op) there eq)
-        (answer_on_leaf (Delete key) state found (Some pointer) op leaf some same)
+        found_decides _ pointer op leaf answered there _
+        (leaf_loses laws old levels invariant worker m under owes number page at_work read new.pages changed found change writes key pointer leaf (target-leaf m _ leaf op) there eq)
+        (ap (removed key) (sym joined) ∙ removed-pairs_of key entries ascending)
+        (answer_on_leaf _ state found (Some pointer) op leaf some same)
     changes_decide Leaf leaf (IsChange.exchanges key to pointer leaf_too op there some eq) =
-        exchange_decides key to pointer op leaf answered there
-        (leaf_exchanges laws old levels invariant worker m under owes number page at_work read new.pages changed found change writes key to pointer leaf (target-leaf m (Replace key to) leaf op) there eq)
-        (answer_on_leaf (Replace key to) state found (Some pointer) op leaf some same)
+        found_decides _ pointer op leaf answered there _
+        (leaf_exchanges laws old levels invariant worker m under owes number page at_work read new.pages changed found change writes key to pointer leaf (target-leaf m _ leaf op) there eq)
+        (ap (replaced (key, to)) (sym joined) ∙ replaced-pairs_of key to entries)
+        (answer_on_leaf _ state found (Some pointer) op leaf some same)
     changes_decide (Parent debt) job (IsChange.gains brings absent room nothing eq) =
         decides_nothing new m after entries _ same (answer_above debt state found job)
         (keeps_old (posting_keeps_entries laws old levels invariant worker m under owes number page at_work read new.pages changed found change writes debt job absent eq))

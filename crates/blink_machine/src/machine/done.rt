@@ -6,7 +6,7 @@ ghost use Rattle.blink_machine.specs.Table.{done, decided_with, leaves_for, sets
 ghost use Rattle.blink_machine.specs.Kept.{KeptAt, KeptForNext, IsPostable, IsToSplit};
 ghost use Rattle.blink_machine.specs.Needs.{NeedsNoRead};
 
-use super::{Debt, Job, Machine, Next, State, answer_with};
+use super::{Debt, Job, Machine, Next, State};
 use blink_page::Page;
 
 impl Machine {
@@ -46,8 +46,9 @@ impl Machine {
         requires { KeptAt self.old state }
         ensures { self.new ≡ decided_with self.old self.old.job state kept }
     {
+        let op = self.op;
         match self.job {
-            Job::Leaf => self.decide(state, answer_with(self.op, kept)),
+            Job::Leaf => self.decide(state, op.answer(kept)),
             Job::Parent(_) => self.state = state,
         }
     }

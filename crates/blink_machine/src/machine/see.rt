@@ -12,7 +12,7 @@ ghost use Rattle.blink_machine.specs.OnTheWay.{IsOnItsWay, TellsWay};
 ghost use Rattle.blink_machine.specs.Table.{SeesPrime, WaitsForLevel, SeesPage, SeesOnItsWay, SeesUnderLatch, IsTopLeftmost};
 ghost use Rattle.blink_machine.specs.Needs.{NeedsSomePage};
 
-use super::{Debt, Job, Machine, Next, State, answer_with};
+use super::{Debt, Job, Machine, Next, State};
 use crate::remembered::Remembered;
 use blink_batch::{Answer, Op};
 use blink_page::{Page, Post, Prime, Put, Way};
@@ -156,7 +156,7 @@ impl Machine {
                 self.state.go(child, level - 1);
             }
             Way::Here => match self.op {
-                Op::Find(key) => self.decide(State::Ended, answer_with(Op::Find(key), kept)),
+                Op::Find(key) => self.decide(State::Ended, Op::Find(key).answer(kept)),
                 Op::Insert(..) | Op::Delete(_) | Op::Replace(..) => {
                     self.state = State::Want(number);
                 }

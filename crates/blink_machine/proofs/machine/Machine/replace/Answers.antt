@@ -1,5 +1,4 @@
 use Rattle.std.proofs.Common.{◌≡◌, Some, None, refl, ap, sym, ◌∙◌, arith}
-use Rattle.blink_batch.specs.declared.Op.TheVariants.{Replace}
 use Rattle.blink_page.specs.Entries.{value_at, replaced}
 use Rattle.blink_page.specs.Page.{PlainPage, with_entries}
 use Rattle.blink_machine.specs.declared.machine.State.TheVariants.{Change}
@@ -11,7 +10,7 @@ use Rattle.blink_machine.proofs.machine.Machine.replace.Goals as goal
 pub returns-in-Some : goal.returns-in-Some
 returns-in-Some c =
     let copy : c.copy-changed.result ≡ c.args.page.now = c.copy-changed.ensures in
-    let own : target c.args.self.now ≡ c.args.key = target-leaf c.args.self.now (Replace c.args.key c.args.pointer) c.requires.job c.requires.op in
+    let own : target c.args.self.now ≡ c.args.key = target-leaf c.args.self.now _ c.requires.job c.requires.op in
     let there : value_at c.args.key c.args.page.now.entries ≡ Some c.in-Some.before = sym (rw copy at c.in-Some.ensures.value) in
     let made = c.swap.ensures.entries ∙ ap (λ (p : PlainPage). with_entries p (replaced (c.args.key, c.args.pointer) p.entries)) copy in
     is_to_change c.swap.new.self (Some c.in-Some.before) (omega (arith, own, c.requires.not_right))
@@ -21,6 +20,6 @@ returns-in-Some c =
 pub returns-in-None : goal.returns-in-None
 returns-in-None c =
     let copy : c.copy-changed.result ≡ c.args.page.now = c.copy-changed.ensures in
-    let own : target c.args.self.now ≡ c.args.key = target-leaf c.args.self.now (Replace c.args.key c.args.pointer) c.requires.job c.requires.op in
+    let own : target c.args.self.now ≡ c.args.key = target-leaf c.args.self.now _ c.requires.job c.requires.op in
     let absent : value_at c.args.key c.args.page.now.entries ≡ None = sym (rw copy at c.in-None.ensures.value) in
     replacement_finds_none c.args.key c.args.pointer (omega (arith, own, c.requires.not_right)) c.requires.job c.requires.op absent c.decide.ensures
