@@ -1,5 +1,5 @@
 -- How often the operations of a history took new page numbers, wrote pages and the prime block, read pages, and moved.
-use Rattle.std.specs.Prelude.{◌≡◌, ℕ, ◌==◌, nat_lt, ◌&&◌, Bool, true, false, List, count_by}
+use Rattle.std.specs.Prelude.{◌≡◌, ℕ, ◌==◌, nat_lt, ◌&&◌, Bool, true, List, count_by}
 use Rattle.std.specs.List.{zip}
 use Rattle.blink_batch.specs.declared.Op.{Op}
 use Rattle.blink_batch.specs.Batch.{is_insert}

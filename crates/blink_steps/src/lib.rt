@@ -3,9 +3,9 @@
 #![tactic(auto)]
 
 mod error;
+mod lane_queues;
 pub mod laws;
 mod outcome;
-mod lane_queues;
 mod run;
 mod seat;
 mod shared;

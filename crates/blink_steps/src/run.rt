@@ -7,8 +7,8 @@ ghost use Rattle.blink_steps.specs.RunInvariant.{CanTakeTurn};
 ghost use Rattle.blink_steps.specs.World.{HasEnded};
 
 use crate::error::StepError;
-use crate::outcome::Outcome;
 use crate::lane_queues::lane_queues;
+use crate::outcome::Outcome;
 use crate::seat::{WorkerState, Working};
 use crate::shared::Shared;
 use blink_batch::{Answer, Batch, Lanes};

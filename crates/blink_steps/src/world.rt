@@ -14,7 +14,7 @@ use crate::run::Run;
 use crate::seat::Working;
 use blink_batch::{Answer, Batch, Lanes};
 use blink_machine::Step;
-use blink_page::{MAX_PAGE, MAX_NEW_PAGES_PER_INSERT};
+use blink_page::{MAX_NEW_PAGES_PER_INSERT, MAX_PAGE};
 use blink_rest::Rest;
 use blink_store::{Latches, Store};
 use std::alloc::Global;

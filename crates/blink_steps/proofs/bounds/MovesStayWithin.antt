@@ -1,7 +1,7 @@
 -- A turn that moves keeps every operation within what it may need.
 use Rattle.std.proofs.Common.{◌≡◌, ℕ, ◌+◌, ◌<◌, ◌≤◌, ◌∙◌, ◌&&◌, Bool, true, Option, Some, None, List, ◌∷◌, refl, ap, arith}
 use Rattle.blink_batch.specs.declared.Op.{Op}
-use Rattle.blink_batch.specs.declared.Op.TheVariants.{Find, Insert, Delete, Replace}
+use Rattle.blink_batch.specs.declared.Op.TheVariants.{Insert}
 use Rattle.blink_batch.specs.Batch.{is_insert}
 use Rattle.blink_machine.specs.declared.machine.Job.TheVariants.{Leaf}
 use Rattle.blink_machine.specs.declared.machine.State.{State}
@@ -96,10 +96,8 @@ within_is_limited history place m within =
 
 -- only an insertion needs numbers
 pub numbers_for_inserts : (op : Op) → 0 < numbers_for Leaf op → is_insert op ≡ true
-numbers_for_inserts (Find key) some = absurd (omega arith)
 numbers_for_inserts (Insert key pointer) some = refl
-numbers_for_inserts (Delete key) some = absurd (omega arith)
-numbers_for_inserts (Replace key pointer) some = absurd (omega arith)
+numbers_for_inserts op some = absurd (omega arith)
 
 -- the counts of every other operation stay
 pub other_limited : (history : List Event) (taken : Event) (place : ℕ) → (taken.place ≡ place → ⊥) → IsLimited history place → IsLimited (taken ∷ history) place

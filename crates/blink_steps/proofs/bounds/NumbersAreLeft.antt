@@ -8,7 +8,7 @@ use Rattle.std.proofs.lemmas.Slice.Zip.{length-zip}
 use Rattle.blink_batch.specs.declared.Op.{Op}
 use Rattle.blink_batch.specs.Batch.{is_insert}
 use Rattle.blink_store.specs.Store.{PlainStore}
-use Rattle.blink_batch.specs.declared.Op.TheVariants.{Find, Insert, Delete, Replace}
+use Rattle.blink_batch.specs.declared.Op.TheVariants.{Insert}
 use Rattle.blink_machine.specs.declared.machine.Job.TheVariants.{Leaf}
 use Rattle.blink_machine.specs.Allowance.{one_if, numbers_for, numbers_left}
 use Rattle.blink_steps.specs.Counts.{numbers_in, moves_in, takes_number, begun_inserts}
@@ -105,10 +105,8 @@ history_is_bounded opening_run_has_invariant turn_keeps_run_invariant start ops 
 
 -- an insertion needs 22 numbers at most, and another operation none
 numbers_by_kind : (op : Op) → numbers_for Leaf op ≤ 22 * one_if (is_insert op)
-numbers_by_kind (Find key) = omega arith
 numbers_by_kind (Insert key pointer) = omega arith
-numbers_by_kind (Delete key) = omega arith
-numbers_by_kind (Replace key pointer) = omega arith
+numbers_by_kind op = omega arith
 
 -- a worker whose operation writes a new page finds a number left for it
 pub number_is_left : OpeningRunHasInvariant → TurnKeepsRunInvariant → NumberIsLeft
