@@ -8,9 +8,9 @@ use Rattle.blink_rest.specs.Rest.{IsAtRest}
 use Rattle.blink_rows.specs.Counts.{PlainCounts}
 use Rattle.blink_rows.specs.Row.{prime_words, IsLawfulPrime}
 use Rattle.blink_machine.specs.TreeMap.{pairs_of}
-use Rattle.blink_live.specs.declared.keeper.Keeper.{Keeper}
+use Rattle.blink_live.specs.declared.live.Keeper.{Keeper}
 use Rattle.blink_live.specs.declared.live.Live.{Live}
-use Rattle.blink_live.specs.declared.pass.Pass.{Pass}
+use Rattle.blink_live.specs.declared.live.Pass.{Pass}
 use Rattle.blink_live.specs.declared.view.Share.{Share}
 use Rattle.blink_live.specs.Handles.{opening_of, keys_of, share_of, taken_of}
 use Rattle.blink_live.specs.Words.{IsRowNumber, RowIs, KeepsPages}

@@ -1,22 +1,30 @@
-//! How a table is closed.
-ghost use Rattle.std.specs.Prelude.{◌≡◌, ◌<◌, ◌↔◌, ◌⊎◌, ℕ, None, [], All, length, IfOk, IfErr, IsErrOf};
+//! How a table is closed, and the tree at rest that its words keep then, in a new store and with its pages numbered anew.
+ghost use Rattle.std.specs.Prelude.{◌≡◌, ◌<◌, ◌↔◌, ◌⊎◌, ℕ, None, [], All, length, IfOk, IfErr, IsErrOf, List, ◌+◌, ◌≤◌, ◌++◌, Some, ◌∷◌, OnOk, slice_index, IfSome};
+ghost use Rattle.std.specs.Mem.Slots.{slots_items, slots_len, IsFull};
+ghost use Rattle.blink_batch.specs.declared.Entry.{Entry};
 ghost use Rattle.blink_index.specs.Index.{map_of};
-ghost use Rattle.blink_live.specs.Gathered.{IsNumberedInOrder};
+ghost use Rattle.blink_page.specs.Limits.{IsFan, IsPageNumber};
+ghost use Rattle.blink_machine.specs.TreeMap.{IsMapOf};
+ghost use Rattle.blink_live.specs.Gathered.{IsNumberedInOrder, KeepsTreeAtRest, HasTheEntries};
 ghost use Rattle.blink_live.specs.Handles.{IsKeeperOf, IsPassOf, fan_of, passes_dealt};
 ghost use Rattle.blink_live.specs.declared.view.Role.TheVariants.{Keeper as KeeperRole, Pass as PassRole};
-ghost use Rattle.blink_live.specs.Merge.{IsMerge, shares_of};
+ghost use Rattle.blink_live.specs.Merge.{IsMerge, shares_of, KeepsPrime, KeepsTree};
 ghost use Rattle.blink_live.specs.Views.{plan_of, takes_back, takes_all_back};
+ghost use Rattle.blink_live.specs.Words.{word_count};
+ghost use Rattle.blink_live.specs.ToCome.{HasPagesToCome, HasLeavesToCome, AddsPages, HasPageAt, IsPageAt};
+ghost use Rattle.blink_live.specs.Renumbered.{child_count, link_anew, page_anew, with_children};
 
-use crate::end::tree_at_end;
 use crate::error::LiveError;
-use crate::keeper::Keeper;
-use crate::live::Live;
-use crate::pass::Pass;
+use crate::live::{Keeper, Live, Pass};
 use crate::rule::{Planned, TakeBack};
 use crate::view::View;
-use atomic_table::Seat;
+use atomic_table::{Closed, Seat};
 use blink_index::Index;
-use std::alloc::Global;
+use blink_page::{MAX_PAGE, Page, Prime};
+use blink_rest::Rest;
+use blink_rows::{Counts, ROW_WORDS, row_page, row_prime};
+use blink_store::{Store, StoreError};
+use std::alloc::{AllocError, Global};
 use std::marker::Brand;
 
 impl Live {
@@ -56,9 +64,7 @@ impl Live {
             Err(_) => Err(LiveError::OutOfMemory),
         }
     }
-}
 
-impl Live {
     // The keeper's seat takes the views of all passes.
     fn take_back(&self, seat: &mut Seat<u8, View>, mut passes: Vec<Pass>)
         requires table { seat.old.table_id ≡ self.now.table.shared.table_id }
@@ -89,5 +95,236 @@ impl Live {
         ensures back { seat.new.me ≡ (takes_back seat.old.me.0 other.me.0, seat.old.me.1) }
     {
         self.table.shared.join_seat::<TakeBack<B>>(seat, other);
+    }
+}
+
+// The tree at rest that the words keep, its pages numbered anew.
+fn tree_at_end(
+    alloc: Global,
+    closed: &Closed<u8, Global>,
+    counts: &Counts,
+    fan: u8,
+) -> Result<Rest, AllocError>
+    requires full { IsFull closed.now.words }
+    requires width { slots_len closed.now.words ≡ word_count counts.now }
+    requires fan { IsFan fan }
+    requires tree { (entries : List Entry) × KeepsTree counts.now (slots_items closed.now.words) fan entries }
+    ensures fan { IfOk result (λ rest. rest.fan ≡ fan) }
+    ensures entries { IfOk result (λ rest. (entries : List Entry)
+        → KeepsTree counts.now (slots_items closed.now.words) fan entries → IsMapOf rest entries) }
+    ensures numbered { IfOk result IsNumberedInOrder }
+{
+    let prime = prime_at(closed, counts);
+    gather(alloc, closed, counts, fan, &prime)
+}
+
+// The prime block that the words keep.
+fn prime_at(closed: &Closed<u8, Global>, counts: &Counts) -> Prime
+    requires full { IsFull closed.now.words }
+    requires width { slots_len closed.now.words ≡ word_count counts.now }
+    requires kept { (leftmost : List ℕ) × KeepsPrime counts.now (slots_items closed.now.words) leftmost }
+    ensures { (leftmost : List ℕ) → KeepsPrime counts.now (slots_items closed.now.words) leftmost
+        → result ≡ leftmost }
+{
+    let row = closed.word(0);
+    let words = row_words(closed, counts.row_start(row) as usize);
+    let Some(prime) = row_prime(&words) else {
+        unreachable!()
+    };
+    prime
+}
+
+// The tree at rest that the words keep, in a new store: its pages are numbered anew from 1, level 0 first, each level from
+// the left.
+fn gather(
+    alloc: Global,
+    closed: &Closed<u8, Global>,
+    counts: &Counts,
+    fan: u8,
+    prime: &Prime,
+) -> Result<Rest, AllocError>
+    requires full { IsFull closed.now.words }
+    requires width { slots_len closed.now.words ≡ word_count counts.now }
+    requires fan { IsFan fan }
+    requires rest { KeepsTreeAtRest counts.now (slots_items closed.now.words) fan prime.now }
+    ensures fan { IfOk result (λ rest. rest.fan ≡ fan) }
+    ensures entries { IfOk result
+        (λ rest. HasTheEntries counts.now (slots_items closed.now.words) fan prime.now rest) }
+    ensures numbered { IfOk result IsNumberedInOrder }
+{
+    // Read for the proof: there are no more page numbers than a store has.
+    let _numbers = counts.numbers;
+    let leftmost = &prime.leftmost;
+    let mut store = store_of_leaves(alloc, closed, counts, fan, leftmost[0])?;
+    let mut firsts = Prime::new();
+    let mut child = 1;
+    for level in 1..leftmost.len() {
+        let first = store.pages() + 1;
+        add_pages(&mut store, closed, counts, Some(leftmost[level]), child)?;
+        firsts.grow(first);
+        child = first;
+    }
+    store.set_prime(firsts);
+    Ok(Rest::of(store))
+}
+
+// A new store with the pages of level 0, from this one on. The first takes the place of the empty leaf that a new store has.
+fn store_of_leaves(
+    alloc: Global,
+    closed: &Closed<u8, Global>,
+    counts: &Counts,
+    fan: u8,
+    leftmost: u32,
+) -> Result<Store, AllocError>
+    requires full { IsFull closed.now.words }
+    requires width { slots_len closed.now.words ≡ word_count counts.now }
+    requires fan { IsFan fan }
+    requires leaves { HasLeavesToCome counts.now (slots_items closed.now.words) fan leftmost }
+    ensures fan { IfOk result (λ store. store.fan ≡ fan) }
+    ensures pages { IfOk result
+        (λ store. AddsPages counts.now (slots_items closed.now.words)
+        fan (Some leftmost) 1 [] store.pages) }
+{
+    let Ok(mut store) = Store::new(alloc, fan) else {
+        return Err(AllocError);
+    };
+    let page = page_at(closed, counts, leftmost);
+    let link = page.right;
+    store.write(1, renumbered(page, 2, 1));
+    add_pages(&mut store, closed, counts, link, 1)?;
+    Ok(store)
+}
+
+// Adds the pages of a level from a link on, with the next numbers, and their children from `first_child` on.
+fn add_pages(
+    store: &mut Store,
+    closed: &Closed<u8, Global>,
+    counts: &Counts,
+    from: Option<u32>,
+    first_child: u32,
+) -> Result<(), AllocError>
+    requires full { IsFull closed.now.words }
+    requires width { slots_len closed.now.words ≡ word_count counts.now }
+    requires pages { HasPagesToCome counts.now (slots_items closed.now.words)
+        store.old.fan from (length store.old.pages) first_child }
+    ensures fan { store.new.fan ≡ store.old.fan }
+    ensures pages { OnOk result
+        (AddsPages counts.now (slots_items closed.now.words)
+        store.old.fan from first_child store.old.pages store.new.pages) }
+{
+    let mut link = from;
+    let mut child = first_child;
+    while let Some(number) = link {
+        let next = store.pages() + 2;
+        let page = page_at(closed, counts, number);
+        let children = child_count(&page);
+        link = page.right;
+        add(store, renumbered(page, next, child))?;
+        child += children;
+    }
+    Ok(())
+}
+
+// Adds a page to a store that has a number left.
+fn add(store: &mut Store, page: Page) -> Result<(), AllocError>
+    requires at_most_fan { length page.entries ≤ store.old.fan }
+    requires room { length store.old.pages < MAX_PAGE }
+    ensures fan { store.new.fan ≡ store.old.fan }
+    ensures pages { OnOk result (store.new.pages ≡ store.old.pages ++ page ∷ []) }
+{
+    match store.add(page) {
+        Ok(_) => Ok(()),
+        Err(StoreError::OutOfMemory) => Err(AllocError),
+        Err(StoreError::OutOfPages) => unreachable!(),
+    }
+}
+
+// The page that the words keep under a number.
+fn page_at(closed: &Closed<u8, Global>, counts: &Counts, number: u32) -> Page
+    requires full { IsFull closed.now.words }
+    requires width { slots_len closed.now.words ≡ word_count counts.now }
+    requires kept { HasPageAt counts.now (slots_items closed.now.words) number }
+    ensures { IsPageAt counts.now (slots_items closed.now.words) number result }
+{
+    let row = closed.word(number as usize);
+    let words = row_words(closed, counts.row_start(row) as usize);
+    match row_page(&words) {
+        Some(page) => {
+            // Read for the proof: a page is lawful.
+            let _level = page.level;
+            page
+        }
+        None => unreachable!(),
+    }
+}
+
+// The words of a row that begins at this place.
+fn row_words(closed: &Closed<u8, Global>, start: usize) -> [u64; ROW_WORDS]
+    requires full { IsFull closed.now.words }
+    requires inside { start + ROW_WORDS ≤ slots_len closed.now.words }
+    ensures width { length result ≡ ROW_WORDS }
+    ensures words { (i : ℕ) → i < ROW_WORDS
+        → slice_index result i ≡ slice_index (slots_items closed.now.words) (start + i) }
+{
+    let mut words = [0; ROW_WORDS];
+    for i in 0..ROW_WORDS {
+        words[i] = closed.word(start + i);
+    }
+    words
+}
+
+// The page with its right link to `next`, and its children from `child` on.
+fn renumbered(page: Page, next: u32, child: u32) -> Page
+    requires next { IfSome page.right (λ _. IsPageNumber next) }
+    requires first_child { 1 ≤ child }
+    requires room_for_children { child + child_count page.level page.entries ≤ MAX_PAGE + 1 }
+    ensures { result ≡ page_anew next child page }
+{
+    let Page {
+        level,
+        floor,
+        high,
+        right,
+        mut items,
+    } = page;
+    if level > 0 {
+        renumber(&mut items, child);
+    }
+    Page {
+        level,
+        floor,
+        high,
+        right: led_to(right, next),
+        items,
+    }
+}
+
+// The link to `next`, where there was a link.
+fn led_to(link: Option<u32>, next: u32) -> Option<u32>
+    ensures { result ≡ link_anew next link }
+{
+    link.map(|_| next)
+}
+
+// How many children a page has.
+fn child_count(page: &Page) -> u32
+    ensures { result ≡ child_count page.now.level page.now.entries }
+{
+    if page.level == 0 {
+        0
+    } else {
+        page.items.len() as u32
+    }
+}
+
+// Puts the numbers from `child` on in the place of the children.
+fn renumber(entries: &mut [(u64, u64)], child: u32)
+    requires { child + length entries.old ≤ MAX_PAGE + 1 }
+    ensures { entries.new ≡ with_children child entries.old }
+{
+    let mut next = u64::from(child);
+    for entry in entries.iter_mut() {
+        entry.1 = next;
+        next += 1;
     }
 }

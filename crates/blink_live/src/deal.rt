@@ -1,23 +1,21 @@
-//! How a table's keeper deals passes.
-ghost use Rattle.std.specs.Prelude.{◌≡◌, ◌⊎◌, ◌↔◌, ℕ, ◌+◌, ◌*◌, ◌≤◌, IfOk, IfErr, OnOk, OnErr, IsErrOf, IsTrue, Contains, IsSorted, []};
+//! How a table's keeper deals passes: which keys are taken, what a deal gives, and what a keeper and a pass tell of themselves.
+ghost use Rattle.std.specs.Prelude.{◌≡◌, ◌⊎◌, ◌↔◌, ℕ, ◌+◌, ◌*◌, ◌≤◌, IfOk, IfErr, OnOk, OnErr, IsErrOf, IsTrue, Contains, IsSorted, [], ◌<◌, length, take, slice_index, IfSome, IfNone};
 ghost use Rattle.std.specs.Ordering.{nat_cmp};
 ghost use Rattle.blink_page.specs.declared.limits.TheConstants.{MAX_NEW_PAGES_PER_INSERT};
-ghost use Rattle.blink_live.specs.Dealing.{CanDeal};
+ghost use Rattle.blink_live.specs.Dealing.{CanDeal, HasMet};
 ghost use Rattle.blink_live.specs.Deals.{IsFirstTaken, NoneIsTaken, LacksAllowance, IsDealt, HasDealt, IsDealRefusal, rows_for};
-ghost use Rattle.blink_live.specs.Handles.{IsKeeperOf, taken_of};
+ghost use Rattle.blink_live.specs.Handles.{IsKeeperOf, taken_of, keys_of};
 ghost use Rattle.blink_live.specs.Views.{span, keeps_rest, gets_first};
 
-use crate::ascending::joined;
 use crate::error::LiveError;
-use crate::keeper::Keeper;
-use crate::left::{deletes_left, first_of, inserts_left};
-use crate::live::Live;
-use crate::pass::Pass;
+use crate::live::{Keeper, Live, Pass};
+use crate::room::{deletes_left, first_of, inserts_left};
 use crate::rule::{Deal, Dealt};
-use crate::taken::first_taken;
 use crate::view::View;
 use atomic_table::Seat;
 use blink_rows::{MAX_NEW_PAGES_PER_INSERT, MAX_ROWS_PER_INSERT, Span};
+use std::alloc::{AllocError, Global};
+use std::collections::BTreeSet;
 use std::marker::Brand;
 
 impl Live {
@@ -112,6 +110,34 @@ impl Live {
 }
 
 impl Keeper {
+    /// The keys that were dealt, in ascending order.
+    pub fn taken(&self) -> &[u64]
+        ensures { result.now ≡ taken_of self.now }
+    {
+        &self.taken
+    }
+
+    /// How many passes were dealt.
+    pub fn dealt(&self) -> u32
+        ensures { result ≡ self.now.dealt }
+    {
+        self.dealt
+    }
+
+    /// The rows that weren't dealt.
+    pub fn rows(&self) -> Span
+        ensures { result ≡ self.now.rows }
+    {
+        self.rows
+    }
+
+    /// The page numbers that weren't dealt.
+    pub fn pages(&self) -> Span
+        ensures { result ≡ self.now.pages }
+    {
+        self.pages
+    }
+
     // All keys that are taken when these are dealt too, in ascending order; or why they aren't dealt.
     fn taken_with(&self, keys: &[u64], inserts: u32, deletes: u32) -> Result<Vec<u64>, LiveError>
         ensures free { OnOk result (NoneIsTaken (taken_of self.now) keys.now) }
@@ -150,4 +176,113 @@ impl Keeper {
             || deletes_left(&self.pages, &self.rows) < u64::from(deletes)
             || self.dealt == u32::MAX
     }
+}
+
+impl Pass {
+    /// The pass's keys, in ascending order.
+    pub fn keys(&self) -> &[u64]
+        ensures { result.now ≡ keys_of self.now }
+    {
+        &self.keys
+    }
+
+    /// The rows that the pass's operations may still use.
+    pub fn rows(&self) -> Span
+        ensures { result ≡ self.now.rows }
+    {
+        self.rows
+    }
+
+    /// The page numbers that the pass's operations may still use.
+    pub fn pages(&self) -> Span
+        ensures { result ≡ self.now.pages }
+    {
+        self.pages
+    }
+
+    // Whether the key is one of the pass's.
+    pub(crate) fn has(&self, key: u64) -> bool
+        ensures { IsTrue result ↔ Contains (keys_of self.now) key }
+    {
+        is_among(&self.keys, key)
+    }
+}
+
+// The keys of a list that were met so far, until memory is refused.
+#[derive(Drop)]
+struct Met {
+    keys: BTreeSet<u64, Global>,
+    refused: bool,
+}
+
+impl Met {
+    // Meets the key at this place of the list, and says whether it stands earlier in the list.
+    fn meets_again(&mut self, keys: &[u64], place: usize) -> bool
+        requires inside { place < length keys.now }
+        requires met { HasMet self.old.refused self.old.keys (take place keys.now) }
+        ensures again { IsTrue result ↔ Contains (take place keys.now) (slice_index keys.now place) }
+        ensures met { HasMet self.new.refused self.new.keys (take (place + 1) keys.now) }
+    {
+        let key = keys[place];
+        if !self.refused {
+            match self.keys.insert(key) {
+                Ok(added) => return !added,
+                Err(_) => self.refused = true,
+            }
+        }
+        keys[..place].contains(&key)
+    }
+}
+
+// The first key of the list that was taken before or stands earlier in the list; and whether memory was refused.
+#[derive(Clone, Copy)]
+struct Search {
+    first: Option<u64>,
+    refused: bool,
+}
+
+// Goes through a list of keys, in its order.
+fn first_taken(alloc: Global, taken: &[u64], keys: &[u64]) -> Search
+    requires ascending { IsSorted nat_cmp taken.now }
+    ensures first { IfSome result.first (IsFirstTaken taken.now keys.now) }
+    ensures none { IfNone result.first (NoneIsTaken taken.now keys.now) }
+{
+    let mut met = Met {
+        keys: BTreeSet::new(alloc),
+        refused: false,
+    };
+    for place in 0..keys.len() {
+        let key = keys[place];
+        if met.meets_again(keys, place) || is_among(taken, key) {
+            return Search {
+                first: Some(key),
+                refused: met.refused,
+            };
+        }
+    }
+    Search {
+        first: None,
+        refused: met.refused,
+    }
+}
+
+// Whether the key is one of these.
+fn is_among(keys: &[u64], key: u64) -> bool
+    requires ascending { IsSorted nat_cmp keys.now }
+    ensures { IsTrue result ↔ Contains keys.now key }
+{
+    keys.binary_search(&key).is_ok()
+}
+
+// The keys of both lists, in a new one.
+fn joined(alloc: Global, keys: &[u64], more: &[u64]) -> Result<Vec<u64>, AllocError>
+    ensures ascending { IfOk result (λ all. IsSorted nat_cmp all.items) }
+    ensures of_both { IfOk result (λ all. (key : ℕ)
+        → Contains all.items key ↔ (Contains keys.now key ⊎ Contains more.now key)) }
+{
+    let mut all = Vec::with_capacity(alloc, keys.len() + more.len())?;
+    all.extend_from_slice(keys)?;
+    all.extend_from_slice(more)?;
+    all.sort_unstable();
+    Ok(all)
 }

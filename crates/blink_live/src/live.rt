@@ -1,12 +1,17 @@
-//! A table of words that keeps a tree.
-ghost use Rattle.std.specs.Prelude.{◌≡◌, ◌≤◌};
+//! A table of words that keeps a tree, what its passes are dealt from, and what a thread changes and reads it with. These types stand
+//! apart from their calls, since the words of the calls' contracts name them.
+ghost use Rattle.std.specs.Prelude.{◌≡◌, ◌≤◌, [], IsSorted, None};
+ghost use Rattle.std.specs.Ordering.{nat_cmp};
 ghost use Rattle.blink_page.specs.Limits.{IsFan};
 ghost use Rattle.blink_live.specs.Words.{word_count};
+ghost use Rattle.blink_live.specs.declared.view.Role.TheVariants.{Keeper, Pass};
+ghost use Rattle.blink_live.specs.Allowed.{AreForChanges};
+ghost use Rattle.blink_live.specs.Views.{SawItsOwn};
 
 use crate::rule::InvariantOfTree;
 use crate::view::{Opened, View};
-use atomic_table::Table;
-use blink_rows::Counts;
+use atomic_table::{Seat, Table};
+use blink_rows::{Counts, Span};
 use std::alloc::Global;
 
 /// A B-link tree in one table of words that any number of threads share without a lock, each with passes of its own.
@@ -24,4 +29,44 @@ pub struct Live {
     ghost some_number: { 1 ≤ counts.numbers },
     ghost no_slot: { table.shared.table_id.slots ≡ 0 },
     ghost width: { table.shared.table_id.words ≡ word_count counts },
+}
+
+/// The right to deal a table's passes, and to close it when they are back: the keys that were dealt, the rows and the page
+/// numbers that were not, and how many passes there are.
+#[derive(Drop)]
+pub struct Keeper {
+    pub(crate) seat: Seat<u8, View>,
+    pub(crate) taken: Vec<u64>,
+    pub(crate) rows: Span,
+    pub(crate) pages: Span,
+    pub(crate) dealt: u32,
+    ghost taken_are: { taken.items ≡ seat.me.0.taken },
+    ghost rows_are: { rows ≡ seat.me.0.rows },
+    ghost pages_are: { pages ≡ seat.me.0.pages },
+    ghost in_order: { (rows.next ≤ rows.stop) × (pages.next ≤ pages.stop) },
+    ghost for_changes: { AreForChanges pages rows },
+    ghost ascending: { IsSorted nat_cmp taken.items },
+    ghost role_is: { seat.me.0.role ≡ Keeper dealt 0 },
+    ghost no_slot: { seat.me.1 ≡ [] },
+}
+
+/// The right to read and change some keys of a table, which no other pass has: its keys, in ascending order, and the rows and
+/// page numbers that it may still use.
+#[derive(Drop)]
+pub struct Pass {
+    pub(crate) seat: Seat<u8, View>,
+    pub(crate) keys: Vec<u64>,
+    pub(crate) rows: Span,
+    pub(crate) pages: Span,
+    ghost keys_are: { keys.items ≡ seat.me.0.share.keys },
+    ghost ascending: { IsSorted nat_cmp keys.items },
+    ghost rows_are: { rows ≡ seat.me.0.rows },
+    ghost pages_are: { pages ≡ seat.me.0.pages },
+    ghost in_order: { (rows.next ≤ rows.stop) × (pages.next ≤ pages.stop) },
+    ghost for_changes: { AreForChanges pages rows },
+    ghost role_is: { seat.me.0.role ≡ Pass },
+    ghost own_seen: { SawItsOwn seat.me.0 },
+    ghost none_told: { seat.me.0.told ≡ [] },
+    ghost idle: { seat.me.0.operation ≡ None },
+    ghost no_slot: { seat.me.1 ≡ [] },
 }

@@ -1,19 +1,23 @@
-//! How a table is opened over an index.
-ghost use Rattle.std.specs.Prelude.{◌≡◌, ◌↔◌, ◌⊎◌, length, IfOk, IfErr, IsErrOf, IsTrue};
+//! How a table is opened over an index, the words that it has then, and what it tells of itself.
+ghost use Rattle.std.specs.Prelude.{◌≡◌, ◌↔◌, ◌⊎◌, length, IfOk, IfErr, IsErrOf, IsTrue, ◌+◌, ◌<◌, ◌≤◌, replicate, IsSome};
 ghost use Rattle.blink_live.specs.Allowed.{IsTooLarge};
-ghost use Rattle.blink_live.specs.Handles.{IsOpened};
+ghost use Rattle.blink_live.specs.Handles.{IsOpened, counts_of, fan_of};
+ghost use Rattle.blink_live.specs.Laid.{IsLaid};
+ghost use Rattle.blink_live.specs.Laying.{LaysRow};
+ghost use Rattle.blink_live.specs.Words.{word_count};
 
 use crate::error::LiveError;
-use crate::keeper::Keeper;
-use crate::lay::laid_words;
-use crate::live::Live;
+use crate::live::{Keeper, Live};
 use crate::rule::InvariantOfTree;
 use crate::view::{Opened, View};
 use atomic_table::Table;
 use blink_index::Index;
 use blink_page::MAX_PAGE;
-use blink_rows::{Allowance, Counts, MAX_NEW_PAGES_PER_INSERT, Span};
-use std::alloc::Global;
+use blink_rows::{
+    Allowance, Counts, MAX_NEW_PAGES_PER_INSERT, ROW_WORDS, Span, page_row, prime_row,
+};
+use blink_store::Store;
+use std::alloc::{AllocError, Global};
 use std::snapshot::Snapshot;
 
 impl Live {
@@ -67,6 +71,39 @@ impl Live {
         let fan = store.fan();
         Ok((Live { table, counts, fan }, keeper))
     }
+
+    /// The greatest number of entries in a page.
+    pub fn fan(&self) -> u8
+        ensures { result ≡ fan_of self.now }
+    {
+        self.fan
+    }
+
+    /// How many page numbers and rows the table has, from which its layout follows.
+    pub fn counts(&self) -> Counts
+        ensures { result ≡ counts_of self.now }
+    {
+        self.counts
+    }
+
+    /// How many words the table has.
+    pub fn word_count(&self) -> usize
+        ensures { result ≡ word_count (counts_of self.now) }
+    {
+        self.table.word_count()
+    }
+
+    /// A word of the table as it is now, for who looks into the layout; `None` from `word_count` on. Other threads may change it at any
+    /// time, so nothing is known from it.
+    pub fn word(&self, place: usize) -> Option<u64>
+        ensures { IsSome result ↔ place < word_count (counts_of self.now) }
+    {
+        if place < self.word_count() {
+            Some(self.table.shared.peek(place))
+        } else {
+            None
+        }
+    }
 }
 
 // Whether the insertions might need more page numbers than there are.
@@ -75,4 +112,49 @@ fn exceeds_page_limit(count: u32, allowance: Allowance) -> bool
 {
     let numbers = 1 + u64::from(count) + MAX_NEW_PAGES_PER_INSERT * u64::from(allowance.inserts);
     numbers > u64::from(MAX_PAGE) + 1
+}
+
+// The words of a table over the store's tree: its prime block in row 1, and page `n` in row `n + 1`.
+fn laid_words(alloc: Global, counts: &Counts, store: &Store) -> Result<Vec<u64>, AllocError>
+    requires numbers { length store.now.pages < counts.now.numbers }
+    requires rows { length store.now.pages < counts.now.rows }
+    ensures { IfOk result (λ words. IsLaid counts.now store.now words.items) }
+{
+    let mut words = vec![in alloc; 0u64; word_count(counts)]?;
+    lay_tree(&mut words, counts, store);
+    Ok(words)
+}
+
+// How many words a table has.
+fn word_count(counts: &Counts) -> usize
+    ensures { result ≡ word_count counts.now }
+{
+    2 * counts.numbers as usize + ROW_WORDS * counts.rows as usize
+}
+
+// Lays the prime block and the pages into words that are all 0.
+fn lay_tree(words: &mut [u64], counts: &Counts, store: &Store)
+    requires numbers { length store.now.pages < counts.now.numbers }
+    requires rows { length store.now.pages < counts.now.rows }
+    requires blank { words.old ≡ replicate (word_count counts.now) 0 }
+    ensures { IsLaid counts.now store.now words.new }
+{
+    lay_row(words, counts, 0, &prime_row(store.prime()));
+    for before in 0..store.pages() {
+        let number = before + 1;
+        lay_row(words, counts, number, &page_row(store.read(number)));
+    }
+}
+
+// Stores a row behind a number, and names it in the number's page word.
+fn lay_row(words: &mut [u64], counts: &Counts, number: u32, row: &[u64; ROW_WORDS])
+    requires width { length words.old ≡ word_count counts.now }
+    requires number { number < counts.now.numbers }
+    requires row { number < counts.now.rows }
+    ensures { LaysRow counts.now words.old words.new number row.now }
+{
+    let row_number = u64::from(number) + 1;
+    words[number as usize] = row_number;
+    let start = counts.row_start(row_number) as usize;
+    words[start..start + ROW_WORDS].copy_from_slice(row);
 }

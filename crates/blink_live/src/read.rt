@@ -1,29 +1,32 @@
-//! How a seat reads the pages of a table on the way of an operation: each by the load of its page word, which is the tree's
-//! read, and then by the loads of as many words of the row that it names as tell which way the operation's key leads.
-ghost use Rattle.std.specs.Prelude.{◌≡◌, ℕ, ◌+◌, ◌*◌, ◌<◌, ◌≤◌, Some, None, List, Option, slice_get, slice_index};
+//! How an operation goes down to the leaf of its key, and how a seat reads the pages of a table on the operation's way: each by
+//! the load of its page word, which is the tree's read, and then by the loads of as many words of the row that it names as tell
+//! which way the operation's key leads. Of a page that the operation has latched it loads the words up to the last entry, and of
+//! the prime block those up to the leftmost page of the top level.
+ghost use Rattle.std.specs.Prelude.{◌≡◌, None, ℕ, ◌+◌, ◌*◌, ◌<◌, ◌≤◌, Some, List, Option, slice_get, slice_index, ◌⊎◌, length};
+ghost use Rattle.std.specs.Bool.{OnTrue, OnFalse};
 ghost use Rattle.blink_batch.specs.Batch.{FitsWords};
+ghost use Rattle.blink_batch.specs.Operation.{key_of};
 ghost use Rattle.blink_page.specs.Place.{place_of};
 ghost use Rattle.blink_page.specs.Entries.{value_at};
 ghost use Rattle.blink_page.specs.Page.{PlainPage};
 ghost use Rattle.blink_page.specs.Rising.{IsRising};
 ghost use Rattle.blink_rows.specs.declared.limits.TheConstants.{ROW_WORDS};
-ghost use Rattle.blink_machine.specs.Machine.{PlainMachine, NeedsPage};
-ghost use Rattle.blink_live.specs.AtomicSteps.{Begins, LoadsPage};
-ghost use Rattle.blink_live.specs.Seats.{IsGoing, IsPassSeat, IsSameSeat, ReadsPage, TellsWayFor};
-ghost use Rattle.blink_live.specs.Views.{CanBegin};
-ghost use Rattle.blink_live.specs.Words.{IsRowNumber};
-
-mod prime;
-mod row;
+ghost use Rattle.blink_rows.specs.Row.{IsPageRow, IsPrimeRow};
+ghost use Rattle.blink_machine.specs.Machine.{PlainMachine, NeedsPage, NeedsPrime};
+ghost use Rattle.blink_machine.specs.Table.{SeesPrime};
+ghost use Rattle.blink_live.specs.Seats.{HasRead, IsAtLeaf, IsPassSeat, IsGoing, IsSameSeat, ReadsPage, TellsWayFor, ReadsPrime};
+ghost use Rattle.blink_live.specs.Views.{CanBegin, for_call, known_of};
+ghost use Rattle.blink_live.specs.Words.{AreNumbersIn, AreRowsIn, IsRowNumber};
+ghost use Rattle.blink_live.specs.AtomicSteps.{Begins, LoadsPage, LoadsPrime};
 
 use crate::live::Live;
-use crate::rule::{Begin, Begun, LoadPage, LoadWord};
+use crate::rule::{Begin, Begun, LoadPage, LoadPrime, LoadWord};
 use crate::view::View;
 use atomic_table::Seat;
 use blink_batch::Op;
-use blink_machine::Machine;
+use blink_machine::{Machine, Need};
 use blink_page::Way;
-use blink_rows::HEAD_WORDS;
+use blink_rows::{HEAD_WORDS, ROW_WORDS, row_page, row_prime};
 use std::marker::Brand;
 
 // The words of a row's head.
@@ -36,8 +39,27 @@ const RIGHT_LINK: usize = 4;
 const COUNT: usize = 5;
 
 impl Live {
+    // Takes an operation down to the leaf of its key.
+    pub(crate) fn descend(&self, seat: &mut Seat<u8, View>, op: Op) -> Machine
+        requires seat { IsPassSeat self.now seat.old.table_id seat.old.me }
+        requires idle { seat.old.me.0.operation ≡ None }
+        requires fits { FitsWords op }
+        requires can_begin { CanBegin seat.old.me.0 op }
+        ensures same_table { (seat.new.table_id ≡ seat.old.table_id) × (seat.new.id ≡ seat.old.id) }
+        ensures rows { AreRowsIn self.now.counts seat.old.me.0.rows }
+        ensures pages { AreNumbersIn self.now.counts seat.old.me.0.pages }
+        ensures read { HasRead op (for_call seat.old.me.0 op, seat.old.me.1) seat.new.me result }
+        ensures at_leaf { IsAtLeaf op (known_of seat.new.me.0 (key_of op)) result }
+    {
+        let mut machine = self.begin(seat, op);
+        while let Need::ReadPage(number) = machine.need() {
+            self.read_page(seat, &mut machine, number);
+        }
+        machine
+    }
+
     // Begins an operation: it reads of the prime block what names the root.
-    pub(crate) fn begin(&self, seat: &mut Seat<u8, View>, op: Op) -> Machine
+    fn begin(&self, seat: &mut Seat<u8, View>, op: Op) -> Machine
         requires seat { IsPassSeat self.now seat.old.table_id seat.old.me }
         requires idle { seat.old.me.0.operation ≡ None }
         requires fits { FitsWords op }
@@ -67,7 +89,7 @@ impl Live {
     }
 
     // Reads the page that an operation on its way down needs next, and tells it which way its key leads from there.
-    pub(crate) fn read_page(&self, seat: &mut Seat<u8, View>, machine: &mut Machine, number: u32)
+    fn read_page(&self, seat: &mut Seat<u8, View>, machine: &mut Machine, number: u32)
         requires seat { IsPassSeat self.now seat.old.table_id seat.old.me }
         requires at { seat.old.me.0.operation ≡ Some machine.old }
         requires fits { FitsWords machine.old.op }
@@ -139,6 +161,100 @@ impl Live {
         let _count = self.table.word_count();
         let start = self.counts.row_start(row) as usize;
         self.table.shared.load::<LoadWord>(seat, start + place)
+    }
+
+    // Reads the page that the operation has latched, the whole of it, and shows it to the operation.
+    pub(crate) fn read_latched(&self, seat: &mut Seat<u8, View>, machine: &mut Machine, number: u32)
+        requires seat { IsPassSeat self.now seat.old.table_id seat.old.me }
+        requires at { seat.old.me.0.operation ≡ Some machine.old }
+        requires fits { FitsWords machine.old.op }
+        requires needs { NeedsPage machine.old number }
+        requires in_range { (1 ≤ number) × (number < self.now.counts.numbers) }
+        ensures same { (seat.new.table_id ≡ seat.old.table_id) × (seat.new.id ≡ seat.old.id) }
+        ensures read { (row : ℕ) × LoadsPage machine.old number seat.old.me row machine.new seat.new.me }
+    {
+        let row = self.table.shared.load::<LoadPage>(seat, number as usize);
+        let words = self.read_row(seat, row);
+        let Some(page) = row_page(&words) else {
+            unreachable!()
+        };
+        // Read for the proof: a page is lawful.
+        let _level = page.level;
+        machine.saw_page(&page);
+    }
+
+    // The row of the page that the seat reads. Its words behind the page's are 0.
+    fn read_row(&self, seat: &mut Seat<u8, View>, row: u64) -> [u64; ROW_WORDS]
+        requires seat { IsPassSeat self.now seat.old.table_id seat.old.me }
+        requires row { IsRowNumber self.now.counts row }
+        requires page { (page : PlainPage) × ReadsPage seat.old.me row page }
+        ensures same { IsSameSeat seat.old seat.new }
+        ensures words { (page : PlainPage) → ReadsPage seat.old.me row page → IsPageRow page result }
+    {
+        let mut words = [0; ROW_WORDS];
+        self.load_words(seat, row, &mut words, 0, HEAD_WORDS);
+        let stop = HEAD_WORDS + 2 * words[COUNT] as usize;
+        self.load_words(seat, row, &mut words, HEAD_WORDS, stop);
+        words
+    }
+
+    // Loads the row's words in these places.
+    fn load_words(
+        &self,
+        seat: &mut Seat<u8, View>,
+        row: u64,
+        words: &mut [u64; ROW_WORDS],
+        from: usize,
+        to: usize,
+    )
+        requires seat { IsPassSeat self.now seat.old.table_id seat.old.me }
+        requires row { IsRowNumber self.now.counts row }
+        requires places { (from ≤ to) × (to ≤ ROW_WORDS) }
+        ensures same { IsSameSeat seat.old seat.new }
+        ensures width { length words.new ≡ ROW_WORDS }
+        ensures loaded { (content : List ℕ) → seat.old.me.0.reads ≡ Some (row, content) → (n : ℕ) → from ≤ n
+            → n < to
+            → slice_index words.new n ≡ slice_index content n }
+        ensures others { (n : ℕ) → (n < from) ⊎ (to ≤ n) → slice_index words.new n ≡ slice_index words.old n }
+    {
+        for n in from..to {
+            words[n] = self.load_word(seat, row, n);
+        }
+    }
+
+    // Reads the prime block for an operation under way, and tells whether it moved: where the level that it is to post to isn't
+    // there yet, it waits.
+    pub(crate) fn read_prime(&self, seat: &mut Seat<u8, View>, machine: &mut Machine) -> bool
+        requires seat { IsPassSeat self.now seat.old.table_id seat.old.me }
+        requires at { seat.old.me.0.operation ≡ Some machine.old }
+        requires fits { FitsWords machine.old.op }
+        requires needs { NeedsPrime machine.old }
+        ensures same { (seat.new.table_id ≡ seat.old.table_id) × (seat.new.id ≡ seat.old.id) }
+        ensures read { (row : ℕ) × LoadsPrime machine.old seat.old.me row machine.new seat.new.me }
+        ensures moved { OnTrue result ((prime : List ℕ) × SeesPrime machine.old prime machine.new) }
+        ensures waits { OnFalse result (machine.new ≡ machine.old) }
+    {
+        let row = self.table.shared.load::<LoadPrime>(seat, 0);
+        let words = self.prime_words(seat, row);
+        let Some(prime) = row_prime(&words) else {
+            unreachable!()
+        };
+        machine.saw_prime(&prime)
+    }
+
+    // The row of the prime block that the seat reads. Its words behind the prime block's are 0.
+    fn prime_words(&self, seat: &mut Seat<u8, View>, row: u64) -> [u64; ROW_WORDS]
+        requires seat { IsPassSeat self.now seat.old.table_id seat.old.me }
+        requires row { IsRowNumber self.now.counts row }
+        requires prime { (prime : List ℕ) × ReadsPrime seat.old.me row prime }
+        ensures same { IsSameSeat seat.old seat.new }
+        ensures words { (prime : List ℕ) → ReadsPrime seat.old.me row prime → IsPrimeRow prime result }
+    {
+        let mut words = [0; ROW_WORDS];
+        self.load_words(seat, row, &mut words, 0, HEAD_WORDS);
+        let stop = HEAD_WORDS + words[COUNT] as usize;
+        self.load_words(seat, row, &mut words, HEAD_WORDS, stop);
+        words
     }
 }
 

@@ -1,10 +1,75 @@
-//! What an operation that changes the tree may use.
+//! What changes take of rows and page numbers: how many changes these are enough for, and what one of them may use.
+ghost use Rattle.std.specs.Prelude.{◌≡◌, ◌+◌, ◌≤◌};
+ghost use Rattle.blink_live.specs.Allowed.{AreForChanges, changes_left, deletes_left, inserts_left};
+ghost use Rattle.blink_live.specs.Views.{pages_of, rows_of, span};
 
-use blink_rows::Span;
+use blink_batch::Op;
+use blink_rows::{MAX_NEW_PAGES_PER_INSERT, MAX_ROWS_PER_INSERT, Span};
 
 /// The rows and the page numbers that an operation may still use.
 #[derive(Clone, Copy)]
 pub(crate) struct Room {
     pub rows: Span,
     pub pages: Span,
+}
+
+// So many insertions have these page numbers.
+pub(crate) fn inserts_left(pages: &Span) -> u64
+    ensures { result ≡ inserts_left pages.now }
+{
+    pages.len() / MAX_NEW_PAGES_PER_INSERT
+}
+
+// And so many deletions these rows beside them.
+pub(crate) fn deletes_left(pages: &Span, rows: &Span) -> u64
+    requires { AreForChanges pages.now rows.now }
+    ensures { result ≡ deletes_left pages.now rows.now }
+{
+    rows.len() - MAX_ROWS_PER_INSERT * inserts_left(pages)
+}
+
+// So many changes of the operation's kind: a replacement counts as a deletion.
+pub(crate) fn changes_left(op: Op, pages: &Span, rows: &Span) -> u64
+    requires { AreForChanges pages.now rows.now }
+    ensures { result ≡ changes_left op pages.now rows.now }
+{
+    match op {
+        Op::Insert(..) => inserts_left(pages),
+        Op::Find(_) | Op::Delete(_) | Op::Replace(..) => deletes_left(pages, rows),
+    }
+}
+
+// The first numbers of a span, which keeps the rest.
+pub(crate) fn first_of(rest: &mut Span, count: u64) -> Span
+    requires enough { rest.old.next + count ≤ rest.old.stop }
+    ensures first { result ≡ span rest.old.next (rest.old.next + count) }
+    ensures rest { rest.new ≡ span (rest.old.next + count) rest.old.stop }
+{
+    let next = rest.next;
+    let _stop = rest.stop;
+    rest.next += count;
+    Span {
+        next,
+        stop: next + count,
+    }
+}
+
+// What the operation takes: the first rows and page numbers of these, which keep the rest.
+pub(crate) fn next_of(op: Op, rows: &mut Span, pages: &mut Span) -> Room
+    requires rows { rows.old.next + rows_of op ≤ rows.old.stop }
+    requires pages { pages.old.next + pages_of op ≤ pages.old.stop }
+    ensures room_rows { result.rows ≡ span rows.old.next (rows.old.next + rows_of op) }
+    ensures room_pages { result.pages ≡ span pages.old.next (pages.old.next + pages_of op) }
+    ensures rows { rows.new ≡ span (rows.old.next + rows_of op) rows.old.stop }
+    ensures pages { pages.new ≡ span (pages.old.next + pages_of op) pages.old.stop }
+{
+    let (row_count, page_count) = match op {
+        Op::Find(_) => (0, 0),
+        Op::Insert(..) => (MAX_ROWS_PER_INSERT, MAX_NEW_PAGES_PER_INSERT),
+        Op::Delete(_) | Op::Replace(..) => (1, 0),
+    };
+    Room {
+        rows: first_of(rows, row_count),
+        pages: first_of(pages, page_count),
+    }
 }

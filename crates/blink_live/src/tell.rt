@@ -1,21 +1,43 @@
-//! How a pass tells another what it has seen.
+//! How a pass looks at any key, and how it tells another what it has seen.
 ghost use Rattle.std.specs.Prelude.{◌≡◌, None, []};
 ghost use mathlib.Core.List.{IsPrefix};
+ghost use Rattle.blink_batch.specs.PlainMap.{pointer_of};
+ghost use Rattle.blink_live.specs.Changes.{after};
+ghost use Rattle.blink_live.specs.Handles.{IsPassOf, IsSameBesideSeen, KnowsItsKeys, opening_of, seen_of, IsSamePass, OneIsPrefix, SawAllOf, SawPrefixOf};
 ghost use Rattle.blink_live.specs.declared.view.Role.TheVariants.{Spent};
-ghost use Rattle.blink_live.specs.Handles.{IsPassOf, IsSameBesideSeen, IsSamePass, KnowsItsKeys, OneIsPrefix, SawAllOf};
-ghost use Rattle.blink_live.specs.Handles.{SawPrefixOf, seen_of};
 ghost use Rattle.blink_live.specs.Seats.{IsPassSeat, IsSameSeat};
 ghost use Rattle.blink_live.specs.AtomicSteps.{LooksBack, LooksUp};
 ghost use Rattle.blink_live.specs.Views.{hears, note_of, plan_of};
 
-use crate::live::Live;
-use crate::pass::Pass;
+use crate::live::{Live, Pass};
 use crate::rule::{Hear, LookBack, LookUp, Note, Planned};
 use crate::view::View;
 use atomic_table::Seat;
+use blink_batch::Answer;
 use std::marker::Brand;
 
 impl Live {
+    /// The record pointer that any key keeps, or `None` where it isn't there: its state after the changes of all keys that the
+    /// pass has seen then. What a pass has seen it never un-sees, for all keys at once. It takes no memory, waits for nobody,
+    /// and returns.
+    pub fn glance(&self, pass: &mut Pass, key: u64) -> Option<u64>
+        requires its_own { IsPassOf self.now pass.old }
+        ensures state { result ≡ after (pointer_of (opening_of self.now)) (seen_of pass.new) key }
+        ensures knows { KnowsItsKeys self.now pass.new }
+        ensures same { IsSameBesideSeen pass.old pass.new }
+    {
+        let Pass {
+            seat,
+            keys: _,
+            rows: _,
+            pages: _,
+        } = pass;
+        match self.search(seat, key) {
+            Answer::Found(pointer) => Some(pointer),
+            _ => None,
+        }
+    }
+
     /// Tells a pass what another has seen: from then on it knows all that, for all keys. The pass that tells stays as it was. Of
     /// the keys of the pass that tells the other has seen exactly the changes that this pass made. It takes no memory, waits for
     /// nobody, and returns.

@@ -6,7 +6,7 @@ use Rattle.blink_batch.specs.declared.Op.{Op}
 use Rattle.blink_batch.specs.declared.Op.TheVariants.{Find, Insert, Delete, Replace}
 use Rattle.blink_batch.specs.Operation.{key_of}
 use Rattle.blink_batch.specs.PlainMap.{pointer_of}
-use Rattle.blink_live.specs.declared.pass.Pass.{Pass}
+use Rattle.blink_live.specs.declared.live.Pass.{Pass}
 use Rattle.blink_live.specs.declared.view.Change.{Change}
 use Rattle.blink_live.specs.Changes.{states_of, changes_made}
 use Rattle.blink_live.specs.Handles.{IsChangedBy, changes_by, keys_of, own_changes_of, seen_changes_of, share_of}

@@ -22,7 +22,7 @@ use Rattle.blink_machine.specs.declared.machine.State.TheVariants.{Want, Change,
 use Rattle.blink_machine.specs.declared.step.Kind.{Kind}
 use Rattle.blink_machine.specs.Machine.{PlainMachine, need_at}
 use Rattle.blink_machine.specs.TreeState.{goes_on}
-use Rattle.blink_machine.specs.Table.{SeesPrime, SeesPage, SeesOnItsWay, SeesUnderLatch, WaitsForLevel, decided_with, done, done_at, leaves_for, sets_out}
+use Rattle.blink_machine.specs.Table.{SeesPrime, SeesPage, SeesOnItsWay, SeesUnderLatch, decided_with, done, done_at, leaves_for, sets_out}
 use Rattle.blink_live.specs.declared.view.Change.{Change as MapChange}
 use Rattle.blink_live.specs.declared.view.Share.{Share}
 use Rattle.blink_live.specs.Changes.{after as after_changes, changes_made}

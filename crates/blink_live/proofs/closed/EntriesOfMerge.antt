@@ -4,9 +4,9 @@ use Rattle.std.specs.Prelude.{Contains, slice_get}
 use Rattle.blink_batch.specs.declared.Entry.{Entry}
 use Rattle.blink_batch.specs.PlainMap.{entry, pointer_of}
 use Rattle.blink_index.proofs.Offered.{entry-from_pointer}
-use Rattle.blink_live.specs.declared.keeper.Keeper.{Keeper}
+use Rattle.blink_live.specs.declared.live.Keeper.{Keeper}
 use Rattle.blink_live.specs.declared.live.Live.{Live}
-use Rattle.blink_live.specs.declared.pass.Pass.{Pass}
+use Rattle.blink_live.specs.declared.live.Pass.{Pass}
 use Rattle.blink_live.specs.Handles.{keys_of, opening_of, share_of, taken_of}
 use Rattle.blink_live.specs.Merge.{IsMerge}
 

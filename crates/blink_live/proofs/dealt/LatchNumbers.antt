@@ -1,9 +1,9 @@
 -- A pass with rows has a latch number that no pass before it has, nor one after it.
 use Rattle.std.proofs.Common.{◌≡◌, ℕ, ◌+◌, ◌<◌, ◌≤◌, List, ap, arith}
 use Rattle.blink_rows.specs.declared.span.Span.{Span}
-use Rattle.blink_live.specs.declared.keeper.Keeper.{Keeper}
+use Rattle.blink_live.specs.declared.live.Keeper.{Keeper}
 use Rattle.blink_live.specs.declared.live.Live.{Live}
-use Rattle.blink_live.specs.declared.pass.Pass.{Pass}
+use Rattle.blink_live.specs.declared.live.Pass.{Pass}
 use Rattle.blink_live.specs.Deals.{HasDealt, IsDealt, rows_for}
 use Rattle.blink_live.specs.Handles.{latch_number_of}
 

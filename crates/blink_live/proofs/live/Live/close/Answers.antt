@@ -9,9 +9,9 @@ use Rattle.blink_rows.specs.Counts.{PlainCounts}
 use Rattle.blink_machine.specs.TreeMap.{IsMapOf, pairs_of}
 use Rattle.blink_machine.proofs.Offered.{entries_from-pairs_of}
 use Rattle.blink_store.specs.Store.{PlainStore}
-use Rattle.blink_live.specs.declared.pass.Pass.{Pass}
+use Rattle.blink_live.specs.declared.live.Pass.{Pass}
 use Rattle.blink_live.specs.declared.view.Role.{Role}
-use Rattle.blink_live.specs.declared.keeper.Keeper.{Keeper}
+use Rattle.blink_live.specs.declared.live.Keeper.{Keeper}
 use Rattle.blink_live.specs.declared.live.Live.{Live}
 use Rattle.blink_live.specs.declared.view.Role.TheVariants.{Keeper as KeeperRole}
 use Rattle.atomic_table.specs.Table.{Final, Seen}
@@ -75,14 +75,12 @@ merges live keeper passes words store end taken_is is =
           ∙ end.others key (subst (λ (taken : List ℕ). ¬ Contains taken key) (sym taken_is) free);
     }
 
--- src/close.rt:57:13
 pub tree_at_end-tree-requires-clause-tree : goal.tree_at_end-tree-requires-clause-tree
 tree_at_end-tree-requires-clause-tree c =
     let end = its_end c.args.self c.args.keeper c.args.passes.items c.take_back.new.seat.id c.take_back.new.seat.me (slots_items c.close_with-closed.result.words) (slots_items c.close_with-closed.result.slots)
     c.take_back.ensures.back (enough c.args.keeper.dealt c.len.result (length c.args.passes.items) (c.len.ensures ∙ c.args.passes.ok.0) c.if-len-keeper.false) c.close_with-closed.ensures.values.2 in
     (end.now, its_tree c.args.self (view_at_end c.args.keeper c.args.passes.items) (slots_items c.close_with-closed.result.words) end)
 
--- src/close.rt:43:5
 pub returns-in-Ok-clause-entries : goal.returns-in-Ok-clause-entries
 returns-in-Ok-clause-entries c =
     let words = slots_items c.close_with-closed.result.words in

@@ -7,11 +7,9 @@ use Rattle.blink_live.specs.Handles.{taken_of}
 use Rattle.blink_live.proofs.dealt.RefusalsOfDeal.{same_refusal}
 use Rattle.blink_live.proofs.live.Live.deal.Goals as goal
 
--- src/deal.rt:47:29
 pub hand_out-requires-clause-taken : goal.hand_out-requires-clause-taken
 hand_out-requires-clause-taken c = subst (λ (l : List ℕ). (key : ℕ) → Contains c.in-Ok.taken.items key ↔ (Contains (taken_of c.args.keeper.now) key ⊎ Contains l key)) c.deref.ensures.value c.in-Ok.ensures.all
 
--- src/deal.rt:30:5
 pub returns-in-Err-clause-taken : goal.returns-in-Err-clause-taken
 returns-in-Err-clause-taken c key =
     let told = subst (λ (keys : List ℕ). IsErrOf c.taken_with.result (Taken key) ↔ IsFirstTaken (taken_of c.args.keeper.now) keys key) c.deref.ensures.value (c.taken_with.ensures.taken key) in (
@@ -19,7 +17,6 @@ returns-in-Err-clause-taken c key =
       λ first. ap (λ (e : LiveError). Err e) (same_refusal c.in-Err.refusal (Taken key) (sym c.in-Err.is ∙ told.1 first)),
     )
 
--- src/deal.rt:30:5
 pub returns-in-Err-clause-no_allowance : goal.returns-in-Err-clause-no_allowance
 returns-in-Err-clause-no_allowance c =
     let keeper = c.args.keeper.now in

@@ -6,7 +6,6 @@ use Rattle.blink_live.proofs.dealt.KeeperCanDeal.{keeper_can_deal}
 use Rattle.blink_live.proofs.dealt.KeysOfShare.{same_entries}
 use Rattle.blink_live.proofs.live.Live.hand_out.Goals as goal
 
--- src/deal.rt:79:13
 pub split-seat-requires-clause-can : goal.split-seat-requires-clause-can
 split-seat-requires-clause-can c =
     let can = keeper_can_deal c.args.keeper.now c.args.keys.items c.sort_unstable.new.self.items c.args.taken_now.items c.args.inserts c.args.deletes
@@ -14,7 +13,6 @@ split-seat-requires-clause-can c =
     subst (λ (x : (ℕ × ℕ) × (List ℕ × List ℕ)). CanDeal c.args.keeper.now.seat.me.0 x.0.0 x.0.1 x.1.0 x.1.1)
     (λ i. ((44 * sym c.from.ensures i + sym c.from-2.ensures i, 22 * sym c.from-page_count.ensures i), (sym c.deref.ensures.value i, sym c.deref-2.ensures.value i))) can
 
--- src/deal.rt:53:5
 pub returns-clause-dealt : goal.returns-clause-dealt
 returns-clause-dealt c =
     let right = c.split-seat.ensures.right in

@@ -4,7 +4,6 @@ use Rattle.blink_live.specs.Views.{plan_of}
 use Rattle.blink_live.proofs.dealt.DealsKeepTable.{deals_keep_table}
 use Rattle.blink_live.proofs.live.Live.split.Goals as goal
 
--- src/deal.rt:106:9
 pub split_seat-requires : goal.split_seat-requires
 split_seat-requires g c =
     let seat = c.args.seat.now in

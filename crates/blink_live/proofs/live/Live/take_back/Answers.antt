@@ -1,6 +1,6 @@
 use Rattle.std.proofs.Common.{◌≡◌, ◌+◌, List, [], ◌∷◌, ◌++◌, length, sym, ap, ◌∙◌, refl, append_assoc, arith}
 use mathlib.Core.List.{append-nil}
-use Rattle.blink_live.specs.declared.pass.Pass.{Pass}
+use Rattle.blink_live.specs.declared.live.Pass.{Pass}
 use Rattle.blink_live.specs.declared.view.View.{View}
 use Rattle.blink_live.specs.declared.view.Role.{Role}
 use Rattle.blink_live.specs.Merge.{shares_of}

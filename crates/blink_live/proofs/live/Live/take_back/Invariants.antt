@@ -1,5 +1,5 @@
 use Rattle.std.proofs.Common.{◌≡◌, List, ◌++◌, length}
-use Rattle.blink_live.specs.declared.pass.Pass.{Pass}
+use Rattle.blink_live.specs.declared.live.Pass.{Pass}
 use Rattle.blink_live.specs.Merge.{shares_of}
 use Rattle.blink_live.specs.Views.{plan_of, takes_all_back}
 use Rattle.blink_live.proofs.live.Live.take_back.Given as goal

@@ -7,7 +7,6 @@ use Rattle.blink_live.specs.Views.{plan_of, takes_back, spent}
 use Rattle.blink_live.proofs.closed.TakingBackKeepsTable.{taking_back_keeps_table}
 use Rattle.blink_live.proofs.live.Live.take_one.Goals as goal
 
--- src/close.rt:95:9
 pub join_seat-requires : goal.join_seat-requires
 join_seat-requires g c =
     let key = c.args.self.now.table.shared.key in
