@@ -1,0 +1,127 @@
+#!/bin/sh
+# Looks whether the documents say what is there: links and their anchors, paths, must-fail edits and names in backticks, and that no
+# old word stands in them. It prints a line for each finding and exits 1, or prints nothing and exits 0. A new old word goes to `old`.
+LC_ALL=C
+export LC_ALL
+cd "$(dirname "$0")/.." || exit 1
+work=$(mktemp -d) || exit 1
+trap 'rm -rf "$work"' EXIT
+
+documents="README.md docs/*.md crates/*/README.md"
+
+# Names of code that were renamed, and words of prose that the field has others for.
+old='IsSound|Sound|SoundRun|SoundTree|SoundStatements|StepKeepsSound|TurnKeepsSoundRun|sound'
+old="$old"'|Moment|Moments|moment|moments|moment_of|moment_with|turns_between_moments'
+old="$old"'|IsLoose|loose|loose_at|loose_of|in no chain|stands? in no chain'
+old="$old"'|IsShort|way_left|room_to|Ledger|PlainLedger|AreLinks|AreFirsts|TakesTurn|TakesSomeTurn|TurnsPage|StepsPage|stopped_book'
+old="$old"'|Desk|desk|Outlet|Outlets|outlet|outlets|Pours|BreaksOff|GoesOut|LeavesLines|LeavesPart|LeavesFront'
+old="$old"'|Plays|Plays\.antt|Sat|drafts?|drafted|has_drafted|draft_row|DraftsKeepTable|RowsAreDrafted'
+old="$old"'|NUMBERS_OF_INSERTION|ROWS_OF_INSERTION|MOST_PASSES|is_too_large'
+old="$old"'|SawFrontOf|OneIsFront|FrontsOfOneList|IsAmong|StandsIn|fronts|fronts? of'
+
+# shellcheck disable=SC2086
+grep -nwE "$old" $documents | while IFS=: read -r file line text; do
+    word=$(printf '%s\n' "$text" | grep -owE "$old" | head -n 1)
+    echo "$file:$line: old word: $word"
+done >"$work/found"
+
+# Every .md file, without what a build leaves; of each the lines outside code blocks.
+find . \( -name .git -o -name out \) -prune -o -name '*.md' -print | sed 's|^\./||' | sort >"$work/pages"
+
+prose() {
+    awk '/^```/ { code = !code; print ""; next } { print code ? "" : $0 }' "$1"
+}
+
+# The anchors of a page's headings.
+anchors() {
+    prose "$1" | sed -n 's/^#\{1,6\} *//p' | tr 'A-Z' 'a-z' | sed 's/[^a-z0-9 _-]//g; s/ /-/g'
+}
+
+while read -r page; do
+    folder=$(dirname "$page")
+    # backticks first: what stands in them is no link
+    prose "$page" | sed 's/`[^`]*`//g' | grep -no '\](\([^)]*\))' | sed 's/\](//; s/)$//; s/ ".*"$//' | while IFS=: read -r line target; do
+        case $target in
+            *://* | mailto:*) continue ;;
+        esac
+        file=${target%%#*}
+        anchor=${target#"$file"}
+        anchor=${anchor#\#}
+        if [ -z "$file" ]; then
+            there=$page
+        else
+            there=$folder/$file
+        fi
+        if [ ! -e "$there" ]; then
+            echo "$page:$line: no such file: $target"
+            continue
+        fi
+        case $there in
+            *.md)
+                if [ -n "$anchor" ] && ! anchors "$there" | grep -qxF -e "$anchor"; then
+                    echo "$page:$line: no such anchor: $target"
+                fi
+                ;;
+        esac
+    done
+done <"$work/pages" >>"$work/found"
+
+# What stands in backticks, a line each: page:line:text.
+while read -r page; do
+    prose "$page" | grep -no '`[^`]*`' | sed 's/`//g' | sed "s|^|$page:|"
+done <"$work/pages" >"$work/quoted"
+
+# The sources, and whatever else is no document.
+find . \( -name .git -o -name out -o -name '*.md' -o -name '*.png' -o -name '*.html' \) -prune -o -type f -print | sed 's|^\./||' >"$work/files"
+
+# Paths: from the top, of a crate by its name, or of some crate; and names of files.
+while IFS=: read -r page line text; do
+    case $text in
+        *[!A-Za-z0-9_./-]*) continue ;;
+        */*) ;;
+        ?*.rt | ?*.antt | ?*.sh | ?*.edit)
+            grep -qE "(^|/)$text\$" "$work/files" || echo "$page:$line: no file has this name: $text"
+            continue
+            ;;
+        *) continue ;;
+    esac
+    path=${text#./}
+    case $path in
+        crates/* | docs/* | examples/* | bench/*)
+            [ -e "$path" ] || echo "$page:$line: no such path: $text"
+            ;;
+        src/* | specs/* | proofs/* | must-fail/* | page/*)
+            there=no
+            for crate in crates/*; do
+                [ -e "$crate/$path" ] && there=yes
+            done
+            [ $there = yes ] || echo "$page:$line: no crate has: $text"
+            ;;
+        *)
+            crate=${path%%/*}
+            rest=${path#*/}
+            if [ -d "crates/$crate" ]; then
+                [ -e "crates/$crate/$rest" ] || [ -e "crates/$crate/must-fail/$rest.edit" ] \
+                    || echo "$page:$line: crate $crate has no $rest"
+            fi
+            ;;
+    esac
+done <"$work/quoted" >>"$work/found"
+
+# Names: with an underscore, or with capital and small letters. Each stands in some source or file name; this script is none.
+{
+    grep -v '^docs/' "$work/files" | tr '\n' '\0' | xargs -0 cat
+    cat "$work/files"
+} | tr -cs 'A-Za-z0-9_' '\n' | sort -u >"$work/words"
+sed 's/^\([^:]*:[0-9]*\):.*/\1/' "$work/quoted" >"$work/places"
+sed 's/^[^:]*:[0-9]*://; s/[^A-Za-z0-9_]/ /g' "$work/quoted" | paste "$work/places" - | awk -v words="$work/words" '
+    BEGIN { while ((getline word < words) > 0) known[word] = 1 }
+    {
+        for (i = 2; i <= NF; i++)
+            if (($i ~ /_/ || $i ~ /^[A-Z].*[a-z]/) && $i ~ /[a-zA-Z].*[a-zA-Z]/ && length($i) > 2 && !($i in known))
+                print $1 ": no such name: " $i
+    }' | sort -u >>"$work/found"
+
+[ ! -s "$work/found" ] && exit 0
+sort -u "$work/found" | sort -s -t: -k1,1 -k2,2n
+exit 1
