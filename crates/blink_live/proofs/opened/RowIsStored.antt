@@ -1,5 +1,5 @@
 -- What is so of a table's words when a row is stored behind a number and named in the number's page word.
-use Rattle.std.proofs.Common.{◌≡◌, ◌≢◌, ◌⊎◌, inl, inr, ℕ, ◌+◌, ◌-◌, ◌<◌, ◌≤◌, List, ◌++◌, length, get_or, set, take, drop, sym, ap, ◌∙◌, arith, length-append, length-drop, length-set, get_or-set_same, get_or-set_other}
+use Rattle.std.proofs.Common.{◌≡◌, inl, inr, ℕ, ◌+◌, ◌-◌, ◌<◌, ◌≤◌, List, ◌++◌, length, get_or, set, take, drop, sym, ap, ◌∙◌, arith, length-append, length-drop, length-set, get_or-set_same, get_or-set_other}
 use Rattle.std.proofs.lemmas.List.{length-take-le, get_or-take, get_or-drop, get_or_append_left, get_or-append_right}
 use borrow.Rule.Slice.PartMut.{put_mid}
 use Rattle.blink_rows.specs.Counts.{PlainCounts}
@@ -53,7 +53,7 @@ row_is_stored counts words row stored number named start count width in_numbers 
           ∙ (within old stored start count inside long i (omega (arith, less, is_count)) ∙ ap (λ (l : List ℕ). get_or l i 0) is_row);
       others = λ place other outside. stays place outside ∙ get_or-set_other words number place named 0 other;
     }
-    where
+  where
     stays : (place : ℕ) → IsOutside counts (number + 1) place → get_or (put_mid start count (set words number named) stored) place 0 ≡ get_or (set words number named) place 0
     stays place (inl less) =
         let at = is_start ∙ ap (row_start counts) is_named in

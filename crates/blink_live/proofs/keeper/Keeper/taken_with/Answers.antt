@@ -1,9 +1,9 @@
-use Rattle.std.proofs.Common.{◌≡◌, ◌⊎◌, ◌↔◌, ℕ, Option, None, List, IfSome, Ok, Err, Vec, Global, refl, sym, subst, false, true}
+use Rattle.std.proofs.Common.{◌≡◌, ◌⊎◌, ◌↔◌, ℕ, Option, None, List, IfSome, Ok, Err, Vec, Global, refl, subst, false, true}
 use Rattle.std.specs.Prelude.{Contains, IfNone}
-use Rattle.blink_live.specs.declared.error.LiveError.TheVariants.{DealOutOfMemory, NoAllowance, Taken}
+use Rattle.blink_live.specs.declared.error.LiveError.TheVariants.{DealOutOfMemory}
 use Rattle.blink_live.specs.Deals.{IsFirstTaken, NoneIsTaken, IsDealRefusal, LacksAllowance}
 use Rattle.blink_live.specs.Handles.{taken_of}
-use Rattle.blink_live.proofs.dealt.RefusalsOfDeal.{Tells, tells_first, tells_lack, tells_neither}
+use Rattle.blink_live.proofs.dealt.RefusalsOfDeal.{tells_first, tells_lack, tells_neither}
 use Rattle.blink_live.proofs.keeper.Keeper.taken_with.Goals as goal
 
 none_taken : (taken before keys : List ℕ) (first : Option ℕ) → taken ≡ before → first ≡ None → IfNone first (NoneIsTaken taken keys) → NoneIsTaken before keys
@@ -13,7 +13,7 @@ pub returns-in-Some : goal.returns-in-Some
 returns-in-Some c =
     let before : List ℕ = taken_of c.args.self.now in
     let found : IsFirstTaken before c.args.keys.now c.in-Some.key =
-        subst (λ (x : List ℕ × Option ℕ). IfSome x.1 (IsFirstTaken x.0 c.args.keys.now)) (λ i. (c.deref.ensures.value i, c.in-Some.is i)) c.first_taken-found.ensures.first in
+    subst (λ (x : List ℕ × Option ℕ). IfSome x.1 (IsFirstTaken x.0 c.args.keys.now)) (λ i. (c.deref.ensures.value i, c.in-Some.is i)) c.first_taken-found.ensures.first in
     let tells = tells_first {T = Vec ℕ Global} before c.args.keys.now (LacksAllowance c.args.self.now c.args.inserts c.args.deletes) c.in-Some.key found in record {
       free = tt;
       allowed = tt;

@@ -1,10 +1,9 @@
-use Rattle.std.proofs.Common.{◌≡◌, ℕ, ◌+◌, ◌-◌, ◌≤◌, List, sym, ap, ◌∙◌, subst, arith}
+use Rattle.std.proofs.Common.{ℕ, ◌+◌, ◌-◌, ◌≤◌, List, sym, ap, ◌∙◌, subst}
 use Rattle.std.specs.Prelude.{Contains}
 use Rattle.blink_batch.specs.Operation.{key_of}
 use Rattle.blink_rows.specs.declared.span.Span.{Span}
 use Rattle.blink_live.specs.Allowed.{AreForChanges}
 use Rattle.blink_live.specs.declared.view.Share.{Share}
-use Rattle.blink_live.specs.declared.view.View.{View}
 use Rattle.blink_live.specs.Views.{span, rows_of, pages_of}
 use Rattle.blink_live.proofs.changed.UpdatesGoOn.{after_call}
 use Rattle.blink_live.proofs.dealt.ChangesLeft.{takes_some}

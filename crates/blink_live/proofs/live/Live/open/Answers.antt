@@ -53,7 +53,7 @@ invariant_of-keeper c =
     let rows : c.counts.inside.rows ≡ c.of-counts.result.rows = ap (λ (k : PlainCounts). k.rows) c.counts.view_is in
     let pages : c.page_count-count.result ≡ length c.of.result.value.pages = c.page_count-count.ensures.count ∙ ap (λ (s : PlainStore). length s.pages) (sym c.of.ensures) in
     let first = opened_for_changes c.page_count-count.result c.args.allowance.inserts c.args.allowance.deletes (span (c.from-2.result + 1) c.counts.inside.numbers) (span (c.from.result + 2) (c.counts.inside.rows + 1))
-            (λ i. span (c.from-2.ensures i + 1) ((numbers ∙ c.of-counts.ensures.numbers) i)) (λ i. span (c.from.ensures i + 2) ((rows ∙ c.of-counts.ensures.rows) i + 1)) in record {
+    (λ i. span (c.from-2.ensures i + 1) ((numbers ∙ c.of-counts.ensures.numbers) i)) (λ i. span (c.from.ensures i + 2) ((rows ∙ c.of-counts.ensures.rows) i + 1)) in record {
       taken_are = c.new.ensures.items ∙ sym (ap (λ (x : SeatState). x.0.taken) made.4);
       rows_are = (λ i. span ((c.from.ensures ∙ pages) i + 2) (rows i + 1)) ∙ sym (ap (λ (x : SeatState). x.0.rows) made.4);
       pages_are = (λ i. span ((c.from-2.ensures ∙ pages) i + 1) (numbers i)) ∙ sym (ap (λ (x : SeatState). x.0.pages) made.4);
