@@ -1,8 +1,10 @@
 -- The changes of all keys, in the order in which they became so, and what they leave of the opening entries.
-use Rattle.std.specs.Prelude.{ℕ, List, [], ◌∷◌, ◌==◌, if◌then◌else◌, Option, Some, None}
+use Rattle.std.specs.Prelude.{ℕ, List, [], ◌∷◌, ◌==◌, if◌then◌else◌, Option, Bool, true, false}
 use mathlib.Core.List.{IsPrefix}
+use Rattle.blink_batch.specs.declared.Answer.{Answer}
+use Rattle.blink_batch.specs.declared.Answer.TheVariants.{Inserted, Removed, Replaced}
 use Rattle.blink_batch.specs.declared.Op.{Op}
-use Rattle.blink_batch.specs.declared.Op.TheVariants.{Insert, Delete, Replace}
+use Rattle.blink_batch.specs.Operation.{answer_at, cell_after, key_of}
 use Rattle.blink_live.specs.declared.view.Change.{Change}
 use Rattle.blink_live.specs.declared.view.View.{View}
 
@@ -25,12 +27,16 @@ abbrev pub last_state : Option ℕ → List (Option ℕ) → Option ℕ
 last_state first [] = first
 last_state first (state ∷ rest) = last_state state rest
 
+-- an operation that answers so has made a change: also where it replaced a pointer by the same one
+abbrev pub has_changed : Answer → Bool
+has_changed Inserted = true
+has_changed (Removed kept) = true
+has_changed (Replaced kept) = true
+has_changed answer = false
+
 -- what an operation changes, where its key keeps this
 abbrev pub changes_made : Op → Option ℕ → List Change
-changes_made (Insert key pointer) None = record { key = key; pointer = Some pointer } ∷ []
-changes_made (Delete key) (Some kept) = record { key = key; pointer = None } ∷ []
-changes_made (Replace key pointer) (Some kept) = record { key = key; pointer = Some pointer } ∷ []
-changes_made op kept = []
+changes_made op kept = if has_changed (answer_at op kept) then record { key = key_of op; pointer = cell_after op kept } ∷ [] else []
 
 -- whoever sees these has seen all that it saw and was told of before
 pub record Learns (v : View) (seen : List Change) : Type 0 where

@@ -4,7 +4,7 @@ use mathlib.Core.List.{IsPrefix}
 use Rattle.atomic_table.specs.Table.{Me}
 use Rattle.blink_batch.specs.declared.Entry.{Entry}
 use Rattle.blink_batch.specs.declared.Op.{Op}
-use Rattle.blink_batch.specs.declared.Op.TheVariants.{Find, Insert, Delete, Replace}
+use Rattle.blink_batch.specs.declared.Op.TheVariants.{Find, Insert}
 use Rattle.blink_batch.specs.Operation.{key_of, map_after}
 use Rattle.blink_batch.specs.PlainMap.{pointer_of}
 use Rattle.blink_index.specs.Index.{map_of}
@@ -103,14 +103,11 @@ reading v after way row words seen = record v { operation = goes_on after after.
 abbrev pub rows_of : Op → ℕ
 rows_of (Find key) = 0
 rows_of (Insert key pointer) = MAX_ROWS_PER_INSERT
-rows_of (Delete key) = 1
-rows_of (Replace key pointer) = 1
+rows_of op = 1
 
 abbrev pub pages_of : Op → ℕ
-pages_of (Find key) = 0
 pages_of (Insert key pointer) = MAX_NEW_PAGES_PER_INSERT
-pages_of (Delete key) = 0
-pages_of (Replace key pointer) = 0
+pages_of op = 0
 
 -- they are there
 pub record CanBegin (v : View) (op : Op) : Type 0 where

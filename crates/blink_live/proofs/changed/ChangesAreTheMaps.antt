@@ -1,17 +1,16 @@
 -- The change that an operation makes does to the entries, key by key, what the operation does to the map.
-use Rattle.std.proofs.Common.{◌≡◌, ◌≢◌, ℕ, Bool, Option, Some, None, List, [], ◌∷◌, ◌++◌, refl, sym, ap, ◌∙◌, subst, eq-eqb, ne_eqb}
+use Rattle.std.proofs.Common.{◌≡◌, ◌≢◌, ℕ, Bool, true, false, Option, Some, None, List, [], ◌∷◌, ◌++◌, refl, sym, ap, ◌∙◌, subst, eq-eqb, ne_eqb}
 use Rattle.std.specs.Prelude.{if◌then◌else◌}
 use mathlib.Core.Logic.{dite}
 use native.Mathlib.Decide.{ℕ_discrete}
 use Rattle.blink_batch.specs.declared.Entry.{Entry}
 use Rattle.blink_batch.specs.declared.Op.{Op}
-use Rattle.blink_batch.specs.declared.Op.TheVariants.{Find, Insert, Delete, Replace}
-use Rattle.blink_batch.specs.Cell.{cell_after}
-use Rattle.blink_batch.specs.Operation.{key_of, map_after}
+use Rattle.blink_batch.specs.declared.Op.TheVariants.{Find}
+use Rattle.blink_batch.specs.Operation.{answer_at, cell_after, key_of, map_after, map_at}
 use Rattle.blink_batch.specs.PlainMap.{pointer_of}
 use Rattle.blink_batch.proofs.Offered.{pointer_of-map_after_own, pointer_of-map_after_other}
 use Rattle.blink_live.specs.declared.view.Change.{Change}
-use Rattle.blink_live.specs.Changes.{put, after, states_of, changes_made}
+use Rattle.blink_live.specs.Changes.{put, after, states_of, changes_made, has_changed}
 use Rattle.blink_live.proofs.table.MapsWithOneChange.{put_here, put_else}
 
 pub after-append : (f : ℕ → Option ℕ) (xs ys : List Change) (key : ℕ) → after f (xs ++ ys) key ≡ after (after f xs) ys key
@@ -30,34 +29,51 @@ states_of-append key (change ∷ xs) ys = dite (ℕ_discrete change.key key)
     ∙ (states_of-append key xs ys
     ∙ ap (λ (b : Bool). (if b then change.pointer ∷ states_of key xs else states_of key xs) ++ states_of key ys) (sym (ne_eqb change.key key ne))))
 
+-- an operation that doesn't answer that it made a change leaves what its key keeps, and the map
+stays_unchanged : (op : Op) (kept : Option ℕ) → has_changed (answer_at op kept) ≡ false → cell_after op kept ≡ kept
+stays_unchanged (Find key) kept none = refl
+stays_unchanged op (Some kept) none = cc
+stays_unchanged op None none = cc
+
+pub map_unchanged : (op : Op) (kept : Option ℕ) (map : List Entry) → has_changed (answer_at op kept) ≡ false → map_at op kept map ≡ map
+map_unchanged (Find key) kept map none = refl
+map_unchanged op (Some kept) map none = cc
+map_unchanged op None map none = cc
+
+-- one change or none, at another key and at its own
+module _ (change : Change) where
+  abbrev at_most : Bool → List Change
+  at_most is_made = if is_made then change ∷ [] else []
+
+  none_else : (is_made : Bool) (key : ℕ) → change.key ≢ key → states_of key (at_most is_made) ≡ []
+  none_else true key differ = ap (λ (b : Bool). if b then change.pointer ∷ [] else []) (ne_eqb change.key key differ)
+  none_else false key differ = refl
+
+  stays_else : (f : ℕ → Option ℕ) (is_made : Bool) (key : ℕ) → change.key ≢ key → after f (at_most is_made) key ≡ f key
+  stays_else f true key differ = put_else f change.key key change.pointer (λ e. differ (sym e))
+  stays_else f false key differ = refl
+
+  becomes_here : (f : ℕ → Option ℕ) (is_made : Bool) → (is_made ≡ false → f change.key ≡ change.pointer) → after f (at_most is_made) change.key ≡ change.pointer
+  becomes_here f true is = put_here f change.key change.pointer
+  becomes_here f false is = is refl
+
+-- what an operation changes, where it changes something
+abbrev change_of : Op → Option ℕ → Change
+change_of op kept = record { key = key_of op; pointer = cell_after op kept }
+
+pub none_made : (op : Op) (kept : Option ℕ) → has_changed (answer_at op kept) ≡ false → changes_made op kept ≡ []
+none_made op kept none = ap (at_most (change_of op kept)) none
+
 -- of another key nothing is changed
 pub none_of_other : (op : Op) (kept : Option ℕ) (key : ℕ) → key_of op ≢ key → states_of key (changes_made op kept) ≡ []
-none_of_other (Find k) kept key differ = refl
-none_of_other (Insert k pointer) (Some kept) key differ = refl
-none_of_other (Insert k pointer) None key differ = ap (λ (b : Bool). if b then Some pointer ∷ [] else []) (ne_eqb k key differ)
-none_of_other (Delete k) (Some kept) key differ = ap (λ (b : Bool). if b then None ∷ [] else []) (ne_eqb k key differ)
-none_of_other (Delete k) None key differ = refl
-none_of_other (Replace k pointer) (Some kept) key differ = ap (λ (b : Bool). if b then Some pointer ∷ [] else []) (ne_eqb k key differ)
-none_of_other (Replace k pointer) None key differ = refl
+none_of_other op kept key differ = none_else (change_of op kept) (has_changed (answer_at op kept)) key differ
 
 pub other_stays : (f : ℕ → Option ℕ) (op : Op) (kept : Option ℕ) (key : ℕ) → key_of op ≢ key → after f (changes_made op kept) key ≡ f key
-other_stays f (Find k) kept key differ = refl
-other_stays f (Insert k pointer) (Some kept) key differ = refl
-other_stays f (Insert k pointer) None key differ = put_else f k key (Some pointer) (λ e. differ (sym e))
-other_stays f (Delete k) (Some kept) key differ = put_else f k key None (λ e. differ (sym e))
-other_stays f (Delete k) None key differ = refl
-other_stays f (Replace k pointer) (Some kept) key differ = put_else f k key (Some pointer) (λ e. differ (sym e))
-other_stays f (Replace k pointer) None key differ = refl
+other_stays f op kept key differ = stays_else (change_of op kept) f (has_changed (answer_at op kept)) key differ
 
 -- and of its own key as the cell is
 own_becomes : (f : ℕ → Option ℕ) (op : Op) (kept : Option ℕ) → f (key_of op) ≡ kept → after f (changes_made op kept) (key_of op) ≡ cell_after op kept
-own_becomes f (Find k) kept is = is
-own_becomes f (Insert k pointer) (Some kept) is = is
-own_becomes f (Insert k pointer) None is = put_here f k (Some pointer)
-own_becomes f (Delete k) (Some kept) is = put_here f k None
-own_becomes f (Delete k) None is = is
-own_becomes f (Replace k pointer) (Some kept) is = put_here f k (Some pointer)
-own_becomes f (Replace k pointer) None is = is
+own_becomes f op kept is = becomes_here (change_of op kept) f (has_changed (answer_at op kept)) (λ none. is ∙ sym (stays_unchanged op kept none))
 
 -- so where a map keeps of the operation's key and of this one what the changes leave, the map after the operation keeps of it what they leave with its own
 pub map_is_changed : (opening : ℕ → Option ℕ) (log : List Change) (map : List Entry) (op : Op) (kept : Option ℕ) → pointer_of map (key_of op) ≡ kept → after opening log (key_of op) ≡ kept

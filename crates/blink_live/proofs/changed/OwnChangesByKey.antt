@@ -1,26 +1,23 @@
 -- What an operation adds to its pass's own changes, key by key.
-use Rattle.std.proofs.Common.{◌≡◌, ◌≢◌, ℕ, Bool, Option, Some, None, List, [], ◌∷◌, ◌++◌, map, refl, ap, ◌∙◌, subst, eq-eqb}
+use Rattle.std.proofs.Common.{◌≡◌, ◌≢◌, ℕ, Bool, true, false, Option, List, [], ◌∷◌, ◌++◌, map, refl, ap, ◌∙◌, subst, eq-eqb}
 use Rattle.std.specs.Prelude.{if◌then◌else◌, Contains}
 use mathlib.Core.List.{append-nil}
 use Rattle.blink_batch.specs.declared.Op.{Op}
-use Rattle.blink_batch.specs.declared.Op.TheVariants.{Find, Insert, Delete, Replace}
-use Rattle.blink_batch.specs.Operation.{key_of}
+use Rattle.blink_batch.specs.Operation.{answer_at, cell_after, key_of}
 use Rattle.blink_batch.specs.PlainMap.{pointer_of}
 use Rattle.blink_live.specs.declared.live.Pass.{Pass}
 use Rattle.blink_live.specs.declared.view.Change.{Change}
-use Rattle.blink_live.specs.Changes.{states_of, changes_made}
+use Rattle.blink_live.specs.Changes.{states_of, changes_made, has_changed}
 use Rattle.blink_live.specs.Handles.{IsChangedBy, changes_by, keys_of, own_changes_of, seen_changes_of, share_of}
 use Rattle.blink_live.proofs.changed.ChangesAreTheMaps.{states_of-append, none_of_other}
 
+states_if : (is_made : Bool) (change : Change) → states_of change.key (if is_made then change ∷ [] else []) ≡ map (λ (made : Change). made.pointer) (if is_made then change ∷ [] else [])
+states_if true change = ap (λ (b : Bool). if b then change.pointer ∷ [] else []) (eq-eqb change.key change.key refl)
+states_if false change = refl
+
 -- all that it changes is its own key
 states_made : (op : Op) (kept : Option ℕ) → states_of (key_of op) (changes_made op kept) ≡ map (λ (change : Change). change.pointer) (changes_made op kept)
-states_made (Find key) kept = refl
-states_made (Insert key pointer) (Some kept) = refl
-states_made (Insert key pointer) None = ap (λ (b : Bool). if b then Some pointer ∷ [] else []) (eq-eqb key key refl)
-states_made (Delete key) (Some kept) = ap (λ (b : Bool). if b then None ∷ [] else []) (eq-eqb key key refl)
-states_made (Delete key) None = refl
-states_made (Replace key pointer) (Some kept) = ap (λ (b : Bool). if b then Some pointer ∷ [] else []) (eq-eqb key key refl)
-states_made (Replace key pointer) None = refl
+states_made op kept = states_if (has_changed (answer_at op kept)) (record { key = key_of op; pointer = cell_after op kept })
 
 pub own_changes-own_key : (op : Op) (old new : Pass) → IsChangedBy op old new
     → own_changes_of new (key_of op) ≡ own_changes_of old (key_of op) ++ map (λ (change : Change). change.pointer) (changes_made op (pointer_of (share_of old) (key_of op)))

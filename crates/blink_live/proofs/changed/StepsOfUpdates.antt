@@ -1,11 +1,10 @@
 -- What each kind of step of an update makes of it.
 use Rattle.std.proofs.Common.{◌≡◌, ◌≢◌, inl, inr, ℕ, Option, Some, None, List, [], ◌∷◌, ◌++◌, ap, sym, ◌∙◌, subst, refl, append-nil}
-use Rattle.std.specs.Prelude.{IsSome, Contains}
+use Rattle.std.specs.Prelude.{false, IsSome, Contains}
 use mathlib.Core.List.{IsPrefix}
 use Rattle.blink_batch.specs.declared.Answer.{Answer}
 use Rattle.blink_batch.specs.declared.Answer.TheVariants.{Absent, Exists}
 use Rattle.blink_batch.specs.declared.Op.{Op}
-use Rattle.blink_batch.specs.declared.Op.TheVariants.{Insert, Delete, Replace}
 use Rattle.blink_batch.specs.Operation.{answer_at, answer_of, key_of, map_at}
 use Rattle.blink_batch.specs.PlainMap.{pointer_of}
 use Rattle.blink_page.specs.Page.{PlainPage}
@@ -25,9 +24,10 @@ use Rattle.blink_machine.specs.TreeState.{goes_on}
 use Rattle.blink_machine.specs.Table.{SeesPrime, SeesPage, SeesOnItsWay, SeesUnderLatch, decided_with, done, done_at, leaves_for, sets_out}
 use Rattle.blink_live.specs.declared.view.Change.{Change as MapChange}
 use Rattle.blink_live.specs.declared.view.Share.{Share}
-use Rattle.blink_live.specs.Changes.{after as after_changes, changes_made}
+use Rattle.blink_live.specs.Changes.{after as after_changes, changes_made, has_changed}
 use Rattle.blink_live.specs.AtomicSteps.{AnswersAfter, AsksPrime, CanGoOn, Decided, deciding, other, GoesOn, LoadsPage, LoadsPrime, Publishes}
 use Rattle.blink_live.specs.Updating.{SameBesideCall, IsPastDescent}
+use Rattle.blink_live.proofs.changed.ChangesAreTheMaps.{map_unchanged, none_made}
 use Rattle.blink_live.specs.Views.{SeatState, KnowsItsOwn, changed_by, reading}
 
 -- what a step of the operation makes of it and of its seat's view, but for what the call has left
@@ -92,34 +92,22 @@ goes_on_takes kind m me then past knows answer goes =
 
 -- ---- reads
 
--- an operation that changes nothing leaves the share
-changes_nothing : (op : Op) (share : Share) (kept : Option ℕ) → pointer_of share.entries (key_of op) ≡ kept → changes_made op kept ≡ [] → map_at op kept share.entries ≡ share.entries → share ≡ changed_by op share
-changes_nothing op share kept at none same =
-    let entries : share.entries ≡ map_at op (pointer_of share.entries (key_of op)) share.entries = sym same ∙ ap (λ (x : Option ℕ). map_at op x share.entries) (sym at) in
-    let changes : share.changes ≡ share.changes ++ changes_made op (pointer_of share.entries (key_of op)) =
-    sym (append-nil share.changes) ∙ (ap (λ (l : List MapChange). share.changes ++ l) (sym none) ∙ ap (λ (x : Option ℕ). share.changes ++ changes_made op x) (sym at)) in
+-- an operation that doesn't answer that it made a change leaves the share
+changes_nothing : (op : Op) (share : Share) → has_changed (answer_of share.entries op) ≡ false → share ≡ changed_by op share
+changes_nothing op share none =
+    let kept : Option ℕ = pointer_of share.entries (key_of op) in
+    let entries : share.entries ≡ map_at op kept share.entries = sym (map_unchanged op kept share.entries none) in
+    let changes : share.changes ≡ share.changes ++ changes_made op kept = sym (append-nil share.changes) ∙ ap (λ (l : List MapChange). share.changes ++ l) (sym (none_made op kept none)) in
     λ i. record { keys = share.keys; entries = entries i; changes = changes i }
-
-insertion_changes_nothing : (key pointer there : ℕ) (share : Share) (kept : Option ℕ) → pointer_of share.entries key ≡ kept → answer_at (Insert key pointer) kept ≡ Exists there → share ≡ changed_by (Insert key pointer) share
-insertion_changes_nothing key pointer there share (Some kept) at is = changes_nothing (Insert key pointer) share (Some kept) at refl refl
-insertion_changes_nothing key pointer there share None at is = absurd (cc)
-
-deletion_changes_nothing : (key : ℕ) (share : Share) (kept : Option ℕ) → pointer_of share.entries key ≡ kept → answer_at (Delete key) kept ≡ Absent → share ≡ changed_by (Delete key) share
-deletion_changes_nothing key share (Some kept) at is = absurd (cc)
-deletion_changes_nothing key share None at is = changes_nothing (Delete key) share None at refl refl
-
-replacement_changes_nothing : (key pointer : ℕ) (share : Share) (kept : Option ℕ) → pointer_of share.entries key ≡ kept → answer_at (Replace key pointer) kept ≡ Absent → share ≡ changed_by (Replace key pointer) share
-replacement_changes_nothing key pointer share (Some kept) at is = absurd (cc)
-replacement_changes_nothing key pointer share None at is = changes_nothing (Replace key pointer) share None at refl refl
 
 -- where a read under the latch answers, it answers by the share, which stays
 answers_by_share : (m after : PlainMachine) (share : Share) (kept : ℕ → Option ℕ) (op : Op) (answer : Answer) → m.op ≡ op → kept (key_of m.op) ≡ pointer_of share.entries (key_of m.op) → after.answer ≡ Some answer
-    → (answer_of share.entries op ≡ answer → share ≡ changed_by op share) → AnswersAfter kept m after → Decided m after share share
-answers_by_share m after share kept op answer same own is leaves (inl stays) = other stays refl
-answers_by_share m after share kept op answer same own is leaves (inr (none, given)) =
+    → has_changed answer ≡ false → AnswersAfter kept m after → Decided m after share share
+answers_by_share m after share kept op answer same own is unchanged (inl stays) = other stays refl
+answers_by_share m after share kept op answer same own is unchanged (inr (none, given)) =
     let by_share : after.answer ≡ Some (answer_of share.entries m.op) = given ∙ ap (λ (x : Option ℕ). Some (answer_at m.op x)) own in
     let answers : answer_of share.entries op ≡ answer = let e = sym (ap (λ (o : Op). Some (answer_of share.entries o)) same) ∙ (sym by_share ∙ is) in cc in
-    deciding none by_share (leaves answers ∙ ap (λ (o : Op). changed_by o share) (sym same))
+    deciding none by_share (changes_nothing op share (ap has_changed answers ∙ unchanged) ∙ ap (λ (o : Op). changed_by o share) (sym same))
 
 module _ (m after : PlainMachine) (number : ℕ) (page : PlainPage) (share : Share) (kept : ℕ → Option ℕ) (own : kept (key_of m.op) ≡ pointer_of share.entries (key_of m.op)) (answers : AnswersAfter kept m after) where
   abbrev Reads : Type 0
@@ -128,15 +116,15 @@ module _ (m after : PlainMachine) (number : ℕ) (page : PlainPage) (share : Sha
   under_latch : SeesUnderLatch m number page after → Reads
   under_latch (SeesUnderLatch.is_above_high_key next above right is) = (other (ap (λ (x : PlainMachine). x.answer) is) refl, subst (λ (x : PlainMachine). IsPastDescent x.state) (sym is) tt)
   under_latch (SeesUnderLatch.insertion_finds_key key pointer there below job is_op value is) = (
-    answers_by_share m after share kept (Insert key pointer) (Exists there) is_op own (ap (λ (x : PlainMachine). x.answer) is) (insertion_changes_nothing key pointer there share (pointer_of share.entries key) refl) answers,
+    answers_by_share m after share kept _ (Exists there) is_op own (ap (λ (x : PlainMachine). x.answer) is) refl answers,
     subst (λ (x : PlainMachine). IsPastDescent x.state) (sym is) tt,
   )
   under_latch (SeesUnderLatch.deletion_finds_none key below job is_op value is) = (
-    answers_by_share m after share kept (Delete key) Absent is_op own (ap (λ (x : PlainMachine). x.answer) is) (deletion_changes_nothing key share (pointer_of share.entries key) refl) answers,
+    answers_by_share m after share kept _ Absent is_op own (ap (λ (x : PlainMachine). x.answer) is) refl answers,
     subst (λ (x : PlainMachine). IsPastDescent x.state) (sym is) tt,
   )
   under_latch (SeesUnderLatch.replacement_finds_none key pointer below job is_op value is) = (
-    answers_by_share m after share kept (Replace key pointer) Absent is_op own (ap (λ (x : PlainMachine). x.answer) is) (replacement_changes_nothing key pointer share (pointer_of share.entries key) refl) answers,
+    answers_by_share m after share kept _ Absent is_op own (ap (λ (x : PlainMachine). x.answer) is) refl answers,
     subst (λ (x : PlainMachine). IsPastDescent x.state) (sym is) tt,
   )
   under_latch (SeesUnderLatch.posting_finds_separator debt child below job value is) = (other (ap (λ (x : PlainMachine). x.answer) is) refl, subst (λ (x : PlainMachine). IsPastDescent x.state) (sym is) tt)

@@ -4,7 +4,7 @@ use Rattle.std.specs.Prelude.{Contains}
 use Rattle.atomic_table.specs.declared.Seat.{Seat}
 use Rattle.blink_batch.specs.Batch.{FitsWords}
 use Rattle.blink_batch.specs.declared.Op.{Op}
-use Rattle.blink_batch.specs.declared.Op.TheVariants.{Find, Insert, Delete, Replace}
+use Rattle.blink_batch.specs.declared.Op.TheVariants.{Find}
 use Rattle.blink_batch.specs.Operation.{key_of}
 use Rattle.blink_machine.specs.declared.machine.Job.TheVariants.{Leaf}
 use Rattle.blink_machine.specs.declared.machine.State.TheVariants.{Want}
@@ -33,9 +33,7 @@ wanting m page op = record { fan = m.fan; op = op; job = Leaf; remembered = m.re
 -- all that it may need is left
 all_left : (m : PlainMachine) (page : ℕ) (op : Op) → (writes_left (wanting m page op) + primes_left (wanting m page op) ≤ rows_of op) × (numbers_left (wanting m page op) ≤ pages_of op)
 all_left m page (Find key) = (omega arith, omega arith)
-all_left m page (Insert key pointer) = (omega arith, omega arith)
-all_left m page (Delete key) = (omega arith, omega arith)
-all_left m page (Replace key pointer) = (omega arith, omega arith)
+all_left m page op = (omega arith, omega arith)
 
 left_at_leaf : (op : Op) (m : PlainMachine) (page : ℕ) → m.op ≡ op → m.job ≡ Leaf → m.state ≡ Want page → (writes_left m + primes_left m ≤ rows_of op) × (numbers_left m ≤ pages_of op)
 left_at_leaf op m page same_op same_job at =
@@ -70,9 +68,7 @@ update_begins op v first me m kept updates is read (wants_leaf page update at no
 -- it takes a row at least
 takes_a_row : (op : Op) → IsUpdate op → 1 ≤ rows_of op
 takes_a_row (Find key) updates = absurd updates
-takes_a_row (Insert key pointer) updates = omega arith
-takes_a_row (Delete key) updates = omega arith
-takes_a_row (Replace key pointer) updates = omega arith
+takes_a_row op updates = omega arith
 
 pub can_update : (live : Live) (op : Op) (own : ℕ) (first : Seat ℕ View) → IsPassSeat live first.table_id first.me → IsUpdate op → FitsWords op → own ≡ first.me.0.rows.stop - 1 → Contains first.me.0.share.keys (key_of op) → CanBegin first.me.0 op
     → AreRowsIn live.counts first.me.0.rows → AreNumbersIn live.counts first.me.0.pages → CanUpdate live op own first

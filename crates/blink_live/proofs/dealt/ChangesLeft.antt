@@ -1,7 +1,8 @@
 -- The first rows and page numbers of a keeper are enough for a pass's changes, and the rest for the changes that are left.
 use Rattle.std.proofs.Common.{◌≡◌, ◌≢◌, ℕ, ◌+◌, ◌-◌, ◌*◌, ◌≤◌, sym, subst, arith}
 use Rattle.blink_batch.specs.declared.Op.{Op}
-use Rattle.blink_batch.specs.declared.Op.TheVariants.{Find, Insert, Delete, Replace}
+use Rattle.blink_batch.specs.declared.Op.TheVariants.{Find, Insert, Delete}
+use Rattle.blink_batch.specs.Operation.{key_of}
 use Rattle.blink_machine.specs.Table.{IsUpdate}
 use Rattle.blink_page.specs.declared.limits.TheConstants.{MAX_NEW_PAGES_PER_INSERT}
 use Rattle.blink_rows.specs.declared.limits.TheConstants.{MAX_ROWS_PER_INSERT}
@@ -74,6 +75,5 @@ module _ (pages rows : Span) (changes : AreForChanges pages rows) (order : (rows
   pub takes_some : (op : Op) → IsUpdate op → changes_left op pages rows ≢ 0 → TakesSome op pages rows
   takes_some (Find key) updates some = absurd updates
   takes_some (Insert key pointer) updates some = an_insertion key pointer some
-  takes_some (Delete key) updates some = a_deletion key some
-  takes_some (Replace key pointer) updates some =
-      let as_deletion = a_deletion key some in record { enough_rows = as_deletion.enough_rows; enough_pages = as_deletion.enough_pages; some_row = as_deletion.some_row; rest = as_deletion.rest }
+  takes_some op updates some =
+      let as_deletion = a_deletion (key_of op) some in record { enough_rows = as_deletion.enough_rows; enough_pages = as_deletion.enough_pages; some_row = as_deletion.some_row; rest = as_deletion.rest }
