@@ -3,7 +3,7 @@ use Rattle.std.specs.Prelude.{◌≡◌, ◌↔◌, ℕ, ◌+◌, ◌<◌, ◌�
 use Rattle.blink_batch.specs.declared.Answer.{Answer}
 use Rattle.blink_batch.specs.declared.Entry.{Entry}
 use Rattle.blink_batch.specs.declared.Op.{Op}
-use Rattle.blink_batch.specs.declared.Op.TheVariants.{Find, Insert, Delete, Replace}
+use Rattle.blink_batch.specs.declared.Op.TheVariants.{Find, Insert}
 use Rattle.blink_batch.specs.Batch.{is_insert}
 use Rattle.blink_batch.specs.Operation.{answers, key_of, map_after, map_after_all}
 use Rattle.blink_batch.specs.Order.{lane_of, operations_at, part_of, places_from}
@@ -18,12 +18,11 @@ use Rattle.blink_run.specs.declared.live.lane.LaneRun.{LaneRun}
 use Rattle.blink_run.specs.declared.live.needs.Needs.{Needs}
 use Rattle.blink_run.specs.declared.live.threads.RunsLane.{RunsLane}
 
--- it uses one deletion of a pass: a deletion does, and a replacement
+-- it uses one deletion of a pass: an update does that isn't an insertion
 abbrev pub uses_deletion : Op → Bool
 uses_deletion (Find key) = false
 uses_deletion (Insert key pointer) = false
-uses_deletion (Delete key) = true
-uses_deletion (Replace key pointer) = true
+uses_deletion op = true
 
 -- ---- a lane
 

@@ -103,8 +103,9 @@ fn allowance_of(batch: &Batch) -> Allowance
 {
     let mut deletes = 0;
     for op in batch.ops() {
-        if let Op::Delete(_) | Op::Replace(..) = op {
-            deletes += 1;
+        match op {
+            Op::Find(_) | Op::Insert(..) => {}
+            _ => deletes += 1,
         }
     }
     Allowance {

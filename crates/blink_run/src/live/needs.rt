@@ -40,8 +40,7 @@ impl Needs {
                 match op {
                     Op::Find(_) => {}
                     Op::Insert(..) => inserts += 1,
-                    Op::Delete(_) => deletes += 1,
-                    Op::Replace(..) => deletes += 1,
+                    _ => deletes += 1,
                 }
             }
         }
