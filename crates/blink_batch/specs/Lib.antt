@@ -1,17 +1,46 @@
-pub mod Batch
-pub mod Cell
-pub mod Codes
-pub mod Cut
-pub mod LastPlaces
-pub mod Number
+-- What a caller of `blink_batch` reads, in this order; then what proofs above it need; then the files themselves.
+
+-- what an operation answers on a plain map and makes of it, and a list of operations one after another
+pub use Rattle.blink_batch.specs.Operation.{AddsEntry, StopsForMemory, answer_at, answer_of, answers, cell_after, key_of, map_after, map_after_all, pointer_with}
+-- the map that the whole index is measured by: a list of entries whose keys strictly ascend
+pub use Rattle.blink_batch.specs.PlainMap.{IsAscending, entry, pointer_of}
+-- what the operations of a batch are made of
+pub use Rattle.blink_batch.specs.Batch.{FitsWords, is_insert}
+-- how the operations of a batch are given to workers: any assignment, which one is a lawful cut, and why others aren't
+pub use Rattle.blink_batch.specs.Cut.{AreLanes, Assignment, IsAssignment, IsCutFault, IsLanesFault, IsLawfulCut, MayWork}
+-- keys cut into ranges by ascending bounds: each bound is the greatest key of its range, and one range lies behind them all
+pub use Rattle.blink_batch.specs.Ranges.{AreBadBounds, MayBound, lanes_by_ranges}
+-- a batch's operations in another order than the batch's, as workers that go on side by side decide them
+pub use Rattle.blink_batch.specs.Order.{AnswersInOrder, IsWholeOrder, lane_of, next_place, operations_at, part_of, places_from}
+-- the text of answers: a line for each
+pub use Rattle.blink_batch.specs.Text.{text_of}
+-- the script that a list of records is: its parts, or its first refusal
+pub use Rattle.blink_batch.specs.Script.{IsReadable, ReadsAs, TellsRefusal, records_of, script_of}
+-- what the script of some records is, told without a count or a recursion over them: the parts ask for what the records ask for, or there is a first record that is refused
+pub use Rattle.blink_batch.specs.ScriptLaw.{FirstRefusalIsTold, ScriptsHaveTheirParts}
+-- how numbers are spelled in scripts and on the command line
+pub use Rattle.blink_batch.specs.Number.{number_of}
+-- the number of each refusal
+pub use Rattle.blink_batch.specs.Codes.{code_of_cut_error, code_of_record_error, code_of_script_error}
+-- ---- for proofs above
+pub use Rattle.blink_batch.specs.Operation.{map_at}
+pub use Rattle.blink_batch.specs.Order.{is_worker}
+pub use Rattle.blink_batch.specs.Text.{line_of}
+-- ---- the files
 pub mod Operation
-pub mod Order
-pub mod Parts
 pub mod PlainMap
+pub mod Batch
+pub mod Cut
 pub mod Ranges
-pub mod Record
-pub mod Same
+pub mod Order
+pub mod Text
 pub mod Script
 pub mod ScriptLaw
+pub mod Record
+pub mod Number
+pub mod Codes
+pub mod Same
 pub mod Search
-pub mod Text
+pub mod Cell
+pub mod Parts
+pub mod LastPlaces

@@ -1,5 +1,5 @@
 //! Operations that are run together.
-ghost use Rattle.std.specs.Prelude.{◌≡◌, ◌<◌, ◌≤◌, ◌↔◌, List, length, All, count_by, IfOk, IsOk, IsTrue, [], Err};
+ghost use Rattle.std.specs.Prelude.{◌≡◌, ◌<◌, ◌≤◌, ◌↔◌, List, length, All, count_by, IfOk, IsOk, Err};
 ghost use Rattle.blink_batch.specs.declared.operation.Op.{Op};
 ghost use Rattle.blink_batch.specs.declared.batch.BatchError.TheVariants.{TooMany};
 ghost use Rattle.blink_batch.specs.declared.batch.TheConstants.{BATCH_LIMIT};
@@ -82,13 +82,6 @@ impl Batch {
         ensures { result ≡ length self.now }
     {
         self.ops.len()
-    }
-
-    /// Whether there is none.
-    pub fn is_empty(&self) -> bool
-        ensures { IsTrue result ↔ (self.now ≡ []) }
-    {
-        self.ops.is_empty()
     }
 
     /// How many of the operations are insertions.

@@ -2,8 +2,8 @@
 #![tactic(auto)]
 
 ghost use Rattle.std.specs.Prelude.{◌≡◌, ◌≢◌, ℕ, Some, None, [], Contains};
-ghost use Rattle.blink_batch.specs.PlainMap.{pointer_of};
-ghost use Rattle.blink_live.specs.Handles.{IsPassOf, keys_of, own_changes_of, share_of};
+ghost use Rattle.blink_batch.specs.{pointer_of};
+ghost use Rattle.blink_live.specs.{IsPassOf, keys_of, own_changes_of, share_of};
 ghost use Rattle.blink_client.specs.Shown.{IsShown};
 
 use blink_live::{Live, Pass};

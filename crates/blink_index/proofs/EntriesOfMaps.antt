@@ -7,8 +7,7 @@ use native.Mathlib.Decide.{ℕ_discrete}
 use Rattle.blink_batch.specs.declared.Answer.TheVariants.{Found}
 use Rattle.blink_batch.specs.declared.Entry.{Entry}
 use Rattle.blink_batch.specs.declared.Op.TheVariants.{Find}
-use Rattle.blink_batch.specs.Operation.{answer_at, answer_of}
-use Rattle.blink_batch.specs.PlainMap.{entry, pointer_of, IsAscending}
+use Rattle.blink_batch.specs.{answer_at, answer_of, entry, pointer_of, IsAscending}
 
 -- what is kept under a key is an entry
 pub entry-from_pointer : (map : List Entry) (key pointer : ℕ) → pointer_of map key ≡ Some pointer → Contains map (entry key pointer)

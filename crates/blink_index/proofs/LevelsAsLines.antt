@@ -1,9 +1,9 @@
 -- The levels of a tree one by one, from the top: their pages, and their lines.
 use Rattle.std.proofs.Common.{◌≡◌, ℕ, ◌+◌, ◌<◌, zero, suc, Some, None, List, [], ◌∷◌, ◌++◌, length, drop, map, get_or, refl, sym, ap, ◌∙◌, arith}
 use Rattle.blink_page.specs.declared.limits.TheConstants.{GREATEST_KEY}
-use Rattle.blink_store.specs.Store.{PlainStore, page_of}
-use Rattle.blink_rest.specs.Chain.{Pages, Cell, IsChain}
-use Rattle.blink_rest.specs.Rest.{AreChains, IsStoreAtRest}
+use Rattle.blink_store.specs.{PlainStore, page_of}
+use Rattle.blink_rest.specs.{Pages, IsChain, AreChains, IsStoreAtRest}
+use Rattle.blink_rest.specs.Chain.{Cell}
 use Rattle.blink_index.specs.Dump.{level_text, text_of}
 use Rattle.blink_index.specs.Index.{cells_of, levels_of}
 use Rattle.blink_index.specs.Laws.{TextIsOfLevels}

@@ -1,9 +1,10 @@
 -- Pages met along right links: they are those of the line that begins there.
 use Rattle.std.proofs.Common.{◌≡◌, ℕ, ◌≤◌, zero, suc, Option, Some, None, List, [], ◌∷◌, length, refl, ap, ◌∙◌, arith}
-use Rattle.blink_page.specs.Page.{PlainPage}
+use Rattle.blink_page.specs.{PlainPage}
 use Rattle.blink_page.specs.declared.limits.TheConstants.{GREATEST_KEY}
-use Rattle.blink_store.specs.Store.{PlainStore, page_of}
-use Rattle.blink_rest.specs.Chain.{Pages, Cell, AreAmong, InLine, IsChain, cell}
+use Rattle.blink_store.specs.{PlainStore, page_of}
+use Rattle.blink_rest.specs.{Pages, AreAmong, InLine, IsChain}
+use Rattle.blink_rest.specs.Chain.{Cell, cell}
 use Rattle.blink_rest.proofs.Offered.{store_numbered, walked_within}
 use Rattle.blink_index.specs.Index.{cells_from, cells_of}
 

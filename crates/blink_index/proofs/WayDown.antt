@@ -1,17 +1,14 @@
 -- The way down to a key's leaf: each page on it is one that the key belongs to, and each child is lower.
 use Rattle.std.proofs.Common.{◌≡◌, ℕ, ◌<◌, ◌≤◌, Option, Some, None, List, ap, ◌∙◌, subst, arith}
 use Rattle.std.specs.Prelude.{slice_get, length, ◌-◌}
-use Rattle.blink_page.specs.Entries.{child_for, value_at}
-use Rattle.blink_page.specs.Page.{PlainPage, IsKeyOf}
+use Rattle.blink_page.specs.{child_for, value_at, PlainPage, IsKeyOf}
 use Rattle.blink_page.specs.declared.limits.TheConstants.{GREATEST_KEY}
-use Rattle.blink_store.specs.Store.{PlainStore, page_of, HasPage}
+use Rattle.blink_store.specs.{PlainStore, page_of, HasPage}
 use Rattle.blink_store.proofs.Offered.{has_page}
-use Rattle.blink_rest.specs.Entries.{AreEntries}
-use Rattle.blink_rest.specs.Reach.{Reaches, IsRoot, at_root, down}
-use Rattle.blink_rest.specs.Rest.{IsStoreAtRest}
+use Rattle.blink_rest.specs.{AreEntries, Reaches, IsRoot, at_root, down, IsStoreAtRest}
 use Rattle.blink_rest.proofs.Offered.{child_lower, entries_exist_at_rest, reached_for, root_at_end, search_ends_at_leaf}
 use Rattle.blink_batch.specs.declared.Entry.{Entry}
-use Rattle.blink_batch.specs.PlainMap.{pointer_of}
+use Rattle.blink_batch.specs.{pointer_of}
 use Rattle.blink_index.specs.Index.{map_of}
 use Rattle.blink_index.specs.Leaf.{IsLeafFor}
 use Rattle.blink_index.proofs.MapOfStore.{map_of-entries, pointer_of-entries_from}

@@ -1,19 +1,14 @@
 -- Links: what follows of the page that a link leads to, and where a leaf's link leads.
 use Rattle.std.proofs.Common.{◌≡◌, ℕ, ◌+◌, ◌<◌, ◌≤◌, Option, Some, None, List, [], ◌∷◌, ◌++◌, length, drop, filter, refl, sym, ap, ◌∙◌, subst, arith, length-append}
 use Rattle.std.proofs.lemmas.Grind.{flat_map-append}
-use Rattle.blink_page.specs.Page.{PlainPage}
-use Rattle.blink_page.specs.Place.{place_of}
-use Rattle.blink_page.specs.Rising.{least_above, IsRising}
+use Rattle.blink_page.specs.{PlainPage, place_of, least_above, IsRising}
 use Rattle.blink_page.specs.declared.limits.TheConstants.{GREATEST_KEY}
-use Rattle.blink_store.specs.Store.{PlainStore, page_of, HasPage}
+use Rattle.blink_store.specs.{PlainStore, page_of, HasPage}
 use Rattle.blink_store.proofs.Offered.{has_page}
-use Rattle.blink_rest.specs.Chain.{Cell, AreAmong, InLine, cell, floor_after}
-use Rattle.blink_rest.specs.Entries.{AreEntries}
-use Rattle.blink_rest.specs.Level.{entries_along}
-use Rattle.blink_rest.specs.Rest.{IsStoreAtRest}
+use Rattle.blink_rest.specs.{AreAmong, InLine, floor_after, AreEntries, entries_along, IsStoreAtRest}
+use Rattle.blink_rest.specs.Chain.{Cell, cell}
 use Rattle.blink_rest.proofs.Offered.{AreAmong-rest, chain_spans, entries_ascend, entries_exist_at_rest, InLine-prefix, InLine-rest, line_rising, same_cell, search_ends_at_leaf, stands_of, stands_split, stands_there}
-use Rattle.blink_machine.specs.TreeMap.{IsMapOf, pairs_of}
-use Rattle.blink_machine.specs.TreeMap.{entries_from}
+use Rattle.blink_machine.specs.{IsMapOf, pairs_of, entries_from}
 use Rattle.blink_index.specs.Index.{cells_of, map_of}
 use Rattle.blink_index.specs.Leaf.{IsLeafFor}
 use Rattle.blink_index.specs.Scan.{IsLinkOf, entries_after, entries_to, is_from, is_within}

@@ -2,10 +2,9 @@
 use Rattle.std.specs.Prelude.{◌≡◌, List}
 use Rattle.blink_batch.specs.declared.Entry.{Entry}
 use Rattle.blink_rest.specs.Chain.{Cell}
-use Rattle.blink_rest.specs.Entries.{AreEntries}
-use Rattle.blink_rest.specs.Rest.{AreLevels, IsStoreAtRest}
-use Rattle.blink_store.specs.Store.{PlainStore, page_of}
-use Rattle.blink_machine.specs.TreeMap.{IsMapOf, pairs_of}
+use Rattle.blink_rest.specs.{AreEntries, AreLevels, IsStoreAtRest}
+use Rattle.blink_store.specs.{PlainStore, page_of}
+use Rattle.blink_machine.specs.{IsMapOf, pairs_of}
 use Rattle.blink_index.specs.Dump.{text_of, text_of_store}
 use Rattle.blink_index.specs.Index.{map_of}
 

@@ -4,11 +4,10 @@ use Rattle.std.specs.Prelude.{ℕ, ◌-◌, ◌≤◌, nat_le, if◌then◌else�
 use Rattle.std.specs.Iterator.{YieldsFirst}
 use Rattle.std.specs.Iterator.Runs.{YieldsInOrder}
 use Rattle.blink_batch.specs.declared.Entry.{Entry}
-use Rattle.blink_batch.specs.PlainMap.{entry}
+use Rattle.blink_batch.specs.{entry}
 use Rattle.blink_rest.specs.Chain.{Cell}
-use Rattle.blink_rest.specs.Level.{entries_along}
-use Rattle.blink_rest.specs.Walk.{IsTail}
-use Rattle.blink_store.specs.Store.{PlainStore, page_of}
+use Rattle.blink_rest.specs.{entries_along, IsTail}
+use Rattle.blink_store.specs.{PlainStore, page_of}
 use Rattle.blink_index.specs.Index.{cells_of}
 
 -- the entry's key is from the one number to the other

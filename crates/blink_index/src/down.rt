@@ -1,5 +1,5 @@
 //! The way down to a leaf.
-ghost use Rattle.blink_rest.specs.Rest.{IsStoreAtRest};
+ghost use Rattle.blink_rest.specs.{IsStoreAtRest};
 ghost use Rattle.blink_index.specs.Leaf.{IsLeafFor};
 
 use blink_page::{Page, Way};

@@ -1,7 +1,7 @@
 //! A tree at rest as text.
 ghost use Rattle.std.specs.Prelude.{◌≡◌, ◌++◌, Some, IfOk, OnOk, string_bytes};
 ghost use Rattle.std.specs.List.{flat_map};
-ghost use Rattle.blink_rest.specs.Rest.{IsStoreAtRest};
+ghost use Rattle.blink_rest.specs.{IsStoreAtRest};
 ghost use Rattle.blink_index.specs.Index.{cells_of};
 ghost use Rattle.blink_index.specs.Scan.{IsLinkOf};
 ghost use Rattle.blink_index.specs.Dump.{words_of, entry_text, page_text, line_of, level_text, text_of_store};

@@ -1,12 +1,10 @@
 //! A tree at rest, as a map that can be read.
 ghost use Rattle.std.specs.Prelude.{◌≡◌, ℕ, ◌↔◌, List, [], filter, length, string_bytes, IfOk, IsErrOf, IsOkUnless, take};
-ghost use Rattle.blink_batch.specs.PlainMap.{pointer_of};
-ghost use Rattle.blink_page.specs.Entries.{value_at};
-ghost use Rattle.blink_page.specs.Limits.{IsPageNumber};
-ghost use Rattle.blink_rest.specs.Entries.{AreEntries};
-ghost use Rattle.blink_rest.specs.Rest.{IsStoreAtRest};
-ghost use Rattle.blink_store.specs.Store.{page_of, new_store};
-ghost use Rattle.blink_machine.specs.TreeMap.{IsMapOf};
+ghost use Rattle.blink_batch.specs.{pointer_of};
+ghost use Rattle.blink_page.specs.{value_at, IsPageNumber};
+ghost use Rattle.blink_rest.specs.{AreEntries, IsStoreAtRest};
+ghost use Rattle.blink_store.specs.{page_of, new_store};
+ghost use Rattle.blink_machine.specs.{IsMapOf};
 ghost use Rattle.blink_index.specs.Codes.{IsBadFan};
 ghost use Rattle.blink_index.specs.Dump.{text_of_store};
 ghost use Rattle.blink_index.specs.Index.{map_of};
@@ -33,7 +31,7 @@ pub struct Index {
 }
 
 impl Model for Index {
-    ghost use Rattle.blink_store.specs.Store.{PlainStore};
+    ghost use Rattle.blink_store.specs.{PlainStore};
 
     ghost Value = { PlainStore };
 

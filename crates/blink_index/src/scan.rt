@@ -1,8 +1,8 @@
 //! The entries of an index in the order of their keys.
 ghost use Rattle.std.specs.Prelude.{◌≡◌, ◌<◌, [], ◌++◌, drop, filter, length, IfNone, IfSome};
 ghost use Rattle.std.specs.Iterator.{YieldsFirst, item_count};
-ghost use Rattle.blink_page.specs.Place.{place_of};
-ghost use Rattle.blink_rest.specs.Rest.{IsStoreAtRest};
+ghost use Rattle.blink_page.specs.{place_of};
+ghost use Rattle.blink_rest.specs.{IsStoreAtRest};
 ghost use Rattle.blink_index.specs.Index.{map_of};
 ghost use Rattle.blink_index.specs.Scan.{IsLinkOf, at_most, entries_after, is_within, one_fewer};
 

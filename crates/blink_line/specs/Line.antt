@@ -1,10 +1,10 @@
 -- What the words of a command line ask for, by clap's reading of them.
 use Rattle.std.specs.Prelude.{◌≡◌, ⊤, ℕ, List, [], ◌∷◌, Option, Some, None, codes, drop, option_and_then, string_bytes, true, unwrap_or}
 use Rattle.clap.specs.Words.{App, Row, Rule, Text, fault_of, first_of, new_app, new_rule, subcommand_of, with_rule, with_subcommand}
-use Rattle.blink_settings.specs.Settings.{IsAllowed, PlainSettings}
+use Rattle.blink_settings.specs.{IsAllowed, PlainSettings}
 use Rattle.blink_settings.specs.declared.settings.Driver.TheVariants.{Locked}
 use Rattle.blink_settings.specs.declared.settings.CutKind.TheVariants.{Residue}
-use Rattle.blink_batch.specs.Number.{number_of}
+use Rattle.blink_batch.specs.{number_of}
 use Rattle.blink_line.specs.Value.{IsSchedule, cut_of, driver_of, fan_of, workers_of}
 use Rattle.blink_line.specs.declared.line.Line.{Line}
 use Rattle.blink_line.specs.declared.line.Line.TheVariants.{Run, Replay}

@@ -3,7 +3,7 @@ use Rattle.std.specs.Prelude.{◌≡◌, ◌-◌, ◌==◌, ◌&&◌, ℕ, List,
 use Rattle.std.specs.List.{slice_split}
 use Rattle.std.specs.Str.{bytes_eq}
 use Rattle.clap.specs.Words.{Text}
-use Rattle.blink_batch.specs.Number.{number_of}
+use Rattle.blink_batch.specs.{number_of}
 use Rattle.blink_batch.specs.declared.cut.TheConstants.{WORKER_LIMIT}
 use Rattle.blink_page.specs.declared.limits.TheConstants.{MIN_FAN, MAX_FAN}
 use Rattle.blink_settings.specs.declared.settings.Driver.{Driver}

@@ -2,7 +2,7 @@
 ghost use Rattle.std.specs.Prelude.{◌≡◌, List, ℕ, codes, option_map, IfOk, IfErr, IfSome, MatchOption};
 ghost use Rattle.clap.specs.Walk.{texts};
 ghost use Rattle.clap.specs.Words.{first_of, found_of, kind_of, rows_of, subcommand_rows_of};
-ghost use Rattle.blink_settings.specs.Settings.{IsAllowed, PlainSettings};
+ghost use Rattle.blink_settings.specs.{IsAllowed, PlainSettings};
 ghost use Rattle.blink_line.specs.Codes.{code_of_line_error};
 ghost use Rattle.blink_line.specs.Line.{as_replay, AreTurns, Asks, AsksToReplay, AsksToRun, AsksToShow, HasAllowedSizes, HasSizes, HasTurns, IsBadValue, IsTaken, IsTakenToShow, Means, Shows, SubcommandMeans, SubcommandShows, value};
 

@@ -1,6 +1,6 @@
 //! What the values of options mean.
 ghost use Rattle.std.specs.Prelude.{◌≡◌, ◌≢◌, ◌≤◌, List, ℕ, Some, map, IfOk, IfSome, MatchOption};
-ghost use Rattle.blink_batch.specs.Cut.{MayWork};
+ghost use Rattle.blink_batch.specs.{MayWork};
 ghost use Rattle.clap.specs.Walk.{texts};
 ghost use Rattle.blink_line.specs.Value.{IsSchedule, cut_of, driver_of, fan_of, number_between, parts_of, worker_of, workers_of};
 

@@ -2,7 +2,7 @@
 use Rattle.std.specs.Prelude.{◌≡◌, ℕ, ◌+◌, ◌-◌, ◌*◌, ◌/◌, ◌%◌, ◌<◌, ◌≤◌}
 use Rattle.blink_batch.specs.declared.Op.{Op}
 use Rattle.blink_batch.specs.declared.Op.TheVariants.{Insert}
-use Rattle.blink_page.specs.declared.limits.TheConstants.{MAX_PAGE}
+use Rattle.blink_page.specs.{ExceedsPageLimit}
 use Rattle.blink_rows.specs.declared.allowance.Allowance.{Allowance}
 use Rattle.blink_rows.specs.declared.limits.TheConstants.{MAX_ROWS_PER_INSERT}
 use Rattle.blink_page.specs.declared.limits.TheConstants.{MAX_NEW_PAGES_PER_INSERT}
@@ -30,4 +30,4 @@ AreForChanges pages rows = (length_of pages % MAX_NEW_PAGES_PER_INSERT ≡ 0) ×
 
 -- the allowed insertions may need more page numbers than there are
 abbrev pub IsTooLarge : ℕ → Allowance → Type 0
-IsTooLarge count allowance = MAX_PAGE + 1 < 1 + count + MAX_NEW_PAGES_PER_INSERT * allowance.inserts
+IsTooLarge count allowance = ExceedsPageLimit count allowance.inserts

@@ -2,22 +2,16 @@
 use Rattle.std.specs.Prelude.{◌≡◌, ◌≢◌, ◌⊎◌, ℕ, suc, ◌+◌, ◌<◌, ◌≤◌, Option, Some, None, IsSome, List, length, All, slice_index}
 use Rattle.atomic_table.specs.Table.{Step}
 use Rattle.blink_batch.specs.declared.Op.{Op}
-use Rattle.blink_batch.specs.Operation.{answer_at, answer_of, key_of}
-use Rattle.blink_batch.specs.PlainMap.{pointer_of}
-use Rattle.blink_page.specs.Limits.{IsPageNumber}
-use Rattle.blink_page.specs.Page.{PlainPage, IsLawfulPage}
+use Rattle.blink_batch.specs.{answer_at, answer_of, key_of, pointer_of}
+use Rattle.blink_page.specs.{IsPageNumber, PlainPage, IsLawfulPage}
 use Rattle.blink_page.specs.declared.limits.TheConstants.{LEVELS, MAX_FAN}
-use Rattle.blink_rows.specs.Row.{page_words, prime_words}
+use Rattle.blink_rows.specs.{page_words, prime_words}
 use Rattle.blink_rows.specs.declared.limits.TheConstants.{ROW_WORDS}
 use Rattle.blink_rows.specs.declared.span.Span.{Span}
 use Rattle.blink_machine.specs.declared.machine.State.TheVariants.{Going, Ended}
 use Rattle.blink_machine.specs.declared.step.Kind.{Kind}
 use Rattle.blink_machine.specs.declared.step.Step.TheVariants.{Moved}
-use Rattle.blink_machine.specs.Allowance.{HasEnough, UsesUp, numbers_left, writes_left, primes_left}
-use Rattle.blink_machine.specs.Kinds.{read_page, latch, unlatch, write_page, write_prime}
-use Rattle.blink_machine.specs.InOrder.{IsReadable}
-use Rattle.blink_machine.specs.Machine.{PlainMachine, NeedsPrime, NeedsPage, NeedsLatch, NeedsNew, NeedsWrite, NeedsPrimeWrite, NeedsUnlatch, fresh}
-use Rattle.blink_machine.specs.Table.{SeesPrime, WaitsForLevel, SeesPage, done}
+use Rattle.blink_machine.specs.{HasEnough, UsesUp, numbers_left, writes_left, primes_left, read_page, latch, unlatch, write_page, write_prime, IsReadable, PlainMachine, NeedsPrime, NeedsPage, NeedsLatch, NeedsNew, NeedsWrite, NeedsPrimeWrite, NeedsUnlatch, fresh, SeesPrime, WaitsForLevel, SeesPage, done}
 use Rattle.blink_live.specs.declared.view.Change.{Change}
 use Rattle.blink_live.specs.declared.view.Plan.{Plan}
 use Rattle.blink_live.specs.declared.view.Share.{Share}

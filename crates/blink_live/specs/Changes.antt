@@ -4,7 +4,7 @@ use mathlib.Core.List.{IsPrefix}
 use Rattle.blink_batch.specs.declared.Answer.{Answer}
 use Rattle.blink_batch.specs.declared.Answer.TheVariants.{Inserted, Removed, Replaced}
 use Rattle.blink_batch.specs.declared.Op.{Op}
-use Rattle.blink_batch.specs.Operation.{answer_at, cell_after, key_of}
+use Rattle.blink_batch.specs.{answer_at, cell_after, key_of}
 use Rattle.blink_live.specs.declared.view.Change.{Change}
 use Rattle.blink_live.specs.declared.view.View.{View}
 

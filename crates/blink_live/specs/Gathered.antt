@@ -1,12 +1,10 @@
 -- The tree at rest that words keep, and what a store that it is gathered into has.
 use Rattle.std.specs.Prelude.{◌≡◌, ℕ, List, length}
 use Rattle.std.specs.List.{flat_map}
-use Rattle.blink_store.specs.Store.{PlainStore, page_of}
-use Rattle.blink_rest.specs.Chain.{Cell, Pages}
-use Rattle.blink_rest.specs.Entries.{AreEntries}
-use Rattle.blink_rest.specs.Level.{numbers_of}
-use Rattle.blink_rest.specs.Rest.{AreLevels, IsAtRest}
-use Rattle.blink_rows.specs.Counts.{PlainCounts}
+use Rattle.blink_store.specs.{PlainStore, page_of}
+use Rattle.blink_rest.specs.{Pages, AreEntries, numbers_of, AreLevels, IsAtRest}
+use Rattle.blink_rest.specs.Chain.{Cell}
+use Rattle.blink_rows.specs.{PlainCounts}
 use Rattle.blink_live.specs.Renumbered.{numbers_from}
 use Rattle.blink_live.specs.Words.{KeepsPages}
 

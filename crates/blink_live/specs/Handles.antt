@@ -3,14 +3,13 @@ use Rattle.std.specs.Prelude.{◌≡◌, ◌⊎◌, ℕ, ◌+◌, ◌-◌, ◌*�
 use mathlib.Core.List.{IsPrefix}
 use Rattle.blink_batch.specs.declared.Entry.{Entry}
 use Rattle.blink_batch.specs.declared.Op.{Op}
-use Rattle.blink_batch.specs.Operation.{key_of, map_after}
-use Rattle.blink_batch.specs.PlainMap.{pointer_of}
-use Rattle.blink_index.specs.Index.{map_of}
-use Rattle.blink_rows.specs.Counts.{PlainCounts}
+use Rattle.blink_batch.specs.{key_of, map_after, pointer_of}
+use Rattle.blink_index.specs.{map_of}
+use Rattle.blink_rows.specs.{PlainCounts}
 use Rattle.blink_rows.specs.declared.allowance.Allowance.{Allowance}
 use Rattle.blink_rows.specs.declared.limits.TheConstants.{MAX_ROWS_PER_INSERT}
 use Rattle.blink_page.specs.declared.limits.TheConstants.{MAX_NEW_PAGES_PER_INSERT}
-use Rattle.blink_store.specs.Store.{PlainStore}
+use Rattle.blink_store.specs.{PlainStore}
 use Rattle.blink_live.specs.declared.live.Keeper.{Keeper}
 use Rattle.blink_live.specs.declared.live.Live.{Live}
 use Rattle.blink_live.specs.declared.live.Pass.{Pass}

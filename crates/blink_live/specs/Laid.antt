@@ -1,9 +1,8 @@
 -- The words of a table that opens.
 use Rattle.std.specs.Prelude.{◌≡◌, ℕ, ◌+◌, ◌*◌, ◌<◌, ◌≤◌, Some, List, [], length, slice_index}
-use Rattle.blink_page.specs.Page.{PlainPage}
-use Rattle.blink_rows.specs.Counts.{PlainCounts}
-use Rattle.blink_rows.specs.Row.{page_words, prime_words}
-use Rattle.blink_store.specs.Store.{PlainStore, page_of}
+use Rattle.blink_page.specs.{PlainPage}
+use Rattle.blink_rows.specs.{PlainCounts, page_words, prime_words}
+use Rattle.blink_store.specs.{PlainStore, page_of}
 use Rattle.blink_live.specs.Words.{word_count, RowIs}
 
 -- the prime block is in row 1 and page n in row n + 1, and their page words name these; all other words are 0

@@ -1,18 +1,44 @@
-pub mod Words
-pub mod Renumbered
-pub mod ToCome
-pub mod Gathered
-pub mod Changes
-pub mod Updating
-pub mod Views
-pub mod Rule
-pub mod AtomicSteps
-pub mod Codes
-pub mod Laid
-pub mod Laying
-pub mod Allowed
+-- What a caller of `blink_live` reads, in this order; then what proofs above it need; then the files themselves.
+
+-- what a table, its keeper and its passes are for contracts
+pub use Rattle.blink_live.specs.Handles.{IsChangedBy, IsKeeperOf, IsOpened, IsPassOf, IsSameBesideSeen, IsSamePass, KnowsItsKeys, OneIsPrefix, SawAllOf, SawPrefixOf, counts_of, fan_of, keys_of, opening_of, own_changes_of, passes_dealt, seen_of, share_of, taken_of}
+-- the changes of all keys, in the order in which they became so, and what they leave of the opening entries
+pub use Rattle.blink_live.specs.Changes.{after}
+-- how many changes some rows and page numbers are enough for
+pub use Rattle.blink_live.specs.Allowed.{AreForChanges, IsTooLarge, deletes_left, inserts_left}
+-- what a deal gives, and why it is refused
+pub use Rattle.blink_live.specs.Deals.{HasDealt, IsDealRefusal, IsDealt, IsFirstTaken, LacksAllowance, NoneIsTaken}
+-- what a table keeps when all its passes are back: the merge of their shares
+pub use Rattle.blink_live.specs.Merge.{IsMerge}
+-- the number of each refusal
+pub use Rattle.blink_live.specs.Codes.{code_of, code_of_pass}
+-- the views of seats: how they begin, and what each kind of step makes of them
+pub use Rattle.blink_live.specs.Views.{SawItsOwn, spent}
+-- what the words of a table say: where its rows stand, and which rows keep pages
+pub use Rattle.blink_live.specs.Words.{word_count}
+-- the tree at rest that words keep, and what a store that it is gathered into has
+pub use Rattle.blink_live.specs.Gathered.{IsNumberedInOrder}
+-- ---- for proofs above
+pub use Rattle.blink_live.specs.Handles.{seen_changes_of}
+pub use Rattle.blink_live.specs.Changes.{changes_made, last_state, states_of}
+pub use Rattle.blink_live.specs.Deals.{rows_for}
+pub use Rattle.blink_live.specs.Views.{span}
+-- ---- the files
 pub mod Handles
-pub mod Seats
-pub mod Dealing
+pub mod Changes
+pub mod Allowed
 pub mod Deals
 pub mod Merge
+pub mod Codes
+pub mod Rule
+pub mod Views
+pub mod AtomicSteps
+pub mod Seats
+pub mod Updating
+pub mod Dealing
+pub mod Words
+pub mod Laid
+pub mod Laying
+pub mod Gathered
+pub mod ToCome
+pub mod Renumbered

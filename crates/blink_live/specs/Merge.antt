@@ -1,13 +1,10 @@
 -- What a table keeps when all its passes are back: the merge of their shares.
 use Rattle.std.specs.Prelude.{◌≡◌, ℕ, Some, List, map, Contains, slice_get, slice_index}
 use Rattle.blink_batch.specs.declared.Entry.{Entry}
-use Rattle.blink_batch.specs.PlainMap.{IsAscending, pointer_of}
-use Rattle.blink_rest.specs.Chain.{Pages}
-use Rattle.blink_rest.specs.Entries.{AreEntries}
-use Rattle.blink_rest.specs.Rest.{IsAtRest}
-use Rattle.blink_rows.specs.Counts.{PlainCounts}
-use Rattle.blink_rows.specs.Row.{prime_words, IsLawfulPrime}
-use Rattle.blink_machine.specs.TreeMap.{pairs_of}
+use Rattle.blink_batch.specs.{IsAscending, pointer_of}
+use Rattle.blink_rest.specs.{Pages, AreEntries, IsAtRest}
+use Rattle.blink_rows.specs.{PlainCounts, prime_words, IsLawfulPrime}
+use Rattle.blink_machine.specs.{pairs_of}
 use Rattle.blink_live.specs.declared.live.Keeper.{Keeper}
 use Rattle.blink_live.specs.declared.live.Live.{Live}
 use Rattle.blink_live.specs.declared.live.Pass.{Pass}

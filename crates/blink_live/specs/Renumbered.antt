@@ -1,7 +1,7 @@
 -- Pages that get other numbers: one after the other along a level, and the children of a page too.
 use Rattle.std.specs.Prelude.{ℕ, ◌+◌, zero, suc, Option, Some, None, List, [], ◌∷◌, length, map}
 use Rattle.std.specs.List.{flat_map}
-use Rattle.blink_page.specs.Page.{PlainPage}
+use Rattle.blink_page.specs.{PlainPage}
 use Rattle.blink_rest.specs.Chain.{Cell, cell}
 
 -- so many numbers in a row

@@ -1,22 +1,18 @@
--- The rule of the table: between any two atomic steps the words and the views of the seats, read together, are a sound tree state of the tree.
+-- The rule of the table: between any two atomic steps the words and the views of the seats, read together, are a state of the tree in which the invariant holds.
 use Rattle.std.specs.Prelude.{◌≡◌, ℕ, suc, ◌+◌, ◌-◌, ◌<◌, ◌≤◌, Option, Some, None, List, [], ◌∷◌, length, All, Contains, slice_index, ⊤}
 use mathlib.Core.Option.{some}
 use mathlib.Core.List.{IsPrefix}
 use lib.ListN.{get_elem?}
 use Rattle.atomic_table.specs.Table.{State}
 use Rattle.blink_batch.specs.declared.Entry.{Entry}
-use Rattle.blink_batch.specs.PlainMap.{pointer_of}
-use Rattle.blink_page.specs.Limits.{IsPageNumber}
-use Rattle.blink_page.specs.Page.{PlainPage}
-use Rattle.blink_rows.specs.Counts.{AreBounded}
-use Rattle.blink_rows.specs.Row.{page_words, prime_words}
+use Rattle.blink_batch.specs.{pointer_of}
+use Rattle.blink_page.specs.{IsPageNumber, PlainPage}
+use Rattle.blink_rows.specs.{AreBounded, page_words, prime_words}
 use Rattle.blink_rows.specs.declared.limits.TheConstants.{ROW_WORDS}
 use Rattle.blink_rows.specs.declared.span.Span.{Span}
-use Rattle.blink_machine.specs.Machine.{PlainMachine}
+use Rattle.blink_machine.specs.{PlainMachine, descent_bound, IsMapAt}
 use Rattle.blink_machine.specs.TreeState.{TreeState}
-use Rattle.blink_machine.specs.Places.{descent_bound}
 use Rattle.blink_machine.specs.Invariant.{Invariant}
-use Rattle.blink_machine.specs.StepLaw.{IsMapAt}
 use Rattle.blink_live.specs.declared.view.Call.{Call}
 use Rattle.blink_live.specs.declared.view.Change.{Change}
 use Rattle.blink_live.specs.declared.view.Plan.{Plan}

@@ -5,21 +5,16 @@ use Rattle.atomic_table.specs.declared.Seat.{Seat}
 use Rattle.atomic_table.specs.Seated.{TableId}
 use Rattle.blink_batch.specs.declared.Op.{Op}
 use Rattle.blink_batch.specs.declared.Op.TheVariants.{Find}
-use Rattle.blink_batch.specs.Operation.{answer_at}
-use Rattle.blink_page.specs.Entries.{value_at}
-use Rattle.blink_page.specs.Page.{PlainPage, IsLawfulPage}
-use Rattle.blink_page.specs.Way.{Leads}
+use Rattle.blink_batch.specs.{answer_at}
+use Rattle.blink_page.specs.{value_at, PlainPage, IsLawfulPage, Leads}
 use Rattle.blink_page.specs.declared.limits.TheConstants.{LEVELS, MAX_FAN}
 use Rattle.blink_page.specs.declared.search.Way.{Way}
 use Rattle.blink_page.specs.declared.search.Way.TheVariants.{Here}
-use Rattle.blink_rows.specs.Row.{page_words, prime_words}
+use Rattle.blink_rows.specs.{page_words, prime_words}
 use Rattle.blink_rows.specs.declared.span.Span.{Span}
 use Rattle.blink_machine.specs.declared.machine.Job.TheVariants.{Leaf}
 use Rattle.blink_machine.specs.declared.machine.State.TheVariants.{Want, Ended}
-use Rattle.blink_machine.specs.OnTheWay.{IsOnItsWay}
-use Rattle.blink_machine.specs.Machine.{PlainMachine}
-use Rattle.blink_machine.specs.TreeState.{goes_on}
-use Rattle.blink_machine.specs.Table.{IsUpdate}
+use Rattle.blink_machine.specs.{IsOnItsWay, PlainMachine, goes_on, IsUpdate}
 use Rattle.blink_live.specs.declared.live.Live.{Live}
 use Rattle.blink_live.specs.declared.view.Role.TheVariants.{Pass}
 use Rattle.blink_live.specs.declared.view.View.{View}

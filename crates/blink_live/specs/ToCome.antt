@@ -1,10 +1,10 @@
 -- Pages that are to be added to a store, from those that words keep.
 use Rattle.std.specs.Prelude.{◌≡◌, ℕ, ◌+◌, ◌≤◌, suc, Option, Some, None, List, [], ◌∷◌, ◌++◌, length, ⊤}
-use Rattle.blink_page.specs.Page.{PlainPage, IsLawfulPage}
+use Rattle.blink_page.specs.{PlainPage, IsLawfulPage}
 use Rattle.blink_page.specs.declared.limits.TheConstants.{GREATEST_KEY, MAX_FAN, MAX_PAGE}
-use Rattle.blink_rest.specs.Chain.{Cell, InLine}
-use Rattle.blink_rest.specs.Level.{entries_along}
-use Rattle.blink_rows.specs.Counts.{PlainCounts}
+use Rattle.blink_rest.specs.{InLine, entries_along}
+use Rattle.blink_rest.specs.Chain.{Cell}
+use Rattle.blink_rows.specs.{PlainCounts}
 use Rattle.blink_live.specs.Renumbered.{cells_anew, child_count, pages_in}
 use Rattle.blink_live.specs.Words.{KeepsPage}
 

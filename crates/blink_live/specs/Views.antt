@@ -5,14 +5,12 @@ use Rattle.atomic_table.specs.Table.{Me}
 use Rattle.blink_batch.specs.declared.Entry.{Entry}
 use Rattle.blink_batch.specs.declared.Op.{Op}
 use Rattle.blink_batch.specs.declared.Op.TheVariants.{Find, Insert}
-use Rattle.blink_batch.specs.Operation.{key_of, map_after}
-use Rattle.blink_batch.specs.PlainMap.{pointer_of}
-use Rattle.blink_index.specs.Index.{map_of}
+use Rattle.blink_batch.specs.{key_of, map_after, pointer_of}
+use Rattle.blink_index.specs.{map_of}
 use Rattle.blink_rows.specs.declared.limits.TheConstants.{ROW_WORDS, MAX_ROWS_PER_INSERT}
 use Rattle.blink_page.specs.declared.limits.TheConstants.{MAX_NEW_PAGES_PER_INSERT}
 use Rattle.blink_rows.specs.declared.span.Span.{Span}
-use Rattle.blink_machine.specs.Machine.{PlainMachine}
-use Rattle.blink_machine.specs.TreeState.{goes_on}
+use Rattle.blink_machine.specs.{PlainMachine, goes_on}
 use Rattle.blink_live.specs.declared.view.Call.{Call}
 use Rattle.blink_live.specs.declared.view.Change.{Change}
 use Rattle.blink_live.specs.declared.view.Opened.{Opened}

@@ -2,9 +2,9 @@
 ghost use Rattle.std.specs.Prelude.{◌≡◌, ◌<◌, ◌↔◌, ◌⊎◌, ℕ, None, [], All, length, IfOk, IfErr, IsErrOf, List, ◌+◌, ◌≤◌, ◌++◌, Some, ◌∷◌, OnOk, slice_index, IfSome};
 ghost use Rattle.std.specs.Mem.Slots.{slots_items, slots_len, IsFull};
 ghost use Rattle.blink_batch.specs.declared.Entry.{Entry};
-ghost use Rattle.blink_index.specs.Index.{map_of};
-ghost use Rattle.blink_page.specs.Limits.{IsFan, IsPageNumber};
-ghost use Rattle.blink_machine.specs.TreeMap.{IsMapOf};
+ghost use Rattle.blink_index.specs.{map_of};
+ghost use Rattle.blink_page.specs.{IsFan, IsPageNumber};
+ghost use Rattle.blink_machine.specs.{IsMapOf};
 ghost use Rattle.blink_live.specs.Gathered.{IsNumberedInOrder, KeepsTreeAtRest, HasTheEntries};
 ghost use Rattle.blink_live.specs.Handles.{IsKeeperOf, IsPassOf, fan_of, passes_dealt};
 ghost use Rattle.blink_live.specs.declared.view.Role.TheVariants.{Keeper as KeeperRole, Pass as PassRole};

@@ -2,7 +2,7 @@
 //! apart from their calls, since the words of the calls' contracts name them.
 ghost use Rattle.std.specs.Prelude.{◌≡◌, ◌≤◌, [], IsSorted, None};
 ghost use Rattle.std.specs.Ordering.{nat_cmp};
-ghost use Rattle.blink_page.specs.Limits.{IsFan};
+ghost use Rattle.blink_page.specs.{IsFan};
 ghost use Rattle.blink_live.specs.Words.{word_count};
 ghost use Rattle.blink_live.specs.declared.view.Role.TheVariants.{Keeper, Pass};
 ghost use Rattle.blink_live.specs.Allowed.{AreForChanges};

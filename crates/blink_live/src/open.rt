@@ -12,10 +12,8 @@ use crate::rule::InvariantOfTree;
 use crate::view::{Opened, View};
 use atomic_table::Table;
 use blink_index::Index;
-use blink_page::MAX_PAGE;
-use blink_rows::{
-    Allowance, Counts, MAX_NEW_PAGES_PER_INSERT, ROW_WORDS, Span, page_row, prime_row,
-};
+use blink_page::exceeds_page_limit;
+use blink_rows::{Allowance, Counts, ROW_WORDS, Span, page_row, prime_row};
 use blink_store::Store;
 use std::alloc::{AllocError, Global};
 use std::snapshot::Snapshot;
@@ -38,7 +36,7 @@ impl Live {
             (λ refusal. (refusal ≡ LiveError.TooLarge) ⊎ (refusal ≡ LiveError.OutOfMemory)) }
     {
         let count = index.page_count();
-        if exceeds_page_limit(count, allowance) {
+        if exceeds_page_limit(count, allowance.inserts) {
             return Err(LiveError::TooLarge);
         }
         let counts = Counts::of(count, allowance);
@@ -104,14 +102,6 @@ impl Live {
             None
         }
     }
-}
-
-// Whether the insertions might need more page numbers than there are.
-fn exceeds_page_limit(count: u32, allowance: Allowance) -> bool
-    ensures { IsTrue result ↔ IsTooLarge count allowance }
-{
-    let numbers = 1 + u64::from(count) + MAX_NEW_PAGES_PER_INSERT * u64::from(allowance.inserts);
-    numbers > u64::from(MAX_PAGE) + 1
 }
 
 // The words of a table over the store's tree: its prime block in row 1, and page `n` in row `n + 1`.

@@ -2,10 +2,9 @@
 //! pointer.
 ghost use Rattle.std.specs.Prelude.{◌≡◌, ◌↔◌, IsTrue, IfErr, IfOk, OnErr, OnOk, IsErrOf, Contains, None};
 ghost use mathlib.Core.List.{IsPrefix};
-ghost use Rattle.blink_batch.specs.Operation.{answer_at, answer_of, key_of};
+ghost use Rattle.blink_batch.specs.{answer_at, answer_of, key_of, FitsWords};
 ghost use Rattle.blink_batch.specs.declared.Op.TheVariants.{Find, Delete, Insert, Replace};
-ghost use Rattle.blink_batch.specs.Batch.{FitsWords};
-ghost use Rattle.blink_machine.specs.Table.{IsUpdate};
+ghost use Rattle.blink_machine.specs.{IsUpdate};
 ghost use Rattle.blink_live.specs.Handles.{IsPassOf, IsSameBesideSeen, KnowsItsKeys, keys_of, share_of, IsChangedBy};
 ghost use Rattle.blink_live.specs.Seats.{IsPassSeat};
 ghost use Rattle.blink_live.specs.Views.{CanBegin, SameBesideReads, for_call, KnowsItsOwn, known_of};

@@ -4,16 +4,11 @@
 //! the prime block those up to the leftmost page of the top level.
 ghost use Rattle.std.specs.Prelude.{◌≡◌, None, ℕ, ◌+◌, ◌*◌, ◌<◌, ◌≤◌, Some, List, Option, slice_get, slice_index, ◌⊎◌, length};
 ghost use Rattle.std.specs.Bool.{OnTrue, OnFalse};
-ghost use Rattle.blink_batch.specs.Batch.{FitsWords};
-ghost use Rattle.blink_batch.specs.Operation.{key_of};
-ghost use Rattle.blink_page.specs.Place.{place_of};
-ghost use Rattle.blink_page.specs.Entries.{value_at};
-ghost use Rattle.blink_page.specs.Page.{PlainPage};
-ghost use Rattle.blink_page.specs.Rising.{IsRising};
+ghost use Rattle.blink_batch.specs.{FitsWords, key_of};
+ghost use Rattle.blink_page.specs.{place_of, value_at, PlainPage, IsRising};
 ghost use Rattle.blink_rows.specs.declared.limits.TheConstants.{ROW_WORDS};
-ghost use Rattle.blink_rows.specs.Row.{IsPageRow, IsPrimeRow};
-ghost use Rattle.blink_machine.specs.Machine.{PlainMachine, NeedsPage, NeedsPrime};
-ghost use Rattle.blink_machine.specs.Table.{SeesPrime};
+ghost use Rattle.blink_rows.specs.{IsPageRow, IsPrimeRow};
+ghost use Rattle.blink_machine.specs.{PlainMachine, NeedsPage, NeedsPrime, SeesPrime};
 ghost use Rattle.blink_live.specs.Seats.{HasRead, IsAtLeaf, IsPassSeat, IsGoing, IsSameSeat, ReadsPage, TellsWayFor, ReadsPrime};
 ghost use Rattle.blink_live.specs.Views.{CanBegin, for_call, known_of};
 ghost use Rattle.blink_live.specs.Words.{AreNumbersIn, AreRowsIn, IsRowNumber};

@@ -4,7 +4,7 @@ use crate::view::{Opened, View};
 use atomic_table::{Join, Play, Split, TableRule};
 use std::marker::{Brand, PhantomData};
 
-/// Words and views are a sound tree state of the tree.
+/// Words and views are a state of the tree in which the invariant holds.
 pub(crate) struct InvariantOfTree;
 
 impl TableRule<u8, View, Opened> for InvariantOfTree {

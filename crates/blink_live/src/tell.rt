@@ -1,7 +1,7 @@
 //! How a pass looks at any key, and how it tells another what it has seen.
 ghost use Rattle.std.specs.Prelude.{◌≡◌, None, []};
 ghost use mathlib.Core.List.{IsPrefix};
-ghost use Rattle.blink_batch.specs.PlainMap.{pointer_of};
+ghost use Rattle.blink_batch.specs.{pointer_of};
 ghost use Rattle.blink_live.specs.Changes.{after};
 ghost use Rattle.blink_live.specs.Handles.{IsPassOf, IsSameBesideSeen, KnowsItsKeys, opening_of, seen_of, IsSamePass, OneIsPrefix, SawAllOf, SawPrefixOf};
 ghost use Rattle.blink_live.specs.declared.view.Role.TheVariants.{Spent};

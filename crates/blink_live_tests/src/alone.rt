@@ -1,5 +1,5 @@
 //! A table with one pass, whose calls have no condition: what is so of it is in its type.
-ghost use Rattle.blink_live.specs.Handles.{IsKeeperOf, IsPassOf};
+ghost use Rattle.blink_live.specs.{IsKeeperOf, IsPassOf};
 
 use crate::layout::{dealt, opened};
 use blink_batch::{Answer, Op};

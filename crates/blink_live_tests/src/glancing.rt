@@ -1,5 +1,5 @@
 //! Looks at any key, and what passes tell each other.
-ghost use Rattle.blink_live.specs.Handles.{IsPassOf};
+ghost use Rattle.blink_live.specs.{IsPassOf};
 
 use crate::indexes::after;
 use crate::shared::Shared;

@@ -1,5 +1,5 @@
 //! The words of tables, and what a keeper and a pass have, worked by hand.
-ghost use Rattle.blink_live.specs.Handles.{IsKeeperOf, IsPassOf};
+ghost use Rattle.blink_live.specs.{IsKeeperOf, IsPassOf};
 
 mod dealing;
 mod opening;

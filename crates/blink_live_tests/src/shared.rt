@@ -1,6 +1,6 @@
 //! A table that threads share, whose calls have no condition: what is so of it is in its type.
 ghost use Rattle.std.specs.Prelude.{All, ◌<◌, vec_len};
-ghost use Rattle.blink_live.specs.Handles.{IsKeeperOf, IsPassOf};
+ghost use Rattle.blink_live.specs.{IsKeeperOf, IsPassOf};
 
 use crate::indexes::{after, filled};
 use crate::steps::{Step, take_all};

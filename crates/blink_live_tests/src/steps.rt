@@ -1,5 +1,5 @@
 //! What a pass does, and what each call has to give.
-ghost use Rattle.blink_live.specs.Handles.{IsPassOf};
+ghost use Rattle.blink_live.specs.{IsPassOf};
 
 use blink_batch::{Answer, Op};
 use blink_live::{Live, Pass, PassError};

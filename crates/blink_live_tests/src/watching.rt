@@ -1,5 +1,5 @@
 //! Threads that insert, delete, and look at each other's keys meanwhile.
-ghost use Rattle.blink_live.specs.Handles.{IsPassOf};
+ghost use Rattle.blink_live.specs.{IsPassOf};
 
 use crate::indexes::assert_keys;
 use crate::shared::Shared;

@@ -6,14 +6,10 @@ use Rattle.std.proofs.lemmas.List.Elements.{All-cons}
 use Rattle.std.proofs.lemmas.Option.{get_or_from_slice_get, slice_get-get_or, slice_get_within}
 use Rattle.blink_batch.specs.declared.Answer.{Answer}
 use Rattle.blink_batch.specs.declared.Op.{Op}
-use Rattle.blink_batch.specs.Cut.{Assignment, IsLawfulCut}
-use Rattle.blink_store.specs.Store.{PlainStore}
+use Rattle.blink_batch.specs.{Assignment, IsLawfulCut}
+use Rattle.blink_store.specs.{PlainStore}
 use Rattle.blink_machine.specs.declared.step.Step.{Step}
-use Rattle.blink_steps.specs.Counts.{HasMoved}
-use Rattle.blink_steps.specs.Pick.{IsIdleWorker}
-use Rattle.blink_steps.specs.Promises.{HasAnswerAt, IsPromised, KeepsItsPromises}
-use Rattle.blink_steps.specs.Run.{PlainRun, Event}
-use Rattle.blink_steps.specs.World.{PlainWorld, GoesOnBy, HasEnded, IsAtLanesEnd, IsStart, IsWorldOf, SameBatch}
+use Rattle.blink_steps.specs.{HasMoved, IsIdleWorker, HasAnswerAt, IsPromised, KeepsItsPromises, PlainRun, Event, PlainWorld, GoesOnBy, HasEnded, IsAtLanesEnd, IsStart, IsWorldOf, SameBatch}
 use Rattle.blink_locked.specs.Book.{PlainBook, AllMoved, HasEndedOp, IsBook, IsRunOf}
 use Rattle.blink_locked.specs.Run.{IsSettled}
 

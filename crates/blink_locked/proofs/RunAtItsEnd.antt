@@ -3,15 +3,12 @@ use Rattle.std.proofs.Common.{◌≡◌, Some, List, [], ◌∷◌, map, refl, a
 use Rattle.blink_batch.specs.declared.Answer.{Answer}
 use Rattle.blink_batch.specs.declared.Entry.{Entry}
 use Rattle.blink_batch.specs.declared.Op.{Op}
-use Rattle.blink_batch.specs.Cut.{Assignment}
-use Rattle.blink_batch.specs.Operation.{answers, map_after_all}
-use Rattle.blink_index.specs.Index.{map_of}
-use Rattle.blink_index.specs.Laws.{NoOtherMapIsKept}
-use Rattle.blink_store.specs.Store.{PlainStore}
-use Rattle.blink_rest.specs.Rest.{IsStoreAtRest}
-use Rattle.blink_steps.specs.Headline.{IsOneThread}
-use Rattle.blink_steps.specs.Run.{PlainRun}
-use Rattle.blink_machine.specs.TreeMap.{IsMapOf}
+use Rattle.blink_batch.specs.{Assignment, answers, map_after_all}
+use Rattle.blink_index.specs.{map_of, NoOtherMapIsKept}
+use Rattle.blink_store.specs.{PlainStore}
+use Rattle.blink_rest.specs.{IsStoreAtRest}
+use Rattle.blink_steps.specs.{IsOneThread, PlainRun}
+use Rattle.blink_machine.specs.{IsMapOf}
 use Rattle.blink_locked.specs.Run.{IsSettled}
 
 -- the same answers, each as one that is given

@@ -2,14 +2,10 @@
 use Rattle.std.specs.Prelude.{◌≡◌, ◌↔◌, ℕ, ◌⊎◌, Bool, true, false, Some, List, [], All, map, slice_get}
 use Rattle.blink_batch.specs.declared.Answer.{Answer}
 use Rattle.blink_batch.specs.declared.Op.{Op}
-use Rattle.blink_batch.specs.Cut.{Assignment}
-use Rattle.blink_store.specs.Store.{PlainStore}
+use Rattle.blink_batch.specs.{Assignment}
+use Rattle.blink_store.specs.{PlainStore}
 use Rattle.blink_machine.specs.declared.step.Step.TheVariants.{Moved}
-use Rattle.blink_steps.specs.Counts.{HasMoved}
-use Rattle.blink_steps.specs.Pick.{IsIdleWorker, WouldMove, WouldWait}
-use Rattle.blink_steps.specs.Promises.{HasAnswerAt}
-use Rattle.blink_steps.specs.Run.{PlainRun, Event}
-use Rattle.blink_steps.specs.World.{PlainWorld, HasEnded, IsWorldOf, TakesStep}
+use Rattle.blink_steps.specs.{HasMoved, IsIdleWorker, WouldMove, WouldWait, HasAnswerAt, PlainRun, Event, PlainWorld, HasEnded, IsWorldOf, TakesStep}
 use Rattle.blink_settings.specs.declared.error.RunError.{RunError}
 use Rattle.blink_settings.specs.declared.error.RunError.TheVariants.{TooLarge, OutOfMemory, Foreign}
 use Rattle.blink_locked.specs.declared.book.Turn.{Turn}

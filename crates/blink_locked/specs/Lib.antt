@@ -1,3 +1,12 @@
-pub mod Book
+-- What a caller of `blink_locked` reads, in this order; then what proofs above it need; then the files themselves.
+
+-- what a run of a batch leaves, whose answers they are, and of which replay the tree is; and why a batch isn't run
+pub use Rattle.blink_locked.specs.Run.{IsReplayed, IsSettled, MayRefuse}
+-- the book of a run: what it began with, and the world that its workers' steps have led to
+pub use Rattle.blink_locked.specs.Book.{IsBookRefusal, IsNewBook, IsSettleRefusal, MayTurn, Turns, book_stopped}
+-- whose threads are started: those of the first workers, one after another, up to the first that can't be
+pub use Rattle.blink_locked.specs.Starts.{AtEach, IsStartRefusal, TellsNext}
+-- ---- the files
 pub mod Run
+pub mod Book
 pub mod Starts

@@ -2,11 +2,10 @@
 use Rattle.std.specs.Prelude.{◌≡◌, ◌<◌, ℕ, Some, List, map}
 use Rattle.blink_batch.specs.declared.Answer.{Answer}
 use Rattle.blink_batch.specs.declared.Op.{Op}
-use Rattle.blink_batch.specs.Cut.{Assignment}
-use Rattle.blink_rest.specs.Rest.{IsStoreAtRest}
-use Rattle.blink_store.specs.Store.{PlainStore}
-use Rattle.blink_steps.specs.Headline.{IsOneThread, IsReachedThroughout}
-use Rattle.blink_steps.specs.World.{PlainWorld, IsReplay, IsTooLarge, HasEnded}
+use Rattle.blink_batch.specs.{Assignment}
+use Rattle.blink_rest.specs.{IsStoreAtRest}
+use Rattle.blink_store.specs.{PlainStore}
+use Rattle.blink_steps.specs.{IsOneThread, IsReachedThroughout, PlainWorld, IsReplay, IsTooLarge, HasEnded}
 use Rattle.blink_locked.specs.Book.{AllMoved}
 use Rattle.blink_settings.specs.declared.error.RunError.{RunError}
 use Rattle.blink_settings.specs.declared.error.RunError.TheVariants.{TooLarge, OutOfMemory, Worker, Foreign}

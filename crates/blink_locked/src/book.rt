@@ -1,17 +1,16 @@
 //! The book of a run, which its workers take turns to write.
 ghost use Rattle.std.specs.Prelude.{◌≡◌, ◌↔◌, All, IfOk, IfErr, IsTrue, IsErrOf, IsSome, Some, map, slice_get};
-ghost use Rattle.blink_batch.specs.Cut.{IsLawfulCut};
+ghost use Rattle.blink_batch.specs.{IsLawfulCut};
 ghost use Rattle.std.specs.Bool.{OnFalse};
-ghost use Rattle.blink_steps.specs.Pick.{WouldMove};
-ghost use Rattle.blink_steps.specs.Promises.{IsPromised};
-ghost use Rattle.blink_steps.specs.World.{HasEnded, IsAtLanesEnd, IsStart, IsTooLarge};
+ghost use Rattle.blink_steps.specs.{WouldMove, IsPromised, HasEnded, IsAtLanesEnd, IsStart, IsTooLarge};
 ghost use Rattle.blink_locked.specs.Book.{HasEndedOp, IsAtItsEnd, IsBookRefusal, IsNewBook, IsRunOf, IsSettleRefusal, MayTurn, BookStepsPage, Turns, book_stopped};
 ghost use Rattle.blink_locked.specs.Run.{IsSettled};
 
 use blink_batch::{Answer, Batch, Cut, Lanes};
+use blink_page::exceeds_page_limit;
 use blink_rest::Rest;
 use blink_settings::RunError;
-use blink_steps::{Kind, Step, StepError, World, exceeds_page_limit};
+use blink_steps::{Kind, Step, StepError, World};
 use std::alloc::{AllocError, Global};
 use std::marker::Model;
 
@@ -73,7 +72,8 @@ impl Book {
         ensures too_large { IsErrOf result RunError.TooLarge ↔ IsTooLarge start.now batch.now }
         ensures refused { IfErr result IsBookRefusal }
     {
-        if exceeds_page_limit(start, batch) {
+        let _few = batch.ops();
+        if exceeds_page_limit(start.store().pages(), batch.inserts() as u32) {
             return Err(RunError::TooLarge);
         }
         match Book::copied(alloc, start, batch, cut) {

@@ -5,11 +5,11 @@
 #![tactic(auto)]
 
 mod book;
-mod locked_run;
 mod gate;
+mod locked_run;
 mod run;
 
 pub use book::{Book, Turn, all_of};
-pub use locked_run::LockedRun;
 pub use gate::{Gate, Open};
+pub use locked_run::LockedRun;
 pub use run::run_locked;

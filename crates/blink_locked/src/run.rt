@@ -1,15 +1,14 @@
 //! A batch's run on an index, by threads that take each step under one lock.
 ghost use Rattle.std.specs.Prelude.{◌≡◌, ◌↔◌, ◌≤◌, [], length, vec_capacity, IfErr, IfOk, IsErrOf, IsOk, OnErr, OnOk};
-ghost use Rattle.blink_batch.specs.Cut.{IsLawfulCut};
-ghost use Rattle.blink_batch.specs.Operation.{answers, map_after_all};
-ghost use Rattle.blink_index.specs.Index.{map_of};
-ghost use Rattle.blink_steps.specs.World.{IsTooLarge};
+ghost use Rattle.blink_batch.specs.{IsLawfulCut, answers, map_after_all};
+ghost use Rattle.blink_index.specs.{map_of};
+ghost use Rattle.blink_steps.specs.{IsTooLarge};
 ghost use Rattle.blink_locked.specs.Run.{IsReplayed, IsSettled, MayRefuse};
 ghost use Rattle.blink_locked.specs.Starts.{AtEach, IsStartRefusal, TellsNext};
 
 use crate::book::Book;
-use crate::locked_run::LockedRun;
 use crate::gate::Gate;
+use crate::locked_run::LockedRun;
 use blink_batch::{Answer, Batch, Cut};
 use blink_index::Index;
 use blink_index::laws::no_other_map_is_kept;

@@ -9,7 +9,7 @@ use Rattle.blink_machine.specs.declared.machine.Next.TheVariants.{Finish, MoveRi
 use Rattle.blink_machine.specs.declared.machine.State.{State}
 use Rattle.blink_machine.specs.declared.machine.State.TheVariants.{SplitOld, AskPrime, Root, NewPrime, Leave, Ended}
 use Rattle.blink_machine.specs.declared.step.Step.{Step}
-use Rattle.blink_page.specs.declared.limits.TheConstants.{MAX_NEW_PAGES_PER_INSERT, WRITES_OF_INSERTION}
+use Rattle.blink_page.specs.declared.limits.TheConstants.{MAX_NEW_PAGES_PER_INSERT, MAX_PAGE_WRITES_PER_INSERT}
 use Rattle.blink_machine.specs.Kinds.{has_moved, moved_by, writes_new_page}
 use Rattle.blink_machine.specs.Kinds.{is_page_write, is_prime_write}
 use Rattle.blink_machine.specs.Machine.{PlainMachine, NeedsNew, NeedsPrimeWrite, level_of}
@@ -47,7 +47,7 @@ numbers_left m = numbers_left_at m.job m.op m.state
 -- for a job
 abbrev pub writes_for : Job → Op → ℕ
 writes_for Leaf (Find key) = 0
-writes_for Leaf (Insert key pointer) = WRITES_OF_INSERTION
+writes_for Leaf (Insert key pointer) = MAX_PAGE_WRITES_PER_INSERT
 writes_for Leaf op = 1
 writes_for (Parent debt) op = 41 - 2 * debt.level
 

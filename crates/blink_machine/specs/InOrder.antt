@@ -1,10 +1,8 @@
--- What a sound tree state says: its tree is lawful but for debts, and each operation can take its next step, whoever runs it.
+-- What the invariant says: its tree is lawful but for debts, and each operation can take its next step, whoever runs it.
 use Rattle.std.specs.Prelude.{◌≡◌, ℕ, ◌<◌, ◌≤◌, Option, Some, List, length, All}
-use Rattle.blink_page.specs.Limits.{IsPageNumber}
-use Rattle.blink_page.specs.Page.{PlainPage, IsLawfulPage}
-use Rattle.blink_page.specs.Rising.{least_above}
+use Rattle.blink_page.specs.{IsPageNumber, PlainPage, IsLawfulPage, least_above}
 use Rattle.blink_page.specs.declared.limits.TheConstants.{LEVELS}
-use Rattle.blink_rest.specs.Chain.{Pages}
+use Rattle.blink_rest.specs.{Pages}
 use Rattle.blink_machine.specs.declared.step.Step.TheVariants.{Moved}
 use Rattle.blink_machine.specs.Kinds.{write_page}
 use Rattle.blink_machine.specs.Machine.{PlainMachine, NeedsPrime, NeedsPage, NeedsLatch, NeedsNew, NeedsWrite, NeedsPrimeWrite, NeedsUnlatch, level_read, target}

@@ -1,7 +1,6 @@
 -- What is so between any two steps, whatever the schedule.
 use Rattle.std.specs.Prelude.{◌≡◌, ℕ, Some}
-use Rattle.blink_page.specs.Limits.{IsFan, IsPageNumber}
-use Rattle.blink_page.specs.Page.{PlainPage}
+use Rattle.blink_page.specs.{IsFan, IsPageNumber, PlainPage}
 use Rattle.blink_machine.specs.Machine.{PlainMachine}
 use Rattle.blink_machine.specs.TreeState.{TreeState}
 use Rattle.blink_machine.specs.Owned.{LatchesAreHeld}

@@ -1,7 +1,6 @@
 -- What an operation keeps at each of its states, whatever the tree is, so that it can always take its next step.
 use Rattle.std.specs.Prelude.{◌≡◌, ℕ, ◌+◌, ◌<◌, List, length}
-use Rattle.blink_page.specs.Limits.{IsFan, IsPageNumber}
-use Rattle.blink_page.specs.Page.{PlainPage, IsKeyOf}
+use Rattle.blink_page.specs.{IsFan, IsPageNumber, PlainPage, IsKeyOf}
 use Rattle.blink_page.specs.declared.limits.TheConstants.{LEVELS, GREATEST_KEY}
 use Rattle.blink_machine.specs.declared.machine.Debt.{Debt}
 use Rattle.blink_machine.specs.declared.machine.Job.{Job}

@@ -1,6 +1,6 @@
 -- What an operation makes of what it reads is determined.
 use Rattle.std.specs.Prelude.{◌≡◌, ℕ, Option, List}
-use Rattle.blink_page.specs.Page.{PlainPage}
+use Rattle.blink_page.specs.{PlainPage}
 use Rattle.blink_machine.specs.Machine.{PlainMachine}
 use Rattle.blink_machine.specs.Table.{SeesPrime, SeesPage, IsChange}
 

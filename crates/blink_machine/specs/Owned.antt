@@ -1,6 +1,6 @@
 -- What an operation has for itself: a latch, a debt, a new page that is in no chain yet, and a top level that it splits.
 use Rattle.std.specs.Prelude.{◌≡◌, ℕ, ◌⊎◌, Option, Some, None}
-use Rattle.blink_rest.specs.Chain.{Pages}
+use Rattle.blink_rest.specs.{Pages}
 use Rattle.blink_machine.specs.declared.machine.Debt.{Debt}
 use Rattle.blink_machine.specs.declared.machine.Job.{Job}
 use Rattle.blink_machine.specs.declared.machine.Job.TheVariants.{Leaf, Parent}

@@ -1,9 +1,8 @@
 -- Where pages stand: no page goes away, and none changes its level or its floor; so on its way an operation always comes further.
 use Rattle.std.specs.Prelude.{◌≡◌, ℕ, ◌+◌, ◌-◌, ◌*◌, ◌<◌, ◌⊎◌, Option, Some, None}
-use Rattle.blink_page.specs.Page.{PlainPage}
-use Rattle.blink_page.specs.Rising.{least_above}
-use Rattle.blink_rest.specs.Chain.{Pages}
-use Rattle.blink_store.specs.Store.{SameFloorAndLevel}
+use Rattle.blink_page.specs.{PlainPage, least_above}
+use Rattle.blink_rest.specs.{Pages}
+use Rattle.blink_store.specs.{SameFloorAndLevel}
 use Rattle.blink_machine.specs.declared.machine.Next.TheVariants.{MoveRight}
 use Rattle.blink_machine.specs.declared.machine.State.{State}
 use Rattle.blink_machine.specs.declared.machine.State.TheVariants.{Going, Held, Leave}

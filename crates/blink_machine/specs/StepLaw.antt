@@ -1,16 +1,13 @@
--- The law that everything else about steps follows from, in nine parts: how a sound tree state begins, what it says, what a step keeps, decides and uses
+-- The law that everything else about steps follows from, in nine parts: how the invariant begins to hold, what it says, what a step keeps, decides and uses
 -- up, and how it ends. It speaks of pages, latches and operations as partial maps, whatever keeps them, and of any number of workers.
 use Rattle.std.specs.Prelude.{◌≡◌, ℕ, ◌<◌, ◌≤◌, Some, None, List, length}
 use Rattle.blink_batch.specs.declared.Entry.{Entry}
 use Rattle.blink_batch.specs.declared.Op.{Op}
-use Rattle.blink_batch.specs.Batch.{FitsWords}
-use Rattle.blink_batch.specs.Operation.{answer_of, map_after}
-use Rattle.blink_batch.specs.PlainMap.{IsAscending}
-use Rattle.blink_page.specs.Limits.{IsFan, IsPageNumber}
-use Rattle.blink_page.specs.Page.{PlainPage}
-use Rattle.blink_rest.specs.Rest.{IsAtRest}
+use Rattle.blink_batch.specs.{FitsWords, answer_of, map_after, IsAscending}
+use Rattle.blink_page.specs.{IsFan, IsPageNumber, PlainPage}
+use Rattle.blink_rest.specs.{IsAtRest}
 use Rattle.blink_machine.specs.declared.step.Step.{Step}
-use Rattle.blink_page.specs.declared.limits.TheConstants.{MAX_NEW_PAGES_PER_INSERT, WRITES_OF_INSERTION}
+use Rattle.blink_page.specs.declared.limits.TheConstants.{MAX_NEW_PAGES_PER_INSERT, MAX_PAGE_WRITES_PER_INSERT}
 use Rattle.blink_machine.specs.Allowance.{HasEnough, UsesUp, numbers_left, writes_left, primes_left}
 use Rattle.blink_machine.specs.InOrder.{IsInOrder}
 use Rattle.blink_machine.specs.Machine.{PlainMachine, fresh}
@@ -37,7 +34,7 @@ OpeningHasInvariant = (tree_state : TreeState) → IsOpening tree_state → Inva
 
 -- ---- 2: what it says
 
--- in a sound tree state the tree is lawful but for debts, and each operation can take its next step
+-- where the invariant holds the tree is lawful but for debts, and each operation can take its next step
 abbrev pub InvariantGivesOrder : Type 0
 InvariantGivesOrder = (tree_state : TreeState) → Invariant tree_state → IsInOrder tree_state
 
@@ -74,7 +71,7 @@ IdleWorkersDontMatter = (tree_state other : TreeState) → TellTheSame tree_stat
 
 -- ---- 5: what a step keeps
 
--- a step keeps a tree state sound, whatever operation an idle worker takes on, and whatever number that no page has a new page gets
+-- a step keeps the invariant, whatever operation an idle worker takes on, and whatever number that no page has a new page gets
 abbrev pub StepKeepsInvariant : Type 0
 StepKeepsInvariant = (old new : TreeState) (worker : ℕ) (m after : PlainMachine) (step : Step) → Invariant old → FitsWords m.op → IsItsOperation old worker m
     → Steps old worker m step after new → Invariant new
@@ -113,7 +110,7 @@ pub record PlacesStay : Type 0 where
 
 -- at its begin at most so many page numbers and page writes, and one prime block write; before each such step at least one, and after it one fewer
 pub record AllowanceIsUsedUp : Type 0 where
-  pub at_its_begin : (fan : ℕ) (op : Op) → (numbers_left (fresh fan op) ≤ MAX_NEW_PAGES_PER_INSERT) × (writes_left (fresh fan op) ≤ WRITES_OF_INSERTION) × (primes_left (fresh fan op) ≤ 1)
+  pub at_its_begin : (fan : ℕ) (op : Op) → (numbers_left (fresh fan op) ≤ MAX_NEW_PAGES_PER_INSERT) × (writes_left (fresh fan op) ≤ MAX_PAGE_WRITES_PER_INSERT) × (primes_left (fresh fan op) ≤ 1)
   pub enough : (tree_state : TreeState) (worker : ℕ) (m : PlainMachine) → Invariant tree_state → IsItsOperation tree_state worker m → HasEnough m
   pub by_step : (old new : TreeState) (worker : ℕ) (m after : PlainMachine) (step : Step) → Invariant old → FitsWords m.op → IsItsOperation old worker m
       → Steps old worker m step after new → UsesUp m step after

@@ -4,11 +4,8 @@ use Rattle.std.specs.List.{last_or}
 use Rattle.blink_batch.specs.declared.Answer.TheVariants.{Absent, Exists}
 use Rattle.blink_batch.specs.declared.Op.{Op}
 use Rattle.blink_batch.specs.declared.Op.TheVariants.{Find, Insert, Delete, Replace}
-use Rattle.blink_batch.specs.Operation.{answer_at}
-use Rattle.blink_page.specs.Entries.{value_at, removed, replaced}
-use Rattle.blink_page.specs.Page.{PlainPage, with_entries, entries_with, root_over, empty_leaf}
-use Rattle.blink_page.specs.Split.{lower_half, upper_half, separator_of}
-use Rattle.blink_page.specs.Way.{Leads}
+use Rattle.blink_batch.specs.{answer_at}
+use Rattle.blink_page.specs.{value_at, removed, replaced, PlainPage, with_entries, entries_with, root_over, empty_leaf, lower_half, upper_half, separator_of, Leads}
 use Rattle.blink_page.specs.declared.search.Way.TheVariants.{Right, Down, Here}
 use Rattle.blink_machine.specs.declared.machine.Debt.{Debt}
 use Rattle.blink_machine.specs.declared.machine.Job.{Job}

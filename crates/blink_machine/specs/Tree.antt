@@ -1,8 +1,8 @@
 -- A tree between any two steps, and where a page begins in it.
 use Rattle.std.specs.Prelude.{◌≡◌, ℕ, ◌≤◌, List}
-use Rattle.blink_page.specs.Rising.{least_above}
+use Rattle.blink_page.specs.{least_above}
 use Rattle.blink_rest.specs.Chain.{Cell}
-use Rattle.blink_rest.specs.Numbers.{IsMember}
+use Rattle.blink_rest.specs.{IsMember}
 pub use Rattle.blink_machine.specs.TreeWithDebts.{IsTree}
 
 -- a page of a level with this number, whose floor is below the key

@@ -1,9 +1,9 @@
 -- The entries of a tree as a plain map.
 use Rattle.std.specs.Prelude.{ℕ, List, map}
 use Rattle.blink_batch.specs.declared.Entry.{Entry}
-use Rattle.blink_batch.specs.PlainMap.{entry, IsAscending}
-use Rattle.blink_rest.specs.Entries.{AreEntries}
-use Rattle.blink_store.specs.Store.{PlainStore, page_of}
+use Rattle.blink_batch.specs.{entry, IsAscending}
+use Rattle.blink_rest.specs.{AreEntries}
+use Rattle.blink_store.specs.{PlainStore, page_of}
 use Rattle.blink_machine.specs.TreeState.{TreeState}
 
 -- the entries of a plain map as a tree keeps them

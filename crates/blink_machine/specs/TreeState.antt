@@ -1,9 +1,8 @@
--- A tree state of a tree that workers change, and one atomic step of a worker.
+-- A state of a tree that workers change, and one atomic step of a worker.
 use Rattle.std.specs.Prelude.{◌≡◌, ◌≢◌, ℕ, Option, Some, None, List}
 use Rattle.blink_batch.specs.declared.Op.{Op}
-use Rattle.blink_page.specs.Limits.{IsPageNumber}
-use Rattle.blink_page.specs.Page.{PlainPage}
-use Rattle.blink_rest.specs.Chain.{Pages}
+use Rattle.blink_page.specs.{IsPageNumber, PlainPage}
+use Rattle.blink_rest.specs.{Pages}
 use Rattle.blink_machine.specs.declared.machine.State.{State}
 use Rattle.blink_machine.specs.declared.machine.State.TheVariants.{Ended}
 use Rattle.blink_machine.specs.declared.step.Kind.TheVariants.{ReadPage, ReadPrime, Latch, Unlatch, WritePage, WritePrime}

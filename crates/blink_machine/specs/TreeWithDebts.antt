@@ -1,13 +1,9 @@
 -- A lawful tree with debts: what is so of the pages in every state of the tree, in five parts. A debt is a split that isn't posted.
 use Rattle.std.specs.Prelude.{◌≡◌, ℕ, ◌+◌, ◌<◌, ◌≤◌, ◌⊎◌, Some, None, List, [], length, slice_get}
-use Rattle.blink_page.specs.Entries.{value_at}
-use Rattle.blink_page.specs.Page.{PlainPage, root_over}
-use Rattle.blink_page.specs.Split.{upper_half}
+use Rattle.blink_page.specs.{value_at, PlainPage, root_over, upper_half}
 use Rattle.blink_page.specs.declared.limits.TheConstants.{GREATEST_KEY}
-use Rattle.blink_rest.specs.Chain.{Cell, IsChain, Pages}
-use Rattle.blink_rest.specs.Numbers.{IsMember}
-use Rattle.blink_rest.specs.Level.{entries_along}
-use Rattle.blink_rest.specs.References.{BeginsAt, IsHighKey, Refers}
+use Rattle.blink_rest.specs.{IsChain, Pages, IsMember, entries_along, BeginsAt, IsHighKey, Refers}
+use Rattle.blink_rest.specs.Chain.{Cell}
 use Rattle.blink_machine.specs.declared.machine.Debt.{Debt}
 use Rattle.blink_machine.specs.declared.machine.State.TheVariants.{SplitOld, NewPrime}
 use Rattle.blink_machine.specs.Machine.{PlainMachine}

@@ -10,7 +10,7 @@ pub fn reads_have_one_result()
 {}
 
 /// The law that all that is promised of steps follows from, over pages, latches and operations as partial maps, whatever keeps
-/// them, and for any number of workers: how a **sound tree state** begins, what it says, what each step keeps of it, decides and
+/// them, and for any number of workers: how **the invariant** begins to hold, what it says, what each step keeps of it, decides and
 /// uses up, and how it ends. A memory of its own that takes each step as the table has it may rely on it, in its proofs by the
 /// lemma `step_law`, which is this clause.
 pub fn step_keeps()

@@ -1,7 +1,7 @@
 //! One operation on its way through a tree, over any pages: the state that it is in, and what it needs next.
 
 ghost use Rattle.std.specs.Prelude.{◌≡◌, ◌↔◌, IsTrue, reverse};
-ghost use Rattle.blink_page.specs.Limits.{IsFan};
+ghost use Rattle.blink_page.specs.{IsFan};
 ghost use Rattle.blink_machine.specs.Machine.{fresh, need_at, target, value_of_job, answered};
 ghost use Rattle.blink_machine.specs.Kept.{KeptAt};
 

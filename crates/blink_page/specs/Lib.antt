@@ -1,11 +1,40 @@
-pub mod Limits
-pub mod Rising
-pub mod Entries
-pub mod Place
+-- What a caller of `blink_page` reads, in this order; then what proofs above it need; then the files themselves.
+
+-- a page of the tree as plain data, and what makes it lawful
+pub use Rattle.blink_page.specs.Page.{IsKeyOf, IsLawfulPage, PlainPage, empty_leaf, entries_with, root_over, with_entries}
+-- the entries of a page as a list of a key and a value each: look-ups, and the list after a change
+pub use Rattle.blink_page.specs.Entries.{ValuesWithin, added, child_for, last_key, posted, removed, replaced, value_at}
+-- ascending keys: what a list of entries spans, from a least key to an end that is excluded
+pub use Rattle.blink_page.specs.Rising.{IsRising, least_above}
+-- where a search for a key goes from a page
+pub use Rattle.blink_page.specs.Way.{Leads}
+-- facts for one answer of a `put`
+pub use Rattle.blink_page.specs.Put.{IfPresent, UnlessPresent}
+-- facts for one answer of a `post`
+pub use Rattle.blink_page.specs.Post.{OnAlready, UnlessAlready}
+-- how a full page with one entry more is split in two
+pub use Rattle.blink_page.specs.Split.{kept_count, lower_half, separator_of, upper_half}
+-- how many entries a page may have, and which numbers a page may have
+pub use Rattle.blink_page.specs.Limits.{ExceedsPageLimit, IsFan, IsPageNumber}
+-- laws of postings, whatever the page
+pub use Rattle.blink_page.specs.Laws.{PostingsCommute}
+-- where a search within a page ends
+pub use Rattle.blink_page.specs.Place.{place_of}
+-- by their file, since they have its name or another file's word: Put.{OnDone, OnFull, UnlessDone}; Post.{OnDone, OnFull, UnlessDone}
+
+-- ---- for proofs above
+pub use Rattle.blink_page.specs.Page.{HasChildren}
+pub use Rattle.blink_page.specs.Entries.{last_key_or}
+pub use Rattle.blink_page.specs.Rising.{Covers, next_key}
+-- ---- the files
 pub mod Page
-pub mod PageView
+pub mod Entries
+pub mod Rising
 pub mod Way
 pub mod Put
 pub mod Post
 pub mod Split
+pub mod Limits
 pub mod Laws
+pub mod Place
+pub mod PageView

@@ -16,8 +16,8 @@ mod swap;
 mod take;
 
 pub use limits::{
-    GREATEST_KEY, LEVELS, MAX_FAN, MAX_LEVEL, MAX_PAGE, MIN_FAN, MAX_NEW_PAGES_PER_INSERT,
-    WRITES_OF_INSERTION,
+    GREATEST_KEY, LEVELS, MAX_FAN, MAX_LEVEL, MAX_NEW_PAGES_PER_INSERT, MAX_PAGE,
+    MAX_PAGE_WRITES_PER_INSERT, MIN_FAN, exceeds_page_limit,
 };
 pub use page::Page;
 pub use post::Post;

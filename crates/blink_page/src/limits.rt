@@ -1,4 +1,6 @@
 //! The bounds of pages and trees.
+ghost use Rattle.std.specs.Prelude.{◌↔◌, IsTrue};
+ghost use Rattle.blink_page.specs.Limits.{ExceedsPageLimit};
 
 /// The least number of entries that a tree may allow its pages.
 pub const MIN_FAN: u8 = 4;
@@ -24,7 +26,14 @@ pub const MAX_PAGE: u32 = 1_048_575;
 pub const MAX_NEW_PAGES_PER_INSERT: u64 = 22;
 
 /// A bound on how often an insertion writes a page: twice on each level that it comes to, and once for a new root.
-pub const WRITES_OF_INSERTION: u64 = 43;
+pub const MAX_PAGE_WRITES_PER_INSERT: u64 = 43;
 
 /// The high key of the last page of each level, so that every key has a page.
 pub const GREATEST_KEY: u64 = 18_446_744_073_709_551_615;
+
+/// Whether so many insertions into a tree of so many pages might need more page numbers than there are. It takes no memory.
+pub fn exceeds_page_limit(pages: u32, inserts: u32) -> bool
+    ensures { IsTrue result ↔ ExceedsPageLimit pages inserts }
+{
+    1 + u64::from(pages) + MAX_NEW_PAGES_PER_INSERT * u64::from(inserts) > u64::from(MAX_PAGE) + 1
+}

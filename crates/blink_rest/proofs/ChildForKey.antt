@@ -2,9 +2,7 @@
 use Rattle.std.proofs.Common.{◌≡◌, ℕ, ◌+◌, ◌<◌, ◌≤◌, Option, Some, None, List, [], ◌∷◌, ◌++◌, map, ◌⊎◌, inl, inr, refl, sym, ap, ◌∙◌, arith}
 use Rattle.std.proofs.lemmas.Bool.{cases_lt}
 use Rattle.std.proofs.lemmas.Bool.Decides.{nat_tests}
-use Rattle.blink_page.specs.Rising.{least_above, next_key}
-use Rattle.blink_page.specs.Entries.{child_for}
-use Rattle.blink_page.specs.Page.{IsKeyOf}
+use Rattle.blink_page.specs.{least_above, next_key, child_for, IsKeyOf}
 use Rattle.blink_page.specs.declared.limits.TheConstants.{GREATEST_KEY}
 use Rattle.blink_page.proofs.Offered.{child_for-append_prefix, child_for-append_rest}
 use Rattle.blink_rest.specs.Chain.{Pages, Cell, InLine, IsChain}

@@ -2,8 +2,7 @@
 use Rattle.std.proofs.Common.{◌≡◌, ℕ, ◌+◌, ◌<◌, suc, Option, Some, None, List, [], ◌∷◌, ◌++◌, inl, inr, refl, sym, subst, ap, ◌∙◌, arith}
 use Rattle.std.specs.List.{flat_map, slice_get}
 use Rattle.std.proofs.lemmas.Bool.{cases_lt}
-use Rattle.blink_page.specs.Rising.{least_above, next_key}
-use Rattle.blink_page.specs.Page.{PlainPage}
+use Rattle.blink_page.specs.{least_above, next_key, PlainPage}
 use Rattle.blink_page.specs.declared.limits.TheConstants.{GREATEST_KEY}
 use Rattle.blink_page.proofs.Offered.{covers_next}
 use Rattle.blink_rest.specs.Numbers.{IsMember}

@@ -2,8 +2,7 @@
 use Rattle.std.proofs.Common.{◌≡◌, ◌↔◌, IsTrue, Bool, true, false, not, is_some, ℕ, ◌+◌, ◌-◌, ◌<◌, suc, Option, Some, None, List, [], ◌∷◌, ◌++◌, length, take, drop, map, get_or, refl, sym, ap, ◌∙◌, subst, arith, append_assoc, append-nil}
 use Rattle.std.proofs.Math.Seq.{drop-cons}
 use Rattle.std.proofs.lemmas.List.{take_more, take-append-drop}
-use Rattle.blink_page.specs.Rising.{least_above}
-use Rattle.blink_page.specs.Page.{PlainPage}
+use Rattle.blink_page.specs.{least_above, PlainPage}
 use Rattle.blink_page.specs.declared.limits.TheConstants.{GREATEST_KEY}
 use Rattle.blink_rest.specs.Chain.{Pages, Cell, AreAmong, InLine, IsChain, cell}
 use Rattle.blink_rest.specs.Level.{entries_along, high_keys, numbers_of, separators, children, IsParentOf}

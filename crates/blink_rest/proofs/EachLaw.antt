@@ -1,7 +1,7 @@
 -- The laws, each from the lemmas of its subject.
 use Rattle.std.proofs.Common.{◌≡◌, ℕ, ◌+◌, zero, suc, Some, List, [], ◌∷◌, length, inl, inr, refl, sym, ap, ◌∙◌, arith}
-use Rattle.blink_page.specs.Page.{PlainPage}
-use Rattle.blink_store.specs.Store.{page_of, new_store}
+use Rattle.blink_page.specs.{PlainPage}
+use Rattle.blink_store.specs.{page_of, new_store}
 use Rattle.blink_store.proofs.Offered.{has_page}
 use Rattle.blink_rest.specs.Chain.{Pages, Cell}
 use Rattle.blink_rest.specs.Example.{example_store}

@@ -4,9 +4,7 @@ use Rattle.std.specs.List.{AllPairs, AllByRecursion}
 use Rattle.std.proofs.lemmas.Bool.{cases_lt}
 use Rattle.std.proofs.lemmas.List.Elements.{All-from_recursion}
 use Rattle.std.proofs.lemmas.List.Kept.{AllPairs-cons}
-use Rattle.blink_page.specs.Rising.{least_above, IsRising, Covers}
-use Rattle.blink_page.specs.Entries.{value_at}
-use Rattle.blink_page.specs.Page.{IsKeyOf}
+use Rattle.blink_page.specs.{least_above, IsRising, Covers, value_at, IsKeyOf}
 use Rattle.blink_page.specs.declared.limits.TheConstants.{GREATEST_KEY}
 use Rattle.blink_page.proofs.Offered.{Covers-append, IsRising-append, value_at-append_prefix, value_at-append_rest}
 use Rattle.blink_rest.specs.Chain.{Pages, Cell, InLine, IsChain}

@@ -1,6 +1,6 @@
 -- The example's pages are lawful, and its tree is at rest.
 use Rattle.std.proofs.Common.{◌≡◌, ℕ, ◌≤◌, Some, [], ◌∷◌, refl, arith, rules}
-use Rattle.blink_page.specs.Page.{PlainPage, IsLawfulPage}
+use Rattle.blink_page.specs.{PlainPage, IsLawfulPage}
 use Rattle.blink_rest.specs.Numbers.{IsMember}
 use Rattle.blink_rest.specs.Chain.{Pages, cell}
 use Rattle.blink_rest.specs.Rest.{AreLevels}

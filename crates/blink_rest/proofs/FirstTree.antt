@@ -1,7 +1,7 @@
 -- The tree that a new store keeps: one empty leaf, which is page 1.
 use Rattle.std.proofs.Common.{◌≡◌, ℕ, Some, [], ◌∷◌, inl, refl, arith}
 use Rattle.std.proofs.Common.{rules}
-use Rattle.blink_page.specs.Page.{PlainPage, IsLawfulPage, empty_leaf}
+use Rattle.blink_page.specs.{PlainPage, IsLawfulPage, empty_leaf}
 use Rattle.blink_rest.specs.Chain.{Pages, Cell, IsChain}
 use Rattle.blink_rest.specs.Rest.{AreLevels, IsAtRest}
 use Rattle.blink_rest.specs.Entries.{AreEntries}

@@ -2,9 +2,7 @@
 use Rattle.std.proofs.Common.{◌≡◌, ℕ, ◌+◌, ◌-◌, ◌≤◌, Some, None, List, [], ◌∷◌, length, suc, inl, inr, refl, sym, subst, ap, ◌∙◌, arith}
 use Rattle.std.specs.List.{flat_map, slice_get}
 use Rattle.std.proofs.lemmas.Bool.{cases_lt}
-use Rattle.blink_page.specs.Rising.{IsRising}
-use Rattle.blink_page.specs.Entries.{value_at}
-use Rattle.blink_page.specs.Page.{PlainPage, IsKeyOf}
+use Rattle.blink_page.specs.{IsRising, value_at, PlainPage, IsKeyOf}
 use Rattle.blink_page.specs.declared.limits.TheConstants.{GREATEST_KEY}
 use Rattle.blink_page.proofs.Offered.{value_at-above}
 use Rattle.blink_rest.specs.Chain.{Pages, Cell, IsChain}

@@ -1,7 +1,6 @@
 -- Chains: how a line of pages splits and joins, how its floors rise, and that its pages have different numbers.
 use Rattle.std.proofs.Common.{◌≡◌, ℕ, ◌<◌, ◌≤◌, Option, Some, List, [], ◌∷◌, ◌++◌, inl, inr, refl, sym, ap, arith}
-use Rattle.blink_page.specs.Rising.{least_above}
-use Rattle.blink_page.specs.Page.{PlainPage, IsLawfulPage}
+use Rattle.blink_page.specs.{least_above, PlainPage, IsLawfulPage}
 use Rattle.blink_rest.specs.Chain.{Pages, Cell, AreAmong, InLine, floor_after, link_after}
 use Rattle.blink_rest.specs.Numbers.{IsMember}
 

@@ -1,7 +1,7 @@
 -- No page is left out of the levels exactly if they have as many pages as the tree.
 use Rattle.std.proofs.Common.{◌≡◌, ℕ, ◌+◌, ◌≤◌, Some, List, [], ◌∷◌, ◌++◌, length, arith}
 use Rattle.std.specs.List.{flat_map, Contains}
-use Rattle.blink_page.specs.Page.{PlainPage}
+use Rattle.blink_page.specs.{PlainPage}
 use Rattle.blink_rest.specs.Chain.{Pages, Cell, AreAmong}
 use Rattle.blink_rest.specs.Level.{numbers_of}
 use Rattle.blink_rest.specs.Numbers.{AreWithin}

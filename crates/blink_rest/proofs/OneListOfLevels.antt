@@ -1,6 +1,6 @@
 -- A tree has only one list of levels, and only one list of entries.
 use Rattle.std.proofs.Common.{◌≡◌, ℕ, ◌+◌, Option, Some, None, List, [], ◌∷◌, ◌++◌, refl, sym, subst, ap, ◌∙◌}
-use Rattle.blink_page.specs.Page.{PlainPage}
+use Rattle.blink_page.specs.{PlainPage}
 use Rattle.blink_rest.specs.Chain.{Pages, Cell, AreAmong, InLine, IsChain}
 use Rattle.blink_rest.specs.Numbers.{IsMember}
 use Rattle.blink_rest.specs.Level.{entries_along}

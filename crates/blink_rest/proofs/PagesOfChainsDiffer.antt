@@ -1,8 +1,7 @@
 -- The numbers of a chain's pages, and of all levels', are all different.
 use Rattle.std.proofs.Common.{◌≡◌, ◌≢◌, ℕ, ◌+◌, ◌<◌, Option, Some, None, List, [], ◌∷◌, inl, inr, refl, ap, ◌∙◌, arith}
 use Rattle.std.specs.List.{flat_map, AllPairs}
-use Rattle.blink_page.specs.Rising.{least_above}
-use Rattle.blink_page.specs.Page.{PlainPage}
+use Rattle.blink_page.specs.{least_above, PlainPage}
 use Rattle.blink_rest.specs.Numbers.{IsMember, Avoids, AllDiffer}
 use Rattle.blink_rest.specs.Chain.{Pages, Cell, AreAmong, InLine, IsChain}
 use Rattle.blink_rest.specs.Level.{numbers_of}

@@ -2,8 +2,7 @@
 use Rattle.std.proofs.Common.{◌≡◌, ℕ, ◌+◌, ◌<◌, ◌≤◌, Some, None, List, [], ◌∷◌, ◌++◌, length, inl, inr, subst, ap, ◌∙◌, arith}
 use Rattle.std.specs.List.{flat_map}
 use Rattle.std.proofs.lemmas.Bool.{cases_lt}
-use Rattle.blink_page.specs.Entries.{child_for}
-use Rattle.blink_page.specs.Page.{PlainPage, IsKeyOf}
+use Rattle.blink_page.specs.{child_for, PlainPage, IsKeyOf}
 use Rattle.blink_page.specs.declared.limits.TheConstants.{GREATEST_KEY}
 use Rattle.blink_rest.specs.Numbers.{IsMember}
 use Rattle.blink_rest.specs.Chain.{Pages, Cell, IsChain}

@@ -1,8 +1,8 @@
 -- What a walk along a level says of its chain.
 use Rattle.std.proofs.Common.{◌≡◌, ℕ, ◌+◌, ◌≤◌, suc, Option, is_some, Some, None, List, [], ◌∷◌, ◌++◌, length, refl, sym, ap, ◌∙◌, subst, arith, length-append}
-use Rattle.blink_page.specs.Page.{PlainPage, IsLawfulPage}
+use Rattle.blink_page.specs.{PlainPage, IsLawfulPage}
 use Rattle.blink_page.specs.declared.limits.TheConstants.{GREATEST_KEY}
-use Rattle.blink_store.specs.Store.{PlainStore, page_of}
+use Rattle.blink_store.specs.{PlainStore, page_of}
 use Rattle.blink_store.proofs.Offered.{has_page, page_there}
 use Rattle.blink_rest.specs.Chain.{Pages, Cell, AreAmong, InLine, cell}
 use Rattle.blink_rest.specs.Level.{numbers_of}

@@ -1,6 +1,6 @@
 -- A chain: the pages of one level, met from its leftmost page along right links.
 use Rattle.std.specs.Prelude.{◌≡◌, ℕ, Option, Some, None, List, [], ◌∷◌, ◌⊎◌, ⊤}
-use Rattle.blink_page.specs.Page.{PlainPage, IsLawfulPage}
+use Rattle.blink_page.specs.{PlainPage, IsLawfulPage}
 use Rattle.blink_page.specs.declared.limits.TheConstants.{GREATEST_KEY}
 
 -- the pages of a tree by their numbers, of which most have none

@@ -1,6 +1,6 @@
 -- Where the children of an inner page of a tree at rest are.
 use Rattle.std.specs.Prelude.{◌≡◌, ℕ, ◌+◌, Option, Some, List, slice_get}
-use Rattle.blink_page.specs.Page.{PlainPage}
+use Rattle.blink_page.specs.{PlainPage}
 use Rattle.blink_rest.specs.Chain.{Cell, IsChain, Pages}
 use Rattle.blink_rest.specs.References.{BeginsAt, Refers}
 use Rattle.blink_rest.specs.Walk.{IsInLine}

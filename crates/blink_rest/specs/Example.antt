@@ -1,8 +1,8 @@
 -- A tree spelled out: page 1 has keys 1, 2 and 3, page 2 has keys 4 and 5, and page 3 is the root over them.
 use Rattle.std.specs.Prelude.{ℕ, Some, None, List, [], ◌∷◌}
-use Rattle.blink_page.specs.Page.{PlainPage}
+use Rattle.blink_page.specs.{PlainPage}
 use Rattle.blink_page.specs.declared.limits.TheConstants.{GREATEST_KEY}
-use Rattle.blink_store.specs.Store.{PlainStore}
+use Rattle.blink_store.specs.{PlainStore}
 
 -- page 1
 abbrev pub left_leaf : PlainPage

@@ -1,10 +1,8 @@
 -- Laws of trees, whatever the fan, the prime block and the pages.
 use Rattle.std.specs.Prelude.{◌≡◌, ℕ, ◌+◌, ◌<◌, ◌≤◌, Some, List, [], ◌∷◌, length}
-use Rattle.blink_page.specs.Entries.{value_at}
-use Rattle.blink_page.specs.Page.{PlainPage}
-use Rattle.blink_page.specs.Rising.{IsRising}
+use Rattle.blink_page.specs.{value_at, PlainPage, IsRising}
 use Rattle.blink_page.specs.declared.limits.TheConstants.{GREATEST_KEY, LEVELS, MIN_FAN}
-use Rattle.blink_store.specs.Store.{PlainStore, IsLawfulStore, page_of}
+use Rattle.blink_store.specs.{PlainStore, IsLawfulStore, page_of}
 use Rattle.blink_rest.specs.Chain.{Pages}
 use Rattle.blink_rest.specs.Children.{RefersBelow}
 use Rattle.blink_rest.specs.Entries.{AreEntries}

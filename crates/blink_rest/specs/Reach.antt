@@ -1,8 +1,7 @@
 -- How a search reaches a page: down from the root, and to the right.
 use Rattle.std.specs.Prelude.{◌≡◌, ℕ, ◌<◌, ◌≤◌, Some, None, List}
 use Rattle.std.specs.List.{last_or}
-use Rattle.blink_page.specs.Entries.{child_for, value_at}
-use Rattle.blink_page.specs.Page.{PlainPage, IsKeyOf}
+use Rattle.blink_page.specs.{child_for, value_at, PlainPage, IsKeyOf}
 use Rattle.blink_rest.specs.Chain.{Pages}
 
 -- the root: the last page that the prime block names, which is the leftmost of the top level

@@ -1,8 +1,8 @@
 -- A tree at rest: no operation is under way, and every split is posted.
 use Rattle.std.specs.Prelude.{◌≡◌, ℕ, ◌+◌, Some, List, [], ◌∷◌, length, Contains, ⊤}
 use Rattle.std.specs.List.{flat_map}
-use Rattle.blink_page.specs.Page.{PlainPage}
-use Rattle.blink_store.specs.Store.{PlainStore, page_of}
+use Rattle.blink_page.specs.{PlainPage}
+use Rattle.blink_store.specs.{PlainStore, page_of}
 use Rattle.blink_rest.specs.Chain.{Cell, IsChain, Pages}
 use Rattle.blink_rest.specs.Level.{IsParentOf, numbers_of}
 

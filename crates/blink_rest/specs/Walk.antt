@@ -1,6 +1,6 @@
 -- What a walk along a level meets.
 use Rattle.std.specs.Prelude.{◌≡◌, ℕ, ◌+◌, Option, Some, None, List, ◌++◌, length, map}
-use Rattle.blink_page.specs.Page.{PlainPage}
+use Rattle.blink_page.specs.{PlainPage}
 use Rattle.blink_page.specs.declared.limits.TheConstants.{GREATEST_KEY}
 use Rattle.blink_rest.specs.Chain.{Cell, Pages, AreAmong, InLine, IsChain}
 use Rattle.blink_rest.specs.Level.{entries_along, IsParentOf}

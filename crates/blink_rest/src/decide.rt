@@ -1,6 +1,6 @@
 //! Whether a tree is at rest.
 ghost use Rattle.std.specs.Prelude.{◌↔◌, IsTrue};
-ghost use Rattle.blink_store.specs.Store.{page_of};
+ghost use Rattle.blink_store.specs.{page_of};
 ghost use Rattle.blink_rest.specs.Rest.{IsAtRest};
 
 use crate::walk::{chain_length, named_chain_length};

@@ -1,8 +1,8 @@
 //! A store whose tree is at rest.
 ghost use Rattle.std.specs.Prelude.{◌≡◌, ◌<◌, ◌↔◌, IsTrue, length, IfOk, IsOkUnless};
-ghost use Rattle.blink_page.specs.Limits.{IsFan};
+ghost use Rattle.blink_page.specs.{IsFan};
 ghost use Rattle.blink_page.specs.declared.limits.TheConstants.{LEVELS};
-ghost use Rattle.blink_store.specs.Store.{IsLawfulStore, new_store};
+ghost use Rattle.blink_store.specs.{IsLawfulStore, new_store};
 ghost use Rattle.blink_rest.specs.Rest.{IsStoreAtRest};
 
 use blink_store::{Store, StoreError};
@@ -18,7 +18,7 @@ pub struct Rest {
 }
 
 impl Model for Rest {
-    ghost use Rattle.blink_store.specs.Store.{PlainStore};
+    ghost use Rattle.blink_store.specs.{PlainStore};
 
     ghost Value = { PlainStore };
 

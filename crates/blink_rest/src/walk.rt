@@ -1,7 +1,7 @@
 //! Walks along the pages of a level.
 ghost use Rattle.std.specs.Prelude.{◌≡◌, ◌+◌, ◌≤◌, ◌↔◌, Some, length, IsTrue, IfSome, IfNone, MatchOption};
-ghost use Rattle.blink_page.specs.Limits.{IsPageNumber};
-ghost use Rattle.blink_store.specs.Store.{page_of};
+ghost use Rattle.blink_page.specs.{IsPageNumber};
+ghost use Rattle.blink_store.specs.{page_of};
 ghost use Rattle.blink_rest.specs.Walk.{IsInLine, HasTail, NamesFirst, NamesNone, TailNames, HasChain, HasNoChain, HasSomeChain, HasNamedChain, HasNoNamedChain};
 
 use blink_store::Store;

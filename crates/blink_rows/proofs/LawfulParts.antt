@@ -3,10 +3,7 @@ use Rattle.std.proofs.Common.{◌≡◌, ℕ, ◌+◌, ◌<◌, ◌≤◌, zero,
 use Rattle.std.proofs.lemmas.List.{drop_more}
 use Rattle.blink_page.proofs.Offered.{from_at_most_to}
 use Rattle.blink_page.specs.declared.limits.TheConstants.{MAX_PAGE}
-use Rattle.blink_page.specs.Limits.{IsPageNumber}
-use Rattle.blink_page.specs.Rising.{least_above, IsRising, Covers}
-use Rattle.blink_page.specs.Entries.{ValuesWithin, last_key, last_key_or}
-use Rattle.blink_page.specs.Page.{PlainPage, HasChildren}
+use Rattle.blink_page.specs.{IsPageNumber, least_above, IsRising, Covers, ValuesWithin, last_key, last_key_or, PlainPage, HasChildren}
 
 -- keys that rise to the last one cover all up to it
 covers_to_last : (from key : ℕ) (xs : List (ℕ × ℕ)) (high : ℕ) → IsRising from xs (high + 1) → 0 < length xs → last_key_or key xs ≡ high → Covers from xs (high + 1)

@@ -1,8 +1,7 @@
 -- A row: the 70 words that say what a page is, or what a prime block is.
 use Rattle.std.specs.Prelude.{◌≡◌, ℕ, ◌<◌, ◌≤◌, Option, Some, None, List, [], ◌∷◌, length, slice_index, EachIndex, unwrap_or, All}
 use Rattle.blink_page.specs.declared.limits.TheConstants.{LEVELS, MAX_FAN}
-use Rattle.blink_page.specs.Limits.{IsPageNumber}
-use Rattle.blink_page.specs.Page.{PlainPage, IsLawfulPage}
+use Rattle.blink_page.specs.{IsPageNumber, PlainPage, IsLawfulPage}
 use Rattle.blink_rows.specs.declared.limits.TheConstants.{ROW_WORDS}
 
 -- the entries' keys and values, one after the other

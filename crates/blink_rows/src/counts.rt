@@ -2,8 +2,8 @@
 ghost use Rattle.std.specs.Prelude.{◌≡◌, ◌+◌, ◌-◌, ◌*◌, ◌≤◌};
 
 use crate::allowance::Allowance;
-use crate::limits::{ROW_WORDS, MAX_ROWS_PER_INSERT};
-use blink_page::{MAX_PAGE, MAX_NEW_PAGES_PER_INSERT};
+use crate::limits::{MAX_ROWS_PER_INSERT, ROW_WORDS};
+use blink_page::{MAX_NEW_PAGES_PER_INSERT, MAX_PAGE};
 use std::marker::Model;
 
 /// How many page numbers a table has, with number 0, which is the prime block's, and how many rows.

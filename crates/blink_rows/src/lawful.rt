@@ -1,9 +1,6 @@
 //! What makes a page lawful, as a test.
 ghost use Rattle.std.specs.Prelude.{◌≡◌, ◌+◌, ◌≤◌, ◌↔◌, IfSome, IsTrue, EachIndex, length, slice_index_or};
-ghost use Rattle.blink_page.specs.Limits.{IsPageNumber};
-ghost use Rattle.blink_page.specs.Rising.{least_above, IsRising};
-ghost use Rattle.blink_page.specs.Entries.{ValuesWithin, last_key};
-ghost use Rattle.blink_page.specs.Page.{PlainPage, IsLawfulPage};
+ghost use Rattle.blink_page.specs.{IsPageNumber, least_above, IsRising, ValuesWithin, last_key, PlainPage, IsLawfulPage};
 
 use blink_page::{GREATEST_KEY, MAX_FAN, MAX_LEVEL, MAX_PAGE};
 

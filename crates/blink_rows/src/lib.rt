@@ -15,7 +15,7 @@ mod words;
 pub use allowance::Allowance;
 pub use blink_page::MAX_NEW_PAGES_PER_INSERT;
 pub use counts::Counts;
-pub use limits::{HEAD_WORDS, ROW_WORDS, MAX_ROWS_PER_INSERT};
+pub use limits::{HEAD_WORDS, MAX_ROWS_PER_INSERT, ROW_WORDS};
 pub use pages::{page_row, row_page};
 pub use primes::{prime_row, row_prime};
 pub use span::Span;

@@ -1,7 +1,6 @@
 //! The row of a page.
 ghost use Rattle.std.specs.Prelude.{◌≡◌, ◌*◌, ◌<◌, ◌≤◌, ℕ, Option, IfSome, IfNone, length, unwrap_or};
-ghost use Rattle.blink_page.specs.Limits.{IsPageNumber};
-ghost use Rattle.blink_page.specs.Entries.{ValuesWithin};
+ghost use Rattle.blink_page.specs.{IsPageNumber, ValuesWithin};
 ghost use Rattle.blink_rows.specs.Row.{flat, flag, IsPageRow, IsRowOfNoPage};
 
 use crate::lawful::is_lawful;

@@ -1,6 +1,6 @@
 //! The row of a prime block.
 ghost use Rattle.std.specs.Prelude.{◌≡◌, ◌≤◌, All, IfSome, IfNone, length};
-ghost use Rattle.blink_page.specs.Limits.{IsPageNumber};
+ghost use Rattle.blink_page.specs.{IsPageNumber};
 ghost use Rattle.blink_rows.specs.Row.{IsPrimeRow, IsRowOfNoPrime};
 
 use crate::limits::{HEAD_WORDS, ROW_WORDS};

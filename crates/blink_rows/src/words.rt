@@ -1,6 +1,6 @@
 //! What the rows of pages and of prime blocks have alike.
 ghost use Rattle.std.specs.Prelude.{◌≡◌, ◌+◌, ◌≤◌, ◌↔◌, IfSome, IfNone, IsTrue, take, drop};
-ghost use Rattle.blink_page.specs.Limits.{IsPageNumber};
+ghost use Rattle.blink_page.specs.{IsPageNumber};
 ghost use Rattle.blink_rows.specs.Row.{AreZero, IsRowOf};
 
 use crate::limits::{HEAD_WORDS, ROW_WORDS};

@@ -13,9 +13,7 @@ use Rattle.blink_run.specs.Lanes.{lane_ops}
 use Rattle.blink_run.proofs.LaneSoFar.{lane_so_far, lane_so_far-own, lane_so_far-other, lane_so_far-all}
 use Rattle.blink_page.specs.declared.limits.TheConstants.{MAX_NEW_PAGES_PER_INSERT}
 use Rattle.blink_rows.specs.declared.span.Span.{Span}
-use Rattle.blink_live.specs.Allowed.{inserts_left, deletes_left}
-use Rattle.blink_live.specs.Deals.{rows_for}
-use Rattle.blink_live.specs.Views.{span}
+use Rattle.blink_live.specs.{inserts_left, deletes_left, rows_for, span}
 
 -- one for an operation that passes, in this lane or a later one
 abbrev one_from : (Op → Bool) → ℕ → Op × ℕ → ℕ

@@ -1,7 +1,7 @@
 -- The first number of a schedule that is no worker's.
 use Rattle.std.proofs.Common.{◌≡◌, ◌<◌, ◌≤◌, ℕ, List, [], ◌∷◌, ◌++◌, All, sym, ◌∙◌, subst, arith}
 use Rattle.std.proofs.lemmas.List.Elements.{All-head, All-tail}
-use Rattle.blink_steps.specs.World.{IsFirstNoWorker}
+use Rattle.blink_steps.specs.{IsFirstNoWorker}
 
 module _ (workers : ℕ) where
   abbrev AreWorkers : List ℕ → Type 0

@@ -5,9 +5,8 @@ use Rattle.std.proofs.lemmas.List.{get_or-replicate, get_or-set_other, get_or-se
 use Rattle.std.proofs.lemmas.Option.{get_or_from_slice_get, slice_get-get_or, slice_get_within}
 use Rattle.std.specs.List.{slice_get}
 use Rattle.std.specs.Prelude.{vec_len}
-use Rattle.blink_batch.specs.Cut.{AreLanes}
+use Rattle.blink_batch.specs.{AreLanes, lane_of}
 use Rattle.blink_batch.specs.declared.Answer.{Answer}
-use Rattle.blink_batch.specs.Order.{lane_of}
 use Rattle.blink_batch.proofs.Offered.{lane_rank, part_of_first-other, part_of_first-own}
 use Rattle.blink_store.proofs.Offered.{slice_get-push_other, slice_get-push_same}
 use Rattle.blink_run.specs.declared.live.lane.LaneRun.{LaneRun}

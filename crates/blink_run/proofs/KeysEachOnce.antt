@@ -10,7 +10,7 @@ use Rattle.std.proofs.lemmas.List.Sorted.{Contains-permutation, IsPermutation-sy
 use Rattle.std.proofs.lemmas.Map.Keys.{IsStrictlyIncreasing-dedup}
 use Rattle.std.proofs.lemmas.Option.{get_or_from_slice_get, slice_get_within}
 use Rattle.std.proofs.Math.Dec.{eqb}
-use Rattle.blink_live.specs.Deals.{NoneIsTaken}
+use Rattle.blink_live.specs.{NoneIsTaken}
 
 -- in a list that ascends strictly no number stands twice
 pub each_once_from_increasing : (keys : List ℕ) → IsStrictlyIncreasing keys → NoneIsTaken [] keys

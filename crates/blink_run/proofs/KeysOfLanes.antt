@@ -5,9 +5,7 @@ use Rattle.std.proofs.lemmas.List.{get_or_default}
 use Rattle.std.proofs.lemmas.Option.{get_or_from_slice_get, slice_get_within}
 use Rattle.blink_batch.specs.declared.Op.{Op}
 use Rattle.blink_batch.specs.declared.Op.TheVariants.{Find}
-use Rattle.blink_batch.specs.Cut.{IsLawfulCut}
-use Rattle.blink_batch.specs.Operation.{key_of}
-use Rattle.blink_batch.specs.Order.{lane_of}
+use Rattle.blink_batch.specs.{IsLawfulCut, key_of, lane_of}
 use Rattle.blink_batch.proofs.Offered.{lane_place, same_worker_from_key}
 use Rattle.blink_run.specs.Lanes.{IsKeyOfOne, lane_ops}
 

@@ -10,15 +10,12 @@ use Rattle.std.specs.List.{slice_get}
 use Rattle.blink_batch.specs.declared.Answer.{Answer}
 use Rattle.blink_batch.specs.declared.Op.{Op}
 use Rattle.blink_batch.specs.declared.Op.TheVariants.{Find}
-use Rattle.blink_batch.specs.Order.{operations_at, part_of, places_from}
-use Rattle.blink_batch.specs.Batch.{is_insert}
-use Rattle.blink_batch.specs.Operation.{answer_of, answers, key_of, map_after_all}
+use Rattle.blink_batch.specs.{operations_at, part_of, places_from, is_insert, answer_of, answers, key_of, map_after_all}
 use Rattle.blink_batch.proofs.Offered.{answers-push, length-answers, map_after_all-push}
 use Rattle.blink_live.specs.declared.Live.{Live}
 use Rattle.blink_live.specs.declared.PassError.{PassError}
 use Rattle.blink_live.specs.declared.PassError.TheVariants.{NotYours, Spent}
-use Rattle.blink_live.specs.Allowed.{inserts_left, deletes_left}
-use Rattle.blink_live.specs.Handles.{IsPassOf, keys_of, share_of}
+use Rattle.blink_live.specs.{inserts_left, deletes_left, IsPassOf, keys_of, share_of}
 use Rattle.blink_run.specs.declared.live.lane.LaneRun.{LaneRun}
 use Rattle.blink_run.specs.Lanes.{CanRun, HasRun, IsPassAfter, MayRun, uses_deletion, lane_ops}
 use Rattle.blink_run.proofs.LaneSoFar.{lane_parts, lane_so_far, lane_so_far-all, lane_so_far-other, lane_so_far-own}

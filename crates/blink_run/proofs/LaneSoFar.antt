@@ -3,7 +3,7 @@ use Rattle.std.proofs.Common.{◌≡◌, ℕ, ◌+◌, ◌<◌, ◌≤◌, List,
 use Rattle.std.proofs.lemmas.List.Elements.{filter_map-append}
 use Rattle.std.specs.List.{slice_get}
 use Rattle.blink_batch.specs.declared.Op.{Op}
-use Rattle.blink_batch.specs.Order.{operations_at, part_of, places_from}
+use Rattle.blink_batch.specs.{operations_at, part_of, places_from}
 use Rattle.blink_batch.proofs.Offered.{lane_at_place, operations_at-push, part_of_first-own, part_of_first-other, part_of_first-end}
 use Rattle.blink_run.specs.Lanes.{lane_ops}
 

@@ -5,15 +5,11 @@ use Rattle.std.proofs.lemmas.List.Sorted.{Contains-permutation, IsPermutation-sy
 use Rattle.std.proofs.lemmas.Option.{get_or_from_slice_get, slice_get_within}
 use Rattle.blink_batch.specs.declared.Op.{Op}
 use Rattle.blink_batch.specs.declared.cut.TheConstants.{WORKER_LIMIT}
-use Rattle.blink_batch.specs.Batch.{is_insert}
-use Rattle.blink_batch.specs.Cut.{IsLawfulCut}
-use Rattle.blink_batch.specs.PlainMap.{pointer_of}
+use Rattle.blink_batch.specs.{is_insert, IsLawfulCut, pointer_of}
 use Rattle.blink_rows.specs.declared.span.Span.{Span}
 use Rattle.blink_live.specs.declared.Keeper.{Keeper}
 use Rattle.blink_live.specs.declared.Live.{Live}
-use Rattle.blink_live.specs.Allowed.{inserts_left, deletes_left}
-use Rattle.blink_live.specs.Deals.{HasDealt, IsDealt, LacksAllowance, NoneIsTaken}
-use Rattle.blink_live.specs.Handles.{IsKeeperOf, keys_of, opening_of, passes_dealt, taken_of}
+use Rattle.blink_live.specs.{inserts_left, deletes_left, HasDealt, IsDealt, LacksAllowance, NoneIsTaken, IsKeeperOf, keys_of, opening_of, passes_dealt, taken_of}
 use Rattle.blink_live.proofs.Offered.{among_from_contains, entries_of_keep}
 use Rattle.blink_run.specs.declared.live.lane.LaneRun.{LaneRun}
 use Rattle.blink_run.specs.declared.live.needs.Needs.{Needs}

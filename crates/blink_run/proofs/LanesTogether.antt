@@ -9,16 +9,12 @@ use Rattle.std.specs.List.{All, Contains, slice_get}
 use Rattle.blink_batch.specs.declared.Answer.{Answer}
 use Rattle.blink_batch.specs.declared.Entry.{Entry}
 use Rattle.blink_batch.specs.declared.Op.{Op}
-use Rattle.blink_batch.specs.Cut.{IsLawfulCut}
-use Rattle.blink_batch.specs.Operation.{answers, key_of, map_after_all}
-use Rattle.blink_batch.specs.Order.{lane_of, operations_at, part_of, places_from}
-use Rattle.blink_batch.specs.PlainMap.{IsAscending, pointer_of}
+use Rattle.blink_batch.specs.{IsLawfulCut, answers, key_of, map_after_all, lane_of, operations_at, part_of, places_from, IsAscending, pointer_of}
 use Rattle.blink_batch.proofs.Offered.{IsAscending-map_after_all, IsKeyOfLane, IsShareFor, lane_answers-at_place, lane_map, lane_within, length-answers, length-operations_at, same_map_from_pointers, untouched_by_batch}
 use Rattle.blink_live.specs.declared.Keeper.{Keeper}
 use Rattle.blink_live.specs.declared.Live.{Live}
 use Rattle.blink_live.specs.declared.Pass.{Pass}
-use Rattle.blink_live.specs.Handles.{IsPassOf, opening_of, passes_dealt}
-use Rattle.blink_live.specs.Merge.{IsMerge}
+use Rattle.blink_live.specs.{IsPassOf, opening_of, passes_dealt, IsMerge}
 use Rattle.blink_store.proofs.Offered.{same_at_each}
 use Rattle.blink_run.specs.declared.live.lane.LaneRun.{LaneRun}
 use Rattle.blink_run.specs.Lanes.{AreGathered, HasDealtAll, HasRun, HaveRun, HaveRunLanes, IsKeyOfOne, lane_ops, rank_in_lane}

@@ -4,9 +4,8 @@ use Rattle.std.specs.List.{Contains}
 use Rattle.std.proofs.lemmas.List.{get_or-map, get_or_default, length-map}
 use Rattle.blink_batch.specs.declared.Op.{Op}
 use Rattle.blink_batch.specs.declared.Op.TheVariants.{Find}
-use Rattle.blink_batch.specs.Batch.{is_insert}
-use Rattle.blink_batch.specs.Operation.{key_of}
-use Rattle.blink_live.specs.Deals.{NoneIsTaken}
+use Rattle.blink_batch.specs.{is_insert, key_of}
+use Rattle.blink_live.specs.{NoneIsTaken}
 use Rattle.blink_run.specs.declared.live.needs.Needs.{Needs}
 use Rattle.blink_run.specs.Lanes.{IsKeyOfOne, IsNeeded, uses_deletion}
 

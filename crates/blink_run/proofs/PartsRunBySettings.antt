@@ -3,10 +3,10 @@ use Rattle.std.proofs.Common.{◌≡◌, ℕ, ◌+◌, ◌<◌, List, [], ◌∷
 use Rattle.std.proofs.lemmas.List.{take-append-drop, drop_more}
 use Rattle.blink_batch.specs.declared.Part.{Part}
 use Rattle.blink_batch.specs.declared.Part.TheVariants.{Batch, Scan, Page}
-use Rattle.blink_store.specs.Store.{PlainStore}
+use Rattle.blink_store.specs.{PlainStore}
 use Rattle.blink_run.specs.BySettings.{RefusesPart, RunsPartBy, RunsPartsBy, StopsAt, TellsRun}
 use Rattle.blink_run.specs.Served.{IsPartFault, is_batch}
-use Rattle.blink_settings.specs.Settings.{PlainSettings}
+use Rattle.blink_settings.specs.{PlainSettings}
 use Rattle.blink_settings.specs.declared.error.RunError.{RunError}
 use Rattle.blink_settings.specs.declared.error.ServeError.{ServeError}
 use Rattle.blink_settings.specs.declared.error.ServeError.TheVariants as serve

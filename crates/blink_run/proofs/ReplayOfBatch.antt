@@ -3,14 +3,12 @@ use Rattle.std.proofs.Common.{◌≡◌, ◌++◌, ℕ, Option, IsSome, List, Al
 use Rattle.std.proofs.lemmas.List.{append-nil}
 use Rattle.blink_batch.specs.declared.Answer.{Answer}
 use Rattle.blink_batch.specs.declared.Op.{Op}
-use Rattle.blink_batch.specs.Cut.{Assignment, IsLawfulCut}
-use Rattle.blink_rest.specs.Rest.{IsStoreAtRest}
-use Rattle.blink_store.specs.Store.{PlainStore}
-use Rattle.blink_steps.specs.Promises.{IsPromised}
-use Rattle.blink_steps.specs.Run.{Event}
-use Rattle.blink_steps.specs.World.{PlainWorld, HasEnded, IsStart, IsWorldOf}
+use Rattle.blink_batch.specs.{Assignment, IsLawfulCut}
+use Rattle.blink_rest.specs.{IsStoreAtRest}
+use Rattle.blink_store.specs.{PlainStore}
+use Rattle.blink_steps.specs.{IsPromised, Event, PlainWorld, HasEnded, IsStart, IsWorldOf}
 use Rattle.blink_run.specs.Replay.{IsRunToEnd, RunsBatch, by_residue}
-use Rattle.blink_settings.specs.Settings.{lanes_by_residue}
+use Rattle.blink_settings.specs.{lanes_by_residue}
 use Rattle.blink_run.specs.Trace.{trace_of}
 use Rattle.blink_locked.proofs.Offered.{all_some, no_turn_yet}
 use Rattle.blink_locked.proofs.Offered.{IsDone}

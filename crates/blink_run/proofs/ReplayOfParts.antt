@@ -2,10 +2,9 @@
 use Rattle.std.proofs.Common.{◌≡◌, ℕ, List, [], ◌∷◌, ◌++◌, Option, Ok, count_by, length, refl, ap, sym, ◌∙◌, subst, append_assoc, append-nil, arith}
 use Rattle.blink_batch.specs.declared.Part.{Part}
 use Rattle.blink_batch.specs.declared.Part.TheVariants.{Batch}
-use Rattle.blink_batch.specs.Script.{ReadsAs}
-use Rattle.blink_index.specs.Dump.{text_of_store}
-use Rattle.blink_index.specs.Index.{map_of}
-use Rattle.blink_store.specs.Store.{PlainStore, new_store}
+use Rattle.blink_batch.specs.{ReadsAs}
+use Rattle.blink_index.specs.{text_of_store, map_of}
+use Rattle.blink_store.specs.{PlainStore, new_store}
 use Rattle.blink_run.specs.Served.{is_batch, part_after, part_text, script_text}
 use Rattle.blink_run.specs.ServedReplay.{AreTexts, AreToWrite, RunsParts, TellsPart, TellsParts, taken_where}
 

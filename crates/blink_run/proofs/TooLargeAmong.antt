@@ -4,8 +4,8 @@ use Rattle.std.proofs.lemmas.Bool.Decides.{nat_tests}
 use Rattle.std.proofs.lemmas.List.Sums.{sum_by-append}
 use Rattle.blink_batch.specs.declared.Part.{Part}
 use Rattle.blink_batch.specs.declared.Part.TheVariants.{Batch, Scan, Page}
-use Rattle.blink_batch.specs.Script.{ReadsAs}
-use Rattle.blink_store.specs.Store.{PlainStore, new_store}
+use Rattle.blink_batch.specs.{ReadsAs}
+use Rattle.blink_store.specs.{PlainStore, new_store}
 use Rattle.blink_run.specs.Replay.{IsRefusedMemory, RunsBatch}
 use Rattle.blink_run.specs.Served.{is_batch}
 use Rattle.blink_run.specs.ServedReplay.{HaveRunParts, HaveTooLarge, IsPartRefusal, IsPartsFault, RunsParts, TellsPart, TellsReplayOf, TellsTooLarge, taken_where}

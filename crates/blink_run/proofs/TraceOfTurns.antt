@@ -3,12 +3,11 @@ use Rattle.std.proofs.Common.{◌≡◌, ◌<◌, ℕ, List, [], ◌∷◌, ◌+
 use Rattle.std.proofs.lemmas.Grind.{flat_map-append}
 use Rattle.std.proofs.lemmas.List.{append-nil, reverse-append}
 use Rattle.std.specs.List.{flat_map}
-use Rattle.blink_store.specs.Store.{PlainStore}
+use Rattle.blink_store.specs.{PlainStore}
 use Rattle.blink_machine.specs.declared.Step.{Step}
 use Rattle.blink_steps.specs.declared.StepError.{StepError}
 use Rattle.blink_steps.specs.declared.StepError.TheVariants as step
-use Rattle.blink_steps.specs.Run.{Event}
-use Rattle.blink_steps.specs.World.{PlainWorld, GoesOnBy, IsStepRefusal, IsWorldOf, SameBatch, TakesStep}
+use Rattle.blink_steps.specs.{Event, PlainWorld, GoesOnBy, IsStepRefusal, IsWorldOf, SameBatch, TakesStep}
 use Rattle.blink_run.specs.Replay.{HasTurnsMore, IsTraced}
 use Rattle.blink_run.specs.Trace.{trace_of, turn_line}
 

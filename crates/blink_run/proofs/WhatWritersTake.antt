@@ -3,7 +3,7 @@ use Rattle.std.proofs.Common.{◌≡◌, ℕ, List, [], ◌∷◌, ◌++◌, Opt
 use Rattle.std.specs.Io.KnownBytes.{Appends, Keeps}
 use Rattle.blink_batch.specs.declared.Part.{Part}
 use Rattle.blink_batch.specs.declared.Part.TheVariants.{Batch}
-use Rattle.blink_batch.specs.Script.{ReadsAs, records_of}
+use Rattle.blink_batch.specs.{ReadsAs, records_of}
 use Rattle.blink_run.specs.TrackedWriter.{WritesPrefix, Writes, KeepsFlushed, TakesOffered}
 use Rattle.blink_run.specs.Served.{IsAScript, IsPrefixOf, IsTextOf, IsTextBefore, FlushedOutputAfterError, OutputAfterError, Serves, TellsFault, WritesText, WroteBefore, script_text}
 use Rattle.blink_settings.specs.declared.error.ServeError.{ServeError}

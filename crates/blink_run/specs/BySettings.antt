@@ -3,17 +3,16 @@ use Rattle.std.specs.Prelude.{ℕ, ◌≡◌, ◌+◌, List, [], ◌∷◌, ◌+
 use Rattle.blink_batch.specs.declared.Op.{Op}
 use Rattle.blink_batch.specs.declared.Part.{Part}
 use Rattle.blink_batch.specs.declared.Part.TheVariants.{Batch}
-use Rattle.blink_batch.specs.Cut.{Assignment}
-use Rattle.blink_batch.specs.Script.{records_of, script_of}
-use Rattle.blink_live.specs.Gathered.{IsNumberedInOrder}
-use Rattle.blink_store.specs.Store.{PlainStore, new_store}
+use Rattle.blink_batch.specs.{Assignment, records_of, script_of}
+use Rattle.blink_live.specs.{IsNumberedInOrder}
+use Rattle.blink_store.specs.{PlainStore, new_store}
 use Rattle.blink_settings.specs.declared.error.RunError.{RunError}
 use Rattle.blink_settings.specs.declared.error.ServeError.{ServeError}
 use Rattle.blink_settings.specs.declared.error.ServeError.TheVariants as serve
 use Rattle.blink_settings.specs.declared.settings.Driver.TheVariants.{Locked, Live}
-use Rattle.blink_locked.specs.Run.{IsReplayed, MayRefuse}
+use Rattle.blink_locked.specs.{IsReplayed, MayRefuse}
 use Rattle.blink_run.specs.Served.{is_batch}
-use Rattle.blink_settings.specs.Settings.{PlainSettings, lanes_by}
+use Rattle.blink_settings.specs.{PlainSettings, lanes_by}
 
 -- whose operation each is
 abbrev pub assignment_by : PlainSettings → List Op → Assignment

@@ -4,16 +4,11 @@ use Rattle.blink_batch.specs.declared.Answer.{Answer}
 use Rattle.blink_batch.specs.declared.Entry.{Entry}
 use Rattle.blink_batch.specs.declared.Op.{Op}
 use Rattle.blink_batch.specs.declared.Op.TheVariants.{Find, Insert}
-use Rattle.blink_batch.specs.Batch.{is_insert}
-use Rattle.blink_batch.specs.Operation.{answers, key_of, map_after, map_after_all}
-use Rattle.blink_batch.specs.Order.{lane_of, operations_at, part_of, places_from}
-use Rattle.blink_batch.specs.PlainMap.{pointer_of}
+use Rattle.blink_batch.specs.{is_insert, answers, key_of, map_after, map_after_all, lane_of, operations_at, part_of, places_from, pointer_of}
 use Rattle.blink_live.specs.declared.Keeper.{Keeper}
 use Rattle.blink_live.specs.declared.Live.{Live}
 use Rattle.blink_live.specs.declared.Pass.{Pass}
-use Rattle.blink_live.specs.Allowed.{inserts_left, deletes_left}
-use Rattle.blink_live.specs.Deals.{NoneIsTaken}
-use Rattle.blink_live.specs.Handles.{IsKeeperOf, IsPassOf, keys_of, opening_of, passes_dealt, share_of, taken_of}
+use Rattle.blink_live.specs.{inserts_left, deletes_left, NoneIsTaken, IsKeeperOf, IsPassOf, keys_of, opening_of, passes_dealt, share_of, taken_of}
 use Rattle.blink_run.specs.declared.live.lane.LaneRun.{LaneRun}
 use Rattle.blink_run.specs.declared.live.needs.Needs.{Needs}
 use Rattle.blink_run.specs.declared.live.threads.RunsLane.{RunsLane}

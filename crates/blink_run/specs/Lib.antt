@@ -1,13 +1,31 @@
+-- What a caller of `blink_run` reads, in this order; then what proofs above it need; then the files themselves.
+
+-- a script that is run as its settings say: over pages of their fan, each batch cut among their workers in their way, by their driver
+pub use Rattle.blink_run.specs.BySettings.{ServesBy, TellsRunOf}
+-- what is written of what is read: the text of a script's parts, one after another, by one thread on one plain map
+pub use Rattle.blink_run.specs.Served.{IsPrefixOf, IsTextOf, OutputAfterError, Serves, TellsFault, WritesText, is_batch}
+-- what a replay of a script writes: the trace of its last batch, the text of its parts, and the pages that it ends with
+pub use Rattle.blink_run.specs.ServedReplay.{HaveRunParts, IsPartsFault, IsReplayText, LeavesReplay, Replays, TellsReplayFault, TellsReplayOf, TellsTooLarge, TellsWorkersFault}
+-- a batch's replay: the turns of a schedule, of which there is a trace, and then picked turns to the end
+pub use Rattle.blink_run.specs.Replay.{IsRefusedMemory, by_residue}
+-- the trace of turns: a line for each, with its worker and what became of it
+pub use Rattle.blink_run.specs.Trace.{turn_line}
+-- what a writer is given, call by call: a text goes out piece by piece, and the first call that fails is the last
+pub use Rattle.blink_run.specs.TrackedWriter.{Writes, WritesAll, WritesPrefix}
+-- ---- for proofs above
+pub use Rattle.blink_run.specs.Served.{IsTextBeforeBatch, IsTextOfPrefix}
+-- ---- what stands below, by its files
 pub use Rattle.blink_locked.specs.Book
 pub use Rattle.blink_locked.specs.Run
 pub use Rattle.blink_locked.specs.Starts
 pub use Rattle.blink_settings.specs.Settings
 pub use Rattle.blink_settings.specs.Codes
-pub mod TrackedWriter
-pub mod Text
-pub mod Trace
-pub mod Replay
+-- ---- the files
 pub mod BySettings
 pub mod Served
 pub mod ServedReplay
+pub mod Replay
+pub mod Trace
+pub mod Text
 pub mod Lanes
+pub mod TrackedWriter

@@ -2,17 +2,13 @@
 use Rattle.std.specs.Prelude.{◌≡◌, ◌⊎◌, ℕ, Some, List, ◌++◌, map}
 use Rattle.blink_batch.specs.declared.Answer.{Answer}
 use Rattle.blink_batch.specs.declared.Op.{Op}
-use Rattle.blink_batch.specs.Text.{text_of}
-use Rattle.blink_batch.specs.Cut.{Assignment}
-use Rattle.blink_store.specs.Store.{PlainStore}
-use Rattle.blink_steps.specs.Pick.{GoesOnPicked}
-use Rattle.blink_steps.specs.Promises.{IsPromised}
-use Rattle.blink_steps.specs.Run.{Event}
-use Rattle.blink_steps.specs.World.{PlainWorld, IsReplay, IsWorldOf, HasEnded, IsTooLarge, KeepsItsStart, SameBatch}
+use Rattle.blink_batch.specs.{text_of, Assignment}
+use Rattle.blink_store.specs.{PlainStore}
+use Rattle.blink_steps.specs.{GoesOnPicked, IsPromised, Event, PlainWorld, IsReplay, IsWorldOf, HasEnded, IsTooLarge, KeepsItsStart, SameBatch}
 use Rattle.blink_steps.specs.declared.StepError.TheVariants as step
 use Rattle.blink_settings.specs.declared.error.ServeError.{ServeError}
 use Rattle.blink_settings.specs.declared.error.ServeError.TheVariants.{Step, OutOfMemory}
-use Rattle.blink_settings.specs.Settings.{lanes_by_residue}
+use Rattle.blink_settings.specs.{lanes_by_residue}
 use Rattle.blink_run.specs.Trace.{trace_of}
 
 -- the worker of each operation is the remainder of its key

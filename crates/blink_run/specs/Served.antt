@@ -5,10 +5,8 @@ use Rattle.blink_batch.specs.declared.Entry.{Entry}
 use Rattle.blink_batch.specs.declared.Op.{Op}
 use Rattle.blink_batch.specs.declared.Part.{Part}
 use Rattle.blink_batch.specs.declared.Part.TheVariants.{Batch, Scan, Page}
-use Rattle.blink_batch.specs.Operation.{answers, map_after_all}
-use Rattle.blink_batch.specs.Script.{IsReadable, TellsRefusal, records_of, script_of}
-use Rattle.blink_batch.specs.Text.{text_of}
-use Rattle.blink_index.specs.Scan.{is_from, is_within}
+use Rattle.blink_batch.specs.{answers, map_after_all, IsReadable, TellsRefusal, records_of, script_of, text_of}
+use Rattle.blink_index.specs.{is_from, is_within}
 use Rattle.blink_run.specs.TrackedWriter.{WritesPrefix, WritesAll}
 use Rattle.blink_run.specs.Text.{scan_text}
 use Rattle.blink_settings.specs.declared.error.RunError.{RunError}

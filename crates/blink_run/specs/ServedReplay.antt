@@ -4,11 +4,11 @@ use Rattle.std.specs.Io.KnownBytes.{Keeps}
 use Rattle.blink_batch.specs.declared.Op.{Op}
 use Rattle.blink_batch.specs.declared.Part.{Part}
 use Rattle.blink_batch.specs.declared.Part.TheVariants.{Batch}
-use Rattle.blink_batch.specs.Script.{IsReadable, TellsRefusal, records_of, script_of}
-use Rattle.blink_index.specs.Dump.{text_of_store}
-use Rattle.blink_store.specs.Store.{PlainStore, new_store}
+use Rattle.blink_batch.specs.{IsReadable, TellsRefusal, records_of, script_of}
+use Rattle.blink_index.specs.{text_of_store}
+use Rattle.blink_store.specs.{PlainStore, new_store}
 use Rattle.blink_steps.specs.declared.StepError.TheVariants as step
-use Rattle.blink_steps.specs.World.{IsFirstNoWorker, IsTooLarge}
+use Rattle.blink_steps.specs.{IsFirstNoWorker, IsTooLarge}
 use Rattle.blink_run.specs.Replay.{IsRefusedMemory, IsReplayFault, RunsBatch, TellsBatch}
 use Rattle.blink_run.specs.Served.{IsAScript, IsPrefixOf, WritesText, is_batch, script_text}
 use Rattle.blink_settings.specs.declared.error.ServeError.{ServeError}

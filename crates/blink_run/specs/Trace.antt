@@ -6,7 +6,7 @@ use Rattle.blink_machine.specs.declared.Kind.{Kind}
 use Rattle.blink_machine.specs.declared.Kind.TheVariants.{ReadPage, ReadPrime, Latch, Unlatch, WritePage, WritePrime}
 use Rattle.blink_machine.specs.declared.Step.{Step}
 use Rattle.blink_machine.specs.declared.Step.TheVariants.{Moved, Waited, Idle}
-use Rattle.blink_steps.specs.Run.{Event}
+use Rattle.blink_steps.specs.{Event}
 
 -- P and Q are a read and a write of the prime block; the others have their page's number
 abbrev pub words_of_kind : Kind → List ℕ

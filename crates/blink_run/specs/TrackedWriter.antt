@@ -1,4 +1,4 @@
--- What an writer is given, call by call: a text goes out piece by piece, and the first call that fails is the last.
+-- What a writer is given, call by call: a text goes out piece by piece, and the first call that fails is the last.
 use Rattle.std.specs.Prelude.{ℕ, ◌≡◌, ◌<◌, Bool, true, false, List, [], ◌++◌, Option, Some, None, length, take}
 use Rattle.std.specs.Io.KnownBytes.{Appends, Keeps}
 

@@ -1,15 +1,11 @@
 //! A batch's run on an index by threads that share a table of words, without a lock.
 ghost use Rattle.std.specs.Prelude.{◌≡◌, ◌↔◌, count_by, IfErr, IfOk, IsErrOf, OnErr};
-ghost use Rattle.blink_batch.specs.Cut.{IsLawfulCut};
-ghost use Rattle.blink_batch.specs.Operation.{answers, map_after_all};
-ghost use Rattle.blink_batch.specs.Batch.{is_insert};
-ghost use Rattle.blink_batch.specs.PlainMap.{IsAscending};
-ghost use Rattle.blink_index.specs.Index.{map_of};
-ghost use Rattle.blink_live.specs.Gathered.{IsNumberedInOrder};
+ghost use Rattle.blink_batch.specs.{IsLawfulCut, answers, map_after_all, is_insert, IsAscending};
+ghost use Rattle.blink_index.specs.{map_of};
+ghost use Rattle.blink_live.specs.{IsNumberedInOrder};
 ghost use Rattle.blink_run.specs.Lanes.{HasDealtAll, HaveRunLanes, IsNewKeeper, uses_deletion};
-ghost use Rattle.blink_locked.specs.Run.{MayRefuse};
-ghost use Rattle.blink_locked.specs.Starts.{IsStartRefusal};
-ghost use Rattle.blink_steps.specs.World.{IsTooLarge};
+ghost use Rattle.blink_locked.specs.{MayRefuse, IsStartRefusal};
+ghost use Rattle.blink_steps.specs.{IsTooLarge};
 
 mod dealing;
 mod gathering;

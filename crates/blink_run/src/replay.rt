@@ -1,21 +1,19 @@
 //! A script served by a replay, without threads.
 ghost use Rattle.std.specs.Prelude.{◌≡◌, ◌<◌, ◌++◌, ◌↔◌, [], All, Err, IfOk, IfErr, IsErrOf, IsOk, OnOk, MatchOption, count_by, string_bytes};
-ghost use Rattle.blink_batch.specs.Cut.{IsLawfulCut, MayWork};
-ghost use Rattle.blink_batch.specs.Operation.{answers, map_after_all};
-ghost use Rattle.blink_batch.specs.Text.{text_of};
-ghost use Rattle.blink_index.specs.Index.{map_of};
-ghost use Rattle.blink_steps.specs.World.{IsFirstNoWorker, IsStart};
-ghost use Rattle.blink_store.specs.Store.{new_store};
+ghost use Rattle.blink_batch.specs.{IsLawfulCut, MayWork, answers, map_after_all, text_of};
+ghost use Rattle.blink_index.specs.{map_of};
+ghost use Rattle.blink_steps.specs.{IsFirstNoWorker, IsStart};
+ghost use Rattle.blink_store.specs.{new_store};
 ghost use Rattle.blink_run.specs.TrackedWriter.{WritesPrefix, Writes, WritesAll};
 ghost use Rattle.blink_run.specs.Replay.{IsRefusedMemory, IsReplayFault, TellsBatch, TellsRun, by_residue};
 ghost use Rattle.blink_run.specs.Served.{is_batch, part_after, part_text, script_text};
-ghost use Rattle.blink_settings.specs.Settings.{lanes_by_residue};
+ghost use Rattle.blink_settings.specs.{lanes_by_residue};
 ghost use Rattle.blink_run.specs.ServedReplay.{AreTexts, AreToWrite, HaveRunParts, IsPartRefusal, IsPartsFault, LeavesReplay, Replays, TellsPart, TellsParts, TellsReplayFault, TellsReplayOf, TellsTooLarge, TellsWorkersFault, taken_where};
 
-use crate::tracked_writer::{TrackedWriter, flush_out, write_out};
 use crate::script::{batches_with, new_index};
 use crate::text::{push_answers, push_scan};
 use crate::trace::trace_steps;
+use crate::tracked_writer::{TrackedWriter, flush_out, write_out};
 use blink_batch::{Batch, Cut, Lanes, Part, read_script};
 use blink_index::Index;
 use blink_index::laws::{no_other_map_is_kept, the_map_is_kept};

@@ -1,11 +1,10 @@
 //! A batch's run on an index, by threads.
 ghost use Rattle.std.specs.Prelude.{◌≡◌, ◌↔◌, IfErr, IfOk, IsErrOf, OnErr};
-ghost use Rattle.blink_batch.specs.Cut.{IsLawfulCut};
-ghost use Rattle.blink_batch.specs.Operation.{answers, map_after_all};
-ghost use Rattle.blink_index.specs.Index.{map_of};
-ghost use Rattle.blink_steps.specs.World.{IsTooLarge};
-ghost use Rattle.blink_live.specs.Gathered.{IsNumberedInOrder};
-ghost use Rattle.blink_locked.specs.Run.{IsReplayed, MayRefuse};
+ghost use Rattle.blink_batch.specs.{IsLawfulCut, answers, map_after_all};
+ghost use Rattle.blink_index.specs.{map_of};
+ghost use Rattle.blink_steps.specs.{IsTooLarge};
+ghost use Rattle.blink_live.specs.{IsNumberedInOrder};
+ghost use Rattle.blink_locked.specs.{IsReplayed, MayRefuse};
 
 use crate::live::run_live;
 use blink_batch::{Answer, Batch, Cut};

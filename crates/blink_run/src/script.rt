@@ -1,18 +1,17 @@
 //! A script served: from its text to its output.
 ghost use Rattle.std.specs.Prelude.{◌≡◌, ◌+◌, ◌<◌, ◌^◌, [], ◌∷◌, count_by, IfErr, IfOk, IsErrOf, OnOk, string_bytes};
-ghost use Rattle.blink_batch.specs.Operation.{answers, map_after_all};
-ghost use Rattle.blink_batch.specs.Text.{text_of};
+ghost use Rattle.blink_batch.specs.{answers, map_after_all, text_of};
 ghost use Rattle.blink_batch.specs.declared.Part.TheVariants.{Batch as PartBatch};
-ghost use Rattle.blink_index.specs.Index.{map_of};
-ghost use Rattle.blink_store.specs.Store.{new_store};
+ghost use Rattle.blink_index.specs.{map_of};
+ghost use Rattle.blink_store.specs.{new_store};
 ghost use Rattle.blink_run.specs.BySettings.{RefusesPart, RunsBatchBy, RunsPartBy, RunsPartsBy, ServesBy, TellsRun, TellsRunOf};
 ghost use Rattle.blink_run.specs.TrackedWriter.{Writes, WritesAll};
 ghost use Rattle.blink_run.specs.Text.{scan_text};
 ghost use Rattle.blink_run.specs.Served.{IsBatchFault, IsPartFault, FlushedOutputAfterError, PrefixOutputAfterError, OutputAfterError, PartOutputAfterError, Serves, TellsFault, is_batch, part_after, part_text, script_text};
 
-use crate::tracked_writer::{TrackedWriter, flush_out, write_out};
 use crate::run::run_batch;
 use crate::text::{push_answers, push_scan};
+use crate::tracked_writer::{TrackedWriter, flush_out, write_out};
 use blink_batch::{Answer, Batch, Part, read_script};
 use blink_index::{Index, Scan};
 use blink_locked::Gate;
@@ -106,7 +105,16 @@ fn serve_parts<T: Threads + Wait + Sync, O: TrackedWriter, G: Gate + Sync>(
     let mut batches = 0u64;
     for part in parts {
         batches = batches_with(part, batches);
-        serve_part(rt, alloc, part, batches, index, tracked_writer, settings, gate)?;
+        serve_part(
+            rt,
+            alloc,
+            part,
+            batches,
+            index,
+            tracked_writer,
+            settings,
+            gate,
+        )?;
     }
     Ok(())
 }

@@ -1,6 +1,6 @@
 //! The text of answers, of scans and of pages.
 ghost use Rattle.std.specs.Prelude.{◌≡◌, ◌++◌, OnOk, string_bytes};
-ghost use Rattle.blink_batch.specs.Text.{text_of};
+ghost use Rattle.blink_batch.specs.{text_of};
 ghost use Rattle.blink_run.specs.Text.{end_line, entry_line, scan_text};
 
 use blink_batch::{Answer, Entry};

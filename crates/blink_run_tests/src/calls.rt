@@ -1,5 +1,5 @@
 //! The calls that many tests make, and what is compared of them.
-ghost use Rattle.blink_batch.specs.Cut.{IsLawfulCut};
+ghost use Rattle.blink_batch.specs.{IsLawfulCut};
 
 use blink_batch::{Batch, Cut, Op};
 use blink_run::{CutKind, Driver, Open, ServeError, Settings, serve, serve_replay};

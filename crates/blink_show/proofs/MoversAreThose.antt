@@ -3,8 +3,7 @@ use Rattle.std.proofs.Common.{◌≡◌, ℕ, zero, suc, ◌+◌, ◌<◌, List,
 use Rattle.std.proofs.lemmas.Bool.{cases_lt}
 use Rattle.std.proofs.lemmas.List.{length_push}
 use Rattle.std.proofs.lemmas.List.Elements.{All-push}
-use Rattle.blink_steps.specs.Pick.{WouldMove}
-use Rattle.blink_steps.specs.Run.{PlainRun}
+use Rattle.blink_steps.specs.{WouldMove, PlainRun}
 use Rattle.blink_show.specs.Draw.{AddsMover, AreMovers}
 
 module _ (run : PlainRun) where

@@ -1,9 +1,9 @@
 -- The text of a script's replay, from head to tail.
 use Rattle.std.proofs.Common.{◌≡◌, ◌++◌, ◌∙◌, ℕ, List, Option, Some, Ok, ap, subst}
 use Rattle.blink_batch.specs.declared.Part.{Part}
-use Rattle.blink_batch.specs.Script.{ReadsAs, records_of}
-use Rattle.blink_store.specs.Store.{PlainStore, new_store}
-use Rattle.blink_steps.specs.World.{PlainWorld}
+use Rattle.blink_batch.specs.{ReadsAs, records_of}
+use Rattle.blink_store.specs.{PlainStore, new_store}
+use Rattle.blink_steps.specs.{PlainWorld}
 use Rattle.blink_show.specs.Show.{AddsParts, IsTextOf, ShowsParts, sizes_text}
 
 module _ (head tail : List ℕ) (workers fan : ℕ) (asked : PlainWorld → PlainWorld → List ℕ → Type 0) (to_read : Option (List ℕ)) (parts : List Part) where

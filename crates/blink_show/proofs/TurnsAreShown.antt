@@ -1,8 +1,7 @@
 -- Turns with their frames, one after another.
 use Rattle.std.proofs.Common.{◌≡◌, ℕ, List, [], ◌∷◌, ◌++◌, refl, ap, sym, ◌∙◌, append_assoc, append-nil}
 use Rattle.blink_machine.specs.declared.Step.{Step}
-use Rattle.blink_steps.specs.Run.{PlainRun}
-use Rattle.blink_steps.specs.World.{PlainWorld, TakesStep}
+use Rattle.blink_steps.specs.{PlainRun, PlainWorld, TakesStep}
 use Rattle.blink_show.specs.Frames.{frame}
 use Rattle.blink_show.specs.Turns.{Shows, no_turn, one_turn}
 

@@ -4,14 +4,11 @@ use Rattle.std.proofs.lemmas.Option.{slice_get-get_or}
 use Rattle.std.specs.List.{slice_get}
 use Rattle.blink_batch.specs.declared.Op.{Op}
 use Rattle.blink_batch.specs.declared.Op.TheVariants.{Find}
-use Rattle.blink_batch.specs.Order.{next_place}
+use Rattle.blink_batch.specs.{next_place}
 use Rattle.blink_batch.proofs.Offered.{next_place_is}
-use Rattle.blink_machine.specs.Machine.{fresh}
-use Rattle.blink_steps.specs.Pick.{IsIdleWorker, WouldMove, WouldWait}
-use Rattle.blink_steps.specs.Promises.{IsPromised}
-use Rattle.blink_steps.specs.Run.{IsNextOf, PlainRun, idle_seat}
-use Rattle.blink_steps.specs.RunInvariant.{IdleInvariant, RunInvariant}
-use Rattle.blink_steps.specs.World.{IsWorld, PlainWorld}
+use Rattle.blink_machine.specs.{fresh}
+use Rattle.blink_steps.specs.{IsIdleWorker, WouldMove, WouldWait, IsPromised, IsNextOf, PlainRun, idle_seat, IdleInvariant, IsWorld, PlainWorld}
+use Rattle.blink_steps.specs.RunInvariant.{RunInvariant}
 use Rattle.blink_steps.proofs.runs.WhatRunsPromise.{next_is_unanswered}
 use Rattle.blink_steps.proofs.worlds.WorldPromises.{invariant}
 use Rattle.blink_show.specs.Draw.{LeavesUndecided}

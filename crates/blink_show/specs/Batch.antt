@@ -2,10 +2,10 @@
 use Rattle.std.specs.Prelude.{◌≡◌, ℕ, ◌+◌, ◌%◌, List, [], ◌∷◌, ◌++◌, codes}
 use Rattle.std.specs.Fmt.{decimal}
 use Rattle.blink_batch.specs.declared.Op.{Op}
-use Rattle.blink_batch.specs.Operation.{key_of}
-use Rattle.blink_run.specs.Replay.{by_residue}
-use Rattle.blink_store.specs.Store.{PlainStore}
-use Rattle.blink_steps.specs.World.{PlainWorld, HasEnded, IsStart}
+use Rattle.blink_batch.specs.{key_of}
+use Rattle.blink_run.specs.{by_residue}
+use Rattle.blink_store.specs.{PlainStore}
+use Rattle.blink_steps.specs.{PlainWorld, HasEnded, IsStart}
 use Rattle.blink_show.specs.Frames.{first_frame}
 use Rattle.blink_show.specs.Turns.{ShowsFinish}
 use Rattle.blink_show.specs.Words.{words_of_op}

@@ -3,8 +3,7 @@
 use Rattle.std.specs.Prelude.{◌≡◌, ℕ, zero, suc, ◌%◌, List, [], ◌∷◌, ◌++◌, Option, Some, None, length, slice_get}
 use Rattle.rand_xoshiro.specs.SplitMix64.{mix_u64, next_state}
 use Rattle.blink_batch.specs.declared.Answer.{Answer}
-use Rattle.blink_steps.specs.Pick.{WouldMove}
-use Rattle.blink_steps.specs.Run.{PlainRun}
+use Rattle.blink_steps.specs.{WouldMove, PlainRun}
 
 -- a worker that would move stands behind those before it, and another one doesn't
 pub data AddsMover (run : PlainRun) (worker : ℕ) (before movers : List ℕ) : Type 0 where

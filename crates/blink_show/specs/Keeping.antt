@@ -1,6 +1,6 @@
 -- What is kept of a frame for the next one.
 use Rattle.std.specs.Prelude.{◌≡◌, length, map, string_bytes}
-use Rattle.blink_steps.specs.Run.{PlainRun}
+use Rattle.blink_steps.specs.{PlainRun}
 use Rattle.blink_show.specs.Lines.{lines_of}
 use Rattle.blink_show.specs.declared.frame.Shown.{Shown}
 

@@ -1,9 +1,14 @@
-pub mod Words
-pub mod Lines
+-- What a caller of `blink_show` reads, in this order; then what proofs above it need; then the files themselves.
+
+-- what is written of a script's replay that is to be looked at
+pub use Rattle.blink_show.specs.Show.{IsSeedText, IsShowText, LeavesShow}
+-- ---- the files
+pub mod Show
 pub mod Frames
-pub mod Keeping
-pub mod Draw
+pub mod Lines
 pub mod Turns
 pub mod Ways
+pub mod Draw
 pub mod Batch
-pub mod Show
+pub mod Words
+pub mod Keeping

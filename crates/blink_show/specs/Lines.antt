@@ -4,13 +4,11 @@ use Rattle.std.specs.List.{flat_map, range_with_len}
 use Rattle.std.specs.Fmt.{decimal}
 use Rattle.blink_batch.specs.declared.Answer.{Answer}
 use Rattle.blink_batch.specs.Text as answer
-use Rattle.blink_index.specs.Dump.{entry_text, words_of}
-use Rattle.blink_page.specs.Page.{PlainPage}
-use Rattle.blink_store.specs.Latches.{holder_of}
-use Rattle.blink_store.specs.Store.{page_of}
+use Rattle.blink_index.specs.{entry_text, words_of}
+use Rattle.blink_page.specs.{PlainPage}
+use Rattle.blink_store.specs.{holder_of, page_of}
 use Rattle.blink_steps.specs.declared.Working.{Working}
-use Rattle.blink_steps.specs.Acts.{PlainShared}
-use Rattle.blink_steps.specs.Run.{PlainRun, working_of}
+use Rattle.blink_steps.specs.{PlainShared, PlainRun, working_of}
 use Rattle.blink_show.specs.Words.{dotted, words_of_job, words_of_state}
 
 -- a number, after the space before it

@@ -5,13 +5,12 @@ use Rattle.std.specs.Io.KnownBytes.{Keeps}
 use Rattle.blink_batch.specs.declared.Op.{Op}
 use Rattle.blink_batch.specs.declared.Part.{Part}
 use Rattle.blink_batch.specs.declared.Part.TheVariants.{Batch}
-use Rattle.blink_batch.specs.Script.{script_of}
-use Rattle.blink_run.specs.Served.{IsPrefixOf, WritesText, is_batch}
-use Rattle.blink_run.specs.ServedReplay.{HaveRunParts}
+use Rattle.blink_batch.specs.{script_of}
+use Rattle.blink_run.specs.{IsPrefixOf, WritesText, is_batch, HaveRunParts}
 use Rattle.blink_settings.specs.declared.error.ServeError.{ServeError}
 use Rattle.blink_settings.specs.declared.error.ServeError.TheVariants as serve
-use Rattle.blink_store.specs.Store.{PlainStore, new_store}
-use Rattle.blink_steps.specs.World.{PlainWorld}
+use Rattle.blink_store.specs.{PlainStore, new_store}
+use Rattle.blink_steps.specs.{PlainWorld}
 use Rattle.blink_show.specs.Batch.{ShowsBatch}
 use Rattle.blink_show.specs.Turns.{ShowsDrawn, ShowsSchedule}
 

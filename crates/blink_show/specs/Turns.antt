@@ -1,9 +1,7 @@
 -- Turns one after another, with a frame for each.
 use Rattle.std.specs.Prelude.{◌≡◌, ℕ, List, [], ◌∷◌, ◌++◌, codes, ⊤}
 use Rattle.blink_machine.specs.declared.Step.{Step}
-use Rattle.blink_steps.specs.Pick.{IsFirstMover}
-use Rattle.blink_steps.specs.Run.{PlainRun}
-use Rattle.blink_steps.specs.World.{PlainWorld, HasEnded, TakesStep}
+use Rattle.blink_steps.specs.{IsFirstMover, PlainRun, PlainWorld, HasEnded, TakesStep}
 use Rattle.blink_show.specs.Draw.{IsDrawn}
 use Rattle.blink_show.specs.Frames.{frame}
 

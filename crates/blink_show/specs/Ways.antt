@@ -1,6 +1,6 @@
 -- How the turns before the finish come about: by a schedule, or by a seed.
 use Rattle.std.specs.Prelude.{◌≡◌, ℕ, ◌<◌, List, ◌++◌, All, ⊤}
-use Rattle.blink_steps.specs.World.{PlainWorld}
+use Rattle.blink_steps.specs.{PlainWorld}
 use Rattle.blink_show.specs.Turns.{ShowsDrawn, ShowsSchedule}
 use Rattle.blink_show.specs.declared.turns.Turns.{Turns}
 use Rattle.blink_show.specs.declared.turns.Turns.TheVariants.{Schedule, Seed}

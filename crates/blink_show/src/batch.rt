@@ -1,7 +1,7 @@
 //! A batch's replay as text.
 ghost use Rattle.std.specs.Prelude.{◌≡◌, ◌++◌, IfErr, OnOk, string_bytes};
-ghost use Rattle.blink_batch.specs.Cut.{MayWork};
-ghost use Rattle.blink_run.specs.ServedReplay.{IsPartsFault};
+ghost use Rattle.blink_batch.specs.{MayWork};
+ghost use Rattle.blink_run.specs.{IsPartsFault};
 ghost use Rattle.blink_show.specs.Batch.{AddsBatch, ops_from};
 ghost use Rattle.blink_show.specs.Ways.{AreOfWorkers, ShowsAsked};
 

@@ -1,8 +1,7 @@
 //! Workers that are drawn by chance.
 ghost use Rattle.std.specs.Prelude.{◌≡◌, ◌<◌, ◌↔◌, IfOk, IfSome, IsTrue, MatchOption, OnOk, length};
 ghost use Rattle.rand_xoshiro.specs.SplitMix64.{next_state};
-ghost use Rattle.blink_steps.specs.Pick.{WouldMove};
-ghost use Rattle.blink_steps.specs.World.{HasEnded, IsWorld};
+ghost use Rattle.blink_steps.specs.{WouldMove, HasEnded, IsWorld};
 ghost use Rattle.blink_show.specs.Draw.{AreMovers, DrawsAt, LeavesUndecided};
 
 use blink_batch::Answer;

@@ -1,9 +1,8 @@
 //! A script's replay, written to be looked at.
 ghost use Rattle.std.specs.Prelude.{◌≡◌, ◌++◌, ◌↔◌, Err, IfErr, IfOk, OnOk, MatchOption, count_by, string_bytes};
-ghost use Rattle.blink_batch.specs.Cut.{MayWork};
-ghost use Rattle.blink_run.specs.Served.{WritesText, is_batch};
-ghost use Rattle.blink_run.specs.ServedReplay.{IsPartsFault, TellsReplayFault, TellsWorkersFault};
-ghost use Rattle.blink_steps.specs.World.{IsFirstNoWorker};
+ghost use Rattle.blink_batch.specs.{MayWork};
+ghost use Rattle.blink_run.specs.{WritesText, is_batch, IsPartsFault, TellsReplayFault, TellsWorkersFault};
+ghost use Rattle.blink_steps.specs.{IsFirstNoWorker};
 ghost use Rattle.blink_show.specs.Show.{AddsParts, IsLastBatch, IsSeedText, IsShowText, IsTextOf, LeavesShow};
 ghost use Rattle.blink_show.specs.Ways.{AreOfWorkers, ShowsAsked};
 

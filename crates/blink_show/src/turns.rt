@@ -1,8 +1,7 @@
 //! Turns one after another, with a frame for each.
 ghost use Rattle.std.specs.Prelude.{◌≡◌, ◌<◌, ◌++◌, [], All, IfErr, OnOk, string_bytes};
-ghost use Rattle.blink_run.specs.Replay.{IsRefusedMemory};
-ghost use Rattle.blink_steps.specs.World.{HasEnded};
-ghost use Rattle.blink_steps.specs.Run.{PlainRun};
+ghost use Rattle.blink_run.specs.{IsRefusedMemory};
+ghost use Rattle.blink_steps.specs.{HasEnded, PlainRun};
 ghost use Rattle.blink_show.specs.Frames.{first_frame, frame};
 ghost use Rattle.blink_show.specs.Keeping.{Keeps};
 ghost use Rattle.blink_show.specs.Turns.{AddsDrawn, AddsFinish, AddsSchedule};

@@ -1,20 +1,15 @@
 -- What an operation's step does to the store and the latches that workers share.
 use Rattle.std.specs.Prelude.{◌≡◌, ℕ, ◌+◌, ◌<◌, ◌≤◌, Option, Some, None, IsSome, List, length}
-use Rattle.blink_page.specs.Limits.{IsPageNumber}
+use Rattle.blink_page.specs.{IsPageNumber, PlainPage, least_above}
 use Rattle.blink_page.specs.declared.limits.TheConstants.{LEVELS, MAX_PAGE}
-use Rattle.blink_page.specs.Page.{PlainPage}
-use Rattle.blink_page.specs.Rising.{least_above}
-use Rattle.blink_store.specs.Latches.{holder_of, HoldsNone, ChangesHolder}
-use Rattle.blink_store.specs.Store.{PlainStore, page_of, HasPage, WritesPage, SameFloorAndLevel}
+use Rattle.blink_store.specs.{holder_of, HoldsNone, ChangesHolder, PlainStore, page_of, HasPage, WritesPage, SameFloorAndLevel}
 use Rattle.blink_store.specs.declared.latches.TheConstants.{WORKERS}
 use Rattle.blink_machine.specs.declared.machine.Need.{Need}
 use Rattle.blink_machine.specs.declared.machine.Need.TheVariants.{ReadPrime, ReadPage, Latch, WriteNew, WritePage, WritePrime, Unlatch, End}
 use Rattle.blink_machine.specs.declared.step.Kind.{Kind}
 use Rattle.blink_machine.specs.declared.step.Step.{Step}
 use Rattle.blink_machine.specs.declared.step.Step.TheVariants.{Moved, Waited, Idle}
-use Rattle.blink_machine.specs.Kinds.{read_page, read_prime, latch, unlatch, write_page, write_prime}
-use Rattle.blink_machine.specs.Machine.{PlainMachine, need_at, level_read, target}
-use Rattle.blink_machine.specs.Table.{SeesPrime, WaitsForLevel, SeesPage, page_out, done, PrimeOut}
+use Rattle.blink_machine.specs.{read_page, read_prime, latch, unlatch, write_page, write_prime, PlainMachine, need_at, level_read, target, SeesPrime, WaitsForLevel, SeesPage, page_out, done, PrimeOut}
 
 -- the store, and the page whose latch each worker holds
 pub record PlainShared : Type 0 where

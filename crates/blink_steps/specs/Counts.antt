@@ -2,10 +2,10 @@
 use Rattle.std.specs.Prelude.{◌≡◌, ℕ, ◌==◌, nat_lt, ◌&&◌, Bool, true, List, count_by}
 use Rattle.std.specs.List.{zip}
 use Rattle.blink_batch.specs.declared.Op.{Op}
-use Rattle.blink_batch.specs.Batch.{is_insert}
+use Rattle.blink_batch.specs.{is_insert}
 use Rattle.blink_machine.specs.declared.step.Step.{Step}
 use Rattle.blink_machine.specs.declared.step.Step.TheVariants.{Waited}
-use Rattle.blink_machine.specs.Kinds.{has_moved, is_page_read, is_page_write, is_prime_write, moved_by, writes_new_page}
+use Rattle.blink_machine.specs.{has_moved, is_page_read, is_page_write, is_prime_write, moved_by, writes_new_page}
 use Rattle.blink_steps.specs.Run.{Event}
 
 abbrev pub HasMoved : Step → Type 0

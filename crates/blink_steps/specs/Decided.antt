@@ -4,10 +4,9 @@ use Rattle.std.specs.List.{zip}
 use Rattle.blink_batch.specs.declared.Answer.{Answer}
 use Rattle.blink_batch.specs.declared.Entry.{Entry}
 use Rattle.blink_batch.specs.declared.Op.{Op}
-use Rattle.blink_batch.specs.Operation.{answers, map_after_all}
-use Rattle.blink_batch.specs.Order.{operations_at}
+use Rattle.blink_batch.specs.{answers, map_after_all, operations_at}
 use Rattle.blink_steps.specs.Run.{PlainRun, tree_state_of}
-use Rattle.blink_machine.specs.TreeMap.{Keeps}
+use Rattle.blink_machine.specs.{Keeps}
 
 -- the answers so far are those of a run in the given order on a map, each at its operation's place
 abbrev pub AnswersSoFar : List Entry → List Op → List ℕ → List (Option Answer) → Type 0

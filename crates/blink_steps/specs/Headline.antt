@@ -2,16 +2,13 @@
 use Rattle.std.specs.Prelude.{◌≡◌, ℕ, ◌+◌, ◌*◌, ◌≤◌, Some, List, length, map, count_by}
 use Rattle.blink_batch.specs.declared.Entry.{Entry}
 use Rattle.blink_batch.specs.declared.Op.{Op}
-use Rattle.blink_batch.specs.Batch.{is_insert}
-use Rattle.blink_batch.specs.Cut.{Assignment, IsLawfulCut}
-use Rattle.blink_batch.specs.Operation.{answers, map_after_all}
-use Rattle.blink_batch.specs.PlainMap.{pointer_of}
-use Rattle.blink_rest.specs.Reach.{IsReached}
-use Rattle.blink_store.specs.Store.{PlainStore, page_of}
+use Rattle.blink_batch.specs.{is_insert, Assignment, IsLawfulCut, answers, map_after_all, pointer_of}
+use Rattle.blink_rest.specs.{IsReached}
+use Rattle.blink_store.specs.{PlainStore, page_of}
 use Rattle.blink_steps.specs.Decided.{map_now}
 use Rattle.blink_page.specs.declared.limits.TheConstants.{MAX_NEW_PAGES_PER_INSERT}
 use Rattle.blink_steps.specs.Run.{PlainRun}
-use Rattle.blink_machine.specs.TreeMap.{IsMapOf}
+use Rattle.blink_machine.specs.{IsMapOf}
 use Rattle.blink_steps.specs.StepBounds.{all_moves, steps_at_most_with}
 use Rattle.blink_steps.specs.World.{PlainWorld, IsWorldOf, HasEnded, AfterEachTurn}
 

@@ -1,6 +1,6 @@
 -- Each worker's lane as links: its first place, and from each place the next.
 use Rattle.std.specs.Prelude.{◌≡◌, ℕ, ◌+◌, ◌<◌, ◌≤◌, Option, Some, List, slice_get}
-use Rattle.blink_batch.specs.Order.{next_place}
+use Rattle.blink_batch.specs.{next_place}
 use Rattle.blink_batch.specs.declared.cut.TheConstants.{WORKER_LIMIT}
 
 -- from a place on, each place has the next place of its lane

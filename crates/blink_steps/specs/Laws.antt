@@ -1,11 +1,10 @@
 -- Laws of turns, whatever the run.
 use Rattle.std.specs.Prelude.{◌≡◌, ◌≢◌, ◌↔◌, ℕ, ◌+◌, Option, [], ◌∷◌, ◌++◌, length}
-use Rattle.blink_store.specs.Store.{PlainStore}
+use Rattle.blink_store.specs.{PlainStore}
 use Rattle.blink_machine.specs.declared.step.Step.{Step}
 use Rattle.blink_machine.specs.declared.step.Step.TheVariants.{Moved, Idle}
-use Rattle.blink_machine.specs.Kinds.{write_page}
-use Rattle.blink_machine.specs.Machine.{PlainMachine, NeedsNew}
-use Rattle.blink_machine.specs.TreeState.{TreeState, IsItsOperation, Steps}
+use Rattle.blink_machine.specs.{write_page, PlainMachine, NeedsNew, IsItsOperation, Steps}
+use Rattle.blink_machine.specs.TreeState.{TreeState}
 use Rattle.blink_machine.specs.Invariant.{Invariant}
 use Rattle.blink_steps.specs.Run.{PlainRun, Event, AppliesEvent, IsNextOf, idle_seat, tree_state_of}
 use Rattle.blink_steps.specs.World.{PlainWorld, IsWorld}

@@ -2,7 +2,7 @@
 use Rattle.std.specs.Prelude.{ℕ, ◌+◌, Bool, true, false, if◌then◌else◌, Option, Some, None, List, [], ◌∷◌, ◌++◌, replicate, slice_set, slice_index_or}
 use Rattle.blink_batch.specs.declared.Answer.{Answer}
 use Rattle.blink_machine.specs.declared.step.Kind.{Kind}
-use Rattle.blink_machine.specs.Kinds.{is_page_read}
+use Rattle.blink_machine.specs.{is_page_read}
 
 pub record PlainOutcome : Type 0 where
   -- the answer at each operation's place, once it is decided

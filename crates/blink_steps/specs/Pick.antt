@@ -3,7 +3,7 @@ use Rattle.std.specs.Prelude.{◌≡◌, ℕ, ◌-◌, ◌*◌, ◌<◌, Option,
 use Rattle.blink_page.specs.declared.limits.TheConstants.{MAX_PAGE}
 use Rattle.blink_machine.specs.declared.step.Step.TheVariants.{Waited}
 use Rattle.blink_steps.specs.Acts.{Acts}
-use Rattle.blink_machine.specs.Machine.{PlainMachine}
+use Rattle.blink_machine.specs.{PlainMachine}
 use Rattle.blink_steps.specs.Run.{PlainRun, Event, IsHistory, IsNextOf, idle_seat}
 use Rattle.blink_steps.specs.StepBounds.{steps_at_most_with}
 use Rattle.blink_steps.specs.World.{PlainWorld, IsAtLanesEnd, OnEachTurn}

@@ -2,19 +2,15 @@
 use Rattle.std.specs.Prelude.{◌≡◌, ℕ, ◌<◌, Option, Some, None, List, length, map, Contains, slice_get, take}
 use Rattle.blink_batch.specs.declared.Answer.{Answer}
 use Rattle.blink_batch.specs.declared.Entry.{Entry}
-use Rattle.blink_batch.specs.Cut.{IsLawfulCut}
-use Rattle.blink_batch.specs.Order.{part_of, lane_of, AnswersInOrder, IsWholeOrder}
-use Rattle.blink_rest.specs.Rest.{IsStoreAtRest}
-use Rattle.blink_store.specs.Latches.{holder_of}
-use Rattle.blink_store.specs.Store.{PlainStore}
+use Rattle.blink_batch.specs.{IsLawfulCut, part_of, lane_of, AnswersInOrder, IsWholeOrder}
+use Rattle.blink_rest.specs.{IsStoreAtRest}
+use Rattle.blink_store.specs.{holder_of, PlainStore}
 use Rattle.blink_steps.specs.StepBounds.{WithinStepBound}
 use Rattle.blink_steps.specs.Bounds.{IsBounded}
 use Rattle.blink_steps.specs.Decided.{IsDecided}
 use Rattle.blink_steps.specs.Headline.{IsOneThread, IsReachedThroughout, ReachesPresent}
-use Rattle.blink_machine.specs.Owned.{HoldOneLatchEach}
+use Rattle.blink_machine.specs.{HoldOneLatchEach, IsMapOf, HasMap, IsTreeWithDebts}
 use Rattle.blink_steps.specs.Run.{PlainRun, tree_state_of}
-use Rattle.blink_machine.specs.TreeMap.{IsMapOf, HasMap}
-use Rattle.blink_machine.specs.TreeWithDebts.{IsTreeWithDebts}
 use Rattle.blink_steps.specs.World.{PlainWorld, IsWorldOf, HasEnded, IsAtLanesEnd, OnEachTurn, WritesItsOwn}
 
 -- the operation at a place has its answer

@@ -1,10 +1,8 @@
 -- A batch's run over a tree, as plain data: the tree, the workers, and what is decided; and one turn of a worker.
 use Rattle.std.specs.Prelude.{◌≡◌, ℕ, ◌+◌, ◌<◌, Option, Some, None, List, [], ◌∷◌, length, slice_get, slice_set}
 use Rattle.blink_batch.specs.declared.Op.{Op}
-use Rattle.blink_batch.specs.Cut.{Assignment}
-use Rattle.blink_batch.specs.Order.{next_place}
-use Rattle.blink_store.specs.Latches.{holder_of}
-use Rattle.blink_store.specs.Store.{PlainStore, page_of}
+use Rattle.blink_batch.specs.{Assignment, next_place}
+use Rattle.blink_store.specs.{holder_of, PlainStore, page_of}
 use Rattle.blink_steps.specs.declared.seat.WorkerState.{WorkerState}
 use Rattle.blink_steps.specs.declared.seat.Working.{Working}
 use Rattle.blink_machine.specs.declared.step.Kind.{Kind}
@@ -12,8 +10,8 @@ use Rattle.blink_machine.specs.declared.step.Step.{Step}
 use Rattle.blink_machine.specs.declared.step.Step.TheVariants.{Moved, Waited, Idle}
 use Rattle.blink_steps.specs.Acts.{PlainShared, Acts}
 use Rattle.blink_steps.specs.Outcome.{PlainOutcome, empty_outcome, recorded}
-use Rattle.blink_machine.specs.Machine.{PlainMachine, fresh}
-use Rattle.blink_machine.specs.TreeState.{TreeState, goes_on}
+use Rattle.blink_machine.specs.{PlainMachine, fresh, goes_on}
+use Rattle.blink_machine.specs.TreeState.{TreeState}
 
 pub record PlainRun : Type 0 where
   pub shared : PlainShared

@@ -2,17 +2,14 @@
 use Rattle.std.specs.Prelude.{◌≡◌, ◌≢◌, ℕ, ◌+◌, ◌<◌, Bool, true, false, Option, Some, None, List, length, All, count_by, slice_get, slice_index_or, take, ◌^◌}
 use Rattle.blink_batch.specs.declared.Answer.{Answer}
 use Rattle.blink_batch.specs.declared.Entry.{Entry}
-use Rattle.blink_batch.specs.Batch.{FitsWords}
-use Rattle.blink_batch.specs.Cut.{AreLanes}
-use Rattle.blink_batch.specs.Order.{part_of, places_from, next_place}
-use Rattle.blink_batch.specs.PlainMap.{IsAscending}
-use Rattle.blink_store.specs.Store.{IsLawfulStore}
+use Rattle.blink_batch.specs.{FitsWords, AreLanes, part_of, places_from, next_place, IsAscending}
+use Rattle.blink_store.specs.{IsLawfulStore}
 use Rattle.blink_machine.specs.declared.machine.State.TheVariants.{Ended}
 use Rattle.blink_steps.specs.declared.seat.WorkerState.{WorkerState}
 use Rattle.blink_steps.specs.declared.seat.Working.{Working}
 use Rattle.blink_steps.specs.Acts.{CanAct}
 use Rattle.blink_steps.specs.Decided.{IsDecided}
-use Rattle.blink_machine.specs.Machine.{PlainMachine}
+use Rattle.blink_machine.specs.{PlainMachine}
 use Rattle.blink_steps.specs.Run.{PlainRun, IsNextOf, idle_seat, tree_state_of}
 use Rattle.blink_machine.specs.Invariant.{Invariant}
 

@@ -6,8 +6,7 @@ use Rattle.blink_steps.specs.declared.error.StepError.{StepError}
 use Rattle.blink_machine.specs.declared.step.Step.{Step}
 use Rattle.blink_steps.specs.declared.seat.WorkerState.{WorkerState}
 use Rattle.blink_steps.specs.declared.seat.Working.{Working}
-use Rattle.blink_machine.specs.Machine.{PlainMachine}
-use Rattle.blink_machine.specs.TreeState.{goes_on}
+use Rattle.blink_machine.specs.{PlainMachine, goes_on}
 use Rattle.blink_steps.specs.Run.{PlainRun, busy_seat}
 
 -- the operation of a place, where it goes on

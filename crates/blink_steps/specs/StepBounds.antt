@@ -3,13 +3,13 @@
 use Rattle.std.specs.Prelude.{◌≡◌, ◌≢◌, ℕ, ◌+◌, ◌*◌, ◌≤◌, ◌==◌, ◌&&◌, if◌then◌else◌, Option, Some, None, List, length, count_by, slice_get, AllPairs}
 use Rattle.std.specs.List.{filter_map}
 use Rattle.blink_batch.specs.declared.Op.TheVariants.{Find}
-use Rattle.blink_batch.specs.Batch.{is_insert}
-use Rattle.blink_store.specs.Store.{PlainStore}
+use Rattle.blink_batch.specs.{is_insert}
+use Rattle.blink_store.specs.{PlainStore}
 use Rattle.blink_machine.specs.declared.machine.State.{State}
 use Rattle.blink_machine.specs.declared.machine.State.TheVariants.{Going, Want}
 use Rattle.blink_page.specs.declared.limits.TheConstants.{MAX_NEW_PAGES_PER_INSERT}
 use Rattle.blink_steps.specs.Counts.{moves_in, page_reads_in}
-use Rattle.blink_machine.specs.Kinds.{has_moved}
+use Rattle.blink_machine.specs.{has_moved}
 use Rattle.blink_steps.specs.Run.{PlainRun, Event}
 
 -- the page that is read at a state on the way down

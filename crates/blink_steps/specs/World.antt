@@ -1,19 +1,17 @@
 -- A world: a run with its schedule, and the world that a schedule leads to.
 use Rattle.std.specs.Prelude.{◌≡◌, ℕ, ◌+◌, ◌*◌, ◌<◌, ◌≤◌, Some, None, List, [], ◌∷◌, ◌++◌, length, map, reverse, All, count_by, slice_get, ⊤}
 use Rattle.blink_batch.specs.declared.Op.{Op}
-use Rattle.blink_batch.specs.Batch.{FitsWords, is_insert}
-use Rattle.blink_batch.specs.Cut.{Assignment, AreLanes}
+use Rattle.blink_batch.specs.{FitsWords, is_insert, Assignment, AreLanes}
 use Rattle.blink_page.specs.declared.limits.TheConstants.{MAX_PAGE}
-use Rattle.blink_rest.specs.Rest.{IsStoreAtRest}
-use Rattle.blink_store.specs.Latches.{holder_of}
-use Rattle.blink_store.specs.Store.{PlainStore, IsLawfulStore, page_of}
+use Rattle.blink_page.specs.{ExceedsPageLimit}
+use Rattle.blink_rest.specs.{IsStoreAtRest}
+use Rattle.blink_store.specs.{holder_of, PlainStore, IsLawfulStore, page_of}
 use Rattle.blink_steps.specs.declared.error.StepError.{StepError}
 use Rattle.blink_steps.specs.declared.error.StepError.TheVariants.{OutOfMemory, NoWorker, TooLarge}
 use Rattle.blink_machine.specs.declared.step.Step.{Step}
 use Rattle.blink_machine.specs.declared.step.Step.TheVariants.{Moved}
 use Rattle.blink_page.specs.declared.limits.TheConstants.{MAX_NEW_PAGES_PER_INSERT}
-use Rattle.blink_machine.specs.Kinds.{write_page}
-use Rattle.blink_machine.specs.Owned.{IsItsToWrite}
+use Rattle.blink_machine.specs.{write_page, IsItsToWrite}
 use Rattle.blink_steps.specs.Run.{PlainRun, Event, AppliesEvent, IsHistory, IsOpeningRun, idle_seat}
 
 -- a tree at rest, and a batch with lanes, that a run may begin with
@@ -99,7 +97,7 @@ with_turn world worker = record world { schedule = world.schedule ++ worker ∷ 
 
 -- a run can't begin where its insertions might need more page numbers than there are, the prime block's with them
 abbrev pub IsTooLarge : PlainStore → List Op → Type 0
-IsTooLarge start ops = MAX_PAGE + 1 < 1 + length start.pages + MAX_NEW_PAGES_PER_INSERT * count_by is_insert ops
+IsTooLarge start ops = ExceedsPageLimit (length start.pages) (count_by is_insert ops)
 
 -- the first number of a schedule that is no worker's
 pub record IsFirstNoWorker (workers : ℕ) (schedule : List ℕ) (number : ℕ) : Type 0 where

@@ -13,7 +13,7 @@ mod world;
 
 pub use blink_machine::laws::step_keeps;
 pub use blink_machine::{Debt, Job, Kind, Machine, Need, Next, State, Step};
-pub use blink_page::{MAX_NEW_PAGES_PER_INSERT, WRITES_OF_INSERTION};
+pub use blink_page::MAX_NEW_PAGES_PER_INSERT;
 pub use error::StepError;
 pub use seat::Working;
-pub use world::{World, exceeds_page_limit, replay};
+pub use world::{World, replay};

@@ -1,11 +1,10 @@
 //! The store and the latches that workers share, and what a step of an operation does to them.
 ghost use Rattle.std.specs.Prelude.{◌≡◌, ◌↔◌, ℕ, ◌+◌, ◌<◌, ◌≤◌, length, IsTrue, IfOk, OnErr, IsOkUnless};
 ghost use Rattle.blink_page.specs.declared.limits.TheConstants.{MAX_PAGE};
-ghost use Rattle.blink_page.specs.Limits.{IsFan};
-ghost use Rattle.blink_store.specs.Store.{WritesPage};
+ghost use Rattle.blink_page.specs.{IsFan};
+ghost use Rattle.blink_store.specs.{WritesPage};
 ghost use Rattle.blink_steps.specs.Acts.{Acts, CanAct, MayReplace};
-ghost use Rattle.blink_machine.specs.Machine.{NeedsNew, NeedsWrite};
-ghost use Rattle.blink_machine.specs.Table.{page_out};
+ghost use Rattle.blink_machine.specs.{NeedsNew, NeedsWrite, page_out};
 
 use crate::error::StepError;
 use blink_machine::{Kind, Machine, Need, Step};

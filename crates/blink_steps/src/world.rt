@@ -14,7 +14,7 @@ use crate::run::Run;
 use crate::seat::Working;
 use blink_batch::{Answer, Batch, Lanes};
 use blink_machine::Step;
-use blink_page::{MAX_NEW_PAGES_PER_INSERT, MAX_PAGE};
+use blink_page::exceeds_page_limit;
 use blink_rest::Rest;
 use blink_store::{Latches, Store};
 use std::alloc::Global;
@@ -53,10 +53,10 @@ impl World {
         ensures refused { IfErr result
             (λ refusal. (refusal ≡ StepError.TooLarge) ⊎ (refusal ≡ StepError.OutOfMemory)) }
     {
-        let _tree = rest.store();
+        let tree = rest.store();
         let _words = batch.ops();
         let _allowed = lanes.lanes();
-        if exceeds_page_limit(&rest, &batch) {
+        if exceeds_page_limit(tree.pages(), batch.inserts() as u32) {
             return Err(StepError::TooLarge);
         }
         match Run::new(alloc, rest.into_store(), batch, lanes) {
@@ -258,16 +258,6 @@ impl World {
     {
         Rest::of(self.run.into_store())
     }
-}
-
-/// Whether a run of the batch over this tree is too large: its insertions might need more page numbers than there are. It takes no
-/// memory.
-pub fn exceeds_page_limit(rest: &Rest, batch: &Batch) -> bool
-    ensures { IsTrue result ↔ IsTooLarge rest.now batch.now }
-{
-    let pages = u64::from(rest.store().pages());
-    let _few = batch.ops();
-    1 + pages + MAX_NEW_PAGES_PER_INSERT * batch.inserts() as u64 > u64::from(MAX_PAGE) + 1
 }
 
 /// The world of a schedule: the first tree state, and then one turn for each number. The first refusal is the answer.

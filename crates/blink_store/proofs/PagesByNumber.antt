@@ -3,7 +3,7 @@ use Rattle.std.proofs.Common.{◌≡◌, ℕ, ◌<◌, inl, inr, zero, suc, Some
 use Rattle.std.specs.Prelude.{slice_get}
 use Rattle.std.proofs.lemmas.Bool.{cases_eq}
 use Rattle.std.proofs.lemmas.Option.{slice_get_within, slice_get-get_or, get_or_from_slice_get}
-use Rattle.blink_page.specs.Page.{PlainPage, IsLawfulPage, empty_leaf}
+use Rattle.blink_page.specs.{PlainPage, IsLawfulPage, empty_leaf}
 use Rattle.blink_store.specs.Store.{PlainStore, page_of, HasPage, IsLawfulStore, WritesPage, SameFloorAndLevel, KeepsFloorsAndLevels}
 use Rattle.blink_store.proofs.ChangedLists.{slice_get-set_same, slice_get-set_other, slice_get-push_same, slice_get-push_other, same_at_each}
 

@@ -1,3 +1,14 @@
+-- What a caller of `blink_store` reads, in this order; then what proofs above it need; then the files themselves.
+
+-- a store as plain data, its page n, and what a write changes
+pub use Rattle.blink_store.specs.Store.{HasPage, IsLawfulStore, KeepsFloorsAndLevels, PlainStore, SameFloorAndLevel, WritesPage, new_store, page_of}
+-- which worker holds which page
+pub use Rattle.blink_store.specs.Latches.{ChangesHolder, HoldsNone, IsHeldByOne, holder_of}
+-- the number of each refusal
+pub use Rattle.blink_store.specs.Codes.{code_of}
+-- ---- for proofs above
+pub use Rattle.blink_store.specs.Latches.{Holds}
+-- ---- the files
 pub mod Store
 pub mod Latches
 pub mod Codes

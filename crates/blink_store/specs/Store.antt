@@ -1,7 +1,6 @@
 -- A store as plain data, its page n, and what a write changes.
 use Rattle.std.specs.Prelude.{◌≡◌, ◌≢◌, ℕ, ◌<◌, ◌≤◌, zero, suc, Option, Some, None, List, [], ◌∷◌, length, All, slice_get}
-use Rattle.blink_page.specs.Limits.{IsFan, IsPageNumber}
-use Rattle.blink_page.specs.Page.{PlainPage, IsLawfulPage, empty_leaf}
+use Rattle.blink_page.specs.{IsFan, IsPageNumber, PlainPage, IsLawfulPage, empty_leaf}
 
 -- the most entries of a page, the leftmost page of each level, and the pages, of which the n-th is page n
 pub record PlainStore : Type 0 where

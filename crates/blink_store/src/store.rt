@@ -1,8 +1,7 @@
 //! The pages of a tree by number, and its prime block.
 ghost use Rattle.std.specs.Prelude.{◌≡◌, ◌+◌, ◌<◌, ◌≤◌, ◌↔◌, IsTrue, Some, length, All, IfOk, OnErr, IsErrOf, IsOkUnless};
 ghost use Rattle.std.specs.Option.{ForSome};
-ghost use Rattle.blink_page.specs.Limits.{IsFan, IsPageNumber};
-ghost use Rattle.blink_page.specs.Page.{IsLawfulPage};
+ghost use Rattle.blink_page.specs.{IsFan, IsPageNumber, IsLawfulPage};
 ghost use Rattle.blink_store.specs.Store.{page_of, HasPage, IsLawfulStore, new_store, WritesPage, SameFloorAndLevel, KeepsFloorsAndLevels};
 
 use crate::error::StoreError;

@@ -1,7 +1,7 @@
 //! One operation's machine driven by hand, over pages in local variables, as a memory of another kind would drive it.
 ghost use Rattle.std.specs.Prelude.{◌≡◌, ◌≤◌, None, [], ◌∷◌, length};
 ghost use Rattle.blink_page.specs.declared.limits.TheConstants.{GREATEST_KEY};
-ghost use Rattle.blink_machine.specs.Machine.{fresh, at_state};
+ghost use Rattle.blink_machine.specs.{fresh, at_state};
 
 use crate::fixtures::pages::{Bounds, has_bounds, has_entries, leaf_of};
 use crate::fixtures::same;

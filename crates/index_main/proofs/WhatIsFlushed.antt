@@ -2,9 +2,8 @@
 use Rattle.std.proofs.Common.{◌≡◌, ◌⊎◌, ℕ, List, [], ◌∷◌, ◌++◌, Option, Some, None, Result, Ok, Err, IfErr, OnOk, refl, sym, ap, ◌∙◌, inl, inr, append_assoc, append-nil}
 use Rattle.std.specs.Io.KnownBytes.{Keeps, append_known}
 use Rattle.blink_batch.specs.declared.Part.TheVariants.{Batch}
-use Rattle.blink_batch.specs.Script.{records_of}
-use Rattle.blink_run.specs.Served.{IsPrefixOf, IsTextBeforeBatch, IsTextOf, IsTextOfPrefix, OutputAfterError, WritesText}
-use Rattle.blink_run.specs.ServedReplay.{IsReplayText, LeavesReplay}
+use Rattle.blink_batch.specs.{records_of}
+use Rattle.blink_run.specs.{IsPrefixOf, IsTextBeforeBatch, IsTextOf, IsTextOfPrefix, OutputAfterError, WritesText, IsReplayText, LeavesReplay}
 use Rattle.blink_settings.specs.declared.error.ServeError.{ServeError}
 use Rattle.blink_settings.specs.declared.error.ServeError.TheVariants as serve
 use Rattle.blink_run.proofs.Offered.{prefix_of_text}

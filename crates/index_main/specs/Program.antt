@@ -1,8 +1,7 @@
 -- What the program writes for a command line, and what it leaves behind after a refusal.
 use Rattle.std.specs.Prelude.{◌≡◌, ◌⊎◌, ⊤, ℕ, List, [], ◌++◌, Option, Some, Result, Ok, Err}
-use Rattle.blink_batch.specs.Script.{records_of}
-use Rattle.blink_run.specs.Served.{IsTextOf, OutputAfterError, Serves}
-use Rattle.blink_run.specs.ServedReplay.{IsReplayText, LeavesReplay, Replays}
+use Rattle.blink_batch.specs.{records_of}
+use Rattle.blink_run.specs.{IsTextOf, OutputAfterError, Serves, IsReplayText, LeavesReplay, Replays}
 use Rattle.blink_settings.specs.declared.error.ServeError.{ServeError}
 use Rattle.blink_settings.specs.declared.error.ServeError.TheVariants as serve
 use Rattle.blink_line.specs.declared.line.Line.{Line}

@@ -2,17 +2,16 @@
 use Rattle.std.specs.Prelude.{◌≡◌, ℕ, List, Option}
 use Rattle.std.specs.Io.KnownBytes.{Keeps}
 use Rattle.clap.specs.Words.{Text}
-use Rattle.blink_line.specs.Line.{AsksToShow, as_replay}
+use Rattle.blink_line.specs.{AsksToShow, as_replay}
 use Rattle.blink_line.specs.declared.end.ProgramError.{ProgramError}
 use Rattle.blink_line.specs.declared.end.ProgramError.TheVariants as program
 use Rattle.blink_line.specs.declared.line.LineError.TheVariants.{OutOfMemory}
 use Rattle.blink_line.specs.declared.line.Turns.{Turns}
 use Rattle.blink_line.specs.declared.line.Turns.TheVariants.{Schedule, Seed}
-use Rattle.blink_run.specs.Served.{WritesText}
-use Rattle.blink_run.specs.ServedReplay.{TellsReplayFault, TellsWorkersFault}
+use Rattle.blink_run.specs.{WritesText, TellsReplayFault, TellsWorkersFault}
 use Rattle.blink_settings.specs.declared.error.ServeError.{ServeError}
-use Rattle.blink_settings.specs.Settings.{PlainSettings}
-use Rattle.blink_show.specs.Show.{IsSeedText, IsShowText, LeavesShow}
+use Rattle.blink_settings.specs.{PlainSettings}
+use Rattle.blink_show.specs.{IsSeedText, IsShowText, LeavesShow}
 
 -- the page of some records, where they are a script, for these turns
 abbrev pub IsPage : List ℕ → List ℕ → PlainSettings → Turns → List (List (List ℕ)) → List ℕ → Type 0

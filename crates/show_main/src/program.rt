@@ -1,8 +1,8 @@
 //! What the command line asks for, carried out.
 ghost use Rattle.std.specs.Prelude.{◌≡◌, IfErr, OnOk};
 ghost use Rattle.clap.specs.Walk.{texts};
-ghost use Rattle.blink_run.specs.Served.{WritesText};
-ghost use Rattle.blink_show.specs.Show.{LeavesShow};
+ghost use Rattle.blink_run.specs.{WritesText};
+ghost use Rattle.blink_show.specs.{LeavesShow};
 ghost use Rattle.show_main.specs.Program.{IsFault, IsPage, Leaves, TellsFault, WritesPage};
 
 use blink_line::{ProgramError, Turns, read_show};

@@ -5,9 +5,8 @@ use Rattle.std.specs.Result.{is_err}
 use Rattle.std.specs.declared.result.Result.{Result}
 use Rattle.std.specs.declared.result.Result.TheVariants.{Ok, Err}
 use Rattle.blink_batch.specs.declared.Op.TheVariants.{Insert}
-use Rattle.blink_batch.specs.PlainMap.{pointer_of}
-use Rattle.blink_live.specs.Changes.{changes_made, last_state, states_of}
-use Rattle.blink_live.specs.Handles.{IsChangedBy, keys_of, opening_of, own_changes_of, seen_changes_of, seen_of}
+use Rattle.blink_batch.specs.{pointer_of}
+use Rattle.blink_live.specs.{changes_made, last_state, states_of, IsChangedBy, keys_of, opening_of, own_changes_of, seen_changes_of, seen_of}
 use Rattle.blink_live.proofs.Offered.{after-exactly, last_state-push, own_changes-own_key}
 use Rattle.blink_client.proofs.insert_and_show.Goals as goal
 

@@ -6,8 +6,7 @@ use native.Mathlib.Decide.{ℕ_discrete}
 use Rattle.blink_batch.specs.declared.Entry.{Entry}
 use Rattle.blink_batch.specs.declared.Op.{Op}
 use Rattle.blink_batch.specs.declared.Op.TheVariants.{Find}
-use Rattle.blink_batch.specs.Operation.{answer_at, cell_after, key_of, map_after, map_at}
-use Rattle.blink_batch.specs.PlainMap.{pointer_of}
+use Rattle.blink_batch.specs.{answer_at, cell_after, key_of, map_after, map_at, pointer_of}
 use Rattle.blink_batch.proofs.Offered.{pointer_of-map_after_own, pointer_of-map_after_other}
 use Rattle.blink_live.specs.declared.view.Change.{Change}
 use Rattle.blink_live.specs.Changes.{put, after, states_of, changes_made, has_changed}

@@ -10,16 +10,13 @@ use Rattle.std.proofs.Common.{eqb}
 use Rattle.atomic_table.specs.Table.{State, Act, Valid, stepped, carried_after, step, keeps, Allows}
 use Rattle.atomic_table.proofs.Lists.{exchanged, set_again}
 use lib.Seq.{set-get_or}
-use Rattle.blink_batch.specs.Batch.{FitsWords}
+use Rattle.blink_batch.specs.{FitsWords}
 use Rattle.blink_machine.specs.declared.machine.Need.TheVariants.{Latch, Unlatch}
 use Rattle.blink_machine.specs.declared.step.Step.TheVariants.{Moved}
 use Rattle.blink_machine.specs.declared.step.Kind.TheVariants as kind
-use Rattle.blink_machine.specs.Kinds.{latch, unlatch}
-use Rattle.blink_machine.specs.Machine.{PlainMachine, NeedsLatch, NeedsUnlatch, need_at}
-use Rattle.blink_machine.specs.TreeState.{TreeState, goes_on, Steps, latches, unlatches, IsItsOperation, under_way}
-use Rattle.blink_machine.specs.Places.{descent_bound}
+use Rattle.blink_machine.specs.{latch, unlatch, PlainMachine, NeedsLatch, NeedsUnlatch, need_at, goes_on, Steps, latches, unlatches, IsItsOperation, under_way, descent_bound, done}
+use Rattle.blink_machine.specs.TreeState.{TreeState}
 use Rattle.blink_machine.specs.Invariant.{Invariant}
-use Rattle.blink_machine.specs.Table.{done}
 use Rattle.blink_machine.proofs.Offered.{step_law, has_answer_at_end}
 use Rattle.blink_live.specs.declared.view.Plan.{Plan}
 use Rattle.blink_live.specs.declared.view.Role.TheVariants.{Pass}

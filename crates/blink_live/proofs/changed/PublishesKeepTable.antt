@@ -6,24 +6,16 @@ use mathlib.Core.List.{append-nil}
 use lib.ListN.{get_elem?}
 use Rattle.atomic_table.specs.Table.{State, step, keeps, Allows}
 use Rattle.blink_batch.proofs.Offered.{IsAscending-map_after}
-use Rattle.blink_batch.specs.Batch.{FitsWords}
-use Rattle.blink_batch.specs.Operation.{answer_at, key_of, map_after}
-use Rattle.blink_batch.specs.PlainMap.{pointer_of}
-use Rattle.blink_page.specs.Page.{PlainPage}
-use Rattle.blink_rows.specs.Row.{page_words, prime_words, IsRowOf}
+use Rattle.blink_batch.specs.{FitsWords, answer_at, key_of, map_after, pointer_of}
+use Rattle.blink_page.specs.{PlainPage}
+use Rattle.blink_rows.specs.{page_words, prime_words, IsRowOf}
 use Rattle.blink_rows.specs.declared.span.Span.{Span}
 use Rattle.blink_machine.specs.declared.machine.State.TheVariants.{Ended}
 use Rattle.blink_machine.specs.declared.step.Kind.{Kind}
 use Rattle.blink_machine.specs.declared.step.Step.TheVariants.{Moved}
 use Rattle.blink_machine.specs.declared.step.Kind.TheVariants as kinds
-use Rattle.blink_machine.specs.Allowance.{UsesUp}
-use Rattle.blink_machine.specs.Kinds.{write_page, write_prime}
-use Rattle.blink_machine.specs.Machine.{PlainMachine, NeedsNew, NeedsWrite, NeedsPrimeWrite}
-use Rattle.blink_machine.specs.TreeState.{TreeState, goes_on, Steps, writes_page, writes_new, writes_prime, IsItsOperation, under_way}
-use Rattle.blink_machine.specs.Places.{descent_bound}
-use Rattle.blink_machine.specs.StepLaw.{deciding, other}
-use Rattle.blink_machine.specs.Table.{done, page_out, PrimeOut}
-use Rattle.blink_machine.specs.TreeMap.{Keeps}
+use Rattle.blink_machine.specs.{UsesUp, write_page, write_prime, PlainMachine, NeedsNew, NeedsWrite, NeedsPrimeWrite, goes_on, Steps, writes_page, writes_new, writes_prime, IsItsOperation, under_way, descent_bound, deciding, other, done, page_out, PrimeOut, Keeps}
+use Rattle.blink_machine.specs.TreeState.{TreeState}
 use Rattle.blink_machine.proofs.Offered.{step_law, has_answer_at_end}
 use Rattle.blink_live.specs.declared.view.Change.{Change}
 use Rattle.blink_live.specs.declared.view.Plan.{Plan}

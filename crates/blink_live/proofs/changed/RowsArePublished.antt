@@ -9,20 +9,17 @@ use native.Mathlib.Decide.{ℕ_discrete}
 use lib.ListN.{get_elem?}
 use Rattle.atomic_table.specs.Table.{State}
 use Rattle.blink_batch.specs.declared.Entry.{Entry}
-use Rattle.blink_batch.specs.PlainMap.{pointer_of}
-use Rattle.blink_page.specs.Limits.{IsPageNumber}
-use Rattle.blink_page.specs.Page.{PlainPage}
-use Rattle.blink_rest.specs.Chain.{Pages}
-use Rattle.blink_rows.specs.Row.{page_words, prime_words, IsRowOf}
+use Rattle.blink_batch.specs.{pointer_of}
+use Rattle.blink_page.specs.{IsPageNumber, PlainPage}
+use Rattle.blink_rest.specs.{Pages}
+use Rattle.blink_rows.specs.{page_words, prime_words, IsRowOf}
 use Rattle.blink_rows.specs.declared.limits.TheConstants.{ROW_WORDS}
 use Rattle.blink_rows.specs.declared.span.Span.{Span}
 use Rattle.blink_machine.specs.declared.machine.State.{State as MachineState}
 use Rattle.blink_machine.specs.declared.machine.State.TheVariants.{Going}
-use Rattle.blink_machine.specs.Machine.{PlainMachine, need_at, target}
-use Rattle.blink_machine.specs.TreeState.{TreeState, goes_on, under_way}
-use Rattle.blink_machine.specs.Places.{KeepsPlaces, descent_bound, descent_bound_at}
+use Rattle.blink_machine.specs.{PlainMachine, need_at, target, goes_on, under_way, KeepsPlaces, descent_bound, descent_bound_at, IsMapAt}
+use Rattle.blink_machine.specs.TreeState.{TreeState}
 use Rattle.blink_machine.specs.Invariant.{Invariant}
-use Rattle.blink_machine.specs.StepLaw.{IsMapAt}
 use Rattle.blink_machine.proofs.Offered.{step_law, descent_bound_stays}
 use Rattle.blink_live.specs.declared.view.Change.{Change}
 use Rattle.blink_live.specs.declared.view.Plan.{Plan}

@@ -5,10 +5,9 @@ use mathlib.Core.List.{IsPrefix}
 use Rattle.blink_batch.specs.declared.Answer.{Answer}
 use Rattle.blink_batch.specs.declared.Answer.TheVariants.{Absent, Exists}
 use Rattle.blink_batch.specs.declared.Op.{Op}
-use Rattle.blink_batch.specs.Operation.{answer_at, answer_of, key_of, map_at}
-use Rattle.blink_batch.specs.PlainMap.{pointer_of}
-use Rattle.blink_page.specs.Page.{PlainPage}
-use Rattle.blink_rows.specs.Row.{page_words}
+use Rattle.blink_batch.specs.{answer_at, answer_of, key_of, map_at, pointer_of}
+use Rattle.blink_page.specs.{PlainPage}
+use Rattle.blink_rows.specs.{page_words}
 use Rattle.blink_rows.specs.declared.span.Span.{Span}
 use Rattle.blink_machine.specs.declared.machine.Debt.{Debt}
 use Rattle.blink_machine.specs.declared.machine.Job.{Job}
@@ -19,9 +18,7 @@ use Rattle.blink_machine.specs.declared.machine.Next.TheVariants.{Finish, MoveRi
 use Rattle.blink_machine.specs.declared.machine.State.{State}
 use Rattle.blink_machine.specs.declared.machine.State.TheVariants.{Want, Change, SplitNew, SplitOld, Root, NewPrime, Leave, Posting, Ended}
 use Rattle.blink_machine.specs.declared.step.Kind.{Kind}
-use Rattle.blink_machine.specs.Machine.{PlainMachine, need_at}
-use Rattle.blink_machine.specs.TreeState.{goes_on}
-use Rattle.blink_machine.specs.Table.{SeesPrime, SeesPage, SeesOnItsWay, SeesUnderLatch, decided_with, done, done_at, leaves_for, sets_out}
+use Rattle.blink_machine.specs.{PlainMachine, need_at, goes_on, SeesPrime, SeesPage, SeesOnItsWay, SeesUnderLatch, decided_with, done, done_at, leaves_for, sets_out}
 use Rattle.blink_live.specs.declared.view.Change.{Change as MapChange}
 use Rattle.blink_live.specs.declared.view.Share.{Share}
 use Rattle.blink_live.specs.Changes.{after as after_changes, changes_made, has_changed}

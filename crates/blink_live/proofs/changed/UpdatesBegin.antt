@@ -2,15 +2,12 @@
 use Rattle.std.proofs.Common.{◌≡◌, ℕ, Option, ◌+◌, ◌-◌, ◌≤◌, ap, sym, ◌∙◌, subst, refl, arith}
 use Rattle.std.specs.Prelude.{Contains}
 use Rattle.atomic_table.specs.declared.Seat.{Seat}
-use Rattle.blink_batch.specs.Batch.{FitsWords}
+use Rattle.blink_batch.specs.{FitsWords, key_of}
 use Rattle.blink_batch.specs.declared.Op.{Op}
 use Rattle.blink_batch.specs.declared.Op.TheVariants.{Find}
-use Rattle.blink_batch.specs.Operation.{key_of}
 use Rattle.blink_machine.specs.declared.machine.Job.TheVariants.{Leaf}
 use Rattle.blink_machine.specs.declared.machine.State.TheVariants.{Want}
-use Rattle.blink_machine.specs.Allowance.{numbers_left, writes_left, primes_left}
-use Rattle.blink_machine.specs.Machine.{PlainMachine}
-use Rattle.blink_machine.specs.Table.{IsUpdate}
+use Rattle.blink_machine.specs.{numbers_left, writes_left, primes_left, PlainMachine, IsUpdate}
 use Rattle.blink_live.specs.declared.live.Live.{Live}
 use Rattle.blink_live.specs.declared.room.Room.{Room}
 use Rattle.blink_live.specs.declared.view.Call.{Call}

@@ -2,24 +2,18 @@
 use Rattle.std.proofs.Common.{◌≡◌, ◌≢◌, ℕ, suc, ◌+◌, ◌-◌, ◌<◌, ◌≤◌, Bool, true, false, Some, List, ap, sym, ◌∙◌, subst, refl, arith}
 use Rattle.std.specs.Prelude.{IsTrue, Contains}
 use Rattle.atomic_table.specs.declared.Seat.{Seat}
-use Rattle.blink_batch.specs.Batch.{FitsWords}
+use Rattle.blink_batch.specs.{FitsWords, answer_of, key_of}
 use Rattle.blink_batch.specs.declared.Answer.{Answer}
 use Rattle.blink_batch.specs.declared.Op.{Op}
-use Rattle.blink_batch.specs.Operation.{answer_of, key_of}
-use Rattle.blink_page.specs.Limits.{IsPageNumber}
-use Rattle.blink_rows.specs.Counts.{PlainCounts}
+use Rattle.blink_page.specs.{IsPageNumber}
+use Rattle.blink_rows.specs.{PlainCounts}
 use Rattle.blink_rows.specs.declared.span.Span.{Span}
-use Rattle.blink_machine.specs.Allowance.{UsesUp, one_if, numbers_left, writes_left, primes_left}
+use Rattle.blink_machine.specs.{UsesUp, one_if, numbers_left, writes_left, primes_left, latch, unlatch, write_page, write_prime, writes_new_page, PlainMachine, NeedsPage, NeedsLatch, NeedsNew, NeedsWrite, NeedsPrimeWrite, NeedsUnlatch, need_at, goes_on, IsPageWrite, done}
 use Rattle.blink_machine.specs.declared.machine.Need.TheVariants.{WriteNew}
 use Rattle.blink_machine.specs.declared.machine.State.{State}
 use Rattle.blink_machine.specs.declared.machine.State.TheVariants.{SplitNew, Root, Ended}
 use Rattle.blink_machine.specs.declared.step.Kind.{Kind}
 use Rattle.blink_machine.specs.declared.step.Step.TheVariants.{Moved}
-use Rattle.blink_machine.specs.Kinds.{latch, unlatch, write_page, write_prime, writes_new_page}
-use Rattle.blink_machine.specs.Machine.{PlainMachine, NeedsPage, NeedsLatch, NeedsNew, NeedsWrite, NeedsPrimeWrite, NeedsUnlatch, need_at}
-use Rattle.blink_machine.specs.TreeState.{goes_on}
-use Rattle.blink_machine.specs.Needs.{IsPageWrite}
-use Rattle.blink_machine.specs.Table.{done}
 use Rattle.blink_live.specs.declared.live.Live.{Live}
 use Rattle.blink_live.specs.declared.room.Room.{Room}
 use Rattle.blink_live.specs.declared.view.Call.{Call}

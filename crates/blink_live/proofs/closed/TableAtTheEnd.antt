@@ -6,12 +6,11 @@ use native.Mathlib.Decide.{dec_le}
 use lib.ListN.{get_elem?}
 use Rattle.atomic_table.specs.Table.{State, Final, Seen}
 use Rattle.blink_batch.specs.declared.Entry.{Entry}
-use Rattle.blink_batch.specs.PlainMap.{pointer_of}
-use Rattle.blink_page.specs.Page.{PlainPage}
-use Rattle.blink_rest.specs.Entries.{AreEntries}
-use Rattle.blink_rest.specs.Rest.{IsAtRest}
+use Rattle.blink_batch.specs.{pointer_of}
+use Rattle.blink_page.specs.{PlainPage}
+use Rattle.blink_rest.specs.{AreEntries, IsAtRest}
 use Rattle.blink_machine.specs.TreeState.{TreeState}
-use Rattle.blink_machine.specs.TreeMap.{pairs_of}
+use Rattle.blink_machine.specs.{pairs_of}
 use Rattle.blink_machine.proofs.Offered.{step_law}
 use Rattle.blink_live.specs.declared.view.Plan.{Plan}
 use Rattle.blink_live.specs.declared.view.Role.{Role}

@@ -2,8 +2,8 @@
 use Rattle.std.proofs.Common.{◌≡◌, ◌≢◌, ℕ, ◌+◌, ◌-◌, ◌*◌, ◌≤◌, sym, subst, arith}
 use Rattle.blink_batch.specs.declared.Op.{Op}
 use Rattle.blink_batch.specs.declared.Op.TheVariants.{Find, Insert, Delete}
-use Rattle.blink_batch.specs.Operation.{key_of}
-use Rattle.blink_machine.specs.Table.{IsUpdate}
+use Rattle.blink_batch.specs.{key_of}
+use Rattle.blink_machine.specs.{IsUpdate}
 use Rattle.blink_page.specs.declared.limits.TheConstants.{MAX_NEW_PAGES_PER_INSERT}
 use Rattle.blink_rows.specs.declared.limits.TheConstants.{MAX_ROWS_PER_INSERT}
 use Rattle.blink_rows.specs.declared.span.Span.{Span}

@@ -5,7 +5,7 @@ use mathlib.Core.Option.{some, some-injective}
 use lib.ListN.{get_elem?}
 use Rattle.atomic_table.specs.Table.{State, Splits}
 use Rattle.atomic_table.proofs.Lists.{at_longer}
-use Rattle.blink_batch.specs.PlainMap.{pointer_of}
+use Rattle.blink_batch.specs.{pointer_of}
 use Rattle.blink_machine.specs.TreeState.{TreeState}
 use Rattle.blink_live.specs.declared.view.Plan.{Plan}
 use Rattle.blink_live.specs.declared.view.Role.TheVariants.{Keeper}

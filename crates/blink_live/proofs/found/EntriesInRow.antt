@@ -2,9 +2,8 @@
 use Rattle.std.proofs.Common.{◌≡◌, ℕ, zero, suc, ◌+◌, ◌*◌, ◌<◌, ◌≤◌, List, [], ◌∷◌, length, get_or, refl, ap, ◌∙◌, arith}
 use Rattle.std.proofs.lemmas.Bool.Decides.{nat_tests}
 use Rattle.std.specs.Prelude.{slice_index}
-use Rattle.blink_page.specs.Page.{PlainPage}
-use Rattle.blink_page.specs.Place.{place_of}
-use Rattle.blink_rows.specs.Row.{flat, page_words}
+use Rattle.blink_page.specs.{PlainPage, place_of}
+use Rattle.blink_rows.specs.{flat, page_words}
 use Rattle.blink_rows.specs.declared.limits.TheConstants.{HEAD_WORDS}
 
 flat_key : (entries : List (ℕ × ℕ)) (j : ℕ) → get_or (flat entries) (2 * j) 0 ≡ (get_or entries j (0, 0)).0

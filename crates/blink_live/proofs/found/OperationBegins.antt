@@ -7,20 +7,17 @@ use Rattle.std.specs.Prelude.{slice_index}
 use mathlib.Core.List.{append-nil}
 use Rattle.atomic_table.specs.Table.{State, step, keeps, Allows}
 use mathlib.Core.Option.{none}
-use Rattle.blink_batch.specs.Batch.{FitsWords}
+use Rattle.blink_batch.specs.{FitsWords}
 use Rattle.blink_batch.specs.declared.Op.{Op}
 use Rattle.blink_page.specs.declared.limits.TheConstants.{MAX_PAGE}
-use Rattle.blink_rows.specs.Row.{prime_words}
+use Rattle.blink_rows.specs.{prime_words}
 use Rattle.blink_rows.specs.declared.limits.TheConstants.{ROW_WORDS}
 use Rattle.blink_machine.specs.declared.machine.State.{State as MachineState}
 use Rattle.blink_machine.specs.declared.machine.State.TheVariants.{Start, Posting, Ended}
 use Rattle.blink_machine.specs.declared.step.Step.TheVariants.{Moved}
 use Rattle.blink_machine.specs.declared.step.Kind.TheVariants as kind
-use Rattle.blink_machine.specs.InOrder.{ReadsPrimeWell}
-use Rattle.blink_machine.specs.Machine.{PlainMachine, NeedsPrime, fresh}
-use Rattle.blink_machine.specs.TreeState.{TreeState, goes_on, Steps, reads_prime, IsItsOperation, taken_on}
-use Rattle.blink_machine.specs.Places.{descent_bound}
-use Rattle.blink_machine.specs.Table.{SeesPrime}
+use Rattle.blink_machine.specs.{ReadsPrimeWell, PlainMachine, NeedsPrime, fresh, goes_on, Steps, reads_prime, IsItsOperation, taken_on, descent_bound, SeesPrime}
+use Rattle.blink_machine.specs.TreeState.{TreeState}
 use Rattle.blink_machine.proofs.Offered.{step_law}
 use Rattle.blink_live.specs.declared.view.Plan.{Plan}
 use Rattle.blink_live.specs.declared.view.Role.TheVariants.{Pass}

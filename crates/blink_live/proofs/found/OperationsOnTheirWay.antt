@@ -2,16 +2,13 @@
 use Rattle.std.proofs.Common.{◌≡◌, ◌<◌, ◌≤◌, ◌⊎◌, ℕ, inl, inr, Option, Some, None, List, ap, sym, ◌∙◌, subst, refl}
 use mathlib.Core.List.{IsPrefix}
 use Rattle.atomic_table.specs.Seated.{TableId}
-use Rattle.blink_batch.specs.Batch.{FitsWords}
+use Rattle.blink_batch.specs.{FitsWords, answer_at, key_of, pointer_of}
 use Rattle.blink_batch.specs.declared.Op.{Op}
 use Rattle.blink_batch.specs.declared.Op.TheVariants.{Find}
-use Rattle.blink_batch.specs.Operation.{answer_at, key_of}
-use Rattle.blink_batch.specs.PlainMap.{pointer_of}
-use Rattle.blink_page.specs.Page.{PlainPage}
-use Rattle.blink_rows.specs.Counts.{PlainCounts}
+use Rattle.blink_page.specs.{PlainPage}
+use Rattle.blink_rows.specs.{PlainCounts}
 use Rattle.blink_machine.specs.declared.machine.State.TheVariants.{Going}
-use Rattle.blink_machine.specs.Machine.{PlainMachine, NeedsPage, need_at}
-use Rattle.blink_machine.specs.Table.{SeesPrime, SeesPage, SeesOnItsWay}
+use Rattle.blink_machine.specs.{PlainMachine, NeedsPage, need_at, SeesPrime, SeesPage, SeesOnItsWay}
 use Rattle.blink_machine.proofs.Offered.{goes_on_if_needed}
 use Rattle.blink_live.specs.declared.live.Live.{Live}
 use Rattle.blink_live.specs.declared.view.Change.{Change}

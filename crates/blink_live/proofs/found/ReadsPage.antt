@@ -4,19 +4,14 @@ use Rattle.std.specs.Prelude.{slice_index}
 use mathlib.Core.Option.{none}
 use mathlib.Core.List.{append-nil}
 use Rattle.atomic_table.specs.Table.{step, keeps, Allows}
-use Rattle.blink_batch.specs.Batch.{FitsWords}
-use Rattle.blink_batch.specs.Operation.{answer_at, key_of}
-use Rattle.blink_batch.specs.PlainMap.{pointer_of}
-use Rattle.blink_page.specs.Page.{PlainPage, IsLawfulPage}
+use Rattle.blink_batch.specs.{FitsWords, answer_at, key_of, pointer_of}
+use Rattle.blink_page.specs.{PlainPage, IsLawfulPage}
 use Rattle.blink_page.specs.declared.limits.TheConstants.{MAX_FAN}
-use Rattle.blink_rows.specs.Row.{page_words}
+use Rattle.blink_rows.specs.{page_words}
 use Rattle.blink_machine.specs.declared.step.Step.TheVariants.{Moved}
 use Rattle.blink_machine.specs.declared.step.Kind.TheVariants as kind
-use Rattle.blink_machine.specs.Machine.{PlainMachine, NeedsPage}
-use Rattle.blink_machine.specs.TreeState.{TreeState, goes_on, Steps, reads_page, IsItsOperation, under_way}
-use Rattle.blink_machine.specs.Places.{descent_bound}
-use Rattle.blink_machine.specs.StepLaw.{Decides, deciding, other}
-use Rattle.blink_machine.specs.Table.{SeesPage}
+use Rattle.blink_machine.specs.{PlainMachine, NeedsPage, goes_on, Steps, reads_page, IsItsOperation, under_way, descent_bound, Decides, deciding, other, SeesPage}
+use Rattle.blink_machine.specs.TreeState.{TreeState}
 use Rattle.blink_machine.proofs.Offered.{step_law, descent_bound_falls, has_answer_at_end}
 use Rattle.blink_live.specs.declared.view.Plan.{Plan}
 use Rattle.blink_live.specs.declared.view.Role.TheVariants.{Pass}

@@ -4,15 +4,13 @@ use Rattle.std.specs.Prelude.{slice_index}
 use mathlib.Core.Option.{none}
 use mathlib.Core.List.{append-nil}
 use Rattle.atomic_table.specs.Table.{step, keeps, Allows}
-use Rattle.blink_batch.specs.Batch.{FitsWords}
-use Rattle.blink_rows.specs.Row.{prime_words}
+use Rattle.blink_batch.specs.{FitsWords}
+use Rattle.blink_rows.specs.{prime_words}
 use Rattle.blink_machine.specs.declared.machine.Need.TheVariants.{End, ReadPrime}
 use Rattle.blink_machine.specs.declared.step.Step.TheVariants.{Moved}
 use Rattle.blink_machine.specs.declared.step.Kind.TheVariants as kind
-use Rattle.blink_machine.specs.InOrder.{ReadsPrimeWell}
-use Rattle.blink_machine.specs.Machine.{PlainMachine, NeedsPrime}
-use Rattle.blink_machine.specs.TreeState.{TreeState, goes_on, IsItsOperation, under_way}
-use Rattle.blink_machine.specs.Places.{descent_bound}
+use Rattle.blink_machine.specs.{ReadsPrimeWell, PlainMachine, NeedsPrime, goes_on, IsItsOperation, under_way, descent_bound}
+use Rattle.blink_machine.specs.TreeState.{TreeState}
 use Rattle.blink_machine.specs.Invariant.{Invariant}
 use Rattle.blink_machine.proofs.Offered.{step_law, goes_on_if_needed}
 use Rattle.blink_live.specs.declared.view.Plan.{Plan}

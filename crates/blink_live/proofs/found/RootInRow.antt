@@ -2,10 +2,10 @@
 use Rattle.std.proofs.Common.{◌≡◌, ℕ, suc, ◌+◌, ◌-◌, ◌<◌, Some, List, length, get_or, sym, ap, ◌∙◌, arith, ◌^◌}
 use Rattle.std.specs.Prelude.{All, slice_index}
 use Rattle.std.proofs.lemmas.Option.{slice_get-get_or}
-use Rattle.blink_page.specs.Limits.{IsPageNumber}
-use Rattle.blink_rows.specs.Row.{prime_words}
+use Rattle.blink_page.specs.{IsPageNumber}
+use Rattle.blink_rows.specs.{prime_words}
 use Rattle.blink_rows.specs.declared.limits.TheConstants.{HEAD_WORDS}
-use Rattle.blink_machine.specs.Table.{IsTopLeftmost}
+use Rattle.blink_machine.specs.{IsTopLeftmost}
 
 module _ (prime : List ℕ) (levels : ℕ) (height : levels ≡ length prime) (some_level : 0 < length prime) where
   pub root_word : (root : ℕ) → root ≡ slice_index (prime_words prime) (HEAD_WORDS + levels - 1) → root ≡ get_or prime (levels - 1) 0

@@ -1,11 +1,7 @@
 -- The words that a find loads of a page's row tell which way its key leads from the page.
 use Rattle.std.proofs.Common.{◌≡◌, ◌≢◌, ℕ, zero, suc, ◌<◌, ◌≤◌, ◌^◌, Option, Some, None, List, [], ◌∷◌, length, get_or, refl, sym, ap, ◌∙◌, subst, arith}
 use Rattle.std.specs.Prelude.{IsNone, IfSome, slice_get, unwrap_or}
-use Rattle.blink_page.specs.Entries.{value_at, child_for}
-use Rattle.blink_page.specs.Limits.{IsPageNumber}
-use Rattle.blink_page.specs.Page.{PlainPage, IsLawfulPage}
-use Rattle.blink_page.specs.Place.{place_of}
-use Rattle.blink_page.specs.Rising.{IsRising}
+use Rattle.blink_page.specs.{value_at, child_for, IsPageNumber, PlainPage, IsLawfulPage, place_of, IsRising}
 use Rattle.blink_page.specs.declared.limits.TheConstants.{MAX_FAN, MAX_PAGE, GREATEST_KEY}
 use Rattle.blink_page.specs.declared.search.Way.TheVariants.{Right, Down, Here}
 use Rattle.blink_page.proofs.Offered.{child_for-place, value_at-place, value_at-place_other, value_at-place_end, place_inside, child_inside}

@@ -2,13 +2,11 @@
 use Rattle.std.proofs.Common.{◌≡◌, ℕ, ◌+◌, ◌≤◌, Some, None, List, [], ◌∷◌, ◌++◌, length, arith}
 use Rattle.std.specs.List.{flat_map}
 use Rattle.blink_page.specs.declared.limits.TheConstants.{MAX_PAGE}
-use Rattle.blink_page.specs.Page.{PlainPage}
-use Rattle.blink_rest.specs.Chain.{AreAmong, Cell, IsChain, Pages}
-use Rattle.blink_rest.specs.Level.{entries_along, numbers_of}
-use Rattle.blink_rest.specs.Numbers.{AreWithin}
-use Rattle.blink_rest.specs.Rest.{AreChains}
+use Rattle.blink_page.specs.{PlainPage}
+use Rattle.blink_rest.specs.{AreAmong, IsChain, Pages, entries_along, numbers_of, AreWithin, AreChains}
+use Rattle.blink_rest.specs.Chain.{Cell}
 use Rattle.blink_rest.proofs.Offered.{at_most_n, cells_within, levels_differ}
-use Rattle.blink_rows.specs.Counts.{PlainCounts}
+use Rattle.blink_rows.specs.{PlainCounts}
 use Rattle.blink_live.specs.ToCome.{AreKept, AreToCome}
 use Rattle.blink_live.specs.Renumbered.{child_count}
 use Rattle.blink_live.specs.Words.{KeepsPages}

@@ -3,11 +3,10 @@ use Rattle.std.proofs.Common.{◌≡◌, ℕ, ◌+◌, ◌≤◌, suc, Some, Non
 use Rattle.std.specs.List.{flat_map}
 use Rattle.std.proofs.lemmas.List.{length-map}
 use Rattle.blink_page.specs.declared.limits.TheConstants.{MAX_PAGE}
-use Rattle.blink_page.specs.Page.{PlainPage}
-use Rattle.blink_rest.specs.Chain.{Cell, Pages}
-use Rattle.blink_rest.specs.Level.{entries_along, numbers_of}
-use Rattle.blink_rest.specs.Rest.{AreChains, AreLevels, EachIsParent}
-use Rattle.blink_rows.specs.Counts.{PlainCounts}
+use Rattle.blink_page.specs.{PlainPage}
+use Rattle.blink_rest.specs.{Pages, entries_along, numbers_of, AreChains, AreLevels, EachIsParent}
+use Rattle.blink_rest.specs.Chain.{Cell}
+use Rattle.blink_rows.specs.{PlainCounts}
 use Rattle.blink_live.specs.ToCome.{AddsPages, AreToCome, HasLeavesToCome, HasPagesToCome}
 use Rattle.blink_live.specs.Renumbered.{cells_anew, firsts_anew, levels_anew, pages_in, pages_in_all}
 use Rattle.blink_live.specs.Words.{KeepsPages}

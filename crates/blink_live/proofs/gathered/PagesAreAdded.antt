@@ -2,13 +2,12 @@
 use Rattle.std.proofs.Common.{◌≡◌, ℕ, ◌+◌, ◌<◌, ◌≤◌, suc, Option, Some, None, List, [], ◌∷◌, ◌++◌, length, refl, ap, sym, ◌∙◌, subst, arith, append_assoc, append-nil, length-append}
 use Rattle.std.specs.Prelude.{IfSome}
 use Rattle.blink_page.specs.declared.limits.TheConstants.{GREATEST_KEY, MAX_FAN, MAX_PAGE}
-use Rattle.blink_page.specs.Limits.{IsPageNumber}
-use Rattle.blink_page.specs.Page.{PlainPage, IsLawfulPage}
+use Rattle.blink_page.specs.{IsPageNumber, PlainPage, IsLawfulPage}
 use Rattle.blink_page.proofs.Offered.{lawful_with_room}
-use Rattle.blink_rest.specs.Chain.{Cell, InLine, cell}
-use Rattle.blink_rest.specs.Level.{entries_along}
+use Rattle.blink_rest.specs.{InLine, entries_along}
+use Rattle.blink_rest.specs.Chain.{Cell, cell}
 use Rattle.blink_rest.proofs.Offered.{same_cell}
-use Rattle.blink_rows.specs.Counts.{PlainCounts}
+use Rattle.blink_rows.specs.{PlainCounts}
 use Rattle.blink_live.specs.ToCome.{AreToCome, HasPageAt, IsPageAt}
 use Rattle.blink_live.specs.Renumbered.{cells_anew, child_count, page_anew, pages_in}
 use Rattle.blink_live.specs.Words.{KeepsPage}

@@ -3,11 +3,11 @@ use Rattle.std.proofs.Common.{◌≡◌, ℕ, ◌+◌, ◌<◌, ◌≤◌, zero,
 use Rattle.std.specs.Prelude.{IfSome, slice_get}
 use Rattle.std.proofs.lemmas.List.{map-append}
 use Rattle.blink_page.specs.declared.limits.TheConstants.{MAX_PAGE}
-use Rattle.blink_page.specs.Limits.{IsPageNumber}
-use Rattle.blink_page.specs.Page.{PlainPage}
-use Rattle.blink_store.specs.Store.{PlainStore, page_of}
-use Rattle.blink_rest.specs.Chain.{Cell, AreAmong, InLine}
-use Rattle.blink_rest.specs.Level.{children, entries_along, high_keys, numbers_of, separators}
+use Rattle.blink_page.specs.{IsPageNumber, PlainPage}
+use Rattle.blink_store.specs.{PlainStore, page_of}
+use Rattle.blink_rest.specs.{AreAmong, InLine, entries_along, high_keys, numbers_of, separators}
+use Rattle.blink_rest.specs.Chain.{Cell}
+use Rattle.blink_rest.specs.Level.{children}
 use Rattle.blink_live.specs.Renumbered.{cells_anew, child_count, entries_anew, link_anew, numbers_from, page_anew, pages_in}
 use Rattle.blink_live.proofs.gathered.RenumberedPageIsLawful.{child_count-append, child_count-inner, children_in_row, lawful-page_anew, separators-entries_anew}
 

@@ -2,10 +2,7 @@
 use Rattle.std.proofs.Common.{◌≡◌, ℕ, ◌+◌, ◌<◌, ◌≤◌, ◌↔◌, zero, suc, Option, Some, None, List, [], ◌∷◌, ◌++◌, length, map, refl, ap, arith, length-append}
 use Rattle.std.specs.Prelude.{IsNone, IfSome}
 use Rattle.blink_page.specs.declared.limits.TheConstants.{GREATEST_KEY, MAX_PAGE}
-use Rattle.blink_page.specs.Limits.{IsPageNumber}
-use Rattle.blink_page.specs.Entries.{ValuesWithin}
-use Rattle.blink_page.specs.Page.{PlainPage, IsLawfulPage}
-use Rattle.blink_page.specs.Rising.{IsRising, Covers}
+use Rattle.blink_page.specs.{IsPageNumber, ValuesWithin, PlainPage, IsLawfulPage, IsRising, Covers}
 use Rattle.blink_live.specs.Renumbered.{with_children, entries_anew, child_count, link_anew, page_anew, numbers_from}
 
 -- as many entries, with the same keys

@@ -4,14 +4,12 @@ use Rattle.std.specs.List.{flat_map}
 use Rattle.std.proofs.lemmas.List.{length-map}
 use Rattle.std.proofs.lemmas.Bool.{cases_eq}
 use Rattle.blink_page.specs.declared.limits.TheConstants.{GREATEST_KEY, MAX_PAGE}
-use Rattle.blink_page.specs.Page.{PlainPage}
-use Rattle.blink_store.specs.Store.{PlainStore, page_of}
+use Rattle.blink_page.specs.{PlainPage}
+use Rattle.blink_store.specs.{PlainStore, page_of}
 use Rattle.blink_store.proofs.Offered.{has_page}
-use Rattle.blink_rest.specs.Chain.{Cell, IsChain, Pages}
-use Rattle.blink_rest.specs.Entries.{AreEntries}
-use Rattle.blink_rest.specs.Level.{children, entries_along, high_keys, numbers_of, separators, IsParentOf}
-use Rattle.blink_rest.specs.Numbers.{IsMember}
-use Rattle.blink_rest.specs.Rest.{AreChains, AreLevels, EachIsParent, TopHasOne}
+use Rattle.blink_rest.specs.{IsChain, Pages, AreEntries, entries_along, high_keys, numbers_of, separators, IsParentOf, IsMember, AreChains, AreLevels, EachIsParent, TopHasOne}
+use Rattle.blink_rest.specs.Chain.{Cell}
+use Rattle.blink_rest.specs.Level.{children}
 use Rattle.blink_rest.proofs.Offered.{Contains-from_among, same_entries}
 use Rattle.blink_live.specs.Renumbered.{cells_anew, child_count, firsts_anew, levels_anew, numbers_from, pages_in, pages_in_all}
 use Rattle.blink_live.proofs.gathered.RenumberedPageIsLawful.{child_count-at_most}

@@ -2,10 +2,9 @@
 use Rattle.std.proofs.Common.{◌≡◌, ℕ, ◌+◌, ◌<◌, zero, suc, List, [], ◌∷◌, length, get_or, sym, ap, ◌∙◌}
 use Rattle.std.proofs.Math.ListN.{get_elem?}
 use mathlib.Core.Option.{some}
-use Rattle.blink_page.specs.Page.{PlainPage, IsLawfulPage}
+use Rattle.blink_page.specs.{PlainPage, IsLawfulPage}
 use Rattle.blink_page.specs.declared.limits.TheConstants.{MAX_FAN}
-use Rattle.blink_rows.specs.Counts.{PlainCounts}
-use Rattle.blink_rows.specs.Row.{page_words, IsRowOf, IsPageRow}
+use Rattle.blink_rows.specs.{PlainCounts, page_words, IsRowOf, IsPageRow}
 use Rattle.blink_rows.specs.declared.limits.TheConstants.{ROW_WORDS}
 use Rattle.blink_rows.proofs.Offered.{row_has_one_page}
 use Rattle.blink_live.specs.Words.{KeepsPage, RowIs, row_start}

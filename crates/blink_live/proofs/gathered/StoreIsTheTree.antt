@@ -2,10 +2,10 @@
 use Rattle.std.proofs.Common.{◌≡◌, ℕ, ◌+◌, ◌<◌, ◌≤◌, zero, suc, List, [], ◌∷◌, length, drop, get_or, refl, ap, ◌∙◌, subst, arith}
 use Rattle.std.proofs.lemmas.List.{drop_all}
 use Rattle.blink_page.specs.declared.limits.TheConstants.{MAX_PAGE}
-use Rattle.blink_store.specs.Store.{PlainStore, page_of}
-use Rattle.blink_rest.specs.Chain.{Cell, Pages}
-use Rattle.blink_rest.specs.Rest.{AreLevels, IsStoreAtRest}
-use Rattle.blink_rows.specs.Counts.{AreBounded, PlainCounts}
+use Rattle.blink_store.specs.{PlainStore, page_of}
+use Rattle.blink_rest.specs.{Pages, AreLevels, IsStoreAtRest}
+use Rattle.blink_rest.specs.Chain.{Cell}
+use Rattle.blink_rows.specs.{AreBounded, PlainCounts}
 use Rattle.blink_live.specs.Gathered.{HasTheEntries, IsNumberedInOrder, KeepsTreeAtRest}
 use Rattle.blink_live.specs.Renumbered.{firsts_anew, levels_anew, pages_in_all}
 use Rattle.blink_live.specs.Words.{KeepsPages}

@@ -6,17 +6,15 @@ use Rattle.std.proofs.lemmas.Option.{slice_get_past}
 use mathlib.Core.Option.{some, some-ne-none, some-injective}
 use lib.ListN.{get_elem?}
 use Rattle.atomic_table.specs.Table.{opening}
-use Rattle.blink_index.specs.Index.{map_of}
-use Rattle.blink_page.specs.Page.{PlainPage}
-use Rattle.blink_rest.specs.Rest.{IsStoreAtRest}
-use Rattle.blink_rows.specs.Counts.{PlainCounts, AreBounded}
-use Rattle.blink_rows.specs.Row.{prime_words}
-use Rattle.blink_store.specs.Store.{PlainStore, page_of, IsLawfulStore}
+use Rattle.blink_index.specs.{map_of}
+use Rattle.blink_page.specs.{PlainPage}
+use Rattle.blink_rest.specs.{IsStoreAtRest}
+use Rattle.blink_rows.specs.{PlainCounts, AreBounded, prime_words}
+use Rattle.blink_store.specs.{PlainStore, page_of, IsLawfulStore}
 use Rattle.blink_store.proofs.Offered.{has_page, page_there}
 use Rattle.blink_machine.specs.TreeState.{TreeState}
 use Rattle.blink_machine.specs.Invariant.{Invariant}
-use Rattle.blink_machine.specs.StepLaw.{IsOpening}
-use Rattle.blink_machine.specs.TreeMap.{IsMapOf}
+use Rattle.blink_machine.specs.{IsOpening, IsMapOf}
 use Rattle.blink_machine.proofs.Offered.{step_law}
 use Rattle.blink_live.specs.declared.view.Plan.{Plan}
 use Rattle.blink_live.specs.declared.view.View.{View}

@@ -3,10 +3,9 @@ use Rattle.std.proofs.Common.{◌≡◌, ◌≢◌, ℕ, ◌+◌, ◌*◌, ◌<�
 use Rattle.std.specs.Prelude.{slice_index}
 use Rattle.std.proofs.lemmas.Bool.{cases_eq, cases_lt}
 use Rattle.std.proofs.lemmas.List.{length-replicate, get_or-replicate, get_or_past}
-use Rattle.blink_page.specs.Page.{PlainPage}
-use Rattle.blink_rows.specs.Counts.{PlainCounts}
-use Rattle.blink_rows.specs.Row.{IsRowOf, IsPageRow, IsPrimeRow, page_words, prime_words}
-use Rattle.blink_store.specs.Store.{PlainStore, page_of}
+use Rattle.blink_page.specs.{PlainPage}
+use Rattle.blink_rows.specs.{PlainCounts, IsRowOf, IsPageRow, IsPrimeRow, page_words, prime_words}
+use Rattle.blink_store.specs.{PlainStore, page_of}
 use Rattle.blink_store.proofs.Offered.{has_page}
 use Rattle.blink_live.specs.Laid.{IsLaid}
 use Rattle.blink_live.specs.Laying.{IsOutside, LaysRow}

@@ -1,11 +1,10 @@
 -- The page that an operation needs next is there, or its latch is held, and so it has words.
 use Rattle.std.proofs.Common.{◌≡◌, ℕ, ◌<◌, ◌≤◌, Option, Some, None, sym, ◌∙◌, subst, arith}
 use native.Mathlib.Decide.{dec_le}
-use Rattle.blink_page.specs.Page.{PlainPage}
+use Rattle.blink_page.specs.{PlainPage}
 use Rattle.blink_machine.specs.declared.machine.Need.TheVariants.{End, ReadPage, Latch, WriteNew, WritePage, WritePrime, Unlatch}
-use Rattle.blink_machine.specs.Machine.{PlainMachine, need_at}
-use Rattle.blink_machine.specs.TreeState.{TreeState, goes_on, under_way, IsItsOperation}
-use Rattle.blink_machine.specs.Needs.{IsPageWrite}
+use Rattle.blink_machine.specs.{PlainMachine, need_at, goes_on, under_way, IsItsOperation, IsPageWrite}
+use Rattle.blink_machine.specs.TreeState.{TreeState}
 use Rattle.blink_machine.specs.Invariant.{Invariant}
 use Rattle.blink_machine.proofs.Offered.{step_law, goes_on_if_needed}
 use Rattle.blink_live.specs.declared.view.Plan.{Plan}

@@ -5,14 +5,13 @@ use mathlib.Core.Option.{some}
 use mathlib.Core.List.{IsPrefix}
 use lib.ListN.{get_elem?}
 use Rattle.atomic_table.specs.Table.{State}
-use Rattle.blink_batch.specs.PlainMap.{pointer_of}
-use Rattle.blink_page.specs.Page.{PlainPage}
-use Rattle.blink_rows.specs.Row.{page_words}
+use Rattle.blink_batch.specs.{pointer_of}
+use Rattle.blink_page.specs.{PlainPage}
+use Rattle.blink_rows.specs.{page_words}
 use Rattle.blink_rows.specs.declared.limits.TheConstants.{ROW_WORDS}
 use Rattle.blink_rows.specs.declared.span.Span.{Span}
-use Rattle.blink_machine.specs.Machine.{PlainMachine}
+use Rattle.blink_machine.specs.{PlainMachine, descent_bound}
 use Rattle.blink_machine.specs.TreeState.{TreeState}
-use Rattle.blink_machine.specs.Places.{descent_bound}
 use Rattle.blink_live.specs.declared.view.Change.{Change}
 use Rattle.blink_live.specs.declared.view.Plan.{Plan}
 use Rattle.blink_live.specs.declared.view.Role.{Role}

@@ -1,6 +1,6 @@
 -- A seat that has seen all changes knows of its own keys what its share says of them.
 use Rattle.std.proofs.Common.{◌≡◌, ℕ, ap, sym, ◌∙◌}
-use Rattle.blink_batch.specs.PlainMap.{pointer_of}
+use Rattle.blink_batch.specs.{pointer_of}
 use Rattle.blink_live.specs.declared.view.Plan.{Plan}
 use Rattle.blink_live.specs.declared.view.View.{View}
 use Rattle.blink_live.specs.Changes.{after}

@@ -5,11 +5,11 @@ use mathlib.Core.Option.{some}
 use lib.ListN.{get_elem?}
 use Rattle.atomic_table.specs.Table.{State}
 use Rattle.blink_batch.specs.declared.Entry.{Entry}
-use Rattle.blink_batch.specs.PlainMap.{pointer_of}
-use Rattle.blink_rows.specs.Row.{prime_words}
+use Rattle.blink_batch.specs.{pointer_of}
+use Rattle.blink_rows.specs.{prime_words}
 use Rattle.blink_machine.specs.TreeState.{TreeState}
 use Rattle.blink_machine.specs.Invariant.{Invariant}
-use Rattle.blink_machine.specs.StepLaw.{IsMapAt}
+use Rattle.blink_machine.specs.{IsMapAt}
 use Rattle.blink_rows.specs.declared.span.Span.{Span}
 use Rattle.blink_live.specs.declared.view.Call.{Call}
 use Rattle.blink_live.specs.declared.view.Change.{Change}
@@ -19,7 +19,7 @@ use Rattle.blink_live.specs.Changes.{after, states_of}
 use Rattle.blink_live.specs.Rule.{Owners, IsPublished, PageWordIs, latch_word, HasRows, HasForCall, Knows, IsTableAt, IsTable}
 use Rattle.blink_live.specs.Views.{span}
 use Rattle.blink_live.specs.Words.{RowIs}
-use Rattle.blink_page.specs.Limits.{IsPageNumber}
+use Rattle.blink_page.specs.{IsPageNumber}
 use Rattle.blink_live.proofs.table.OthersKnowTheSame.{RowStays, row_is_still, LeavesOthers, still_published, other_knows}
 use Rattle.blink_live.proofs.table.SeatsThatStay.{at_inside, views_stay, counted_stays}
 

@@ -2,13 +2,12 @@
 use Rattle.std.proofs.Common.{◌≡◌, ℕ, ◌+◌, ◌<◌, List, [], ◌∷◌, refl, ap, sym, subst, arith}
 use Rattle.std.specs.List.{AllByRecursion}
 use Rattle.blink_batch.specs.declared.Entry.{Entry}
-use Rattle.blink_batch.specs.PlainMap.{IsAscending}
-use Rattle.blink_page.specs.Rising.{IsRising}
+use Rattle.blink_batch.specs.{IsAscending}
+use Rattle.blink_page.specs.{IsRising}
 use Rattle.blink_page.specs.declared.limits.TheConstants.{GREATEST_KEY}
-use Rattle.blink_rest.specs.Entries.{AreEntries}
-use Rattle.blink_rest.specs.Rest.{IsStoreAtRest}
+use Rattle.blink_rest.specs.{AreEntries, IsStoreAtRest}
 use Rattle.blink_rest.proofs.Offered.{entries_ascend, entries_exist_at_rest}
-use Rattle.blink_store.specs.Store.{PlainStore, page_of}
+use Rattle.blink_store.specs.{PlainStore, page_of}
 use Rattle.blink_machine.specs.TreeMap.{IsMapOf, entries_from, pairs_of}
 
 -- pairs as the entries of a map, and these as pairs again, are the same

@@ -1,9 +1,8 @@
--- The entries of a sound tree state are one plain map.
+-- Where the invariant holds, the entries of the tree are one plain map.
 use Rattle.std.proofs.Common.{◌≡◌, ◌+◌, List, [], ◌∷◌, refl, ap, sym, subst, ◌∙◌}
 use Rattle.blink_batch.specs.declared.Entry.{Entry}
 use Rattle.blink_page.specs.declared.limits.TheConstants.{GREATEST_KEY}
-use Rattle.blink_rest.specs.Entries.{AreEntries}
-use Rattle.blink_rest.specs.Level.{entries_along}
+use Rattle.blink_rest.specs.{AreEntries, entries_along}
 use Rattle.blink_rest.proofs.Offered.{entries_ascend}
 use Rattle.blink_machine.specs.StepLaw.{InvariantGivesOneMap}
 use Rattle.blink_machine.specs.TreeMap.{entries_from, pairs_of}

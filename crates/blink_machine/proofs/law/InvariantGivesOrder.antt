@@ -1,4 +1,4 @@
--- In a sound tree state each operation can take its next step: what it latches, reads and writes is there, and its latches are its own.
+-- Where the invariant holds, each operation can take its next step: what it latches, reads and writes is there, and its latches are its own.
 use Rattle.std.proofs.Common.{◌≡◌, ℕ, ◌⊎◌, inl, inr, Some, None, sym, ap, subst, ◌∙◌, arith}
 use Rattle.blink_machine.specs.declared.machine.State.TheVariants.{Want}
 use Rattle.blink_machine.specs.declared.step.Step.TheVariants.{Moved}

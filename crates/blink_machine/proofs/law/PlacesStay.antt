@@ -1,10 +1,9 @@
 -- No step takes a page away or changes its level or floor; and from a page that it reads an operation goes down, or further along.
 use Rattle.std.proofs.Common.{◌≡◌, ℕ, ◌+◌, ◌<◌, ◌⊎◌, inl, inr, Some, refl, sym, ap, ◌∙◌, arith}
 use Rattle.std.proofs.lemmas.Bool.{cases_eq}
-use Rattle.blink_page.specs.Page.{PlainPage}
-use Rattle.blink_page.specs.Rising.{least_above}
-use Rattle.blink_rest.specs.Chain.{Pages}
-use Rattle.blink_store.specs.Store.{SameFloorAndLevel}
+use Rattle.blink_page.specs.{PlainPage, least_above}
+use Rattle.blink_rest.specs.{Pages}
+use Rattle.blink_store.specs.{SameFloorAndLevel}
 use Rattle.blink_machine.specs.declared.machine.Next.TheVariants.{MoveRight}
 use Rattle.blink_machine.specs.declared.machine.State.TheVariants.{Going, Held, Leave}
 use Rattle.blink_machine.specs.declared.step.Step.{Step}

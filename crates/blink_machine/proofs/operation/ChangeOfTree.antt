@@ -1,8 +1,6 @@
 -- What an operation's change of the page that it works on makes of the tree.
 use Rattle.std.proofs.Common.{◌≡◌, ℕ, ◌+◌, ◌<◌, ◌≤◌, Some, None, length, refl, ap, ◌∙◌, subst, arith}
-use Rattle.blink_page.specs.Entries.{value_at, removed, replaced}
-use Rattle.blink_page.specs.Limits.{IsPageNumber}
-use Rattle.blink_page.specs.Page.{PlainPage, IsKeyOf, entries_with, with_entries}
+use Rattle.blink_page.specs.{value_at, removed, replaced, IsPageNumber, PlainPage, IsKeyOf, entries_with, with_entries}
 use Rattle.blink_page.specs.declared.limits.TheConstants.{GREATEST_KEY}
 use Rattle.blink_page.proofs.Offered.{entries_with-leaf, entries_with-inner}
 use Rattle.blink_machine.specs.declared.machine.Debt.{Debt}

@@ -1,6 +1,6 @@
 -- A step leaves an operation the operation that it is, and one that ends has its answer.
 use Rattle.std.proofs.Common.{◌≡◌, ◌≢◌, ℕ, Option, None, IsSome, is_some, List, [], ◌∷◌, refl, ap, sym, ◌∙◌, subst}
-use Rattle.blink_page.specs.Page.{PlainPage}
+use Rattle.blink_page.specs.{PlainPage}
 use Rattle.blink_machine.specs.declared.machine.Debt.{Debt}
 use Rattle.blink_machine.specs.declared.machine.Job.{Job}
 use Rattle.blink_machine.specs.declared.machine.Job.TheVariants.{Leaf, Parent}
@@ -109,7 +109,7 @@ leaving_answered tree_state worker m invariant (under_way has) page at =
 leaving_answered tree_state worker m invariant (taken_on op none is) page at =
     let start : m.state ≡ Start = ap (λ (x : PlainMachine). x.state) is in absurd (cc)
 
--- every step of a sound tree state leaves the operation itself
+-- every step leaves the operation itself
 pub step_stays : (old new : TreeState) (worker : ℕ) (m after : PlainMachine) (step : Step) → Invariant old → IsItsOperation old worker m → Steps old worker m step after new
     → m.state ≢ Ended → StaysItself m after
 step_stays old new worker m after step invariant its (reads_prime needs sees is leaves now) on = sees_prime_stays m after old.prime sees

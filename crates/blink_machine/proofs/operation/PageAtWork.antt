@@ -1,10 +1,8 @@
 -- The page that an operation works on.
 use Rattle.std.proofs.Common.{◌≡◌, ℕ, ◌+◌, Some}
-use Rattle.blink_page.specs.Limits.{IsPageNumber}
-use Rattle.blink_page.specs.Page.{PlainPage, IsKeyOf}
-use Rattle.blink_page.specs.Rising.{least_above}
+use Rattle.blink_page.specs.{IsPageNumber, PlainPage, IsKeyOf, least_above}
 use Rattle.blink_rest.specs.Chain.{Cell}
-use Rattle.blink_rest.specs.Numbers.{IsMember}
+use Rattle.blink_rest.specs.{IsMember}
 use Rattle.blink_machine.specs.declared.machine.Debt.{Debt}
 use Rattle.blink_machine.specs.Machine.{PlainMachine, target, level_of}
 use Rattle.blink_machine.specs.TreeState.{TreeState}

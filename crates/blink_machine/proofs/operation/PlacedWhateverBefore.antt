@@ -1,7 +1,7 @@
 -- What is so of an operation at a state is so of it wherever it was before.
 use Rattle.std.proofs.Common.{◌≡◌, ℕ, Option, refl, subst}
-use Rattle.blink_batch.specs.Batch.{FitsWords}
-use Rattle.blink_page.specs.Page.{PlainPage}
+use Rattle.blink_batch.specs.{FitsWords}
+use Rattle.blink_page.specs.{PlainPage}
 use Rattle.blink_machine.specs.declared.machine.Debt.{Debt}
 use Rattle.blink_machine.specs.declared.machine.Next.{Next}
 use Rattle.blink_machine.specs.declared.machine.Next.TheVariants.{Finish, MoveRight, Post}

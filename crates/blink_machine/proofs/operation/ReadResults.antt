@@ -3,10 +3,8 @@ use Rattle.std.proofs.Common.{◌≡◌, ℕ, ◌+◌, ◌-◌, ◌≤◌, Bool,
 use Rattle.std.proofs.lemmas.Bool.{le-ltb, lt-ltb}
 use Rattle.blink_batch.specs.declared.Op.{Op}
 use Rattle.blink_batch.specs.declared.Op.TheVariants.{Find, Insert}
-use Rattle.blink_batch.specs.Operation.{answer_at}
-use Rattle.blink_page.specs.Entries.{value_at}
-use Rattle.blink_page.specs.Page.{PlainPage}
-use Rattle.blink_page.specs.Way.{Leads}
+use Rattle.blink_batch.specs.{answer_at}
+use Rattle.blink_page.specs.{value_at, PlainPage, Leads}
 use Rattle.blink_page.specs.declared.search.Way.{Way}
 use Rattle.blink_page.specs.declared.search.Way.TheVariants.{Right, Down, Here}
 use Rattle.blink_machine.specs.declared.machine.Job.{Job}

@@ -1,6 +1,6 @@
 -- Which states need what.
 use Rattle.std.proofs.Common.{◌≡◌, ℕ, ◌⊎◌, inl, inr, Option, List, refl}
-use Rattle.blink_page.specs.Page.{PlainPage}
+use Rattle.blink_page.specs.{PlainPage}
 use Rattle.blink_machine.specs.declared.machine.Debt.{Debt}
 use Rattle.blink_machine.specs.declared.machine.Need.TheVariants.{Latch, WriteNew, WritePage, Unlatch}
 use Rattle.blink_machine.specs.declared.machine.Next.{Next}

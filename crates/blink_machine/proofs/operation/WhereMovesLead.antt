@@ -1,12 +1,9 @@
 -- Where a search or posting stands after each move: to the right, down, or at the leftmost page of a level.
 use Rattle.std.proofs.Common.{◌≡◌, ℕ, ◌+◌, ◌-◌, ◌<◌, ◌≤◌, Some, None, List, [], ◌∷◌, length, slice_get, sym, ap, ◌∙◌, subst, arith}
 use Rattle.std.specs.List.{last_or}
-use Rattle.blink_page.specs.Entries.{child_for, value_at}
-use Rattle.blink_page.specs.Page.{PlainPage, IsKeyOf}
-use Rattle.blink_page.specs.Rising.{least_above}
-use Rattle.blink_rest.specs.Chain.{Cell, Pages}
-use Rattle.blink_rest.specs.Numbers.{IsMember}
-use Rattle.blink_rest.specs.Level.{entries_along}
+use Rattle.blink_page.specs.{child_for, value_at, PlainPage, IsKeyOf, least_above}
+use Rattle.blink_rest.specs.{Pages, IsMember, entries_along}
+use Rattle.blink_rest.specs.Chain.{Cell}
 use Rattle.blink_machine.specs.Machine.{PlainMachine, target}
 use Rattle.blink_machine.specs.TreeState.{TreeState}
 use Rattle.blink_machine.specs.Placed.{AreRemembered, StandsAt}

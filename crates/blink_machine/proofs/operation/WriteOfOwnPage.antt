@@ -2,10 +2,9 @@
 use Rattle.std.proofs.Common.{◌≡◌, ◌≢◌, ℕ, inl, inr, Option, Some, None, length, sym, ◌∙◌}
 use Rattle.std.proofs.lemmas.Bool.{cases_eq}
 use Rattle.blink_batch.specs.declared.Answer.{Answer}
-use Rattle.blink_page.specs.Limits.{IsPageNumber}
-use Rattle.blink_page.specs.Page.{PlainPage}
+use Rattle.blink_page.specs.{IsPageNumber, PlainPage}
 use Rattle.blink_rest.specs.Chain.{Cell}
-use Rattle.blink_rest.specs.Numbers.{IsMember}
+use Rattle.blink_rest.specs.{IsMember}
 use Rattle.blink_machine.specs.declared.machine.Next.TheVariants.{Finish}
 use Rattle.blink_machine.specs.declared.machine.State.TheVariants.{Leave}
 use Rattle.blink_machine.specs.Machine.{PlainMachine}

@@ -1,8 +1,7 @@
 -- What an operation writes is lawful, in the place of a page whose latch it holds or as a new page.
 use Rattle.std.proofs.Common.{◌≡◌, ℕ, ◌+◌, ◌<◌, ◌≤◌, Option, Some, List, length, refl, sym, ap, subst, ◌∙◌, arith, All}
 use Rattle.std.proofs.lemmas.List.Elements.{All-push}
-use Rattle.blink_page.specs.Limits.{IsFan, IsPageNumber}
-use Rattle.blink_page.specs.Page.{PlainPage, IsLawfulPage, root_over}
+use Rattle.blink_page.specs.{IsFan, IsPageNumber, PlainPage, IsLawfulPage, root_over}
 use Rattle.blink_page.specs.declared.limits.TheConstants.{MAX_LEVEL, GREATEST_KEY}
 use Rattle.blink_machine.specs.declared.machine.Debt.{Debt}
 use Rattle.blink_machine.specs.declared.machine.Need.TheVariants.{WritePage, WriteNew}

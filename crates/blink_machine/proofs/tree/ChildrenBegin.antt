@@ -2,13 +2,10 @@
 use Rattle.std.proofs.Common.{◌≡◌, ℕ, ◌+◌, ◌≤◌, Option, Some, None, List, [], ◌∷◌, inl, inr, subst, ap, ◌∙◌, arith}
 use Rattle.std.proofs.lemmas.Bool.{cases_lt, cases_eq}
 use Rattle.std.proofs.lemmas.Bool.Decides.{nat_tests}
-use Rattle.blink_page.specs.Rising.{least_above, IsRising}
-use Rattle.blink_page.specs.Entries.{value_at, child_for}
+use Rattle.blink_page.specs.{least_above, IsRising, value_at, child_for}
 use Rattle.blink_page.specs.declared.limits.TheConstants.{GREATEST_KEY}
 use Rattle.blink_rest.specs.Chain.{Cell}
-use Rattle.blink_rest.specs.Numbers.{IsMember}
-use Rattle.blink_rest.specs.Level.{entries_along}
-use Rattle.blink_rest.specs.References.{Refers, IsHighKey}
+use Rattle.blink_rest.specs.{IsMember, entries_along, Refers, IsHighKey}
 use Rattle.blink_rest.proofs.Offered.{page_refers}
 use Rattle.blink_machine.proofs.tree.TreeStatements.{ChildrenBegin, SeparatorsAreHighKeys}
 use Rattle.blink_machine.proofs.tree.PagesOfLevels.{named_standing, cells_are_of_level}

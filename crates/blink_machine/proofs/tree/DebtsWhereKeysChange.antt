@@ -1,13 +1,12 @@
 -- How debts pass where high keys and separators change.
 use Rattle.std.proofs.Common.{◌≡◌, ℕ, ◌+◌, ◌<◌, ◌⊎◌, inl, inr, Option, Some, None, IsSome, refl, sym, ap, ◌∙◌, subst, is_some}
 use Rattle.std.proofs.lemmas.Bool.{cases_eq}
-use Rattle.blink_page.specs.Entries.{value_at}
+use Rattle.blink_page.specs.{value_at}
 use Rattle.blink_page.proofs.Offered.{none_unless_some}
 use Rattle.blink_page.specs.declared.limits.TheConstants.{GREATEST_KEY}
-use Rattle.blink_rest.specs.Level.{entries_along}
+use Rattle.blink_rest.specs.{entries_along, IsHighKey, BeginsAt}
 use Rattle.blink_machine.specs.declared.machine.Debt.{Debt}
 use Rattle.blink_machine.specs.TreeWithDebts.{Levels, IsDebt}
-use Rattle.blink_rest.specs.References.{IsHighKey, BeginsAt}
 use Rattle.blink_machine.proofs.tree.TreeStatements.{GainsSeparator}
 use Rattle.blink_machine.proofs.tree_state.WhatMayPass.{Owes, DebtsPass}
 

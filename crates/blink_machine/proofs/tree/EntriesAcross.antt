@@ -1,12 +1,10 @@
 -- The entries of a whole level, where one of its pages gives way to others: a change of the page's entries is one of the level's.
 use Rattle.std.proofs.Common.{◌≡◌, ℕ, ◌+◌, ◌<◌, Some, None, List, ◌∷◌, ◌++◌, sym, ap, ◌∙◌, arith}
-use Rattle.blink_page.specs.Entries.{added, removed, replaced, posted}
-use Rattle.blink_page.specs.Page.{IsKeyOf}
-use Rattle.blink_page.specs.Rising.{least_above, IsRising}
+use Rattle.blink_page.specs.{added, removed, replaced, posted, IsKeyOf, least_above, IsRising}
 use Rattle.blink_page.specs.declared.limits.TheConstants.{GREATEST_KEY}
 use Rattle.blink_page.proofs.Offered.{added-append_prefix, added-append_rest, posted-append_prefix, posted-append_rest, removed-append_prefix, removed-append_rest, replaced-append_prefix, replaced-append_rest}
-use Rattle.blink_rest.specs.Chain.{Cell, Pages}
-use Rattle.blink_rest.specs.Level.{entries_along}
+use Rattle.blink_rest.specs.{Pages, entries_along}
+use Rattle.blink_rest.specs.Chain.{Cell}
 use Rattle.blink_rest.proofs.Offered.{entries_along-append, line_rising}
 use Rattle.blink_machine.specs.TreeWithDebts.{Levels}
 use Rattle.blink_machine.proofs.tree.WherePagesStand.{Stands}

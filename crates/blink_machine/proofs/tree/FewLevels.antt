@@ -2,16 +2,14 @@
 use Rattle.std.proofs.Common.{ℕ, ◌+◌, ◌<◌, ◌≤◌, zero, suc, Option, Some, None, List, [], ◌∷◌, length, inl, inr, refl, ap, arith}
 use Rattle.std.proofs.lemmas.Bool.{cases_lt}
 use Rattle.std.proofs.lemmas.List.{length-map}
-use Rattle.blink_page.specs.Rising.{least_above, IsRising}
+use Rattle.blink_page.specs.{least_above, IsRising}
 use Rattle.blink_page.specs.declared.limits.TheConstants.{GREATEST_KEY, MAX_PAGE}
 use Rattle.blink_page.proofs.Offered.{from_at_most_to, rising_from_below}
-use Rattle.blink_rest.specs.Chain.{Cell, Pages, InLine, IsChain}
-use Rattle.blink_rest.specs.Numbers.{IsMember}
-use Rattle.blink_rest.specs.Level.{entries_along, numbers_of}
+use Rattle.blink_rest.specs.{Pages, InLine, IsChain, IsMember, entries_along, numbers_of, Refers}
+use Rattle.blink_rest.specs.Chain.{Cell}
 use Rattle.blink_rest.proofs.Offered.{at_most_n, cells_within, chain_differs, chain_rising, two_each, two_to}
 use Rattle.blink_machine.specs.Tree.{IsTree}
 use Rattle.blink_machine.specs.TreeWithDebts.{Levels}
-use Rattle.blink_rest.specs.References.{Refers}
 use Rattle.blink_machine.proofs.tree.TreeStatements.{FewLevels}
 use Rattle.blink_machine.proofs.tree.PagesOfLevels.{some_stand, high_key_past, named_below, leftmost_begins}
 

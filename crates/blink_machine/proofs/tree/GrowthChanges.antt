@@ -1,15 +1,14 @@
 -- A new root is named over the top level.
 use Rattle.std.proofs.Common.{◌≡◌, ◌≢◌, ℕ, ◌+◌, ◌≤◌, Option, Some, None, List, [], ◌∷◌, ◌++◌, length, slice_get, inl, inr, refl, sym, ap, ◌∙◌, arith, length-append}
 use Rattle.std.proofs.lemmas.Bool.{cases_eq}
-use Rattle.blink_page.specs.Page.{PlainPage, IsLawfulPage, root_over}
+use Rattle.blink_page.specs.{PlainPage, IsLawfulPage, root_over}
 use Rattle.blink_page.specs.declared.limits.TheConstants.{GREATEST_KEY}
 use Rattle.blink_store.proofs.Offered.{slice_get-push_other, slice_get-push_same}
-use Rattle.blink_rest.specs.Chain.{Cell, Pages, InLine, IsChain}
-use Rattle.blink_rest.specs.Level.{entries_along}
+use Rattle.blink_rest.specs.{Pages, InLine, IsChain, entries_along, Refers, IsHighKey}
+use Rattle.blink_rest.specs.Chain.{Cell}
 use Rattle.blink_rest.proofs.Offered.{chain_begins}
 use Rattle.blink_machine.specs.Tree.{IsTree}
 use Rattle.blink_machine.specs.TreeWithDebts.{Levels}
-use Rattle.blink_rest.specs.References.{Refers, IsHighKey}
 use Rattle.blink_machine.proofs.tree.TreeStatements.{FewLevels, GrowthKeeps, RootGrows, CanGrow}
 use Rattle.blink_machine.proofs.tree.WherePagesStand.{standing_there}
 use Rattle.blink_machine.proofs.tree.PageGivesWay.{with_level, with_level-same, with_level-other}

@@ -1,15 +1,12 @@
 -- What a search reaches in a tree: on each level, by moving right, the page that the key belongs to.
 use Rattle.std.proofs.Common.{◌≡◌, ℕ, ◌+◌, ◌-◌, ◌≤◌, zero, suc, Option, Some, None, List, [], ◌∷◌, length, inl, inr, sym, subst, ap, arith}
 use Rattle.std.specs.List.{slice_get}
-use Rattle.blink_page.specs.Rising.{least_above}
-use Rattle.blink_page.specs.Entries.{child_for}
-use Rattle.blink_page.specs.Page.{IsKeyOf}
+use Rattle.blink_page.specs.{least_above, child_for, IsKeyOf}
 use Rattle.blink_page.specs.declared.limits.TheConstants.{GREATEST_KEY}
 use Rattle.blink_page.proofs.Offered.{child_for-covers}
 use Rattle.blink_store.proofs.Offered.{some_or_none}
-use Rattle.blink_rest.specs.Chain.{Cell, Pages, AreAmong, InLine}
-use Rattle.blink_rest.specs.Numbers.{IsMember}
-use Rattle.blink_rest.specs.Reach.{IsRoot, Reaches, at_root, to_right, down}
+use Rattle.blink_rest.specs.{Pages, AreAmong, InLine, IsMember, IsRoot, Reaches, at_root, to_right, down}
+use Rattle.blink_rest.specs.Chain.{Cell}
 use Rattle.blink_rest.proofs.Offered.{chain_spans, root_at_end, stands_of}
 use Rattle.blink_machine.specs.Tree.{IsTree, BeginsBelow}
 use Rattle.blink_machine.specs.TreeWithDebts.{Levels}

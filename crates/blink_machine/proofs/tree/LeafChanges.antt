@@ -1,7 +1,7 @@
 -- An entry is added to a leaf, or removed from one, or its value is replaced.
 use Rattle.std.proofs.Common.{◌≢◌, ◌+◌, List, [], ◌∷◌, ap, ◌∙◌, arith, append-nil}
 use Rattle.blink_rest.specs.Chain.{Cell}
-use Rattle.blink_rest.specs.Level.{entries_along}
+use Rattle.blink_rest.specs.{entries_along}
 use Rattle.blink_machine.proofs.tree.TreeStatements.{LeafGainKeeps, LeafLossKeeps, LeafExchangeKeeps}
 use Rattle.blink_machine.proofs.tree.WherePagesStand.{stands_so}
 use Rattle.blink_machine.proofs.tree.PageGivesWay.{levels_after, levels_after-same, levels_after-other}

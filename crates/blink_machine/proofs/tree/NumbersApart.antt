@@ -2,8 +2,8 @@
 use Rattle.std.proofs.Common.{◌≡◌, ◌≢◌, ℕ, zero, suc, ◌+◌, ◌<◌, ◌⊎◌, List, [], ◌∷◌, length, get_or, take, filter, Bool, true, false, Some, refl, ap, ◌∙◌, subst, inl, inr, arith}
 use Rattle.std.proofs.lemmas.Bool.{cases_Bool, cases_eq}
 use Rattle.std.specs.List.{AllByRecursion, Contains, slice_get}
-use Rattle.blink_batch.specs.Order.{places_from}
-use Rattle.blink_rest.specs.Numbers.{AllDiffer}
+use Rattle.blink_batch.specs.{places_from}
+use Rattle.blink_rest.specs.{AllDiffer}
 
 -- ---- what holds of all
 

@@ -2,11 +2,8 @@
 use Rattle.std.proofs.Common.{◌≡◌, ℕ, ◌+◌, ◌<◌, ◌≤◌, None, length, refl, arith}
 use Rattle.blink_batch.specs.declared.Op.{Op}
 use Rattle.blink_batch.specs.declared.Op.TheVariants.{Find, Delete}
-use Rattle.blink_batch.specs.Batch.{FitsWords}
-use Rattle.blink_batch.specs.Operation.{pointer_with}
-use Rattle.blink_page.specs.Entries.{value_at, removed, replaced}
-use Rattle.blink_page.specs.Limits.{IsPageNumber}
-use Rattle.blink_page.specs.Page.{PlainPage, IsLawfulPage, IsKeyOf, entries_with, with_entries}
+use Rattle.blink_batch.specs.{FitsWords, pointer_with}
+use Rattle.blink_page.specs.{value_at, removed, replaced, IsPageNumber, PlainPage, IsLawfulPage, IsKeyOf, entries_with, with_entries}
 use Rattle.blink_page.specs.declared.limits.TheConstants.{GREATEST_KEY}
 use Rattle.blink_page.proofs.Offered.{lawful_entries_with, lawful_removed, lawful_replaced, lawful_with_room, length-entries_with}
 use Rattle.blink_machine.proofs.tree.TreeStatements.{Replaces}

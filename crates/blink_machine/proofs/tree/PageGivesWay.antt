@@ -2,16 +2,14 @@
 use Rattle.std.proofs.Common.{◌≡◌, ◌≢◌, ℕ, ◌+◌, cond, eqb, Option, Some, None, List, [], ◌∷◌, ◌++◌, slice_get, ◌⊎◌, inl, inr, refl, sym, subst, ap, ◌∙◌, arith}
 use Rattle.std.proofs.lemmas.Bool.{cases_eq}
 use Rattle.std.proofs.lemmas.Bool.Decides.{nat_tests}
-use Rattle.blink_page.specs.Page.{PlainPage}
+use Rattle.blink_page.specs.{PlainPage}
 use Rattle.blink_page.specs.declared.limits.TheConstants.{GREATEST_KEY}
-use Rattle.blink_rest.specs.Chain.{Cell, Pages, AreAmong, InLine, IsChain}
-use Rattle.blink_rest.specs.Numbers.{IsMember}
-use Rattle.blink_rest.specs.Level.{entries_along}
+use Rattle.blink_rest.specs.{Pages, AreAmong, InLine, IsChain, IsMember, entries_along, Refers, BeginsAt, IsHighKey}
+use Rattle.blink_rest.specs.Chain.{Cell}
 use Rattle.blink_rest.proofs.Offered.{AreAmong-append, InLine-append}
 use Rattle.blink_machine.specs.TreeState.{WritesOne}
 use Rattle.blink_machine.specs.Tree.{IsTree}
 use Rattle.blink_machine.specs.TreeWithDebts.{Levels}
-use Rattle.blink_rest.specs.References.{Refers, BeginsAt, IsHighKey}
 use Rattle.blink_machine.proofs.tree.WherePagesStand.{Stands, own_stands, stands_append, stands_first, stands_last, level_named, elsewhere_differs, before_differs, rest_differs, before_stands, rest_stands, stands_cases}
 
 -- the levels with other cells in one of them

@@ -1,14 +1,12 @@
 -- A page is written in its place, with the same level, floor, high key and right link: what stays of the tree.
 use Rattle.std.proofs.Common.{◌≡◌, ℕ, ◌+◌, Some, None, List, [], ◌∷◌, ◌++◌, length, ◌⊎◌, inl, inr, refl, sym, subst, ap, ◌∙◌, arith, length-append}
 use Rattle.std.proofs.lemmas.Bool.{cases_eq}
-use Rattle.blink_page.specs.Page.{PlainPage}
-use Rattle.blink_rest.specs.Chain.{Cell, Pages}
-use Rattle.blink_rest.specs.Numbers.{IsMember}
-use Rattle.blink_rest.specs.Level.{entries_along}
+use Rattle.blink_page.specs.{PlainPage}
+use Rattle.blink_rest.specs.{Pages, IsMember, entries_along, Refers, IsHighKey}
+use Rattle.blink_rest.specs.Chain.{Cell}
 use Rattle.blink_machine.specs.TreeState.{WritesOne}
 use Rattle.blink_machine.specs.Tree.{IsTree}
 use Rattle.blink_machine.specs.TreeWithDebts.{Levels, IsInChain}
-use Rattle.blink_rest.specs.References.{Refers, IsHighKey}
 use Rattle.blink_machine.proofs.tree.TreeStatements.{Grows, Replaces, IsReplaced}
 use Rattle.blink_machine.proofs.tree.WherePagesStand.{Stands, own_stands}
 use Rattle.blink_machine.proofs.tree.PageGivesWay.{TakesPlace, cells_after, cells_after-is, levels_after, levels_after-same, levels_after-other, middle_stands, after_cases, high_keys_stay, begins_stay, tree_stays, each_stays}

@@ -3,15 +3,13 @@ use Rattle.std.proofs.Common.{◌≡◌, ℕ, ◌<◌, ◌≤◌, Option, Some, 
 use Rattle.std.specs.List.{slice_get}
 use Rattle.std.proofs.lemmas.Bool.{cases_lt}
 use Rattle.std.proofs.lemmas.Option.{slice_get-get_or}
-use Rattle.blink_page.specs.Rising.{least_above}
-use Rattle.blink_page.specs.Page.{PlainPage}
+use Rattle.blink_page.specs.{least_above, PlainPage}
 use Rattle.blink_page.specs.declared.limits.TheConstants.{GREATEST_KEY}
-use Rattle.blink_rest.specs.Chain.{Cell, Pages, InLine, IsChain}
-use Rattle.blink_rest.specs.Numbers.{IsMember}
+use Rattle.blink_rest.specs.{Pages, InLine, IsChain, IsMember, IsHighKey}
+use Rattle.blink_rest.specs.Chain.{Cell}
 use Rattle.blink_rest.proofs.Offered.{chain_begins, chain_spans_once, chain_value, line_right, only_page, same_cell, stands_of, stands_there}
 use Rattle.blink_machine.specs.Tree.{IsTree}
 use Rattle.blink_machine.specs.TreeWithDebts.{Levels}
-use Rattle.blink_rest.specs.References.{IsHighKey}
 use Rattle.blink_machine.proofs.tree.TreeStatements.{CellsAreOfLevel, NumbersDiffer, LevelsAreNamed, LeftmostBegins, OnlyIsLeftmost, RightBegins, LevelKeeps, TopDebtHasTwo}
 use Rattle.blink_machine.proofs.tree.WherePagesStand.{level_named}
 

@@ -1,16 +1,14 @@
 -- A separator is posted to an inner page.
 use Rattle.std.proofs.Common.{◌≡◌, ◌≢◌, ℕ, ◌+◌, leb, Option, Some, None, is_some, List, [], ◌∷◌, inl, inr, ap, ◌∙◌, arith, append-nil}
 use Rattle.std.proofs.lemmas.Bool.{cases_eq, cond_both}
-use Rattle.blink_page.specs.Entries.{value_at, posted}
-use Rattle.blink_page.specs.Page.{IsKeyOf}
+use Rattle.blink_page.specs.{value_at, posted, IsKeyOf}
 use Rattle.blink_page.specs.declared.limits.TheConstants.{GREATEST_KEY}
 use Rattle.blink_page.proofs.Offered.{others_there, posted_there}
-use Rattle.blink_rest.specs.Chain.{Cell, Pages}
-use Rattle.blink_rest.specs.Level.{entries_along}
+use Rattle.blink_rest.specs.{Pages, entries_along, Refers, BeginsAt, IsHighKey}
+use Rattle.blink_rest.specs.Chain.{Cell}
 use Rattle.blink_rest.proofs.Offered.{chain_covers}
 use Rattle.blink_machine.specs.Tree.{IsTree}
 use Rattle.blink_machine.specs.TreeWithDebts.{Levels}
-use Rattle.blink_rest.specs.References.{Refers, BeginsAt, IsHighKey}
 use Rattle.blink_machine.proofs.tree.TreeStatements.{GainsSeparator, PostingKeeps}
 use Rattle.blink_machine.proofs.tree.WherePagesStand.{Stands, stands_so}
 use Rattle.blink_machine.proofs.tree.PageGivesWay.{cells_after, levels_after, levels_after-same, levels_after-other}

@@ -4,18 +4,14 @@ use Rattle.std.specs.List.{slice_get, flat_map, Contains}
 use Rattle.std.proofs.lemmas.Bool.{cases_lt, cases_eq}
 use Rattle.std.proofs.lemmas.Bool.Decides.{nat_tests}
 use Rattle.std.proofs.lemmas.List.Elements.{Contains-append_left, Contains-append_right}
-use Rattle.blink_page.specs.Rising.{least_above, Covers}
-use Rattle.blink_page.specs.Entries.{value_at}
+use Rattle.blink_page.specs.{least_above, Covers, value_at}
 use Rattle.blink_page.specs.declared.limits.TheConstants.{GREATEST_KEY}
 use Rattle.blink_page.proofs.Offered.{covers_rising, from_at_most_to, value_at-below}
-use Rattle.blink_rest.specs.Chain.{Cell, Pages, InLine, IsChain}
-use Rattle.blink_rest.specs.Numbers.{IsMember}
-use Rattle.blink_rest.specs.Level.{IsParentOf, entries_along, high_keys, numbers_of}
-use Rattle.blink_rest.specs.Rest.{AreChains, EachIsParent, TopHasOne}
+use Rattle.blink_rest.specs.{Pages, InLine, IsChain, IsMember, IsParentOf, entries_along, high_keys, numbers_of, AreChains, EachIsParent, TopHasOne, Refers, IsHighKey}
+use Rattle.blink_rest.specs.Chain.{Cell}
 use Rattle.blink_rest.proofs.Offered.{chain_covers, Contains-from_among, stands_among}
 use Rattle.blink_machine.specs.Tree.{IsTree}
 use Rattle.blink_machine.specs.TreeWithDebts.{Levels}
-use Rattle.blink_rest.specs.References.{Refers, IsHighKey}
 use Rattle.blink_machine.proofs.tree.TreeStatements.{IsQuiet, QuietIsRest}
 use Rattle.blink_machine.proofs.tree.PagesOfLevels.{some_stand, same_floor_same, high_key_past, named_below, leftmost_begins}
 use Rattle.blink_machine.proofs.tree.WherePagesStand.{level_named}

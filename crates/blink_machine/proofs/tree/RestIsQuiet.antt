@@ -4,15 +4,12 @@ use Rattle.std.specs.List.{slice_get, flat_map}
 use Rattle.std.proofs.lemmas.Bool.{cases_lt, cases_eq}
 use Rattle.std.proofs.lemmas.Bool.Decides.{nat_tests}
 use Rattle.std.proofs.lemmas.Option.{slice_get-get_or}
-use Rattle.blink_page.specs.Entries.{value_at}
-use Rattle.blink_rest.specs.Chain.{Cell, Pages, IsChain}
-use Rattle.blink_rest.specs.Level.{IsParentOf, entries_along, high_keys, numbers_of}
-use Rattle.blink_rest.specs.Rest.{AreChains, AreLevels, EachIsParent, TopHasOne}
+use Rattle.blink_page.specs.{value_at}
+use Rattle.blink_rest.specs.{Pages, IsChain, IsParentOf, entries_along, high_keys, numbers_of, AreChains, AreLevels, EachIsParent, TopHasOne, IsMember, Refers}
+use Rattle.blink_rest.specs.Chain.{Cell}
 use Rattle.blink_rest.proofs.Offered.{among_append, among_from_Contains, as_many_levels, named_refers, standing}
-use Rattle.blink_rest.specs.Numbers.{IsMember}
 use Rattle.blink_machine.specs.Tree.{IsTree}
 use Rattle.blink_machine.specs.TreeWithDebts.{Levels, IsDebt, IsInChain}
-use Rattle.blink_rest.specs.References.{Refers}
 use Rattle.blink_machine.proofs.tree.TreeStatements.{RestIsQuiet}
 use Rattle.blink_machine.proofs.tree.PagesOfLevels.{top_debt_has_two}
 use Rattle.blink_machine.proofs.tree.WherePagesStand.{level_named}

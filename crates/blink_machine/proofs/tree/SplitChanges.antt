@@ -1,9 +1,8 @@
 -- A leaf is split, or an inner page.
 use Rattle.std.proofs.Common.{◌≡◌, ◌+◌, ◌<◌, ap, ◌∙◌, arith}
-use Rattle.blink_page.specs.Entries.{posted}
-use Rattle.blink_page.specs.Limits.{IsPageNumber}
+use Rattle.blink_page.specs.{posted, IsPageNumber}
 use Rattle.blink_page.proofs.Offered.{entries_with-leaf, entries_with-inner}
-use Rattle.blink_rest.specs.Level.{entries_along}
+use Rattle.blink_rest.specs.{entries_along}
 use Rattle.blink_machine.proofs.tree.TreeStatements.{LeafSplitKeeps}
 use Rattle.blink_machine.proofs.tree.TreeStatements.{InnerSplitKeeps}
 use Rattle.blink_machine.proofs.tree.WherePagesStand.{stands_so}

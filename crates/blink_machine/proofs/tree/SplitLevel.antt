@@ -1,18 +1,13 @@
 -- A full page is split: the halves take its place in its level.
 use Rattle.std.proofs.Common.{◌≡◌, ◌≢◌, ℕ, ◌+◌, ◌<◌, ◌≤◌, Some, None, List, [], ◌∷◌, ◌++◌, length, ◌⊎◌, inl, inr, refl, sym, subst, ap, ◌∙◌, arith, append-nil}
-use Rattle.blink_page.specs.Limits.{IsPageNumber}
-use Rattle.blink_page.specs.Page.{PlainPage, IsLawfulPage, entries_with, with_entries}
-use Rattle.blink_page.specs.Rising.{least_above}
-use Rattle.blink_page.specs.Split.{lower_half, upper_half, separator_of}
+use Rattle.blink_page.specs.{IsPageNumber, PlainPage, IsLawfulPage, entries_with, with_entries, least_above, lower_half, upper_half, separator_of}
 use Rattle.blink_page.specs.declared.limits.TheConstants.{GREATEST_KEY}
 use Rattle.blink_page.proofs.Offered.{lawful_entries_with, lawful_lower, lawful_upper, length-entries_with, lower-append-upper, separator_above_floor, separator_below_high}
-use Rattle.blink_rest.specs.Chain.{Cell, Pages}
-use Rattle.blink_rest.specs.Numbers.{IsMember}
-use Rattle.blink_rest.specs.Level.{entries_along}
+use Rattle.blink_rest.specs.{Pages, IsMember, entries_along, Refers, IsHighKey}
+use Rattle.blink_rest.specs.Chain.{Cell}
 use Rattle.blink_rest.proofs.Offered.{stands_of}
 use Rattle.blink_machine.specs.Tree.{IsTree}
 use Rattle.blink_machine.specs.TreeWithDebts.{Levels, IsInChain}
-use Rattle.blink_rest.specs.References.{Refers, IsHighKey}
 use Rattle.blink_machine.proofs.tree.TreeStatements.{CanBeSplit, IsSplitIn}
 use Rattle.blink_machine.proofs.tree.WherePagesStand.{Stands, stands_cases}
 use Rattle.blink_machine.proofs.tree.PageGivesWay.{TakesPlace, cells_after, levels_after, levels_after-other, tree_stays, each_stays}

@@ -1,21 +1,13 @@
 -- What the lemmas about trees say: how a tree is read, and what each kind of change makes of it. No operation is in them.
 use Rattle.std.proofs.Common.{◌≡◌, ◌≢◌, ℕ, ◌+◌, ◌<◌, ◌≤◌, ◌⊎◌, Some, None, IsSome, is_some, List, [], ◌∷◌, ◌++◌, length, slice_get}
-use Rattle.blink_page.specs.Entries.{value_at, child_for, added, removed, replaced, posted}
-use Rattle.blink_page.specs.Limits.{IsFan, IsPageNumber}
-use Rattle.blink_page.specs.Page.{PlainPage, IsLawfulPage, IsKeyOf, entries_with, root_over}
-use Rattle.blink_page.specs.Rising.{least_above}
-use Rattle.blink_page.specs.Split.{lower_half, upper_half, separator_of}
+use Rattle.blink_page.specs.{value_at, child_for, added, removed, replaced, posted, IsFan, IsPageNumber, PlainPage, IsLawfulPage, IsKeyOf, entries_with, root_over, least_above, lower_half, upper_half, separator_of}
 use Rattle.blink_page.specs.declared.limits.TheConstants.{GREATEST_KEY}
-use Rattle.blink_rest.specs.Chain.{Cell, Pages}
-use Rattle.blink_rest.specs.Numbers.{IsMember}
-use Rattle.blink_rest.specs.Level.{entries_along}
-use Rattle.blink_rest.specs.Reach.{IsRoot, Reaches}
-use Rattle.blink_rest.specs.Rest.{IsAtRest}
+use Rattle.blink_rest.specs.{Pages, IsMember, entries_along, IsRoot, Reaches, IsAtRest, BeginsAt, IsHighKey}
+use Rattle.blink_rest.specs.Chain.{Cell}
 use Rattle.blink_machine.specs.TreeState.{WritesOne}
 use Rattle.blink_machine.specs.Table.{IsTopLeftmost}
 use Rattle.blink_machine.specs.Tree.{IsTree, BeginsBelow}
 use Rattle.blink_machine.specs.TreeWithDebts.{Levels, IsInChain, IsDebt}
-use Rattle.blink_rest.specs.References.{BeginsAt, IsHighKey}
 
 -- What a tree says to one who reads it.
 

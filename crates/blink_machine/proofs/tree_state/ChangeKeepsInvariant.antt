@@ -1,10 +1,9 @@
 -- A change of one page in its place keeps all that is so between steps.
 use Rattle.std.proofs.Common.{◌≡◌, ℕ, ◌+◌, inl, Option, Some, None, List, refl, ap, ◌∙◌, subst, is_some}
-use Rattle.blink_batch.specs.Operation.{answer_at}
-use Rattle.blink_page.specs.Entries.{value_at}
-use Rattle.blink_page.specs.Page.{PlainPage}
-use Rattle.blink_rest.specs.Chain.{Cell, Pages}
-use Rattle.blink_rest.specs.Level.{entries_along}
+use Rattle.blink_batch.specs.{answer_at}
+use Rattle.blink_page.specs.{value_at, PlainPage}
+use Rattle.blink_rest.specs.{Pages, entries_along}
+use Rattle.blink_rest.specs.Chain.{Cell}
 use Rattle.blink_machine.specs.declared.machine.Debt.{Debt}
 use Rattle.blink_machine.specs.declared.machine.Job.{Job}
 use Rattle.blink_machine.specs.declared.machine.Job.TheVariants.{Leaf, Parent}

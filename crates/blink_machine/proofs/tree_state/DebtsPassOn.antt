@@ -7,7 +7,7 @@ use Rattle.blink_machine.specs.Machine.{PlainMachine}
 use Rattle.blink_machine.specs.TreeState.{TreeState}
 use Rattle.blink_machine.specs.Owned.{debt_of, debt_at}
 use Rattle.blink_machine.specs.TreeWithDebts.{IsOwed, DebtsAreOwed, Levels, IsDebt}
-use Rattle.blink_rest.specs.References.{BeginsAt}
+use Rattle.blink_rest.specs.{BeginsAt}
 use Rattle.blink_machine.proofs.tree.TreeStatements.{Grows}
 use Rattle.blink_machine.proofs.tree_state.KnownPagesStay.{BeginsAt-grows}
 use Rattle.blink_machine.proofs.tree_state.WhatMayPass.{Owes, DebtsPass}

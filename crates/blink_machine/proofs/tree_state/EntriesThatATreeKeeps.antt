@@ -2,14 +2,10 @@
 use Rattle.std.proofs.Common.{◌≡◌, ℕ, Option, Some, None, List, refl, sym, ap, subst, ◌∙◌}
 use Rattle.blink_batch.specs.declared.Entry.{Entry}
 use Rattle.blink_batch.specs.declared.Op.{Op}
-use Rattle.blink_batch.specs.Operation.{key_of, answer_at, map_at, answer_of, map_after}
-use Rattle.blink_batch.specs.PlainMap.{pointer_of}
-use Rattle.blink_page.specs.Entries.{value_at}
-use Rattle.blink_page.specs.Page.{IsKeyOf}
-use Rattle.blink_rest.specs.Chain.{Pages, Cell}
-use Rattle.blink_rest.specs.Numbers.{IsMember}
-use Rattle.blink_rest.specs.Entries.{AreEntries}
-use Rattle.blink_rest.specs.Level.{entries_along}
+use Rattle.blink_batch.specs.{key_of, answer_at, map_at, answer_of, map_after, pointer_of}
+use Rattle.blink_page.specs.{value_at, IsKeyOf}
+use Rattle.blink_rest.specs.{Pages, IsMember, AreEntries, entries_along}
+use Rattle.blink_rest.specs.Chain.{Cell}
 use Rattle.blink_rest.proofs.Offered.{same_entries}
 use Rattle.blink_machine.specs.Machine.{PlainMachine}
 use Rattle.blink_machine.specs.TreeState.{TreeState, Leaves}

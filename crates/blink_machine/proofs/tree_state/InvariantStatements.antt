@@ -1,8 +1,6 @@
 -- What the lemmas about tree states say, beside the parts of the law of a step.
 use Rattle.std.proofs.Common.{◌≡◌, ◌≢◌, ℕ, ◌<◌, ◌≤◌, Some, List, length, All}
-use Rattle.blink_page.specs.Limits.{IsPageNumber}
-use Rattle.blink_page.specs.Page.{PlainPage, IsLawfulPage}
-use Rattle.blink_page.specs.Rising.{least_above}
+use Rattle.blink_page.specs.{IsPageNumber, PlainPage, IsLawfulPage, least_above}
 use Rattle.blink_machine.specs.declared.machine.Next.{Next}
 use Rattle.blink_machine.specs.declared.machine.State.TheVariants.{Leave}
 use Rattle.blink_machine.specs.InOrder.{WritesWell}

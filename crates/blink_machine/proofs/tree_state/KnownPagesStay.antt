@@ -1,10 +1,10 @@
 -- What is so of the pages that an operation knows stays so as the levels grow.
 use Rattle.std.proofs.Common.{ℕ, ◌+◌, ◌≤◌, Option, List, [], ◌∷◌, refl, ◌∙◌, arith}
-use Rattle.blink_page.specs.Rising.{least_above}
+use Rattle.blink_page.specs.{least_above}
 use Rattle.blink_machine.specs.Machine.{PlainMachine, level_of}
 use Rattle.blink_machine.specs.Placed.{AreRemembered, StandsAt, IsAtWork}
 use Rattle.blink_machine.specs.TreeWithDebts.{Levels, IsInChain}
-use Rattle.blink_rest.specs.References.{BeginsAt}
+use Rattle.blink_rest.specs.{BeginsAt}
 use Rattle.blink_machine.proofs.tree.TreeStatements.{Grows}
 
 -- remembered pages that begin at or before a place begin at or before each later one

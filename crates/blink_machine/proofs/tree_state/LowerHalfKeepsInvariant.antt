@@ -2,12 +2,9 @@
 use Rattle.std.proofs.Common.{◌≡◌, ◌≢◌, ℕ, ◌+◌, ◌≤◌, inl, inr, Option, Some, None, IsSome, length, slice_get, refl, sym, ap, ◌∙◌, subst, is_some}
 use Rattle.std.proofs.lemmas.Bool.{cases_eq, cases_lt}
 use Rattle.blink_batch.specs.declared.Answer.{Answer}
-use Rattle.blink_page.specs.Entries.{value_at}
+use Rattle.blink_page.specs.{value_at, IsPageNumber, PlainPage, least_above}
 use Rattle.blink_page.proofs.Offered.{none_unless_some}
-use Rattle.blink_page.specs.Limits.{IsPageNumber}
-use Rattle.blink_page.specs.Page.{PlainPage}
-use Rattle.blink_page.specs.Rising.{least_above}
-use Rattle.blink_rest.specs.Level.{entries_along}
+use Rattle.blink_rest.specs.{entries_along, IsHighKey, BeginsAt}
 use Rattle.blink_machine.specs.declared.machine.Debt.{Debt}
 use Rattle.blink_machine.specs.declared.machine.State.TheVariants.{AskPrime}
 use Rattle.blink_machine.specs.Machine.{PlainMachine, level_of}
@@ -17,7 +14,6 @@ use Rattle.blink_machine.specs.Placed.{HasAnswer, IsPlaced}
 use Rattle.blink_machine.specs.Invariant.{InvariantWith}
 use Rattle.blink_machine.specs.Table.{Brings}
 use Rattle.blink_machine.specs.TreeWithDebts.{Levels, IsDebt, IsInChain}
-use Rattle.blink_rest.specs.References.{IsHighKey, BeginsAt}
 use Rattle.blink_machine.proofs.tree.TreeStatements.{TreeLaws, IsSplitIn}
 use Rattle.blink_machine.proofs.tree_state.KnownPagesStay.{remembered_before, AreRemembered-grows}
 use Rattle.blink_machine.proofs.tree_state.WhoseOperation.{Turns}

@@ -1,7 +1,7 @@
 -- How unlinked pages and a growing top level pass from one tree state to the next.
 use Rattle.std.proofs.Common.{◌≡◌, ◌≢◌, ℕ, ◌⊎◌, inl, inr, Some, sym, ap, ◌∙◌}
 use Rattle.std.proofs.lemmas.Bool.{cases_eq}
-use Rattle.blink_page.specs.Page.{PlainPage}
+use Rattle.blink_page.specs.{PlainPage}
 use Rattle.blink_machine.specs.declared.machine.State.TheVariants.{Start, Ended}
 use Rattle.blink_machine.specs.Machine.{PlainMachine}
 use Rattle.blink_machine.specs.TreeState.{TreeState}
@@ -15,7 +15,7 @@ use Rattle.blink_machine.proofs.tree_state.WhoseOperation.{Turns, was_other, is_
 module _ (old new : TreeState) (worker : ℕ) (m after : PlainMachine) (turn : Turns old.machines new.machines worker m after) (levels grown : Levels) (grows : Grows levels grown) where
   module _ (pages : PagesArePlaced old levels) (pass : UnlinkedPasses old.pages new.pages levels grown (unlinked_of m) (unlinked_of after))
       (unlinked_there : (other number : ℕ) (n : PlainMachine) → old.machines other ≡ Some n → unlinked_of n ≡ Some number → (page : PlainPage) × (old.pages number ≡ Some page)) where
-    -- an operation with a unlinked page is under way
+    -- an operation with an unlinked page is under way
     had_unlinked : (number : ℕ) → unlinked_of m ≡ Some number → old.machines worker ≡ Some m
     had_unlinked number = had_under_way old.machines new.machines worker m after turn unlinked_of number (λ (starts : m.state ≡ Start). ap unlinked_at starts)
 

@@ -3,13 +3,10 @@ use Rattle.std.proofs.Common.{◌≡◌, ℕ, ◌+◌, ◌≤◌, Option, Some, 
 use Rattle.blink_batch.specs.declared.Entry.{Entry}
 use Rattle.blink_batch.specs.declared.Op.{Op}
 use Rattle.blink_batch.specs.declared.Op.TheVariants.{Find}
-use Rattle.blink_batch.specs.Operation.{key_of, answer_at, map_at}
-use Rattle.blink_batch.specs.PlainMap.{pointer_of}
-use Rattle.blink_page.specs.Entries.{value_at}
-use Rattle.blink_page.specs.Page.{PlainPage, IsKeyOf}
-use Rattle.blink_page.specs.Rising.{least_above}
+use Rattle.blink_batch.specs.{key_of, answer_at, map_at, pointer_of}
+use Rattle.blink_page.specs.{value_at, PlainPage, IsKeyOf, least_above}
 use Rattle.blink_rest.specs.Chain.{cell}
-use Rattle.blink_rest.specs.Numbers.{IsMember}
+use Rattle.blink_rest.specs.{IsMember}
 use Rattle.blink_machine.specs.declared.machine.Job.TheVariants.{Leaf}
 use Rattle.blink_machine.specs.declared.machine.State.TheVariants.{Going, Held}
 use Rattle.blink_machine.specs.TreeMap.{Keeps}

@@ -1,8 +1,7 @@
 -- What an operation reads leads it to where it may be.
 use Rattle.std.proofs.Common.{◌≡◌, ℕ, ◌+◌, ◌-◌, ◌≤◌, inr, Some, None, length, refl, sym, ap, ◌∙◌, subst}
-use Rattle.blink_page.specs.Entries.{value_at}
-use Rattle.blink_page.specs.Page.{PlainPage}
-use Rattle.blink_rest.specs.Level.{entries_along}
+use Rattle.blink_page.specs.{value_at, PlainPage}
+use Rattle.blink_rest.specs.{entries_along, BeginsAt}
 use Rattle.blink_machine.specs.declared.machine.Debt.{Debt}
 use Rattle.blink_machine.specs.declared.machine.Job.TheVariants.{Leaf, Parent}
 use Rattle.blink_machine.specs.declared.machine.Next.TheVariants.{MoveRight, Post}
@@ -15,7 +14,6 @@ use Rattle.blink_machine.specs.Placed.{MayChange, StandsAt, HasSplit, IsPlaced}
 use Rattle.blink_machine.specs.Invariant.{InvariantWith}
 use Rattle.blink_machine.specs.Table.{IsTopLeftmost, SeesPrime, begins, asks_of_root, asks_of_other, finds_leftmost, SeesOnItsWay, goes_right, goes_down, find_answers, update_wants, SeesUnderLatch, is_above_high_key, insertion_finds_key, deletion_finds_none, replacement_finds_none, posting_finds_separator, is_to_change, is_to_split, SeesPage, on_its_way, under_latch}
 use Rattle.blink_machine.specs.TreeWithDebts.{Levels, IsDebt}
-use Rattle.blink_rest.specs.References.{BeginsAt}
 use Rattle.blink_machine.proofs.tree.TreeStatements.{TreeLaws}
 use Rattle.blink_machine.proofs.tree_state.WhatMayPass.{SplitPasses}
 use Rattle.blink_machine.proofs.tree_state.StepsThatWriteNothing.{split_same}

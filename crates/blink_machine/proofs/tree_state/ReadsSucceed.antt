@@ -1,17 +1,14 @@
--- In a sound tree state exactly one machine comes of what an operation reads, or it waits for a level.
+-- Where the invariant holds, exactly one machine comes of what an operation reads, or it waits for a level.
 use Rattle.std.proofs.Common.{◌≡◌, ℕ, ◌+◌, ◌-◌, ◌<◌, ◌≤◌, ◌⊎◌, zero, suc, Option, Some, None, List, length, get_or, inl, inr, refl, ap, sym, ◌∙◌, subst, arith}
 use Rattle.std.specs.Prelude.{slice_get}
 use Rattle.std.proofs.lemmas.Bool.{cases_lt, cases_eq}
-use Rattle.blink_batch.specs.Operation.{key_of}
+use Rattle.blink_batch.specs.{key_of, FitsWords}
 use Rattle.blink_machine.specs.Owned.{debt_of, debt_at, debt_of_job}
 use Rattle.blink_machine.proofs.operation.WhatJobsAreAbout.{brings_parent, some_value}
 use Rattle.blink_machine.proofs.tree.PrimeAsList.{is_top_leftmost, last_or-at_end, not_top_leftmost}
 use Rattle.blink_batch.specs.declared.Op.{Op}
 use Rattle.blink_batch.specs.declared.Op.TheVariants.{Find, Insert, Delete, Replace}
-use Rattle.blink_batch.specs.Batch.{FitsWords}
-use Rattle.blink_page.specs.Entries.{child_for, value_at}
-use Rattle.blink_page.specs.Page.{PlainPage, IsLawfulPage}
-use Rattle.blink_page.specs.Rising.{least_above}
+use Rattle.blink_page.specs.{child_for, value_at, PlainPage, IsLawfulPage, least_above}
 use Rattle.blink_page.specs.declared.limits.TheConstants.{GREATEST_KEY}
 use Rattle.blink_page.proofs.Offered.{child_for-covers}
 use Rattle.blink_machine.specs.declared.machine.Debt.{Debt}
@@ -102,7 +99,7 @@ module _ (m : PlainMachine) (number : ℕ) (page : PlainPage) (lawful : IsLawful
     | inr below ↦ on_page below m.job refl may
   ]
 
--- ---- in a sound tree state
+-- ---- where the invariant holds
 
 -- the key of an operation is at most the greatest
 key_fits : (op : Op) → FitsWords op → key_of op ≤ GREATEST_KEY

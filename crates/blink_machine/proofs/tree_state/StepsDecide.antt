@@ -1,11 +1,10 @@
 -- Each step decides as the plain map does, or changes nothing of what the tree keeps.
 use Rattle.std.proofs.Common.{◌≡◌, ℕ, ◌+◌, ◌<◌, ◌++◌, Some, None, List, [], ◌∷◌, refl, sym, ap, subst, arith}
 use Rattle.blink_batch.specs.declared.Entry.{Entry}
-use Rattle.blink_batch.specs.PlainMap.{IsAscending}
-use Rattle.blink_page.specs.Page.{PlainPage, root_over}
+use Rattle.blink_batch.specs.{IsAscending}
+use Rattle.blink_page.specs.{PlainPage, root_over}
 use Rattle.blink_page.specs.declared.limits.TheConstants.{GREATEST_KEY}
-use Rattle.blink_rest.specs.Entries.{AreEntries}
-use Rattle.blink_rest.specs.Level.{entries_along}
+use Rattle.blink_rest.specs.{AreEntries, entries_along, BeginsAt}
 use Rattle.blink_machine.specs.declared.machine.Debt.{Debt}
 use Rattle.blink_machine.specs.declared.machine.Next.TheVariants.{Finish, MoveRight, Post}
 use Rattle.blink_machine.specs.declared.machine.Need.TheVariants.{WritePage, WriteNew, WritePrime}
@@ -19,7 +18,6 @@ use Rattle.blink_machine.specs.Invariant.{InvariantWith}
 use Rattle.blink_machine.specs.TreeMap.{Keeps, pairs_of}
 use Rattle.blink_machine.specs.Table.{PrimeOut, IsTopLeftmost, done, done_at, page_out, page_out_at, sets_out}
 use Rattle.blink_machine.specs.TreeWithDebts.{Levels}
-use Rattle.blink_rest.specs.References.{BeginsAt}
 use Rattle.blink_machine.proofs.tree_state.EntriesThatATreeKeeps.{entries_are, keeps_entries, keeps_by, keeps_left, decides_nothing}
 use Rattle.blink_machine.proofs.operation.OperationIsPlaced.{begun, its_own, at_state}
 use Rattle.blink_machine.proofs.tree_state.ReadsDecide.{prime_read_decides, page_read_decides}

@@ -1,6 +1,6 @@
 -- A tree at rest with idle workers has the invariant, and every step keeps what has the invariant.
 use Rattle.std.proofs.Common.{◌≡◌, ℕ, inl, inr, Some, None, refl, sym, ap, ◌∙◌, subst, arith}
-use Rattle.blink_page.specs.Page.{PlainPage}
+use Rattle.blink_page.specs.{PlainPage}
 use Rattle.blink_machine.specs.declared.machine.Debt.{Debt}
 use Rattle.blink_machine.specs.declared.machine.State.{State}
 use Rattle.blink_machine.specs.declared.machine.State.TheVariants.{Start}
@@ -12,7 +12,7 @@ use Rattle.blink_machine.specs.Placed.{IsPlaced}
 use Rattle.blink_machine.specs.Invariant.{Invariant, InvariantWith}
 use Rattle.blink_machine.specs.Table.{page_out, page_out_at, done_at, adds_root}
 use Rattle.blink_machine.specs.TreeWithDebts.{Levels, IsDebt}
-use Rattle.blink_rest.specs.References.{BeginsAt}
+use Rattle.blink_rest.specs.{BeginsAt}
 use Rattle.blink_machine.proofs.tree.TreeStatements.{TreeLaws}
 use Rattle.blink_machine.specs.StepLaw.{OpeningHasInvariant, StepKeepsInvariant}
 use Rattle.blink_machine.proofs.tree_state.WhoseOperation.{Turns, turns, had_under_way}

@@ -1,7 +1,6 @@
 -- The tree of a tree state is a lawful tree with debts: what its operations know of their new pages and latches says the rest.
 use Rattle.std.proofs.Common.{◌≡◌, ℕ, ◌+◌, Some, refl, ap, sym, ◌∙◌}
-use Rattle.blink_page.specs.Page.{root_over}
-use Rattle.blink_page.specs.Split.{upper_half}
+use Rattle.blink_page.specs.{root_over, upper_half}
 use Rattle.blink_machine.specs.declared.machine.State.{State}
 use Rattle.blink_machine.specs.declared.machine.State.TheVariants.{SplitOld, AskPrime, Root, NewPrime}
 use Rattle.blink_machine.specs.Machine.{PlainMachine}

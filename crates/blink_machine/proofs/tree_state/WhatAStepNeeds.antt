@@ -1,8 +1,7 @@
 -- What a step needs in order to keep all that is so between steps.
 use Rattle.std.proofs.Common.{◌≡◌, ◌≢◌, ℕ, inl, inr, Some, refl, sym, ap, ◌∙◌}
 use Rattle.std.proofs.lemmas.Bool.{cases_eq}
-use Rattle.blink_page.specs.Limits.{IsPageNumber}
-use Rattle.blink_page.specs.Page.{PlainPage}
+use Rattle.blink_page.specs.{IsPageNumber, PlainPage}
 use Rattle.blink_machine.specs.declared.machine.State.{State}
 use Rattle.blink_machine.specs.declared.machine.State.TheVariants.{Start, SplitOld, NewPrime}
 use Rattle.blink_machine.specs.Machine.{PlainMachine}
@@ -34,7 +33,7 @@ pub record StepPasses (old new : TreeState) (levels grown : Levels) (worker : �
   pub placed : IsPlaced new grown after
   pub alone : (other : ℕ) (n : PlainMachine) → other ≢ worker → old.machines other ≡ Some n → LeavesAlone old new levels grown (latch_of n) (unlinked_of n)
 
--- a unlinked page is there
+-- an unlinked page is there
 pub unlinked_is_there : (tree_state : TreeState) (levels : Levels) (m : PlainMachine) (s : State) (number : ℕ) → PlacedAt tree_state levels m s → unlinked_at s ≡ Some number
     → (page : PlainPage) × (tree_state.pages number ≡ Some page)
 unlinked_is_there tree_state levels m (SplitOld page lower debt) number placed unlinked = let same : debt.page ≡ number = cc in (_, ap tree_state.pages (sym same) ∙ placed.2.upper_there)

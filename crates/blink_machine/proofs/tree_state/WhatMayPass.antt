@@ -1,11 +1,10 @@
 -- What a step may make of each thing that operations have for themselves.
 use Rattle.std.proofs.Common.{◌≡◌, ℕ, ◌+◌, ◌≤◌, ◌⊎◌, Option, Some, None, List, length, slice_get}
-use Rattle.blink_page.specs.Page.{PlainPage}
-use Rattle.blink_rest.specs.Chain.{Pages}
+use Rattle.blink_page.specs.{PlainPage}
+use Rattle.blink_rest.specs.{Pages, BeginsAt}
 use Rattle.blink_machine.specs.declared.machine.Debt.{Debt}
 use Rattle.blink_machine.specs.TreeState.{LatchPasses}
 use Rattle.blink_machine.specs.TreeWithDebts.{Levels, IsDebt, IsInChain}
-use Rattle.blink_rest.specs.References.{BeginsAt}
 
 -- this is the debt of the level with the separator
 pub record Owes (owed : Option Debt) (level separator : ℕ) : Type 0 where

@@ -1,13 +1,9 @@
 -- What the writes of an operation make of the entries that a tree keeps.
 use Rattle.std.proofs.Common.{◌≡◌, ℕ, ◌+◌, Option, Some, None, sym, ap, subst, ◌∙◌, arith}
-use Rattle.blink_page.specs.Entries.{value_at, added, removed, replaced, posted}
-use Rattle.blink_page.specs.Page.{PlainPage, IsKeyOf, with_entries, entries_with}
-use Rattle.blink_page.specs.Split.{lower_half, upper_half}
+use Rattle.blink_page.specs.{value_at, added, removed, replaced, posted, PlainPage, IsKeyOf, with_entries, entries_with, lower_half, upper_half}
 use Rattle.blink_page.proofs.Offered.{entries_with-leaf, entries_with-inner}
-use Rattle.blink_rest.specs.Chain.{Pages, cell}
-use Rattle.blink_rest.specs.Numbers.{IsMember}
-use Rattle.blink_rest.specs.Entries.{AreEntries}
-use Rattle.blink_rest.specs.Level.{entries_along}
+use Rattle.blink_rest.specs.{Pages, IsMember, AreEntries, entries_along, BeginsAt, IsHighKey}
+use Rattle.blink_rest.specs.Chain.{cell}
 use Rattle.blink_machine.specs.declared.machine.Debt.{Debt}
 use Rattle.blink_machine.specs.declared.machine.Job.TheVariants.{Leaf, Parent}
 use Rattle.blink_machine.specs.Machine.{PlainMachine, target, key_of_job, value_of_job, level_of, entry_of}
@@ -17,7 +13,6 @@ use Rattle.blink_machine.specs.Placed.{IsAtWork, HasRead, HasHalved}
 use Rattle.blink_machine.specs.Invariant.{InvariantWith}
 use Rattle.blink_machine.specs.Table.{IsChange, overfull}
 use Rattle.blink_machine.specs.TreeWithDebts.{Levels}
-use Rattle.blink_rest.specs.References.{BeginsAt, IsHighKey}
 use Rattle.blink_machine.proofs.tree_state.EntriesThatATreeKeeps.{keeps_entries}
 use Rattle.blink_machine.proofs.tree.TreeStatements.{TreeLaws, LeadsBelow, CanBeSplit}
 use Rattle.blink_machine.proofs.operation.PageUnderLatch.{value_fits, read_stands, read_of_level, change_replaces}

@@ -3,13 +3,10 @@ use Rattle.std.proofs.Common.{◌≡◌, ℕ, Option, Some, None, List, refl, sy
 use Rattle.blink_batch.specs.declared.Entry.{Entry}
 use Rattle.blink_batch.specs.declared.Op.{Op}
 use Rattle.blink_batch.specs.declared.Op.TheVariants.{Insert}
-use Rattle.blink_batch.specs.Operation.{key_of, pointer_with, answer_at, map_at}
-use Rattle.blink_batch.specs.PlainMap.{entry, pointer_of, IsAscending}
+use Rattle.blink_batch.specs.{key_of, pointer_with, answer_at, map_at, entry, pointer_of, IsAscending}
 use Rattle.blink_batch.specs.PlainMap as map
-use Rattle.blink_page.specs.Entries.{value_at, added, removed, replaced}
-use Rattle.blink_page.specs.Page.{PlainPage, IsKeyOf}
-use Rattle.blink_rest.specs.Entries.{AreEntries}
-use Rattle.blink_rest.specs.Level.{entries_along}
+use Rattle.blink_page.specs.{value_at, added, removed, replaced, PlainPage, IsKeyOf}
+use Rattle.blink_rest.specs.{AreEntries, entries_along}
 use Rattle.blink_rest.specs.Chain.{cell}
 use Rattle.blink_machine.specs.declared.machine.Debt.{Debt}
 use Rattle.blink_machine.specs.declared.machine.Job.{Job}

@@ -1,6 +1,6 @@
 //! Where an operation is after a step of which it learns no more than that it is done.
 ghost use Rattle.std.specs.Prelude.{◌≡◌};
-ghost use Rattle.blink_page.specs.Limits.{IsPageNumber};
+ghost use Rattle.blink_page.specs.{IsPageNumber};
 ghost use Rattle.blink_machine.specs.Machine.{NeedsNew, at_state};
 ghost use Rattle.blink_machine.specs.Table.{done, decided_with, leaves_for, sets_out, halved};
 ghost use Rattle.blink_machine.specs.Kept.{KeptAt, KeptForNext, IsPostable, IsToSplit};

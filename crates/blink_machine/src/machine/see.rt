@@ -2,11 +2,9 @@
 ghost use Rattle.std.specs.Prelude.{◌≡◌, ◌↔◌, ℕ, ◌<◌, ◌≤◌, ◌+◌, List, length, IsTrue};
 ghost use Rattle.std.specs.Bool.{OnTrue, OnFalse};
 ghost use Rattle.blink_page.specs.declared.limits.TheConstants.{LEVELS};
-ghost use Rattle.blink_page.specs.Rising.{least_above};
+ghost use Rattle.blink_page.specs.{least_above, value_at, PlainPage};
 ghost use Rattle.blink_machine.specs.Machine.{NeedsPrime, NeedsPage, level_of, level_read, target};
 ghost use Rattle.blink_batch.specs.declared.Op.TheVariants.{Find};
-ghost use Rattle.blink_page.specs.Entries.{value_at};
-ghost use Rattle.blink_page.specs.Page.{PlainPage};
 ghost use Rattle.blink_page.specs.declared.search.Way.TheVariants.{Here};
 ghost use Rattle.blink_machine.specs.OnTheWay.{IsOnItsWay, TellsWay};
 ghost use Rattle.blink_machine.specs.Table.{SeesPrime, WaitsForLevel, SeesPage, SeesOnItsWay, SeesUnderLatch, IsTopLeftmost};
@@ -100,7 +98,7 @@ impl Machine {
     }
 
     /// It has read the page that it needs, which has the level that its state says, no floor or one below its key, and at most
-    /// `fan` entries; in a sound tree state each page that it needs is such a page.
+    /// `fan` entries; where the invariant holds each page that it needs is such a page.
     pub fn saw_page(&mut self, page: &Page)
         requires needs { NeedsSomePage self.old }
         requires level { page.now.level ≡ level_read self.old }

@@ -1,6 +1,6 @@
 //! What an operation writes.
 ghost use Rattle.std.specs.Prelude.{◌≡◌};
-ghost use Rattle.blink_page.specs.Limits.{IsPageNumber};
+ghost use Rattle.blink_page.specs.{IsPageNumber};
 ghost use Rattle.blink_machine.specs.Machine.{NeedsNew, NeedsPrimeWrite};
 ghost use Rattle.blink_machine.specs.Table.{page_out, PrimeOut};
 ghost use Rattle.blink_machine.specs.Needs.{NeedsSomeWrite};

@@ -1,8 +1,7 @@
 //! How the keeper of a table deals a pass for each worker's lane.
 ghost use Rattle.std.specs.Prelude.{◌≡◌, ◌≤◌, [], IfOk, OnOk, vec_capacity};
-ghost use Rattle.blink_batch.specs.Cut.{IsLawfulCut};
-ghost use Rattle.blink_live.specs.Deals.{HasDealt, IsDealt, LacksAllowance, NoneIsTaken};
-ghost use Rattle.blink_live.specs.Handles.{IsKeeperOf, taken_of};
+ghost use Rattle.blink_batch.specs.{IsLawfulCut};
+ghost use Rattle.blink_live.specs.{HasDealt, IsDealt, LacksAllowance, NoneIsTaken, IsKeeperOf, taken_of};
 ghost use Rattle.blink_run.specs.Lanes.{HasDealtAll, IsNewKeeper, MayRunAll};
 
 use crate::live::lane::LaneRun;

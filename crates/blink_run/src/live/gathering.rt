@@ -1,6 +1,6 @@
 //! What the lanes give when all have ended.
 ghost use Rattle.std.specs.Prelude.{◌≡◌, ◌<◌, ℕ, All, Some, length, map, slice_get, IfOk};
-ghost use Rattle.blink_batch.specs.Order.{lane_of};
+ghost use Rattle.blink_batch.specs.{lane_of};
 ghost use Rattle.blink_run.specs.Lanes.{AreGathered};
 ghost use Rattle.blink_run.specs.declared.live.lane.LaneRun.{LaneRun};
 

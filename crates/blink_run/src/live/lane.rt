@@ -1,9 +1,7 @@
 //! A worker's lane at a table of words.
 ghost use Rattle.std.specs.Prelude.{◌≡◌, ◌≤◌, ◌<◌, [], ◌∷◌, ◌++◌, length, count_by, Contains, vec_len, vec_capacity, IsOk, Ok};
-ghost use Rattle.blink_batch.specs.Batch.{is_insert};
-ghost use Rattle.blink_batch.specs.Operation.{answer_of, key_of};
-ghost use Rattle.blink_live.specs.Allowed.{inserts_left, deletes_left};
-ghost use Rattle.blink_live.specs.Handles.{IsPassOf, keys_of, share_of};
+ghost use Rattle.blink_batch.specs.{is_insert, answer_of, key_of};
+ghost use Rattle.blink_live.specs.{inserts_left, deletes_left, IsPassOf, keys_of, share_of};
 ghost use Rattle.blink_run.specs.Lanes.{CanRun, HasRun, IsPassAfter, MayRun, uses_deletion, lane_ops};
 
 use blink_batch::{Answer, Batch, Op};

@@ -1,6 +1,6 @@
 //! What a worker's pass is to be dealt.
 ghost use Rattle.std.specs.Prelude.{◌≡◌, ◌↔◌, ℕ, [], length, Contains, IfOk};
-ghost use Rattle.blink_live.specs.Deals.{NoneIsTaken};
+ghost use Rattle.blink_live.specs.{NoneIsTaken};
 ghost use Rattle.blink_run.specs.Lanes.{IsNeeded, lane_ops};
 
 use blink_batch::{Batch, Op};

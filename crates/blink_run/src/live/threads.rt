@@ -2,7 +2,7 @@
 ghost use Rattle.std.specs.Prelude.{◌≡◌, ◌≤◌, [], length, vec_capacity, vec_len, IfErr, IfOk, OnOk};
 ghost use Rattle.std.specs.List.{AllZip};
 ghost use Rattle.blink_run.specs.Lanes.{HasRun, HaveRun, MayRun, MayRunAll, lane_ops, with_worker};
-ghost use Rattle.blink_locked.specs.Starts.{AtEach, IsStartRefusal, TellsNext};
+ghost use Rattle.blink_locked.specs.{AtEach, IsStartRefusal, TellsNext};
 
 use crate::live::lane::LaneRun;
 use blink_batch::{Batch, Cut};

@@ -2,12 +2,11 @@
 use Rattle.std.proofs.Common.{◌≡◌, ℕ, ◌+◌, ◌≤◌, ◌==◌, ◌&&◌, ◌∙◌, Bool, true, false, List, [], ◌∷◌, length, count_by, refl, ap, inl, inr, arith}
 use Rattle.std.proofs.lemmas.Bool.{cases_Bool, cases_eq, eq-eqb, ne_eqb}
 use Rattle.std.proofs.lemmas.List.Sums.{count_by-le-length, sum_by-cons}
-use Rattle.blink_machine.specs.Allowance.{one_if}
+use Rattle.blink_machine.specs.{one_if, has_moved, moved_by}
 use Rattle.blink_machine.specs.declared.step.Step.{Step}
 use Rattle.blink_machine.specs.declared.step.Step.TheVariants.{Moved, Waited, Idle}
 use Rattle.blink_machine.specs.declared.step.Kind.{Kind}
 use Rattle.blink_steps.specs.Counts.{turns_of, takes_number, numbers_in, moves_in}
-use Rattle.blink_machine.specs.Kinds.{has_moved, moved_by}
 use Rattle.blink_steps.specs.Run.{Event}
 
 -- a list with one more element has one more of a kind, where the element is of that kind

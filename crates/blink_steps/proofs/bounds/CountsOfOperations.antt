@@ -3,16 +3,13 @@ use Rattle.std.proofs.Common.{◌≡◌, ℕ, ◌+◌, ◌<◌, ◌≤◌, ◌�
 use Rattle.std.proofs.lemmas.Option.{slice_get_within}
 use Rattle.blink_batch.specs.declared.Op.{Op}
 use Rattle.blink_batch.specs.declared.Entry.{Entry}
-use Rattle.blink_batch.specs.Batch.{is_insert}
-use Rattle.blink_batch.specs.Order.{next_place}
+use Rattle.blink_batch.specs.{is_insert, next_place}
 use Rattle.blink_machine.specs.declared.machine.Job.TheVariants.{Leaf}
 use Rattle.blink_batch.proofs.Offered.{next_place_is}
 use Rattle.blink_steps.specs.declared.seat.WorkerState.{WorkerState}
 use Rattle.blink_steps.specs.declared.seat.Working.{Working}
-use Rattle.blink_machine.specs.Allowance.{numbers_for, numbers_left, writes_for, writes_left, primes_for, primes_left}
+use Rattle.blink_machine.specs.{numbers_for, numbers_left, writes_for, writes_left, primes_for, primes_left, is_page_write, is_prime_write, PlainMachine, fresh}
 use Rattle.blink_steps.specs.Counts.{numbers_in, page_writes_in, prime_writes_in, moves_in}
-use Rattle.blink_machine.specs.Kinds.{is_page_write, is_prime_write}
-use Rattle.blink_machine.specs.Machine.{PlainMachine, fresh}
 use Rattle.blink_steps.specs.Run.{PlainRun, Event, IsNextOf, busy_seat, idle_seat}
 use Rattle.blink_steps.specs.RunInvariant.{RunInvariant, WorkingInvariant, IdleInvariant}
 use Rattle.blink_steps.proofs.bounds.CountedTurns.{numbers_in-few, moves_of-few}

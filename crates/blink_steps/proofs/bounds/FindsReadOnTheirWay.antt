@@ -10,13 +10,9 @@ use Rattle.blink_machine.specs.declared.machine.State.TheVariants.{Start, Going,
 use Rattle.blink_machine.specs.declared.step.Kind.{Kind}
 use Rattle.blink_machine.specs.declared.step.Step.TheVariants.{Moved}
 use Rattle.blink_steps.specs.Acts.{PlainShared, ActsOn, Acts}
-use Rattle.blink_machine.specs.Allowance.{primes_for, primes_left, one_if}
+use Rattle.blink_machine.specs.{primes_for, primes_left, one_if, is_page_read, PlainMachine, need_at, MayChange, IsPlaced, Levels}
 use Rattle.blink_steps.specs.StepBounds.{page_on_way}
-use Rattle.blink_machine.specs.Kinds.{is_page_read}
-use Rattle.blink_machine.specs.Machine.{PlainMachine, need_at}
 use Rattle.blink_machine.specs.TreeState.{TreeState}
-use Rattle.blink_machine.specs.Placed.{MayChange, IsPlaced}
-use Rattle.blink_machine.specs.TreeWithDebts.{Levels}
 use Rattle.blink_machine.proofs.operation.PlacedWhateverBefore.{placed_at}
 
 -- a find doesn't latch: it posts nothing, since it may never write the prime block

@@ -5,26 +5,20 @@ use Rattle.std.proofs.lemmas.Bool.{cases_eq}
 use Rattle.std.proofs.lemmas.Option.{get_or_from_slice_get, slice_get_within}
 use Rattle.blink_batch.specs.declared.Entry.{Entry}
 use Rattle.blink_batch.specs.declared.Op.{Op}
-use Rattle.blink_batch.specs.Batch.{FitsWords}
-use Rattle.blink_batch.specs.Cut.{Assignment}
-use Rattle.blink_batch.specs.Order.{next_place}
-use Rattle.blink_batch.specs.PlainMap.{IsAscending}
+use Rattle.blink_batch.specs.{FitsWords, Assignment, next_place, IsAscending}
 use Rattle.blink_batch.proofs.Offered.{next_place_is}
-use Rattle.blink_rest.specs.Entries.{AreEntries}
-use Rattle.blink_store.specs.Store.{PlainStore, page_of}
+use Rattle.blink_rest.specs.{AreEntries}
+use Rattle.blink_store.specs.{PlainStore, page_of}
 use Rattle.blink_machine.specs.declared.machine.Job.TheVariants.{Leaf}
 use Rattle.blink_store.proofs.Offered.{slice_get-set_other, slice_get-set_same}
 use Rattle.blink_steps.specs.declared.seat.WorkerState.{WorkerState}
 use Rattle.blink_steps.specs.declared.seat.Working.{Working}
 use Rattle.blink_machine.specs.declared.step.Kind.{Kind}
 use Rattle.blink_machine.specs.declared.step.Step.TheVariants.{Moved}
-use Rattle.blink_machine.specs.Allowance.{numbers_for, UsesUp}
+use Rattle.blink_machine.specs.{numbers_for, UsesUp, PlainMachine, goes_on, pairs_of}
 use Rattle.blink_steps.specs.Counts.{takes_number, numbers_in, moves_in}
-use Rattle.blink_machine.specs.Machine.{PlainMachine}
-use Rattle.blink_machine.specs.TreeState.{goes_on}
 use Rattle.blink_steps.specs.Run.{PlainRun, Event, AppliesEvent, IsHistory, IsOpeningRun, after_move, seat_after, idle_seat, tree_state_of}
 use Rattle.blink_steps.specs.RunInvariant.{RunInvariant, WorkerInvariant}
-use Rattle.blink_machine.specs.TreeMap.{pairs_of}
 use Rattle.blink_machine.proofs.law.EachPart.{step_law}
 use Rattle.blink_steps.proofs.runs.OperationOfTurn.{move_is_step, next_is_its}
 use Rattle.blink_steps.proofs.bounds.CountsOfOperations.{IsWithin, IsLimited, IsInsertAt, IsCounted, IsKnown, next_is_known}

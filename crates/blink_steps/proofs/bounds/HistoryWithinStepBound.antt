@@ -1,10 +1,10 @@
 -- Along a history each operation's way is short, and so is that of all together.
 use Rattle.std.proofs.Common.{ℕ, ◌+◌, ◌*◌, ◌≤◌, List, length, count_by, arith}
 use Rattle.std.specs.Prelude.{nat_lt}
-use Rattle.blink_batch.specs.Batch.{is_insert}
+use Rattle.blink_batch.specs.{is_insert}
 use Rattle.blink_rest.proofs.Offered.{AllPairs-from_differ}
 use Rattle.blink_steps.specs.Counts.{moves_in}
-use Rattle.blink_machine.specs.Kinds.{has_moved}
+use Rattle.blink_machine.specs.{has_moved}
 use Rattle.blink_steps.specs.StepBounds.{read_on_way, latched_by, steps_at_most_with}
 use Rattle.blink_steps.specs.Bounds.{IsBounded}
 use Rattle.blink_steps.specs.Run.{PlainRun, Event}

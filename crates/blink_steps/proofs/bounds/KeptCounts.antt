@@ -5,12 +5,10 @@ use Rattle.std.proofs.lemmas.Bool.{cases_Bool, cases_eq}
 use Rattle.std.proofs.lemmas.Option.{get_or_from_slice_get, slice_get_within}
 use Rattle.blink_store.proofs.Offered.{slice_get-set_other, slice_get-set_same}
 use Rattle.blink_steps.specs.Counts.{turns_of}
-use Rattle.blink_machine.specs.Kinds.{has_moved, moved_by}
-use Rattle.blink_machine.specs.Kinds.{is_page_read}
+use Rattle.blink_machine.specs.{has_moved, moved_by, is_page_read, one_if}
 use Rattle.blink_steps.specs.Run.{PlainRun, Event, AppliesEvent, IsHistory}
 use Rattle.blink_steps.specs.Outcome.{PlainOutcome, one_more_at}
 use Rattle.blink_steps.proofs.runs.RunStatements.{CountsAreOf, CountsAreKept}
-use Rattle.blink_machine.specs.Allowance.{one_if}
 use Rattle.blink_steps.proofs.bounds.CountedTurns.{turns_of-own, turns_of-other, turns_of-unlike, turns_of-few}
 
 -- a list of one number over and over has it at each place

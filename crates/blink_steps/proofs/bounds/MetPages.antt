@@ -2,13 +2,11 @@
 use Rattle.std.proofs.Common.{◌≡◌, ℕ, zero, suc, ◌<◌, ◌≤◌, Some, List, [], ◌∷◌, length, ap, ◌∙◌, arith}
 use Rattle.std.specs.Prelude.{⊤}
 use Rattle.std.proofs.lemmas.Option.{slice_get_within}
-use Rattle.blink_page.specs.Page.{PlainPage}
-use Rattle.blink_page.specs.Rising.{least_above}
-use Rattle.blink_rest.specs.Chain.{Pages}
-use Rattle.blink_store.specs.Store.{PlainStore, page_of}
-use Rattle.blink_machine.specs.Places.{KeepsPlaces}
+use Rattle.blink_page.specs.{PlainPage, least_above}
+use Rattle.blink_rest.specs.{Pages, AllDiffer, AreWithin, Avoids}
+use Rattle.blink_store.specs.{PlainStore, page_of}
+use Rattle.blink_machine.specs.{KeepsPlaces}
 use Rattle.blink_rest.proofs.Offered.{at_most_n}
-use Rattle.blink_rest.specs.Numbers.{AllDiffer, AreWithin, Avoids}
 
 -- the page of this number has such a level and such a least key
 pub record IsPageWith (pages : Pages) (kind : ℕ → ℕ → Type 0) (number : ℕ) : Type 0 where

@@ -3,8 +3,7 @@ use Rattle.std.proofs.Common.{◌≡◌, ℕ, ◌+◌, ◌*◌, ◌≤◌, ◌�
 use Rattle.std.specs.List.{cons_option}
 use Rattle.blink_batch.specs.declared.Op.{Op}
 use Rattle.blink_batch.specs.declared.Op.TheVariants.{Find}
-use Rattle.blink_rest.specs.Chain.{Pages}
-use Rattle.blink_rest.specs.Numbers.{AllDiffer}
+use Rattle.blink_rest.specs.{Pages, AllDiffer}
 use Rattle.blink_machine.specs.declared.machine.Job.{Job}
 use Rattle.blink_machine.specs.declared.machine.State.{State}
 use Rattle.blink_machine.specs.declared.machine.State.TheVariants.{Going, Want}
@@ -13,15 +12,11 @@ use Rattle.blink_machine.specs.declared.step.Step.{Step}
 use Rattle.blink_machine.specs.declared.step.Step.TheVariants.{Moved}
 use Rattle.blink_steps.specs.StepBounds.{page_on_way, page_to_latch, read_on_way, latched_by}
 use Rattle.blink_steps.specs.Counts.{moves_in, page_reads_in}
-use Rattle.blink_machine.specs.Kinds.{has_moved, moved_by}
-use Rattle.blink_machine.specs.Kinds.{is_page_read}
-use Rattle.blink_machine.specs.Machine.{PlainMachine}
+use Rattle.blink_machine.specs.{has_moved, moved_by, is_page_read, PlainMachine, KeepsPlaces, one_if}
 use Rattle.blink_steps.specs.Run.{Event}
-use Rattle.blink_machine.specs.Places.{KeepsPlaces}
 use Rattle.blink_steps.proofs.bounds.MetPages.{ArePagesWith, IsAny, ComesAfter, IsPassed, IsBelow, pages_stay, after_avoids}
 use Rattle.blink_steps.proofs.bounds.OperationTracks.{OnWayAt, LatchedAt, IsOnTrack, few_others}
 use Rattle.blink_steps.proofs.bounds.ReadsKeepTrack.{GoesOnTrack}
-use Rattle.blink_machine.specs.Allowance.{one_if}
 use Rattle.blink_steps.proofs.bounds.CountedTurns.{turns_of-own, turns_of-other, turns_of-unlike}
 use Rattle.blink_steps.proofs.bounds.PagesOfTurns.{pages_of-own, pages_of-other, pages_of-rest}
 

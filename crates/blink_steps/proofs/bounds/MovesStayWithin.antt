@@ -2,7 +2,7 @@
 use Rattle.std.proofs.Common.{◌≡◌, ℕ, ◌+◌, ◌<◌, ◌≤◌, ◌∙◌, ◌&&◌, Bool, true, Option, Some, None, List, ◌∷◌, refl, ap, arith}
 use Rattle.blink_batch.specs.declared.Op.{Op}
 use Rattle.blink_batch.specs.declared.Op.TheVariants.{Insert}
-use Rattle.blink_batch.specs.Batch.{is_insert}
+use Rattle.blink_batch.specs.{is_insert}
 use Rattle.blink_machine.specs.declared.machine.Job.TheVariants.{Leaf}
 use Rattle.blink_machine.specs.declared.machine.State.{State}
 use Rattle.blink_machine.specs.declared.machine.State.TheVariants.{Ended}
@@ -10,12 +10,8 @@ use Rattle.blink_steps.specs.declared.seat.Working.{Working}
 use Rattle.blink_machine.specs.declared.step.Kind.{Kind}
 use Rattle.blink_machine.specs.declared.step.Step.{Step}
 use Rattle.blink_machine.specs.declared.step.Step.TheVariants.{Moved}
-use Rattle.blink_machine.specs.Allowance.{one_if, numbers_for, numbers_left, writes_for, writes_left, primes_for, primes_left, UsesUp}
+use Rattle.blink_machine.specs.{one_if, numbers_for, numbers_left, writes_for, writes_left, primes_for, primes_left, UsesUp, has_moved, moved_by, writes_new_page, is_page_write, is_prime_write, PlainMachine, goes_on}
 use Rattle.blink_steps.specs.Counts.{takes_number, numbers_in, page_writes_in, prime_writes_in}
-use Rattle.blink_machine.specs.Kinds.{has_moved, moved_by, writes_new_page}
-use Rattle.blink_machine.specs.Kinds.{is_page_write, is_prime_write}
-use Rattle.blink_machine.specs.Machine.{PlainMachine}
-use Rattle.blink_machine.specs.TreeState.{goes_on}
 use Rattle.blink_steps.specs.Run.{Event, seat_after}
 use Rattle.blink_machine.proofs.law.EachPart.{step_law}
 use Rattle.blink_steps.proofs.bounds.CountsOfOperations.{IsWithin, IsLimited}

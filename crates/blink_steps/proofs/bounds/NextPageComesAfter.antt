@@ -1,15 +1,10 @@
 -- The page that an operation goes to comes after those that it has met.
 use Rattle.std.proofs.Common.{◌≡◌, ℕ, ◌+◌, ◌<◌, ◌≤◌, Some, List, ◌∷◌, slice_get, ap, ◌∙◌, arith}
-use Rattle.blink_page.specs.Entries.{child_for}
-use Rattle.blink_page.specs.Page.{PlainPage}
-use Rattle.blink_page.specs.Rising.{least_above}
-use Rattle.blink_rest.specs.Chain.{Cell, Pages}
-use Rattle.blink_machine.specs.Machine.{PlainMachine, target}
+use Rattle.blink_page.specs.{child_for, PlainPage, least_above}
+use Rattle.blink_rest.specs.{Pages}
+use Rattle.blink_rest.specs.Chain.{Cell}
+use Rattle.blink_machine.specs.{PlainMachine, target, StandsAt, BeginsFurther, InvariantWith, Levels}
 use Rattle.blink_machine.specs.TreeState.{TreeState}
-use Rattle.blink_machine.specs.Placed.{StandsAt}
-use Rattle.blink_machine.specs.Places.{BeginsFurther}
-use Rattle.blink_machine.specs.Invariant.{InvariantWith}
-use Rattle.blink_machine.specs.TreeWithDebts.{Levels}
 use Rattle.blink_steps.proofs.bounds.MetPages.{ArePagesWith, ComesAfter, IsPassed, IsBelow, IsUpTo, IsNotAbove, pages_wider}
 use Rattle.blink_machine.proofs.tree.TreeStatements.{TreeLaws}
 use Rattle.blink_machine.proofs.operation.WhereMovesLead.{IsOnLevel, stands_on, page_of_cell, belongs_here}

@@ -6,11 +6,11 @@ use Rattle.std.proofs.lemmas.Bool.{cases_lt, lt-ltb}
 use Rattle.std.proofs.lemmas.Option.{slice_get_within}
 use Rattle.std.proofs.lemmas.Slice.Zip.{length-zip}
 use Rattle.blink_batch.specs.declared.Op.{Op}
-use Rattle.blink_batch.specs.Batch.{is_insert}
-use Rattle.blink_store.specs.Store.{PlainStore}
+use Rattle.blink_batch.specs.{is_insert}
+use Rattle.blink_store.specs.{PlainStore}
 use Rattle.blink_batch.specs.declared.Op.TheVariants.{Insert}
 use Rattle.blink_machine.specs.declared.machine.Job.TheVariants.{Leaf}
-use Rattle.blink_machine.specs.Allowance.{one_if, numbers_for, numbers_left}
+use Rattle.blink_machine.specs.{one_if, numbers_for, numbers_left}
 use Rattle.blink_steps.specs.Counts.{numbers_in, moves_in, takes_number, begun_inserts}
 use Rattle.blink_steps.specs.Run.{PlainRun, Event, tree_state_of}
 use Rattle.blink_machine.proofs.law.EachPart.{step_law}

@@ -1,14 +1,13 @@
 -- What is so of the pages that an operation has read on its way down and latched, and of its steps, at each of its states.
 use Rattle.std.proofs.Common.{◌≡◌, ℕ, ◌+◌, ◌*◌, ◌<◌, ◌≤◌, List, [], length, arith}
 use Rattle.std.specs.Prelude.{⊤}
-use Rattle.blink_rest.specs.Chain.{Pages}
+use Rattle.blink_rest.specs.{Pages}
 use Rattle.blink_machine.specs.declared.machine.Job.{Job}
 use Rattle.blink_machine.specs.declared.machine.Next.{Next}
 use Rattle.blink_machine.specs.declared.machine.Next.TheVariants.{Finish, MoveRight, Post}
 use Rattle.blink_machine.specs.declared.machine.State.{State}
 use Rattle.blink_machine.specs.declared.machine.State.TheVariants.{Start, Going, Want, Held, Change, SplitNew, SplitOld, AskPrime, Root, NewPrime, Leave, Posting, Ended}
-use Rattle.blink_machine.specs.Machine.{PlainMachine, level_of}
-use Rattle.blink_machine.specs.Places.{KeepsPlaces}
+use Rattle.blink_machine.specs.{PlainMachine, level_of, KeepsPlaces}
 use Rattle.blink_steps.proofs.bounds.MetPages.{ArePagesWith, ComesAfter, IsPassed, IsBelow, IsUpTo, IsNotAbove, pages_stay, after_stays}
 
 -- on its way down the page that an operation reads next comes after those that it has read

@@ -1,17 +1,15 @@
 -- The pages of a run are those of its start and one for each number that an operation has taken.
 use Rattle.std.proofs.Common.{◌≡◌, ℕ, zero, suc, ◌+◌, ◌*◌, ◌<◌, ◌≤◌, ◌∙◌, Bool, Some, List, [], ◌∷◌, length, count_by, slice_get, refl, ap, inl, inr, arith}
 use Rattle.std.proofs.lemmas.Bool.{cases_Bool, cases_eq}
-use Rattle.blink_store.specs.Store.{PlainStore}
+use Rattle.blink_store.specs.{PlainStore}
 use Rattle.blink_machine.specs.declared.machine.State.{State}
 use Rattle.blink_machine.specs.declared.machine.State.TheVariants.{Start, Going, Want, Held, Change, SplitNew, SplitOld, AskPrime, Root, NewPrime, Leave, Posting, Ended}
 use Rattle.blink_machine.specs.declared.step.Kind.{Kind}
 use Rattle.blink_machine.specs.declared.step.Step.TheVariants.{Moved}
 use Rattle.blink_steps.specs.Acts.{PlainShared, ActsOn, Acts}
 use Rattle.blink_steps.specs.Counts.{numbers_in, takes_number}
-use Rattle.blink_machine.specs.Kinds.{writes_new_page}
-use Rattle.blink_machine.specs.Machine.{PlainMachine, need_at}
+use Rattle.blink_machine.specs.{writes_new_page, PlainMachine, need_at, one_if}
 use Rattle.blink_steps.specs.Run.{PlainRun, Event, AppliesEvent, IsHistory}
-use Rattle.blink_machine.specs.Allowance.{one_if}
 use Rattle.blink_steps.proofs.bounds.CountedTurns.{count_by-cons, turns_of-own, turns_of-other}
 
 -- a step makes a page just where it takes a number

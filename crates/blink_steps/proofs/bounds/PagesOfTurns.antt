@@ -8,7 +8,7 @@ use Rattle.blink_machine.specs.declared.step.Kind.{Kind}
 use Rattle.blink_machine.specs.declared.step.Step.TheVariants.{Moved}
 use Rattle.blink_steps.specs.StepBounds.{pages_of_turns}
 use Rattle.blink_steps.specs.Counts.{moves_in}
-use Rattle.blink_machine.specs.Kinds.{has_moved}
+use Rattle.blink_machine.specs.{has_moved}
 use Rattle.blink_steps.specs.Run.{Event}
 use Rattle.blink_steps.proofs.bounds.CountedTurns.{turns_of-own, turns_of-other, turns_of-unlike}
 

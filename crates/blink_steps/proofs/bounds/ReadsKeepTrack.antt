@@ -1,19 +1,15 @@
 -- A read leaves an operation on its track.
 use Rattle.std.proofs.Common.{◌≡◌, ℕ, ◌+◌, ◌-◌, ◌*◌, ◌≤◌, Some, List, [], ◌∷◌, length, ap, sym, subst, arith}
 use Rattle.std.specs.List.{cons_option}
-use Rattle.blink_page.specs.Page.{PlainPage}
-use Rattle.blink_rest.specs.Chain.{Pages}
+use Rattle.blink_page.specs.{PlainPage}
+use Rattle.blink_rest.specs.{Pages}
 use Rattle.blink_machine.specs.declared.machine.Job.{Job}
 use Rattle.blink_machine.specs.declared.machine.Next.TheVariants.{Finish, MoveRight, Post}
 use Rattle.blink_machine.specs.declared.machine.State.{State}
 use Rattle.blink_machine.specs.declared.machine.State.TheVariants.{Start, Going, Want, Held, Change, SplitNew, AskPrime, Root, Leave, Posting, Ended}
 use Rattle.blink_steps.specs.StepBounds.{page_on_way, page_to_latch}
-use Rattle.blink_machine.specs.Machine.{PlainMachine, level_of}
+use Rattle.blink_machine.specs.{PlainMachine, level_of, IsPlaced, InvariantWith, SeesPrime, SeesPage, SeesOnItsWay, SeesUnderLatch, Levels}
 use Rattle.blink_machine.specs.TreeState.{TreeState}
-use Rattle.blink_machine.specs.Placed.{IsPlaced}
-use Rattle.blink_machine.specs.Invariant.{InvariantWith}
-use Rattle.blink_machine.specs.Table.{SeesPrime, SeesPage, SeesOnItsWay, SeesUnderLatch}
-use Rattle.blink_machine.specs.TreeWithDebts.{Levels}
 use Rattle.blink_steps.proofs.bounds.MetPages.{ArePagesWith, IsNotAbove, pages_wider}
 use Rattle.blink_machine.proofs.operation.PlacedWhateverBefore.{placed_at}
 use Rattle.blink_steps.proofs.bounds.NextPageComesAfter.{leftmost_on, child_is_lower, passed_right, passed_down, below_right, not_above, comes_after_lower}

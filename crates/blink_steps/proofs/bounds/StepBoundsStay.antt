@@ -6,14 +6,12 @@ use Rattle.std.proofs.lemmas.Option.{slice_get_within}
 use Rattle.blink_batch.specs.declared.Entry.{Entry}
 use Rattle.blink_batch.specs.declared.Op.{Op}
 use Rattle.blink_batch.specs.declared.Op.TheVariants.{Find}
-use Rattle.blink_batch.specs.Batch.{FitsWords}
-use Rattle.blink_batch.specs.Cut.{Assignment}
-use Rattle.blink_batch.specs.PlainMap.{IsAscending}
+use Rattle.blink_batch.specs.{FitsWords, Assignment, IsAscending}
 use Rattle.blink_batch.proofs.Offered.{next_place_is}
-use Rattle.blink_rest.specs.Entries.{AreEntries}
-use Rattle.blink_store.specs.Store.{PlainStore, page_of}
+use Rattle.blink_rest.specs.{AreEntries}
+use Rattle.blink_store.specs.{PlainStore, page_of}
 use Rattle.blink_machine.specs.declared.machine.Job.TheVariants.{Leaf}
-use Rattle.blink_machine.specs.Allowance.{primes_for, primes_left}
+use Rattle.blink_machine.specs.{primes_for, primes_left, has_moved, moved_by, is_page_read, PlainMachine, goes_on, IsItsOperation, KeepsPlaces, pairs_of}
 use Rattle.blink_store.proofs.Offered.{slice_get-set_other, slice_get-set_same}
 use Rattle.blink_steps.specs.declared.seat.WorkerState.{WorkerState}
 use Rattle.blink_steps.specs.declared.seat.Working.{Working}
@@ -22,14 +20,8 @@ use Rattle.blink_machine.specs.declared.step.Step.TheVariants.{Moved}
 use Rattle.blink_steps.specs.Acts.{Acts}
 use Rattle.blink_steps.specs.StepBounds.{page_on_way, page_to_latch, read_on_way, latched_by}
 use Rattle.blink_steps.specs.Counts.{moves_in}
-use Rattle.blink_machine.specs.Kinds.{has_moved, moved_by}
-use Rattle.blink_machine.specs.Kinds.{is_page_read}
-use Rattle.blink_machine.specs.Machine.{PlainMachine}
-use Rattle.blink_machine.specs.TreeState.{goes_on, IsItsOperation}
-use Rattle.blink_machine.specs.Places.{KeepsPlaces}
 use Rattle.blink_steps.specs.Run.{PlainRun, Event, AppliesEvent, IsHistory, IsOpeningRun, IsNextOf, after_move, seat_after, idle_seat, busy_seat, tree_state_of}
 use Rattle.blink_steps.specs.RunInvariant.{RunInvariant, IdleInvariant}
-use Rattle.blink_machine.specs.TreeMap.{pairs_of}
 use Rattle.blink_steps.proofs.bounds.HistoriesStayWithin.{InvariantAndCounts, counted_along, next_fits, none_under_way, other_lane, own_of_working}
 use Rattle.blink_steps.proofs.bounds.CountsOfOperations.{IsCounted, IsKnown, next_is_known}
 use Rattle.blink_steps.proofs.bounds.MovesStayWithin.{working_is_after}

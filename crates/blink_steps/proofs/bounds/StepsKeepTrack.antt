@@ -1,6 +1,6 @@
 -- Every step leaves its operation on its track.
 use Rattle.std.proofs.Common.{◌≡◌, ℕ, ◌+◌, ◌<◌, ◌≤◌, Option, Some, None, List, [], ◌∷◌, length, refl, ap, sym, ◌∙◌, arith}
-use Rattle.blink_batch.specs.Batch.{FitsWords}
+use Rattle.blink_batch.specs.{FitsWords}
 use Rattle.blink_machine.specs.declared.machine.Debt.{Debt}
 use Rattle.blink_machine.specs.declared.machine.Job.TheVariants.{Parent}
 use Rattle.blink_machine.specs.declared.machine.Next.{Next}
@@ -10,14 +10,9 @@ use Rattle.blink_machine.specs.declared.machine.State.TheVariants.{Start, Going,
 use Rattle.blink_machine.specs.declared.step.Kind.{Kind}
 use Rattle.blink_machine.specs.declared.step.Step.TheVariants.{Moved}
 use Rattle.blink_steps.specs.Acts.{PlainShared, ActsOn, Acts}
-use Rattle.blink_machine.specs.Machine.{PlainMachine, need_at}
-use Rattle.blink_machine.specs.TreeState.{TreeState, IsItsOperation}
-use Rattle.blink_machine.specs.Owned.{debt_at}
-use Rattle.blink_machine.specs.Placed.{IsPlaced, AreRemembered}
+use Rattle.blink_machine.specs.{PlainMachine, need_at, IsItsOperation, debt_at, IsPlaced, AreRemembered, InvariantWith, decided_with, sets_out, done_at, Levels}
+use Rattle.blink_machine.specs.TreeState.{TreeState}
 use Rattle.blink_steps.specs.Run.{tree_state_with}
-use Rattle.blink_machine.specs.Invariant.{InvariantWith}
-use Rattle.blink_machine.specs.Table.{decided_with, sets_out, done_at}
-use Rattle.blink_machine.specs.TreeWithDebts.{Levels}
 use Rattle.blink_steps.proofs.bounds.MetPages.{IsNotAbove, pages_wider}
 use Rattle.blink_machine.proofs.operation.WhereMovesLead.{stands_on}
 use Rattle.blink_machine.proofs.operation.PlacedWhateverBefore.{placed_at, its_place}

@@ -4,7 +4,7 @@ use Rattle.std.specs.List.{zip}
 use Rattle.std.proofs.lemmas.Bool.{cases_Bool, cases_eq}
 use Rattle.blink_steps.specs.Counts.{turns_of}
 use Rattle.blink_steps.specs.Run.{Event}
-use Rattle.blink_machine.specs.Allowance.{one_if}
+use Rattle.blink_machine.specs.{one_if}
 use Rattle.blink_steps.proofs.bounds.CountedTurns.{count_by-cons, turns_of-own, turns_of-other}
 
 -- the turns of a kind at some places, from one on, as many as the list is long

@@ -1,16 +1,14 @@
 -- What a worker does to the store and the latches is a step of the tree state that they make.
 use Rattle.std.proofs.Common.{◌≡◌, ℕ, ◌+◌, Option, Some, None, List, length, add-one, refl, ap, arith}
 use Rattle.std.proofs.lemmas.Option.{slice_get_past}
-use Rattle.blink_page.specs.Page.{PlainPage}
-use Rattle.blink_store.specs.Latches.{holder_of, ChangesHolder}
-use Rattle.blink_store.specs.Store.{PlainStore, page_of, WritesPage}
+use Rattle.blink_page.specs.{PlainPage}
+use Rattle.blink_store.specs.{holder_of, ChangesHolder, PlainStore, page_of, WritesPage}
 use Rattle.blink_machine.specs.declared.machine.Need.{Need}
 use Rattle.blink_machine.specs.declared.machine.Need.TheVariants.{ReadPrime, ReadPage, Latch, WriteNew, WritePage, WritePrime, Unlatch, End}
 use Rattle.blink_machine.specs.declared.step.Kind.{Kind}
 use Rattle.blink_machine.specs.declared.step.Step.TheVariants.{Moved, Waited}
 use Rattle.blink_steps.specs.Acts.{PlainShared, Acts, ActsOn}
-use Rattle.blink_machine.specs.Machine.{PlainMachine, need_at}
-use Rattle.blink_machine.specs.TreeState.{Leaves, WritesOne, LatchPasses, IsWorkersNow, Steps, reads_prime, waits_for_level, reads_page, latches, waits_for_latch, writes_new, writes_page, writes_prime, unlatches}
+use Rattle.blink_machine.specs.{PlainMachine, need_at, Leaves, WritesOne, LatchPasses, IsWorkersNow, Steps, reads_prime, waits_for_level, reads_page, latches, waits_for_latch, writes_new, writes_page, writes_prime, unlatches}
 use Rattle.blink_steps.specs.Run.{tree_state_with}
 use Rattle.blink_machine.proofs.operation.WhatJobsAreAbout.{some_value}
 

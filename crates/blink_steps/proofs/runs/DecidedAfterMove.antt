@@ -9,15 +9,14 @@ use Rattle.std.specs.List.{All, Contains, slice_get, zip}
 use Rattle.blink_batch.specs.declared.entry.Entry.{Entry}
 use Rattle.blink_batch.specs.declared.operation.Op.{Op}
 use Rattle.blink_batch.specs.declared.operation.Answer.{Answer}
-use Rattle.blink_batch.specs.Operation.{answer_of, answers, map_after, map_after_all}
-use Rattle.blink_batch.specs.Order.{operations_at, part_of, places_from}
+use Rattle.blink_batch.specs.{answer_of, answers, map_after, map_after_all, operations_at, part_of, places_from}
 use Rattle.blink_batch.proofs.Offered.{answers-push, length-answers, length-operations_at, map_after_all-push, operations_at-push, part_of-push_other, part_of-push_own, part_of_first-own, zip-push}
 use Rattle.blink_store.proofs.Offered.{slice_get-set_other, slice_get-set_same}
 use Rattle.blink_steps.specs.Run.{PlainRun, tree_state_of}
 use Rattle.blink_steps.specs.Outcome.{decides_now}
 use Rattle.blink_steps.specs.RunInvariant.{is_answered}
 use Rattle.blink_steps.specs.Decided.{AnswersSoFar, IsDecided}
-use Rattle.blink_machine.specs.TreeMap.{Keeps}
+use Rattle.blink_machine.specs.{Keeps}
 
 -- ---- lists
 

@@ -1,4 +1,4 @@
--- What a sound run has decided: each operation once, the prefixes of the lanes, and at the end all.
+-- What a run with its invariant has decided: each operation once, the prefixes of the lanes, and at the end all.
 use Rattle.std.proofs.Common.{◌≡◌, ◌≢◌, ℕ, ◌<◌, ◌≤◌, List, [], ◌∷◌, length, get_or, take, true, false, Option, Some, None, refl, ap, sym, ◌∙◌, subst, inl, inr, arith}
 use Rattle.std.proofs.lemmas.Bool.{cases_Bool, cases_lt, eq-eqb}
 use Rattle.std.proofs.lemmas.List.Elements.{Contains-get_or, recursion_from_All}
@@ -9,11 +9,10 @@ use Rattle.blink_batch.specs.declared.Answer.{Answer}
 use Rattle.blink_batch.specs.declared.Answer.TheVariants.{Absent}
 use Rattle.blink_batch.specs.declared.Entry.{Entry}
 use Rattle.blink_batch.specs.declared.Op.{Op}
-use Rattle.blink_batch.specs.Operation.{answers}
-use Rattle.blink_batch.specs.Order.{is_worker, lane_of, operations_at, part_of, places_from}
+use Rattle.blink_batch.specs.{answers, is_worker, lane_of, operations_at, part_of, places_from}
 use Rattle.blink_batch.proofs.Offered.{get_or-places_from, length-answers, length-operations_at, length-places_from, part_of-no_next_place, part_of-nobody}
 use Rattle.blink_store.proofs.Offered.{one_page_each}
-use Rattle.blink_rest.specs.Numbers.{AllDiffer}
+use Rattle.blink_rest.specs.{AllDiffer}
 use Rattle.blink_steps.specs.declared.seat.WorkerState.{WorkerState}
 use Rattle.blink_steps.specs.declared.seat.Working.{Working}
 use Rattle.blink_steps.specs.Run.{PlainRun, idle_seat, machine_of_seat, tree_state_of}

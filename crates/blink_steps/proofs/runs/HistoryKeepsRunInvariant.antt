@@ -9,7 +9,7 @@ use Rattle.blink_steps.proofs.runs.DecidedAtEnd.{each_decided, each_is_decided_o
 use Rattle.blink_steps.proofs.runs.RunStatements.{EndedRunIsAnswered, HasAnswerAt, HistoryKeepsRunInvariant}
 use Rattle.blink_steps.proofs.runs.TurnsKeepRunInvariant.{turn_keeps_run_invariant}
 
--- whatever turns are taken, a sound run keeps the invariant
+-- whatever turns are taken, a run keeps its invariant
 pub history_keeps_run_invariant : StepLaw → HistoryKeepsRunInvariant
 history_keeps_run_invariant laws entries start run [] invariant follows = subst (RunInvariant entries) (sym follows) invariant
 history_keeps_run_invariant laws entries start run (taken ∷ history) invariant follows =

@@ -6,7 +6,7 @@ use Rattle.std.proofs.lemmas.Option.{slice_get-get_or, slice_get_within, get_or_
 use Rattle.std.specs.List.{slice_get}
 use Rattle.blink_batch.proofs.Offered.{next_place-end, next_place-further, next_place-here}
 use Rattle.blink_batch.specs.declared.cut.TheConstants.{WORKER_LIMIT}
-use Rattle.blink_batch.specs.Order.{next_place}
+use Rattle.blink_batch.specs.{next_place}
 use Rattle.blink_store.proofs.Offered.{slice_get-set_other, slice_get-set_same}
 use Rattle.blink_steps.specs.LaneQueues.{NextInLane, FirstInLane}
 

@@ -3,21 +3,18 @@ use Rattle.std.proofs.Common.{◌≡◌, ℕ, zero, suc, ◌+◌, ◌<◌, Optio
 use Rattle.std.proofs.lemmas.List.{length-set}
 use Rattle.std.proofs.lemmas.List.Elements.{All-push, All-same, All-set}
 use Rattle.std.proofs.lemmas.Option.{slice_get_within}
-use Rattle.blink_page.specs.Limits.{IsPageNumber}
-use Rattle.blink_page.specs.Page.{PlainPage, IsLawfulPage}
-use Rattle.blink_store.specs.Store.{PlainStore, page_of, WritesPage, IsLawfulStore}
+use Rattle.blink_page.specs.{IsPageNumber, PlainPage, IsLawfulPage}
+use Rattle.blink_store.specs.{PlainStore, page_of, WritesPage, IsLawfulStore}
 use Rattle.blink_store.proofs.Offered.{pages-add, pages-write}
 use Rattle.blink_machine.specs.declared.machine.Need.{Need}
 use Rattle.blink_machine.specs.declared.machine.Need.TheVariants.{ReadPrime, ReadPage, Latch, WriteNew, WritePage, WritePrime, Unlatch, End}
 use Rattle.blink_machine.specs.declared.step.Kind.{Kind}
 use Rattle.blink_machine.specs.declared.step.Step.TheVariants.{Moved}
 use Rattle.blink_steps.specs.Acts.{PlainShared, Acts, ActsOn}
-use Rattle.blink_machine.specs.Machine.{PlainMachine, need_at}
-use Rattle.blink_machine.specs.TreeState.{IsItsOperation}
+use Rattle.blink_machine.specs.{PlainMachine, need_at, IsItsOperation, PrimeOut, adds_root, page_out}
 use Rattle.blink_steps.specs.Run.{tree_state_with}
 use Rattle.blink_machine.specs.Invariant.{Invariant}
 use Rattle.blink_machine.specs.StepLaw.{StepLaw}
-use Rattle.blink_machine.specs.Table.{PrimeOut, adds_root, page_out}
 
 module _ (old new : PlainStore) (lawful : IsLawfulStore old) (page : PlainPage) (good : IsLawfulPage old.fan page) where
   -- a store with a lawful page at the end

@@ -3,7 +3,7 @@ use Rattle.std.proofs.Common.{◌≡◌, ℕ, ◌≤◌, Option, List, [], ◌�
 use Rattle.std.proofs.lemmas.Bool.{cases_eq}
 use Rattle.std.proofs.lemmas.Option.{slice_get_past}
 use Rattle.blink_store.proofs.Offered.{slice_get-push_same, slice_get-push_other}
-use Rattle.blink_machine.specs.StepLaw.{TellTheSame}
+use Rattle.blink_machine.specs.{TellTheSame}
 use Rattle.blink_machine.proofs.Offered.{step_law}
 use Rattle.blink_steps.specs.declared.seat.WorkerState.{WorkerState}
 use Rattle.blink_steps.specs.Laws.{IdleWorkersDontMatter, with_idle_worker}

@@ -9,21 +9,17 @@ use Rattle.std.specs.List.{slice_get}
 use Rattle.blink_batch.specs.declared.Answer.{Answer}
 use Rattle.blink_batch.specs.declared.Entry.{Entry}
 use Rattle.blink_batch.specs.declared.Op.{Op}
-use Rattle.blink_batch.specs.Cut.{Assignment}
-use Rattle.blink_batch.specs.Order.{next_place}
-use Rattle.blink_batch.specs.PlainMap.{IsAscending}
-use Rattle.blink_page.specs.Limits.{IsPageNumber}
-use Rattle.blink_page.specs.Page.{PlainPage}
-use Rattle.blink_rest.specs.Entries.{AreEntries}
-use Rattle.blink_rest.specs.Rest.{IsStoreAtRest}
-use Rattle.blink_store.specs.Store.{PlainStore, IsLawfulStore, page_of}
+use Rattle.blink_batch.specs.{Assignment, next_place, IsAscending}
+use Rattle.blink_page.specs.{IsPageNumber, PlainPage}
+use Rattle.blink_rest.specs.{AreEntries, IsStoreAtRest}
+use Rattle.blink_store.specs.{PlainStore, IsLawfulStore, page_of}
 use Rattle.blink_steps.specs.declared.seat.WorkerState.{WorkerState}
 use Rattle.blink_steps.specs.Run.{PlainRun, IsOpeningRun, idle_seat, machine_of_seat, tree_state_of}
 use Rattle.blink_steps.specs.RunInvariant.{IsShaped, RunInvariant, WorkerInvariant, is_answered, IdleInvariant}
 use Rattle.blink_steps.specs.Decided.{IsDecided}
-use Rattle.blink_machine.specs.TreeMap.{Keeps, pairs_of}
+use Rattle.blink_machine.specs.{Keeps, pairs_of, IsOpening}
 use Rattle.blink_steps.proofs.runs.RunStatements.{MayBegin, OpeningRunHasInvariant}
-use Rattle.blink_machine.specs.StepLaw.{IsOpening, StepLaw}
+use Rattle.blink_machine.specs.StepLaw.{StepLaw}
 use Rattle.blink_steps.specs.Outcome.{PlainOutcome}
 
 -- the number of a page of a lawful store is one that a page may have

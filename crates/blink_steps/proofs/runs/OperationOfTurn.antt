@@ -4,7 +4,7 @@ use Rattle.std.proofs.lemmas.Option.{slice_get_within}
 use Rattle.std.specs.List.{slice_get}
 use Rattle.blink_batch.specs.declared.entry.Entry.{Entry}
 use Rattle.blink_batch.specs.declared.operation.Op.{Op}
-use Rattle.blink_batch.specs.Order.{next_place}
+use Rattle.blink_batch.specs.{next_place}
 use Rattle.blink_batch.proofs.Offered.{fresh_from_part, next_place_is, part_of-next_place}
 use Rattle.blink_store.proofs.Offered.{slice_get-set_other, slice_get-set_same}
 use Rattle.blink_steps.specs.declared.seat.WorkerState.{WorkerState}
@@ -15,8 +15,7 @@ use Rattle.blink_steps.specs.Acts.{PlainShared, Acts, ActsOn}
 use Rattle.blink_machine.specs.declared.machine.Need.{Need}
 use Rattle.blink_machine.specs.declared.machine.Need.TheVariants.{WriteNew}
 use Rattle.blink_steps.specs.Laws.{TakesNextNumber, TurnsAreSteps}
-use Rattle.blink_machine.specs.Machine.{PlainMachine, fresh}
-use Rattle.blink_machine.specs.TreeState.{IsItsOperation, under_way as is_under_way, taken_on as is_taken_on, IsWorkersNow, Steps, goes_on}
+use Rattle.blink_machine.specs.{PlainMachine, fresh, IsItsOperation, under_way as is_under_way, taken_on as is_taken_on, IsWorkersNow, Steps, goes_on}
 use Rattle.blink_steps.specs.Run.{PlainRun, IsNextOf, under_way, taken_on, Event, AppliesEvent, moves, waits, idles, after_move, busy_seat, idle_seat, machine_of_seat, tree_state_of, seat_after}
 use Rattle.blink_steps.specs.RunInvariant.{HasDecided, WorkingInvariant, IdleInvariant, RunInvariant}
 use Rattle.blink_steps.proofs.runs.ActsAreSteps.{acts_are_steps, waits_are_steps}
@@ -124,7 +123,7 @@ taken_on_is_busy entries run worker place next op invariant seat there following
       decided = decided;
     }
 
--- in a sound run it has what a busy worker's operation has
+-- where the invariant of runs holds it has what a busy worker's operation has
 pub next_is_busy : (entries : List Entry) (run : PlainRun) (worker place : ℕ) (m : PlainMachine) (next : Option ℕ) → RunInvariant entries run → IsNextOf run worker place m next
     → WorkingInvariant run worker (record { place = place; machine = m }) next
 next_is_busy entries run worker place m next invariant (under_way seat) = invariant.seats worker (busy_seat place m next) seat

@@ -2,25 +2,18 @@
 use Rattle.std.proofs.Common.{◌≡◌, ℕ, ◌<◌, ◌≤◌, Option, Some, None, List, length, slice_get}
 use Rattle.blink_batch.specs.declared.Entry.{Entry}
 use Rattle.blink_batch.specs.declared.Op.{Op}
-use Rattle.blink_batch.specs.Cut.{Assignment}
-use Rattle.blink_batch.specs.Operation.{map_after_all}
-use Rattle.blink_batch.specs.Order.{operations_at}
-use Rattle.blink_batch.specs.PlainMap.{IsAscending, pointer_of}
+use Rattle.blink_batch.specs.{Assignment, map_after_all, operations_at, IsAscending, pointer_of}
 use Rattle.blink_page.specs.declared.limits.TheConstants.{MAX_PAGE}
-use Rattle.blink_rest.specs.Entries.{AreEntries}
-use Rattle.blink_store.specs.Latches.{holder_of}
-use Rattle.blink_store.specs.Store.{PlainStore, page_of}
+use Rattle.blink_rest.specs.{AreEntries, IsReached}
+use Rattle.blink_store.specs.{holder_of, PlainStore, page_of}
 use Rattle.blink_steps.specs.StepBounds.{WithinStepBound}
 use Rattle.blink_steps.specs.Bounds.{IsBounded}
 use Rattle.blink_steps.specs.Counts.{page_reads_in, moves_in}
-use Rattle.blink_machine.specs.Machine.{PlainMachine, NeedsNew}
-use Rattle.blink_machine.specs.Owned.{HoldOneLatchEach}
+use Rattle.blink_machine.specs.{PlainMachine, NeedsNew, HoldOneLatchEach, pairs_of}
 use Rattle.blink_steps.specs.Run.{PlainRun, Event, AppliesEvent, IsHistory, IsOpeningRun, IsNextOf}
 use Rattle.blink_steps.specs.RunInvariant.{RunInvariant}
-use Rattle.blink_machine.specs.TreeMap.{pairs_of}
 use Rattle.blink_steps.specs.Acts.{CanAct}
 pub use Rattle.blink_steps.specs.Promises.{HasAnswerAt, EachOnce, IsPrefixOfLane, HasUndecided, IsWholeRun, IsAnsweredInOrder}
-use Rattle.blink_rest.specs.Reach.{IsReached}
 pub use Rattle.blink_steps.specs.World.{MayBegin, HasEnded, IsAtLanesEnd}
 use Rattle.blink_steps.specs.World.{WritesItsOwn}
 
@@ -85,7 +78,7 @@ EndedRunIsWhole = (entries : List Entry) (run : PlainRun) → RunInvariant entri
 abbrev pub EndedRunIsAnswered : Type 0
 EndedRunIsAnswered = (entries : List Entry) (run : PlainRun) → RunInvariant entries run → HasEnded run → IsAnsweredInOrder entries run
 
--- whatever turns are taken, a sound run keeps the invariant
+-- whatever turns are taken, a run keeps its invariant
 abbrev pub HistoryKeepsRunInvariant : Type 0
 HistoryKeepsRunInvariant = (entries : List Entry) (start run : PlainRun) (history : List Event) → RunInvariant entries start → IsHistory start history run → RunInvariant entries run
 

@@ -6,11 +6,9 @@ use Rattle.std.proofs.lemmas.List.{length-set}
 use Rattle.std.proofs.lemmas.Option.{slice_get_within, get_or_from_slice_get}
 use Rattle.blink_batch.specs.declared.Entry.{Entry}
 use Rattle.blink_batch.specs.declared.cut.TheConstants.{WORKER_LIMIT}
-use Rattle.blink_batch.specs.Batch.{FitsWords}
-use Rattle.blink_page.specs.Limits.{IsPageNumber}
-use Rattle.blink_page.specs.Page.{PlainPage}
-use Rattle.blink_store.specs.Latches.{Holds, IsHeldByOne, holder_of, ChangesHolder}
-use Rattle.blink_store.specs.Store.{PlainStore, page_of, WritesPage}
+use Rattle.blink_batch.specs.{FitsWords}
+use Rattle.blink_page.specs.{IsPageNumber, PlainPage}
+use Rattle.blink_store.specs.{Holds, IsHeldByOne, holder_of, ChangesHolder, PlainStore, page_of, WritesPage}
 use Rattle.blink_store.specs.declared.latches.TheConstants.{WORKERS}
 use Rattle.blink_store.proofs.Offered.{holder_of-holds, nobody, slice_get-push_other, slice_get-push_same, slice_get-set_other, slice_get-set_same}
 use Rattle.blink_machine.specs.declared.machine.Need.{Need}
@@ -20,15 +18,12 @@ use Rattle.blink_machine.specs.declared.step.Kind.{Kind}
 use Rattle.blink_machine.specs.declared.step.Step.{Step}
 use Rattle.blink_machine.specs.declared.step.Step.TheVariants.{Moved, Waited}
 use Rattle.blink_steps.specs.Acts.{PlainShared, Acts, ActsOn}
-use Rattle.blink_machine.specs.Kinds.{read_page, read_prime, latch, unlatch, write_page, write_prime}
+use Rattle.blink_machine.specs.{read_page, read_prime, latch, unlatch, write_page, write_prime, PlainMachine, need_at, IsItsOperation, IsWorkersNow, LatchPasses, WritesOne, Steps, reads_prime, waits_for_level, reads_page, latches, waits_for_latch, writes_new, writes_page, writes_prime, unlatches, goes_on, latch_of, page_out, done}
 use Rattle.blink_steps.specs.Laws.{HasTurnTo, StepsAreTurns, TakesNextNumber, turn_of}
-use Rattle.blink_machine.specs.Machine.{PlainMachine, need_at}
-use Rattle.blink_machine.specs.TreeState.{TreeState, IsItsOperation, IsWorkersNow, LatchPasses, WritesOne, Steps, reads_prime, waits_for_level, reads_page, latches, waits_for_latch, writes_new, writes_page, writes_prime, unlatches, goes_on}
-use Rattle.blink_machine.specs.Owned.{latch_of}
+use Rattle.blink_machine.specs.TreeState.{TreeState}
 use Rattle.blink_steps.specs.Run.{PlainRun, IsNextOf, moves, waits, after_move, machine_of_seat, tree_state_of, seat_after}
 use Rattle.blink_machine.specs.Invariant.{Invariant}
 use Rattle.blink_steps.specs.RunInvariant.{RunInvariant}
-use Rattle.blink_machine.specs.Table.{page_out, done}
 use Rattle.blink_steps.proofs.runs.OperationOfTurn.{machines_of, next_has_seat, next_is_busy, next_is_its, seats_after_move}
 use Rattle.blink_machine.proofs.law.EachPart.{step_law}
 use Rattle.blink_steps.proofs.worlds.WorldPromises.{invariant}

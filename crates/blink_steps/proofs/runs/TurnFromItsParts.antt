@@ -9,7 +9,7 @@ use Rattle.blink_batch.specs.declared.operation.Answer.{Answer}
 use Rattle.blink_batch.specs.declared.operation.Op.{Op}
 use Rattle.blink_batch.specs.declared.operation.Op.TheVariants.{Find}
 use Rattle.blink_batch.specs.declared.cut.TheConstants.{WORKER_LIMIT}
-use Rattle.blink_batch.specs.Order.{next_place}
+use Rattle.blink_batch.specs.{next_place}
 use Rattle.blink_batch.proofs.Offered.{next_place_is}
 use Rattle.blink_machine.specs.declared.machine.Need.{Need}
 use Rattle.blink_machine.specs.declared.machine.Need.TheVariants.{ReadPrime, ReadPage, Latch, WriteNew, WritePage, WritePrime, Unlatch, End}
@@ -25,12 +25,10 @@ use Rattle.blink_steps.specs.Acts.{PlainShared, ActsOn, Acts, CanAct}
 use Rattle.blink_steps.specs.Outcome.{PlainOutcome, decides_now, recorded}
 use Rattle.blink_store.proofs.Offered.{slice_get-push_other, slice_get-push_same, slice_get-set_other, slice_get-set_same}
 use Rattle.blink_steps.specs.LaneQueues.{FirstInLane}
-use Rattle.blink_machine.specs.Machine.{PlainMachine, need_at, fresh}
-use Rattle.blink_machine.specs.TreeState.{goes_on}
+use Rattle.blink_machine.specs.{PlainMachine, need_at, fresh, goes_on, SeesPrime}
 use Rattle.blink_steps.specs.Run.{PlainRun, Event, AppliesEvent, IsNextOf, idle_seat, seat_after, after_move}
 use Rattle.blink_steps.specs.RunView.{IsLinked}
 use Rattle.blink_steps.specs.Seats.{working_after, AreOfLanes}
-use Rattle.blink_machine.specs.Table.{SeesPrime}
 
 -- ---- the operation after a step
 

@@ -1,4 +1,4 @@
--- In a sound run each worker's turn can be taken.
+-- Where the invariant of runs holds, each worker's turn can be taken.
 use Rattle.std.proofs.Common.{◌≡◌, ℕ, ◌+◌, ◌<◌, ◌≤◌, Option, List, length, refl, arith}
 use Rattle.std.proofs.lemmas.Option.{slice_get_within}
 use Rattle.blink_batch.specs.declared.Entry.{Entry}
@@ -10,10 +10,8 @@ use Rattle.blink_machine.specs.declared.machine.Need.{Need}
 use Rattle.blink_machine.specs.declared.machine.Need.TheVariants.{ReadPrime, ReadPage, Latch, WriteNew, WritePage, WritePrime, Unlatch, End}
 use Rattle.blink_machine.specs.declared.machine.State.{State}
 use Rattle.blink_machine.specs.declared.machine.State.TheVariants.{Start, Going, Want, Held, Change, SplitNew, SplitOld, AskPrime, Root, NewPrime, Leave, Posting, Ended}
-use Rattle.blink_machine.specs.InOrder.{IsInOrder}
+use Rattle.blink_machine.specs.{IsInOrder, PlainMachine, NeedsNew, need_at, IsItsOperation}
 use Rattle.blink_steps.specs.Acts.{CanAct, CanActOn}
-use Rattle.blink_machine.specs.Machine.{PlainMachine, NeedsNew, need_at}
-use Rattle.blink_machine.specs.TreeState.{IsItsOperation}
 use Rattle.blink_steps.specs.Run.{PlainRun, IsNextOf, tree_state_of}
 use Rattle.blink_steps.specs.RunInvariant.{RunInvariant}
 use Rattle.blink_machine.specs.StepLaw.{StepLaw}

@@ -1,4 +1,4 @@
--- Every turn of a worker leaves a sound run sound.
+-- Every turn of a worker keeps the invariant of runs.
 use Rattle.std.proofs.Common.{◌≡◌, ◌≢◌, ℕ, ◌+◌, ◌⊎◌, Bool, true, false, Option, Some, None, IsSome, List, [], ◌∷◌, ◌++◌, length, count_by, set, if◌then◌else◌, refl, ap, sym, ◌∙◌, subst, inl, inr}
 use Rattle.std.proofs.lemmas.Bool.{cases_eq}
 use Rattle.std.proofs.lemmas.List.{length-set}
@@ -6,9 +6,7 @@ use Rattle.std.proofs.lemmas.Option.{get_or_from_slice_get, slice_get_within}
 use Rattle.std.specs.List.{slice_get}
 use Rattle.blink_batch.specs.declared.Answer.{Answer}
 use Rattle.blink_batch.specs.declared.entry.Entry.{Entry}
-use Rattle.blink_batch.specs.Batch.{FitsWords}
-use Rattle.blink_batch.specs.Operation.{map_after_all}
-use Rattle.blink_batch.specs.Order.{operations_at, part_of}
+use Rattle.blink_batch.specs.{FitsWords, map_after_all, operations_at, part_of}
 use Rattle.blink_batch.proofs.Offered.{fresh_from_part, IsAscending-map_after_all}
 use Rattle.blink_store.proofs.Offered.{slice_get-set_other, slice_get-set_same}
 use Rattle.blink_machine.specs.declared.machine.State.{State}
@@ -18,9 +16,7 @@ use Rattle.blink_steps.specs.declared.seat.Working.{Working}
 use Rattle.blink_machine.specs.declared.step.Kind.{Kind}
 use Rattle.blink_machine.specs.declared.step.Step.TheVariants.{Moved}
 use Rattle.blink_steps.specs.Acts.{PlainShared, Acts}
-use Rattle.blink_machine.specs.Kinds.{is_page_read}
-use Rattle.blink_machine.specs.Machine.{PlainMachine}
-use Rattle.blink_machine.specs.TreeState.{Steps, goes_on}
+use Rattle.blink_machine.specs.{is_page_read, PlainMachine, Steps, goes_on, Decides, deciding, other}
 use Rattle.blink_steps.specs.Run.{PlainRun, IsNextOf, moves, waits, idles, after_move, tree_state_of, seat_after}
 use Rattle.blink_steps.specs.Outcome.{one_more_at}
 use Rattle.blink_steps.specs.RunInvariant.{HasDecided, WorkingInvariant, IdleInvariant, IsShaped, RunInvariant, WorkerInvariant, decided_below, is_answered}
@@ -29,7 +25,7 @@ use Rattle.blink_steps.proofs.runs.DecidedAfterMove.{as_many_more, as_many_stay,
 use Rattle.blink_steps.proofs.runs.OperationOfTurn.{machines_of, move_is_step, next_has_seat, next_is_busy, next_is_its}
 use Rattle.blink_steps.proofs.runs.RunStatements.{TurnKeepsRunInvariant}
 use Rattle.blink_steps.proofs.runs.MovesKeepStore.{move_keeps_lawful}
-use Rattle.blink_machine.specs.StepLaw.{Decides, deciding, other, StepLaw}
+use Rattle.blink_machine.specs.StepLaw.{StepLaw}
 use Rattle.blink_machine.proofs.operation.OperationStaysItself.{StaysItself, step_stays}
 
 -- an operation goes on unless it has ended
@@ -189,7 +185,7 @@ module _ (laws : StepLaw) (entries : List Entry) (old : PlainRun) (worker place 
         other_seat number differs seat.working seat.next (invariant.seats number seat was)
   ]
 
-  -- a move leaves the run sound
+  -- a move keeps the invariant of runs
   pub move_keeps : RunInvariant entries moved
   move_keeps = record {
     invariant = laws.step_keeps_invariant (tree_state_of old) (tree_state_of moved) worker m after (Moved kind) invariant.invariant fits (next_is_its old worker place m next is_next) steps;
@@ -200,7 +196,7 @@ module _ (laws : StepLaw) (entries : List Entry) (old : PlainRun) (worker place 
     seats = workers_have_invariant;
   }
 
--- a turn leaves a sound run sound
+-- a turn keeps the invariant of runs
 pub turn_keeps_run_invariant : StepLaw → TurnKeepsRunInvariant
 turn_keeps_run_invariant laws entries old new taken invariant (moves next kind is_next step acts is) =
     subst (RunInvariant entries) (sym is) (move_keeps laws entries old taken.worker taken.place taken.before taken.after next kind new.shared invariant is_next acts)

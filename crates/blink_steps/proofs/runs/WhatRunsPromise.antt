@@ -1,17 +1,14 @@
 -- What a run promises of its writes, of its answers, and of each key that is present.
 use Rattle.std.proofs.Common.{◌≡◌, ℕ, ◌+◌, ◌<◌, inl, inr, Some, List, sym, ap, ◌∙◌, subst, arith}
 use Rattle.std.proofs.lemmas.Bool.{cases_lt}
-use Rattle.blink_batch.specs.Operation.{map_after_all}
-use Rattle.blink_batch.specs.Order.{operations_at}
-use Rattle.blink_page.specs.Entries.{value_at}
-use Rattle.blink_page.specs.Rising.{IsRising}
+use Rattle.blink_batch.specs.{map_after_all, operations_at}
+use Rattle.blink_page.specs.{value_at, IsRising}
 use Rattle.blink_page.proofs.Offered.{value_at-above}
 use Rattle.blink_page.specs.declared.limits.TheConstants.{GREATEST_KEY}
 use Rattle.blink_rest.proofs.Offered.{entries_ascend}
 use Rattle.blink_machine.specs.declared.step.Step.{Step}
-use Rattle.blink_machine.specs.TreeState.{Steps}
+use Rattle.blink_machine.specs.{Steps, pairs_of}
 use Rattle.blink_steps.specs.Run.{tree_state_of}
-use Rattle.blink_machine.specs.TreeMap.{pairs_of}
 use Rattle.blink_machine.specs.StepLaw.{StepLaw}
 use Rattle.blink_machine.proofs.tree.EntriesAsMap.{value_at-pairs_of}
 use Rattle.blink_machine.proofs.tree_state.EntriesThatATreeKeeps.{pointer_in_leaf}

@@ -4,12 +4,12 @@ use Rattle.std.proofs.lemmas.List.{length-map}
 use Rattle.blink_batch.specs.declared.Answer.{Answer}
 use Rattle.blink_batch.specs.declared.Entry.{Entry}
 use Rattle.blink_batch.proofs.Offered.{IsAscending-map_after_all, one_thread_answers, one_thread_map}
-use Rattle.blink_store.specs.Store.{PlainStore}
+use Rattle.blink_store.specs.{PlainStore}
 use Rattle.blink_steps.specs.Headline.{IsOneThread}
 use Rattle.blink_steps.specs.Promises.{IsLawfullyCut}
 use Rattle.blink_steps.specs.Run.{PlainRun, tree_state_of}
 use Rattle.blink_steps.specs.RunInvariant.{RunInvariant}
-use Rattle.blink_machine.specs.TreeMap.{Keeps, IsMapOf}
+use Rattle.blink_machine.specs.{Keeps, IsMapOf}
 use Rattle.blink_steps.specs.World.{HasEnded}
 use Rattle.blink_steps.proofs.runs.RunStatements.{RunLaws}
 

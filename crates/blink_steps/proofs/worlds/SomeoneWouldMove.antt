@@ -4,14 +4,14 @@ use Rattle.std.proofs.lemmas.Option.{slice_get-get_or, slice_get_within}
 use Rattle.std.specs.List.{slice_get}
 use Rattle.std.specs.Prelude.{IfSome, IsNone, IsSome}
 use Rattle.blink_batch.specs.declared.Entry.{Entry}
-use Rattle.blink_store.specs.Latches.{holder_of}
+use Rattle.blink_store.specs.{holder_of}
 use Rattle.blink_machine.specs.declared.machine.Need.{Need}
 use Rattle.blink_machine.specs.declared.machine.Need.TheVariants.{ReadPrime, ReadPage, Latch, WriteNew, WritePage, WritePrime, Unlatch, End}
 use Rattle.blink_steps.specs.declared.seat.WorkerState.{WorkerState}
 use Rattle.blink_steps.specs.declared.seat.Working.{Working}
 use Rattle.blink_machine.specs.declared.step.Step.TheVariants.{Waited}
 use Rattle.blink_steps.specs.Acts.{ActsOn}
-use Rattle.blink_machine.specs.Machine.{PlainMachine, need_at}
+use Rattle.blink_machine.specs.{PlainMachine, need_at}
 use Rattle.blink_steps.specs.Pick.{IsFirstMover, WouldMove}
 use Rattle.blink_steps.specs.Run.{PlainRun, busy_seat, idle_seat, machine_of_seat, tree_state_of}
 use Rattle.blink_steps.specs.RunInvariant.{RunInvariant}

@@ -7,7 +7,7 @@ use Rattle.blink_steps.specs.declared.seat.WorkerState.{WorkerState}
 use Rattle.blink_steps.specs.declared.seat.Working.{Working}
 use Rattle.blink_machine.specs.declared.step.Step.TheVariants.{Waited}
 use Rattle.blink_steps.specs.Acts.{Acts}
-use Rattle.blink_machine.specs.Machine.{PlainMachine, fresh}
+use Rattle.blink_machine.specs.{PlainMachine, fresh}
 use Rattle.blink_steps.specs.Pick.{IsIdleWorker, WouldWait}
 use Rattle.blink_steps.specs.Run.{PlainRun, IsNextOf, idle_seat, busy_seat}
 use Rattle.blink_steps.proofs.runs.TurnFromItsParts.{seat_with}

@@ -1,12 +1,12 @@
 -- What is promised of every world, and that every worker's turn can be taken.
 use Rattle.std.proofs.Common.{ℕ, ◌+◌, ◌<◌, ◌^◌, List, Option, length, subst}
 use Rattle.blink_batch.specs.declared.Op.{Op}
-use Rattle.blink_batch.specs.Cut.{Assignment}
+use Rattle.blink_batch.specs.{Assignment}
 use Rattle.blink_steps.specs.Headline.{NoKeyIsLost}
 use Rattle.blink_batch.specs.declared.Entry.{Entry}
-use Rattle.blink_store.specs.Store.{PlainStore}
+use Rattle.blink_store.specs.{PlainStore}
 use Rattle.blink_steps.specs.StepBounds.{WithinStepBound}
-use Rattle.blink_machine.specs.Machine.{PlainMachine}
+use Rattle.blink_machine.specs.{PlainMachine}
 use Rattle.blink_steps.specs.Promises.{KeepsItsPromises}
 use Rattle.blink_steps.specs.Run.{IsNextOf}
 use Rattle.blink_steps.specs.RunInvariant.{IsShaped, RunInvariant, CanTakeTurn}

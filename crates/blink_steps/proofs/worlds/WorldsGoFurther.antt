@@ -7,21 +7,19 @@ use Rattle.std.proofs.lemmas.List.Sums.{count_by-le-length, sum_by-cons}
 use Rattle.blink_batch.specs.declared.Answer.{Answer}
 use Rattle.blink_batch.specs.declared.Entry.{Entry}
 use Rattle.blink_batch.specs.declared.Op.{Op}
-use Rattle.blink_batch.specs.Cut.{Assignment}
-use Rattle.blink_store.specs.Store.{PlainStore}
+use Rattle.blink_batch.specs.{Assignment, operations_at}
+use Rattle.blink_store.specs.{PlainStore}
 use Rattle.blink_steps.specs.declared.error.StepError.{StepError}
 use Rattle.blink_steps.specs.declared.error.StepError.TheVariants.{OutOfMemory, NoWorker, TooLarge}
 use Rattle.blink_machine.specs.declared.step.Step.{Step}
 use Rattle.blink_steps.specs.Counts.{page_reads_in, moves_in}
-use Rattle.blink_machine.specs.Machine.{PlainMachine}
+use Rattle.blink_machine.specs.{PlainMachine, IsMapOf}
 use Rattle.blink_steps.specs.Decided.{map_now}
 use Rattle.blink_steps.specs.Headline.{ReachesPresent}
 use Rattle.blink_steps.specs.Promises.{KeepsItsPromises}
-use Rattle.blink_machine.specs.TreeMap.{IsMapOf}
 use Rattle.blink_steps.specs.Run.{PlainRun, Event, AppliesEvent, IsHistory, IsOpeningRun, IsNextOf, idle_seat, busy_seat}
 use Rattle.blink_steps.specs.RunInvariant.{is_answered, IsShaped, RunInvariant, CanTakeTurn}
 use Rattle.blink_steps.specs.World.{PlainWorld, IsFirstNoWorker, IsReplay, IsReplayRefusal, IsStepRefusal, IsWorldOf, MayBegin, TakesStep, HasTurnMore, SameBatch, OnEachTurn, AfterEachTurn, WritesItsOwn}
-use Rattle.blink_batch.specs.Order.{operations_at}
 use Rattle.blink_batch.proofs.Offered.{IsAscending-map_after_all, next_place_is}
 use Rattle.blink_steps.proofs.worlds.OneThread.{one_thread}
 use Rattle.blink_steps.proofs.runs.RunStatements.{CountsAreOf, RunLaws}

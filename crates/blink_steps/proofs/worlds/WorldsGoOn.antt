@@ -7,9 +7,9 @@ use Rattle.std.proofs.lemmas.List.{append_assoc, append-nil, map-append, reverse
 use Rattle.std.proofs.lemmas.List.Sums.{sum_by-le, sum_by-set}
 use Rattle.std.proofs.lemmas.Option.{get_or_from_slice_get}
 use Rattle.blink_batch.specs.declared.Op.{Op}
-use Rattle.blink_batch.specs.Cut.{Assignment}
+use Rattle.blink_batch.specs.{Assignment}
 use Rattle.blink_page.specs.declared.limits.TheConstants.{MAX_PAGE}
-use Rattle.blink_store.specs.Store.{PlainStore}
+use Rattle.blink_store.specs.{PlainStore}
 use Rattle.blink_machine.specs.declared.machine.Debt.{Debt}
 use Rattle.blink_machine.specs.declared.machine.Need.{Need}
 use Rattle.blink_machine.specs.declared.machine.Need.TheVariants.{ReadPrime, ReadPage, Latch, WriteNew, WritePage, WritePrime, Unlatch, End}
@@ -19,13 +19,11 @@ use Rattle.blink_machine.specs.declared.step.Step.{Step}
 use Rattle.blink_machine.specs.declared.step.Step.TheVariants.{Moved, Waited}
 use Rattle.blink_steps.specs.Acts.{PlainShared, Acts, ActsOn}
 use Rattle.blink_steps.specs.Counts.{moves_in}
-use Rattle.blink_machine.specs.Kinds.{has_moved}
+use Rattle.blink_machine.specs.{has_moved, PlainMachine, need_at, SeesPrime, WaitsForLevel}
 use Rattle.blink_steps.specs.StepBounds.{steps_at_most_with}
 use Rattle.blink_steps.specs.Outcome.{one_more_at}
-use Rattle.blink_machine.specs.Machine.{PlainMachine, need_at}
 use Rattle.blink_steps.specs.Pick.{GoesOnPicked, IsFirstMover, WouldMove, WouldWait, steps_at_most, steps_left}
 use Rattle.blink_steps.specs.Run.{PlainRun, Event, AppliesEvent, IsHistory, IsNextOf, IsOpeningRun, busy_seat, idle_seat}
-use Rattle.blink_machine.specs.Table.{SeesPrime, WaitsForLevel}
 use Rattle.blink_steps.specs.World.{PlainWorld, IsWorldOf, MayBegin, SameBatch, TakesStep}
 use Rattle.blink_steps.proofs.worlds.WorkersBySeat.{idle_never_waits, only_next}
 use Rattle.blink_steps.proofs.runs.TurnFromItsParts.{waits_unchanged}

@@ -1,4 +1,4 @@
-use Rattle.blink_store.specs.Store.{page_of}
+use Rattle.blink_store.specs.{page_of}
 use Rattle.blink_index.proofs.WayDown.{IsOnTheWay, level_at}
 use Rattle.blink_index.proofs.down.leaf_for.Given as goal
 

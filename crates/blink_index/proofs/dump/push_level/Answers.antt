@@ -1,5 +1,5 @@
 use Rattle.std.proofs.Common.{◌≡◌, ◌++◌, ℕ, List, string_bytes, append_assoc, ap, sym, ◌∙◌}
-use Rattle.blink_page.specs.Page.{PlainPage}
+use Rattle.blink_page.specs.{PlainPage}
 use Rattle.blink_rest.specs.Chain.{Cell, cell}
 use Rattle.blink_index.specs.Dump.{line_of, level_text}
 use Rattle.blink_index.specs.Index.{cells_of}

@@ -1,5 +1,5 @@
 use Rattle.std.proofs.Common.{◌≡◌, ◌++◌, ℕ, List, [], length, eqb-true, ap, sym, ◌∙◌}
-use Rattle.blink_page.specs.Page.{PlainPage}
+use Rattle.blink_page.specs.{PlainPage}
 use Rattle.blink_index.specs.Scan.{entries_after}
 use Rattle.blink_index.proofs.WhereLinksLead.{link_page, leads_on, empty_of}
 use Rattle.blink_index.proofs.scan.next_leaf.Goals as goal

@@ -1,5 +1,5 @@
 use Rattle.std.proofs.Common.{◌≡◌, ◌+◌, drop}
-use Rattle.blink_page.specs.Place.{place_of}
+use Rattle.blink_page.specs.{place_of}
 use Rattle.blink_index.proofs.scan.not_below.Given as goal
 
 -- the entries passed so far stand before the place

@@ -1,7 +1,7 @@
 use Rattle.std.proofs.Common.{◌≡◌, Some, subst, sym, rules, Option, List}
 use Rattle.clap.specs.Words.{Row, Text, found_of, rows_of, subcommand_rows_of}
 use Rattle.std.specs.Prelude.{IfOk, MatchOption}
-use Rattle.blink_settings.specs.Settings.{PlainSettings}
+use Rattle.blink_settings.specs.{PlainSettings}
 use Rattle.blink_line.specs.declared.line.Turns.{Turns}
 use Rattle.blink_line.specs.Line.{SubcommandShows}
 use Rattle.blink_line.proofs.line.asked_to_show.Goals as goal

@@ -1,5 +1,5 @@
 use Rattle.std.proofs.Common.{◌≡◌, ℕ, suc, length, subst, arith}
-use Rattle.blink_store.specs.Store.{WritesPage}
+use Rattle.blink_store.specs.{WritesPage}
 use Rattle.blink_store.proofs.Offered.{pages-add}
 use Rattle.blink_live.proofs.close.add.Goals as goal
 

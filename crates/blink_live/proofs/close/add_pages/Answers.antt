@@ -1,8 +1,7 @@
 use Rattle.std.proofs.Common.{◌≡◌, ◌+◌, ◌≤◌, ◌++◌, ℕ, [], ◌∷◌, length, ap, sym, subst, ◌∙◌, arith}
 use Rattle.std.specs.Prelude.{IfSome}
 use Rattle.std.specs.Mem.Slots.{slots_items}
-use Rattle.blink_page.specs.Limits.{IsPageNumber}
-use Rattle.blink_page.specs.Page.{PlainPage}
+use Rattle.blink_page.specs.{IsPageNumber, PlainPage}
 use Rattle.blink_page.specs.declared.limits.TheConstants.{MAX_FAN}
 use Rattle.blink_live.specs.Renumbered.{child_count, page_anew}
 use Rattle.blink_live.proofs.gathered.PagesAreAdded.{found_left, left_none, left_on, page_to_come}

@@ -1,8 +1,8 @@
 use Rattle.std.proofs.Common.{◌≡◌, ◌+◌, ◌<◌, ◌≤◌, ◌++◌, ℕ, Some, List, [], ◌∷◌, suc, length, drop, get_or, ap, sym, subst, ◌∙◌, arith, length-append}
 use Rattle.std.specs.Mem.Slots.{slots_items}
 use Rattle.blink_page.specs.declared.limits.TheConstants.{MAX_PAGE}
-use Rattle.blink_rest.specs.Rest.{AreLevels}
-use Rattle.blink_rows.specs.Counts.{AreBounded}
+use Rattle.blink_rest.specs.{AreLevels}
+use Rattle.blink_rows.specs.{AreBounded}
 use Rattle.blink_live.specs.Gathered.{HasTheEntries, IsNumberedInOrder}
 use Rattle.blink_live.specs.ToCome.{AddsPages, HasLeavesToCome, HasPagesToCome}
 use Rattle.blink_live.proofs.gathered.StoreIsTheTree.{first_of_prime, next_of_prime, is_the_tree}

@@ -1,7 +1,7 @@
 use Rattle.std.proofs.Common.{◌≡◌, List, drop, length}
 use Rattle.std.specs.Mem.Slots.{slots_items}
-use Rattle.blink_rest.specs.Chain.{Cell, Pages}
-use Rattle.blink_rest.specs.Rest.{AreLevels}
+use Rattle.blink_rest.specs.{Pages, AreLevels}
+use Rattle.blink_rest.specs.Chain.{Cell}
 use Rattle.blink_live.specs.Words.{KeepsPages}
 use Rattle.blink_live.proofs.gathered.LevelsAreAdded.{LevelsLeft}
 use Rattle.blink_live.proofs.close.gather.Given as goal

@@ -1,6 +1,6 @@
 use Rattle.std.proofs.Common.{subst, arith}
 use Rattle.std.specs.Mem.Slots.{slots_items}
-use Rattle.blink_page.specs.Page.{IsLawfulPage}
+use Rattle.blink_page.specs.{IsLawfulPage}
 use Rattle.blink_page.specs.declared.limits.TheConstants.{MAX_FAN}
 use Rattle.blink_live.specs.Words.{IsRowNumber}
 use Rattle.blink_live.proofs.gathered.RowIsOfKeptPage.{word_there, row_of_kept, one_page_kept}

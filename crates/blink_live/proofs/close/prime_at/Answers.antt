@@ -1,6 +1,6 @@
 use Rattle.std.proofs.Common.{sym}
 use Rattle.std.specs.Mem.Slots.{slots_items}
-use Rattle.blink_rows.specs.Row.{prime_words, IsPrimeRow}
+use Rattle.blink_rows.specs.{prime_words, IsPrimeRow}
 use Rattle.blink_rows.proofs.Offered.{row_has_one_prime}
 use Rattle.blink_live.proofs.gathered.RowIsOfKeptPage.{word_there, row_of_content}
 use Rattle.blink_live.proofs.close.prime_at.Goals as goal

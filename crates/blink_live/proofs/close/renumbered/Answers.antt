@@ -1,6 +1,6 @@
 use Rattle.std.proofs.Common.{◌≡◌, ap, sym, subst, arith, ◌∙◌}
 use Rattle.blink_page.specs.declared.limits.TheConstants.{MAX_FAN}
-use Rattle.blink_page.specs.Page.{PlainPage, IsLawfulPage}
+use Rattle.blink_page.specs.{PlainPage, IsLawfulPage}
 use Rattle.blink_live.specs.Renumbered.{entries_anew, link_anew, page_anew}
 use Rattle.blink_live.proofs.gathered.RenumberedPageIsLawful.{lawful-page_anew}
 use Rattle.blink_live.proofs.gathered.ChildrenAreWritten.{inner_entries, leaf_entries}

@@ -1,8 +1,8 @@
 use Rattle.std.proofs.Common.{◌≡◌, ◌<◌, ℕ, Option, Some, None, [], ◌∷◌, length, set, refl, ap, sym, subst, ◌∙◌, arith}
 use Rattle.std.specs.Prelude.{slice_get}
 use Rattle.std.specs.Mem.Slots.{slots_items}
-use Rattle.blink_page.specs.Page.{PlainPage, empty_leaf}
-use Rattle.blink_store.specs.Store.{PlainStore}
+use Rattle.blink_page.specs.{PlainPage, empty_leaf}
+use Rattle.blink_store.specs.{PlainStore}
 use Rattle.blink_store.proofs.Offered.{pages-write}
 use Rattle.blink_live.specs.ToCome.{AreToCome, HasPagesToCome}
 use Rattle.blink_live.specs.Renumbered.{page_anew}

@@ -2,9 +2,9 @@ use Rattle.std.proofs.Common.{◌≡◌, ℕ, List, subst, Result, Ok, Err}
 use Rattle.std.specs.Prelude.{IfOk}
 use Rattle.std.specs.Mem.Slots.{slots_items}
 use Rattle.blink_batch.specs.declared.Entry.{Entry}
-use Rattle.blink_rows.specs.Counts.{PlainCounts}
-use Rattle.blink_machine.specs.TreeMap.{pairs_of, IsMapOf}
-use Rattle.blink_store.specs.Store.{PlainStore}
+use Rattle.blink_rows.specs.{PlainCounts}
+use Rattle.blink_machine.specs.{pairs_of, IsMapOf}
+use Rattle.blink_store.specs.{PlainStore}
 use Rattle.blink_live.specs.Gathered.{HasTheEntries}
 use Rattle.blink_live.specs.Merge.{KeepsPrime, KeepsTree}
 use Rattle.blink_live.proofs.close.tree_at_end.Goals as goal

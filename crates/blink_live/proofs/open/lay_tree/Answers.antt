@@ -1,5 +1,5 @@
 use Rattle.std.proofs.Common.{◌≡◌, ℕ, List, length, arith, subst}
-use Rattle.blink_rows.specs.Row.{IsPrimeRow}
+use Rattle.blink_rows.specs.{IsPrimeRow}
 use Rattle.blink_live.proofs.opened.RowsAreLaid.{IsLaidTo, prime_is_laid, page_is_laid, all_is_laid}
 use Rattle.blink_live.proofs.open.lay_tree.Goals as goal
 

@@ -1,4 +1,4 @@
-use Rattle.blink_live.specs.Handles.{IsPassOf}
+use Rattle.blink_live.specs.{IsPassOf}
 use Rattle.blink_live_tests.proofs.glancing.insert_upwards.Given as goal
 
 abbrev pub invariant-loop-key : goal.invariant-loop-key

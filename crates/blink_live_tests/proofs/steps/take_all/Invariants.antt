@@ -1,4 +1,4 @@
-use Rattle.blink_live.specs.Handles.{IsPassOf}
+use Rattle.blink_live.specs.{IsPassOf}
 use Rattle.blink_live_tests.proofs.steps.take_all.Given as goal
 
 abbrev pub invariant-loop-step : goal.invariant-loop-step

@@ -1,5 +1,5 @@
 use Rattle.std.proofs.Common.{◌≡◌, ◌+◌, ◌-◌, ◌<◌, ℕ, Option, List, MatchOption, length, get_or, eqb-true, eq-eqb, ap, sym, subst, ◌∙◌, arith}
-use Rattle.blink_store.specs.Store.{page_of}
+use Rattle.blink_store.specs.{page_of}
 use Rattle.blink_rest.specs.Walk.{HasNoChain, HasChain, HasNoNamedChain, HasNamedChain}
 use Rattle.blink_rest.proofs.WalkAlongLevel.{store_numbered}
 use Rattle.blink_rest.proofs.WalkDownLevels.{LevelsFrom, levels_top, levels_more, levels_count, levels_whole, rest_whole, rest_named, top_one, top_other}

@@ -1,5 +1,5 @@
 use Rattle.std.proofs.Common.{◌+◌, ◌≤◌, length}
-use Rattle.blink_store.specs.Store.{page_of}
+use Rattle.blink_store.specs.{page_of}
 use Rattle.blink_rest.proofs.WalkDownLevels.{LevelsFrom}
 use Rattle.blink_rest.proofs.decide.at_rest.Given as goal
 

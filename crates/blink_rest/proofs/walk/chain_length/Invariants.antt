@@ -1,7 +1,7 @@
 use Rattle.std.proofs.Common.{◌+◌, ◌-◌}
-use Rattle.blink_page.specs.Rising.{least_above}
+use Rattle.blink_page.specs.{least_above}
 use Rattle.blink_page.specs.declared.limits.TheConstants.{GREATEST_KEY}
-use Rattle.blink_store.specs.Store.{page_of}
+use Rattle.blink_store.specs.{page_of}
 use Rattle.blink_rest.proofs.WalkAlongLevel.{Walked}
 use Rattle.blink_rest.proofs.walk.chain_length.Given as goal
 

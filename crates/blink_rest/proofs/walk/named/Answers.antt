@@ -1,6 +1,6 @@
 use Rattle.std.proofs.Common.{◌≡◌, ℕ, Option, take, ap, sym, subst, ◌∙◌, arith}
-use Rattle.blink_page.specs.Page.{PlainPage}
-use Rattle.blink_store.specs.Store.{page_of}
+use Rattle.blink_page.specs.{PlainPage}
+use Rattle.blink_store.specs.{page_of}
 use Rattle.blink_store.proofs.Offered.{has_page}
 use Rattle.blink_rest.specs.Walk.{NamesFirst}
 use Rattle.blink_rest.proofs.ComparedLevels.{names_nothing, names_more, names_other, tail_there}

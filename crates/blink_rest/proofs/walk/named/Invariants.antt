@@ -1,5 +1,5 @@
 use Rattle.std.proofs.Common.{take}
-use Rattle.blink_store.specs.Store.{page_of}
+use Rattle.blink_store.specs.{page_of}
 use Rattle.blink_rest.specs.Walk.{NamesFirst}
 use Rattle.blink_rest.proofs.walk.named.Given as goal
 

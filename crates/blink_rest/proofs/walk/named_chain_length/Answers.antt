@@ -1,4 +1,4 @@
-use Rattle.blink_store.specs.Store.{page_of}
+use Rattle.blink_store.specs.{page_of}
 use Rattle.blink_rest.proofs.ComparedLevels.{named_chain, no_named_chain}
 use Rattle.blink_rest.proofs.walk.named_chain_length.Goals as goal
 

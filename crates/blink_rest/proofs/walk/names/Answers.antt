@@ -1,6 +1,6 @@
 use Rattle.std.proofs.Common.{◌≡◌, ℕ, Option, Some, List, ap, subst, ◌∙◌}
-use Rattle.blink_page.specs.Page.{PlainPage}
-use Rattle.blink_store.specs.Store.{page_of}
+use Rattle.blink_page.specs.{PlainPage}
+use Rattle.blink_store.specs.{page_of}
 use Rattle.blink_store.proofs.Offered.{has_page}
 use Rattle.blink_rest.specs.Walk.{NamesFirst, NamesNone}
 use Rattle.blink_rest.proofs.ComparedLevels.{Compared, compared_none, compared_more, compared_other, over, tail_there, fewer_left}

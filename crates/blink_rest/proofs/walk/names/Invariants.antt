@@ -1,4 +1,4 @@
-use Rattle.blink_store.specs.Store.{page_of}
+use Rattle.blink_store.specs.{page_of}
 use Rattle.blink_rest.proofs.ComparedLevels.{Compared, keys_left}
 use Rattle.blink_rest.proofs.walk.names.Given as goal
 

@@ -1,5 +1,5 @@
 use Rattle.std.proofs.Common.{arith, rules}
-use Rattle.blink_page.specs.Page.{PlainPage}
+use Rattle.blink_page.specs.{PlainPage}
 use Rattle.blink_rows.proofs.LawfulParts.{children_from_parts, last_key_of_children}
 use Rattle.blink_rows.proofs.lawful.is_lawful.Goals as goal
 

@@ -1,5 +1,5 @@
 use Rattle.std.proofs.Common.{◌+◌, ◌≤◌, ◌↔◌, drop}
-use Rattle.blink_page.specs.Rising.{least_above, IsRising}
+use Rattle.blink_page.specs.{least_above, IsRising}
 use Rattle.blink_rows.proofs.lawful.keys_rise.Given as goal
 
 -- all keys rise exactly where those that are left do, from above the last one that was read

@@ -1,6 +1,6 @@
 use Rattle.std.proofs.Common.{◌≡◌, ◌*◌, length, take}
 use Rattle.blink_page.specs.declared.limits.TheConstants.{GREATEST_KEY}
-use Rattle.blink_page.specs.Entries.{ValuesWithin}
+use Rattle.blink_page.specs.{ValuesWithin}
 use Rattle.blink_rows.specs.Row.{flat}
 use Rattle.blink_rows.proofs.pages.entries_of.Given as goal
 

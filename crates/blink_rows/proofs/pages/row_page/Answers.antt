@@ -1,7 +1,7 @@
 use Rattle.std.proofs.Common.{◌≡◌, ◌+◌, ◌*◌, ◌≤◌, ◌∷◌, [], take, drop, get_or, length, true, ap, subst, sym, refl, ◌∙◌, arith}
 use Rattle.std.specs.Prelude.{unwrap_or}
 use Rattle.blink_page.specs.declared.limits.TheConstants.{MAX_FAN}
-use Rattle.blink_page.specs.Page.{IsLawfulPage}
+use Rattle.blink_page.specs.{IsLawfulPage}
 use Rattle.blink_rows.specs.declared.limits.TheConstants.{ROW_WORDS, HEAD_WORDS}
 use Rattle.blink_rows.specs.Row.{flat, flag, AreZero, IsRowOfNoPage}
 use Rattle.blink_rows.proofs.RowsOfContent.{length_behind_head, row_of_parts, first_six}

@@ -1,5 +1,5 @@
 use Rattle.std.proofs.Common.{◌≡◌, take, All}
-use Rattle.blink_page.specs.Limits.{IsPageNumber}
+use Rattle.blink_page.specs.{IsPageNumber}
 use Rattle.blink_rows.proofs.primes.page_numbers.Given as goal
 
 -- the pages that have been read are the words up to here

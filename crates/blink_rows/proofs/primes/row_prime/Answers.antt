@@ -1,5 +1,5 @@
 use Rattle.std.proofs.Common.{◌≡◌, ℕ, ◌+◌, ◌<◌, ◌≤◌, ◌∷◌, [], take, drop, get_or, length, All, true, ap, subst, sym, refl, ◌∙◌, arith}
-use Rattle.blink_page.specs.Limits.{IsPageNumber}
+use Rattle.blink_page.specs.{IsPageNumber}
 use Rattle.blink_rows.specs.declared.limits.TheConstants.{ROW_WORDS, HEAD_WORDS}
 use Rattle.blink_rows.specs.Row.{AreZero, IsRowOfNoPrime}
 use Rattle.blink_rows.proofs.RowsOfContent.{length_behind_head, row_of_parts, first_six}

@@ -1,4 +1,4 @@
-use Rattle.blink_index.specs.Index.{map_of}
+use Rattle.blink_index.specs.{map_of}
 use Rattle.blink_run.proofs.LanesTogether.{given_answers, merged_entries, passes_are_its}
 use Rattle.blink_run.proofs.live.run_live.Goals as goal
 

@@ -1,8 +1,7 @@
 use Rattle.std.proofs.Common.{◌≡◌, ◌<◌, ◌∙◌, ◌++◌, ℕ, List, All, ap, sym, subst, string_bytes}
 use Rattle.blink_batch.specs.declared.Answer.{Answer}
-use Rattle.blink_batch.specs.Cut.{Assignment}
-use Rattle.blink_batch.specs.Text.{text_of}
-use Rattle.blink_index.specs.Index.{map_of}
+use Rattle.blink_batch.specs.{Assignment, text_of}
+use Rattle.blink_index.specs.{map_of}
 use Rattle.blink_run.proofs.ReplayOfBatch.{at_rest_before, replay_done, runs_batch}
 use Rattle.blink_locked.proofs.Offered.{IsDone, one_thread_answers, one_thread_map}
 use Rattle.blink_run.proofs.replay.replay_batch.Goals as goal

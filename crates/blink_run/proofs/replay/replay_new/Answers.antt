@@ -1,6 +1,6 @@
 use Rattle.std.proofs.Common.{◌<◌, ℕ, All, subst, sym, string_bytes}
 use Rattle.std.proofs.lemmas.Result.{err_from_is_err_and}
-use Rattle.blink_store.specs.Store.{PlainStore}
+use Rattle.blink_store.specs.{PlainStore}
 use Rattle.blink_run.specs.ServedReplay.{TellsTooLarge, TellsParts}
 use Rattle.blink_run.proofs.ReplayOfParts.{are_texts}
 use Rattle.blink_run.proofs.replay.replay_new.Goals as goal

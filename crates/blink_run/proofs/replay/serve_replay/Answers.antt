@@ -1,5 +1,5 @@
 use Rattle.std.proofs.Common.{◌≡◌, ◌<◌, ℕ, All, Result, Err, IfErr, ap, subst}
-use Rattle.blink_steps.specs.World.{IsFirstNoWorker}
+use Rattle.blink_steps.specs.{IsFirstNoWorker}
 use Rattle.blink_run.specs.ServedReplay.{TellsWorkersFault}
 use Rattle.blink_settings.specs.declared.error.ServeError.{ServeError}
 use Rattle.blink_settings.specs.declared.error.ServeError.TheVariants as serve

@@ -1,5 +1,5 @@
 use Rattle.std.proofs.Common.{IfErr, subst, sym}
-use Rattle.blink_locked.specs.Run.{MayRefuse}
+use Rattle.blink_locked.specs.{MayRefuse}
 use Rattle.blink_settings.specs.declared.settings.Driver.{Driver}
 use Rattle.blink_run.proofs.run.run_batch.Goals as goal
 

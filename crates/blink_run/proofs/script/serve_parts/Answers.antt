@@ -2,7 +2,7 @@ use Rattle.std.proofs.Common.{◌≡◌, ◌∙◌, ◌++◌, ◌∷◌, ◌+◌
 use Rattle.std.proofs.lemmas.List.{take_more}
 use Rattle.std.proofs.lemmas.Result.{err_from_is_err_and}
 use Rattle.blink_batch.specs.declared.Part.{Part}
-use Rattle.blink_index.specs.Index.{map_of}
+use Rattle.blink_index.specs.{map_of}
 use Rattle.blink_run.specs.BySettings.{RunsPartsBy}
 use Rattle.blink_run.specs.TrackedWriter.{nothing}
 use Rattle.blink_run.specs.Served.{is_batch}

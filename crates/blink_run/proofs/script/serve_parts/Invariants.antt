@@ -1,5 +1,5 @@
 use Rattle.std.proofs.Common.{take}
-use Rattle.blink_index.specs.Index.{map_of}
+use Rattle.blink_index.specs.{map_of}
 use Rattle.blink_run.specs.BySettings.{RunsPartsBy}
 use Rattle.blink_run.proofs.PartsAreServed.{HasServed}
 use Rattle.blink_run.proofs.script.serve_parts.Given as goal

@@ -2,7 +2,7 @@ use Rattle.std.proofs.Common.{◌∙◌, ◌++◌, List, ℕ, get_or, take, stri
 use Rattle.std.proofs.lemmas.List.{flat_map_more, take_all, take_more}
 use Rattle.blink_batch.specs.declared.Answer.{Answer}
 use Rattle.blink_batch.specs.declared.Answer.TheVariants.{Found}
-use Rattle.blink_batch.specs.Text.{line_of, text_of}
+use Rattle.blink_batch.specs.{line_of, text_of}
 use Rattle.blink_run.proofs.text.push_answers.Goals as goal
 
 -- no line is added yet

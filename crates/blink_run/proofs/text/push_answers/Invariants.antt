@@ -1,5 +1,5 @@
 use Rattle.std.proofs.Common.{◌≡◌, ◌++◌, take, string_bytes}
-use Rattle.blink_batch.specs.Text.{text_of}
+use Rattle.blink_batch.specs.{text_of}
 use Rattle.blink_run.proofs.text.push_answers.Given as goal
 
 -- the lines of the answers so far are added

@@ -1,5 +1,5 @@
 use Rattle.std.proofs.Common.{◌∙◌, ◌+◌, ℕ, List, length, ap}
-use Rattle.blink_batch.specs.Ranges.{lanes_by_ranges}
+use Rattle.blink_batch.specs.{lanes_by_ranges}
 use Rattle.blink_settings.proofs.settings.by_even_ranges.Goals as goal
 
 pub returns-in-Ok-clause-workers : goal.returns-in-Ok-clause-workers

@@ -1,5 +1,5 @@
 use Rattle.std.proofs.Common.{◌↔◌, IsTrue, rules}
-use Rattle.blink_steps.specs.Pick.{IsIdleWorker, WouldWait}
+use Rattle.blink_steps.specs.{IsIdleWorker, WouldWait}
 use Rattle.blink_show.specs.Draw.{LeavesUndecided}
 use Rattle.blink_show.proofs.WhoWouldMove.{leaver, left}
 use Rattle.blink_show.proofs.draw.would_move.Goals as goal

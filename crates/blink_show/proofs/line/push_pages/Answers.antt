@@ -1,6 +1,5 @@
 use Rattle.std.proofs.Common.{◌≡◌, ◌+◌, List, Option, Some, ℕ, subst, arith}
-use Rattle.blink_store.specs.Latches.{holder_of}
-use Rattle.blink_store.specs.Store.{PlainStore, page_of}
+use Rattle.blink_store.specs.{holder_of, PlainStore, page_of}
 use Rattle.blink_show.specs.Lines.{line_of_number}
 use Rattle.blink_show.proofs.OneMore.{line_more}
 use Rattle.blink_show.proofs.line.push_pages.Goals as goal

@@ -1,5 +1,5 @@
 use Rattle.std.proofs.Common.{◌≡◌, ℕ, List, codes, length, string_bytes}
-use Rattle.blink_steps.specs.Pick.{steps_left}
+use Rattle.blink_steps.specs.{steps_left}
 use Rattle.blink_show.specs.Draw.{IsDrawn, state_after}
 use Rattle.blink_show.specs.Keeping.{Keeps}
 use Rattle.blink_show.proofs.TurnsAreShown.{AddsTurns}

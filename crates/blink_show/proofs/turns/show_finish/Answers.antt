@@ -1,5 +1,5 @@
 use Rattle.std.proofs.Common.{codes, string_bytes}
-use Rattle.blink_steps.specs.Pick.{IsFirstMover}
+use Rattle.blink_steps.specs.{IsFirstMover}
 use Rattle.blink_show.proofs.TurnsAreShown.{none_yet, one_more}
 use Rattle.blink_show.proofs.turns.show_finish.Goals as goal
 

@@ -1,5 +1,5 @@
 use Rattle.std.proofs.Common.{string_bytes}
-use Rattle.blink_steps.specs.Pick.{steps_left}
+use Rattle.blink_steps.specs.{steps_left}
 use Rattle.blink_show.specs.Keeping.{Keeps}
 use Rattle.blink_show.specs.Turns.{AddsFinish}
 use Rattle.blink_show.proofs.turns.show_finish.Given as goal

@@ -1,7 +1,7 @@
 use Rattle.std.proofs.Common.{◌≡◌, ◌<◌, All, ℕ, List, take, get_or, ap, subst, sym, arith}
 use Rattle.std.proofs.lemmas.List.{take_all, take_more}
 use Rattle.std.proofs.lemmas.Result.{err_from_is_err_and}
-use Rattle.blink_batch.specs.Cut.{Assignment}
+use Rattle.blink_batch.specs.{Assignment}
 use Rattle.blink_steps.specs.World.{IsReplay, IsReplayRefusal, IsStepRefusal}
 use Rattle.blink_steps.proofs.worlds.WorldsGoFurther.{replay_refusal, replays_further, workers_more}
 use Rattle.blink_steps.proofs.worlds.WorldPromises.{promises, replay_loses_no_key}

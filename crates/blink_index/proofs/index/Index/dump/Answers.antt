@@ -1,5 +1,5 @@
 use Rattle.std.proofs.Common.{subst, sym}
-use Rattle.blink_rest.specs.Rest.{IsStoreAtRest}
+use Rattle.blink_rest.specs.{IsStoreAtRest}
 use Rattle.blink_index.proofs.index.Index.dump.Goals as goal
 
 pub tree_text-requires : goal.tree_text-requires

@@ -1,5 +1,5 @@
 use Rattle.std.proofs.Common.{subst}
-use Rattle.blink_rest.specs.Rest.{IsStoreAtRest}
+use Rattle.blink_rest.specs.{IsStoreAtRest}
 use Rattle.blink_index.proofs.index.Index.store.Goals as goal
 
 -- the tree is that of the index

@@ -1,6 +1,5 @@
 use Rattle.std.proofs.Common.{◌≡◌, ◌≤◌, ◌++◌, ℕ, List, drop, ap, sym, subst, ◌∙◌, arith}
-use Rattle.blink_page.specs.Page.{PlainPage}
-use Rattle.blink_page.specs.Place.{place_of}
+use Rattle.blink_page.specs.{PlainPage, place_of}
 use Rattle.blink_page.specs.declared.limits.TheConstants.{GREATEST_KEY}
 use Rattle.blink_index.specs.Scan.{IsLinkOf, at_most, entries_after, entries_to}
 use Rattle.blink_index.proofs.WhereLinksLead.{leaf_link, scan_from_leaf}

@@ -1,7 +1,6 @@
 use Rattle.std.proofs.Common.{◌≡◌, length, ap, sym, ◌∙◌, subst, arith}
-use Rattle.blink_rows.specs.Row.{prime_words}
-use Rattle.blink_machine.specs.Machine.{PlainMachine, fresh}
-use Rattle.blink_machine.specs.Table.{SeesPrime}
+use Rattle.blink_rows.specs.{prime_words}
+use Rattle.blink_machine.specs.{PlainMachine, fresh, SeesPrime}
 use Rattle.blink_live.specs.declared.view.Plan.{Plan}
 use Rattle.blink_live.specs.AtomicSteps.{Begins}
 use Rattle.blink_live.specs.Views.{SeatState}

@@ -1,6 +1,6 @@
 use Rattle.std.proofs.Common.{ℕ, ◌+◌, ◌-◌, ◌≤◌, List, sym, ap, ◌∙◌, subst}
 use Rattle.std.specs.Prelude.{Contains}
-use Rattle.blink_batch.specs.Operation.{key_of}
+use Rattle.blink_batch.specs.{key_of}
 use Rattle.blink_rows.specs.declared.span.Span.{Span}
 use Rattle.blink_live.specs.Allowed.{AreForChanges}
 use Rattle.blink_live.specs.declared.view.Share.{Share}

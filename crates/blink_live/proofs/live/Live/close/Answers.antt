@@ -2,13 +2,13 @@ use Rattle.std.proofs.Common.{◌≡◌, ℕ, zero, suc, ◌+◌, ◌<◌, ◌�
 use Rattle.std.specs.Prelude.{Contains, slice_get}
 use Rattle.std.specs.Mem.Slots.{slots_items}
 use Rattle.blink_batch.specs.declared.Entry.{Entry}
-use Rattle.blink_batch.specs.PlainMap.{pointer_of}
-use Rattle.blink_index.specs.Index.{map_of}
+use Rattle.blink_batch.specs.{pointer_of}
+use Rattle.blink_index.specs.{map_of}
 use Rattle.blink_index.proofs.Offered.{map_of-entries}
-use Rattle.blink_rows.specs.Counts.{PlainCounts}
-use Rattle.blink_machine.specs.TreeMap.{IsMapOf, pairs_of}
+use Rattle.blink_rows.specs.{PlainCounts}
+use Rattle.blink_machine.specs.{IsMapOf, pairs_of}
 use Rattle.blink_machine.proofs.Offered.{entries_from-pairs_of}
-use Rattle.blink_store.specs.Store.{PlainStore}
+use Rattle.blink_store.specs.{PlainStore}
 use Rattle.blink_live.specs.declared.live.Pass.{Pass}
 use Rattle.blink_live.specs.declared.view.Role.{Role}
 use Rattle.blink_live.specs.declared.live.Keeper.{Keeper}

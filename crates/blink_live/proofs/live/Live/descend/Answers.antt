@@ -1,7 +1,7 @@
 use Rattle.std.proofs.Common.{◌≡◌, ◌≤◌, ◌+◌, ap, sym, ◌∙◌, subst}
-use Rattle.blink_batch.specs.Operation.{key_of}
+use Rattle.blink_batch.specs.{key_of}
 use Rattle.blink_page.specs.declared.limits.TheConstants.{MAX_PAGE}
-use Rattle.blink_rows.specs.Counts.{PlainCounts}
+use Rattle.blink_rows.specs.{PlainCounts}
 use Rattle.blink_live.specs.declared.view.Plan.{Plan}
 use Rattle.blink_live.specs.Views.{for_call, known_of}
 use Rattle.blink_live.proofs.found.OperationsOnTheirWay.{comes_nearer, else_at_leaf, goes_down, is_its_operation, is_its_seat, its_words_fit, needs_on_its_way, page_in_range}

@@ -1,5 +1,5 @@
 use Rattle.std.proofs.Common.{◌≡◌}
-use Rattle.blink_batch.specs.Operation.{key_of}
+use Rattle.blink_batch.specs.{key_of}
 use Rattle.blink_live.specs.Seats.{HasRead, IsDescending}
 use Rattle.blink_live.specs.Views.{for_call, known_of}
 use Rattle.blink_live.proofs.live.Live.descend.Given as goal

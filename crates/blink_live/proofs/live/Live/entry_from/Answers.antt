@@ -1,8 +1,8 @@
 use Rattle.std.proofs.Common.{◌≡◌, ℕ, suc, ◌<◌, ◌≤◌, Some, None, List, length, get_or, refl, sym, ap, ◌∙◌, subst, arith, zero, [], ◌∷◌}
 use Rattle.std.specs.Prelude.{slice_get}
 use Rattle.std.proofs.lemmas.Option.{slice_get-get_or}
-use Rattle.blink_page.specs.Place.{place_of}
-use Rattle.blink_rows.specs.Row.{page_words}
+use Rattle.blink_page.specs.{place_of}
+use Rattle.blink_rows.specs.{page_words}
 use Rattle.blink_live.specs.Seats.{ReadsPage}
 use Rattle.blink_live.specs.Views.{SeatState}
 use Rattle.blink_live.proofs.found.EntriesInRow.{key_word, value_word, goes_on_behind, ends_at}

@@ -1,6 +1,5 @@
 use Rattle.std.proofs.Common.{◌≡◌, ◌≤◌, length}
-use Rattle.blink_page.specs.Page.{PlainPage}
-use Rattle.blink_page.specs.Place.{place_of}
+use Rattle.blink_page.specs.{PlainPage, place_of}
 use Rattle.blink_live.specs.Seats.{ReadsPage}
 use Rattle.blink_live.proofs.live.Live.entry_from.Given as goal
 

@@ -1,6 +1,6 @@
 use Rattle.std.proofs.Common.{sym, subst, arith}
 use Rattle.blink_batch.specs.declared.Op.{Op}
-use Rattle.blink_batch.specs.Batch.{FitsWords}
+use Rattle.blink_batch.specs.{FitsWords}
 use Rattle.blink_live.specs.Views.{CanBegin}
 use Rattle.blink_live.proofs.found.OperationBegins.{begins_operation}
 use Rattle.blink_live.proofs.live.Live.load_prime.Goals as goal

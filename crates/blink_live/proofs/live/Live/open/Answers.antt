@@ -2,9 +2,9 @@ use Rattle.std.proofs.Common.{ℕ, ◌≡◌, ◌+◌, ◌*◌, ◌<◌, ◌≤�
 use Rattle.std.specs.Ordering.{nat_cmp}
 use Rattle.std.specs.Prelude.{IsSorted}
 use Rattle.atomic_table.specs.Table.{opening}
-use Rattle.blink_rest.specs.Rest.{IsStoreAtRest}
-use Rattle.blink_rows.specs.Counts.{PlainCounts, AreBounded}
-use Rattle.blink_store.specs.Store.{PlainStore, IsLawfulStore}
+use Rattle.blink_rest.specs.{IsStoreAtRest}
+use Rattle.blink_rows.specs.{PlainCounts, AreBounded}
+use Rattle.blink_store.specs.{PlainStore, IsLawfulStore}
 use Rattle.blink_live.specs.Laid.{IsLaid}
 use Rattle.blink_live.specs.Rule.{IsTable}
 use Rattle.blink_live.specs.declared.view.Opened.{Opened}

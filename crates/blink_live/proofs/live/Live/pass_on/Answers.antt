@@ -1,5 +1,5 @@
 use Rattle.std.proofs.Common.{◌≤◌, subst, refl, arith}
-use Rattle.blink_rows.specs.Counts.{PlainCounts}
+use Rattle.blink_rows.specs.{PlainCounts}
 use Rattle.blink_live.specs.Views.{plan_of}
 use Rattle.blink_live.proofs.told.NotesKeepTable.{note_keeps_table}
 use Rattle.blink_live.proofs.live.Live.pass_on.Goals as goal

@@ -2,7 +2,7 @@ use Rattle.std.proofs.Common.{◌≡◌, ℕ, ◌+◌, ◌<◌, ◌≤◌, inl, 
 use Rattle.std.specs.Prelude.{slice_index}
 use native.Mathlib.Decide.{dec_le}
 use Rattle.std.proofs.lemmas.List.{get_or-replicate, get_or_past}
-use Rattle.blink_rows.specs.Row.{prime_words}
+use Rattle.blink_rows.specs.{prime_words}
 use Rattle.blink_rows.specs.declared.limits.TheConstants.{HEAD_WORDS, ROW_WORDS}
 use Rattle.blink_rows.proofs.Offered.{length-prime_words}
 use Rattle.blink_live.specs.Seats.{ReadsPrime}

@@ -1,8 +1,8 @@
 use Rattle.std.proofs.Common.{ℕ, ◌<◌, sym, subst, arith}
 use mathlib.Core.Option.{none}
 use Rattle.atomic_table.specs.Table.{step, Allows}
-use Rattle.blink_rows.specs.Row.{page_words, IsRowOf}
-use Rattle.blink_machine.specs.Table.{page_out}
+use Rattle.blink_rows.specs.{page_words, IsRowOf}
+use Rattle.blink_machine.specs.{page_out}
 use Rattle.blink_live.specs.declared.view.Plan.{Plan}
 use Rattle.blink_live.specs.AtomicSteps.{publishes_new}
 use Rattle.blink_live.specs.Rule.{IsTable}

@@ -1,12 +1,9 @@
 use Rattle.std.proofs.Common.{◌≡◌, ℕ, ◌<◌, List, ap, sym, subst, arith}
-use Rattle.blink_page.specs.Page.{PlainPage, IsLawfulPage}
+use Rattle.blink_page.specs.{PlainPage, IsLawfulPage}
 use Rattle.blink_page.specs.declared.limits.TheConstants.{MAX_FAN}
-use Rattle.blink_rows.specs.Counts.{PlainCounts}
-use Rattle.blink_rows.specs.Row.{IsPageRow}
+use Rattle.blink_rows.specs.{PlainCounts, IsPageRow}
 use Rattle.blink_rows.proofs.Offered.{row_has_one_page}
-use Rattle.blink_machine.specs.InOrder.{IsReadable}
-use Rattle.blink_machine.specs.Machine.{PlainMachine}
-use Rattle.blink_machine.specs.Table.{SeesPage}
+use Rattle.blink_machine.specs.{IsReadable, PlainMachine, SeesPage}
 use Rattle.blink_live.specs.AtomicSteps.{LoadsPage}
 use Rattle.blink_live.specs.Seats.{ReadsPage}
 use Rattle.blink_live.specs.Views.{SeatState}

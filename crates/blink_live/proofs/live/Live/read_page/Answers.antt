@@ -1,16 +1,11 @@
 use Rattle.std.proofs.Common.{◌≡◌, ℕ, ◌<◌, Option, ap, sym, ◌∙◌, subst, arith}
-use Rattle.blink_page.specs.Page.{PlainPage}
-use Rattle.blink_rows.specs.Counts.{PlainCounts}
-use Rattle.blink_batch.specs.Operation.{key_of}
-use Rattle.blink_page.specs.Entries.{value_at}
-use Rattle.blink_page.specs.Way.{Leads}
+use Rattle.blink_page.specs.{PlainPage, value_at, Leads}
+use Rattle.blink_rows.specs.{PlainCounts}
+use Rattle.blink_batch.specs.{key_of}
 use Rattle.blink_page.specs.declared.search.Way.{Way}
 use Rattle.blink_machine.specs.declared.machine.Job.{Job}
-use Rattle.blink_machine.specs.OnTheWay.{TellsWay}
-use Rattle.blink_machine.specs.InOrder.{IsReadable}
-use Rattle.blink_machine.specs.Machine.{PlainMachine, key_of_job, target}
+use Rattle.blink_machine.specs.{TellsWay, IsReadable, PlainMachine, key_of_job, target, SeesPage, on_its_way}
 use Rattle.blink_live.specs.Seats.{IsGoing, ReadsPage, TellsWayFor}
-use Rattle.blink_machine.specs.Table.{SeesPage, on_its_way}
 use Rattle.blink_live.specs.AtomicSteps.{LoadsPage}
 use Rattle.blink_live.specs.Views.{SeatState}
 use Rattle.blink_live.proofs.found.ReadsPage.{reads_page_word}

@@ -2,10 +2,9 @@ use Rattle.std.proofs.Common.{◌≡◌, ℕ, ◌<◌, List, length, Bool, true,
 use Rattle.std.specs.Bool.{OnTrue, OnFalse}
 use Rattle.std.proofs.lemmas.Bool.{OnTrue_at, OnTrue_from}
 use Rattle.blink_page.specs.declared.limits.TheConstants.{LEVELS}
-use Rattle.blink_rows.specs.Row.{IsPrimeRow}
+use Rattle.blink_rows.specs.{IsPrimeRow}
 use Rattle.blink_rows.proofs.Offered.{row_has_one_prime}
-use Rattle.blink_machine.specs.Machine.{PlainMachine}
-use Rattle.blink_machine.specs.Table.{SeesPrime, WaitsForLevel}
+use Rattle.blink_machine.specs.{PlainMachine, SeesPrime, WaitsForLevel}
 use Rattle.blink_live.specs.AtomicSteps.{AsksPrime, LoadsPrime}
 use Rattle.blink_live.specs.Seats.{ReadsPrime}
 use Rattle.blink_live.specs.Views.{SeatState}

@@ -2,8 +2,8 @@ use Rattle.std.proofs.Common.{◌≡◌, ℕ, ◌+◌, ◌*◌, ◌<◌, ◌≤�
 use Rattle.std.specs.Prelude.{slice_index}
 use native.Mathlib.Decide.{dec_le}
 use Rattle.std.proofs.lemmas.List.{get_or-replicate, get_or_past}
-use Rattle.blink_page.specs.Page.{PlainPage}
-use Rattle.blink_rows.specs.Row.{page_words}
+use Rattle.blink_page.specs.{PlainPage}
+use Rattle.blink_rows.specs.{page_words}
 use Rattle.blink_rows.specs.declared.limits.TheConstants.{HEAD_WORDS, ROW_WORDS}
 use Rattle.blink_rows.proofs.Offered.{length-page_words}
 use Rattle.blink_live.specs.Seats.{ReadsPage}

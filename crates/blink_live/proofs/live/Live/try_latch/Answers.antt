@@ -3,7 +3,7 @@ use mathlib.Core.Option.{none}
 use prog.Atomic.{either}
 use Rattle.std.proofs.Common.{eqb}
 use Rattle.atomic_table.specs.Table.{step, Allows}
-use Rattle.blink_rows.specs.Counts.{PlainCounts}
+use Rattle.blink_rows.specs.{PlainCounts}
 use Rattle.blink_live.specs.declared.view.Plan.{Plan}
 use Rattle.blink_live.specs.AtomicSteps.{tries_latch}
 use Rattle.blink_live.specs.Rule.{IsTable}

@@ -1,7 +1,7 @@
 use Rattle.std.proofs.Common.{◌≡◌, Option, Some, None, sym, ap, ◌∙◌}
 use Rattle.std.specs.Prelude.{IsSome}
 use Rattle.blink_machine.specs.declared.machine.State.TheVariants.{Ended}
-use Rattle.blink_machine.specs.TreeState.{goes_on}
+use Rattle.blink_machine.specs.{goes_on}
 use Rattle.blink_live.proofs.changed.UpdatesBegin.{can_update, is_under_way}
 use Rattle.blink_live.proofs.changed.UpdatesGoOn.{as_decided}
 use Rattle.blink_live.proofs.live.Live.update.Goals as goal

@@ -1,7 +1,7 @@
 use Rattle.std.proofs.Common.{◌≡◌, ap, sym, ◌∙◌, subst, arith}
 use Rattle.std.specs.Prelude.{unwrap_or}
-use Rattle.blink_page.specs.Page.{PlainPage}
-use Rattle.blink_rows.specs.Row.{page_words}
+use Rattle.blink_page.specs.{PlainPage}
+use Rattle.blink_rows.specs.{page_words}
 use Rattle.blink_live.specs.Seats.{ReadsPage}
 use Rattle.blink_live.specs.Views.{SeatState}
 use Rattle.blink_live.proofs.found.WaysFromRow.{HasLink, has_link, leads_right, child_there, some_child, leads_down, ends_here}

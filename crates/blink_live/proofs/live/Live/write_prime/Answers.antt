@@ -1,5 +1,5 @@
 use Rattle.std.proofs.Common.{ap, sym, subst, List}
-use Rattle.blink_rows.specs.Row.{prime_words, IsRowOf}
+use Rattle.blink_rows.specs.{prime_words, IsRowOf}
 use Rattle.blink_live.specs.Views.{SeatState}
 use Rattle.blink_live.proofs.live.Live.write_prime.Goals as goal
 

@@ -1,7 +1,7 @@
 use Rattle.std.proofs.Common.{◌≡◌, true, false, is_some, List, Option, Some, None, length, get_or, sym, ap, ◌∙◌, subst, arith}
 use Rattle.std.specs.Prelude.{slice_get}
 use Rattle.blink_batch.specs.declared.Answer.{Answer}
-use Rattle.blink_steps.specs.World.{IsAtLanesEnd}
+use Rattle.blink_steps.specs.{IsAtLanesEnd}
 use Rattle.blink_locked.specs.Book.{PlainBook, HasEndedOp}
 use Rattle.blink_locked.proofs.BooksGoOn.{ended_where_idle, has_more, no_answer, own_in_world}
 use Rattle.blink_locked.proofs.book.Book.has_ended.Goals as goal

@@ -1,5 +1,5 @@
 use Rattle.std.proofs.Common.{subst}
-use Rattle.blink_steps.specs.Promises.{IsPromised}
+use Rattle.blink_steps.specs.{IsPromised}
 use Rattle.blink_locked.specs.Book.{PlainBook}
 use Rattle.blink_locked.proofs.book.Book.into_tree.Goals as goal
 

@@ -1,5 +1,5 @@
 use Rattle.std.proofs.Common.{true, ap}
-use Rattle.blink_machine.specs.Kinds.{has_moved}
+use Rattle.blink_machine.specs.{has_moved}
 use Rattle.blink_locked.proofs.BooksGoOn.{moves_book, stays_book}
 use Rattle.blink_locked.proofs.book.Book.step.Goals as goal
 

@@ -1,7 +1,6 @@
 use Rattle.std.proofs.Common.{◌≡◌, ◌<◌, Some, None, length, ap, ◌∙◌, arith}
 use Rattle.blink_batch.specs.declared.Op.TheVariants.{Insert}
-use Rattle.blink_page.specs.Entries.{value_at, added}
-use Rattle.blink_page.specs.Page.{PlainPage, with_entries}
+use Rattle.blink_page.specs.{value_at, added, PlainPage, with_entries}
 use Rattle.blink_machine.specs.declared.machine.State.TheVariants.{Change}
 use Rattle.blink_machine.specs.Machine.{PlainMachine, target, at_state}
 use Rattle.blink_machine.specs.Table.{is_to_change, insertion_finds_key}

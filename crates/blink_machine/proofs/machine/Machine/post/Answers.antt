@@ -1,6 +1,5 @@
 use Rattle.std.proofs.Common.{◌≡◌, ◌<◌, None, length, ap, ◌∙◌, arith}
-use Rattle.blink_page.specs.Entries.{value_at, posted}
-use Rattle.blink_page.specs.Page.{PlainPage, with_entries}
+use Rattle.blink_page.specs.{value_at, posted, PlainPage, with_entries}
 use Rattle.blink_machine.specs.declared.machine.Next.TheVariants.{Finish}
 use Rattle.blink_machine.specs.declared.machine.State.TheVariants.{Change, Leave}
 use Rattle.blink_machine.specs.Machine.{PlainMachine, target, at_state}

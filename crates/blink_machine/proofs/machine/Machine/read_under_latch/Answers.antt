@@ -1,5 +1,5 @@
 use Rattle.std.proofs.Common.{ap}
-use Rattle.blink_page.specs.Way.{Leads}
+use Rattle.blink_page.specs.{Leads}
 use Rattle.blink_page.specs.declared.search.Way.TheVariants.{Right}
 use Rattle.blink_machine.specs.declared.machine.Next.TheVariants.{MoveRight}
 use Rattle.blink_machine.specs.declared.machine.State.TheVariants.{Leave}

@@ -1,6 +1,5 @@
 use Rattle.std.proofs.Common.{◌≡◌, Some, None, refl, ap, sym, ◌∙◌, arith}
-use Rattle.blink_page.specs.Entries.{value_at, replaced}
-use Rattle.blink_page.specs.Page.{PlainPage, with_entries}
+use Rattle.blink_page.specs.{value_at, replaced, PlainPage, with_entries}
 use Rattle.blink_machine.specs.declared.machine.State.TheVariants.{Change}
 use Rattle.blink_machine.specs.Machine.{PlainMachine, target, at_state}
 use Rattle.blink_machine.specs.Table.{is_to_change, exchanges, replacement_finds_none}

@@ -1,5 +1,5 @@
 use Rattle.std.proofs.Common.{subst}
-use Rattle.blink_store.specs.Store.{IsLawfulStore}
+use Rattle.blink_store.specs.{IsLawfulStore}
 use Rattle.blink_rest.specs.Rest.{IsStoreAtRest}
 use Rattle.blink_rest.proofs.EachLaw.{levels_are_few}
 use Rattle.blink_rest.proofs.rest.Rest.store.Goals as goal

@@ -1,10 +1,8 @@
 use Rattle.std.proofs.Common.{subst, Contains, count_by, ◌≤◌, [], ◌∷◌, arith}
 use Rattle.std.proofs.lemmas.Grind.{common_steps}
 use Rattle.blink_batch.specs.declared.Op.{Op}
-use Rattle.blink_batch.specs.Batch.{is_insert}
-use Rattle.blink_batch.specs.Operation.{key_of}
-use Rattle.blink_live.specs.Allowed.{inserts_left, deletes_left}
-use Rattle.blink_live.specs.Handles.{keys_of}
+use Rattle.blink_batch.specs.{is_insert, key_of}
+use Rattle.blink_live.specs.{inserts_left, deletes_left, keys_of}
 use Rattle.blink_run.specs.Lanes.{uses_deletion}
 use Rattle.blink_run.proofs.LaneRuns.{not_refused}
 use Rattle.blink_run.proofs.live.lane.answer_at.Goals as goal

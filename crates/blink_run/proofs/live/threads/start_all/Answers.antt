@@ -4,7 +4,7 @@ use Rattle.std.specs.Vec.Iter.{into_iter_items}
 use Rattle.std.proofs.lemmas.Option.{none-some}
 use Rattle.blink_run.specs.declared.live.lane.LaneRun.{LaneRun}
 use Rattle.blink_run.specs.Lanes.{MayRun, lane_ops, with_worker}
-use Rattle.blink_locked.specs.Starts.{AtEach}
+use Rattle.blink_locked.specs.{AtEach}
 use Rattle.blink_locked.proofs.Offered.{each_from_first, each_left, each_more}
 use Rattle.blink_run.proofs.live.threads.start_all.Goals as goal
 

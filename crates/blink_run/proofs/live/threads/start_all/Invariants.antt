@@ -2,7 +2,7 @@
 use Rattle.std.proofs.Common.{◌≡◌, ◌+◌, ◌≤◌, length, vec_capacity}
 use Rattle.std.specs.Vec.Iter.{into_iter_items, into_iter_len}
 use Rattle.blink_run.specs.Lanes.{MayRun, lane_ops, with_worker}
-use Rattle.blink_locked.specs.Starts.{AtEach}
+use Rattle.blink_locked.specs.{AtEach}
 use Rattle.blink_run.proofs.live.threads.start_all.Given as goal
 
 abbrev pub invariant-loop-run : goal.invariant-loop-run

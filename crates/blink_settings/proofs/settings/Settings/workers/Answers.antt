@@ -1,5 +1,5 @@
 use Rattle.std.proofs.Common.{ap, subst}
-use Rattle.blink_batch.specs.Cut.{MayWork}
+use Rattle.blink_batch.specs.{MayWork}
 use Rattle.blink_settings.specs.Settings.{PlainSettings}
 use Rattle.blink_settings.proofs.settings.Settings.workers.Goals as goal
 

@@ -3,10 +3,10 @@ use Rattle.std.proofs.lemmas.Option.{slice_get-get_or, get_or_from_slice_get}
 use Rattle.std.specs.List.{slice_get}
 use Rattle.blink_batch.proofs.Offered.{next_place_is}
 use Rattle.blink_batch.specs.declared.operation.Op.TheVariants.{Find}
-use Rattle.blink_batch.specs.Order.{next_place}
+use Rattle.blink_batch.specs.{next_place}
 use Rattle.blink_steps.proofs.runs.TurnFromItsParts.{goes_on-begun, IsLinked-with_seat, turn_moves}
 use Rattle.blink_steps.specs.declared.seat.WorkerState.{WorkerState}
-use Rattle.blink_machine.specs.Machine.{fresh}
+use Rattle.blink_machine.specs.{fresh}
 use Rattle.blink_steps.specs.Run.{IsNextOf, idle_seat}
 use Rattle.blink_steps.specs.RunView.{plain}
 use Rattle.blink_steps.specs.RunInvariant.{CanTakeTurn}

@@ -8,8 +8,7 @@ use Rattle.blink_steps.specs.declared.seat.WorkerState.{WorkerState}
 use Rattle.blink_machine.specs.declared.step.Step.{Step}
 use Rattle.blink_steps.specs.Acts.{Acts}
 use Rattle.blink_steps.specs.Outcome.{recorded}
-use Rattle.blink_machine.specs.Machine.{PlainMachine}
-use Rattle.blink_machine.specs.TreeState.{goes_on}
+use Rattle.blink_machine.specs.{PlainMachine, goes_on}
 use Rattle.blink_steps.specs.Run.{IsNextOf}
 use Rattle.blink_steps.specs.RunView.{plain}
 use Rattle.blink_steps.specs.Seats.{working_after, left_in_seat, answer_in_seat}

@@ -1,6 +1,6 @@
 use Rattle.std.proofs.Common.{◌≡◌, ℕ, ◌+◌, ◌<◌, ◌≤◌, List, length, refl, ap, ◌∙◌, subst, arith}
 use Rattle.std.proofs.lemmas.List.{length_push}
-use Rattle.blink_batch.specs.Cut.{Assignment}
+use Rattle.blink_batch.specs.{Assignment}
 use Rattle.blink_batch.specs.declared.cut.TheConstants.{WORKER_LIMIT}
 use Rattle.blink_steps.proofs.runs.TurnFromItsParts.{AreIdle, AreIdle-more, AreOfLanes-idle}
 use Rattle.blink_steps.specs.LaneQueues.{NextInLane, FirstInLane}

@@ -1,6 +1,6 @@
 use Rattle.std.proofs.Common.{◌≡◌, ℕ, ◌<◌, ◌≤◌, length, Some, vec_capacity}
 use Rattle.std.specs.List.{slice_get}
-use Rattle.blink_batch.specs.Order.{next_place}
+use Rattle.blink_batch.specs.{next_place}
 use Rattle.blink_steps.specs.Run.{idle_seat}
 use Rattle.blink_steps.proofs.run.Run.new.Given as goal
 

@@ -1,9 +1,8 @@
 use Rattle.std.proofs.Common.{◌≡◌, ℕ, List, Some, refl, sym, ap, subst, ◌∙◌}
-use Rattle.blink_store.specs.Store.{page_of}
+use Rattle.blink_store.specs.{page_of}
 use Rattle.blink_machine.specs.declared.machine.Need.TheVariants.{ReadPrime, ReadPage, WritePrime}
 use Rattle.blink_steps.specs.Acts.{PlainShared}
-use Rattle.blink_machine.specs.Machine.{need_at}
-use Rattle.blink_machine.specs.Table.{SeesPrime, WaitsForLevel}
+use Rattle.blink_machine.specs.{need_at, SeesPrime, WaitsForLevel}
 use Rattle.blink_steps.proofs.shared.Shared.act.Goals as goal
 use Rattle.blink_steps.proofs.shared.Shared.act.Goals.{then-saw_prime, else-saw_prime}
 

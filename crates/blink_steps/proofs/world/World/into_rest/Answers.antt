@@ -1,5 +1,5 @@
 use Rattle.std.proofs.Common.{sym, subst}
-use Rattle.blink_rest.specs.Rest.{IsStoreAtRest}
+use Rattle.blink_rest.specs.{IsStoreAtRest}
 use Rattle.blink_steps.specs.World.{PlainWorld, HasEnded}
 use Rattle.blink_steps.proofs.worlds.WorldPromises.{promises}
 use Rattle.blink_steps.proofs.world.World.into_rest.Goals as goal

@@ -1,6 +1,6 @@
 use Rattle.std.proofs.Common.{◌<◌, ◌≤◌, ℕ, List, length, get_or, ap, sym, subst, ◌∙◌, arith}
 use Rattle.std.proofs.lemmas.Option.{get_or_from_slice_get}
-use Rattle.blink_machine.specs.Kinds.{is_page_read}
+use Rattle.blink_machine.specs.{is_page_read}
 use Rattle.blink_steps.specs.World.{PlainWorld, IsWorld}
 use Rattle.blink_steps.proofs.bounds.CountedTurns.{moves_of-few}
 use Rattle.blink_steps.proofs.worlds.WorldPromises.{counted, promises, shaped, short}

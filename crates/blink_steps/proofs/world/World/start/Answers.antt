@@ -1,7 +1,8 @@
-use Rattle.std.proofs.Common.{◌≡◌, ℕ, ◌+◌, ◌*◌, true, List, [], length, count_by, inl, inr, sym, subst, arith}
+use Rattle.std.proofs.Common.{◌≡◌, ℕ, ◌+◌, ◌*◌, true, List, [], length, count_by, inl, inr, ap, sym, subst, arith}
 use Rattle.std.proofs.lemmas.Bool.{cases_lt}
-use Rattle.blink_batch.specs.Batch.{is_insert}
+use Rattle.blink_batch.specs.{is_insert}
 use Rattle.blink_page.specs.declared.limits.TheConstants.{MAX_PAGE}
+use Rattle.blink_store.specs.{PlainStore}
 use Rattle.blink_steps.specs.World.{IsWorldOf, MayBegin}
 use Rattle.blink_steps.proofs.worlds.WorldsGoFurther.{begins}
 use Rattle.blink_steps.proofs.worlds.WorldPromises.{promises}
@@ -15,7 +16,7 @@ may_begin c = record {
   lanes = c.lanes-allowed.ensures.workers;
   a_lane_each = c.requires.a_lane_each;
   numbers_suffice = elim (cases_lt MAX_PAGE (length c.args.rest.pages + 22 * count_by is_insert c.args.batch)) [
-    | inl above ↦ (let too_large : c.exceeds_page_limit.result ≡ true = c.exceeds_page_limit.ensures.1 (omega arith) in let not = c.if-exceeds_page_limit.false in absurd (cc))
+    | inl above ↦ (let too_large : c.exceeds_page_limit.result ≡ true = c.exceeds_page_limit.ensures.1 (omega (arith, above, c.pages.ensures.count, ap (λ (s : PlainStore). length s.pages) c.store-tree.ensures.store, c.inserts.ensures)) in let not = c.if-exceeds_page_limit.false in absurd (cc))
     | inr fits ↦ fits
   ];
 }

@@ -1,8 +1,8 @@
 use Rattle.std.proofs.Common.{◌≡◌, List, [], ◌∷◌, ◌++◌, get_or, ap, subst, arith}
 use Rattle.blink_batch.specs.declared.Op.{Op}
 use Rattle.blink_batch.specs.declared.Op.TheVariants.{Find}
-use Rattle.blink_batch.specs.Operation.{answer_of}
-use Rattle.blink_live.specs.Handles.{share_of}
+use Rattle.blink_batch.specs.{answer_of}
+use Rattle.blink_live.specs.{share_of}
 use Rattle.blink_run.specs.Lanes.{IsPassAfter}
 use Rattle.blink_run.proofs.LaneRuns.{can_run_here, ended_here, one_done_here, other_here}
 use Rattle.blink_run.proofs.live.lane.LaneRun.to_end.Goals.{then-lanes-place, else-lanes-place}

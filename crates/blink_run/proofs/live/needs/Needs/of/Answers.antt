@@ -5,8 +5,7 @@ use Rattle.std.proofs.lemmas.Grind.{common_steps}
 use Rattle.std.proofs.lemmas.Option.{slice_get-get_or}
 use Rattle.blink_batch.specs.declared.Op.{Op}
 use Rattle.blink_batch.specs.declared.Op.TheVariants.{Find, Insert}
-use Rattle.blink_batch.specs.Batch.{is_insert}
-use Rattle.blink_batch.specs.Operation.{key_of}
+use Rattle.blink_batch.specs.{is_insert, key_of}
 use Rattle.blink_run.specs.Lanes.{uses_deletion, lane_ops}
 use Rattle.blink_run.proofs.NeedsOfLane.{needed_from_gathered}
 use Rattle.blink_run.proofs.LaneSoFar.{lane_so_far, lane_so_far-own, lane_so_far-other, lane_so_far-all}

@@ -1,7 +1,6 @@
 -- What was counted so far is of the lane's operations among the first places.
 use Rattle.std.proofs.Common.{◌≡◌, ◌≤◌, length, map, count_by}
-use Rattle.blink_batch.specs.Batch.{is_insert}
-use Rattle.blink_batch.specs.Operation.{key_of}
+use Rattle.blink_batch.specs.{is_insert, key_of}
 use Rattle.blink_run.specs.Lanes.{uses_deletion}
 use Rattle.blink_run.proofs.LaneSoFar.{lane_so_far}
 use Rattle.blink_run.proofs.live.needs.Needs.of.Given as goal
