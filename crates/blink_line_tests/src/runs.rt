@@ -89,28 +89,12 @@ fn each_driver_writes_the_answers(rt: HostRuntime) -> Result<(), Fail> {
             "inserted\ninserted\n0 1\n18446744073709551615 2\nend 2\n",
         ),
         (
-            "insert,7,1\ninsert,7,2\nfind,7,\n",
-            "inserted\nexists 1\nfound 1\n",
-        ),
-        (
             "insert,7,1\ndelete,7,\ndelete,7,\ninsert,7,3\nfind,7,\n",
             "inserted\nremoved 1\nabsent\ninserted\nfound 3\n",
         ),
         (
-            "insert,5,50\nscan,9,1\nscan,0,9\ninsert,6,60\n",
-            "inserted\nend 0\n5 50\nend 1\ninserted\n",
-        ),
-        (
             "insert,7,1\nreplace,7,2\nfind,7,\nreplace,8,1\n",
             "inserted\nreplaced 1\nfound 2\nabsent\n",
-        ),
-        (
-            "insert,1,10\ninsert,2,20\ninsert,3,30\ninsert,4,40\ninsert,5,50\npage,2,2\npage,0,0\npage,9,3\n",
-            "inserted\ninserted\ninserted\ninserted\ninserted\n2 20\n3 30\nend 2\nend 0\nend 0\n",
-        ),
-        (
-            "insert,18446744073709551615,2\npage,18446744073709551615,18446744073709551615\n",
-            "inserted\n18446744073709551615 2\nend 1\n",
         ),
         // A leaf of four entries splits, and the next batch finds what each half has.
         (

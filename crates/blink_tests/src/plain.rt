@@ -125,3 +125,19 @@ fn answers_have_their_words(rt: HostRuntime) {
     let greatest = "replaced 18446744073709551615";
     is_shown(&rt, alloc, &Answer::Replaced(u64::MAX), greatest)
 }
+
+// What an operation brings, and what it answers where its key is there with the pointer 1, and where it isn't there.
+#[test]
+fn operations_are_rows_of_one_table(rt: HostRuntime) {
+    let rows = [
+        (Op::Find(7), 0_u64, Answer::Found(1), Answer::Absent),
+        (Op::Insert(7, 2), 2, Answer::Exists(1), Answer::Inserted),
+        (Op::Delete(7), 0, Answer::Removed(1), Answer::Absent),
+        (Op::Replace(7, 2), 2, Answer::Replaced(1), Answer::Absent),
+    ];
+    for (op, pointer, there, absent) in rows {
+        same(&rt, &op.pointer(), &pointer);
+        same(&rt, &op.answer(Some(1)), &there);
+        same(&rt, &op.answer(None), &absent);
+    }
+}
