@@ -5,12 +5,11 @@ use blink_batch::{Batch, BatchError, Op};
 use std::alloc::Global;
 use std::process::Abort;
 
-// The batch has these operations, of which there are some, and so many insertions among them.
+// The batch has these operations, and so many insertions among them.
 fn has(rt: &impl Abort, batch: &Batch, ops: &[Op], inserts: usize) {
     same(rt, &batch.ops(), &ops);
     same(rt, &batch.len(), &ops.len());
     same(rt, &batch.inserts(), &inserts);
-    same(rt, &batch.is_empty(), &false);
 }
 
 // The batch of these operations has them, and so many insertions.
