@@ -240,7 +240,7 @@ fn scripts_without_operations_have_no_frame(rt: HostRuntime) -> Result<(), Fail>
 }
 
 #[test]
-fn a_number_that_is_no_worker_is_told_before_anything_is_read(rt: HostRuntime) -> Result<(), Fail> {
+fn a_number_that_is_no_worker_is_refused_before_reading(rt: HostRuntime) -> Result<(), Fail> {
     let outcome = replayed(rt.alloc(), "find,1,\n", 3, &[2, 3, 4])?;
     outcome.expect_refusal(&rt, ServeError::Step(StepError::NoWorker(3)));
     assert_eq!(rt; outcome.unread, 8);

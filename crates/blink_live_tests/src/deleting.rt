@@ -93,7 +93,7 @@ fn four_threads_empty_leaves(rt: HostRuntime) {
 }
 
 #[test]
-fn refusals_are_told(rt: HostRuntime) -> Result<(), Fail> {
+fn refusals_have_numbers_and_texts(rt: HostRuntime) -> Result<(), Fail> {
     for (error, code, text) in [
         (PassError::NotYours, 54, "not yours"),
         (PassError::Spent, 55, "spent"),

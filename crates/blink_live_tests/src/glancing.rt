@@ -16,7 +16,7 @@ const NOT_ITS_OWN: [Step; 1] = [Call(Op::Find(5), Err(PassError::NotYours))];
 const FIVE_INSERTED: [Step; 1] = [Call(Op::Insert(5, 50), Ok(Answer::Inserted))];
 
 #[test]
-fn a_pass_is_told_what_another_has_seen(rt: HostRuntime) {
+fn tell_hands_over_what_was_seen(rt: HostRuntime) {
     let mut table = Shared::new(&rt, rt.alloc(), 2, 0);
     table.deal(&rt, &[5], 1, 0);
     table.deal(&rt, &[6], 1, 0);
@@ -41,7 +41,7 @@ const FIVE_CHANGED: [Step; 4] = [
 const WHAT_IS_KEPT: [Step; 3] = [Glance(5, Some(51)), Glance(7, Some(70)), Glance(8, None)];
 
 #[test]
-fn what_was_told_is_told_on(rt: HostRuntime) {
+fn tell_is_transitive(rt: HostRuntime) {
     let index = after(&rt, rt.alloc(), &[Op::Insert(7, 70)]);
     let mut table = Shared::open(&rt, rt.alloc(), &index, 2, 1);
     let (first, third, second) = (0, 1, 2);

@@ -50,7 +50,7 @@ const ONE_ENDS: [(u8, u32, Turn); 4] = [
 ];
 
 #[test]
-fn each_turn_is_told(rt: HostRuntime) -> Result<(), Fail> {
+fn each_turn_returns_its_step(rt: HostRuntime) -> Result<(), Fail> {
     let work = CutBatch::new(rt.alloc(), &TWO, 2)?;
     let mut book = book_of(rt.alloc(), &work, &ONE_WAITS)?;
     for (worker, op, expected) in ONE_ENDS {

@@ -121,7 +121,7 @@ fn unread_after<R: Abort>(
 const REFUSED: &str = "insert,1,1\nput,1,1\n";
 
 #[test]
-fn a_number_that_is_no_worker_is_told_before_anything_is_read(rt: HostRuntime) -> Result<(), Fail> {
+fn a_number_that_is_no_worker_is_refused_before_reading(rt: HostRuntime) -> Result<(), Fail> {
     for (schedule, worker) in [
         ([2, 0, 0].as_slice(), 2),
         ([0, 63, 2].as_slice(), 63),

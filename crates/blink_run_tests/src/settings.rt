@@ -9,7 +9,7 @@ use std::test::Fail;
 use std::thread::Threads;
 
 #[test]
-fn settings_tell_what_they_were_made_of(rt: HostRuntime) -> Result<(), Fail> {
+fn settings_return_what_they_were_made_of(rt: HostRuntime) -> Result<(), Fail> {
     for (workers, fan) in [(1, 4), (4, 32), (64, 4)] {
         let settings = locked(workers, fan, CutKind::Ranges)?;
         assert_eq!(rt; (settings.workers(), settings.fan()), (workers, fan));

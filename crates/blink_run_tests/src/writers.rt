@@ -174,7 +174,7 @@ fn expect_failed_flush<R: Threads + Wait + Abort + Sync>(
 }
 
 #[test]
-fn a_flush_that_goes_wrong_is_told(rt: HostRuntime) -> Result<(), Fail> {
+fn a_failed_flush_is_reported(rt: HostRuntime) -> Result<(), Fail> {
     for (call, text) in TEXTS {
         for kind in [ErrorKind::Interrupted, ErrorKind::Other] {
             expect_failed_flush(&rt, rt.alloc(), call, kind, text)?;

@@ -154,7 +154,7 @@ fn is_told(rt: &impl Abort, alloc: Global, error: CutError, code: u8, text: &str
 }
 
 #[test]
-fn refusals_are_told(rt: HostRuntime) {
+fn refusals_have_numbers_and_texts(rt: HostRuntime) {
     let alloc = rt.alloc();
     is_told(&rt, alloc, CutError::BadWorkers, 2, "bad number of workers");
     is_told(
@@ -219,7 +219,7 @@ fn splits_at(rt: &impl Abort, alloc: Global, batch: &Batch, lanes: &[u8], place:
 }
 
 #[test]
-fn the_first_split_key_is_told(rt: HostRuntime) {
+fn the_first_split_key_is_reported(rt: HostRuntime) {
     let ops = [
         Op::Find(7),
         Op::Insert(5, 1),
@@ -265,7 +265,7 @@ fn lanes_with(rt: &impl Abort, alloc: Global, last: u8) -> Vec<u8> {
 }
 
 #[test]
-fn split_keys_are_told_in_a_full_batch(rt: HostRuntime) {
+fn split_keys_are_reported_in_a_full_batch(rt: HostRuntime) {
     let alloc = rt.alloc();
     let batch = full_batch(&rt, alloc);
     let lanes = lanes_with(&rt, alloc, 0);

@@ -247,7 +247,7 @@ fn is_told(rt: &impl Abort, alloc: Global, error: IndexError, code: u8, text: &s
 }
 
 #[test]
-fn refusals_are_told(rt: HostRuntime) {
+fn refusals_have_numbers_and_texts(rt: HostRuntime) {
     let alloc = rt.alloc();
     is_told(&rt, alloc, IndexError::BadFan, 40, "bad fan");
     is_told(&rt, alloc, IndexError::OutOfMemory, 41, "out of memory")

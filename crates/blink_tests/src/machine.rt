@@ -135,7 +135,7 @@ fn a_find_begins_at_the_root(rt: HostRuntime) {
 }
 
 #[test]
-fn a_find_is_told_its_way(rt: HostRuntime) {
+fn a_find_learns_where_to_go(rt: HostRuntime) {
     let leaf = full_leaf(&rt);
     let mut machine = Machine::new(Op::Find(3), 4);
     assert!(rt; machine.saw_prime(&Prime::new()));

@@ -224,7 +224,7 @@ fn refuses_long(rt: &impl Abort, alloc: Global, finds: usize, last: &str, refusa
 }
 
 #[test]
-fn one_operation_too_many_is_told_after_its_own_checks(rt: HostRuntime) {
+fn one_operation_too_many_is_refused_after_its_own_checks(rt: HostRuntime) {
     let alloc = rt.alloc();
     let full = long_script(&rt, alloc, 8191, "find,1,");
     let ops = given(&rt, vec![in alloc; Op::Find(1); 8192]);
@@ -321,7 +321,7 @@ impl Read for Failing<'_> {
 }
 
 #[test]
-fn a_reader_that_fails_is_told(rt: HostRuntime) {
+fn a_failed_read_is_reported(rt: HostRuntime) {
     let text = b"insert,5,50\nfind,5,\n";
     for calls in 0..=text.len() {
         let reader = Failing { text, calls };

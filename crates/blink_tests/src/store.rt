@@ -120,7 +120,7 @@ fn is_told(rt: &impl Abort, alloc: Global, error: StoreError, code: u8, text: &s
 }
 
 #[test]
-fn refusals_are_told(rt: HostRuntime) {
+fn refusals_have_numbers_and_texts(rt: HostRuntime) {
     let alloc = rt.alloc();
     is_told(&rt, alloc, StoreError::OutOfMemory, 20, "out of memory");
     is_told(&rt, alloc, StoreError::OutOfPages, 21, "out of pages")

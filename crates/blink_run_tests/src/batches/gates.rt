@@ -172,7 +172,7 @@ fn expect_nobody_waits<R: Threads + Wait + Clock + Abort + Sync>(
 }
 
 #[test]
-fn whoever_begins_last_keeps_nobody_waiting(rt: HostRuntime) -> Result<(), Fail> {
+fn a_worker_that_begins_late_blocks_nobody(rt: HostRuntime) -> Result<(), Fail> {
     for driver in DRIVERS {
         for last in 0..3 {
             expect_nobody_waits(&rt, rt.alloc(), driver, last)?;

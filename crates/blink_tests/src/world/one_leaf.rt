@@ -146,7 +146,7 @@ fn is_told(rt: &impl Abort, alloc: Global, error: StepError, code: u8, text: &st
 }
 
 #[test]
-fn refusals_are_told(rt: HostRuntime) {
+fn refusals_have_numbers_and_texts(rt: HostRuntime) {
     let alloc = rt.alloc();
     is_told(&rt, alloc, StepError::OutOfMemory, 30, "out of memory");
     is_told(&rt, alloc, StepError::NoWorker(7), 31, "no worker 7");

@@ -53,7 +53,7 @@ impl Read for Broken {
 }
 
 #[test]
-fn a_reader_that_fails_is_told(rt: HostRuntime) -> Result<(), Fail> {
+fn a_failed_read_is_reported(rt: HostRuntime) -> Result<(), Fail> {
     let alloc = rt.alloc();
     for line in [
         Line::Run(settings(Driver::Locked)?),
@@ -110,7 +110,7 @@ fn left_on<T: Threads + Wait + Sync>(
 }
 
 #[test]
-fn a_disk_that_fails_is_told(rt: HostRuntime) -> Result<(), Fail> {
+fn a_failed_write_is_reported(rt: HostRuntime) -> Result<(), Fail> {
     let alloc = rt.alloc();
     let run = "inserted\nend 0\nfound 50\n";
     let replay = "1 P\ninserted\nend 0\nfound 50\n0 1 - 18446744073709551615 - 5:50\n";
