@@ -88,7 +88,7 @@ pub record IsOwnKey (plan : Plan) (owners : Owners) (log : List Change) (owner :
   pub kept : pointer_of share.entries key ≡ after (pointer_of plan.opening) log key
   pub changes : states_of key log ≡ states_of key share.changes
 
--- each key of the share has this owner
+-- a share with this owner: what it says is true of each of its keys
 abbrev pub IsShare : Plan → Owners → List Change → ℕ → Share → Type 0
 IsShare plan owners log owner share = (key : ℕ) → Contains share.keys key → IsOwnKey plan owners log owner share key
 

@@ -18,8 +18,8 @@ use blink_batch::{Answer, Op};
 use std::sync::Wait;
 
 impl Live {
-    /// Looks up a key of the pass, by Lehman and Yao's search. It answers `Found` with the key's record pointer, or `Absent`,
-    /// whatever other passes do at the same time. It takes no memory, waits for nobody, and returns.
+    /// Looks up a key of the pass. It answers `Found` with the key's record pointer, or `Absent`, whatever other passes do at the
+    /// same time. It takes no memory, waits for nobody, and returns.
     ///
     /// The call refuses with `NotYours` for every key that isn't one of the pass's; then it reads nothing.
     pub fn find(&self, pass: &mut Pass, key: u64) -> Result<Answer, PassError>
