@@ -16,7 +16,7 @@ pub use Rattle.blink_batch.specs.Order.{AnswersInOrder, IsWholeOrder, lane_of, n
 pub use Rattle.blink_batch.specs.Text.{text_of}
 -- the script of a list of records: its parts, or its first refusal
 pub use Rattle.blink_batch.specs.Script.{IsReadable, ReadsAs, TellsRefusal, records_of, script_of}
--- the script of some records, without a count or a recursion over them: the parts ask for what the records ask for, or some record is the first that is refused
+-- the script of some records, without a count or a recursion over them
 pub use Rattle.blink_batch.specs.ScriptLaw.{FirstRefusalIsTold, ScriptsHaveTheirParts}
 -- the spelling of numbers in scripts and on the command line
 pub use Rattle.blink_batch.specs.Number.{number_of}

@@ -1,4 +1,4 @@
--- The script of some records, without a count or a recursion over them: the parts ask for what the records ask for, or some
+-- The script of some records, without a count or a recursion over them. The parts ask for what the records ask for, or some
 -- record is the first that is refused.
 use Rattle.std.specs.Prelude.{ℕ, ◌≡◌, ◌≢◌, ◌≤◌, ◌+◌, ◌↔◌, List, [], ◌∷◌, ◌++◌, length, map, Result, Ok, Err}
 use Rattle.std.specs.List.{flat_map}

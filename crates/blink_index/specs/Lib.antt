@@ -2,7 +2,7 @@
 
 -- the content of an index: the levels of its tree, its tree's entries, and these as a plain map
 pub use Rattle.blink_index.specs.Index.{map_of}
--- the entries that a scan gives: those of its leaf that are left, then those of the leaves from its link on, up to a key or to a number of entries
+-- the entries that a scan gives, up to a key or to a number of entries
 pub use Rattle.blink_index.specs.Scan.{BringsInOrder, is_from, is_within}
 -- the text of a tree at rest: a line for each page, the top level first, and each level from the left
 pub use Rattle.blink_index.specs.Dump.{entry_text, text_of_store, words_of}

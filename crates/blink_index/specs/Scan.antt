@@ -1,5 +1,5 @@
--- The entries that a scan gives: those of its leaf that are left, then those of the leaves from its link on, up to a key or to a
--- number of entries.
+-- The entries that a scan gives, up to a key or to a number of entries. They are those that are left of its leaf, and then those
+-- of the leaves from its link on.
 use Rattle.std.specs.Prelude.{ℕ, ◌-◌, ◌≤◌, nat_le, if◌then◌else◌, ◌&&◌, Bool, Option, Some, None, List, [], ◌∷◌, length, take}
 use Rattle.std.specs.Iterator.{YieldsFirst}
 use Rattle.std.specs.Iterator.Runs.{YieldsInOrder}

@@ -56,7 +56,7 @@ begins op st me row then = (machine : PlainMachine) × Begins op me row machine 
 
 -- ---- the load of a page word
 
--- the operation's new answer: none, or its key's state after all changes so far
+-- the step gives the operation no new answer, or the answer by its key's state after all changes so far
 abbrev pub AnswersAfter : (ℕ → Option ℕ) → PlainMachine → PlainMachine → Type 0
 AnswersAfter kept m machine = (machine.answer ≡ m.answer) ⊎ ((m.answer ≡ None) × (machine.answer ≡ Some (answer_at m.op (kept (key_of m.op)))))
 

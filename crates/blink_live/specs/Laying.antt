@@ -8,7 +8,7 @@ use Rattle.blink_live.specs.Words.{row_start, RowIs}
 abbrev pub IsOutside : PlainCounts → ℕ → ℕ → Type 0
 IsOutside counts row place = (place < row_start counts row) ⊎ (row_start counts row + ROW_WORDS ≤ place)
 
--- the row behind a number was stored, the number's page word names it, and no other word changed
+-- row number + 1 was stored, the number's page word names it, and no other word changed
 pub record LaysRow (counts : PlainCounts) (old new : List ℕ) (number : ℕ) (row : List ℕ) : Type 0 where
   pub width : length new ≡ length old
   pub named : slice_index new number ≡ number + 1

@@ -92,8 +92,8 @@ pub record IsOwnKey (plan : Plan) (owners : Owners) (log : List Change) (owner :
 abbrev pub IsShare : Plan → Owners → List Change → ℕ → Share → Type 0
 IsShare plan owners log owner share = (key : ℕ) → Contains share.keys key → IsOwnKey plan owners log owner share key
 
--- a seat by its role: the keeper's seat is the first, nobody owns what it hasn't dealt, and what it took back is its own; only a
--- pass has an operation
+-- a seat by its role: the keeper's seat is the first, nobody owns the keys that it hasn't dealt, and the shares that it took back
+-- are its own; only a pass has an operation
 abbrev pub IsInRole : Plan → Owners → List Change → ℕ → View → Role → Type 0
 IsInRole plan owners log seat v (Keeper dealt back) =
     (seat ≡ 0) × (v.operation ≡ None) × ((key : ℕ) → ¬ Contains v.taken key → owners.key key ≡ 0)

@@ -136,7 +136,7 @@ fn lay_tree(words: &mut [u64], counts: &Counts, store: &Store)
     }
 }
 
-// Stores the row behind a number, and names the row in the number's page word.
+// Stores a row as row `number + 1`, and names it in the number's page word.
 fn lay_row(words: &mut [u64], counts: &Counts, number: u32, row: &[u64; ROW_WORDS])
     requires width { length words.old ≡ word_count counts.now }
     requires number { number < counts.now.numbers }

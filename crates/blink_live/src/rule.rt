@@ -59,7 +59,7 @@ impl Play<u8, View> for LoadPrime {
     ghost then = { loads_prime };
 }
 
-/// The load of the prime block's page word by a pass that holds a note. After it the pass has seen all changes so far.
+/// The load of the prime block's page word by a pass that holds a note. After it the pass has seen the note's changes too.
 pub(crate) struct LookUp;
 
 impl Play<u8, View> for LookUp {

@@ -29,7 +29,7 @@ numbers_left_for job op Finish = 0
 numbers_left_for job op (MoveRight page) = numbers_for job op
 numbers_left_for job op (Post debt) = 21 - debt.level
 
--- by the state: the job's whole number until the page is split
+-- by the state: as for the whole job until the page is split
 abbrev pub numbers_left_at : Job → Op → State → ℕ
 numbers_left_at job op (SplitOld page lower debt) = 21 - level_of job
 numbers_left_at job op (AskPrime page debt) = 21 - level_of job
@@ -58,7 +58,7 @@ writes_left_for job op Finish = 0
 writes_left_for job op (MoveRight page) = writes_for job op
 writes_left_for job op (Post debt) = 41 - 2 * debt.level
 
--- by the state: the job's whole number until the page is split
+-- by the state: as for the whole job until the page is split
 abbrev pub writes_left_at : Job → Op → State → ℕ
 writes_left_at job op (SplitOld page lower debt) = 42 - 2 * level_of job
 writes_left_at job op (AskPrime page debt) = 41 - 2 * level_of job
@@ -85,7 +85,7 @@ primes_left_for job op Finish = 0
 primes_left_for job op (MoveRight page) = primes_for job op
 primes_left_for job op (Post debt) = 1
 
--- by the state: the job's whole number until the page is split
+-- by the state: as for the whole job until the page is split
 abbrev pub primes_left_at : Job → Op → State → ℕ
 primes_left_at job op (SplitOld page lower debt) = 1
 primes_left_at job op (AskPrime page debt) = 1

@@ -21,8 +21,8 @@ pub record LatchesWell (pages : Pages) (holder : ℕ → Option ℕ) (worker num
 
 -- ---- reads
 
--- the page is one that `saw_page` takes: of the level that the operation's state says, with a floor below its key, and not too
--- long
+-- the page is one that `saw_page` takes: of the level that the operation's state says, with no floor or one below its key, and
+-- not too long
 pub record IsReadable (m : PlainMachine) (page : PlainPage) : Type 0 where
   pub has_level : page.level ≡ level_read m
   pub floor_below : least_above page.floor ≤ target m

@@ -24,7 +24,7 @@ pub use Rattle.blink_machine.specs.Allowance.{HasEnough, UsesUp, numbers_left, p
 pub use Rattle.blink_machine.specs.Needs.{NeedsNoRead, NeedsSomePage, NeedsSomeWrite}
 -- the entries of a tree as a plain map
 pub use Rattle.blink_machine.specs.TreeMap.{HasMap, IsMapOf, Keeps, entries_from, pairs_of}
--- the law that all other facts about steps follow from, in nine parts: how the invariant begins to hold, what it says, what a step keeps, decides and uses up, and how it ends
+-- the law that all other facts about steps follow from, in nine parts
 pub use Rattle.blink_machine.specs.StepLaw.{IsMapAt}
 -- what an operation makes of what it reads is determined
 pub use Rattle.blink_machine.specs.OneResult.{OneChange, OneResultOfPage, OneResultOfPrime}

@@ -1,6 +1,6 @@
--- The law that all other facts about steps follow from, in nine parts: how the invariant begins to hold, what it says, what a
--- step keeps, decides and uses up, and how it ends. It speaks of pages, latches and operations as partial maps, whatever memory
--- holds them, and of any number of workers.
+-- The law that all other facts about steps follow from, in nine parts. It says how the invariant begins to hold, what it says,
+-- what a step keeps, decides and uses up, and how it ends. It speaks of pages, latches and operations as partial maps, whatever
+-- memory holds them, and of any number of workers.
 use Rattle.std.specs.Prelude.{◌≡◌, ℕ, ◌<◌, ◌≤◌, Some, None, List, length}
 use Rattle.blink_batch.specs.declared.Entry.{Entry}
 use Rattle.blink_batch.specs.declared.Op.{Op}

@@ -16,7 +16,7 @@ use Rattle.blink_machine.specs.declared.machine.State.{State}
 use Rattle.blink_machine.specs.declared.machine.State.TheVariants.{Start, Going, Want, Held, Change, SplitNew, SplitOld, AskPrime, Root, NewPrime, Leave, Posting, Ended}
 use Rattle.blink_machine.specs.Machine.{PlainMachine, at_state, answered, target, level_of, entry_of}
 
--- the page is the leftmost of the top level, which has this number
+-- the page is the leftmost page of the top level, and `level` is that level
 pub record IsTopLeftmost (prime : List ℕ) (level page : ℕ) : Type 0 where
   pub top : length prime ≡ level + 1
   pub leftmost : slice_get prime level ≡ Some page

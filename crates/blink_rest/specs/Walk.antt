@@ -19,7 +19,7 @@ pub record IsTail (fan : ℕ) (pages : Pages) (link : Option ℕ) (cells : List 
   pub pages_there : AreAmong pages cells
   pub in_line : InLine fan level floor link cells (Some GREATEST_KEY) None
 
--- a chain has pages from this link on
+-- the link leads to the last pages of a chain, or nowhere
 abbrev pub HasTail : ℕ → Pages → Option ℕ → Type 0
 HasTail fan pages link = (cells : List Cell) × IsTail fan pages link cells
 

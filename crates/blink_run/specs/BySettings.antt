@@ -1,5 +1,5 @@
--- A script's run as its settings say: over pages of their fan, each batch cut among their workers by their kind of cut, by their
--- driver.
+-- A script's run as its settings say. It runs over pages of their fan. Their workers run each batch, cut by their kind of cut,
+-- by their driver.
 use Rattle.std.specs.Prelude.{ℕ, ◌≡◌, ◌+◌, List, [], ◌∷◌, ◌++◌, Option, Some, Ok, count_by, ⊤}
 use Rattle.blink_batch.specs.declared.Op.{Op}
 use Rattle.blink_batch.specs.declared.Part.{Part}

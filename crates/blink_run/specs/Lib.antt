@@ -1,6 +1,6 @@
 -- What a caller of `blink_run` reads, in this order; then what proofs above it need; then the files themselves.
 
--- a script's run as its settings say: over pages of their fan, each batch cut among their workers by their kind of cut, by their driver
+-- a script's run as its settings say
 pub use Rattle.blink_run.specs.BySettings.{ServesBy, TellsRunOf}
 -- the output for a script: the text of its parts, one after another, by one thread on one plain map
 pub use Rattle.blink_run.specs.Served.{IsPrefixOf, IsTextOf, OutputAfterError, Serves, TellsFault, WritesText, is_batch}

@@ -39,7 +39,7 @@ pub record IsTraced (old : PlainWorld) (schedule : List ℕ) (new : PlainWorld) 
   pub same_batch : SameBatch old.run new.run
   pub goes_on : (start : PlainStore) (is_world : IsWorldOf start old) → HasTurnsMore start old is_world new trace
 
--- the trace stands after the text before it
+-- the trace stands after the trace before it
 abbrev pub TellsSteps : PlainWorld → List ℕ → PlainWorld → List ℕ → List ℕ → Type 0
 TellsSteps old schedule new before after = (trace : List ℕ) × IsTraced old schedule new trace × (after ≡ before ++ trace)
 

@@ -99,7 +99,7 @@ OutputAfterError to_read (serve.Step error) before after = ⊥
 OutputAfterError to_read serve.Output before after = WritesText (IsPrefixOf IsTextOf) to_read before after
 OutputAfterError to_read serve.OutOfMemory before after = WritesText IsTextOfPrefix to_read before after
 
--- ---- parts one after another, on the way
+-- ---- parts one after another, while they are served
 
 -- why a part isn't served: its batch, of this number, isn't run, or the writer failed, or memory was refused
 abbrev pub IsPartFault : Part → ℕ → ServeError → Type 0

@@ -86,7 +86,7 @@ TellsReplayOf workers fan to_read (serve.Step step.TooLarge) = (read : List ℕ)
     → (parts : List Part) × (script_of (records_of read) ≡ Ok parts) × HaveTooLarge workers (new_store fan) parts
 TellsReplayOf workers fan to_read error = IsAScript to_read
 
--- ---- parts one after another, on the way
+-- ---- parts one after another, while they run
 
 -- the trace of a part's batch stands after the trace before it; a part that is no batch changes nothing
 abbrev pub TellsPart : ℕ → List ℕ → PlainStore → Part → List ℕ → List ℕ → PlainStore → Type 0

@@ -11,7 +11,7 @@ pub data AddsMover (run : PlainRun) (worker : ℕ) (before movers : List ℕ) : 
   moves : WouldMove run worker → movers ≡ before ++ worker ∷ [] → AddsMover run worker before movers
   stays : ¬ WouldMove run worker → movers ≡ before → AddsMover run worker before movers
 
--- the workers below a number that would move, in ascending order
+-- of the workers below a number, those that would move, in ascending order
 abbrev pub AreMovers : PlainRun → ℕ → List ℕ → Type 0
 AreMovers run zero movers = movers ≡ []
 AreMovers run (suc worker) movers = (before : List ℕ) × AreMovers run worker before × AddsMover run worker before movers

@@ -16,7 +16,7 @@ pub data Shows (word : List ℕ) (may : List ℕ → PlainRun → ℕ → Type 0
 abbrev pub ShowsSchedule : PlainWorld → List ℕ → PlainWorld → List ℕ → Type 0
 ShowsSchedule = Shows (codes "turn ") (λ turns run worker. ⊤)
 
--- turns of the first worker that would move, until no worker would
+-- turns, each of the first worker that would move then
 abbrev pub ShowsFinish : PlainWorld → PlainWorld → List ℕ → Type 0
 ShowsFinish start finished text = (workers : List ℕ) × Shows (codes "finish ") (λ turns. IsFirstMover) start workers finished text
 

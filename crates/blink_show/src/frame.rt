@@ -26,7 +26,7 @@ impl Shown {
         }
     }
 
-    /// Adds what has changed since the last frame to the text, and remembers the lines of now.
+    /// Adds what has changed since the last frame to the text, and remembers the world's lines.
     pub(crate) fn show(
         &mut self,
         alloc: Global,

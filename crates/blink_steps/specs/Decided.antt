@@ -18,7 +18,7 @@ AnswersSoFar entries ops order given =
 abbrev pub map_now : List Entry → PlainRun → List Entry
 map_now entries run = map_after_all entries (operations_at run.ops run.outcome.order)
 
--- the outcome is the run of the operations on the entries at the start, in the order of their deciding steps
+-- answers and entries are those of a run of the operations on the entries at the start, in the order of their deciding steps
 pub record IsDecided (entries : List Entry) (run : PlainRun) : Type 0 where
   pub places_of_batch : All (λ place. place < length run.ops) run.outcome.order
   pub answered : AnswersSoFar entries run.ops run.outcome.order run.outcome.answers

@@ -25,7 +25,7 @@ abbrev pub ReachesPresent : List Entry → PlainRun → Type 0
 ReachesPresent entries run = (key pointer : ℕ) → pointer_of (map_now entries run) key ≡ Some pointer
     → IsReached run.shared.store.prime (page_of run.shared.store) key pointer
 
--- this holds at the first tree state, and after each turn
+-- each present key is reached so at the first tree state, and after each turn
 pub record IsReachedThroughout (start : PlainStore) (world : PlainWorld)
     (is_world : IsWorldOf start world) : Type 0 where
   pub at_first : (entries : List Entry) → IsMapOf start entries → ReachesPresent entries is_world.opening

@@ -49,7 +49,7 @@ pub record IsAnsweredInOrder (entries : List Entry) (run : PlainRun) : Type 0 wh
   pub all_given : run.outcome.answers ≡ map Some given
   pub in_order : AnswersInOrder entries run.ops run.outcome.order given
 
--- each key belongs to the operations of one worker
+-- the operations on each key are one worker's
 abbrev pub IsLawfullyCut : PlainRun → Type 0
 IsLawfullyCut run = IsLawfulCut run.ops run.assignment.workers run.assignment.lanes
 
