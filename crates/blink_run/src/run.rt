@@ -19,8 +19,8 @@ use std::thread::Threads;
 /// that runs the batch in order on the plain map of the index, place by place. Afterwards the index has that map.
 ///
 /// Each error leaves the index as it was. The call refuses first with `TooLarge`. It refuses with `Worker`, which names the
-/// smallest worker that couldn't be started, before `OutOfMemory`, if both apply. Nothing bounds how long the call waits for its
-/// threads.
+/// smallest worker that couldn't be started, before `OutOfMemory`, if both apply. The contract says nothing of how long the call
+/// waits for its threads.
 pub fn run_batch<R: Threads + Wait + Sync, G: Gate + Sync>(
     rt: &R,
     alloc: Global,

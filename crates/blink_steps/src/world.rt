@@ -263,9 +263,9 @@ impl World {
 
 /// Runs a schedule: from the first tree state it gives one turn for each number. It returns the world, or the first refusal.
 ///
-/// If the lanes are a lawful cut and all operations have ended, one thread gives the same answers, place by place, when it runs
-/// the batch in its own order on the plain list of the tree's entries. The tree's entries are then those of that list. In every
-/// tree state of the run each key then present is reached from the root.
+/// Let the lanes be a lawful cut, and all operations have ended. Then the answers are, place by place, those of one thread that
+/// runs the batch in its own order on the plain list of the tree's entries. The tree's entries are those of that list. In every
+/// tree state of the run, whatever the lanes, each key then present is reached from the root.
 pub fn replay(
     alloc: Global,
     rest: Rest,

@@ -30,8 +30,8 @@ fn blink(
         return Err(ProgramError::Memory);
     };
     let outcome = carry_out(rt, alloc, &line, &mut rt.reader(), &mut output);
-    // After a writer has failed, some bytes are left in the buffer. They aren't written again, as they would be when the buffer
-    // is dropped.
+    // Bytes are left in the buffer only if the writer failed. They aren't written again, as they would be when the buffer is
+    // dropped.
     let _ = output.into_parts();
     outcome.map_err(ProgramError::Serve)
 }
