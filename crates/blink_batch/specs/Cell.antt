@@ -1,4 +1,4 @@
--- A map cut by keys: what operations on one key answer and leave, told from the one cell that keeps that key's pointer.
+-- A map cut by keys: what operations on one key answer and leave follows from the one cell with that key's pointer.
 use Rattle.std.specs.Prelude.{ℕ, ◌==◌, List, [], ◌∷◌, Bool, Option, filter}
 use Rattle.blink_batch.specs.declared.operation.Op.{Op}
 use Rattle.blink_batch.specs.declared.operation.Answer.{Answer}
@@ -9,7 +9,7 @@ abbrev pub cell_answers : Option ℕ → List Op → List Answer
 cell_answers kept [] = []
 cell_answers kept (op ∷ ops) = answer_at op kept ∷ cell_answers (cell_after op kept) ops
 
--- and what they leave in it
+-- the cell after these operations
 abbrev pub cell_after_all : Option ℕ → List Op → Option ℕ
 cell_after_all kept [] = kept
 cell_after_all kept (op ∷ ops) = cell_after_all (cell_after op kept) ops

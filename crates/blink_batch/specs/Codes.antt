@@ -1,4 +1,4 @@
--- The number of each refusal.
+-- The code of each refusal.
 use Rattle.std.specs.Prelude.{ℕ}
 use Rattle.blink_batch.specs.declared.cut.CutError.{CutError}
 use Rattle.blink_batch.specs.declared.cut.CutError.TheVariants as cut

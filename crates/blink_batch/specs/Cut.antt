@@ -1,4 +1,4 @@
--- How the operations of a batch are given to workers: any assignment, which one is a lawful cut, and why others aren't.
+-- How the operations of a batch are assigned to workers: any assignment, which ones are lawful cuts, and why others aren't.
 use Rattle.std.specs.Prelude.{ℕ, ◌≡◌, ◌≢◌, ◌<◌, ◌≤◌, ◌⊎◌, List, length, All, AllPairs, slice_index_or}
 use Rattle.std.specs.List.{zip}
 use Rattle.blink_batch.specs.declared.cut.CutError.{CutError}
@@ -23,7 +23,7 @@ pub record IsLawfulCut (ops : List Op) (workers : ℕ) (lanes : List ℕ) : Type
 abbrev pub MayWork : ℕ → Type 0
 MayWork workers = (0 < workers) × (workers ≤ WORKER_LIMIT)
 
--- as many workers as a run may have, and each lane is one of them
+-- a run may have this many workers, and each lane is one of them
 pub record AreLanes (workers : ℕ) (lanes : List ℕ) : Type 0 where
   pub allowed : MayWork workers
   pub lanes_are_workers : All (λ lane. lane < workers) lanes
@@ -52,7 +52,7 @@ IsLanesFault ops workers lanes OutOfMemory = ⊥
 abbrev pub key_at : List Op → ℕ → ℕ
 key_at ops place = key_of (slice_index_or ops place (Find 0))
 
--- an operation before the one at the place is on its key, and in another lane
+-- an operation before the one at the place has its key, and is in another lane
 pub record SplitsKey (ops : List Op) (lanes : List ℕ) (place earlier : ℕ) : Type 0 where
   pub before : earlier < place
   pub same_key : key_at ops earlier ≡ key_at ops place

@@ -1,4 +1,4 @@
--- The last earlier place of a batch on each key, as a table of buckets keeps it.
+-- The last earlier place of a batch on each key, in a table of buckets.
 use Rattle.std.specs.Prelude.{ℕ, ◌≡◌, ◌<◌, ◌*◌, ◌/◌, ◌%◌, ◌^◌, List, Option, None, Some, slice_index_or}
 use Rattle.blink_batch.specs.declared.operation.Op.{Op}
 use Rattle.blink_batch.specs.declared.last_places.LastPlaces.{LastPlaces}
@@ -17,18 +17,18 @@ IsOnKey ops key place = key_at ops place ≡ key
 abbrev pub IsInBucket : List Op → ℕ → ℕ → Type 0
 IsInBucket ops bucket place = bucket_of (key_at ops place) ≡ bucket
 
--- the place is the last below the end that is such a one
+-- the place is the last such place below the end
 pub record IsLastPlace (IsSuch : ℕ → Type 0) (end place : ℕ) : Type 0 where
   pub below : place < end
   pub such : IsSuch place
   pub last : (later : ℕ) → place < later → later < end → ¬ IsSuch later
 
--- the last place below the end that is such a one, or None where no place is
+-- the last such place below the end, or None if no place is such
 abbrev pub IsLastBefore : (ℕ → Type 0) → ℕ → Option ℕ → Type 0
 IsLastBefore IsSuch end None = (place : ℕ) → place < end → ¬ IsSuch place
 IsLastBefore IsSuch end (Some place) = IsLastPlace IsSuch end place
 
--- each bucket has its last place below the end, and each place below the end the one before it in its bucket
+-- each bucket has its last place below the end, and each place below the end has the one before it in its bucket
 pub record AreLastPlaces (ops : List Op) (end : ℕ) (table : LastPlaces) : Type 0 where
   pub of_buckets : (bucket : ℕ) → bucket < BUCKETS → IsLastBefore (IsInBucket ops bucket) end (slice_index_or table.lasts bucket None)
   pub of_places : (place : ℕ) → place < end → IsLastBefore (IsInBucket ops (bucket_of (key_at ops place))) place (slice_index_or table.earlier place None)

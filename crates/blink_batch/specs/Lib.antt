@@ -1,26 +1,26 @@
 -- What a caller of `blink_batch` reads, in this order; then what proofs above it need; then the files themselves.
 
--- what an operation answers on a plain map and makes of it, and a list of operations one after another
+-- the answer of an operation on a plain map, the map after it, and the same of a list of operations
 pub use Rattle.blink_batch.specs.Operation.{AddsEntry, StopsForMemory, answer_at, answer_of, answers, cell_after, key_of, map_after, map_after_all, pointer_with}
--- the map that the whole index is measured by: a list of entries whose keys strictly ascend
+-- the plain map that the whole index is measured by: a list of entries whose keys strictly ascend
 pub use Rattle.blink_batch.specs.PlainMap.{IsAscending, entry, pointer_of}
--- what the operations of a batch are made of
+-- the numbers that the operations of a batch have
 pub use Rattle.blink_batch.specs.Batch.{FitsWords, is_insert}
--- how the operations of a batch are given to workers: any assignment, which one is a lawful cut, and why others aren't
+-- how the operations of a batch are assigned to workers: any assignment, which ones are lawful cuts, and why others aren't
 pub use Rattle.blink_batch.specs.Cut.{AreLanes, Assignment, IsAssignment, IsCutFault, IsLanesFault, IsLawfulCut, MayWork}
--- keys cut into ranges by ascending bounds: each bound is the greatest key of its range, and one range lies behind them all
+-- keys cut into ranges by ascending bounds: each bound is the greatest key of its range, and one range lies after them all
 pub use Rattle.blink_batch.specs.Ranges.{AreBadBounds, MayBound, lanes_by_ranges}
--- a batch's operations in another order than the batch's, as workers that go on side by side decide them
+-- a batch's operations in an order other than the batch's, as concurrent workers decide them
 pub use Rattle.blink_batch.specs.Order.{AnswersInOrder, IsWholeOrder, lane_of, next_place, operations_at, part_of, places_from}
 -- the text of answers: a line for each
 pub use Rattle.blink_batch.specs.Text.{text_of}
--- the script that a list of records is: its parts, or its first refusal
+-- the script of a list of records: its parts, or its first refusal
 pub use Rattle.blink_batch.specs.Script.{IsReadable, ReadsAs, TellsRefusal, records_of, script_of}
--- what the script of some records is, told without a count or a recursion over them: the parts ask for what the records ask for, or there is a first record that is refused
+-- the script of some records, without a count or a recursion over them
 pub use Rattle.blink_batch.specs.ScriptLaw.{FirstRefusalIsTold, ScriptsHaveTheirParts}
--- how numbers are spelled in scripts and on the command line
+-- the spelling of numbers in scripts and on the command line
 pub use Rattle.blink_batch.specs.Number.{number_of}
--- the number of each refusal
+-- the code of each refusal
 pub use Rattle.blink_batch.specs.Codes.{code_of_cut_error, code_of_record_error, code_of_script_error}
 -- ---- for proofs above
 pub use Rattle.blink_batch.specs.Operation.{map_at}

@@ -1,10 +1,10 @@
--- How numbers are spelled in scripts and on the command line.
+-- The spelling of numbers in scripts and on the command line.
 use Rattle.std.specs.Prelude.{ℕ, ◌^◌, List, [], ◌∷◌, Bool, false, ◌&&◌, ◌==◌, not, nat_lt, Option, Some, None, if◌then◌else◌}
 use Rattle.std.specs.Char.{is_ascii_digit}
 use Rattle.std.specs.List.{list_all}
 use Rattle.std.specs.Str.Parse.{digits_value}
 
--- more than one digit, the first of them 0
+-- the text has more than one digit, and the first is 0
 abbrev pub has_leading_zero : List ℕ → Bool
 has_leading_zero [] = false
 has_leading_zero (digit ∷ []) = false

@@ -1,4 +1,4 @@
--- What an operation answers on a plain map and makes of it, and a list of operations one after another.
+-- The answer of an operation on a plain map, the map after it, and the same of a list of operations.
 use Rattle.std.specs.Prelude.{◌≡◌, ℕ, ◌<◌, List, [], ◌∷◌, Option, Some, None, length, slice_get, take}
 use Rattle.blink_batch.specs.declared.entry.Entry.{Entry}
 use Rattle.blink_batch.specs.declared.operation.Op.{Op}
@@ -7,20 +7,20 @@ use Rattle.blink_batch.specs.declared.operation.Answer.{Answer}
 use Rattle.blink_batch.specs.declared.operation.Answer.TheVariants.{Found, Absent, Inserted, Exists, Removed, Replaced}
 use Rattle.blink_batch.specs.PlainMap.{entry, pointer_of, added, removed, replaced}
 
--- the key that an operation is about
+-- the key of an operation
 abbrev pub key_of : Op → ℕ
 key_of (Find key) = key
 key_of (Insert key pointer) = key
 key_of (Delete key) = key
 key_of (Replace key pointer) = key
 
--- the pointer that it brings: an insertion's or a replacement's, and 0 for the others, which bring none
+-- the pointer that the operation stores: an insertion's or a replacement's, and 0 for the others, which store none
 abbrev pub pointer_with : Op → ℕ
 pointer_with (Insert key pointer) = pointer
 pointer_with (Replace key pointer) = pointer
 pointer_with op = 0
 
--- the answer, where the map keeps this pointer, or nothing, under the operation's key
+-- the operation's answer, if the map has this pointer for its key, or none
 abbrev pub answer_at : Op → Option ℕ → Answer
 answer_at (Find key) (Some kept) = Found kept
 answer_at (Insert key pointer) (Some kept) = Exists kept
@@ -29,14 +29,14 @@ answer_at (Delete key) (Some kept) = Removed kept
 answer_at (Replace key pointer) (Some kept) = Replaced kept
 answer_at op None = Absent
 
--- what the map keeps under that key afterwards, likewise
+-- the pointer of that key afterwards, likewise
 abbrev pub cell_after : Op → Option ℕ → Option ℕ
 cell_after (Insert key pointer) None = Some pointer
 cell_after (Delete key) kept = None
 cell_after (Replace key pointer) (Some kept) = Some pointer
 cell_after op kept = kept
 
--- and the whole map
+-- the whole map afterwards
 abbrev pub map_at : Op → Option ℕ → List Entry → List Entry
 map_at (Insert key pointer) None map = added map (entry key pointer)
 map_at (Delete key) (Some kept) map = removed map key
@@ -59,14 +59,14 @@ abbrev pub map_after_all : List Entry → List Op → List Entry
 map_after_all map [] = map
 map_after_all map (op ∷ ops) = map_after_all (map_after map op) ops
 
--- ---- where memory is asked for
+-- ---- requests for memory
 
--- it is an insertion of an absent key, so that the map grows
+-- the operation is an insertion of an absent key, so the map grows
 abbrev pub AddsEntry : List Entry → Op → Type 0
 AddsEntry map op = answer_of map op ≡ Inserted
 
--- why a run stopped at this map: no memory for the answers, before the first operation, or none for the entry that the operation next
--- to those carried out adds
+-- why a run stopped at this map: memory was refused for the answers, before the first operation, or for the entry that the next
+-- operation adds
 pub data StopsForMemory (map : List Entry) (ops : List Op) (left : List Entry) : Type 0 where
   for_answers : 0 < length ops → left ≡ map → StopsForMemory map ops left
   for_entry : (done : ℕ) (next : Op) → slice_get ops done ≡ Some next → left ≡ map_after_all map (take done ops) → AddsEntry left next

@@ -1,4 +1,4 @@
--- A batch's operations in another order than the batch's, as workers that go on side by side decide them.
+-- A batch's operations in an order other than the batch's, as concurrent workers decide them.
 use Rattle.std.specs.Prelude.{ℕ, ◌≡◌, ◌<◌, ◌+◌, ◌==◌, List, [], ◌∷◌, length, filter, Bool, false, Option, Some, None, slice_get, drop, All}
 use Rattle.std.specs.List.{filter_map, zip}
 use Rattle.blink_batch.specs.declared.entry.Entry.{Entry}
@@ -18,7 +18,7 @@ is_worker worker (Some lane) = lane == worker
 abbrev pub part_of : List ℕ → ℕ → List ℕ → List ℕ
 part_of lanes worker order = filter (λ place. is_worker worker (slice_get lanes place)) order
 
--- the places from one on, as many as the list is long
+-- the places from `place` on, as many as the list is long
 abbrev pub places_from : {X : Type 0} → ℕ → List X → List ℕ
 places_from place [] = []
 places_from place (x ∷ xs) = place ∷ places_from (place + 1) xs
@@ -27,7 +27,7 @@ places_from place (x ∷ xs) = place ∷ places_from (place + 1) xs
 abbrev pub lane_of : List ℕ → ℕ → List ℕ
 lane_of lanes worker = part_of lanes worker (places_from 0 lanes)
 
--- the first place of a worker's lane from one on
+-- the first place of a worker's lane at or after `place`
 abbrev pub next_place : List ℕ → ℕ → ℕ → Option ℕ
 next_place lanes worker place = slice_get (part_of lanes worker (places_from place (drop place lanes))) 0
 
@@ -35,7 +35,7 @@ next_place lanes worker place = slice_get (part_of lanes worker (places_from pla
 abbrev pub AnswersInOrder : List Entry → List Op → List ℕ → List Answer → Type 0
 AnswersInOrder map ops order given = All (λ decided. slice_get given decided.0 ≡ Some decided.1) (zip order (answers map (operations_at ops order)))
 
--- every operation stands in the order once, and each worker's in the batch's order
+-- every operation stands in the order once, and each worker's operations in the batch's order
 pub record IsWholeOrder (ops : List Op) (lanes : List ℕ) (order : List ℕ) : Type 0 where
   pub places_of_batch : All (λ place. place < length ops) order
   pub each_lane_in_order : (worker : ℕ) → part_of lanes worker order ≡ lane_of lanes worker

@@ -1,4 +1,4 @@
--- A script as far as it is read: the parts that nothing joins any more, and the operations of the open batch.
+-- A script as far as it is read: the closed parts, which nothing joins any more, and the operations of the open batch.
 use Rattle.std.specs.Prelude.{◌≤◌, List, [], ◌∷◌, ◌++◌, length}
 use Rattle.blink_batch.specs.declared.batch.TheConstants.{BATCH_LIMIT}
 use Rattle.blink_batch.specs.declared.operation.Op.{Op}
@@ -21,19 +21,19 @@ parts_of (op ∷ ops) = Batch (op ∷ ops) ∷ []
 abbrev pub all_parts : PartsSoFar → List Part
 all_parts parts = parts.closed ++ parts_of parts.pending
 
--- the open batch takes no operation more
+-- the open batch takes no further operation
 abbrev pub IsFull : PartsSoFar → Type 0
 IsFull parts = BATCH_LIMIT ≤ length parts.pending
 
--- an operation more in the open batch
+-- one more operation in the open batch
 abbrev pub with_pending : PartsSoFar → Op → PartsSoFar
 with_pending parts op = record { closed = parts.closed; pending = parts.pending ++ op ∷ [] }
 
--- a part more behind the closed ones
+-- one more part after the closed ones
 abbrev pub with_part : PartsSoFar → Part → PartsSoFar
 with_part parts part = record { closed = parts.closed ++ part ∷ []; pending = parts.pending }
 
--- the same parts, and none is open
+-- the same parts, all closed
 abbrev pub all_closed : PartsSoFar → PartsSoFar
 all_closed parts = record { closed = all_parts parts; pending = [] }
 
@@ -42,7 +42,7 @@ abbrev pub IsOneTooMany : PartsSoFar → Request → Type 0
 IsOneTooMany parts (request.Operation op) = IsFull parts
 IsOneTooMany parts asked = ⊥
 
--- an operation joins the open batch, and what is none ends it
+-- an operation joins the open batch, and any other request ends it
 abbrev pub parts_with : PartsSoFar → Request → PartsSoFar
 parts_with parts (request.Operation op) = with_pending parts op
 parts_with parts asked = with_part (all_closed parts) (alone asked)

@@ -1,9 +1,9 @@
--- The map that the whole index is measured by: a list of entries whose keys strictly ascend.
+-- The plain map that the whole index is measured by: a list of entries whose keys strictly ascend.
 use Rattle.std.specs.Prelude.{ℕ, ◌<◌, List, [], ◌∷◌, Option, Some, None, if◌then◌else◌, ◌==◌, filter, nat_lt, not}
 use Rattle.std.specs.List.{AllByRecursion}
 use Rattle.blink_batch.specs.declared.entry.Entry.{Entry}
 
--- the entry that keeps a pointer under a key
+-- the entry of a key and its pointer
 abbrev pub entry : ℕ → ℕ → Entry
 entry key pointer = record { key = key; pointer = pointer }
 
@@ -12,7 +12,7 @@ abbrev pub IsAscending : List Entry → Type 0
 IsAscending [] = Unit {0}
 IsAscending (e ∷ es) = AllByRecursion (λ after. e.key < after.key) es × IsAscending es
 
--- what the map keeps under a key
+-- the pointer that the map has for a key
 abbrev pub pointer_of : List Entry → ℕ → Option ℕ
 pointer_of [] key = None
 pointer_of (e ∷ es) key = if e.key == key then Some e.pointer else pointer_of es key

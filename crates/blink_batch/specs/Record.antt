@@ -1,4 +1,4 @@
--- What one record of a script means: an operation, a scan or a page, or why it is refused.
+-- The meaning of one record of a script: an operation, a scan or a page, or a refusal.
 use Rattle.std.specs.Prelude.{ℕ, List, [], ◌∷◌, Option, Some, None, Result, Ok, Err, if◌then◌else◌, codes}
 use Rattle.std.specs.Str.{bytes_eq}
 use Rattle.blink_batch.specs.declared.operation.Op.{Op}
@@ -9,7 +9,7 @@ use Rattle.blink_batch.specs.declared.record.Request.{Request}
 use Rattle.blink_batch.specs.declared.record.Request.TheVariants.{Operation, Scan, Page}
 use Rattle.blink_batch.specs.Number.{number_of}
 
--- the key of an operation that has nothing else: an empty third field, and then a number as the second
+-- the key of an operation that has no other number: the third field is empty, and the second is a number
 abbrev pub key_alone : List ℕ → Option ℕ → Result ℕ RecordError
 key_alone (byte ∷ rest) key = Err BadShape
 key_alone [] (Some key) = Ok key
@@ -36,7 +36,7 @@ abbrev pub scan_of : Result (ℕ × ℕ) RecordError → Result Request RecordEr
 scan_of (Ok numbers) = Ok (Scan numbers.0 numbers.1)
 scan_of (Err error) = Err error
 
--- the page from the one number on, with the other's number of entries
+-- the page from the one number on, with as many entries as the other number says
 abbrev pub page_of : Result (ℕ × ℕ) RecordError → Result Request RecordError
 page_of (Ok numbers) = Ok (Page numbers.0 numbers.1)
 page_of (Err error) = Err error
@@ -52,7 +52,7 @@ named word second third =
     else if bytes_eq word (codes "page") then page_of (two_numbers (number_of second) (number_of third))
     else Err UnknownOperation
 
--- a record has three fields
+-- the request of a record, which has three fields
 abbrev pub request_of : List (List ℕ) → Result Request RecordError
 request_of [] = Err BadShape
 request_of (word ∷ []) = Err BadShape

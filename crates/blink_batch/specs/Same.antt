@@ -1,4 +1,4 @@
--- When two batches, or two assignments, are the same: a test that holds exactly of what is equal.
+-- Equality of two batches, or of two assignments: a test that is true exactly of equals.
 use Rattle.std.specs.Prelude.{ℕ, ◌≡◌, List, Bool, true, false, ◌==◌, ◌&&◌}
 use Rattle.std.specs.Bool.{Decides}
 use Rattle.std.specs.Cmp.{IsEquivalence, decided, first_so, second_so, unsigned_Decides}
@@ -20,14 +20,14 @@ same_operation one other = false
 abbrev pub same_operations : List Op → List Op → Bool
 same_operations one other = pointwise same_operation one other
 
--- as many workers, and the same one for each operation
+-- equal numbers of workers, and the same one for each operation
 abbrev pub same_lanes : List ℕ → List ℕ → Bool
 same_lanes one other = pointwise ◌==◌ one other
 
 abbrev pub same_assignment : Assignment → Assignment → Bool
 same_assignment one other = (one.workers == other.workers) && same_lanes one.lanes other.lanes
 
--- ---- the tests hold exactly of what is equal
+-- ---- the tests are true exactly of equals
 
 same_number : (one other : ℕ) → (one == other) ≡ true → one ≡ other
 same_number one other test = (unsigned_Decides one other).0 test

@@ -1,4 +1,4 @@
--- The script that a list of records is: its parts, or its first refusal.
+-- The script of a list of records: its parts, or its first refusal.
 use Rattle.std.specs.Prelude.{ℕ, ◌≡◌, ◌+◌, List, [], ◌∷◌, Option, Some, Result, Ok, Err, ⊤, if◌then◌else◌, nat_lt}
 use Rattle.csv.specs.Reading.{default_config, records, strip_bom}
 use Rattle.csv.specs.declared.error.ErrorKind.{ErrorKind}
@@ -18,13 +18,13 @@ use Rattle.blink_batch.specs.Record.{request_of}
 abbrev pub records_of : List ℕ → List (List (List ℕ))
 records_of text = records default_config (strip_bom text)
 
--- the part that a request is by itself
+-- the part that a request makes by itself
 abbrev pub alone : Request → Part
 alone (request.Operation op) = Batch (op ∷ [])
 alone (request.Scan lo hi) = Scan lo hi
 alone (request.Page lo n) = Page lo n
 
--- an operation before the parts that follow it: the first of the batch that they begin with, or a batch of its own
+-- an operation before the parts that follow it: the first operation of the batch that they begin with, or a batch of its own
 abbrev pub joined : Op → List Part → List Part
 joined op [] = Batch (op ∷ []) ∷ []
 joined op (Batch ops ∷ parts) = Batch (op ∷ ops) ∷ parts
@@ -35,12 +35,13 @@ abbrev pub with_operation : Op → Result (List Part) ScriptError → Result (Li
 with_operation op (Ok parts) = Ok (joined op parts)
 with_operation op (Err error) = Err error
 
--- a part that joins no other before a script, or before a refusal
+-- before a script or a refusal, a part that joins no other
 abbrev pub with_alone : Part → Result (List Part) ScriptError → Result (List Part) ScriptError
 with_alone part (Ok parts) = Ok (part ∷ parts)
 with_alone part (Err error) = Err error
 
--- the script of a record's meaning and what follows, where the batch so far has so many operations: what is no operation ends it
+-- the script of one record's meaning and of what follows, if the batch so far has `before` operations: any other request ends
+-- the batch
 abbrev pub script_by : ℕ → ℕ → Result Request RecordError → (ℕ → Result (List Part) ScriptError)
     → Result (List Part) ScriptError
 script_by number before (Err fault) following = Err (Row number fault)
@@ -48,7 +49,7 @@ script_by number before (Ok (request.Operation op)) following =
     if nat_lt before BATCH_LIMIT then with_operation op (following (before + 1)) else Err (TooMany number)
 script_by number before (Ok asked) following = with_alone (alone asked) (following 0)
 
--- the script of records that are counted from a number on, where the batch so far has so many operations
+-- the script of records counted from `number` on, if the batch so far has `before` operations
 abbrev pub script_from : ℕ → ℕ → List (List (List ℕ)) → Result (List Part) ScriptError
 script_from number before [] = Ok []
 script_from number before (row ∷ rows) =
@@ -58,11 +59,11 @@ script_from number before (row ∷ rows) =
 abbrev pub script_of : List (List (List ℕ)) → Result (List Part) ScriptError
 script_of rows = script_from 1 0 rows
 
--- the text to be read, where it is known, comes to these parts or this refusal
+-- if the text to be read is known, it gives these parts or this refusal
 abbrev pub ReadsAs : Option (List ℕ) → Result (List Part) ScriptError → Type 0
 ReadsAs to_read outcome = (text : List ℕ) → to_read ≡ Some text → script_of (records_of text) ≡ outcome
 
--- what a refusal says of the text to be read: nothing, where it is of the reader, of csv or of memory
+-- what a refusal says of the text to be read: nothing, if the cause is the reader, csv or memory
 abbrev pub TellsRefusal : Option (List ℕ) → ScriptError → Type 0
 TellsRefusal to_read (Row number fault) = ReadsAs to_read (Err (Row number fault))
 TellsRefusal to_read (TooMany number) = ReadsAs to_read (Err (TooMany number))

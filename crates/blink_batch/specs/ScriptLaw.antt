@@ -1,5 +1,5 @@
--- What the script of some records is, told without a count or a recursion over them: the parts ask for what the records
--- ask for, or there is a first record that is refused.
+-- The script of some records, without a count or a recursion over them. The parts ask for what the records ask for, or some
+-- record is the first that is refused.
 use Rattle.std.specs.Prelude.{ℕ, ◌≡◌, ◌≢◌, ◌≤◌, ◌+◌, ◌↔◌, List, [], ◌∷◌, ◌++◌, length, map, Result, Ok, Err}
 use Rattle.std.specs.List.{flat_map}
 use Rattle.blink_batch.specs.declared.batch.TheConstants.{BATCH_LIMIT}
@@ -14,13 +14,13 @@ use Rattle.blink_batch.specs.declared.script.Part.TheVariants.{Batch, Scan, Page
 use Rattle.blink_batch.specs.Record.{request_of}
 use Rattle.blink_batch.specs.Script.{script_of}
 
--- what a part asks for, one request a record
+-- the requests of a part, one for each record
 abbrev pub requests_in : Part → List Request
 requests_in (Batch ops) = map request.Operation ops
 requests_in (Scan lo hi) = request.Scan lo hi ∷ []
 requests_in (Page lo n) = request.Page lo n ∷ []
 
--- batches aren't empty and within the limit, and what is consecutive is one batch
+-- batches aren't empty and are within the limit, and consecutive operations are one batch
 pub record AreGrouped (parts : List Part) : Type 0 where
   pub none_empty : (before after : List Part) → parts ≢ before ++ Batch [] ∷ after
   pub within_limit : (before after : List Part) (ops : List Op)
@@ -33,14 +33,14 @@ pub record HasParts (rows : List (List (List ℕ))) (parts : List Part) : Type 0
   pub meanings : map request_of rows ≡ map Ok (flat_map requests_in parts)
   pub grouped : AreGrouped parts
 
--- the last part is a batch that has no room for one operation more
+-- the last part is a full batch
 pub record EndsInFullBatch (parts : List Part) : Type 0 where
   pub earlier : List Part
   pub ops : List Op
   pub last : parts ≡ earlier ++ Batch ops ∷ []
   pub full : length ops ≡ BATCH_LIMIT
 
--- the record of this number, behind these parts, is refused where it means nothing, or one operation too many
+-- the record of this number, after these parts, is refused if it means nothing, or is one operation too many
 abbrev pub RefusedAfter : ℕ → List Part → Result Request RecordError → ScriptError → Type 0
 RefusedAfter number parts (Err fault) error = error ≡ Row number fault
 RefusedAfter number parts (Ok (request.Operation op)) error = (error ≡ TooMany number) × EndsInFullBatch parts
@@ -56,12 +56,12 @@ pub record IsRefused (rows : List (List (List ℕ))) (error : ScriptError) : Typ
   pub parts_before : HasParts before parts
   pub refused : RefusedAfter (length before + 1) parts (request_of row) error
 
--- records are a script exactly where these are their parts
+-- records are a script exactly if these are their parts
 abbrev pub ScriptsHaveTheirParts : Type 0
 ScriptsHaveTheirParts = (rows : List (List (List ℕ))) (parts : List Part)
     → (script_of rows ≡ Ok parts) ↔ HasParts rows parts
 
--- they are refused exactly by the first that is refused
+-- records are refused exactly by the first that is refused
 abbrev pub FirstRefusalIsTold : Type 0
 FirstRefusalIsTold = (rows : List (List (List ℕ))) (error : ScriptError)
     → (script_of rows ≡ Err error) ↔ IsRefused rows error

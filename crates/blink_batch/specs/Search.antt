@@ -1,4 +1,4 @@
--- Where a search for a key ends in a plain map.
+-- The end of a search for a key in a plain map.
 use Rattle.std.specs.Prelude.{ℕ, ◌≡◌, ◌<◌, ◌≤◌, List, length, slice_index_or}
 use Rattle.blink_batch.specs.declared.entry.Entry.{Entry}
 use Rattle.blink_batch.specs.PlainMap.{entry}
@@ -12,7 +12,7 @@ pub record IsPlaceOf (map : List Entry) (key place : ℕ) : Type 0 where
   pub in_range : place < length map
   pub has_key : key_at map place ≡ key
 
--- the key would go to the place: smaller keys before it, and greater keys from it on
+-- the key would go to the place: smaller keys stand before it, and greater keys from it on
 pub record IsGapFor (map : List Entry) (key place : ℕ) : Type 0 where
   pub in_range : place ≤ length map
   pub smaller_before : (other : ℕ) → other < place → key_at map other < key

@@ -12,16 +12,16 @@ use thiserror::Error;
 /// The greatest number of operations in a batch.
 pub const BATCH_LIMIT: usize = 8192;
 
-/// Why operations are no batch.
+/// Why operations make no batch.
 #[derive(Clone, Copy, Debug, PartialEq, Eq, Error)]
 pub enum BatchError {
-    /// There are more than [`BATCH_LIMIT`].
+    /// The operations are more than [`BATCH_LIMIT`].
     #[error("too many operations")]
     TooMany,
 }
 
 impl BatchError {
-    /// The number of the refusal, the same in every release.
+    /// Returns the refusal's code, the same in every release.
     pub fn code(&self) -> u8
         ensures { result ≡ 1 }
     {
@@ -48,7 +48,8 @@ impl Model for Batch {
 }
 
 impl Batch {
-    /// The batch of these operations. It takes no memory, and a refusal gives the operations up.
+    /// Makes the batch of these operations. The call takes no memory. It refuses with `BatchError`, if the operations are more
+    /// than [`BATCH_LIMIT`]; a refusal gives the operations up.
     pub fn new(ops: Vec<Op>) -> Result<Batch, BatchError>
         ensures batch { IfOk result (λ batch. batch ≡ ops.items) }
         ensures taken { IsOk result ↔ (length ops.items ≤ BATCH_LIMIT) }
@@ -66,25 +67,25 @@ impl Batch {
         Ok(Batch { ops, inserts })
     }
 
-    /// The operations, in the order that one thread runs them in.
+    /// Returns the operations, in the order in which one thread runs them.
     pub fn ops(&self) -> &[Op]
         ensures ops { result.now ≡ self.now }
         ensures words { All FitsWords self.now }
         ensures limit { length self.now ≤ BATCH_LIMIT }
     {
-        // Read for the proof: a batch keeps what its type says.
+        // Read for the proof: the batch's type invariant becomes known.
         let _inserts = self.inserts;
         &self.ops
     }
 
-    /// How many operations there are.
+    /// Returns the number of operations.
     pub fn len(&self) -> usize
         ensures { result ≡ length self.now }
     {
         self.ops.len()
     }
 
-    /// How many of the operations are insertions.
+    /// Returns the number of insertions among the operations.
     pub fn inserts(&self) -> usize
         ensures { result ≡ count_by is_insert self.now }
     {
@@ -92,7 +93,7 @@ impl Batch {
     }
 }
 
-/// Batches are equal where their operations are, one by one. It takes no memory.
+/// Two batches are equal exactly if their operations are, one by one. The comparison takes no memory.
 impl PartialEq for Batch {
     ghost use Rattle.std.specs.Prelude.{◌≡◌, ◌↔◌, IsTrue};
     ghost use Rattle.std.specs.Cmp.{partial_equiv_from_equiv};

@@ -20,13 +20,13 @@ use thiserror::Error;
 /// The greatest number of workers in a run.
 pub const WORKER_LIMIT: u8 = 64;
 
-/// Why there is no cut, or no assignment of lanes.
+/// Why a batch can't be cut, or lanes can't be assigned.
 #[derive(Clone, Copy, Debug, PartialEq, Eq, Error)]
 pub enum CutError {
-    /// The workers aren't 1 to [`WORKER_LIMIT`].
+    /// The number of workers isn't 1 to [`WORKER_LIMIT`].
     #[error("bad number of workers")]
     BadWorkers,
-    /// There are more or fewer lanes than operations.
+    /// The lanes are more or fewer than the operations.
     #[error("wrong number of lanes")]
     WrongLength,
     /// The lane of this operation, counted from 0, is no worker's: it isn't below the number of workers.
@@ -44,7 +44,7 @@ pub enum CutError {
 }
 
 impl CutError {
-    /// The number of the refusal, the same in every release.
+    /// Returns the refusal's code, the same in every release.
     pub fn code(&self) -> u8
         ensures { result ≡ code_of_cut_error self.now }
     {
@@ -59,7 +59,7 @@ impl CutError {
     }
 }
 
-/// A batch cut among workers, so that each key is one worker's: its operations are that worker's lane.
+/// A batch cut among workers: each key is one worker's, and a worker's operations are its lane.
 #[derive(Debug, Drop)]
 pub struct Cut {
     workers: u8,
@@ -75,7 +75,7 @@ impl Model for Cut {
 }
 
 impl Cut {
-    /// The cut by the remainder of each key: an operation's worker is its key modulo `workers`.
+    /// Cuts a batch by the remainder of each key: an operation's worker is its key modulo `workers`.
     pub fn by_residue(alloc: Global, batch: &Batch, workers: u8) -> Result<Cut, CutError>
         ensures workers { IfOk result (λ cut. cut.workers ≡ workers) }
         ensures lanes { IfOk result (λ cut. cut.lanes ≡ map (λ op. key_of op % workers) batch.now) }
@@ -96,8 +96,8 @@ impl Cut {
         Ok(Cut { workers, lanes })
     }
 
-    /// The cut by ranges of keys, with one worker more than there are bounds: an operation's worker is the first i with
-    /// `key <= bounds[i]`, or else the last. Each key takes a search by halves in the bounds, of which there may be 63.
+    /// Cuts a batch by ranges of keys. There is one worker more than there are bounds, of which there may be 63. An operation's
+    /// worker is the first i with `key <= bounds[i]`, or else the last worker. Each key takes a binary search in the bounds.
     pub fn by_ranges(alloc: Global, batch: &Batch, bounds: &[u64]) -> Result<Cut, CutError>
         ensures workers { IfOk result (λ cut. cut.workers ≡ length bounds.now + 1) }
         ensures lanes { IfOk result (λ cut. cut.lanes ≡ lanes_by_ranges bounds.now batch.now) }
@@ -125,13 +125,12 @@ impl Cut {
         })
     }
 
-    /// The cut that gives operation i of the batch to worker `lanes[i]`. A refusal gives the lanes up: those of
-    /// [`Lanes::new`] come first and in its order, and then `SplitKey`, which tells the first operation whose key had an
-    /// earlier operation in another lane.
+    /// Makes the cut that gives operation i of the batch to worker `lanes[i]`. The call refuses first as [`Lanes::new`] does, in
+    /// its order. Then it refuses with `SplitKey`, which names the first operation whose key had an earlier operation in another
+    /// lane. A refusal gives the lanes up.
     ///
-    /// It takes no memory from the heap, and tables of 64 KiB on the stack. The work grows with the batch, unless many
-    /// keys fall into one bucket of the table: then there are at worst n * (n - 1) / 2 comparisons of keys for n
-    /// operations.
+    /// The call takes no memory from the heap, and tables of 64 KiB on the stack. The work grows with the batch, unless many
+    /// keys fall into one bucket of the table. Then n operations take at worst n * (n - 1) / 2 comparisons of keys.
     pub fn from_lanes(batch: &Batch, workers: u8, lanes: Vec<u8>) -> Result<Cut, CutError>
         ensures workers { IfOk result (λ cut. cut.workers ≡ workers) }
         ensures lanes { IfOk result (λ cut. cut.lanes ≡ lanes.items) }
@@ -153,12 +152,11 @@ impl Cut {
         }
     }
 
-    /// Whether it is a lawful cut of this batch, which need not be the one that it was made for: it has as many lanes
-    /// as the batch has operations, and no key of the batch is in two lanes.
+    /// Returns whether the cut is a lawful cut of this batch, which need not be the one that it was made for. The cut is lawful
+    /// if it has as many lanes as the batch has operations, and no key of the batch is in two lanes.
     ///
-    /// It takes no memory from the heap, and tables of 64 KiB on the stack. The work grows with the batch, unless many
-    /// keys fall into one bucket of the table: then there are at worst n * (n - 1) / 2 comparisons of keys for n
-    /// operations.
+    /// The call takes no memory from the heap, and tables of 64 KiB on the stack. The work grows with the batch, unless many
+    /// keys fall into one bucket of the table. Then n operations take at worst n * (n - 1) / 2 comparisons of keys.
     pub fn is_for(&self, batch: &Batch) -> bool
         ensures { IsTrue result ↔ IsLawfulCut batch.now self.now.workers self.now.lanes }
     {
@@ -166,7 +164,7 @@ impl Cut {
         self.lanes.len() == ops.len() && first_split_key(ops, &self.lanes).is_none()
     }
 
-    /// The same workers and lanes, for a run that takes any assignment. It takes no memory.
+    /// Returns the same workers and lanes, for a run that takes any assignment. The call takes no memory.
     pub fn into_lanes(self) -> Lanes
         ensures workers { result.workers ≡ self.workers }
         ensures lanes { result.lanes ≡ self.lanes }
@@ -177,7 +175,7 @@ impl Cut {
         }
     }
 
-    /// The worker of each operation, in the order of the batch.
+    /// Returns the worker of each operation, in the order of the batch.
     pub fn lanes(&self) -> &[u8]
         ensures lanes { result.now ≡ self.now.lanes }
         ensures workers { AreLanes self.now.workers self.now.lanes }
@@ -185,7 +183,7 @@ impl Cut {
         &self.lanes
     }
 
-    /// The number of workers, those without an operation included.
+    /// Returns the number of workers, those without an operation included.
     pub fn workers(&self) -> u8
         ensures workers { result ≡ self.now.workers }
         ensures allowed { MayWork self.now.workers }
@@ -201,7 +199,7 @@ fn are_ascending(bounds: &[u64]) -> bool
     bounds.is_sorted_by(|bound, next| *bound < *next)
 }
 
-// The lane of a key among ranges: the first whose bound isn't below the key, or the one behind the last bound.
+// The lane of a key among ranges: the first whose bound is at least the key, or the one after the last bound.
 fn lane_in_ranges(bounds: &[u64], key: u64) -> u8
     requires { MayBound bounds.now }
     ensures { result ≡ lane_in_ranges bounds.now key }
@@ -219,7 +217,7 @@ fn first_split_key(ops: &[Op], lanes: &[u8]) -> Option<usize>
 {
     let mut places = LastPlaces::new();
     for place in 0..ops.len() {
-        // No place so far is split, so all earlier operations on the key are in the lane of the last one.
+        // No key is split so far, so all earlier operations on the key are in the lane of the last one.
         match places.last_on_key(ops, place) {
             Some(earlier) if lanes[earlier] != lanes[place] => return Some(place),
             _ => places.note(ops, place),

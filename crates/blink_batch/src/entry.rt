@@ -1,5 +1,5 @@
-//! What a map keeps.
-/// A record pointer kept under a key.
+//! The entries of a map.
+/// A key with its record pointer.
 #[derive(Clone, Copy, Debug, PartialEq, Eq)]
 pub struct Entry {
     pub key: u64,

@@ -1,4 +1,4 @@
-//! Why a text is no script.
+//! The refusals of a text that is no script.
 ghost use Rattle.std.specs.Prelude.{◌≡◌};
 ghost use Rattle.blink_batch.specs.Codes.{code_of_record_error, code_of_script_error};
 
@@ -7,10 +7,10 @@ use thiserror::Error;
 /// Why one record of a script is no operation, no scan and no page.
 #[derive(Clone, Copy, Debug, PartialEq, Eq, Error)]
 pub enum RecordError {
-    /// It hasn't three fields, or its third field isn't empty where it has to be.
+    /// The record hasn't three fields, or its third field isn't empty where it has to be.
     #[error("bad shape")]
     BadShape,
-    /// Its first field names none of them.
+    /// The record's first field names neither an operation nor a scan nor a page.
     #[error("unknown operation")]
     UnknownOperation,
     /// A field isn't a number of at most 18446744073709551615, spelled without a leading zero.
@@ -19,7 +19,7 @@ pub enum RecordError {
 }
 
 impl RecordError {
-    /// The number of the refusal, the same in every release.
+    /// Returns the refusal's code, the same in every release.
     pub fn code(&self) -> u8
         ensures { result ≡ code_of_record_error self.now }
     {
@@ -37,7 +37,7 @@ pub enum ScriptError {
     /// This record is no operation, no scan and no page.
     #[error("row {0}: {1}")]
     Row(u64, RecordError),
-    /// This record can't be read, for another cause than the reader or memory.
+    /// This record can't be read, for a cause other than the reader or memory.
     #[error("row {0}: unreadable record")]
     Csv(u64),
     /// This record is one operation more than a batch may have.
@@ -52,7 +52,7 @@ pub enum ScriptError {
 }
 
 impl ScriptError {
-    /// The number of the refusal, the same in every release.
+    /// Returns the refusal's code, the same in every release.
     pub fn code(&self) -> u8
         ensures { result ≡ code_of_script_error self.now }
     {

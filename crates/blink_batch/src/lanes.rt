@@ -6,7 +6,7 @@ use crate::batch::Batch;
 use crate::cut::{CutError, WORKER_LIMIT};
 use std::marker::Model;
 
-/// Which worker carries out each operation of a batch. Unlike a `Cut`, it may give one key to several workers.
+/// The worker of each operation of a batch. Unlike a `Cut`, an assignment may give one key to several workers.
 #[derive(Debug, Drop)]
 pub struct Lanes {
     pub(crate) workers: u8,
@@ -22,9 +22,9 @@ impl Model for Lanes {
 }
 
 impl Lanes {
-    /// The assignment that gives operation i of the batch to worker `lanes[i]`. It takes no memory. A refusal gives
-    /// the lanes up; of several causes the first in the order of the variants is told, and of several bad lanes the
-    /// first.
+    /// Makes the assignment that gives operation i of the batch to worker `lanes[i]`. The call takes no memory. If several
+    /// causes apply, it refuses with the first in the order of the variants of [`CutError`], and of several bad lanes with the
+    /// first. A refusal gives the lanes up.
     pub fn new(batch: &Batch, workers: u8, lanes: Vec<u8>) -> Result<Lanes, CutError>
         ensures workers { IfOk result (λ given. given.workers ≡ workers) }
         ensures lanes { IfOk result (λ given. given.lanes ≡ lanes.items) }
@@ -45,7 +45,7 @@ impl Lanes {
         Ok(Lanes { workers, lanes })
     }
 
-    /// The worker of each operation, in the order of the batch.
+    /// Returns the worker of each operation, in the order of the batch.
     pub fn lanes(&self) -> &[u8]
         ensures lanes { result.now ≡ self.now.lanes }
         ensures workers { AreLanes self.now.workers self.now.lanes }
@@ -53,7 +53,7 @@ impl Lanes {
         &self.lanes
     }
 
-    /// The number of workers, those without an operation included.
+    /// Returns the number of workers, those without an operation included.
     pub fn workers(&self) -> u8
         ensures workers { result ≡ self.now.workers }
         ensures allowed { MayWork self.now.workers }
@@ -62,7 +62,8 @@ impl Lanes {
     }
 }
 
-/// Assignments are equal where the workers are as many and the lanes are the same, one by one. It takes no memory.
+/// Two assignments are equal exactly if their numbers of workers are, and their lanes are, one by one. The comparison takes no
+/// memory.
 impl PartialEq for Lanes {
     ghost use Rattle.std.specs.Prelude.{◌≡◌, ◌↔◌, IsTrue};
     ghost use Rattle.std.specs.Cmp.{partial_equiv_from_equiv};

@@ -1,4 +1,4 @@
-//! The last operation so far on each key, kept without memory from the heap.
+//! The last operation so far on each key, held without memory from the heap.
 ghost use Rattle.std.specs.Prelude.{◌≡◌, ◌+◌, ◌<◌, ◌≤◌, List, length};
 ghost use Rattle.blink_batch.specs.declared.batch.TheConstants.{BATCH_LIMIT};
 ghost use Rattle.blink_batch.specs.declared.last_places.TheConstants.{BUCKETS};
@@ -9,21 +9,21 @@ ghost use Rattle.blink_batch.specs.LastPlaces.{AreLastPlaces, IsLastBefore, IsOn
 use crate::batch::BATCH_LIMIT;
 use crate::operation::Op;
 
-// As many as a full batch has operations, so that few keys share a bucket.
+// As many buckets as a full batch has operations, so that few keys share a bucket.
 const BUCKETS: usize = BATCH_LIMIT;
 
-/// For each key so far, the place of its last operation: a table of fixed size, so that nothing is asked of the heap.
-/// Each bucket has its places as a chain, the last first.
+/// For each key so far the place of its last operation. The table has a fixed size, so it takes no memory from the heap. Each
+/// bucket's places make a chain, the last first.
 #[derive(Drop)]
 pub(crate) struct LastPlaces {
-    // For each bucket, the last place so far whose key falls into it.
+    // For each bucket the last place so far whose key falls into it.
     lasts: [Option<u16>; BUCKETS],
-    // For each place so far, the one before it in its bucket.
+    // For each place so far the one before it in its bucket.
     earlier: [Option<u16>; BATCH_LIMIT],
 }
 
 impl LastPlaces {
-    /// The table before the first place.
+    /// Makes the table before the first place.
     pub(crate) fn new() -> LastPlaces
         ensures { (ops : List Op) → AreLastPlaces ops 0 result }
     {
@@ -33,8 +33,8 @@ impl LastPlaces {
         }
     }
 
-    /// The last earlier place whose operation is on the key of the operation at this one, by a walk through the places of
-    /// the key's bucket.
+    /// Returns the last earlier place whose operation has the same key as the one at `place`. It walks through the places of the
+    /// key's bucket.
     pub(crate) fn last_on_key(&self, ops: &[Op], place: usize) -> Option<usize>
         requires place { place < length ops.now }
         requires limit { length ops.now ≤ BATCH_LIMIT }
@@ -53,7 +53,7 @@ impl LastPlaces {
         None
     }
 
-    /// Takes this place, the first that isn't in the table yet, into it.
+    /// Adds this place, the first that the table lacks.
     pub(crate) fn note(&mut self, ops: &[Op], place: usize)
         requires place { place < length ops.now }
         requires limit { length ops.now ≤ BATCH_LIMIT }
@@ -66,8 +66,8 @@ impl LastPlaces {
     }
 }
 
-// The bucket of a key: the upper bits of its product with 2 ^ 64 over the golden ratio (Fibonacci hashing), so that keys
-// at equal distances don't crowd into few buckets. These are 13 bits, so that every bucket of theirs is to be in the table.
+// The bucket of a key: the upper bits of its product with 2 ^ 64 over the golden ratio (Fibonacci hashing), so that keys at
+// equal distances don't crowd into few buckets. These are 13 bits, and the table has a bucket for each value of them.
 #[tactic(auto, unfolding(crate::specs::LastPlaces::bucket_of))]
 fn bucket(key: u64) -> usize
     ensures value { result ≡ bucket_of key }

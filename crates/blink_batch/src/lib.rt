@@ -1,5 +1,5 @@
-//! The plain side of the index: operations and answers, a sorted list that one thread works on, batches of
-//! operations and their cutting among workers, and the scripts that batches, scans and pages are read from.
+//! The plain side of the index: operations and answers, a sorted list that one thread works on, batches of operations and their
+//! cuts among workers, and the scripts that ask for batches, scans and pages.
 #![tactic(auto)]
 
 mod batch;

@@ -1,11 +1,11 @@
-//! How numbers are spelled.
+//! The spelling of numbers.
 ghost use Rattle.std.specs.Prelude.{◌≡◌};
 ghost use Rattle.std.specs.Char.{is_ascii_digit};
 ghost use Rattle.std.specs.List.{list_all};
 ghost use Rattle.blink_batch.specs.Number.{number_of, is_numeral};
 
-/// The number that a text spells as `0` or as decimal digits without a leading zero, if it is at most
-/// 18446744073709551615. Scripts and the command line spell numbers so.
+/// Returns the number that a text spells as `0` or as decimal digits without a leading zero, if it is at most
+/// 18446744073709551615; otherwise `None`. Scripts and the command line spell numbers so.
 pub fn read_number(text: &[u8]) -> Option<u64>
     ensures { result ≡ number_of text.now }
 {
@@ -18,7 +18,7 @@ pub fn read_number(text: &[u8]) -> Option<u64>
     }
 }
 
-// Whether it is `0`, or decimal digits without a leading zero.
+// Whether the text is `0`, or decimal digits without a leading zero.
 fn is_numeral(text: &[u8]) -> bool
     ensures { result ≡ is_numeral text.now }
 {

@@ -1,4 +1,4 @@
-//! What is asked of a map, and what is answered.
+//! The operations on a map, and their answers.
 ghost use Rattle.std.specs.Prelude.{◌≡◌};
 ghost use Rattle.blink_batch.specs.Operation.{answer_at, key_of, pointer_with};
 ghost use Rattle.blink_batch.specs.Batch.{FitsWords, is_insert};
@@ -10,16 +10,16 @@ use std::fmt;
 pub enum Op {
     /// Looks a key up.
     Find(u64),
-    /// Keeps a pointer under a key, unless the key is there already.
+    /// Adds a key with its pointer, unless the key is present.
     Insert(u64, u64),
-    /// Takes a key away with its pointer, if it is there.
+    /// Removes a key with its pointer, if the key is present.
     Delete(u64),
-    /// Keeps another pointer under a key, if it is there.
+    /// Replaces the pointer of a key, if the key is present.
     Replace(u64, u64),
 }
 
 impl Op {
-    /// The key that the operation is about.
+    /// Returns the operation's key.
     pub fn key(&self) -> u64
         ensures { result ≡ key_of self.now }
     {
@@ -31,7 +31,7 @@ impl Op {
         }
     }
 
-    /// The pointer that it brings, as an insertion does: 0 where it brings none.
+    /// Returns the pointer that the operation stores, or 0 if it stores none.
     pub fn pointer(&self) -> u64
         ensures { result ≡ pointer_with self.now }
     {
@@ -41,7 +41,7 @@ impl Op {
         }
     }
 
-    /// What it answers, where its key is there with this pointer, or is not there.
+    /// Returns the operation's answer, if its key has the pointer `kept`, or is absent.
     pub fn answer(&self, kept: Option<u64>) -> Answer
         ensures { result ≡ answer_at self.now kept }
     {
@@ -55,7 +55,7 @@ impl Op {
         }
     }
 
-    // Whether it is an insertion. Its numbers are read, so they are known to be words.
+    // Whether the operation is an insertion. Its numbers are read, so they are known to be words.
     pub(crate) fn is_insert(&self) -> bool
         ensures value { result ≡ is_insert self.now }
         ensures words { FitsWords self.now }
@@ -72,21 +72,21 @@ impl Op {
 /// What an operation found and did.
 #[derive(Clone, Copy, Debug, PartialEq, Eq)]
 pub enum Answer {
-    /// A find: the pointer kept under the key.
+    /// A find: the key has this pointer.
     Found(u64),
-    /// The key isn't there.
+    /// The key is absent.
     Absent,
-    /// An insertion: the pointer is now kept under the key.
+    /// An insertion: the key now has the pointer.
     Inserted,
-    /// An insertion: the key was there with this pointer, and nothing changed.
+    /// An insertion: the key had this pointer, and nothing changed.
     Exists(u64),
-    /// A deletion: the key was there with this pointer, and is there no more.
+    /// A deletion: the key had this pointer, and is absent now.
     Removed(u64),
-    /// A replacement: the key was there with this pointer, and is there with the new one.
+    /// A replacement: the key had this pointer, and has the new one now.
     Replaced(u64),
 }
 
-/// The words of the answer's output line, as `found 7`.
+/// Writes the words of the answer's output line, as `found 7`.
 impl fmt::Display for Answer {
     ghost use Rattle.std.specs.Prelude.{Some};
     ghost use Rattle.blink_batch.specs.Text.{words_of};

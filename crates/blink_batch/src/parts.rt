@@ -19,7 +19,7 @@ pub(crate) struct Parts {
     alloc: Global,
     // The parts that no operation joins any more.
     closed: Vec<Part>,
-    // The operations since then, which the next one joins.
+    // The operations since the last closed part. The next operation joins them.
     pending: Vec<Op>,
 }
 
@@ -32,7 +32,7 @@ impl Model for Parts {
 }
 
 impl Parts {
-    /// Before the first record. It takes no memory.
+    /// The script before its first record. It takes no memory.
     pub(crate) fn new(alloc: Global) -> Parts
         ensures { result ≡ record { closed = []; pending = [] } }
     {
@@ -43,7 +43,7 @@ impl Parts {
         }
     }
 
-    /// Takes what the record of this number asks for.
+    /// Takes the request of the record of this number.
     pub(crate) fn take(&mut self, number: u64, request: Request) -> Result<(), ScriptError>
         ensures taken { IfOk result (λ _. self.new ≡ parts_with self.old request) }
         ensures too_many { result ≡ Err (TooMany number) ↔ IsOneTooMany self.old request }
@@ -56,7 +56,7 @@ impl Parts {
         }
     }
 
-    /// The script, where no record is left.
+    /// Returns the script after its last record.
     pub(crate) fn into_script(mut self) -> Result<Script, ScriptError>
         ensures parts { IfOk result (λ script. script.parts.items ≡ all_parts self) }
         ensures memory { IsOkUnless result OutOfMemory }
@@ -65,7 +65,7 @@ impl Parts {
         Ok(Script { parts: self.closed })
     }
 
-    // Takes an operation into the open batch.
+    // Adds an operation to the open batch.
     fn push(&mut self, number: u64, op: Op) -> Result<(), ScriptError>
         ensures taken { IfOk result (λ _. self.new ≡ with_pending self.old op) }
         ensures too_many { result ≡ Err (TooMany number) ↔ IsFull self.old }
@@ -89,7 +89,7 @@ impl Parts {
         self.add(part)
     }
 
-    // Ends the open batch: its operations become a part, unless there are none.
+    // Ends the open batch: its operations become a part, if there are any.
     fn close(&mut self) -> Result<(), ScriptError>
         ensures closed { IfOk result (λ _. self.new ≡ all_closed self.old) }
         ensures memory { IsOkUnless result OutOfMemory }
@@ -102,7 +102,7 @@ impl Parts {
         self.add(Part::Batch(batch))
     }
 
-    // Adds a part behind the closed ones.
+    // Adds a part after the closed ones.
     fn add(&mut self, part: Part) -> Result<(), ScriptError>
         ensures added { IfOk result (λ _. self.new ≡ with_part self.old part) }
         ensures memory { IsOkUnless result OutOfMemory }

@@ -1,4 +1,4 @@
-//! The map as one thread keeps it.
+//! The plain map of one thread.
 ghost use Rattle.std.specs.Prelude.{◌≡◌, ℕ, [], List, Option, Some, None, IsOk, IfOk, IfErr, OnOk, OnErr, MatchResult, take};
 ghost use Rattle.blink_batch.specs.declared.entry.Entry.{Entry};
 ghost use Rattle.blink_batch.specs.Search.{IsPlaceOf, IsGapFor};
@@ -10,7 +10,7 @@ use crate::operation::{Answer, Op};
 use std::alloc::{AllocError, Global};
 use std::marker::Model;
 
-/// A map as one thread keeps it: a sorted vector, the slow twin that every index is measured by.
+/// The plain map of one thread: a sorted vector. Every index is measured by it.
 #[derive(Debug, Drop)]
 pub struct Plain {
     entries: Vec<Entry>,
@@ -25,7 +25,7 @@ impl Model for Plain {
 }
 
 impl Plain {
-    /// The empty map. It takes no memory until the first insertion, and then from `alloc`.
+    /// Makes the empty map. It takes no memory until the first insertion, and then from `alloc`.
     pub fn new(alloc: Global) -> Self
         ensures { result ≡ [] }
     {
@@ -34,7 +34,8 @@ impl Plain {
         }
     }
 
-    /// Carries one operation out. Only an insertion of an absent key takes memory; where that is refused the map is as it was.
+    /// Runs one operation, and returns its answer. Only an insertion of an absent key takes memory. If that is refused, the map
+    /// is as it was.
     pub fn apply(&mut self, op: Op) -> Result<Answer, AllocError>
         ensures answer { IfOk result (λ answer. answer ≡ answer_of self.old op) }
         ensures map { OnOk result (self.new ≡ map_after self.old op) }
@@ -59,8 +60,9 @@ impl Plain {
         }
     }
 
-    /// Carries operations out, one after another, and answers each at its place. It takes memory for the answers, before the first
-    /// operation, and for each entry that an insertion adds. After an error the map is that of the operations carried out so far.
+    /// Runs operations, one after another, and returns the answer of each at its place. The call takes memory for the answers,
+    /// before the first operation, and for each entry that an insertion adds. After an error the map is that of the operations
+    /// run so far.
     pub fn run(&mut self, alloc: Global, ops: &[Op]) -> Result<Vec<Answer>, AllocError>
         ensures answers { IfOk result (λ given. given.items ≡ answers self.old ops.now) }
         ensures map { OnOk result (self.new ≡ map_after_all self.old ops.now) }
@@ -76,7 +78,7 @@ impl Plain {
         Ok(given)
     }
 
-    /// The entries, in ascending order of their keys.
+    /// Returns the entries, in ascending order of their keys.
     pub fn entries(&self) -> &[Entry]
         ensures entries { result.now ≡ self.now }
         ensures ascending { IsAscending self.now }
@@ -84,7 +86,7 @@ impl Plain {
         &self.entries
     }
 
-    // Keeps another pointer under the key, which stands at the place, and gives the one before.
+    // Replaces the pointer of the key, which stands at the place, and returns the one before.
     fn replace_at(&mut self, at: usize, key: u64, pointer: u64) -> u64
         requires place { IsPlaceOf self.old key at }
         ensures before { pointer_of self.old key ≡ Some result }
@@ -95,7 +97,7 @@ impl Plain {
         before
     }
 
-    // Where the key stands, or where it would go.
+    // The place of the key, or the place where it would go.
     fn place(&self, key: u64) -> Result<usize, usize>
         ensures found { IfOk result (IsPlaceOf self.now key) }
         ensures gap { IfErr result (IsGapFor self.now key) }

@@ -1,4 +1,4 @@
-//! What one record of a script means.
+//! The meaning of one record of a script.
 ghost use Rattle.std.specs.Prelude.{◌≡◌, ◌≢◌, [], ◌∷◌, length, MatchOption};
 ghost use Rattle.csv.specs.Records.{fields_of};
 ghost use Rattle.blink_batch.specs.Number.{number_of};
@@ -9,18 +9,18 @@ use crate::number::read_number;
 use crate::operation::Op;
 use csv::ByteRecord;
 
-/// What one record asks for.
+/// The request of one record.
 #[derive(Clone, Copy)]
 pub(crate) enum Request {
     /// An operation of a batch.
     Operation(Op),
     /// The entries with keys from the first number to the second.
     Scan(u64, u64),
-    /// The first entries with keys from the first number on, as many as the second says.
+    /// The first entries with keys from the first number on. The second number says how many.
     Page(u64, u64),
 }
 
-/// What a record asks for.
+/// Returns the request of a record.
 pub(crate) fn read_request(row: &ByteRecord) -> Result<Request, RecordError>
     ensures { result ≡ request_of (fields_of row.now) }
 {
@@ -30,7 +30,7 @@ pub(crate) fn read_request(row: &ByteRecord) -> Result<Request, RecordError>
     }
 }
 
-// The fields, if they are three.
+// The fields, if the record has three.
 fn three_fields(row: &ByteRecord) -> Option<(&[u8], &[u8], &[u8])>
     ensures { MatchOption result (length (fields_of row.now) ≢ 3)
         (λ fields. fields_of row.now ≡ fields.0.now ∷ fields.1.now ∷ fields.2.now ∷ []) }
@@ -41,7 +41,7 @@ fn three_fields(row: &ByteRecord) -> Option<(&[u8], &[u8], &[u8])>
     Some((row.get(0)?, row.get(1)?, row.get(2)?))
 }
 
-// What a word and the two fields after it ask for.
+// The request of a word and the two fields after it.
 fn named(word: &[u8], second: &[u8], third: &[u8]) -> Result<Request, RecordError>
     ensures { result ≡ named word.now second.now third.now }
 {
@@ -66,7 +66,7 @@ fn named(word: &[u8], second: &[u8], third: &[u8]) -> Result<Request, RecordErro
     }
 }
 
-// The key of an operation that has nothing else.
+// The key of an operation that has no other number.
 fn key_alone(second: &[u8], third: &[u8]) -> Result<u64, RecordError>
     ensures { result ≡ key_alone third.now (number_of second.now) }
 {

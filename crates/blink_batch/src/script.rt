@@ -16,28 +16,29 @@ use std::io::Read;
 pub enum Part {
     /// Consecutive operations, at least one.
     Batch(Batch),
-    /// A scan: the entries with keys from the first number to the second. There are none where the second is less.
+    /// A scan: the entries with keys from the first number to the second. If the second is less, the scan has no entries.
     Scan(u64, u64),
-    /// A page: the first entries with keys from the first number on, as many as the second says, or all of these where there
-    /// are fewer.
+    /// A page: the first entries with keys from the first number on. The second number says how many; if there are fewer, the
+    /// page has all of them.
     Page(u64, u64),
 }
 
-/// What a text of comma-separated records asks for, part after part.
+/// The requests of a text of comma-separated records, part after part.
 #[derive(Debug, Drop)]
 pub struct Script {
     pub parts: Vec<Part>,
 }
 
-/// Reads a script: records of three fields as the crate `csv` reads them by default, but without a header row and
-/// of any length. `insert,k,p` keeps the pointer p under the key k, `find,k,` looks k up, `delete,k,` takes k away, and
-/// `replace,k,p` keeps p in place of k's pointer. Consecutive ones form a batch. `scan,lo,hi`, which asks for the entries
-/// with keys from lo to hi, ends it, and so does `page,lo,n`, which asks for the first n entries with keys from lo on.
-/// Records are counted from 1, scans and pages among them, and the first refusal in their order is the answer. A refusal
-/// leaves the reader somewhere behind the records that were read.
+/// Reads a script. Its records have three fields, as the crate `csv` reads them by default, but without a header row and of any
+/// length. `insert,k,p` adds the key k with the pointer p, `find,k,` looks k up, `delete,k,` removes k, and `replace,k,p`
+/// replaces k's pointer by p. Consecutive operations form a batch. `scan,lo,hi` asks for the entries with keys from lo to hi,
+/// and `page,lo,n` for the first n entries with keys from lo on. Either ends the batch. Records are counted from 1, scans and
+/// pages included.
 ///
-/// What is said of the text read is said of a reader that tells its bytes. `Read` comes where the reader failed, and
-/// `OutOfMemory` where memory was refused, or where more records come than 64 bits count, whose parts have no room in it.
+/// The call refuses with the first refusal in the order of the records. A refusal leaves the reader somewhere after the records
+/// that were read. What is said of the text holds for a reader whose bytes are known. The call refuses with `Read`, if the
+/// reader failed. It refuses with `OutOfMemory`, if memory was refused, or if there are more records than 64 bits count, whose
+/// parts memory has no room for.
 pub fn read_script<R: Read + Drop>(alloc: Global, reader: R) -> Result<Script, ScriptError>
     ensures script { IfOk result (λ script. ReadsAs (R.remaining reader) (Ok script.parts.items)) }
     ensures refusal { IfErr result (TellsRefusal (R.remaining reader)) }
@@ -64,11 +65,11 @@ pub fn read_script<R: Read + Drop>(alloc: Global, reader: R) -> Result<Script, S
             Err(error) => return Err(error),
         }
     }
-    // The count has ended before the records, whose parts no memory has room for: so this never comes.
+    // The count ends only after records whose parts no memory has room for, so this line is never reached.
     Err(ScriptError::OutOfMemory)
 }
 
-// The refusal of a record that csv could not give.
+// The refusal of a record that `csv` could not give.
 fn refusal(number: u64, error: csv::Error) -> ScriptError
     ensures { result ≡ refusal_of number (error_kind error) }
 {

@@ -1,4 +1,4 @@
-//! What callers of a table learn from its contracts alone.
+//! What callers of a table know from its contracts alone.
 #![tactic(auto)]
 
 ghost use Rattle.std.specs.Prelude.{◌≡◌, ◌≢◌, ℕ, Some, None, [], Contains};
@@ -9,7 +9,7 @@ ghost use Rattle.blink_client.specs.Shown.{IsShown};
 use blink_live::{Live, Pass};
 use std::sync::Wait;
 
-/// One pass inserts an entry and tells another, which glances and tells back: it was shown the entry.
+/// One pass inserts an entry and tells another pass. That pass glances and tells back: the glance returned the entry.
 pub fn insert_and_show<R: Wait>(
     rt: &R,
     live: &Live,
@@ -33,7 +33,7 @@ pub fn insert_and_show<R: Wait>(
     Some(shown)
 }
 
-/// The same where a third pass is told by the second, and glances.
+/// The same with a third pass: the second tells it, and it glances.
 pub fn insert_and_show_on<R: Wait>(
     rt: &R,
     live: &Live,

@@ -1,4 +1,4 @@
--- The number of each refusal, and the numbers that are no fan.
+-- The code of each refusal, and the numbers that are no fan.
 use Rattle.std.specs.Prelude.{ℕ, ◌<◌, ◌⊎◌}
 use Rattle.blink_page.specs.declared.limits.TheConstants.{MIN_FAN, MAX_FAN}
 use Rattle.blink_index.specs.declared.error.IndexError.{IndexError}
@@ -8,6 +8,6 @@ abbrev pub code_of : IndexError → ℕ
 code_of BadFan = 40
 code_of OutOfMemory = 41
 
--- no tree allows its pages so many entries
+-- no tree allows its pages this many entries
 abbrev pub IsBadFan : ℕ → Type 0
 IsBadFan fan = (fan < MIN_FAN) ⊎ (MAX_FAN < fan)

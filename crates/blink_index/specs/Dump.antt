@@ -6,7 +6,7 @@ use Rattle.blink_rest.specs.Chain.{Cell}
 use Rattle.blink_store.specs.{PlainStore}
 use Rattle.blink_index.specs.Index.{levels_of}
 
--- a number, or a dash where there is none
+-- a number, or a dash for a missing one
 abbrev pub words_of : Option ℕ → List ℕ
 words_of None = codes "-"
 words_of (Some number) = decimal number
@@ -15,12 +15,12 @@ words_of (Some number) = decimal number
 abbrev pub entry_text : ℕ × ℕ → List ℕ
 entry_text entry = codes " " ++ (decimal entry.0 ++ (codes ":" ++ decimal entry.1))
 
--- a page: its level, its number, its floor, its high key and its right link, with a space between two of them
+-- a page: its level, its number, its floor, its high key and its right link, with a space between each two
 abbrev pub page_text : Cell → List ℕ
 page_text c =
     decimal c.page.level ++ (codes " " ++ (decimal c.number ++ (codes " " ++ (words_of c.page.floor ++ (codes " " ++ (decimal c.page.high ++ (codes " " ++ words_of c.page.right)))))))
 
--- the line of a page: that, its entries and a line feed
+-- the line of a page: the page, its entries and a line feed
 abbrev pub line_of : Cell → List ℕ
 line_of c = page_text c ++ (flat_map entry_text c.page.entries ++ codes "\n")
 

@@ -8,11 +8,11 @@ use Rattle.blink_machine.specs.{IsMapOf, pairs_of}
 use Rattle.blink_index.specs.Dump.{text_of, text_of_store}
 use Rattle.blink_index.specs.Index.{map_of}
 
--- the plain map of a store at rest ascends, and it is what the tree keeps
+-- the plain map of a store at rest ascends, and it is that of the tree
 abbrev pub MapIsKept : Type 0
 MapIsKept = (store : PlainStore) → IsStoreAtRest store → IsMapOf store (map_of store)
 
--- and the tree keeps no other
+-- the tree has no other map
 abbrev pub NoOtherMapIsKept : Type 0
 NoOtherMapIsKept = (store : PlainStore) (entries : List Entry) → IsStoreAtRest store
     → AreEntries store.fan store.prime (page_of store) (pairs_of entries) → entries ≡ map_of store

@@ -1,12 +1,12 @@
 -- What a caller of `blink_index` reads, in this order; then what proofs above it need; then the files themselves.
 
--- what an index keeps: the levels of its tree, its tree's entries, and these as a plain map
+-- the content of an index: the levels of its tree, its tree's entries, and these as a plain map
 pub use Rattle.blink_index.specs.Index.{map_of}
--- which entries a scan brings: those of its leaf that are left, then those of the leaves from its link on, up to a key or to a number of entries
+-- the entries that a scan gives, up to a key or to a number of entries
 pub use Rattle.blink_index.specs.Scan.{BringsInOrder, is_from, is_within}
 -- the text of a tree at rest: a line for each page, the top level first, and each level from the left
 pub use Rattle.blink_index.specs.Dump.{entry_text, text_of_store, words_of}
--- the number of each refusal, and the numbers that are no fan
+-- the code of each refusal, and the numbers that are no fan
 pub use Rattle.blink_index.specs.Codes.{IsBadFan, code_of}
 -- laws of the plain map of an index and of its text
 pub use Rattle.blink_index.specs.Laws.{MapIsKept, NoOtherMapIsKept, TextIsOfLevels}

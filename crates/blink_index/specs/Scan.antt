@@ -1,5 +1,5 @@
--- Which entries a scan brings: those of its leaf that are left, then those of the leaves from its link on, up to a key or
--- to a number of entries.
+-- The entries that a scan gives, up to a key or to a number of entries. They are those that are left of its leaf, and then those
+-- of the leaves from its link on.
 use Rattle.std.specs.Prelude.{ℕ, ◌-◌, ◌≤◌, nat_le, if◌then◌else◌, ◌&&◌, Bool, Option, Some, None, List, [], ◌∷◌, length, take}
 use Rattle.std.specs.Iterator.{YieldsFirst}
 use Rattle.std.specs.Iterator.Runs.{YieldsInOrder}
@@ -14,7 +14,7 @@ use Rattle.blink_index.specs.Index.{cells_of}
 abbrev pub is_within : ℕ → ℕ → Entry → Bool
 is_within lo hi e = nat_le lo e.key && nat_le e.key hi
 
--- it is at least the number
+-- the entry's key is at least the number
 abbrev pub is_from : ℕ → Entry → Bool
 is_from lo e = nat_le lo e.key
 
@@ -28,21 +28,21 @@ pub record IsLinkOf (store : PlainStore) (link : Option ℕ) : Type 0 where
 abbrev pub entries_after : PlainStore → Option ℕ → List (ℕ × ℕ)
 entries_after store link = entries_along (cells_of store link)
 
--- entries before the first whose key is greater
+-- the entries before the first whose key is greater
 abbrev pub entries_to : ℕ → List (ℕ × ℕ) → List Entry
 entries_to hi [] = []
 entries_to hi ((key, pointer) ∷ rest) = if nat_le key hi then entry key pointer ∷ entries_to hi rest else []
 
--- the first so many entries, or all where no number is given
+-- the first entries, as many as the number says, or all if no number is given
 abbrev pub at_most : Option ℕ → List Entry → List Entry
 at_most None entries = entries
 at_most (Some n) entries = take n entries
 
--- how many may come after one of them
+-- how many entries may come after one of them
 abbrev pub one_fewer : Option ℕ → Option ℕ
 one_fewer None = None
 one_fewer (Some n) = Some (n - 1)
 
--- what is run over a scan is given the entries that it still brings, in order
+-- a computation over a scan gets the entries that the scan still gives, in order
 abbrev pub BringsInOrder : Type 0
 BringsInOrder = YieldsInOrder (YieldsFirst {A = Entry} (λ rest. rest)) (λ rest. rest)

@@ -1,11 +1,12 @@
-//! The way down to a leaf.
+//! The descent to a leaf.
 ghost use Rattle.blink_rest.specs.{IsStoreAtRest};
 ghost use Rattle.blink_index.specs.Leaf.{IsLeafFor};
 
 use blink_page::{Page, Way};
 use blink_store::Store;
 
-/// The leaf that a key belongs to. It takes no memory, and reads one page a level: at rest no search moves right.
+/// Returns the leaf that a key belongs to. The call takes no memory, and reads one page for each level: in a tree at rest no
+/// search moves right.
 pub(crate) fn leaf_for(store: &Store, key: u64) -> &Page
     requires { IsStoreAtRest store.now }
     ensures { IsLeafFor store.now key result.now }

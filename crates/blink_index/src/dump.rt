@@ -11,7 +11,7 @@ use blink_store::Store;
 use std::alloc::{AllocError, Global};
 use std::fmt;
 
-/// A number, or a dash where there is none, as a line of a dump has them.
+/// A number, or a dash for a missing one, as a line of a dump spells them.
 #[derive(Clone, Copy)]
 pub struct OrDash(pub Option<u64>);
 
@@ -26,7 +26,7 @@ impl fmt::Display for OrDash {
     }
 }
 
-/// Adds entries to a text, with a space before each and a colon between its key and its pointer, as a line of a dump has them. An
+/// Adds entries to a text as a line of a dump spells them: a space before each, and a colon between its key and its pointer. An
 /// error is a refusal of memory.
 pub fn push_entries(text: &mut String, entries: &[(u64, u64)]) -> Result<(), AllocError>
     ensures { OnOk result
@@ -38,7 +38,7 @@ pub fn push_entries(text: &mut String, entries: &[(u64, u64)]) -> Result<(), All
     Ok(())
 }
 
-// Adds what a line says of a page itself.
+// Adds the part of a line that is about the page itself.
 fn push_page(text: &mut String, number: u32, page: &Page) -> Result<(), AllocError>
     ensures { OnOk result
         (string_bytes text.new
@@ -62,7 +62,7 @@ fn push_line(text: &mut String, number: u32, page: &Page) -> Result<(), AllocErr
     text.push_str("\n")
 }
 
-// Adds the lines of the pages from a link on.
+// Adds the lines of a level's pages, from its leftmost page on.
 fn push_level(text: &mut String, store: &Store, leftmost: u32) -> Result<(), AllocError>
     requires { IsLinkOf store.now (Some leftmost) }
     ensures { OnOk result
@@ -78,7 +78,7 @@ fn push_level(text: &mut String, store: &Store, leftmost: u32) -> Result<(), All
     Ok(())
 }
 
-/// The lines of a tree at rest, the top level first.
+/// Returns the lines of a tree at rest, the top level first.
 pub(crate) fn tree_text(alloc: Global, store: &Store) -> Result<String, AllocError>
     requires { IsStoreAtRest store.now }
     ensures { IfOk result (λ text. string_bytes text ≡ text_of_store store.now) }

@@ -1,4 +1,4 @@
-//! Why an index is refused.
+//! The refusals of an index.
 ghost use Rattle.std.specs.Prelude.{◌≡◌};
 ghost use Rattle.blink_index.specs.Codes.{code_of};
 
@@ -16,7 +16,7 @@ pub enum IndexError {
 }
 
 impl IndexError {
-    /// The number of the refusal, the same in every release.
+    /// Returns the refusal's code, the same in every release.
     pub fn code(&self) -> u8
         ensures { result ≡ code_of self.now }
     {

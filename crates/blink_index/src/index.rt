@@ -1,4 +1,4 @@
-//! A tree at rest, as a map that can be read.
+//! A tree at rest, as a map to be read.
 ghost use Rattle.std.specs.Prelude.{◌≡◌, ℕ, ◌↔◌, List, [], filter, length, string_bytes, IfOk, IsErrOf, IsOkUnless, take};
 ghost use Rattle.blink_batch.specs.{pointer_of};
 ghost use Rattle.blink_page.specs.{value_at, IsPageNumber};
@@ -21,10 +21,10 @@ use blink_store::Store;
 use std::alloc::{AllocError, Global};
 use std::marker::Model;
 
-/// A map from keys to record pointers, kept in a B-link tree at rest.
+/// A map from keys to record pointers, in a B-link tree at rest.
 ///
-/// Contracts see it as its store: `map_of` of that is the plain map, for who asks what is kept, and its fan, its prime
-/// block and its pages are for a layer above that runs batches or shows pages.
+/// Contracts see an index as its store. `map_of` of the store is the plain map, for questions about the entries. The store's
+/// fan, prime block and pages are for a layer above that runs batches or shows pages.
 #[derive(Debug, Drop)]
 pub struct Index {
     rest: Rest,
@@ -39,9 +39,10 @@ impl Model for Index {
 }
 
 impl Index {
-    /// An index without an entry, whose pages will have at most `fan` entries each.
+    /// Makes an index without an entry, whose pages will have at most `fan` entries each.
     ///
-    /// `BadFan` is told of every `fan` outside 4 to 32, before memory is asked for.
+    /// The call refuses with `BadFan` for every `fan` outside 4 to 32, before it asks for memory. It refuses with `OutOfMemory`,
+    /// if memory was refused.
     pub fn new(alloc: Global, fan: u8) -> Result<Index, IndexError>
         ensures index { IfOk result (λ index. index ≡ new_store fan) }
         ensures empty { IfOk result (λ index. map_of index ≡ []) }
@@ -56,14 +57,14 @@ impl Index {
         }
     }
 
-    /// The index that a tree at rest keeps. It takes no memory.
+    /// Makes an index of a tree at rest. The call takes no memory.
     pub fn from_rest(rest: Rest) -> Index
         ensures { result ≡ rest }
     {
         Index { rest }
     }
 
-    /// The tree, to be read.
+    /// Returns the tree, to be read.
     pub fn rest(&self) -> &Rest
         ensures tree { result.now ≡ self.now }
         ensures map { IsMapOf self.now (map_of self.now) }
@@ -73,14 +74,14 @@ impl Index {
         &self.rest
     }
 
-    /// The tree, for the next batch to run over. It takes no memory.
+    /// Returns the tree, for the next batch to run over. The call takes no memory.
     pub fn into_rest(self) -> Rest
         ensures { result ≡ self }
     {
         self.rest
     }
 
-    /// How many pages the tree has, from 1 on. The prime block isn't counted.
+    /// Returns the number of pages of the tree, at least 1. The prime block isn't counted.
     pub fn page_count(&self) -> u32
         ensures count { result ≡ length self.now.pages }
         ensures in_range { IsPageNumber result }
@@ -88,7 +89,7 @@ impl Index {
         self.store().pages()
     }
 
-    /// The same index once more: each page has the number that it has here.
+    /// Copies the index. Each page has the same number in the copy.
     pub fn copy(&self, alloc: Global) -> Result<Index, IndexError>
         ensures index { IfOk result (λ index. index ≡ self.now) }
         ensures refused { IsOkUnless result IndexError.OutOfMemory }
@@ -99,7 +100,8 @@ impl Index {
         }
     }
 
-    /// The record pointer kept under the key. It takes no memory, and reads one page a level.
+    /// Returns the record pointer stored for the key, or `None` if the key is absent. The call takes no memory, and reads one
+    /// page for each level.
     pub fn find(&self, key: u64) -> Option<u64>
         ensures pointer { result ≡ pointer_of (map_of self.now) key }
         ensures entry { (entries : List (ℕ × ℕ))
@@ -109,8 +111,8 @@ impl Index {
         leaf_for(self.store(), key).look(key)
     }
 
-    /// The entries with `lo` at most their key and their key at most `hi`, in ascending order; none where `lo > hi`. It
-    /// takes no memory: it reads one page a level on its way down, and then, as entries are asked for, each leaf on its way
+    /// Returns the entries whose keys are from `lo` to `hi`, both included, in ascending order; none if `lo > hi`. The call
+    /// takes no memory. The descent reads one page for each level. Then, as entries are asked for, the scan reads each leaf
     /// once, up to the first key above `hi`.
     pub fn scan(&self, lo: u64, hi: u64) -> Scan<'_>
         ensures entries { result ≡ filter (is_within lo hi) (map_of self.now) }
@@ -120,9 +122,9 @@ impl Index {
         Scan::new(self.store(), lo, hi, None)
     }
 
-    /// The first `n` entries with `lo` at most their key, in ascending order, or all of these where there are fewer. It takes
-    /// no memory: it reads one page a level on its way down, and then, as entries are asked for, each leaf on its way once,
-    /// and none after the `n`th entry.
+    /// Returns the first `n` entries whose keys are at least `lo`, in ascending order, or all of these if they are fewer. The
+    /// call takes no memory. The descent reads one page for each level. Then, as entries are asked for, the scan reads each leaf
+    /// once, and none after the `n`th entry.
     pub fn page(&self, lo: u64, n: u64) -> Scan<'_>
         ensures entries { result ≡ take n (filter (is_from lo) (map_of self.now)) }
         ensures map { IsMapOf self.now (map_of self.now) }
@@ -131,7 +133,7 @@ impl Index {
         Scan::new(self.store(), lo, u64::MAX, Some(n))
     }
 
-    /// All entries, in ascending order: the plain map that the tree keeps.
+    /// Returns all entries, in ascending order: the plain map of the tree.
     pub fn entries(&self, alloc: Global) -> Result<Vec<Entry>, AllocError>
         ensures map { IfOk result (λ entries. entries.items ≡ map_of self.now) }
         ensures kept { IfOk result (λ entries. IsMapOf self.now entries.items) }
@@ -139,9 +141,9 @@ impl Index {
         self.scan(0, u64::MAX).collect(alloc)
     }
 
-    /// The tree as text: one line a page, the top level first, and each level from the left. A line has the page's level,
-    /// number, floor, high key and right link, and then each entry as `key:value`, with single spaces between them and a
-    /// line feed at the end; a floor or a link that isn't there is `-`.
+    /// Returns the tree as text: one line for each page, the top level first, and each level from the left. A line has the
+    /// page's level, number, floor, high key and right link, and then each entry as `key:value`. Single spaces stand between
+    /// them, and a line feed at the end. A missing floor or link is `-`.
     pub fn dump(&self, alloc: Global) -> Result<String, AllocError>
         ensures { IfOk result (λ text. string_bytes text ≡ text_of_store self.now) }
     {

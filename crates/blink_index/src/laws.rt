@@ -1,17 +1,17 @@
-//! Laws of the definitions, each on a function that does nothing.
+//! Laws of the definitions. Each stands on a function that does nothing.
 ghost use Rattle.blink_index.specs.Laws.{MapIsKept, NoOtherMapIsKept, TextIsOfLevels};
 
-/// The plain map that an index is seen as is what its tree keeps.
+/// States that the plain map which contracts see of an index is that of its tree.
 pub fn the_map_is_kept()
     ensures { MapIsKept }
 {}
 
-/// Its tree keeps no other map.
+/// States that the tree has no other map.
 pub fn no_other_map_is_kept()
     ensures { NoOtherMapIsKept }
 {}
 
-/// The text that an index is dumped as is that of the levels of its tree, which are one list.
+/// States that the text of an index is that of the levels of its tree, which are one list.
 pub fn the_text_is_of_the_levels()
     ensures { TextIsOfLevels }
 {}

@@ -1,7 +1,7 @@
-//! The index at rest: what a program holds between batches, to be read without a batch.
+//! The index at rest: what a program holds between batches. It is read without a batch.
 //!
-//! Contracts see an index as its store, the record `PlainStore`, for a layer above that needs its pages. `map_of` of it is
-//! the plain map that it keeps, a list of entries in ascending order of their keys, for all who ask what is kept: the law
+//! Contracts see an index as its store, the record `PlainStore`, for a layer above that needs its pages. `map_of` of the store
+//! is the plain map, a list of entries in ascending order of their keys, for questions about the entries. The law
 //! `the_map_is_kept` ties the two.
 #![tactic(auto)]
 

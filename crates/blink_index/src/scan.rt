@@ -14,16 +14,16 @@ use std::marker::Model;
 
 /// The entries of an index whose keys are from one number to another, or the first of these, in ascending order.
 ///
-/// It takes no memory: it walks the leaves along their right links, over those without an entry, and ends by itself.
+/// The scan takes no memory. It walks the leaves along their right links, past those without an entry, and ends by itself.
 #[derive(Drop)]
 pub struct Scan<'a> {
     store: &'a Store,
     // What is left of the leaf where the scan stands.
     entries: &'a [(u64, u64)],
-    // The leaf after it.
+    // The link to the leaf after it.
     link: Option<u32>,
     hi: u64,
-    // How many entries it may still bring, where that is bounded.
+    // How many entries the scan may still give; `None` if their number has no bound.
     most: Option<u64>,
 }
 
@@ -41,8 +41,8 @@ impl<'a> Model for Scan<'a> {
 }
 
 impl<'a> Scan<'a> {
-    /// The entries of a tree at rest with `lo` at most their key, and their key at most `hi`; no more than `most` of them,
-    /// where that is a number.
+    /// Makes the scan of a tree at rest over the entries whose keys are from `lo` to `hi`; it gives at most `most` of them, if
+    /// that is a number.
     pub(crate) fn new(store: &'a Store, lo: u64, hi: u64, most: Option<u64>) -> Scan<'a>
         requires { IsStoreAtRest store.now }
         ensures { result ≡ at_most most (filter (is_within lo hi) (map_of store.now)) }
@@ -94,7 +94,7 @@ fn one_fewer(most: Option<u64>) -> Option<u64>
     }
 }
 
-// The entries from the first on whose key is at least `lo`.
+// The entries from the first whose key is at least `lo`.
 fn not_below(entries: &[(u64, u64)], lo: u64) -> &[(u64, u64)]
     ensures { result.now ≡ drop (place_of lo entries.now) entries.now }
 {
@@ -106,7 +106,7 @@ fn not_below(entries: &[(u64, u64)], lo: u64) -> &[(u64, u64)]
     &entries[entries.len()..]
 }
 
-// The first page from a link on that has an entry.
+// The first page with an entry, from a link on.
 fn next_leaf(store: &Store, from: Option<u32>) -> Option<&Page>
     requires { IsLinkOf store.now from }
     ensures entries { IfSome result

@@ -1,4 +1,4 @@
--- The number of each refusal, and the exit status that tells of it.
+-- The code of each refusal, and the exit status that reports it.
 use Rattle.std.specs.Prelude.{ℕ, Result, Ok, Err}
 use Rattle.blink_settings.specs.declared.error.ServeError.TheVariants as serve
 use Rattle.blink_line.specs.declared.end.ProgramError.{ProgramError}
@@ -21,7 +21,7 @@ status_of (program.Serve serve.Output) = 5
 status_of (program.Serve serve.OutOfMemory) = 4
 status_of program.Memory = 4
 
--- 0 where all was written
+-- 0 if all was written
 abbrev pub status_of_end : Result (Unit {0}) ProgramError → ℕ
 status_of_end (Ok done) = 0
 status_of_end (Err error) = status_of error

@@ -1,12 +1,12 @@
 -- What a caller of `blink_line` reads, in this order; then what proofs above it need; then the files themselves.
 
--- what the words of a command line ask for, by clap's reading of them
+-- the request of the words of a command line, by clap's reading of them
 pub use Rattle.blink_line.specs.Line.{Asks, AsksToShow, HasAllowedSizes, IsBadValue, IsTaken, IsTakenToShow, as_replay, blink, show}
--- what the values of options mean
+-- the meaning of the values of options
 pub use Rattle.blink_line.specs.Value.{IsSchedule, cut_of, driver_of, fan_of, workers_of}
--- how a program ends, and what standard error is told
+-- the end of a program, and what it writes on standard error
 pub use Rattle.blink_line.specs.End.{IsLineOf, failure_of}
--- the number of each refusal, and the exit status that tells of it
+-- the code of each refusal, and the exit status that reports it
 pub use Rattle.blink_line.specs.Codes.{code_of_line_error, status_of, status_of_end}
 -- ---- the files
 pub mod Line

@@ -1,4 +1,4 @@
--- What the words of a command line ask for, by clap's reading of them.
+-- The request of the words of a command line, by clap's reading of them.
 use Rattle.std.specs.Prelude.{◌≡◌, ⊤, ℕ, List, [], ◌∷◌, Option, Some, None, codes, drop, option_and_then, string_bytes, true, unwrap_or}
 use Rattle.clap.specs.Words.{App, Row, Rule, Text, fault_of, first_of, new_app, new_rule, subcommand_of, with_rule, with_subcommand}
 use Rattle.blink_settings.specs.{IsAllowed, PlainSettings}
@@ -17,7 +17,7 @@ use Rattle.blink_line.specs.declared.line.LineError.TheVariants.{Usage, OutOfMem
 abbrev pub option : Text → Rule
 option name = record (new_rule name) { long = Some name; value_names = 1 }
 
--- the same, with the value that it has where it isn't given
+-- the same, with the value that it has if it isn't given
 abbrev pub option_or : Text → Text → Rule
 option_or name default = record (option name) { defaults = default ∷ [] }
 
@@ -45,7 +45,7 @@ wanting_subcommand app = record app { top = record app.top { subcommand_required
 abbrev pub blink : App
 blink = with_subcommand (with_subcommand (wanting_subcommand (new_app (codes "blink"))) run.top) replay.top
 
--- that of the words of `blink-show`, as those of a replay
+-- the command for the words of `blink-show`, as those of a replay
 abbrev pub show : App
 show = with_subcommand (wanting_subcommand (new_app (codes "blink"))) replay_or_seed.top
 
@@ -56,7 +56,7 @@ IsTaken words = fault_of blink words ≡ []
 abbrev pub IsTakenToShow : List Text → Type 0
 IsTakenToShow words = fault_of show words ≡ []
 
--- the value of an option, as it is given or else by default
+-- the value of an option, given or by default
 abbrev pub value : List Row → Text → Option Text
 value rows name = first_of name rows
 
@@ -95,7 +95,7 @@ Asks words line = IsTaken words × SubcommandMeans (subcommand_of blink words) l
 abbrev pub as_replay : List Text → List Text
 as_replay words = codes "blink" ∷ codes "replay" ∷ drop 1 words
 
--- a schedule or a seed spells these turns; without both the schedule is empty, and both together spell none
+-- a schedule or a seed spells these turns; without both the schedule is empty, and both together spell no turns
 abbrev pub AreTurns : Option Text → Option Text → Turns → Type 0
 AreTurns schedule None (Schedule turns) = IsSchedule (unwrap_or schedule []) turns.items
 AreTurns schedule None (Seed number) = ⊥
@@ -118,7 +118,7 @@ abbrev pub SubcommandShows : Option (Text × List Row) → PlainSettings → Tur
 SubcommandShows None settings turns = ⊥
 SubcommandShows (Some subcommand) settings turns = Shows subcommand.0 subcommand.1 settings turns
 
--- clap takes the words of `blink-show`, put as those of `blink replay`, and their options ask for these turns
+-- clap takes the words of `blink-show`, written as those of `blink replay`, and their options ask for these turns
 abbrev pub AsksToShow : List Text → PlainSettings → Turns → Type 0
 AsksToShow words settings turns = IsTakenToShow words × SubcommandShows (subcommand_of show words) settings turns
 

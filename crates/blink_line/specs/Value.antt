@@ -1,4 +1,4 @@
--- What the values of options mean.
+-- The meaning of the values of options.
 use Rattle.std.specs.Prelude.{◌≡◌, ◌-◌, ◌==◌, ◌&&◌, ℕ, List, [], ◌∷◌, Option, Some, None, codes, map, nat_le, if◌then◌else◌, option_and_then}
 use Rattle.std.specs.List.{slice_split}
 use Rattle.std.specs.Str.{bytes_eq}
@@ -19,11 +19,11 @@ between least most number = if nat_le least number && nat_le number most then So
 abbrev pub number_between : ℕ → ℕ → Text → Option ℕ
 number_between least most text = option_and_then (between least most) (number_of text)
 
--- so many workers as a run may have
+-- the number of workers that a text spells, if a run may have that many
 abbrev pub workers_of : Text → Option ℕ
 workers_of = number_between 1 WORKER_LIMIT
 
--- so many entries as a page may have at most
+-- the greatest number of entries that a text spells, if a page may have that many
 abbrev pub fan_of : Text → Option ℕ
 fan_of = number_between MIN_FAN MAX_FAN
 
@@ -43,7 +43,7 @@ driver_of text = if bytes_eq text (codes "locked") then Some Locked else if byte
 abbrev pub parts_of : Text → List Text
 parts_of = slice_split (λ byte. byte == 44)
 
--- the empty text spells the empty schedule, and another one a worker between any two commas
+-- the empty text spells the empty schedule, and any other text spells a worker between each two commas
 abbrev pub IsSchedule : Text → List ℕ → Type 0
 IsSchedule [] schedule = schedule ≡ []
 IsSchedule (byte ∷ rest) schedule = map worker_of (parts_of (byte ∷ rest)) ≡ map Some schedule

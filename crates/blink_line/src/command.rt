@@ -1,4 +1,4 @@
-//! The command line's grammar, as `clap` has it.
+//! The grammar of the command line, for `clap`.
 ghost use Rattle.std.specs.Prelude.{◌≡◌, false, codes, IfOk, IfErr};
 ghost use Rattle.clap.specs.Words.{app_of, kind_of, new_app, rule_of, subcommand_of, subcommand_rows_of};
 ghost use Rattle.clap.specs.Walk.{texts};
@@ -9,7 +9,7 @@ use clap::error::ErrorKind;
 use clap::{Arg, ArgMatches, Command};
 use std::alloc::{AllocError, Global};
 
-/// What `clap` finds in the words.
+/// Returns what `clap` finds in the words.
 pub fn matches_of<'a>(alloc: Global, words: &'a [&'a str]) -> Result<ArgMatches<'a>, clap::Error>
     ensures taken { IfOk result (λ _. IsTaken (texts words.entry.now)) }
     ensures matches { IfOk result
@@ -21,7 +21,7 @@ pub fn matches_of<'a>(alloc: Global, words: &'a [&'a str]) -> Result<ArgMatches<
     command.try_get_matches_from(words)
 }
 
-/// What `clap` finds in the words of `blink-show`, as those of a replay.
+/// Returns what `clap` finds in the words of `blink-show`, as those of a replay.
 pub fn show_matches_of<'a>(
     alloc: Global,
     words: &'a [&'a str],
@@ -88,7 +88,7 @@ fn replay_or_seed_command<'a>(alloc: Global) -> Result<Command<'a>, AllocError>
     replay_command(alloc)?.arg(seed_option(alloc))
 }
 
-// A subcommand with the options that both have.
+// A subcommand with the options that both subcommands have.
 fn sized<'a>(alloc: Global, name: &'a str, about: &'a str) -> Result<Command<'a>, AllocError>
     ensures app { IfOk result (λ command. app_of command ≡ with_sizes (new_app name.entry.now)) }
     ensures local { IfOk result (λ command. (out-Command command).has_globals ≡ false) }

@@ -1,4 +1,4 @@
-//! How a program ends.
+//! The end of a program.
 ghost use Rattle.std.specs.Prelude.{◌≡◌, IfOk, string_bytes};
 ghost use Rattle.std.specs.Process.{exit_status};
 ghost use Rattle.blink_line.specs.Codes.{status_of, status_of_end};
@@ -11,16 +11,16 @@ use std::alloc::{AllocError, Global};
 use std::fmt;
 use std::process::ExitCode;
 
-/// The exit status where the command line asks for nothing.
+/// The exit status if the command line asks for nothing.
 pub const USAGE: u8 = 2;
 
-/// The exit status where the text is no script.
+/// The exit status if the text is no script.
 pub const SCRIPT: u8 = 3;
 
-/// The exit status where a batch wasn't run, a step wasn't taken, or memory was refused.
+/// The exit status if a batch wasn't run, a step wasn't taken, or memory was refused.
 pub const RUN: u8 = 4;
 
-/// The exit status where the output couldn't be written.
+/// The exit status if the output couldn't be written.
 pub const OUTPUT: u8 = 5;
 
 /// Why the program didn't do what it was asked for.
@@ -30,7 +30,7 @@ pub enum ProgramError {
     Line(LineError),
     /// The script wasn't served.
     Serve(ServeError),
-    /// Memory was refused outside of these.
+    /// Memory was refused, but neither to the reading of the words nor to the serving of the script.
     Memory,
 }
 
@@ -44,7 +44,7 @@ impl From<AllocError> for ProgramError {
     }
 }
 
-/// The lines that standard error is told, without the last one's line feed.
+/// Writes the lines for standard error, without the last one's line feed.
 impl fmt::Display for ProgramError {
     ghost use Rattle.blink_line.specs.End.{lines_of};
 
@@ -70,18 +70,18 @@ impl fmt::Display for ProgramError {
     }
 }
 
-/// How a program ends.
+/// The end of a program.
 #[derive(Debug, Drop)]
 pub struct End {
     /// The exit status.
     pub status: u8,
-    /// What standard error is told, where all didn't go well.
+    /// The reason for standard error, if the program failed.
     pub failure: Option<ProgramError>,
 }
 
 impl End {
-    /// Tells standard error why the program didn't do what it was asked for, and gives the status for the process to end with. Lines
-    /// that can't be written are lost.
+    /// Writes to standard error why the program didn't do what it was asked for, and returns the status for the process to end
+    /// with. Lines that can't be written are lost.
     pub fn tell<R: Eprint>(&self, rt: &R) -> ExitCode
         ensures { exit_status result ≡ self.now.status }
     {
@@ -92,7 +92,7 @@ impl End {
     }
 }
 
-/// How the program ends after this outcome. It takes no memory, so each refusal is told as itself.
+/// Returns the end of the program after this outcome. The call takes no memory, so it reports each refusal as itself.
 pub fn end_of(outcome: Result<(), ProgramError>) -> End
     ensures status { result.status ≡ status_of_end outcome }
     ensures failure { result.failure ≡ failure_of outcome }
@@ -109,8 +109,8 @@ pub fn end_of(outcome: Result<(), ProgramError>) -> End
     }
 }
 
-/// How the program tells of a script that it couldn't serve: its exit status, and a line for standard error without its line feed. The
-/// program itself writes the same line as it is made, so that it needs no memory for that.
+/// Returns how the program reports a script that it couldn't serve: its exit status, and a line for standard error without its
+/// line feed. The program itself writes the same line piece by piece, and so needs no memory for it.
 pub fn fault(alloc: Global, error: &ServeError) -> Result<(u8, String), AllocError>
     ensures status { IfOk result (λ told. told.0 ≡ status_of (Serve error.now)) }
     ensures fixed { IfOk result (λ told. IsLineOf (Serve error.now) (string_bytes told.1)) }

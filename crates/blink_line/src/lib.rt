@@ -1,4 +1,4 @@
-//! The command line of the programs `blink` and `blink-show`: what their words ask for, and how they end.
+//! The command line of the programs `blink` and `blink-show`: what their words ask for, and how the programs end.
 #![tactic(auto)]
 
 mod command;

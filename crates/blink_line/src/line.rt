@@ -1,4 +1,4 @@
-//! What the command line asks for.
+//! The requests of the command line.
 ghost use Rattle.std.specs.Prelude.{◌≡◌, List, ℕ, codes, option_map, IfOk, IfErr, IfSome, MatchOption};
 ghost use Rattle.clap.specs.Walk.{texts};
 ghost use Rattle.clap.specs.Words.{first_of, found_of, kind_of, rows_of, subcommand_rows_of};
@@ -15,30 +15,30 @@ use clap::error::ErrorKind;
 use std::alloc::{AllocError, Global};
 use thiserror::Error;
 
-/// What the command line asks for.
+/// The request of a command line.
 #[derive(Debug, PartialEq, Eq, Drop)]
 pub enum Line {
-    /// The script on standard input is to be run by threads.
+    /// Threads run the script on standard input.
     Run(Settings),
-    /// The script on standard input is to be run step by step, in the order of this schedule: the numbers of workers,
-    /// each from 0 to 63. Some may be no worker of the settings.
+    /// The script on standard input is run step by step, in the order of this schedule: the numbers of workers, each from 0 to
+    /// 63. Some may be no worker of the settings.
     Replay(Settings, Vec<u8>),
 }
 
-/// Which turns of a replay are to be shown.
+/// The turns of a replay to show.
 #[derive(Debug, PartialEq, Eq, Drop)]
 pub enum Turns {
-    /// Those of this schedule: the numbers of workers, each from 0 to 63. Some may be no worker of the settings.
+    /// The turns of this schedule: the numbers of workers, each from 0 to 63. Some may be no worker of the settings.
     Schedule(Vec<u8>),
-    /// Those of workers that are drawn by this seed.
+    /// The turns of workers that this seed draws.
     Seed(u64),
 }
 
 /// Why a command line asks for nothing.
 #[derive(Debug, Drop, Error)]
 pub enum LineError {
-    /// The words are none of the program's, ask for help, or give a value that isn't allowed. The text is for the user:
-    /// `clap`'s own, or `usage: bad value` where `clap` took the words.
+    /// The words are none of the program's, ask for help, or give a value that isn't allowed. The text is for the user: `clap`'s
+    /// own, or `usage: bad value` if `clap` took the words.
     #[error("{0}")]
     Usage(String),
     /// Memory was refused.
@@ -47,7 +47,7 @@ pub enum LineError {
 }
 
 impl LineError {
-    /// The number of the refusal, the same in every release.
+    /// Returns the refusal's code, the same in every release.
     pub fn code(&self) -> u8
         ensures { result ≡ code_of_line_error self.now }
     {
@@ -58,10 +58,9 @@ impl LineError {
     }
 }
 
-/// What the words of a command line ask for, the program's name first, as `clap` reads them:
-/// `blink run [--workers N] [--fan F] [--cut residue|ranges] [--driver locked|live]` or
-/// `blink replay [--workers N] [--fan F] [--schedule S]`. Numbers are spelled as in scripts. A replay cuts by remainders
-/// and takes its steps under one lock.
+/// Reads the words of a command line, the program's name first, as `clap` reads them: `blink run [--workers N] [--fan F] [--cut
+/// residue|ranges] [--driver locked|live]` or `blink replay [--workers N] [--fan F] [--schedule S]`. It returns what they ask
+/// for. Numbers are spelled as in scripts. A replay cuts by remainders and takes its steps under one lock.
 pub fn read_line(alloc: Global, words: &[&str]) -> Result<Line, LineError>
     ensures asked { IfOk result (Asks (texts words.now)) }
     ensures allowed { IfOk result HasAllowedSizes }
@@ -80,9 +79,9 @@ pub fn read_line(alloc: Global, words: &[&str]) -> Result<Line, LineError>
     }
 }
 
-/// What the words of `blink-show` ask for, the program's name first: those behind it are read as `blink replay` reads its own, and
-/// have the same defaults and the same refusals; but `--seed N` may stand in the place of `--schedule S`. A seed is spelled as numbers
-/// in scripts are; both options together are refused as a bad value is.
+/// Reads the words of `blink-show`, the program's name first. The words after it are read as `blink replay` reads its own, and
+/// have the same defaults and the same refusals. But `--seed N` may stand in place of `--schedule S`. A seed is spelled as
+/// numbers in scripts are. The call refuses both options together as it refuses a bad value.
 pub fn read_show(alloc: Global, words: &[&str]) -> Result<(Settings, Turns), LineError>
     ensures asked { IfOk result
         (λ asked. AsksToShow (as_replay (texts words.now)) asked.0 asked.1) }
@@ -106,7 +105,7 @@ pub fn read_show(alloc: Global, words: &[&str]) -> Result<(Settings, Turns), Lin
     }
 }
 
-// These words with `blink replay` in the place of the first.
+// These words with `blink replay` in place of the first.
 fn as_replay<'a>(alloc: Global, words: &[&'a str]) -> Result<Vec<&'a str>, AllocError>
     ensures { IfOk result (λ all. texts all.items ≡ as_replay (texts words.now)) }
 {
@@ -142,7 +141,7 @@ fn bad_value(alloc: Global) -> LineError
     }
 }
 
-// What the subcommand asks for, if its values are allowed.
+// The request of the subcommand, if its values are allowed.
 fn asked(alloc: Global, matches: &ArgMatches<'_>) -> Result<Option<Line>, AllocError>
     ensures meant { IfOk result (λ meant. MatchOption meant
         ((line : _) → ¬ SubcommandMeans (subcommand_rows_of matches.now) line)
@@ -182,7 +181,7 @@ fn run_of(found: &ArgMatches<'_>) -> Option<Settings>
     settings_of(found, cut, driver)
 }
 
-// What a replay with these options asks for.
+// The request of a replay with these options.
 fn replay_of(alloc: Global, found: &ArgMatches<'_>) -> Result<Option<Line>, AllocError>
     ensures meant { IfOk result (λ meant. MatchOption meant
         ((line : _) → ¬ Means (codes "replay") (rows_of (found_of found.now)) line)
@@ -196,7 +195,7 @@ fn replay_of(alloc: Global, found: &ArgMatches<'_>) -> Result<Option<Line>, Allo
     Ok(schedule.map(|schedule| Line::Replay(settings, schedule)))
 }
 
-// What the words of `blink-show` ask for, if their values are allowed.
+// The request of the words of `blink-show`, if their values are allowed.
 fn asked_to_show(
     alloc: Global,
     matches: &ArgMatches<'_>,
@@ -231,7 +230,7 @@ fn named_to_show(
     }
 }
 
-// What a replay with these options asks to show.
+// The turns that a replay with these options shows.
 fn show_of(alloc: Global, found: &ArgMatches<'_>) -> Result<Option<(Settings, Turns)>, AllocError>
     ensures meant { IfOk result (λ meant. MatchOption meant
         ((settings : _) (turns : _) → ¬ HasTurns (rows_of (found_of found.now)) settings turns)
@@ -246,7 +245,7 @@ fn show_of(alloc: Global, found: &ArgMatches<'_>) -> Result<Option<(Settings, Tu
     Ok(turns.map(|turns| (settings, turns)))
 }
 
-// The turns that a schedule or a seed spells; both are none.
+// The turns that a schedule or a seed spells; both together spell none.
 fn turns_of(
     alloc: Global,
     schedule: Option<&str>,
@@ -281,7 +280,7 @@ fn settings_of(found: &ArgMatches<'_>, cut: CutKind, driver: Driver) -> Option<S
     Settings::new(workers, fan, cut, driver).ok()
 }
 
-// The value of an option, as it is given or else by default.
+// The value of an option, given or by default.
 fn value<'a>(found: &ArgMatches<'a>, name: &str) -> Option<&'a str>
     ensures { option_map (λ text. text.now) result ≡ value (rows_of (found_of found.now)) name.now }
 {

@@ -1,4 +1,4 @@
-//! What the values of options mean.
+//! The meaning of the values of options.
 ghost use Rattle.std.specs.Prelude.{◌≡◌, ◌≢◌, ◌≤◌, List, ℕ, Some, map, IfOk, IfSome, MatchOption};
 ghost use Rattle.blink_batch.specs.{MayWork};
 ghost use Rattle.clap.specs.Walk.{texts};
@@ -9,7 +9,7 @@ use blink_page::{MAX_FAN, MIN_FAN};
 use blink_settings::{CutKind, Driver};
 use std::alloc::{AllocError, Global};
 
-/// The number of workers that a text spells, if a run may have so many.
+/// Returns the number of workers that a text spells, if a run may have that many.
 pub fn workers_of(text: &str) -> Option<u8>
     ensures spelled { result ≡ workers_of text.now }
     ensures allowed { IfSome result MayWork }
@@ -17,7 +17,7 @@ pub fn workers_of(text: &str) -> Option<u8>
     number_between(1, WORKER_LIMIT, text)
 }
 
-/// The greatest number of entries in a page that a text spells, if a page may have so many.
+/// Returns the greatest number of entries in a page that a text spells, if a page may have that many.
 pub fn fan_of(text: &str) -> Option<u8>
     ensures spelled { result ≡ fan_of text.now }
     ensures allowed { IfSome result (λ fan. (MIN_FAN ≤ fan) × (fan ≤ MAX_FAN)) }
@@ -25,7 +25,7 @@ pub fn fan_of(text: &str) -> Option<u8>
     number_between(MIN_FAN, MAX_FAN as u8, text)
 }
 
-/// The cut of this name.
+/// Returns the kind of cut of this name.
 pub fn cut_of(text: &str) -> Option<CutKind>
     ensures { result ≡ cut_of text.now }
 {
@@ -38,7 +38,7 @@ pub fn cut_of(text: &str) -> Option<CutKind>
     }
 }
 
-/// The driver of this name.
+/// Returns the driver of this name.
 pub fn driver_of(text: &str) -> Option<Driver>
     ensures { result ≡ driver_of text.now }
 {
@@ -51,7 +51,7 @@ pub fn driver_of(text: &str) -> Option<Driver>
     }
 }
 
-/// The schedule that a text spells: nothing, or workers from 0 to 63 with a single comma between any two. An error is a
+/// Returns the schedule that a text spells: nothing, or workers from 0 to 63 with a single comma between each two. An error is a
 /// refusal of memory alone.
 pub fn schedule_of(alloc: Global, text: &str) -> Result<Option<Vec<u8>>, AllocError>
     ensures { IfOk result (λ found. MatchOption found
@@ -71,7 +71,7 @@ fn parts_of(alloc: Global, text: &str) -> Result<Vec<&str>, AllocError>
     text.split(',').collect(alloc)
 }
 
-// The workers that the parts spell, one each.
+// The workers that the parts spell, one for each part.
 fn workers_at(alloc: Global, parts: &[&str]) -> Result<Option<Vec<u8>>, AllocError>
     ensures { IfOk result (λ found. MatchOption found
         ((workers : List ℕ) → map (λ part. worker_of part.now) parts.now ≢ map Some workers)
@@ -94,7 +94,7 @@ fn worker_of(text: &str) -> Option<u8>
     number_between(0, WORKER_LIMIT - 1, text)
 }
 
-// The number that a text spells as numbers in scripts are, if it lies between the limits.
+// The number that a text spells as scripts spell numbers, if it lies between the limits.
 fn number_between(least: u8, most: u8, text: &str) -> Option<u8>
     ensures spelled { result ≡ number_between least most text.now }
     ensures between { IfSome result (λ number. (least ≤ number) × (number ≤ most)) }

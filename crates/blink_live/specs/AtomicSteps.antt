@@ -1,4 +1,4 @@
--- What each kind of atomic step tells whoever takes it.
+-- The knowledge that each kind of atomic step gives whoever takes it.
 use Rattle.std.specs.Prelude.{◌≡◌, ◌≢◌, ◌⊎◌, ℕ, suc, ◌+◌, ◌<◌, ◌≤◌, Option, Some, None, IsSome, List, length, All, slice_index}
 use Rattle.atomic_table.specs.Table.{Step}
 use Rattle.blink_batch.specs.declared.Op.{Op}
@@ -19,11 +19,11 @@ use Rattle.blink_live.specs.Changes.{after, Learns}
 use Rattle.blink_live.specs.Views.{SeatState, KnowsItsOwn, ShowsNoMore, for_call, going_on, stage_word, changed_by, publishes, reading, forgets_told, learns_of_others, span}
 use Rattle.blink_live.specs.Words.{AreNumbersIn, AreRowsIn, IsRowNumber, row_start}
 
--- the number of a page that has a page word
+-- the page of this number has a page word
 abbrev pub IsNumberIn : Plan → ℕ → Type 0
 IsNumberIn plan number = (1 ≤ number) × (number < plan.counts.numbers)
 
--- whatever the operation needs next is there: a page's words, and what is left of what it may need
+-- whatever the operation needs next exists: a page's words, and enough of the rows and page numbers
 pub record CanGoOn (plan : Plan) (m : PlainMachine) : Type 0 where
   pub reads : (number : ℕ) → NeedsPage m number → IsNumberIn plan number
   pub latches : (number : ℕ) → NeedsLatch m number → IsNumberIn plan number
@@ -33,7 +33,7 @@ pub record CanGoOn (plan : Plan) (m : PlainMachine) : Type 0 where
 
 -- ---- the load of the prime block's page word, which begins an operation
 
--- it is `machine` now, and has what it takes of rows and page numbers for its call
+-- the operation is `machine` now, and its call has the rows and page numbers that it takes
 pub record Begins (op : Op) (me : SeatState) (row : ℕ) (machine : PlainMachine) (then : SeatState) : Type 0 where
   pub prime : List ℕ
   pub way : ℕ
@@ -56,7 +56,7 @@ begins op st me row then = (machine : PlainMachine) × Begins op me row machine 
 
 -- ---- the load of a page word
 
--- what the operation answers now: nothing new, or what its key keeps after all changes so far
+-- the step gives the operation no new answer, or the answer by its key's state after all changes so far
 abbrev pub AnswersAfter : (ℕ → Option ℕ) → PlainMachine → PlainMachine → Type 0
 AnswersAfter kept m machine = (machine.answer ≡ m.answer) ⊎ ((m.answer ≡ None) × (machine.answer ≡ Some (answer_at m.op (kept (key_of m.op)))))
 
@@ -84,12 +84,13 @@ loads_page st me row then = (m : PlainMachine) → me.0.operation ≡ Some m →
 
 -- ---- the load of the prime block's page word by an operation under way
 
--- what the operation makes of the prime block: exactly one machine comes of it, or it waits for a level that isn't there yet, and stays as it is
+-- the operation reads the prime block: exactly one machine comes of that, or it waits for a level that isn't there yet, and
+-- stays as it is
 pub data AsksPrime (m : PlainMachine) (prime : List ℕ) (machine : PlainMachine) : Type 0 where
   moves : SeesPrime m prime machine → ((other : PlainMachine) → SeesPrime m prime other → other ≡ machine) → ¬ WaitsForLevel m prime → AsksPrime m prime machine
   waits : WaitsForLevel m prime → ((other : PlainMachine) → ¬ SeesPrime m prime other) → machine ≡ m → AsksPrime m prime machine
 
--- it may need no more afterwards than before
+-- the operation may need no more afterwards than before
 pub record NeedsNoMore (m machine : PlainMachine) : Type 0 where
   pub same_op : machine.op ≡ m.op
   pub numbers : numbers_left machine ≤ numbers_left m
@@ -115,9 +116,9 @@ pub record LoadsPrime (m : PlainMachine) (me : SeatState) (row : ℕ) (machine :
 abbrev pub loads_prime : Step ℕ → SeatState → ℕ → SeatState → Type 0
 loads_prime st me row then = (m : PlainMachine) → me.0.operation ≡ Some m → NeedsPrime m → (machine : PlainMachine) × LoadsPrime m me row machine then
 
--- ---- the load of the prime block's page word by a pass that was told what another has seen
+-- ---- the load of the prime block's page word by a pass that holds a note
 
--- it has seen more now, and what it was told is among that
+-- the seat has seen more now, and the note's changes are among them
 pub record LooksUp (me then : SeatState) : Type 0 where
   pub seen : List Change
   pub is : then ≡ (learns_of_others me.0 seen, me.1)
@@ -127,7 +128,7 @@ pub record LooksUp (me then : SeatState) : Type 0 where
 abbrev pub looks_up : Step ℕ → SeatState → ℕ → SeatState → Type 0
 looks_up st me row then = LooksUp me then
 
--- or it has seen no more, but what it was told of its own keys is no more than its own operations made
+-- or the seat has seen no more, and of its own keys the note shows only changes that its own operations made
 pub record LooksBack (me then : SeatState) : Type 0 where
   pub is : then ≡ (forgets_told me.0, me.1)
   pub no_more : ShowsNoMore me.0.told me.0.share
@@ -146,7 +147,7 @@ loads_word st = LoadsWord st.word
 
 -- ---- a latch word, where 0 becomes the seat's own number
 
--- the operation has taken its step, of this kind
+-- the operation has taken a step of this kind
 pub record GoesOn (kind : Kind) (m : PlainMachine) (me then : SeatState) : Type 0 where
   pub way : ℕ
   pub is : then ≡ (going_on me.0 (done m 0) way, me.1)
@@ -154,7 +155,7 @@ pub record GoesOn (kind : Kind) (m : PlainMachine) (me then : SeatState) : Type 
   pub uses : UsesUp m (Moved kind) (done m 0)
   pub answers_at_end : (done m 0).state ≡ Ended → IsSome (done m 0).answer
 
--- where 0 was found the seat has the latch, and its operation goes on; else nothing is changed
+-- if 0 was found, the seat has the latch, and its operation goes on; otherwise nothing changes
 pub record TriesLatch (number : ℕ) (m : PlainMachine) (me : SeatState) (found : ℕ) (then : SeatState) : Type 0 where
   pub got : found ≡ 0 → GoesOn (latch number) m me then
   pub lost : found ≢ 0 → then ≡ me
@@ -162,7 +163,7 @@ pub record TriesLatch (number : ℕ) (m : PlainMachine) (me : SeatState) (found 
 abbrev pub tries_latch : Step ℕ → SeatState → ℕ → SeatState → Type 0
 tries_latch st me found then = (m : PlainMachine) (number : ℕ) → me.0.operation ≡ Some m → NeedsLatch m number → st.word ≡ me.0.plan.counts.numbers + number → TriesLatch number m me found then
 
--- ---- 0 in a latch word that the seat has latched
+-- ---- 0 in the latch word of a page that the seat has latched
 
 abbrev pub lets_go : Step ℕ → SeatState → ℕ → SeatState → Type 0
 lets_go st me found then = (m : PlainMachine) (number : ℕ) → me.0.operation ≡ Some m → NeedsUnlatch m number → st.word ≡ me.0.plan.counts.numbers + number → GoesOn (unlatch number) m me then
@@ -174,12 +175,13 @@ stores_word st me found then = (place : ℕ) → place < ROW_WORDS → st.word �
 
 -- ---- a page word, which names the first row that the seat's call may use
 
--- the step decides the operation, which answers by the share and changes it as it changes a map; or it was decided before, and the share stays
+-- the step decides the operation, which answers by the share and changes the share as it changes a map; or the operation was
+-- decided before, and the share stays
 pub data Decided (m after : PlainMachine) (before share : Share) : Type 0 where
   deciding : m.answer ≡ None → after.answer ≡ Some (answer_of before.entries m.op) → share ≡ changed_by m.op before → Decided m after before share
   other : after.answer ≡ m.answer → share ≡ before → Decided m after before share
 
--- the row is published by a step of this kind: the operation is `after` now, and the call may still use these page numbers
+-- a step of this kind publishes the row: the operation is `after` now, and the call may still use these page numbers
 pub record Publishes (kind : Kind) (pages : Span) (m after : PlainMachine) (me then : SeatState) : Type 0 where
   pub way : ℕ
   pub share : Share

@@ -1,4 +1,4 @@
--- The number of each refusal.
+-- The code of each refusal.
 use Rattle.std.specs.Prelude.{ℕ}
 use Rattle.blink_live.specs.declared.error.LiveError.{LiveError}
 use Rattle.blink_live.specs.declared.error.LiveError.TheVariants.{OutOfMemory, Taken, NoAllowance, DealOutOfMemory, Missing, TooLarge}

@@ -5,7 +5,7 @@ use Rattle.std.specs.Ordering.{nat_cmp}
 use Rattle.blink_live.specs.declared.view.Role.TheVariants.{Keeper}
 use Rattle.blink_live.specs.declared.view.View.{View}
 
--- the keeper's view has these rows and page numbers, and hasn't dealt these keys yet; with them all these are taken
+-- the keeper's view has these rows and page numbers, and none of these keys is dealt; with them all keys of `taken` are taken
 pub record CanDeal (v : View) (rows pages : ℕ) (keys taken : List ℕ) : Type 0 where
   pub dealt : ℕ
   pub back : ℕ
@@ -15,6 +15,6 @@ pub record CanDeal (v : View) (rows pages : ℕ) (keys taken : List ℕ) : Type 
   pub free_keys : (key : ℕ) → Contains keys key → ¬ Contains v.taken key
   pub taken_now : (key : ℕ) → Contains taken key ↔ (Contains v.taken key ⊎ Contains keys key)
 
--- unless memory was refused, the set has the keys that were met so far
+-- unless memory was refused, the set has exactly the keys met so far
 abbrev pub HasMet : Bool → BTreeSet ℕ → List ℕ → Type 0
 HasMet refused set before = refused ≡ false → (key : ℕ) → IsTrue (contains nat_cmp set key) ↔ Contains before key

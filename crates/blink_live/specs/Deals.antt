@@ -1,4 +1,4 @@
--- What a deal gives, and why it is refused.
+-- What a deal gives, and the refusals of a deal.
 use Rattle.std.specs.Prelude.{◌≡◌, ◌⊎◌, ◌↔◌, ℕ, ◌+◌, ◌*◌, ◌<◌, Some, List, [], take, slice_get, Contains, IsPermutation}
 use Rattle.blink_rows.specs.declared.limits.TheConstants.{MAX_ROWS_PER_INSERT}
 use Rattle.blink_page.specs.declared.limits.TheConstants.{MAX_NEW_PAGES_PER_INSERT}
@@ -18,7 +18,7 @@ pub record IsTakenAt (taken keys : List ℕ) (place key : ℕ) : Type 0 where
   pub at : slice_get keys place ≡ Some key
   pub again : Contains taken key ⊎ Contains (take place keys) key
 
--- it is the first such key of the list
+-- this key is the first taken key of the list
 pub record IsFirstTaken (taken keys : List ℕ) (key : ℕ) : Type 0 where
   pub place : ℕ
   pub is_taken : IsTakenAt taken keys place key
@@ -42,7 +42,7 @@ rows_for inserts deletes = MAX_ROWS_PER_INSERT * inserts + deletes
 
 -- ---- what is dealt
 
--- the pass has these keys with their opening entries, and the keeper's first page numbers and rows
+-- the pass has these keys with their opening entries, and the keeper's first rows and page numbers
 pub record IsDealt (live : Live) (old : Keeper) (keys : List ℕ) (inserts deletes : ℕ) (pass : Pass) : Type 0 where
   pub its_own : IsPassOf live pass
   pub same_keys : IsPermutation keys (keys_of pass)
@@ -52,7 +52,7 @@ pub record IsDealt (live : Live) (old : Keeper) (keys : List ℕ) (inserts delet
   pub rows : pass.rows ≡ span old.rows.next (old.rows.next + rows_for inserts deletes)
   pub pages : pass.pages ≡ span old.pages.next (old.pages.next + MAX_NEW_PAGES_PER_INSERT * inserts)
 
--- and the keeper has the rest
+-- the keeper has the rest
 pub record HasDealt (live : Live) (old new : Keeper) (keys : List ℕ) (inserts deletes : ℕ) : Type 0 where
   pub its_own : IsKeeperOf live new
   pub taken : (key : ℕ) → Contains (taken_of new) key ↔ (Contains (taken_of old) key ⊎ Contains keys key)

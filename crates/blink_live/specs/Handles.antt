@@ -1,4 +1,4 @@
--- What a table, its keeper and its passes are for contracts.
+-- A table, its keeper and its passes, as contracts see them.
 use Rattle.std.specs.Prelude.{◌≡◌, ◌⊎◌, ℕ, ◌+◌, ◌-◌, ◌*◌, List, [], ◌++◌, length, Option, Contains}
 use mathlib.Core.List.{IsPrefix}
 use Rattle.blink_batch.specs.declared.Entry.{Entry}
@@ -19,57 +19,58 @@ use Rattle.blink_live.specs.Views.{plan_of, span, rows_of, pages_of}
 
 -- ---- a table
 
--- the entries that it was opened with
+-- the entries that the table was opened with
 abbrev pub opening_of : Live → List Entry
 opening_of live = map_of live.table.shared.key.index.value
 
--- how many entries its pages have at most
+-- the greatest number of entries in a page
 abbrev pub fan_of : Live → ℕ
 fan_of live = live.fan
 
--- how many page numbers and rows it has
+-- the number of page numbers and rows of the table
 abbrev pub counts_of : Live → PlainCounts
 counts_of live = live.counts
 
 -- ---- a pass
 
--- it was dealt by this table's keeper
+-- this table's keeper dealt the pass
 abbrev pub IsPassOf : Live → Pass → Type 0
 IsPassOf live pass = (pass.seat.table_id ≡ live.table.shared.table_id) × (pass.seat.me.0.plan ≡ plan_of live.table.shared.key)
 
--- its keys
+-- the pass's keys
 abbrev pub keys_of : Pass → List ℕ
 keys_of pass = pass.keys.items
 
--- the plain map of its keys
+-- the plain map of the pass's keys
 abbrev pub share_of : Pass → List Entry
 share_of pass = pass.seat.me.0.share.entries
 
--- the changes of all keys that it has seen, in the order in which they became so
+-- the changes of all keys that the pass has seen, in the order in which they happened
 abbrev pub seen_of : Pass → List Change
 seen_of pass = pass.seat.me.0.seen
 
--- the changes that its own operations made, in the order in which it made them
+-- the changes that the pass's own operations made, in their order
 abbrev pub changes_by : Pass → List Change
 changes_by pass = pass.seat.me.0.share.changes
 
--- the states that its own operations gave a key, in their order
+-- the states that the pass's own operations gave a key, in their order
 abbrev pub own_changes_of : Pass → ℕ → List (Option ℕ)
 own_changes_of pass key = states_of key (changes_by pass)
 
--- the states of a key that it has seen, in their order
+-- the states of a key that the pass has seen, in their order
 abbrev pub seen_changes_of : Pass → ℕ → List (Option ℕ)
 seen_changes_of pass key = states_of key (seen_of pass)
 
--- the number that it puts into the latch words of pages: that of the last row that it was dealt; a pass without rows latches no page
+-- the number that the pass puts into the latch words of pages: that of the last row that it was dealt; a pass without rows
+-- latches no page
 abbrev pub latch_number_of : Pass → ℕ
 latch_number_of pass = pass.rows.stop - 1
 
--- of what two passes have seen one is a prefix of the other
+-- one of two lists of changes seen is a prefix of the other
 abbrev pub OneIsPrefix : List Change → List Change → Type 0
 OneIsPrefix one other = IsPrefix one other ⊎ IsPrefix other one
 
--- the pass is as it was, but that it may have seen more
+-- the pass is as it was, except that it may have seen more
 pub record IsSameBesideSeen (old new : Pass) : Type 0 where
   pub saw : IsPrefix (seen_of old) (seen_of new)
   pub same_table : new.seat.table_id ≡ old.seat.table_id
@@ -80,16 +81,16 @@ pub record IsSameBesideSeen (old new : Pass) : Type 0 where
   pub same_rows : new.rows ≡ old.rows
   pub same_pages : new.pages ≡ old.pages
 
--- of each of its keys it has seen the state that its share has, and exactly the changes that its own operations made
+-- of each of its keys the pass has seen the state that its share has, and exactly the changes that its own operations made
 pub record KnowsItsKeys (live : Live) (pass : Pass) : Type 0 where
   pub state : (key : ℕ) → Contains (keys_of pass) key → after (pointer_of (opening_of live)) (seen_of pass) key ≡ pointer_of (share_of pass) key
   pub changes : (key : ℕ) → Contains (keys_of pass) key → seen_changes_of pass key ≡ own_changes_of pass key
 
--- of the owner's keys it has seen no change but those that the owner's own operations made, from the first on
+-- of the owner's keys the pass has seen only changes that the owner's own operations made, from the first on
 abbrev pub SawPrefixOf : Pass → Pass → Type 0
 SawPrefixOf owner pass = (key : ℕ) → Contains (keys_of owner) key → IsPrefix (seen_changes_of pass key) (own_changes_of owner key)
 
--- and all of these
+-- and it has seen all of these
 abbrev pub SawAllOf : Pass → Pass → Type 0
 SawAllOf owner pass = (key : ℕ) → Contains (keys_of owner) key → seen_changes_of pass key ≡ own_changes_of owner key
 
@@ -104,7 +105,8 @@ pub record IsSamePass (old new : Pass) : Type 0 where
   pub same_rows : new.rows ≡ old.rows
   pub same_pages : new.pages ≡ old.pages
 
--- an operation of one of its keys has changed its plain map, and has used the rows and page numbers that such an operation takes
+-- an operation of one of the pass's keys has changed its plain map, and has used the rows and page numbers that such an
+-- operation takes
 pub record IsChangedBy (op : Op) (old new : Pass) : Type 0 where
   pub saw : IsPrefix (seen_of old) (seen_of new)
   pub same_table : new.seat.table_id ≡ old.seat.table_id
@@ -117,21 +119,21 @@ pub record IsChangedBy (op : Op) (old new : Pass) : Type 0 where
 
 -- ---- a keeper
 
--- it came with this table
+-- the keeper came with this table
 abbrev pub IsKeeperOf : Live → Keeper → Type 0
 IsKeeperOf live keeper = (keeper.seat.table_id ≡ live.table.shared.table_id) × (keeper.seat.me.0.plan ≡ plan_of live.table.shared.key)
 
--- the keys that it has dealt
+-- the keys that the keeper has dealt
 abbrev pub taken_of : Keeper → List ℕ
 taken_of keeper = keeper.taken.items
 
--- how many passes it has dealt
+-- the number of passes that the keeper has dealt
 abbrev pub passes_dealt : Keeper → ℕ
 passes_dealt keeper = keeper.dealt
 
 -- ---- a new table
 
--- a table over this tree, with room for these changes, and its keeper, which has dealt nothing
+-- a table over this tree with room for these changes, and its keeper, which has dealt nothing
 pub record IsOpened (store : PlainStore) (allowance : Allowance) (live : Live) (keeper : Keeper) : Type 0 where
   pub same_opening : opening_of live ≡ map_of store
   pub same_fan : fan_of live ≡ store.fan

@@ -5,7 +5,7 @@ use Rattle.blink_rows.specs.{PlainCounts, page_words, prime_words}
 use Rattle.blink_store.specs.{PlainStore, page_of}
 use Rattle.blink_live.specs.Words.{word_count, RowIs}
 
--- the prime block is in row 1 and page n in row n + 1, and their page words name these; all other words are 0
+-- the prime block is in row 1, page n is in row n + 1, and their page words name these rows; all other words are 0
 pub record IsLaid (counts : PlainCounts) (store : PlainStore) (words : List ℕ) : Type 0 where
   pub width : length words ≡ word_count counts
   pub page_words_named : (number : ℕ) → number ≤ length store.pages → slice_index words number ≡ number + 1

@@ -1,22 +1,22 @@
 -- What a caller of `blink_live` reads, in this order; then what proofs above it need; then the files themselves.
 
--- what a table, its keeper and its passes are for contracts
+-- a table, its keeper and its passes, as contracts see them
 pub use Rattle.blink_live.specs.Handles.{IsChangedBy, IsKeeperOf, IsOpened, IsPassOf, IsSameBesideSeen, IsSamePass, KnowsItsKeys, OneIsPrefix, SawAllOf, SawPrefixOf, counts_of, fan_of, keys_of, opening_of, own_changes_of, passes_dealt, seen_of, share_of, taken_of}
--- the changes of all keys, in the order in which they became so, and what they leave of the opening entries
+-- the changes of all keys, in the order in which they happened, and the state that they leave of the opening entries
 pub use Rattle.blink_live.specs.Changes.{after}
--- how many changes some rows and page numbers are enough for
+-- the number of changes that some rows and page numbers are enough for
 pub use Rattle.blink_live.specs.Allowed.{AreForChanges, IsTooLarge, deletes_left, inserts_left}
--- what a deal gives, and why it is refused
+-- what a deal gives, and the refusals of a deal
 pub use Rattle.blink_live.specs.Deals.{HasDealt, IsDealRefusal, IsDealt, IsFirstTaken, LacksAllowance, NoneIsTaken}
--- what a table keeps when all its passes are back: the merge of their shares
+-- the entries of a table when all its passes are back: the merge of their shares
 pub use Rattle.blink_live.specs.Merge.{IsMerge}
--- the number of each refusal
+-- the code of each refusal
 pub use Rattle.blink_live.specs.Codes.{code_of, code_of_pass}
 -- the views of seats: how they begin, and what each kind of step makes of them
 pub use Rattle.blink_live.specs.Views.{SawItsOwn, spent}
--- what the words of a table say: where its rows stand, and which rows keep pages
+-- the layout of a table's words: where its rows stand, and which rows hold pages
 pub use Rattle.blink_live.specs.Words.{word_count}
--- the tree at rest that words keep, and what a store that it is gathered into has
+-- the tree at rest that words hold, and the store that it is copied into
 pub use Rattle.blink_live.specs.Gathered.{IsNumberedInOrder}
 -- ---- for proofs above
 pub use Rattle.blink_live.specs.Handles.{seen_changes_of}

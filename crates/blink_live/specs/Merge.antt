@@ -1,4 +1,4 @@
--- What a table keeps when all its passes are back: the merge of their shares.
+-- The entries of a table when all its passes are back: the merge of their shares.
 use Rattle.std.specs.Prelude.{◌≡◌, ℕ, Some, List, map, Contains, slice_get, slice_index}
 use Rattle.blink_batch.specs.declared.Entry.{Entry}
 use Rattle.blink_batch.specs.{IsAscending, pointer_of}
@@ -14,7 +14,7 @@ use Rattle.blink_live.specs.Words.{IsRowNumber, RowIs, KeepsPages}
 
 -- ---- the merge
 
--- the opening entries, in which each key that was dealt has the state of its pass's share
+-- the opening entries, except that each key that was dealt has the state of its pass's share
 pub record IsMerge (live : Live) (keeper : Keeper) (passes : List Pass) (entries : List Entry) : Type 0 where
   pub dealt : (place key : ℕ) (pass : Pass) → slice_get passes place ≡ Some pass → Contains (keys_of pass) key
       → pointer_of entries key ≡ pointer_of (share_of pass) key
@@ -32,7 +32,7 @@ pub record KeepsPrime (counts : PlainCounts) (words leftmost : List ℕ) : Type 
   pub row_is : RowIs counts words (slice_index words 0) (prime_words leftmost)
   pub lawful : IsLawfulPrime leftmost
 
--- the words keep a tree at rest, which keeps these entries
+-- the words hold a tree at rest with these entries
 pub record KeepsTree (counts : PlainCounts) (words : List ℕ) (fan : ℕ) (entries : List Entry) : Type 0 where
   pub prime : List ℕ
   pub pages : Pages

@@ -1,4 +1,5 @@
--- The rule of the table: between any two atomic steps the words and the views of the seats, read together, are a state of the tree in which the invariant holds.
+-- The rule of the table: between any two atomic steps the words and the views of the seats together represent a tree state for
+-- which the invariant holds.
 use Rattle.std.specs.Prelude.{◌≡◌, ℕ, suc, ◌+◌, ◌-◌, ◌<◌, ◌≤◌, Option, Some, None, List, [], ◌∷◌, length, All, Contains, slice_index, ⊤}
 use mathlib.Core.Option.{some}
 use mathlib.Core.List.{IsPrefix}
@@ -24,7 +25,7 @@ use Rattle.blink_live.specs.Changes.{after, states_of}
 use Rattle.blink_live.specs.Views.{span}
 use Rattle.blink_live.specs.Words.{word_count, IsRowNumber, RowIs}
 
--- ---- who has what: 0 for nobody, and else a seat's number and 1
+-- ---- owners: 0 for nobody, and else a seat's number plus 1
 
 pub record Owners : Type 0 where
   -- of rows that aren't published
@@ -42,19 +43,19 @@ IsPublished plan owners row = IsRowNumber plan.counts row × (owners.row row ≡
 
 -- ---- page words and latch words
 
--- the page word is 0 where there is no page, and else names a published row, the page's
+-- the page word is 0 if the page doesn't exist; else it names a published row, which holds the page
 abbrev pub PageWordIs : Plan → Owners → List ℕ → ℕ → Option PlainPage → Type 0
 PageWordIs plan owners words word None = word ≡ 0
 PageWordIs plan owners words word (Some page) = IsPublished plan owners word × RowIs plan.counts words word (page_words page)
 
--- 0, or the number of the seat that holds the latch
+-- 0, or the latch number of the seat that holds the latch
 abbrev pub latch_word : Owners → Option ℕ → ℕ
 latch_word owners None = 0
 latch_word owners (Some seat) = owners.latch_number seat
 
 -- ---- what a seat knows
 
--- the row that it reads is published, and has these words
+-- the row that the seat reads is published, and has these words
 abbrev pub ReadsRow : Plan → Owners → List ℕ → Option (ℕ × List ℕ) → Type 0
 ReadsRow plan owners words None = ⊤
 ReadsRow plan owners words (Some (row, content)) = IsPublished plan owners row × RowIs plan.counts words row content
@@ -71,8 +72,8 @@ pub record HasNumbers (plan : Plan) (owners : Owners) (tree_state : TreeState) (
   pub own : (number : ℕ) → pages.next ≤ number → number < pages.stop → owners.page number ≡ owner
   pub free : (number : ℕ) → pages.next ≤ number → number < pages.stop → tree_state.pages number ≡ None
 
--- what a call may use stands before the row and the page number from which on its pass may use them; of the first of its rows it has stored
--- the staged word, and the others are all 0
+-- the call's rows and page numbers stand before those that its pass may still use; the call has staged some words of its first
+-- row, and the words of its other rows are all 0
 pub record HasForCall (plan : Plan) (owners : Owners) (words : List ℕ) (tree_state : TreeState) (owner : ℕ) (call : Call) (row page : ℕ) : Type 0 where
   pub before : (call.rows.stop ≤ row) × (call.pages.stop ≤ page)
   pub width : length call.staged ≡ ROW_WORDS
@@ -81,17 +82,18 @@ pub record HasForCall (plan : Plan) (owners : Owners) (words : List ℕ) (tree_s
   pub others : HasRows plan owners words owner (span (suc call.rows.next) call.rows.stop)
   pub numbers : HasNumbers plan owners tree_state owner call.pages
 
--- what the share says of one of its keys: it has this owner, keeps what the share keeps, and its changes are the share's
+-- the share's statement of one of its keys: the key has this owner and the share's state, and its changes are the share's
 pub record IsOwnKey (plan : Plan) (owners : Owners) (log : List Change) (owner : ℕ) (share : Share) (key : ℕ) : Type 0 where
   pub own : owners.key key ≡ owner
   pub kept : pointer_of share.entries key ≡ after (pointer_of plan.opening) log key
   pub changes : states_of key log ≡ states_of key share.changes
 
--- a share with this owner
+-- a share with this owner: what it says is true of each of its keys
 abbrev pub IsShare : Plan → Owners → List Change → ℕ → Share → Type 0
 IsShare plan owners log owner share = (key : ℕ) → Contains share.keys key → IsOwnKey plan owners log owner share key
 
--- by its role. The keeper's seat is the first; what it hasn't dealt nobody has, and what it took back is its own; only a pass has an operation
+-- a seat by its role: the keeper's seat is the first, nobody owns the keys that it hasn't dealt, and the shares that it took back
+-- are its own; only a pass has an operation
 abbrev pub IsInRole : Plan → Owners → List Change → ℕ → View → Role → Type 0
 IsInRole plan owners log seat v (Keeper dealt back) =
     (seat ≡ 0) × (v.operation ≡ None) × ((key : ℕ) → ¬ Contains v.taken key → owners.key key ≡ 0)
@@ -99,11 +101,11 @@ IsInRole plan owners log seat v (Keeper dealt back) =
 IsInRole plan owners log seat v Pass = (1 ≤ seat) × (owners.latch_number seat ≡ v.rows.stop - 1)
 IsInRole plan owners log seat v Spent = v.operation ≡ None
 
--- what the operation is bound by
+-- the descent bound of the seat's operation
 abbrev pub IsBoundedWay : TreeState → View → Type 0
 IsBoundedWay tree_state v = (m : PlainMachine) → v.operation ≡ Some m → descent_bound tree_state.pages m ≡ v.descent_bound
 
--- the seat's view, told by the words, the tree state and the changes
+-- the view of the seat is true of the words, the tree state and the changes
 pub record Knows (plan : Plan) (owners : Owners) (words : List ℕ) (tree_state : TreeState) (log : List Change) (seat : ℕ) (v : View) : Type 0 where
   pub same_plan : v.plan ≡ plan
   pub operation : tree_state.machines seat ≡ v.operation
@@ -117,7 +119,7 @@ pub record Knows (plan : Plan) (owners : Owners) (words : List ℕ) (tree_state 
   pub heard : IsPrefix v.told log
   pub in_role : IsInRole plan owners log seat v v.role
 
--- ---- how many passes are out
+-- ---- the number of passes out
 
 abbrev pub pass_count : Role → ℕ
 pass_count Pass = 1
@@ -127,7 +129,7 @@ abbrev pub passes_in : List View → ℕ
 passes_in [] = 0
 passes_in (v ∷ rest) = pass_count v.role + passes_in rest
 
--- the first seat is the keeper's, which has counted them
+-- the first seat is the keeper's, and its count of passes is right
 pub record AreCounted (views : List View) : Type 0 where
   pub keeper : View
   pub dealt : ℕ
@@ -155,7 +157,7 @@ pub record IsTableAt (plan : Plan) (s : State ℕ View) (tree_state : TreeState)
   pub latches : (number : ℕ) → number < plan.counts.numbers → slice_index s.words (plan.counts.numbers + number) ≡ latch_word owners (tree_state.holder number)
   pub no_other_latch : (number : ℕ) → plan.counts.numbers ≤ number → tree_state.holder number ≡ None
   pub holders : (number seat : ℕ) → tree_state.holder number ≡ Some seat → 1 ≤ owners.latch_number seat
-  -- the entries: what the changes leave of the opening ones
+  -- the entries: the opening ones after the changes
   pub is_map : IsMapAt tree_state now
   pub kept : (key : ℕ) → pointer_of now key ≡ after (pointer_of plan.opening) log key
   pub untouched : (key : ℕ) → owners.key key ≡ 0 → states_of key log ≡ []

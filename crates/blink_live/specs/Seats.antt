@@ -21,7 +21,7 @@ use Rattle.blink_live.specs.declared.view.View.{View}
 use Rattle.blink_live.specs.AtomicSteps.{CanGoOn}
 use Rattle.blink_live.specs.Views.{SeatState, KnowsItsOwn, SameBesideReads, plan_of}
 
--- the seat is a pass's of this table
+-- the seat is that of a pass of this table
 pub record IsPassSeat (live : Live) (table : TableId) (me : SeatState) : Type 0 where
   pub same_table : table ≡ live.table.shared.table_id
   pub same_plan : me.0.plan ≡ plan_of live.table.shared.key
@@ -31,7 +31,7 @@ pub record IsPassSeat (live : Live) (table : TableId) (me : SeatState) : Type 0 
 abbrev pub IsSameSeat : Seat ℕ View → Seat ℕ View → Type 0
 IsSameSeat old new = (new.table_id ≡ old.table_id) × (new.id ≡ old.id) × (new.me ≡ old.me)
 
--- the number is the first of them
+-- the number is the first of the span
 abbrev pub IsFirst : ℕ → Span → Type 0
 IsFirst number numbers = (number ≡ numbers.next) × (number < numbers.stop)
 
@@ -45,27 +45,28 @@ pub record ReadsPrime (me : SeatState) (row : ℕ) (prime : List ℕ) : Type 0 w
   pub reads : me.0.reads ≡ Some (row, prime_words prime)
   pub few_levels : length prime < LEVELS
 
--- the key leads this way from the page, and, where that is its leaf, this is what the page keeps under it
+-- `way` says where the key leads from the page; if the page is its leaf, `kept` is the pointer stored for the key
 pub record TellsWayFor (key : ℕ) (page : PlainPage) (way : Way) (kept : Option ℕ) : Type 0 where
   pub leads : Leads page key way
   pub keeps : way ≡ Here → value_at key page.entries ≡ kept
 
--- an operation on a leaf is on its way down
+-- an operation on a leaf is in its descent
 pub record IsGoing (m : PlainMachine) : Type 0 where
   pub same_job : m.job ≡ Leaf
   pub on_its_way : IsOnItsWay m
 
--- it has come to the leaf of its key, which keeps this: a find has answered, and an update wants the leaf's latch
+-- the operation has come to the leaf of its key, which has this state of the key: a find has answered, and an update wants the
+-- leaf's latch
 pub data IsAtLeaf (op : Op) (kept : Option ℕ) (m : PlainMachine) : Type 0 where
   found : (key : ℕ) → op ≡ Find key → m.state ≡ Ended → m.answer ≡ Some (answer_at op kept) → IsAtLeaf op kept m
   wants : (page : ℕ) → IsUpdate op → m.state ≡ Want page → m.answer ≡ None → IsAtLeaf op kept m
 
--- it is on its way, or has come there
+-- the operation is in its descent, or has come to its leaf
 pub data IsDescending (op : Op) (kept : Option ℕ) (m : PlainMachine) : Type 0 where
   going : IsGoing m → m.answer ≡ None → IsDescending op kept m
   at_leaf : IsAtLeaf op kept m → IsDescending op kept m
 
--- it is the seat's, which knows what it knew when it began, but for what it has read since
+-- the operation is the seat's, and the seat knows what it knew at the beginning, except for what it has read since
 pub record HasRead (op : Op) (first me : SeatState) (m : PlainMachine) : Type 0 where
   pub same : SameBesideReads first.0 me.0 × (me.1 ≡ first.1)
   pub saw : IsPrefix first.0.seen me.0.seen

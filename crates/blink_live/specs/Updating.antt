@@ -1,4 +1,4 @@
--- An update after its way down: it changes its leaf, and goes on to its end.
+-- An update after its descent: it changes its leaf, and goes on to its end.
 use Rattle.std.specs.Prelude.{◌≡◌, ℕ, ◌+◌, ◌-◌, ◌≤◌, Some, None, IsSome, Contains}
 use mathlib.Core.List.{IsPrefix}
 use Rattle.atomic_table.specs.declared.Seat.{Seat}
@@ -17,16 +17,17 @@ use Rattle.blink_live.specs.Seats.{IsPassSeat}
 use Rattle.blink_live.specs.Views.{SeatState, KnowsItsOwn, CanBegin, for_call, no_words, changed_by}
 use Rattle.blink_live.specs.Words.{AreNumbersIn, AreRowsIn}
 
--- w is v, but for its operation, its share, what its call has stored, and what it reads and has seen
+-- w is v, except for its operation, its share, what its call has stored, and what it reads and has seen
 abbrev pub SameBesideCall : View → View → Type 0
 SameBesideCall v w = w ≡ record v { operation = w.operation; descent_bound = w.descent_bound; reads = w.reads; seen = w.seen; share = w.share; call = w.call }
 
--- the operation hasn't decided yet, and the share is as it was; or it answers by the share, which is changed as it changes a map
+-- the operation hasn't decided yet, and the share is as it was; or it answers by the share, which changes as the operation
+-- changes a map
 pub data HasDecided (op : Op) (before share : Share) (m : PlainMachine) : Type 0 where
   not_yet : m.answer ≡ None → share ≡ before → HasDecided op before share m
   decided : m.answer ≡ Some (answer_of before.entries op) → share ≡ changed_by op before → HasDecided op before share m
 
--- it isn't on its way down any more
+-- the operation's descent is over
 abbrev pub IsPastDescent : State → Type 0
 IsPastDescent Start = ⊥
 IsPastDescent (Going page level) = ⊥
@@ -40,7 +41,7 @@ pub record HasLeft (first call : Call) (m : PlainMachine) : Type 0 where
   pub same_stop : (call.rows.stop ≡ first.rows.stop) × (call.pages.stop ≡ first.pages.stop)
   pub blank : call.staged ≡ no_words
 
--- the seat knows what it knew when the operation began, but for what the operation has done since
+-- the seat knows what it knew when the operation began, except for what the operation has done since
 pub record IsUpdating (op : Op) (first me : SeatState) (m : PlainMachine) : Type 0 where
   pub same : SameBesideCall first.0 me.0 × (me.1 ≡ first.1)
   pub saw : IsPrefix first.0.seen me.0.seen
@@ -64,7 +65,8 @@ pub record CanUpdate (live : Live) (op : Op) (own : ℕ) (first : Seat ℕ View)
   pub rows : AreRowsIn live.counts first.me.0.rows
   pub pages : AreNumbersIn live.counts first.me.0.pages
 
--- between two turns of the operation, which the seat began when it was `first`: its rows and page numbers are those that its call has left
+-- the state between two turns of the operation: the seat was `first` when the operation began, and has the rows and page numbers
+-- that its call has left
 pub record IsUnderWay (live : Live) (op : Op) (own : ℕ) (first seat : Seat ℕ View) (m : PlainMachine) (room : Room) : Type 0 where
   pub can : CanUpdate live op own first
   pub same_table : (seat.table_id ≡ first.table_id) × (seat.id ≡ first.id)

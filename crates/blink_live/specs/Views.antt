@@ -21,7 +21,7 @@ use Rattle.blink_live.specs.declared.view.Share.{Share}
 use Rattle.blink_live.specs.declared.view.View.{View}
 use Rattle.blink_live.specs.Changes.{after, states_of, changes_made}
 
--- a seat's view, with the slots that it has taken: this table has none
+-- a seat's view, with the slots that it has taken; this table has no slots
 abbrev pub SeatState : Type 0
 SeatState = Me ℕ View
 
@@ -34,15 +34,15 @@ span next stop = record { next = next; stop = stop }
 abbrev pub no_share : Share
 no_share = record { keys = []; entries = []; changes = [] }
 
--- a row of which nothing is stored
+-- a row of which no word is stored
 abbrev pub no_words : List ℕ
 no_words = replicate ROW_WORDS 0
 
--- what a seat has for a call that hasn't made one
+-- the call of a seat that hasn't made a call
 abbrev pub no_call : Call
 no_call = record { rows = span 1 1; pages = span 1 1; staged = no_words }
 
--- a seat that does nothing, and has seen nothing
+-- a seat without an operation that has seen nothing
 abbrev pub seat_for : Plan → Role → Span → Span → Share → View
 seat_for plan role rows pages share = record {
   plan = plan;
@@ -60,7 +60,7 @@ seat_for plan role rows pages share = record {
   told = [];
 }
 
--- the keeper of a table that was opened over so many pages
+-- the keeper of a table that was opened over this many pages
 abbrev pub first_view : ℕ → Plan → View
 first_view count plan = seat_for plan (Keeper 0 0) (span (count + 2) (plan.counts.rows + 1)) (span (count + 1) plan.counts.numbers) no_share
 
@@ -68,36 +68,36 @@ first_view count plan = seat_for plan (Keeper 0 0) (span (count + 2) (plan.count
 abbrev pub no_plan : Plan
 no_plan = record { fan = 0; counts = record { numbers = 0; rows = 0 }; opening = [] }
 
--- a seat that is left when another has taken its view
+-- a seat whose view another seat has taken
 abbrev pub spent : Plan → View
 spent plan = seat_for plan Spent (span 1 1) (span 1 1) no_share
 
 -- ---- what it has seen
 
--- what the seat knows of a key: its state after the changes that it has seen
+-- the seat's knowledge of a key: the key's state after the changes that the seat has seen
 abbrev pub known_of : View → ℕ → Option ℕ
 known_of v key = after (pointer_of v.plan.opening) v.seen key
 
--- the changes of its own keys that it has seen are those that its own operations made
+-- of its own keys the seat has seen exactly the changes that its own operations made
 abbrev pub SawItsOwn : View → Type 0
 SawItsOwn v = (key : ℕ) → Contains v.share.keys key → states_of key v.seen ≡ states_of key v.share.changes
 
--- these changes show of the share's keys none but those that its own operations made, from the first on
+-- of the share's keys these changes show only those that its own operations made, from the first on
 abbrev pub ShowsNoMore : List Change → Share → Type 0
 ShowsNoMore seen share = (key : ℕ) → Contains share.keys key → IsPrefix (states_of key seen) (states_of key share.changes)
 
--- of its own keys it knows what its share says of them
+-- of its own keys the seat knows what its share says of them
 pub record KnowsItsOwn (v : View) : Type 0 where
   pub state : (key : ℕ) → Contains v.share.keys key → known_of v key ≡ pointer_of v.share.entries key
   pub changes : SawItsOwn v
 
 -- ---- reads
 
--- a page word was loaded, which names this row of these words: the operation is `after` now
+-- a page word was loaded that names this row with these words: the operation is `after` now
 abbrev pub reading : View → PlainMachine → ℕ → ℕ → List ℕ → List Change → View
 reading v after way row words seen = record v { operation = goes_on after after.state; descent_bound = way; reads = Some (row, words); seen = seen }
 
--- what an operation takes of its pass's rows when it begins, and of its page numbers
+-- the number of the pass's rows that an operation takes when it begins, and of its page numbers
 abbrev pub rows_of : Op → ℕ
 rows_of (Find key) = 0
 rows_of (Insert key pointer) = MAX_ROWS_PER_INSERT
@@ -107,12 +107,12 @@ abbrev pub pages_of : Op → ℕ
 pages_of (Insert key pointer) = MAX_NEW_PAGES_PER_INSERT
 pages_of op = 0
 
--- they are there
+-- the pass has these rows and page numbers
 pub record CanBegin (v : View) (op : Op) : Type 0 where
   pub rows : v.rows.next + rows_of op ≤ v.rows.stop
   pub pages : v.pages.next + pages_of op ≤ v.pages.stop
 
--- the first of them are for the call that begins
+-- the first of them go to the call that begins
 abbrev pub for_call : View → Op → View
 for_call v op = record v {
   rows = span (v.rows.next + rows_of op) v.rows.stop;
@@ -120,7 +120,7 @@ for_call v op = record v {
   call = record { rows = span v.rows.next (v.rows.next + rows_of op); pages = span v.pages.next (v.pages.next + pages_of op); staged = no_words };
 }
 
--- w is v, but for its operation, and for what it reads and has seen
+-- w is v, except for its operation, and for what it reads and has seen
 abbrev pub SameBesideReads : View → View → Type 0
 SameBesideReads v w = w ≡ record v { operation = w.operation; descent_bound = w.descent_bound; reads = w.reads; seen = w.seen }
 
@@ -130,11 +130,11 @@ SameBesideReads v w = w ≡ record v { operation = w.operation; descent_bound = 
 abbrev pub going_on : View → PlainMachine → ℕ → View
 going_on v after way = record v { operation = goes_on after after.state; descent_bound = way }
 
--- it has stored these words of the first row that its call may use
+-- the call has staged these words of its first row
 abbrev pub is_staged : View → List ℕ → View
 is_staged v words = record v { call = record { rows = v.call.rows; pages = v.call.pages; staged = words } }
 
--- it has stored one word more of that row
+-- the call has staged one more word of that row
 abbrev pub stage_word : View → ℕ → ℕ → View
 stage_word v place word = is_staged v (slice_set v.call.staged place word)
 
@@ -146,7 +146,7 @@ changed_by op share = record {
   changes = share.changes ++ changes_made op (pointer_of share.entries (key_of op));
 }
 
--- it has published that row, its call may still use these page numbers, and its operation is `after` now
+-- the seat has published that row, its call may still use these page numbers, and its operation is `after` now
 abbrev pub publishes : View → PlainMachine → ℕ → Span → Share → List Change → View
 publishes v after way pages share seen = record v {
   call = record { rows = span (suc v.call.rows.next) v.call.rows.stop; pages = pages; staged = no_words };
@@ -158,7 +158,7 @@ publishes v after way pages share seen = record v {
 
 -- ---- deals
 
--- the key is one of them
+-- the list contains the key
 abbrev pub is_among : List ℕ → ℕ → Bool
 is_among [] key = false
 is_among (first ∷ rest) key = (first == key) || is_among rest key
@@ -170,7 +170,7 @@ entries_of keys entries = filter (λ (e : Entry). is_among keys e.key) entries
 abbrev pub share_of_keys : List ℕ → List Entry → Share
 share_of_keys keys opening = record { keys = keys; entries = entries_of keys opening; changes = [] }
 
--- the keeper has dealt one pass more, or taken one back
+-- the keeper has dealt one more pass, or has taken one back
 abbrev pub deals_one : Role → Role
 deals_one (Keeper dealt back) = Keeper (suc dealt) back
 deals_one role = role
@@ -193,11 +193,11 @@ abbrev pub gets_first : View → ℕ → ℕ → List ℕ → View
 gets_first v rows pages keys =
     seat_for v.plan Pass (span v.rows.next (v.rows.next + rows)) (span v.pages.next (v.pages.next + pages)) (share_of_keys keys v.plan.opening)
 
--- the keeper with a pass's share back
+-- the keeper after a pass's share has come back
 abbrev pub takes_back : View → View → View
 takes_back v w = record v { role = takes_one v.role; back = w.share ∷ v.back }
 
--- the keeper with all these shares back
+-- the keeper after all these shares have come back
 abbrev pub takes_more : Role → ℕ → Role
 takes_more (Keeper dealt back) more = Keeper dealt (back + more)
 takes_more role more = role
@@ -207,18 +207,18 @@ takes_all_back v shares = record v { role = takes_more v.role (length shares); b
 
 -- ---- telling
 
--- what a pass has seen, for another to be told: a seat that is good for nothing else
+-- the note of what a pass has seen: a seat for another pass to take, of no other use
 abbrev pub note_of : View → View
 note_of v = record (spent v.plan) { told = v.seen }
 
--- a pass that has got such a note
+-- a pass that holds such a note
 abbrev pub hears : View → View → View
 hears v w = record v { told = w.told }
 
--- it knows what it was told, and has seen these changes now
+-- the seat has seen these changes now, and its note is used up
 abbrev pub learns_of_others : View → List Change → View
 learns_of_others v seen = record v { seen = seen; told = [] }
 
--- it knows what it was told, and has seen no more
+-- the seat has seen no more, and its note is used up
 abbrev pub forgets_told : View → View
 forgets_told v = record v { told = [] }

@@ -1,4 +1,4 @@
--- What the words of a table say: where its rows stand, and which rows keep pages.
+-- The layout of a table's words: where its rows stand, and which rows hold pages.
 use Rattle.std.specs.Prelude.{◌≡◌, ℕ, ◌+◌, ◌-◌, ◌*◌, ◌<◌, ◌≤◌, Some, List, slice_index}
 use Rattle.blink_page.specs.{PlainPage}
 use Rattle.blink_rest.specs.{Pages}
@@ -7,18 +7,18 @@ use Rattle.blink_page.specs.declared.limits.TheConstants.{MAX_PAGE}
 use Rattle.blink_rows.specs.declared.limits.TheConstants.{ROW_WORDS}
 use Rattle.blink_rows.specs.declared.span.Span.{Span}
 
--- where a row begins
+-- the place where a row begins
 abbrev pub row_start : PlainCounts → ℕ → ℕ
 row_start counts row = 2 * counts.numbers + ROW_WORDS * (row - 1)
 
--- how many words there are: a page word and a latch word for each number, and the rows
+-- the number of words: a page word and a latch word for each number, and the rows
 abbrev pub word_count : PlainCounts → ℕ
 word_count counts = 2 * counts.numbers + ROW_WORDS * counts.rows
 
 abbrev pub IsRowNumber : PlainCounts → ℕ → Type 0
 IsRowNumber counts row = (1 ≤ row) × (row ≤ counts.rows)
 
--- these rows are there, and these page numbers; no table has more numbers than there are
+-- the table has these rows, and these page numbers; no table has more numbers than exist
 abbrev pub AreRowsIn : PlainCounts → Span → Type 0
 AreRowsIn counts rows = (1 ≤ rows.next) × (rows.stop ≤ counts.rows + 1)
 
@@ -29,12 +29,12 @@ AreNumbersIn counts pages = (1 ≤ pages.next) × (pages.stop ≤ counts.numbers
 abbrev pub RowIs : PlainCounts → List ℕ → ℕ → List ℕ → Type 0
 RowIs counts words row content = (i : ℕ) → i < ROW_WORDS → slice_index words (row_start counts row + i) ≡ slice_index content i
 
--- the page word of this number names a row of the page
+-- the page word of this number names a row that holds the page
 pub record KeepsPage (counts : PlainCounts) (words : List ℕ) (number : ℕ) (page : PlainPage) : Type 0 where
   pub number_in_range : (1 ≤ number) × (number < counts.numbers)
   pub row_in_range : IsRowNumber counts (slice_index words number)
   pub row_is : RowIs counts words (slice_index words number) (page_words page)
 
--- each of these pages is kept
+-- the words hold each of these pages
 abbrev pub KeepsPages : PlainCounts → List ℕ → Pages → Type 0
 KeepsPages counts words pages = (number : ℕ) (page : PlainPage) → pages number ≡ Some page → KeepsPage counts words number page

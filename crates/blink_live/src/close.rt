@@ -1,4 +1,5 @@
-//! How a table is closed, and the tree at rest that its words keep then, in a new store and with its pages numbered anew.
+//! Closing a table: it takes keeper and passes back, and builds an index from the tree at rest that the words hold. The index
+//! has a new store, and its pages get new numbers.
 ghost use Rattle.std.specs.Prelude.{◌≡◌, ◌<◌, ◌↔◌, ◌⊎◌, ℕ, None, [], All, length, IfOk, IfErr, IsErrOf, List, ◌+◌, ◌≤◌, ◌++◌, Some, ◌∷◌, OnOk, slice_index, IfSome};
 ghost use Rattle.std.specs.Mem.Slots.{slots_items, slots_len, IsFull};
 ghost use Rattle.blink_batch.specs.declared.Entry.{Entry};
@@ -28,12 +29,12 @@ use std::alloc::{AllocError, Global};
 use std::marker::Brand;
 
 impl Live {
-    /// The index that the table keeps, once all passes are back: its entries are those that the table was opened with, in
-    /// which each key that was dealt has the state of its pass's share. Its pages are numbered anew from 1, level 0 first, and
-    /// each level from the left.
+    /// Closes the table once all passes are back, and returns the index of its tree. The index's entries are those that the
+    /// table was opened with, except that each key that was dealt has the state of its pass's share. Its pages are numbered anew
+    /// from 1, level 0 first, and each level from the left.
     ///
-    /// `Missing` comes exactly where fewer passes come back than were dealt; then `OutOfMemory`, where memory was refused.
-    /// The table is given up either way; the index that was opened is as it was.
+    /// The call refuses with `Missing` exactly if fewer passes come back than were dealt; then with `OutOfMemory`, if memory was
+    /// refused. The table is given up either way. The index that was opened stays as it was.
     pub fn close(self, alloc: Global, keeper: Keeper, passes: Vec<Pass>) -> Result<Index, LiveError>
         requires its_keeper { IsKeeperOf self keeper }
         requires its_passes { All (IsPassOf self) passes.items }
@@ -98,7 +99,7 @@ impl Live {
     }
 }
 
-// The tree at rest that the words keep, its pages numbered anew.
+// Builds the tree at rest that the words hold, with its pages numbered anew.
 fn tree_at_end(
     alloc: Global,
     closed: &Closed<u8, Global>,
@@ -118,7 +119,7 @@ fn tree_at_end(
     gather(alloc, closed, counts, fan, &prime)
 }
 
-// The prime block that the words keep.
+// The prime block that the words hold.
 fn prime_at(closed: &Closed<u8, Global>, counts: &Counts) -> Prime
     requires full { IsFull closed.now.words }
     requires width { slots_len closed.now.words ≡ word_count counts.now }
@@ -134,8 +135,8 @@ fn prime_at(closed: &Closed<u8, Global>, counts: &Counts) -> Prime
     prime
 }
 
-// The tree at rest that the words keep, in a new store: its pages are numbered anew from 1, level 0 first, each level from
-// the left.
+// Copies the tree at rest that the words hold into a new store. Its pages are numbered anew from 1, level 0 first, each level
+// from the left.
 fn gather(
     alloc: Global,
     closed: &Closed<u8, Global>,
@@ -168,7 +169,8 @@ fn gather(
     Ok(Rest::of(store))
 }
 
-// A new store with the pages of level 0, from this one on. The first takes the place of the empty leaf that a new store has.
+// Makes a new store with the pages of level 0, from page `leftmost` on. That page takes the place of the empty leaf that a new
+// store has.
 fn store_of_leaves(
     alloc: Global,
     closed: &Closed<u8, Global>,
@@ -195,7 +197,7 @@ fn store_of_leaves(
     Ok(store)
 }
 
-// Adds the pages of a level from a link on, with the next numbers, and their children from `first_child` on.
+// Adds the pages of a level from a link on. They get the next numbers, and their children are numbered from `first_child` on.
 fn add_pages(
     store: &mut Store,
     closed: &Closed<u8, Global>,
@@ -225,7 +227,7 @@ fn add_pages(
     Ok(())
 }
 
-// Adds a page to a store that has a number left.
+// Adds a page to a store that has a page number left.
 fn add(store: &mut Store, page: Page) -> Result<(), AllocError>
     requires at_most_fan { length page.entries ≤ store.old.fan }
     requires room { length store.old.pages < MAX_PAGE }
@@ -239,7 +241,7 @@ fn add(store: &mut Store, page: Page) -> Result<(), AllocError>
     }
 }
 
-// The page that the words keep under a number.
+// The page that the words hold under `number`.
 fn page_at(closed: &Closed<u8, Global>, counts: &Counts, number: u32) -> Page
     requires full { IsFull closed.now.words }
     requires width { slots_len closed.now.words ≡ word_count counts.now }
@@ -258,7 +260,7 @@ fn page_at(closed: &Closed<u8, Global>, counts: &Counts, number: u32) -> Page
     }
 }
 
-// The words of a row that begins at this place.
+// The words of the row that begins at `start`.
 fn row_words(closed: &Closed<u8, Global>, start: usize) -> [u64; ROW_WORDS]
     requires full { IsFull closed.now.words }
     requires inside { start + ROW_WORDS ≤ slots_len closed.now.words }
@@ -273,7 +275,7 @@ fn row_words(closed: &Closed<u8, Global>, start: usize) -> [u64; ROW_WORDS]
     words
 }
 
-// The page with its right link to `next`, and its children from `child` on.
+// The page with its right link set to `next`, and its children numbered from `child` on.
 fn renumbered(page: Page, next: u32, child: u32) -> Page
     requires next { IfSome page.right (λ _. IsPageNumber next) }
     requires first_child { 1 ≤ child }
@@ -299,14 +301,14 @@ fn renumbered(page: Page, next: u32, child: u32) -> Page
     }
 }
 
-// The link to `next`, where there was a link.
+// The link to `next`, if the page had a link.
 fn led_to(link: Option<u32>, next: u32) -> Option<u32>
     ensures { result ≡ link_anew next link }
 {
     link.map(|_| next)
 }
 
-// How many children a page has.
+// The number of children of a page.
 fn child_count(page: &Page) -> u32
     ensures { result ≡ child_count page.now.level page.now.entries }
 {
@@ -317,7 +319,7 @@ fn child_count(page: &Page) -> u32
     }
 }
 
-// Puts the numbers from `child` on in the place of the children.
+// Replaces the children by the numbers from `child` on.
 fn renumber(entries: &mut [(u64, u64)], child: u32)
     requires { child + length entries.old ≤ MAX_PAGE + 1 }
     ensures { entries.new ≡ with_children child entries.old }

@@ -1,4 +1,5 @@
-//! How a table's keeper deals passes: which keys are taken, what a deal gives, and what a keeper and a pass tell of themselves.
+//! Dealing: the keeper gives a new pass keys, rows and page numbers. Here are also the reads of a keeper's and a pass's own
+//! fields.
 ghost use Rattle.std.specs.Prelude.{◌≡◌, ◌⊎◌, ◌↔◌, ℕ, ◌+◌, ◌*◌, ◌≤◌, IfOk, IfErr, OnOk, OnErr, IsErrOf, IsTrue, Contains, IsSorted, [], ◌<◌, length, take, slice_index, IfSome, IfNone};
 ghost use Rattle.std.specs.Ordering.{nat_cmp};
 ghost use Rattle.blink_page.specs.declared.limits.TheConstants.{MAX_NEW_PAGES_PER_INSERT};
@@ -19,13 +20,14 @@ use std::collections::BTreeSet;
 use std::marker::Brand;
 
 impl Live {
-    /// A pass with these keys, which no other pass has, and with room for so many insertions and deletions. Its share begins
-    /// with the entries that the table was opened with. It takes work that grows nearly linearly with the keys and those dealt
-    /// before; where memory is refused, with the square of the keys.
+    /// Deals a pass with these keys, which no other pass has. The pass has room for `inserts` insertions and `deletes`
+    /// deletions. Its share begins with the entries that the table was opened with. The call's work grows nearly linearly with
+    /// the keys and those dealt before. If memory is refused, it grows with the square of the keys.
     ///
-    /// First `Taken` tells the first key of the list that was dealt before or stands earlier in the list; then `NoAllowance`
-    /// comes exactly where the keeper has fewer insertions or deletions left, or has dealt 4,294,967,295 passes; then
-    /// `DealOutOfMemory`, where memory was refused. A refusal leaves the keeper as it was; the list is given up.
+    /// The call refuses first with `Taken`, which names the first key of the list that was dealt before or stands earlier in the
+    /// list. Then it refuses with `NoAllowance` exactly if the keeper has fewer insertions or deletions left, or has dealt
+    /// 4,294,967,295 passes. Then it refuses with `DealOutOfMemory`, if memory was refused. A refusal leaves the keeper as it
+    /// was; the list is given up.
     pub fn deal(
         &self,
         keeper: &mut Keeper,
@@ -49,7 +51,7 @@ impl Live {
         }
     }
 
-    // Deals what the keeper has. No memory is taken.
+    // Deals from what the keeper has left. It takes no memory.
     fn hand_out(
         &self,
         keeper: &mut Keeper,
@@ -88,7 +90,8 @@ impl Live {
         }
     }
 
-    // The keeper's seat keeps the rest, and a new one gets the first rows and page numbers, and the keys.
+    // Splits the keeper's seat. The new seat gets the keys and the first rows and page numbers; the keeper's seat keeps the
+    // rest.
     fn split<B: Dealt>(
         &self,
         seat: &mut Seat<u8, View>,
@@ -110,35 +113,35 @@ impl Live {
 }
 
 impl Keeper {
-    /// The keys that were dealt, in ascending order.
+    /// Returns the keys that were dealt, in ascending order.
     pub fn taken(&self) -> &[u64]
         ensures { result.now ≡ taken_of self.now }
     {
         &self.taken
     }
 
-    /// How many passes were dealt.
+    /// Returns the number of passes that were dealt.
     pub fn dealt(&self) -> u32
         ensures { result ≡ self.now.dealt }
     {
         self.dealt
     }
 
-    /// The rows that weren't dealt.
+    /// Returns the rows that weren't dealt.
     pub fn rows(&self) -> Span
         ensures { result ≡ self.now.rows }
     {
         self.rows
     }
 
-    /// The page numbers that weren't dealt.
+    /// Returns the page numbers that weren't dealt.
     pub fn pages(&self) -> Span
         ensures { result ≡ self.now.pages }
     {
         self.pages
     }
 
-    // All keys that are taken when these are dealt too, in ascending order; or why they aren't dealt.
+    // All keys that are taken once these are dealt too, in ascending order; or the refusal of the deal.
     fn taken_with(&self, keys: &[u64], inserts: u32, deletes: u32) -> Result<Vec<u64>, LiveError>
         ensures free { OnOk result (NoneIsTaken (taken_of self.now) keys.now) }
         ensures allowed { OnOk result (¬ LacksAllowance self.now inserts deletes) }
@@ -168,7 +171,7 @@ impl Keeper {
         }
     }
 
-    // Whether it has fewer insertions or deletions left, or has dealt as many passes as it may.
+    // Whether the keeper has fewer insertions or deletions left, or has dealt as many passes as it may.
     fn lacks_allowance(&self, inserts: u32, deletes: u32) -> bool
         ensures { IsTrue result ↔ LacksAllowance self.now inserts deletes }
     {
@@ -179,21 +182,21 @@ impl Keeper {
 }
 
 impl Pass {
-    /// The pass's keys, in ascending order.
+    /// Returns the pass's keys, in ascending order.
     pub fn keys(&self) -> &[u64]
         ensures { result.now ≡ keys_of self.now }
     {
         &self.keys
     }
 
-    /// The rows that the pass's operations may still use.
+    /// Returns the rows that the pass's operations may still use.
     pub fn rows(&self) -> Span
         ensures { result ≡ self.now.rows }
     {
         self.rows
     }
 
-    /// The page numbers that the pass's operations may still use.
+    /// Returns the page numbers that the pass's operations may still use.
     pub fn pages(&self) -> Span
         ensures { result ≡ self.now.pages }
     {
@@ -208,7 +211,7 @@ impl Pass {
     }
 }
 
-// The keys of a list that were met so far, until memory is refused.
+// The keys of a list met so far. Once memory is refused, the set gets no further key.
 #[derive(Drop)]
 struct Met {
     keys: BTreeSet<u64, Global>,
@@ -216,7 +219,7 @@ struct Met {
 }
 
 impl Met {
-    // Meets the key at this place of the list, and says whether it stands earlier in the list.
+    // Meets the key at `place` of the list, and returns whether it stands earlier in the list.
     fn meets_again(&mut self, keys: &[u64], place: usize) -> bool
         requires inside { place < length keys.now }
         requires met { HasMet self.old.refused self.old.keys (take place keys.now) }
@@ -241,7 +244,7 @@ struct Search {
     refused: bool,
 }
 
-// Goes through a list of keys, in its order.
+// Looks for the first taken key of a list, in the list's order.
 fn first_taken(alloc: Global, taken: &[u64], keys: &[u64]) -> Search
     requires ascending { IsSorted nat_cmp taken.now }
     ensures first { IfSome result.first (IsFirstTaken taken.now keys.now) }
@@ -274,7 +277,7 @@ fn is_among(keys: &[u64], key: u64) -> bool
     keys.binary_search(&key).is_ok()
 }
 
-// The keys of both lists, in a new one.
+// The keys of both lists, ascending, in a new list.
 fn joined(alloc: Global, keys: &[u64], more: &[u64]) -> Result<Vec<u64>, AllocError>
     ensures ascending { IfOk result (λ all. IsSorted nat_cmp all.items) }
     ensures of_both { IfOk result (λ all. (key : ℕ)

@@ -1,4 +1,4 @@
-//! Why a call on a table is refused.
+//! The refusals of the calls on a table.
 ghost use Rattle.std.specs.Prelude.{◌≡◌};
 ghost use Rattle.blink_live.specs.Codes.{code_of, code_of_pass};
 
@@ -10,10 +10,10 @@ pub enum LiveError {
     /// Memory was refused when a table was to be opened or closed.
     #[error("out of memory")]
     OutOfMemory,
-    /// This key was dealt before, or stands twice in the list.
+    /// This key was dealt before, or stands twice in the list that was to be dealt.
     #[error("key {0} is taken")]
     Taken(u64),
-    /// The keeper has fewer insertions or deletions left.
+    /// The keeper has fewer insertions or deletions left than were asked for, or has dealt as many passes as it may.
     #[error("no allowance")]
     NoAllowance,
     /// Memory was refused when a pass was to be dealt.
@@ -28,7 +28,7 @@ pub enum LiveError {
 }
 
 impl LiveError {
-    /// The number of the refusal, the same in every release.
+    /// Returns the refusal's code, the same in every release.
     pub fn code(&self) -> u8
         ensures { result ≡ code_of self.now }
     {
@@ -55,7 +55,7 @@ pub enum PassError {
 }
 
 impl PassError {
-    /// The number of the refusal, the same in every release.
+    /// Returns the refusal's code, the same in every release.
     pub fn code(&self) -> u8
         ensures { result ≡ code_of_pass self.now }
     {

@@ -1,4 +1,4 @@
-//! The tree in one table of words that threads share without a lock.
+//! A B-link tree in one table of words that threads share without a lock.
 #![tactic(auto)]
 
 mod close;

@@ -1,5 +1,5 @@
-//! A table of words that keeps a tree, what its passes are dealt from, and what a thread changes and reads it with. These types stand
-//! apart from their calls, since the words of the calls' contracts name them.
+//! The types of a table: `Live` holds the tree, `Keeper` deals the passes, and with a `Pass` a thread reads and changes some
+//! keys. These types stand apart from their calls, since the calls' contracts name them.
 ghost use Rattle.std.specs.Prelude.{◌≡◌, ◌≤◌, [], IsSorted, None};
 ghost use Rattle.std.specs.Ordering.{nat_cmp};
 ghost use Rattle.blink_page.specs.{IsFan};
@@ -14,11 +14,11 @@ use atomic_table::{Seat, Table};
 use blink_rows::{Counts, Span};
 use std::alloc::Global;
 
-/// A B-link tree in one table of words that any number of threads share without a lock, each with passes of its own.
+/// A B-link tree in one table of words. Any number of threads share it without a lock, each with passes of its own.
 ///
-/// Its words are, in this order: a page word for each page number, which names the row of the page's present version, or is
-/// 0; a latch word for each number; and the rows. Between any two atomic steps of any threads they are a sound tree state of the
-/// tree (`specs/Rule.antt`).
+/// The table has three sections of words, in this order: a page word for each page number, a latch word for each number, and the
+/// rows. A page word names the row of the page's present version, or is 0. Between any two atomic steps of any threads the words
+/// hold a tree state for which the invariant holds (`specs/Rule.antt`).
 #[derive(Drop)]
 pub struct Live {
     pub(crate) table: Table<u8, View, Opened, InvariantOfTree, Global>,
@@ -31,8 +31,8 @@ pub struct Live {
     ghost width: { table.shared.table_id.words ≡ word_count counts },
 }
 
-/// The right to deal a table's passes, and to close it when they are back: the keys that were dealt, the rows and the page
-/// numbers that were not, and how many passes there are.
+/// The right to deal a table's passes, and to close the table when they are back. It holds the keys that were dealt, the rows
+/// and the page numbers that were not, and the number of passes dealt.
 #[derive(Drop)]
 pub struct Keeper {
     pub(crate) seat: Seat<u8, View>,
@@ -50,8 +50,8 @@ pub struct Keeper {
     ghost no_slot: { seat.me.1 ≡ [] },
 }
 
-/// The right to read and change some keys of a table, which no other pass has: its keys, in ascending order, and the rows and
-/// page numbers that it may still use.
+/// The right to read and change some keys of a table, which no other pass has. It holds its keys, in ascending order, and the
+/// rows and page numbers that it may still use.
 #[derive(Drop)]
 pub struct Pass {
     pub(crate) seat: Seat<u8, View>,

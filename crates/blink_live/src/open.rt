@@ -1,4 +1,4 @@
-//! How a table is opened over an index, the words that it has then, and what it tells of itself.
+//! Opening a table over an index, the words that it begins with, and the reads of its own fields.
 ghost use Rattle.std.specs.Prelude.{◌≡◌, ◌↔◌, ◌⊎◌, length, IfOk, IfErr, IsErrOf, IsTrue, ◌+◌, ◌<◌, ◌≤◌, replicate, IsSome};
 ghost use Rattle.blink_live.specs.Allowed.{IsTooLarge};
 ghost use Rattle.blink_live.specs.Handles.{IsOpened, counts_of, fan_of};
@@ -19,11 +19,11 @@ use std::alloc::{AllocError, Global};
 use std::snapshot::Snapshot;
 
 impl Live {
-    /// A table over the index's tree, which stays as it is, with room for so many insertions and deletions, and the keeper
-    /// that deals its passes. A replacement uses a deletion.
+    /// Opens a table over the index's tree, and returns it with the keeper that deals its passes. The index stays as it is. The
+    /// table has room for the insertions and deletions of `allowance`; a replacement uses a deletion.
     ///
-    /// `TooLarge` is told before memory is asked for, and comes exactly where the insertions might need more page numbers
-    /// than the 1,048,576 that there are, 22 each. `OutOfMemory` comes where memory was refused.
+    /// The call refuses with `TooLarge`, before it asks for memory, exactly if the insertions might need more page numbers than
+    /// the 1,048,576 that exist, at 22 each. It refuses with `OutOfMemory`, if memory was refused.
     pub fn open(
         alloc: Global,
         index: &Index,
@@ -70,29 +70,29 @@ impl Live {
         Ok((Live { table, counts, fan }, keeper))
     }
 
-    /// The greatest number of entries in a page.
+    /// Returns the greatest number of entries in a page.
     pub fn fan(&self) -> u8
         ensures { result ≡ fan_of self.now }
     {
         self.fan
     }
 
-    /// How many page numbers and rows the table has, from which its layout follows.
+    /// Returns the number of page numbers and rows of the table. Its layout follows from them.
     pub fn counts(&self) -> Counts
         ensures { result ≡ counts_of self.now }
     {
         self.counts
     }
 
-    /// How many words the table has.
+    /// Returns the number of words of the table.
     pub fn word_count(&self) -> usize
         ensures { result ≡ word_count (counts_of self.now) }
     {
         self.table.word_count()
     }
 
-    /// A word of the table as it is now, for who looks into the layout; `None` from `word_count` on. Other threads may change it at any
-    /// time, so nothing is known from it.
+    /// Returns a word of the table as it is now, for a look into the layout; `None` from `word_count` on. Other threads may
+    /// change the word at any time, so its value proves nothing.
     pub fn word(&self, place: usize) -> Option<u64>
         ensures { IsSome result ↔ place < word_count (counts_of self.now) }
     {
@@ -115,14 +115,14 @@ fn laid_words(alloc: Global, counts: &Counts, store: &Store) -> Result<Vec<u64>,
     Ok(words)
 }
 
-// How many words a table has.
+// The number of words of a table.
 fn word_count(counts: &Counts) -> usize
     ensures { result ≡ word_count counts.now }
 {
     2 * counts.numbers as usize + ROW_WORDS * counts.rows as usize
 }
 
-// Lays the prime block and the pages into words that are all 0.
+// Lays the prime block and the pages into words that are all 0 before.
 fn lay_tree(words: &mut [u64], counts: &Counts, store: &Store)
     requires numbers { length store.now.pages < counts.now.numbers }
     requires rows { length store.now.pages < counts.now.rows }
@@ -136,7 +136,7 @@ fn lay_tree(words: &mut [u64], counts: &Counts, store: &Store)
     }
 }
 
-// Stores a row behind a number, and names it in the number's page word.
+// Stores a row as row `number + 1`, and names it in the number's page word.
 fn lay_row(words: &mut [u64], counts: &Counts, number: u32, row: &[u64; ROW_WORDS])
     requires width { length words.old ≡ word_count counts.now }
     requires number { number < counts.now.numbers }

@@ -1,5 +1,4 @@
-//! What a pass does with its own keys: it finds what a key keeps, adds an entry under it, removes it, or replaces its record
-//! pointer.
+//! The operations of a pass on its own keys: find, insert, delete and replace.
 ghost use Rattle.std.specs.Prelude.{◌≡◌, ◌↔◌, IsTrue, IfErr, IfOk, OnErr, OnOk, IsErrOf, Contains, None};
 ghost use mathlib.Core.List.{IsPrefix};
 ghost use Rattle.blink_batch.specs.{answer_at, answer_of, key_of, FitsWords};
@@ -19,10 +18,10 @@ use blink_batch::{Answer, Op};
 use std::sync::Wait;
 
 impl Live {
-    /// What the pass's key keeps: `Found` with its record pointer, or `Absent`, whatever other passes do at the same time. It
-    /// takes no memory, waits for nobody, and returns.
+    /// Looks up a key of the pass. It answers `Found` with the key's record pointer, or `Absent`, whatever other passes do at the
+    /// same time. It takes no memory, waits for nobody, and returns.
     ///
-    /// `NotYours` is told of every key that isn't one of the pass's; then nothing is read.
+    /// The call refuses with `NotYours` for every key that isn't one of the pass's; then it reads nothing.
     pub fn find(&self, pass: &mut Pass, key: u64) -> Result<Answer, PassError>
         requires its_own { IsPassOf self.now pass.old }
         ensures answer { IfOk result (λ answer. answer ≡ answer_of (share_of pass.old) (Find key)) }
@@ -44,13 +43,13 @@ impl Live {
         Ok(self.search(seat, key))
     }
 
-    /// Adds an entry under the pass's key: `Inserted`, or `Exists` with the record pointer that is there, which stays, whatever
-    /// other passes do at the same time. Each accepted call uses one insertion of the pass, whatever it answers: the next 22 of
-    /// its page numbers and the next 44 of its rows. It takes no memory, and waits for a page's latch that another pass has, and
-    /// for a new root that another is about to make.
+    /// Adds an entry for a key of the pass. It answers `Inserted`, or `Exists` with the record pointer that the key has, which
+    /// stays, whatever other passes do at the same time. Each accepted call uses one insertion of the pass, whatever it answers:
+    /// the next 22 of its page numbers and the next 44 of its rows. It takes no memory. It waits for a page's latch that another
+    /// pass has, and for a new root that another pass is about to make.
     ///
-    /// `NotYours` is told of every key that isn't one of the pass's; then `Spent`, where the pass has no insertion left. A call
-    /// that is refused changes nothing and reads nothing.
+    /// The call refuses with `NotYours` for every key that isn't one of the pass's; then with `Spent`, if the pass has no
+    /// insertion left. A refused call changes nothing and reads nothing.
     pub fn insert<R: Wait>(
         &self,
         rt: &R,
@@ -71,12 +70,12 @@ impl Live {
         self.change(rt, pass, Op::Insert(key, pointer))
     }
 
-    /// Removes the pass's key: `Removed` with its record pointer, or `Absent` where it isn't there, whatever other passes do at
-    /// the same time. Each accepted call uses one deletion of the pass, whatever it answers: the next of its rows. It takes no
-    /// memory, and waits for a page's latch that another pass has.
+    /// Removes a key of the pass. It answers `Removed` with the key's record pointer, or `Absent` if the tree lacks the key,
+    /// whatever other passes do at the same time. Each accepted call uses one deletion of the pass, whatever it answers: the
+    /// next of its rows. It takes no memory, and waits for a page's latch that another pass has.
     ///
-    /// `NotYours` is told of every key that isn't one of the pass's; then `Spent`, where the pass has no deletion left. A call
-    /// that is refused changes nothing and reads nothing.
+    /// The call refuses with `NotYours` for every key that isn't one of the pass's; then with `Spent`, if the pass has no
+    /// deletion left. A refused call changes nothing and reads nothing.
     pub fn delete<R: Wait>(&self, rt: &R, pass: &mut Pass, key: u64) -> Result<Answer, PassError>
         requires its_own { IsPassOf self.now pass.old }
         ensures answer { IfOk result (λ answer. answer ≡ answer_of (share_of pass.old) (Delete key)) }
@@ -90,13 +89,13 @@ impl Live {
         self.change(rt, pass, Op::Delete(key))
     }
 
-    /// Keeps another record pointer under the pass's key: `Replaced` with the one before, also where both are the same, or
-    /// `Absent` where the key isn't there, whatever other passes do at the same time. Each accepted call uses one deletion of
-    /// the pass, whatever it answers: the next of its rows. It takes no memory, and waits for a page's latch that another pass
-    /// has.
+    /// Replaces the record pointer of a key of the pass. It answers `Replaced` with the pointer before, also if both are the
+    /// same, or `Absent` if the tree lacks the key, whatever other passes do at the same time. Each accepted call uses one
+    /// deletion of the pass, whatever it answers: the next of its rows. It takes no memory, and waits for a page's latch that
+    /// another pass has.
     ///
-    /// `NotYours` is told of every key that isn't one of the pass's; then `Spent`, where the pass has no deletion left. A call
-    /// that is refused changes nothing and reads nothing.
+    /// The call refuses with `NotYours` for every key that isn't one of the pass's; then with `Spent`, if the pass has no
+    /// deletion left. A refused call changes nothing and reads nothing.
     pub fn replace<R: Wait>(
         &self,
         rt: &R,
@@ -117,7 +116,7 @@ impl Live {
         self.change(rt, pass, Op::Replace(key, pointer))
     }
 
-    // What the key keeps after the changes that the seat has seen then.
+    // Answers a find of the key by the state of the key after the changes that the seat has seen by the end of the call.
     pub(crate) fn search(&self, seat: &mut Seat<u8, View>, key: u64) -> Answer
         requires seat { IsPassSeat self.now seat.old.table_id seat.old.me }
         requires idle { seat.old.me.0.operation ≡ None }
@@ -137,7 +136,8 @@ impl Live {
         answer
     }
 
-    // Changes the tree by an operation of one of the pass's keys, which uses one of the changes that the pass has left of its kind.
+    // Runs an operation that changes the tree, on one of the pass's keys. It uses one of the changes of its kind that the pass
+    // has left.
     fn change<R: Wait>(&self, rt: &R, pass: &mut Pass, op: Op) -> Result<Answer, PassError>
         requires its_own { IsPassOf self.now pass.old }
         requires updates { IsUpdate op }

@@ -1,7 +1,7 @@
-//! How an operation goes down to the leaf of its key, and how a seat reads the pages of a table on the operation's way: each by
-//! the load of its page word, which is the tree's read, and then by the loads of as many words of the row that it names as tell
-//! which way the operation's key leads. Of a page that the operation has latched it loads the words up to the last entry, and of
-//! the prime block those up to the leftmost page of the top level.
+//! The descent of an operation to the leaf of its key, and a seat's reads of pages. Each read of a page first loads its page
+//! word. That load is the tree's read. Then the seat loads as many words of the row that the page word names as decide where the
+//! operation's key leads. Of a page that the operation has latched the seat loads the words up to the last entry. Of the prime
+//! block it loads the words up to the leftmost page of the top level.
 ghost use Rattle.std.specs.Prelude.{◌≡◌, None, ℕ, ◌+◌, ◌*◌, ◌<◌, ◌≤◌, Some, List, Option, slice_get, slice_index, ◌⊎◌, length};
 ghost use Rattle.std.specs.Bool.{OnTrue, OnFalse};
 ghost use Rattle.blink_batch.specs.{FitsWords, key_of};
@@ -24,7 +24,7 @@ use blink_page::Way;
 use blink_rows::{HEAD_WORDS, ROW_WORDS, row_page, row_prime};
 use std::marker::Brand;
 
-// The words of a row's head.
+// The places of a row's head words.
 const LEVEL: usize = 0;
 
 const HIGH_KEY: usize = 3;
@@ -34,7 +34,7 @@ const RIGHT_LINK: usize = 4;
 const COUNT: usize = 5;
 
 impl Live {
-    // Takes an operation down to the leaf of its key.
+    // Runs an operation's descent to the leaf of its key.
     pub(crate) fn descend(&self, seat: &mut Seat<u8, View>, op: Op) -> Machine
         requires seat { IsPassSeat self.now seat.old.table_id seat.old.me }
         requires idle { seat.old.me.0.operation ≡ None }
@@ -53,7 +53,7 @@ impl Live {
         machine
     }
 
-    // Begins an operation: it reads of the prime block what names the root.
+    // Begins an operation: it reads the root's level and number from the prime block.
     fn begin(&self, seat: &mut Seat<u8, View>, op: Op) -> Machine
         requires seat { IsPassSeat self.now seat.old.table_id seat.old.me }
         requires idle { seat.old.me.0.operation ≡ None }
@@ -70,7 +70,7 @@ impl Live {
         machine
     }
 
-    // Loads the prime block's page word, for an operation that begins.
+    // Loads the prime block's page word for an operation that begins.
     fn load_prime<B: Begun>(&self, seat: &mut Seat<u8, View>, op: Op) -> u64
         requires seat { IsPassSeat self.now seat.old.table_id seat.old.me }
         requires idle { seat.old.me.0.operation ≡ None }
@@ -83,7 +83,7 @@ impl Live {
         self.table.shared.load::<Begin<B>>(seat, 0)
     }
 
-    // Reads the page that an operation on its way down needs next, and tells it which way its key leads from there.
+    // Reads the page that a descending operation needs next, and hands the operation where its key leads from there.
     fn read_page(&self, seat: &mut Seat<u8, View>, machine: &mut Machine, number: u32)
         requires seat { IsPassSeat self.now seat.old.table_id seat.old.me }
         requires at { seat.old.me.0.operation ≡ Some machine.old }
@@ -99,7 +99,7 @@ impl Live {
         machine.saw_way(way, kept);
     }
 
-    // Which way the key leads from the page whose row the seat reads, and where that is the key's leaf, what it keeps under
+    // Where the key leads from the page whose row the seat reads. If that page is the key's leaf, also the pointer stored for
     // the key.
     fn way_from(&self, seat: &mut Seat<u8, View>, row: u64, key: u64) -> (Way, Option<u64>)
         requires seat { IsPassSeat self.now seat.old.table_id seat.old.me }
@@ -123,7 +123,7 @@ impl Live {
         (Way::Down(child as u32), None)
     }
 
-    // The first entry of the page whose row the seat reads that has this key or a greater one.
+    // The first entry whose key is at least `key`, in the page whose row the seat reads.
     fn entry_from(&self, seat: &mut Seat<u8, View>, row: u64, key: u64) -> Option<(u64, u64)>
         requires seat { IsPassSeat self.now seat.old.table_id seat.old.me }
         requires row { IsRowNumber self.now.counts row }
@@ -152,13 +152,13 @@ impl Live {
         ensures word { (content : List ℕ) → seat.old.me.0.reads ≡ Some (row, content)
             → result ≡ slice_index content place }
     {
-        // Called for the proof: a place in the table is a usize.
+        // Called for the proof: a place in the table is a `usize`.
         let _count = self.table.word_count();
         let start = self.counts.row_start(row) as usize;
         self.table.shared.load::<LoadWord>(seat, start + place)
     }
 
-    // Reads the page that the operation has latched, the whole of it, and shows it to the operation.
+    // Reads all of the page that the operation has latched, and hands it to the operation.
     pub(crate) fn read_latched(&self, seat: &mut Seat<u8, View>, machine: &mut Machine, number: u32)
         requires seat { IsPassSeat self.now seat.old.table_id seat.old.me }
         requires at { seat.old.me.0.operation ≡ Some machine.old }
@@ -178,7 +178,7 @@ impl Live {
         machine.saw_page(&page);
     }
 
-    // The row of the page that the seat reads. Its words behind the page's are 0.
+    // The row of the page that the seat reads. The words behind the page's are 0.
     fn read_row(&self, seat: &mut Seat<u8, View>, row: u64) -> [u64; ROW_WORDS]
         requires seat { IsPassSeat self.now seat.old.table_id seat.old.me }
         requires row { IsRowNumber self.now.counts row }
@@ -193,7 +193,7 @@ impl Live {
         words
     }
 
-    // Loads the row's words in these places.
+    // Loads the row's words from `from` to before `to`.
     fn load_words(
         &self,
         seat: &mut Seat<u8, View>,
@@ -217,8 +217,8 @@ impl Live {
         }
     }
 
-    // Reads the prime block for an operation under way, and tells whether it moved: where the level that it is to post to isn't
-    // there yet, it waits.
+    // Reads the prime block for an operation under way, and returns whether the operation moved. It waits if the level that it
+    // posts to isn't there yet.
     pub(crate) fn read_prime(&self, seat: &mut Seat<u8, View>, machine: &mut Machine) -> bool
         requires seat { IsPassSeat self.now seat.old.table_id seat.old.me }
         requires at { seat.old.me.0.operation ≡ Some machine.old }
@@ -237,7 +237,7 @@ impl Live {
         machine.saw_prime(&prime)
     }
 
-    // The row of the prime block that the seat reads. Its words behind the prime block's are 0.
+    // The row of the prime block that the seat reads. The words behind the prime block's are 0.
     fn prime_words(&self, seat: &mut Seat<u8, View>, row: u64) -> [u64; ROW_WORDS]
         requires seat { IsPassSeat self.now seat.old.table_id seat.old.me }
         requires row { IsRowNumber self.now.counts row }
@@ -253,7 +253,7 @@ impl Live {
     }
 }
 
-// What is kept under the key, where this is the first entry that has it or a greater one.
+// The pointer stored for `key`, if `entry` is the first entry whose key is at least `key`.
 fn kept_under(key: u64, entry: Option<(u64, u64)>) -> Option<u64>
     ensures { (from to : ℕ) (entries : List (ℕ × ℕ)) → IsRising from entries to
         → entry ≡ slice_get entries (place_of key entries)

@@ -1,4 +1,5 @@
-//! What changes take of rows and page numbers: how many changes these are enough for, and what one of them may use.
+//! The rows and page numbers that changes use: how many changes some rows and numbers are enough for, and which of them one
+//! change may use.
 ghost use Rattle.std.specs.Prelude.{◌≡◌, ◌+◌, ◌≤◌};
 ghost use Rattle.blink_live.specs.Allowed.{AreForChanges, changes_left, deletes_left, inserts_left};
 ghost use Rattle.blink_live.specs.Views.{pages_of, rows_of, span};
@@ -6,21 +7,21 @@ ghost use Rattle.blink_live.specs.Views.{pages_of, rows_of, span};
 use blink_batch::Op;
 use blink_rows::{MAX_NEW_PAGES_PER_INSERT, MAX_ROWS_PER_INSERT, Span};
 
-/// The rows and the page numbers that an operation may still use.
+/// The rows and the page numbers that one operation may still use.
 #[derive(Clone, Copy)]
 pub(crate) struct Room {
     pub rows: Span,
     pub pages: Span,
 }
 
-// So many insertions have these page numbers.
+// The number of insertions that these page numbers are enough for.
 pub(crate) fn inserts_left(pages: &Span) -> u64
     ensures { result ≡ inserts_left pages.now }
 {
     pages.len() / MAX_NEW_PAGES_PER_INSERT
 }
 
-// And so many deletions these rows beside them.
+// The number of deletions that these rows are enough for, beside those of the insertions.
 pub(crate) fn deletes_left(pages: &Span, rows: &Span) -> u64
     requires { AreForChanges pages.now rows.now }
     ensures { result ≡ deletes_left pages.now rows.now }
@@ -28,7 +29,7 @@ pub(crate) fn deletes_left(pages: &Span, rows: &Span) -> u64
     rows.len() - MAX_ROWS_PER_INSERT * inserts_left(pages)
 }
 
-// So many changes of the operation's kind: a replacement counts as a deletion.
+// The number of changes left of the operation's kind. A replacement counts as a deletion.
 pub(crate) fn changes_left(op: Op, pages: &Span, rows: &Span) -> u64
     requires { AreForChanges pages.now rows.now }
     ensures { result ≡ changes_left op pages.now rows.now }
@@ -39,7 +40,7 @@ pub(crate) fn changes_left(op: Op, pages: &Span, rows: &Span) -> u64
     }
 }
 
-// The first numbers of a span, which keeps the rest.
+// Takes the first `count` numbers off a span.
 pub(crate) fn first_of(rest: &mut Span, count: u64) -> Span
     requires enough { rest.old.next + count ≤ rest.old.stop }
     ensures first { result ≡ span rest.old.next (rest.old.next + count) }
@@ -54,7 +55,7 @@ pub(crate) fn first_of(rest: &mut Span, count: u64) -> Span
     }
 }
 
-// What the operation takes: the first rows and page numbers of these, which keep the rest.
+// Takes what the operation may use: the first rows and page numbers. The spans keep the rest.
 pub(crate) fn next_of(op: Op, rows: &mut Span, pages: &mut Span) -> Room
     requires rows { rows.old.next + rows_of op ≤ rows.old.stop }
     requires pages { pages.old.next + pages_of op ≤ pages.old.stop }

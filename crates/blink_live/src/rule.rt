@@ -4,7 +4,7 @@ use crate::view::{Opened, View};
 use atomic_table::{Join, Play, Split, TableRule};
 use std::marker::{Brand, PhantomData};
 
-/// Words and views are a state of the tree in which the invariant holds.
+/// The rule: words and views represent a tree state for which the invariant holds.
 pub(crate) struct InvariantOfTree;
 
 impl TableRule<u8, View, Opened> for InvariantOfTree {
@@ -17,7 +17,7 @@ impl TableRule<u8, View, Opened> for InvariantOfTree {
     ghost first = { λ opened. first_view (length opened.index.value.pages) (plan_of opened) };
 }
 
-/// The operation that a call begins: each call picks it.
+/// The operation that a call begins. Each call picks it.
 pub(crate) trait Begun {
     ghost use Rattle.blink_batch.specs.declared.Op.{Op};
 
@@ -41,7 +41,7 @@ impl<B: Begun> Play<u8, View> for Begin<B> {
     ghost then = { begins B.op };
 }
 
-/// The load of a page word by an operation on its way.
+/// The load of a page word by an operation under way.
 pub(crate) struct LoadPage;
 
 impl Play<u8, View> for LoadPage {
@@ -50,7 +50,7 @@ impl Play<u8, View> for LoadPage {
     ghost then = { loads_page };
 }
 
-/// The load of the prime block's page word by an operation on its way.
+/// The load of the prime block's page word by an operation under way.
 pub(crate) struct LoadPrime;
 
 impl Play<u8, View> for LoadPrime {
@@ -59,7 +59,7 @@ impl Play<u8, View> for LoadPrime {
     ghost then = { loads_prime };
 }
 
-/// The load of the prime block's page word by a pass that was told what another has seen, and sees that now.
+/// The load of the prime block's page word by a pass that holds a note. After it the pass has seen the note's changes too.
 pub(crate) struct LookUp;
 
 impl Play<u8, View> for LookUp {
@@ -68,7 +68,7 @@ impl Play<u8, View> for LookUp {
     ghost then = { looks_up };
 }
 
-/// The load of the prime block's page word by a pass that was told what another has seen, and sees no more.
+/// The load of the prime block's page word by a pass that holds a note. After it the pass has seen no more than before.
 pub(crate) struct LookBack;
 
 impl Play<u8, View> for LookBack {
@@ -86,7 +86,7 @@ impl Play<u8, View> for LoadWord {
     ghost then = { loads_word };
 }
 
-/// The exchange of 0 in a latch word for the seat's own number.
+/// The compare-and-exchange in a latch word of 0 for the seat's own number.
 pub(crate) struct TryLatch;
 
 impl Play<u8, View> for TryLatch {
@@ -95,7 +95,7 @@ impl Play<u8, View> for TryLatch {
     ghost then = { tries_latch };
 }
 
-/// The store of 0 in a latch word of the seat's.
+/// The store of 0 in a latch word that holds the seat's number.
 pub(crate) struct LetGo;
 
 impl Play<u8, View> for LetGo {
@@ -113,7 +113,7 @@ impl Play<u8, View> for StoreWord {
     ghost then = { stores_word };
 }
 
-/// The store of a page word, which names that row.
+/// The store of a page's word, which names that row from then on.
 pub(crate) struct Publish;
 
 impl Play<u8, View> for Publish {
@@ -122,7 +122,7 @@ impl Play<u8, View> for Publish {
     ghost then = { publishes_page };
 }
 
-/// The store of a page word of a new page, which names that row.
+/// The store of a new page's word, which names that row from then on.
 pub(crate) struct PublishNew;
 
 impl Play<u8, View> for PublishNew {
@@ -131,7 +131,7 @@ impl Play<u8, View> for PublishNew {
     ghost then = { publishes_new };
 }
 
-/// The store of the prime block's page word, which names that row.
+/// The store of the prime block's page word, which names that row from then on.
 pub(crate) struct PublishPrime;
 
 impl Play<u8, View> for PublishPrime {
@@ -140,7 +140,7 @@ impl Play<u8, View> for PublishPrime {
     ghost then = { publishes_prime };
 }
 
-/// What a deal gives to a new pass, and which keys are taken after it: each call picks them.
+/// What a deal gives to a new pass, and which keys are taken after it. Each call picks them.
 pub(crate) trait Dealt {
     ghost use Rattle.std.specs.Prelude.{ℕ, List};
 
@@ -165,7 +165,7 @@ impl Dealt for Brand {
     ghost taken = { [] };
 }
 
-/// A deal: the keeper keeps the rest, and a new seat gets the first.
+/// A deal: the new seat gets the first rows and page numbers, and the keeper keeps the rest.
 pub(crate) struct Deal<B> {
     of: PhantomData<B>,
 }
@@ -178,7 +178,7 @@ impl<B: Dealt> Split<View> for Deal<B> {
     ghost right = { λ v. gets_first v B.rows B.pages B.keys };
 }
 
-/// The plan of the table that a pass comes back to: each call picks it.
+/// The plan of the table that a pass comes back to. Each call picks it.
 pub(crate) trait Planned {
     ghost use Rattle.blink_live.specs.declared.view.Plan.{Plan};
 
@@ -191,7 +191,7 @@ impl Planned for Brand {
     ghost plan = { no_plan };
 }
 
-/// The keeper takes back a pass, whose seat is spent.
+/// The keeper takes back a pass, whose seat is spent by that.
 pub(crate) struct TakeBack<B> {
     of: PhantomData<B>,
 }
@@ -204,7 +204,7 @@ impl<B: Planned> Join<View> for TakeBack<B> {
     ghost spent = { spent B.plan };
 }
 
-/// What a pass has seen becomes a seat of its own, for another pass to be told.
+/// A note: what a pass has seen becomes a seat of its own, for another pass to take.
 pub(crate) struct Note;
 
 impl Split<View> for Note {
@@ -215,7 +215,7 @@ impl Split<View> for Note {
     ghost right = { note_of };
 }
 
-/// A pass is told by such a seat, which is spent.
+/// A pass takes a note, whose seat is spent by that.
 pub(crate) struct Hear<B> {
     of: PhantomData<B>,
 }

@@ -1,4 +1,4 @@
-//! How a pass looks at any key, and how it tells another what it has seen.
+//! Looking up any key, and telling another pass what one has seen.
 ghost use Rattle.std.specs.Prelude.{◌≡◌, None, []};
 ghost use mathlib.Core.List.{IsPrefix};
 ghost use Rattle.blink_batch.specs.{pointer_of};
@@ -17,9 +17,9 @@ use blink_batch::Answer;
 use std::marker::Brand;
 
 impl Live {
-    /// The record pointer that any key keeps, or `None` where it isn't there: its state after the changes of all keys that the
-    /// pass has seen then. What a pass has seen it never un-sees, for all keys at once. It takes no memory, waits for nobody,
-    /// and returns.
+    /// Looks up any key. It returns the key's record pointer, or `None` if the key is absent, after the changes of all keys that
+    /// the pass has seen by the end of the call. A pass never un-sees a change that it has seen, for all keys at once. The call
+    /// takes no memory, waits for nobody, and returns.
     pub fn glance(&self, pass: &mut Pass, key: u64) -> Option<u64>
         requires its_own { IsPassOf self.now pass.old }
         ensures state { result ≡ after (pointer_of (opening_of self.now)) (seen_of pass.new) key }
@@ -38,9 +38,9 @@ impl Live {
         }
     }
 
-    /// Tells a pass what another has seen: from then on it knows all that, for all keys. The pass that tells stays as it was. Of
-    /// the keys of the pass that tells the other has seen exactly the changes that this pass made. It takes no memory, waits for
-    /// nobody, and returns.
+    /// Tells pass `to` what pass `from` has seen: after the call `to` has seen all that `from` has seen, for all keys. `from`
+    /// stays as it was. Of the keys of `from`, `to` has then seen exactly the changes that `from` made. The call takes no
+    /// memory, waits for nobody, and returns.
     pub fn tell(&self, from: &mut Pass, to: &mut Pass)
         requires from_its_own { IsPassOf self.now from.old }
         requires to_its_own { IsPassOf self.now to.old }
@@ -70,7 +70,7 @@ impl Live {
         self.look_back(teller);
     }
 
-    // A pass's seat is told what another's has seen.
+    // Hands the seat of `to` a note of what the seat of `from` has seen.
     fn pass_on(&self, from: &mut Seat<u8, View>, to: &mut Seat<u8, View>)
         requires from { IsPassSeat self.now from.old.table_id from.old.me }
         requires to { IsPassSeat self.now to.old.table_id to.old.me }
@@ -82,7 +82,7 @@ impl Live {
         self.hear::<Brand>(to, note);
     }
 
-    // The seat sees all that became so.
+    // The seat sees all changes so far.
     fn look_up(&self, seat: &mut Seat<u8, View>)
         requires seat { IsPassSeat self.now seat.old.table_id seat.old.me }
         ensures same { (seat.new.table_id ≡ seat.old.table_id) × (seat.new.id ≡ seat.old.id) }
@@ -91,7 +91,8 @@ impl Live {
         self.table.shared.load::<LookUp>(seat, 0);
     }
 
-    // The seat sees no more; of its own keys it was told no more than its own operations made.
+    // The seat sees no more changes. After the load it knows that its note shows of its own keys only changes that its own
+    // operations made.
     fn look_back(&self, seat: &mut Seat<u8, View>)
         requires seat { IsPassSeat self.now seat.old.table_id seat.old.me }
         ensures same { (seat.new.table_id ≡ seat.old.table_id) × (seat.new.id ≡ seat.old.id) }

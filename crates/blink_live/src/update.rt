@@ -1,5 +1,5 @@
-//! How an operation that changes the tree goes its way after its way down. To change a page it latches it, stores what the page is
-//! to be in a row of its own, word by word, names that row in the page word, and lets the latch go.
+//! How an operation changes the tree after its descent. To change a page it latches the page and stores the page's next version
+//! word by word in a row of its own. Then it names that row in the page word, and releases the latch.
 ghost use Rattle.std.specs.Prelude.{◌≡◌, ◌≢◌, ℕ, ◌+◌, ◌-◌, None, Contains, ◌<◌, ◌≤◌, Some, suc, List, IsTrue};
 ghost use mathlib.Core.List.{IsPrefix};
 ghost use Rattle.atomic_table.specs.declared.Seat.{Seat};
@@ -29,9 +29,9 @@ use std::sync::Wait;
 use std::thread;
 
 impl Live {
-    // Changes the tree by an operation of one of the seat's keys, which has this room. The seat's own number stands in the latch
-    // words of the pages that it latches. A latch that another has is tried again, and so is a level to post to that isn't there
-    // yet.
+    // Changes the tree by an operation of one of the seat's keys, with the rows and page numbers of `room`. The seat's own
+    // number stands in the latch words of the pages that it latches. The call retries a latch that another seat has, and a level
+    // to post to that isn't there yet.
     pub(crate) fn update<R: Wait>(
         &self,
         rt: &R,
@@ -73,8 +73,8 @@ impl Live {
         answer
     }
 
-    // Takes the operation's next step, and tells whether it moved: where another has the latch that it wants, or the level that it
-    // posts to isn't there yet, it waits.
+    // Takes the operation's next step, and returns whether the operation moved. It waits if another seat has the latch that it
+    // wants, or if the level that it posts to isn't there yet.
     fn turn(
         &self,
         seat: &mut Seat<u8, View>,
@@ -122,8 +122,8 @@ impl Live {
         }
     }
 
-    // Writes the page that the operation writes over the page of this number: in the first row of those of its call, which the
-    // page word names then.
+    // Replaces the page of this number by the operation's version. The version stands in the first row of the call, which the
+    // page word names from then on.
     fn write_page(&self, seat: &mut Seat<u8, View>, machine: &mut Machine, number: u32, row: u64)
         requires seat { IsPassSeat self.now seat.old.table_id seat.old.me }
         requires at { seat.old.me.0.operation ≡ Some machine.old }
@@ -143,7 +143,7 @@ impl Live {
         self.publish(seat, machine, number, row);
     }
 
-    // Writes the operation's new page, at this number, the first of those of its call, and likewise in its first row.
+    // Writes the operation's new page at this number, the first of the call's page numbers. It stands in the call's first row.
     fn write_new(&self, seat: &mut Seat<u8, View>, machine: &mut Machine, number: u32, row: u64)
         requires seat { IsPassSeat self.now seat.old.table_id seat.old.me }
         requires at { seat.old.me.0.operation ≡ Some machine.old }
@@ -164,7 +164,7 @@ impl Live {
         self.publish_new(seat, machine, number, row);
     }
 
-    // Writes the prime block with the operation's new root, likewise.
+    // Writes the prime block with the operation's new root, in the call's first row.
     fn write_prime(&self, seat: &mut Seat<u8, View>, machine: &mut Machine, row: u64)
         requires seat { IsPassSeat self.now seat.old.table_id seat.old.me }
         requires at { seat.old.me.0.operation ≡ Some machine.old }
@@ -183,7 +183,7 @@ impl Live {
         self.publish_prime(seat, machine, row);
     }
 
-    // Stores the row's words, in ascending order: those that aren't 0, since a row that isn't published yet is all 0.
+    // Stores the row's words that aren't 0, in ascending order. An unpublished row is all 0 before.
     fn stage_row(&self, seat: &mut Seat<u8, View>, row: u64, words: &[u64; ROW_WORDS])
         requires seat { IsPassSeat self.now seat.old.table_id seat.old.me }
         requires row { IsFirst row seat.old.me.0.call.rows × IsRowNumber self.now.counts row }
@@ -203,12 +203,13 @@ impl Live {
         requires in_range { number < self.now.counts.numbers }
         ensures { result ≡ self.now.counts.numbers + number }
     {
-        // Called for the proof: a place in the table is a usize.
+        // Called for the proof: a place in the table is a `usize`.
         let _count = self.table.word_count();
         self.counts.numbers as usize + number as usize
     }
 
-    // Tries the latch of the page, and tells whether the seat has it now. The seat's own number is that of the last of its rows.
+    // Tries to latch the page, and returns whether the seat has the latch now. The seat's own number is that of the last of its
+    // rows.
     fn try_latch(
         &self,
         seat: &mut Seat<u8, View>,
@@ -240,7 +241,7 @@ impl Live {
         true
     }
 
-    // Lets the latch of the page go.
+    // Releases the page's latch.
     fn let_go(&self, seat: &mut Seat<u8, View>, machine: &mut Machine, number: u32)
         requires seat { IsPassSeat self.now seat.old.table_id seat.old.me }
         requires at { seat.old.me.0.operation ≡ Some machine.old }
@@ -264,7 +265,7 @@ impl Live {
         ensures same { (seat.new.table_id ≡ seat.old.table_id) × (seat.new.id ≡ seat.old.id) }
         ensures stored { seat.new.me ≡ (stage_word seat.old.me.0 place word, seat.old.me.1) }
     {
-        // Called for the proof: a place in the table is a usize.
+        // Called for the proof: a place in the table is a `usize`.
         let _count = self.table.word_count();
         let start = self.counts.row_start(row) as usize;
         self.table
@@ -272,7 +273,7 @@ impl Live {
             .store::<StoreWord>(seat, start + place, word);
     }
 
-    // Names the row in the page word: the row is the page's from now on.
+    // Names the row in the page word. From then on the row holds the page's version.
     fn publish(&self, seat: &mut Seat<u8, View>, machine: &mut Machine, number: u32, row: u64)
         requires seat { IsPassSeat self.now seat.old.table_id seat.old.me }
         requires at { seat.old.me.0.operation ≡ Some machine.old }
@@ -292,7 +293,7 @@ impl Live {
         machine.done(0);
     }
 
-    // Names the row in the page word of a new page, whose number is the first that the seat's call may use.
+    // Names the row in the page word of a new page. The page's number is the first that the seat's call may use.
     fn publish_new(&self, seat: &mut Seat<u8, View>, machine: &mut Machine, number: u32, row: u64)
         requires seat { IsPassSeat self.now seat.old.table_id seat.old.me }
         requires at { seat.old.me.0.operation ≡ Some machine.old }

@@ -1,4 +1,4 @@
-//! What the seats of a table know. No value of these is made but of `Opened`: proofs speak of the others.
+//! What the seats of a table know. Of these types a run makes values of `Opened` alone; the others are for proofs.
 
 use blink_batch::Entry;
 use blink_index::Index;
@@ -7,44 +7,44 @@ use blink_rows::{Counts, Span};
 use std::collections::LinkedList;
 use std::snapshot::Snapshot;
 
-/// What a table is told when it is made.
+/// The index and the counts that a table is made from.
 #[derive(Drop)]
 pub(crate) struct Opened {
     pub counts: Counts,
     pub index: Snapshot<Index>,
 }
 
-/// The same as plain data, which every seat knows.
+/// The same as plain data. Every seat knows it.
 pub(crate) struct Plan {
     pub fan: u8,
     pub counts: Counts,
     pub opening: LinkedList<Entry>,
 }
 
-/// A key that got a pointer, or lost the one that it had.
+/// A change of one key: it got a pointer, or lost the one that it had.
 pub(crate) struct Change {
     pub key: u64,
     pub pointer: Option<u64>,
 }
 
-/// What a pass was dealt of the map: its keys, their entries as its own operations leave them, and these operations' changes.
+/// A pass's part of the map: its keys, their entries as its own operations leave them, and the changes of these operations.
 pub(crate) struct Share {
     pub keys: LinkedList<u64>,
     pub entries: LinkedList<Entry>,
     pub changes: LinkedList<Change>,
 }
 
-/// What a seat is for.
+/// The role of a seat.
 pub(crate) enum Role {
-    /// The keeper's: how many passes were dealt, and how many came back.
+    /// The keeper's seat, with the number of passes dealt and the number of passes that came back.
     Keeper(u64, u64),
-    /// A pass's.
+    /// A pass's seat.
     Pass,
-    /// A seat that is left when another has taken its view.
+    /// A seat whose view another seat has taken.
     Spent,
 }
 
-/// What one call may use: rows and page numbers, and the words that it has stored so far of the first of these rows.
+/// What one call may use: rows and page numbers, and the words that it has staged so far in the first of these rows.
 pub(crate) struct Call {
     pub rows: Span,
     pub pages: Span,
@@ -55,22 +55,22 @@ pub(crate) struct Call {
 pub(crate) struct View {
     pub plan: Plan,
     pub role: Role,
-    /// The rows and the page numbers that it may still use.
+    /// The rows and the page numbers that the seat may still use.
     pub rows: Span,
     pub pages: Span,
     pub share: Share,
-    /// What the call that is under way, or was made last, may use of those that it had.
+    /// What the call under way, or the last one made, may use.
     pub call: Call,
-    /// The keeper's: the keys that were dealt, and the shares that came back.
+    /// Of the keeper: the keys that were dealt, and the shares that came back.
     pub taken: LinkedList<u64>,
     pub back: LinkedList<Share>,
-    /// The operation that is under way, after the last step of the tree that it took.
+    /// The operation under way, after its last step of the tree.
     pub operation: Option<Machine>,
-    /// A bound of the pages that the operation still reads on its way down.
+    /// A bound of the pages that the operation's descent still reads.
     pub descent_bound: u64,
-    /// The row that a page word named when it was loaded last, and the row's words.
+    /// The row that the last loaded page word named, and the row's words.
     pub reads: Option<(u64, LinkedList<u64>)>,
-    /// The changes of all keys that it has seen, and those that it was told of.
+    /// The changes of all keys that the seat has seen, and those of the note that it holds.
     pub seen: LinkedList<Change>,
     pub told: LinkedList<Change>,
 }

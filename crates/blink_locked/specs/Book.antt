@@ -1,4 +1,4 @@
--- The book of a run: what it began with, and the world that its workers' steps have led to.
+-- The book of a run: what the run began with, and the world that its workers' steps have led to.
 use Rattle.std.specs.Prelude.{◌≡◌, ◌↔◌, ℕ, ◌⊎◌, Bool, true, false, Some, List, [], All, map, slice_get}
 use Rattle.blink_batch.specs.declared.Answer.{Answer}
 use Rattle.blink_batch.specs.declared.Op.{Op}
@@ -30,7 +30,7 @@ pub record IsBook (book : PlainBook) : Type 0 where
   pub same_assignment : book.world.run.assignment ≡ book.assignment
   pub all_moved : AllMoved is_world.history
 
--- the book of the same run, where it has come to another world
+-- the book of the same run at another world
 abbrev pub with_world : PlainBook → PlainWorld → PlainBook
 with_world book world = record book { world = world }
 
@@ -38,7 +38,7 @@ with_world book world = record book { world = world }
 abbrev pub book_stopped : PlainBook → PlainBook
 book_stopped book = record book { stopped = true }
 
--- the operation has its answer, and its worker none under way
+-- the operation has its answer, and its worker has none under way
 abbrev pub HasEndedOp : PlainRun → ℕ → ℕ → Type 0
 HasEndedOp run worker op = HasAnswerAt run.outcome.answers op × IsIdleWorker run worker
 
@@ -47,8 +47,8 @@ pub record MayTurn (book : PlainBook) (worker op : ℕ) : Type 0 where
   pub not_stopped : book.stopped ≡ false
   pub its_own : slice_get book.assignment.lanes op ≡ Some worker
 
--- a worker's step that is due: it is taken, and told with whether the operation has ended with it; or it is refused memory, and
--- the book is stopped with nothing else changed
+-- a worker's due step: it is taken, and returned with whether the operation has ended by it; or it is refused memory, and the
+-- book is stopped with nothing else changed
 abbrev pub BookStepsPage : PlainBook → ℕ → Turn → PlainBook → Type 0
 BookStepsPage old worker (Took kind ended) new = TakesStep old.world worker (Moved kind) new.world × (new ≡ with_world old new.world)
     × ((ended ≡ true) ↔ IsIdleWorker new.world.run worker)
@@ -56,8 +56,8 @@ BookStepsPage old worker Over new = ⊥
 BookStepsPage old worker Waits new = ⊥
 BookStepsPage old worker Stopped new = new ≡ book_stopped old
 
--- what becomes of the book at a worker's turn that it may take. The operation had ended before, or its step would be a wait: nothing
--- changes. Else the step is due
+-- the book after a turn that the worker may take; if the operation had ended before, or its step would be a wait, nothing
+-- changes; otherwise the step is due
 abbrev pub Turns : PlainBook → ℕ → ℕ → Turn → PlainBook → Type 0
 Turns old worker op Over new = HasEndedOp old.world.run worker op × (new ≡ old)
 Turns old worker op Waits new = WouldWait old.world.run worker × (new ≡ old)
@@ -84,7 +84,7 @@ pub record IsNewBook (start : PlainStore) (ops : List Op) (assignment : Assignme
 abbrev pub IsSettleRefusal : RunError → Type 0
 IsSettleRefusal refusal = (refusal ≡ Foreign) ⊎ (refusal ≡ OutOfMemory)
 
--- it is the book of this run, and all operations have ended, with these answers
+-- the book is that of this run, and all operations have ended, with these answers
 pub record IsAtItsEnd (book : PlainBook) (start : PlainStore) (ops : List Op) (assignment : Assignment) (given : List Answer) : Type 0 where
   pub run_of : IsRunOf book start ops assignment
   pub ended : HasEnded book.world.run

@@ -12,26 +12,26 @@ use Rattle.blink_settings.specs.declared.error.RunError.TheVariants.{TooLarge, O
 use Rattle.blink_settings.specs.declared.settings.Driver.{Driver}
 use Rattle.blink_settings.specs.declared.settings.Driver.TheVariants.{Locked}
 
--- a replay of the batch and its lanes, of some schedule in which every turn moved and all operations end, leads from the tree
--- before to the tree after
+-- a replay of the batch and its lanes leads from the tree before to the tree after; in its schedule every turn moved, and all
+-- operations end
 pub record IsReplayed (before : PlainStore) (ops : List Op) (assignment : Assignment) (after : PlainStore) : Type 0 where
   pub world : PlainWorld
   pub replay : IsReplay before ops assignment world.schedule world
   pub all_moved : AllMoved replay.is_world.history
   pub all_ended : HasEnded world.run
   pub same_tree : world.run.shared.store ≡ after
-  -- in every state of the tree on the way each key then present is reached from the root
+  -- in every tree state of the replay each key then present is reached from the root
   pub reached : IsReachedThroughout before world replay.is_world
 
--- these are its answers, place by place; they and the entries are those of one thread, and the tree is at rest
+-- these are the run's answers, place by place; they and the entries are those of one thread, and the tree is at rest
 pub record IsSettled (before : PlainStore) (ops : List Op) (assignment : Assignment) (after : PlainStore) (given : List Answer) : Type 0 where
   pub replayed : IsReplayed before ops assignment after
   pub same_answers : replayed.world.run.outcome.answers ≡ map Some given
   pub one_thread : IsOneThread before replayed.world.run
   pub at_rest : IsStoreAtRest after
 
--- why a batch isn't run on this tree. It is too large for it; or it isn't, and memory was refused, or the thread of one of the workers
--- couldn't be started, or, where the steps are taken under a lock, another book came out of it
+-- why a batch isn't run on this tree: it is too large for the tree; or it isn't, and memory was refused, or the thread of one of
+-- the workers couldn't be started, or, if the steps are taken under a lock, another book came out of it
 abbrev pub MayRefuse : Driver → ℕ → PlainStore → List Op → RunError → Type 0
 MayRefuse driver workers before ops TooLarge = IsTooLarge before ops
 MayRefuse driver workers before ops OutOfMemory = ¬ IsTooLarge before ops

@@ -1,4 +1,4 @@
-//! The book of a run, which its workers take turns to write.
+//! The book of a run. Its workers take turns to write it.
 ghost use Rattle.std.specs.Prelude.{◌≡◌, ◌↔◌, All, IfOk, IfErr, IsTrue, IsErrOf, IsSome, Some, map, slice_get};
 ghost use Rattle.blink_batch.specs.{IsLawfulCut};
 ghost use Rattle.std.specs.Bool.{OnFalse};
@@ -14,14 +14,14 @@ use blink_steps::{Kind, Step, StepError, World};
 use std::alloc::{AllocError, Global};
 use std::marker::Model;
 
-/// What became of a worker's turn at the book.
+/// The result of a worker's turn at the book.
 #[derive(Clone, Copy, Debug, PartialEq, Eq)]
 pub enum Turn {
-    /// It took this step of its operation, which has ended with it or hasn't.
+    /// The worker took this step of its operation. The second part is whether the operation has ended by it.
     Took(Kind, bool),
-    /// Its operation had ended before.
+    /// The operation had ended before.
     Over,
-    /// Its step would have been a wait, and it took none.
+    /// The step would have been a wait, and the worker took none.
     Waits,
     /// The run is stopped.
     Stopped,
@@ -29,8 +29,8 @@ pub enum Turn {
 
 /// A run's start, its batch and lanes, and the world of its schedule so far.
 ///
-/// Its type keeps that the world is the one that the schedule leads to from that start, and that each turn of it moved: so
-/// waiting takes no memory, and the schedule is no longer than a run's steps.
+/// The type guarantees that the schedule leads to this world from that start, and that each turn of it moved. So waiting takes
+/// no memory, and the schedule is no longer than a run's steps.
 #[derive(Drop)]
 pub struct Book {
     start: Rest,
@@ -63,9 +63,9 @@ impl Model for Book {
 }
 
 impl Book {
-    /// The book of a run of a batch over a tree, before its first step. Tree, batch and lanes are copied.
+    /// Makes the book of a run of a batch over a tree, before its first step. It copies tree, batch and lanes.
     ///
-    /// The refusal `TooLarge` comes before memory is asked for.
+    /// The call refuses with `TooLarge` before it asks for memory, and with `OutOfMemory`, if memory was refused.
     pub fn new(alloc: Global, start: &Rest, batch: &Batch, cut: &Cut) -> Result<Book, RunError>
         requires { IsLawfulCut batch.now cut.now.workers cut.now.lanes }
         ensures new { IfOk result (IsNewBook start.now batch.now cut.now) }
@@ -82,7 +82,7 @@ impl Book {
         }
     }
 
-    // The book, of copies of what is given.
+    // Makes the book of copies of what is given.
     fn copied(alloc: Global, start: &Rest, batch: &Batch, cut: &Cut) -> Result<Book, StepError>
         requires { IsLawfulCut batch.now cut.now.workers cut.now.lanes }
         ensures { IfOk result (IsNewBook start.now batch.now cut.now) }
@@ -100,9 +100,9 @@ impl Book {
         }
     }
 
-    /// A turn of a worker, for the operation at this place of its lane: one step, unless that would be a wait, or the
-    /// operation has ended. Where memory is refused the run is stopped. Nothing changes, and the worker is told to stop, where
-    /// the run is stopped, or the operation isn't one of the worker's.
+    /// Gives a worker a turn for the operation at this place of its lane: one step, unless that would be a wait, or the
+    /// operation has ended. If memory is refused, the run is stopped. The call returns `Stopped` and changes nothing, if the run
+    /// is stopped, or the operation isn't one of the worker's.
     pub fn turn(&mut self, worker: u8, op: u32) -> Turn
         ensures turns { MayTurn self.old worker op → Turns self.old worker op result self.new }
         ensures stops { ¬ MayTurn self.old worker op
@@ -114,7 +114,7 @@ impl Book {
         self.turn_of_own(worker, op)
     }
 
-    // The turn where the run isn't stopped, and the operation is one of the worker's.
+    // The turn of a run that isn't stopped, for an operation of the worker's.
     fn turn_of_own(&mut self, worker: u8, op: u32) -> Turn
         requires own { slice_get self.old.assignment.lanes op ≡ Some worker }
         ensures { Turns self.old worker op result self.new }
@@ -128,7 +128,7 @@ impl Book {
         self.step(worker)
     }
 
-    // The step of a worker that would move. Where memory is refused the run is stopped.
+    // The step of a worker that would move. If memory is refused, the run is stopped.
     fn step(&mut self, worker: u8) -> Turn
         requires { WouldMove self.old.world.run worker }
         ensures { BookStepsPage self.old worker result self.new }
@@ -150,7 +150,7 @@ impl Book {
         self.lanes.lanes().get(op as usize) == Some(&worker)
     }
 
-    // Whether the worker's operation has ended: it has its answer, and the worker has none under way.
+    // Whether the worker's operation has ended: it has its answer, and the worker has no operation under way.
     fn has_ended(&self, worker: u8, op: u32) -> bool
         requires { slice_get self.now.assignment.lanes op ≡ Some worker }
         ensures ended { IsTrue result ↔ HasEndedOp self.now.world.run worker op }
@@ -166,7 +166,7 @@ impl Book {
         self.stopped = true;
     }
 
-    /// What the run has come to: its tree and its answers, place by place. The book must be that of this run, at its end.
+    /// Returns the result of the run: its tree and its answers, place by place. The book must be that of this run, at its end.
     pub fn settle(
         self,
         alloc: Global,
@@ -194,7 +194,7 @@ impl Book {
         self.world.into_rest()
     }
 
-    // The answers, where it is the book of this run, at its end.
+    // The answers, if the book is that of this run, at its end.
     fn all_answers(
         &self,
         alloc: Global,
@@ -218,7 +218,7 @@ impl Book {
         }
     }
 
-    // Whether it began with this tree, this batch and these lanes.
+    // Whether the run began with this tree, this batch and these lanes.
     fn is_run_of(&self, start: &Rest, batch: &Batch, cut: &Cut) -> bool
         ensures { IsTrue result ↔ IsRunOf self.now start.now batch.now cut.now }
     {
@@ -238,7 +238,7 @@ fn first_world(alloc: Global, start: &Rest, batch: &Batch, cut: &Cut) -> Result<
     World::start(alloc, tree, ops, lanes)
 }
 
-// The same tree, batch and lanes once more.
+// Copies of the tree, the batch and the lanes.
 fn copies(
     alloc: Global,
     start: &Rest,
@@ -259,14 +259,14 @@ fn copies(
     Ok((tree, ops, lanes))
 }
 
-// The same batch once more.
+// A copy of the batch.
 fn copy_of(alloc: Global, batch: &Batch) -> Result<Batch, AllocError>
     ensures { IfOk result (λ copy. copy ≡ batch.now) }
 {
     Ok(Batch::new(batch.ops().to_vec(alloc)?).unwrap())
 }
 
-// The lanes of a cut, for a run that takes any.
+// The lanes of a cut, for a run that takes any lanes.
 fn lanes_of(alloc: Global, batch: &Batch, cut: &Cut) -> Result<Lanes, AllocError>
     requires { IsLawfulCut batch.now cut.now.workers cut.now.lanes }
     ensures { IfOk result (λ lanes. lanes ≡ cut.now) }
@@ -275,7 +275,7 @@ fn lanes_of(alloc: Global, batch: &Batch, cut: &Cut) -> Result<Lanes, AllocError
     Ok(Lanes::new(batch, cut.workers(), lanes).unwrap())
 }
 
-/// All answers, where each place has one.
+/// Returns all answers, if each place has one.
 pub fn all_of(alloc: Global, given: &[Option<Answer>]) -> Result<Vec<Answer>, AllocError>
     requires { All (λ answer. IsSome answer) given.now }
     ensures { IfOk result (λ answers. given.now ≡ map Some answers.items) }

@@ -1,12 +1,12 @@
-//! What is told of each operation's beginning and end.
+//! The calls at each operation's beginning and end.
 
-/// A gate that each operation passes twice: before its first step, and after it ended. The worker that calls it holds no lock
-/// and no latch, so a gate may take its time, and other workers go on meanwhile.
+/// A gate that each operation passes twice: before its first step, and after its end. The worker that calls it holds no lock and
+/// no latch. So a gate may take its time, and other workers go on meanwhile.
 pub trait Gate {
-    /// The worker is about to begin the operation at this place of the batch.
+    /// Called when the worker is about to begin the operation at this place of the batch.
     fn before(&self, worker: u8, op: u32);
 
-    /// The operation at this place of the batch has ended.
+    /// Called when the operation at this place of the batch has ended.
     fn after(&self, worker: u8, op: u32);
 }
 

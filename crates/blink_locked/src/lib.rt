@@ -1,7 +1,7 @@
 //! A batch's run on an index by threads, each step under one lock.
 //!
-//! What is under the lock is a book, which keeps by its type that it is the run of a schedule in which every turn moved; the runner
-//! compares the book with what it gave to it, and so knows what the threads have done.
+//! Under the lock is a book. Its type guarantees that it is the run of a schedule in which every turn moved. The runner compares
+//! the book with what it gave to it, and so knows what the threads have done.
 #![tactic(auto)]
 
 mod book;

@@ -1,4 +1,4 @@
-//! The locked run at which workers take turns at the book, each in a thread of its own.
+//! The locked run: its workers take turns at the book, each in a thread of its own.
 
 use crate::book::{Book, Turn};
 use crate::gate::Gate;
@@ -9,20 +9,20 @@ use std::thread;
 /// How often a waiting worker looks at the book again before it sleeps until the book has changed.
 const LOOKS: usize = 16;
 
-/// How often a worker tries the lock, and yields, before it sleeps until it has it.
+/// How often a worker tries the lock, and yields, before it sleeps until it has the lock.
 const TRIES: usize = 20;
 
 /// A book that one worker at a time writes: each step is taken under its lock.
 #[derive(Drop)]
 pub struct LockedRun {
     book: Mutex<Book>,
-    // Told where a worker has let a latch go, has written the prime block, or has found the run stopped: nothing else is
-    // waited for.
+    // Notified when a worker has released a latch, has written the prime block, or has found the run stopped. Workers wait for
+    // nothing else.
     changed: Condvar,
 }
 
 impl LockedRun {
-    /// A locked run for this book.
+    /// Makes a locked run for this book.
     pub fn new(book: Book) -> LockedRun {
         LockedRun {
             book: Mutex::new(book),
@@ -30,7 +30,7 @@ impl LockedRun {
         }
     }
 
-    /// Runs a worker's lane, one operation after another, to its end or until the run is stopped. The gate is called between
+    /// Runs a worker's lane, one operation after another, to its end or until the run is stopped. It calls the gate between
     /// operations, when the worker has neither the lock nor a latch.
     pub fn run_lane<R: Wait, G: Gate>(&self, rt: &R, gate: &G, worker: u8, lanes: &[u8]) {
         for (op, &lane) in (0..u32::MAX).zip(lanes) {
@@ -44,7 +44,7 @@ impl LockedRun {
         }
     }
 
-    // Takes the operation's turns until it has ended, or else the run is stopped.
+    // Takes the operation's turns until it has ended, and returns `true`; or until the run is stopped, and returns `false`.
     fn run_operation<R: Wait>(&self, rt: &R, worker: u8, op: u32) -> bool {
         for _ in rt.forever() {
             match self.turn(rt, worker, op) {
@@ -56,7 +56,7 @@ impl LockedRun {
         unreachable!()
     }
 
-    // The worker's next turn that is no wait. After some looks it sleeps until the book has changed.
+    // Takes the worker's next turn that is no wait. After some looks the worker sleeps until the book has changed.
     fn turn<R: Wait>(&self, rt: &R, worker: u8, op: u32) -> Turn {
         for _ in 0..LOOKS {
             let turn = self.enter(rt).turn(worker, op);
@@ -69,7 +69,7 @@ impl LockedRun {
         self.told(turn)
     }
 
-    // The turn of a worker that sleeps until the book has changed.
+    // Takes the turn of a worker that sleeps until the book has changed.
     fn turn_after_sleep<R: Wait>(&self, rt: &R, worker: u8, op: u32) -> Turn {
         let mut book = self.enter(rt);
         for _ in rt.forever() {
@@ -82,7 +82,8 @@ impl LockedRun {
         unreachable!()
     }
 
-    // The book, under its lock. A worker that sleeps for each step's lock is mostly asleep: steps are short.
+    // Locks the book. The worker tries before it sleeps: steps are short, and a worker that sleeps for each step's lock is
+    // mostly asleep.
     fn enter<R: Wait>(&self, rt: &R) -> MutexGuard<'_, Book> {
         for _ in 0..TRIES {
             if let Some(book) = self.book.try_lock() {
@@ -93,7 +94,7 @@ impl LockedRun {
         self.book.lock(rt)
     }
 
-    // Wakes who may have waited for what this turn has done.
+    // Wakes the workers that may have waited for what this turn has done.
     fn told(&self, turn: Turn) -> Turn {
         if let Turn::Took(Kind::Unlatch(_) | Kind::WritePrime, _) | Turn::Stopped = turn {
             self.changed.notify_all();
@@ -107,7 +108,7 @@ impl LockedRun {
         self.changed.notify_all();
     }
 
-    /// The book, when all workers have left.
+    /// Returns the book, when all workers have left.
     pub fn into_book(self) -> Book {
         self.book.into_inner()
     }

@@ -18,8 +18,8 @@ use std::alloc::Global;
 use std::sync::Wait;
 use std::thread::{self, Promise, PromisedHandle, Scope, Threads};
 
-/// Runs a batch on an index: each worker's lane, an empty one too, in a thread of its own, and each step under one lock. Answers,
-/// index and refusals are those of `run_batch` of `blink_run`, which calls it for the driver `Locked`.
+/// Runs a batch on an index: each worker's lane, an empty one too, in a thread of its own, and each step under one lock.
+/// Answers, index and refusals are those of `run_batch` of `blink_run`, which calls it for the driver `Locked`.
 pub fn run_locked<R: Threads + Wait + Sync, G: Gate + Sync>(
     rt: &R,
     alloc: Global,
@@ -44,7 +44,7 @@ pub fn run_locked<R: Threads + Wait + Sync, G: Gate + Sync>(
     Ok(answers)
 }
 
-// Runs it at a book over this tree: the tree that it leaves, and its answers.
+// Runs the batch at a book over this tree, and returns the tree that it leaves, and its answers.
 fn run_book<R: Threads + Wait + Sync, G: Gate + Sync>(
     rt: &R,
     alloc: Global,
@@ -66,7 +66,7 @@ fn run_book<R: Threads + Wait + Sync, G: Gate + Sync>(
     locked_run.into_book().settle(alloc, start, batch, cut)
 }
 
-/// The promise of a worker's thread at a locked run: nothing but whose it is.
+/// The promise of a worker's thread at a locked run: only which worker's thread it is.
 #[derive(Clone, Copy)]
 struct IsOf {
     worker: u8,
@@ -78,7 +78,7 @@ impl Promise<()> for IsOf {
     ghost kept_by = { λ _ _. ⊤ };
 }
 
-// Starts a thread for each worker, and returns when all have left the locked run. Where one can't be started, the run is stopped.
+// Starts a thread for each worker, and returns when all have left the locked run. If one can't be started, the run is stopped.
 fn run_workers<R: Threads + Wait + Sync, G: Gate + Sync>(
     rt: &R,
     alloc: Global,

@@ -17,19 +17,19 @@ use Rattle.blink_machine.specs.Needs.{NeedsSomeWrite}
 
 -- ---- page numbers: one for a split on each level, and one for a root
 
--- for a job: only what brings an entry splits
+-- for a job: only a job that adds an entry splits
 abbrev pub numbers_for : Job → Op → ℕ
 numbers_for Leaf (Insert key pointer) = MAX_NEW_PAGES_PER_INSERT
 numbers_for Leaf op = 0
 numbers_for (Parent debt) op = 21 - debt.level
 
--- from a page that the operation leaves
+-- after a page that the operation leaves
 abbrev pub numbers_left_for : Job → Op → Next → ℕ
 numbers_left_for job op Finish = 0
 numbers_left_for job op (MoveRight page) = numbers_for job op
 numbers_left_for job op (Post debt) = 21 - debt.level
 
--- by the state: all of it until the page is split
+-- by the state: as for the whole job until the page is split
 abbrev pub numbers_left_at : Job → Op → State → ℕ
 numbers_left_at job op (SplitOld page lower debt) = 21 - level_of job
 numbers_left_at job op (AskPrime page debt) = 21 - level_of job
@@ -42,7 +42,8 @@ numbers_left_at job op state = numbers_for job op
 abbrev pub numbers_left : PlainMachine → ℕ
 numbers_left m = numbers_left_at m.job m.op m.state
 
--- ---- page writes: two for a split on each level, and one for a root; one for an entry that is removed or whose pointer is replaced
+-- ---- page writes: two for a split on each level, and one for a root; one for an entry that is removed or whose pointer is
+-- replaced
 
 -- for a job
 abbrev pub writes_for : Job → Op → ℕ
@@ -51,13 +52,13 @@ writes_for Leaf (Insert key pointer) = MAX_PAGE_WRITES_PER_INSERT
 writes_for Leaf op = 1
 writes_for (Parent debt) op = 41 - 2 * debt.level
 
--- from a page that the operation leaves
+-- after a page that the operation leaves
 abbrev pub writes_left_for : Job → Op → Next → ℕ
 writes_left_for job op Finish = 0
 writes_left_for job op (MoveRight page) = writes_for job op
 writes_left_for job op (Post debt) = 41 - 2 * debt.level
 
--- by the state: all of it until the page is split
+-- by the state: as for the whole job until the page is split
 abbrev pub writes_left_at : Job → Op → State → ℕ
 writes_left_at job op (SplitOld page lower debt) = 42 - 2 * level_of job
 writes_left_at job op (AskPrime page debt) = 41 - 2 * level_of job
@@ -78,13 +79,13 @@ primes_for Leaf (Insert key pointer) = 1
 primes_for Leaf op = 0
 primes_for (Parent debt) op = 1
 
--- from a page that the operation leaves
+-- after a page that the operation leaves
 abbrev pub primes_left_for : Job → Op → Next → ℕ
 primes_left_for job op Finish = 0
 primes_left_for job op (MoveRight page) = primes_for job op
 primes_left_for job op (Post debt) = 1
 
--- by the state: all of it until the page is split
+-- by the state: as for the whole job until the page is split
 abbrev pub primes_left_at : Job → Op → State → ℕ
 primes_left_at job op (SplitOld page lower debt) = 1
 primes_left_at job op (AskPrime page debt) = 1
@@ -97,19 +98,19 @@ primes_left_at job op state = primes_for job op
 abbrev pub primes_left : PlainMachine → ℕ
 primes_left m = primes_left_at m.job m.op m.state
 
--- ---- some before each such step, and one fewer after it
+-- ---- at least one before each such step, and one fewer after it
 
--- what the next step takes is left
+-- the operation has left what its next step takes
 pub record HasEnough (m : PlainMachine) : Type 0 where
   pub numbers : NeedsNew m → 1 ≤ numbers_left m
   pub page_writes : NeedsSomeWrite m → 1 ≤ writes_left m
   pub prime_writes : NeedsPrimeWrite m → 1 ≤ primes_left m
 
--- 1 where it is so, else 0
+-- 1 if the test is true, else 0
 abbrev pub one_if : Bool → ℕ
 one_if test = if test then 1 else 0
 
--- what a step uses up of what an operation may still need
+-- a step lowers what the operation may still need by what the step used
 pub record UsesUp (m : PlainMachine) (step : Step) (after : PlainMachine) : Type 0 where
   pub same_op : after.op ≡ m.op
   pub numbers : numbers_left after + one_if (has_moved step && writes_new_page m.state) ≤ numbers_left m

@@ -1,4 +1,4 @@
--- What the invariant says: its tree is lawful but for debts, and each operation can take its next step, whoever runs it.
+-- What the invariant gives: the tree is lawful except for debts, and each operation can take its next step, whoever runs it.
 use Rattle.std.specs.Prelude.{◌≡◌, ℕ, ◌<◌, ◌≤◌, Option, Some, List, length, All}
 use Rattle.blink_page.specs.{IsPageNumber, PlainPage, IsLawfulPage, least_above}
 use Rattle.blink_page.specs.declared.limits.TheConstants.{LEVELS}
@@ -13,7 +13,7 @@ use Rattle.blink_machine.specs.TreeWithDebts.{IsTreeWithDebts}
 
 -- ---- latches
 
--- the page that an operation is next to latch is there, and its worker holds no latch
+-- the page that an operation latches next exists, and its worker holds no latch
 pub record LatchesWell (pages : Pages) (holder : ℕ → Option ℕ) (worker number : ℕ) : Type 0 where
   pub page : PlainPage
   pub there : pages number ≡ Some page
@@ -21,7 +21,8 @@ pub record LatchesWell (pages : Pages) (holder : ℕ → Option ℕ) (worker num
 
 -- ---- reads
 
--- the page is one that `saw_page` takes: of the level that the operation's state says, beginning below its key, and not too long
+-- the page is one that `saw_page` takes: of the level that the operation's state says, with no floor or one below its key, and
+-- not too long
 pub record IsReadable (m : PlainMachine) (page : PlainPage) : Type 0 where
   pub has_level : page.level ≡ level_read m
   pub floor_below : least_above page.floor ≤ target m
@@ -33,7 +34,7 @@ pub record ReadsOneMachine (m : PlainMachine) (number : ℕ) (page : PlainPage) 
   pub sees : SeesPage m number page after
   pub only : (other : PlainMachine) → SeesPage m number page other → other ≡ after
 
--- the page that an operation is next to read is there, and is read so
+-- the page that an operation reads next exists, and is readable
 pub record ReadsWell (tree_state : TreeState) (m : PlainMachine) (number : ℕ) : Type 0 where
   pub page : PlainPage
   pub there : tree_state.pages number ≡ Some page
@@ -49,8 +50,8 @@ pub data ReadsPrimeWell (m : PlainMachine) (prime : List ℕ) : Type 0 where
 
 -- ---- writes
 
--- the page that an operation is next to write in its place is there, its latch is the worker's, and what is written is lawful and stands as
--- the page did
+-- the page that an operation writes next exists, its worker holds the latch, and what it writes is lawful and stands as the page
+-- did
 pub record WritesWell (tree_state : TreeState) (worker : ℕ) (m : PlainMachine) (number : ℕ) : Type 0 where
   pub before : PlainPage
   pub there : tree_state.pages number ≡ Some before
@@ -59,7 +60,7 @@ pub record WritesWell (tree_state : TreeState) (worker : ℕ) (m : PlainMachine)
   pub lawful : IsLawfulPage tree_state.fan (page_out m 0)
   pub latched : tree_state.holder number ≡ Some worker
 
--- a step that writes a page writes one whose latch its worker holds, or at a number that no page has
+-- a step that writes a page writes one whose latch its worker holds, or under a number that no page has
 abbrev pub WritesItsOwnPage : TreeState → Type 0
 WritesItsOwnPage tree_state = (then : TreeState) (worker number : ℕ) (m after : PlainMachine) → IsItsOperation tree_state worker m → Steps tree_state worker m (Moved (write_page number)) after then
     → IsItsToWrite tree_state.holder tree_state.pages worker number

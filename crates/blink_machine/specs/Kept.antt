@@ -1,4 +1,4 @@
--- What an operation keeps at each of its states, whatever the tree is, so that it can always take its next step.
+-- What an operation guarantees at each of its states, whatever the tree is, so that it can always take its next step.
 use Rattle.std.specs.Prelude.{◌≡◌, ℕ, ◌+◌, ◌<◌, List, length}
 use Rattle.blink_page.specs.{IsFan, IsPageNumber, PlainPage, IsKeyOf}
 use Rattle.blink_page.specs.declared.limits.TheConstants.{LEVELS, GREATEST_KEY}
@@ -13,7 +13,7 @@ use Rattle.blink_machine.specs.Machine.{PlainMachine, target, level_of}
 use Rattle.blink_machine.specs.Placed.{MayChange}
 use Rattle.blink_machine.specs.Table.{IsFullFor, IsTopLeftmost}
 
--- a debt that a page can take: it leads to a page, and its separator parts the keys of a root
+-- a page can take the debt: it leads to a page, and its separator parts the keys of a root
 pub record IsPostable (debt : Debt) : Type 0 where
   pub parts_keys : debt.separator < GREATEST_KEY
   pub page_number : IsPageNumber debt.page
@@ -49,7 +49,7 @@ KeptForNext m Finish = Unit {0}
 KeptForNext m (MoveRight page) = MayChange m.op m.job
 KeptForNext m (Post debt) = IsPostable debt
 
--- a state each; on the way down there is room to remember a page of each level that is left
+-- the guarantee of each state; a descending operation has room to remember a page of each level that is left
 abbrev pub KeptAt : PlainMachine → State → Type 0
 KeptAt m Start = Unit {0}
 KeptAt m (Going page level) = length m.remembered + level < LEVELS

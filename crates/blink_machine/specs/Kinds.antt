@@ -1,4 +1,4 @@
--- The kinds of a step, by names that no other enum has.
+-- The kinds of a step, under names that no other enum has.
 use Rattle.std.specs.Prelude.{ℕ, Bool, true, false}
 use Rattle.blink_machine.specs.declared.machine.State.{State}
 use Rattle.blink_machine.specs.declared.machine.State.TheVariants.{SplitNew, Root}
@@ -25,7 +25,7 @@ write_page number = WritePage number
 abbrev pub write_prime : Kind
 write_prime = WritePrime
 
--- what a step is about
+-- the kind of a step, as tests
 abbrev pub is_page_read : Kind → Bool
 is_page_read (ReadPage page) = true
 is_page_read kind = false
@@ -38,13 +38,13 @@ abbrev pub is_prime_write : Kind → Bool
 is_prime_write WritePrime = true
 is_prime_write kind = false
 
--- a state whose step writes a new page
+-- the state's step writes a new page
 abbrev pub writes_new_page : State → Bool
 writes_new_page (SplitNew page before) = true
 writes_new_page (Root page debt prime) = true
 writes_new_page state = false
 
--- the turn moved, by a step of this kind
+-- the turn moved by a step of this kind
 abbrev pub moved_by : (Kind → Bool) → Step → Bool
 moved_by of_kind (Moved kind) = of_kind kind
 moved_by of_kind Waited = false

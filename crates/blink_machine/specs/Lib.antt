@@ -1,22 +1,22 @@
 -- What a caller of `blink_machine` reads, in this order; then what proofs above it need; then the files themselves.
 
--- one operation on its way through a tree: what it remembers, the state that it is in, and what it needs next
+-- one operation on a tree: what it remembers, the state that it is in, and the step that it needs next
 pub use Rattle.blink_machine.specs.Machine.{NeedsLatch, NeedsNew, NeedsPage, NeedsPrime, NeedsPrimeWrite, NeedsUnlatch, NeedsWrite, PlainMachine, at_state, fresh, level_read, need_at, target}
--- the table of states: what an operation makes of what it reads, what it writes, and where it is afterwards
+-- the table of states: what an operation makes of what it reads, what it writes, and its state afterwards
 pub use Rattle.blink_machine.specs.Table.{IsTopLeftmost, IsUpdate, PrimeOut, SeesOnItsWay, SeesPage, SeesPrime, WaitsForLevel, done, page_out}
--- the kinds of a step, by names that no other enum has
+-- the kinds of a step, under names that no other enum has
 pub use Rattle.blink_machine.specs.Kinds.{has_moved, is_page_read, is_page_write, is_prime_write, latch, moved_by, read_page, read_prime, unlatch, write_page, write_prime, writes_new_page}
 -- a state of a tree that workers change, and one atomic step of a worker
 pub use Rattle.blink_machine.specs.TreeState.{IsItsOperation, Steps, goes_on}
--- a lawful tree with debts: what is so of the pages in every state of the tree, in five parts
+-- a lawful tree with debts: what holds of the pages in every tree state, in five parts
 pub use Rattle.blink_machine.specs.TreeWithDebts.{IsTreeWithDebts}
--- what an operation has for itself: a latch, a debt, a new page that is in no chain yet, and a top level that it splits
+-- what an operation has for itself: a latch, a debt, a new unlinked page, and a top level that it splits
 pub use Rattle.blink_machine.specs.Owned.{HoldOneLatchEach, IsItsToWrite}
--- what the invariant says: its tree is lawful but for debts, and each operation can take its next step, whoever runs it
+-- what the invariant gives: the tree is lawful except for debts, and each operation can take its next step, whoever runs it
 pub use Rattle.blink_machine.specs.InOrder.{IsReadable}
--- operations on their way down, and what they are told of a page that they read there
+-- descending operations, and what they are handed of a page that they read in their descent
 pub use Rattle.blink_machine.specs.OnTheWay.{IsOnItsWay, TellsWay}
--- where pages stand: no page goes away, and none changes its level or its floor; so on its way an operation always comes further
+-- the places of pages: no page goes away, and none changes its level or its floor; so an operation always gets further
 pub use Rattle.blink_machine.specs.Places.{descent_bound}
 -- what one operation may still need, by its state alone: page numbers, page writes, and writes of the prime block
 pub use Rattle.blink_machine.specs.Allowance.{HasEnough, UsesUp, numbers_left, primes_left, writes_left}
@@ -24,7 +24,7 @@ pub use Rattle.blink_machine.specs.Allowance.{HasEnough, UsesUp, numbers_left, p
 pub use Rattle.blink_machine.specs.Needs.{NeedsNoRead, NeedsSomePage, NeedsSomeWrite}
 -- the entries of a tree as a plain map
 pub use Rattle.blink_machine.specs.TreeMap.{HasMap, IsMapOf, Keeps, entries_from, pairs_of}
--- the law that everything else about steps follows from, in nine parts: how the invariant begins to hold, what it says, what a step keeps, decides and uses up, and how it ends
+-- the law that all other facts about steps follow from, in nine parts
 pub use Rattle.blink_machine.specs.StepLaw.{IsMapAt}
 -- what an operation makes of what it reads is determined
 pub use Rattle.blink_machine.specs.OneResult.{OneChange, OneResultOfPage, OneResultOfPrime}

@@ -1,4 +1,4 @@
--- One operation on its way through a tree: what it remembers, the state that it is in, and what it needs next.
+-- One operation on a tree: what it remembers, the state that it is in, and the step that it needs next.
 use Rattle.std.specs.Prelude.{◌≡◌, ℕ, ◌+◌, Option, Some, None, List, []}
 use Rattle.blink_batch.specs.declared.Answer.{Answer}
 use Rattle.blink_batch.specs.declared.Op.{Op}
@@ -10,18 +10,18 @@ use Rattle.blink_machine.specs.declared.machine.Need.TheVariants.{ReadPrime, Rea
 use Rattle.blink_machine.specs.declared.machine.State.{State}
 use Rattle.blink_machine.specs.declared.machine.State.TheVariants.{Start, Going, Want, Held, Change, SplitNew, SplitOld, AskPrime, Root, NewPrime, Leave, Posting, Ended}
 
--- the job is what the operation is about: its own key, on a leaf, or a debt, which it posts to the level above the debt's
+-- the job is the operation's own key, on a leaf, or a debt, which the operation posts to the level above the debt's
 pub record PlainMachine : Type 0 where
   pub fan : ℕ
   pub op : Op
   pub job : Job
-  -- the pages that it looked at last on the levels above its job's, the lowest level first
+  -- the pages that the operation read last on the levels above its job's, the lowest level first
   pub remembered : List ℕ
   pub state : State
-  -- what it answers, from its deciding step on
+  -- the operation's answer, from its deciding step on
   pub answer : Option Answer
 
--- an operation that no step has taken yet
+-- an operation that has taken no step yet
 abbrev pub fresh : ℕ → Op → PlainMachine
 fresh fan op = record { fan = fan; op = op; job = Leaf; remembered = []; state = Start; answer = None }
 
@@ -29,7 +29,7 @@ fresh fan op = record { fan = fan; op = op; job = Leaf; remembered = []; state =
 abbrev pub at_state : PlainMachine → State → PlainMachine
 at_state m state = record m { state = state }
 
--- and with an answer
+-- the same operation at another state, and with an answer
 abbrev pub answered : PlainMachine → State → Answer → PlainMachine
 answered m state answer = record m { state = state; answer = Some answer }
 
@@ -46,7 +46,7 @@ abbrev pub level_of : Job → ℕ
 level_of Leaf = 0
 level_of (Parent debt) = debt.level + 1
 
--- what a job brings into a page: a key with its pointer, or a separator with the new page
+-- the value that a job adds to a page: a key's pointer, or a separator's new page
 abbrev pub value_of_job : Op → Job → ℕ
 value_of_job op Leaf = pointer_with op
 value_of_job op (Parent debt) = debt.page
@@ -54,7 +54,7 @@ value_of_job op (Parent debt) = debt.page
 abbrev pub entry_of : PlainMachine → ℕ × ℕ
 entry_of m = (target m, value_of_job m.op m.job)
 
--- what an operation needs at each state
+-- the step that an operation needs at each state
 abbrev pub need_at : State → Need
 need_at Start = ReadPrime
 need_at (Going page level) = ReadPage page
@@ -91,7 +91,7 @@ NeedsPrimeWrite m = need_at m.state ≡ WritePrime
 abbrev pub NeedsUnlatch : PlainMachine → ℕ → Type 0
 NeedsUnlatch m page = need_at m.state ≡ Unlatch page
 
--- the level of the page that it reads next
+-- the level of the page that the operation reads next
 abbrev pub level_read_at : State → Job → ℕ
 level_read_at (Going page level) job = level
 level_read_at state job = level_of job

@@ -1,4 +1,4 @@
--- What a contract sees of a `Machine`.
+-- A `Machine` as a contract sees it.
 use Rattle.blink_machine.specs.Machine.{PlainMachine}
 use Rattle.blink_machine.specs.declared.machine.Machine.TheInside.{Inside}
 

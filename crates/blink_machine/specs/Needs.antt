@@ -3,7 +3,7 @@ use Rattle.blink_machine.specs.declared.machine.Need.{Need}
 use Rattle.blink_machine.specs.declared.machine.Need.TheVariants.{ReadPrime, ReadPage, WriteNew, WritePage, End}
 use Rattle.blink_machine.specs.Machine.{PlainMachine, need_at}
 
--- a page is to be read
+-- the step reads a page
 abbrev pub IsPageRead : Need → Type 0
 IsPageRead (ReadPage page) = Unit {0}
 IsPageRead need = ⊥
@@ -11,7 +11,7 @@ IsPageRead need = ⊥
 abbrev pub NeedsSomePage : PlainMachine → Type 0
 NeedsSomePage m = IsPageRead (need_at m.state)
 
--- a page is to be written, a new one or another
+-- the step writes a page, a new one or another
 abbrev pub IsPageWrite : Need → Type 0
 IsPageWrite WriteNew = Unit {0}
 IsPageWrite (WritePage page) = Unit {0}
@@ -20,8 +20,8 @@ IsPageWrite need = ⊥
 abbrev pub NeedsSomeWrite : PlainMachine → Type 0
 NeedsSomeWrite m = IsPageWrite (need_at m.state)
 
--- a latch is to be got, a page or the prime block to be written, or a latch to be let go: of such a step the operation learns no more
--- than that it is done
+-- the step gets a latch, writes a page or the prime block, or releases a latch; the operation learns no more from it than that
+-- it is done
 abbrev pub TellsNothing : Need → Type 0
 TellsNothing ReadPrime = ⊥
 TellsNothing (ReadPage page) = ⊥

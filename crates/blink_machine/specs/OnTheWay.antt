@@ -1,4 +1,4 @@
--- Operations on their way down, and what they are told of a page that they read there.
+-- Descending operations, and what they are handed of a page that they read in their descent.
 use Rattle.std.specs.Prelude.{◌≡◌, ℕ, Option}
 use Rattle.blink_batch.specs.declared.Op.TheVariants.{Find}
 use Rattle.blink_machine.specs.declared.machine.State.TheVariants.{Going}
@@ -7,12 +7,12 @@ use Rattle.blink_page.specs.declared.search.Way.{Way}
 use Rattle.blink_page.specs.declared.search.Way.TheVariants.{Here}
 use Rattle.blink_machine.specs.Machine.{PlainMachine, level_read, target}
 
--- it is on its way down
+-- the operation is in its descent
 abbrev pub IsOnItsWay : PlainMachine → Type 0
 IsOnItsWay m = (number : ℕ) × (level : ℕ) × (m.state ≡ Going number level)
 
--- the page is of the level that the operation reads next, its key leads this way from there, and, where it is a find and ends there, this is
--- what the page keeps under its key
+-- the page is of the level that the operation reads next, and `way` says where its key leads from there; if the operation is a
+-- find that ends there, `kept` is the pointer stored for its key
 pub record TellsWay (m : PlainMachine) (page : PlainPage) (way : Way) (kept : Option ℕ) : Type 0 where
   pub has_level : page.level ≡ level_read m
   pub leads : Leads page (target m) way

@@ -1,4 +1,4 @@
--- What is so of one operation at each of its states, in a tree that others change too.
+-- What holds of one operation at each of its states, in a tree that others change too.
 use Rattle.std.specs.Prelude.{◌≡◌, ℕ, ◌+◌, Option, Some, None, IsSome, List, [], ◌∷◌, ⊤}
 use Rattle.blink_batch.specs.declared.Answer.{Answer}
 use Rattle.blink_batch.specs.declared.Op.{Op}
@@ -19,35 +19,35 @@ use Rattle.blink_machine.specs.Table.{Brings, IsUpdate, IsChange, IsFullFor, IsT
 use Rattle.blink_machine.specs.Tree.{BeginsBelow}
 use Rattle.blink_machine.specs.TreeWithDebts.{Levels}
 
--- the remembered pages, one a level from this one up: each is in its level's chain, and their floors do not rise from a
--- level to the next; none begins above `least`
+-- the remembered pages, one for each level from this one up: each is in its level's chain, the floors do not rise from a level
+-- to the next, and none begins above `least`
 abbrev pub AreRemembered : Levels → ℕ → ℕ → List ℕ → Type 0
 AreRemembered levels level least [] = ⊤
 AreRemembered levels level least (page ∷ above) =
     (begins : BeginsBelow (levels level) page least) × AreRemembered levels (level + 1) (least_above begins.cell.page.floor) above
 
--- a search or posting stands at a page: the page is in the level's chain with a floor below the key, and so are the
--- remembered ones above it
+-- a search or posting stands at a page: the page is in the level's chain and has a floor below the key, and so have the
+-- remembered pages above it
 pub record StandsAt (levels : Levels) (m : PlainMachine) (level page : ℕ) : Type 0 where
   pub begins : BeginsBelow (levels level) page (target m)
   pub remembers : AreRemembered levels (level + 1) (least_above begins.cell.page.floor) m.remembered
 
--- the operation may change pages: a find doesn't
+-- the operation may change pages; a find may not
 abbrev pub MayChange : Op → Job → Type 0
 MayChange op Leaf = IsUpdate op
 MayChange op (Parent debt) = Unit {0}
 
--- it has latched the page, or wants to: the page is one from which it can go on to the right
+-- the operation has latched the page, or wants to; from this page it can go on to the right
 pub record IsAtWork (levels : Levels) (m : PlainMachine) (page : ℕ) : Type 0 where
   pub may_change : MayChange m.op m.job
   pub stands_at : StandsAt levels m (level_of m.job) page
 
--- it has read the latched page, to which its key belongs, and the page has not changed since
+-- the operation has read the latched page, which its key belongs to, and the page has not changed since
 pub record HasRead (tree_state : TreeState) (m : PlainMachine) (number : ℕ) (page : PlainPage) : Type 0 where
   pub there : tree_state.pages number ≡ Some page
   pub belongs : IsKeyOf page (target m)
 
--- it has written the upper half of the page that it has latched
+-- the operation has written the upper half of the page that it has latched
 pub record HasHalved (tree_state : TreeState) (m : PlainMachine) (number : ℕ) (lower : PlainPage) (debt : Debt) : Type 0 where
   pub page : PlainPage
   pub read : HasRead tree_state m number page
@@ -57,7 +57,8 @@ pub record HasHalved (tree_state : TreeState) (m : PlainMachine) (number : ℕ) 
   pub lower_half_of : lower ≡ lower_half m.fan debt.page page (overfull m page)
   pub upper_there : tree_state.pages debt.page ≡ Some (upper_half m.fan page (overfull m page))
 
--- it has split the page, whose latch it holds since: the page ends at the debt's separator and links to its new page
+-- the operation has split the page and held its latch since; the page ends at the debt's separator and links to the debt's new
+-- page
 pub record HasSplit (tree_state : TreeState) (levels : Levels) (m : PlainMachine) (number : ℕ) (debt : Debt) : Type 0 where
   pub cell : Cell
   pub stands : IsMember cell (levels debt.level)
@@ -69,17 +70,17 @@ pub record HasSplit (tree_state : TreeState) (levels : Levels) (m : PlainMachine
   pub same_level : debt.level ≡ level_of m.job
   pub remembers : AreRemembered levels (debt.level + 1) debt.separator m.remembered
 
--- what it has read of the prime block is still so
+-- what the operation has read of the prime block is still true
 pub record HasAsked (tree_state : TreeState) (number : ℕ) (debt : Debt) (prime : List ℕ) : Type 0 where
   pub same_prime : prime ≡ tree_state.prime
   pub is_top : IsTopLeftmost prime debt.level number
 
--- its new root is written
+-- the operation's new root is written
 pub record HasRoot (tree_state : TreeState) (number : ℕ) (debt : Debt) (root : ℕ) : Type 0 where
   pub root_number : IsPageNumber root
   pub root_there : tree_state.pages root ≡ Some (root_over (debt.level + 1) debt.separator number debt.page)
 
--- the answer is there from the deciding step on, and not before
+-- the operation has its answer from the deciding step on, and not before
 abbrev pub HasAnswer : Option Answer → Type 0
 HasAnswer answer = IsSome answer
 
@@ -90,13 +91,13 @@ abbrev pub AnsweredInJob : Job → Option Answer → Type 0
 AnsweredInJob Leaf answer = HasNoAnswer answer
 AnsweredInJob (Parent debt) answer = HasAnswer answer
 
--- where it goes next from a page that it leaves
+-- what holds of an operation by where it goes next from a page that it leaves
 abbrev pub PlacedForNext : Levels → PlainMachine → Next → Type 0
 PlacedForNext levels m Finish = HasAnswer m.answer
 PlacedForNext levels m (MoveRight page) = IsAtWork levels m page × AnsweredInJob m.job m.answer
 PlacedForNext levels m (Post debt) = AreRemembered levels (debt.level + 1) debt.separator m.remembered × HasAnswer m.answer
 
--- a state each
+-- what holds of an operation at each state
 abbrev pub PlacedAt : TreeState → Levels → PlainMachine → State → Type 0
 PlacedAt tree_state levels m Start = (m.job ≡ Leaf) × HasNoAnswer m.answer
 PlacedAt tree_state levels m (Going page level) = (m.job ≡ Leaf) × StandsAt levels m level page × HasNoAnswer m.answer

@@ -1,5 +1,6 @@
--- The law that everything else about steps follows from, in nine parts: how the invariant begins to hold, what it says, what a step keeps, decides and uses
--- up, and how it ends. It speaks of pages, latches and operations as partial maps, whatever keeps them, and of any number of workers.
+-- The law that all other facts about steps follow from, in nine parts. It says how the invariant begins to hold, what it says,
+-- what a step keeps, decides and uses up, and how it ends. It speaks of pages, latches and operations as partial maps, whatever
+-- memory holds them, and of any number of workers.
 use Rattle.std.specs.Prelude.{◌≡◌, ℕ, ◌<◌, ◌≤◌, Some, None, List, length}
 use Rattle.blink_batch.specs.declared.Entry.{Entry}
 use Rattle.blink_batch.specs.declared.Op.{Op}
@@ -28,13 +29,13 @@ pub record IsOpening (tree_state : TreeState) : Type 0 where
   pub no_latch : (page : ℕ) → tree_state.holder page ≡ None
   pub all_idle : (worker : ℕ) → tree_state.machines worker ≡ None
 
--- such a tree state has the invariant
+-- the invariant holds for such a tree state
 abbrev pub OpeningHasInvariant : Type 0
 OpeningHasInvariant = (tree_state : TreeState) → IsOpening tree_state → Invariant tree_state
 
 -- ---- 2: what it says
 
--- where the invariant holds the tree is lawful but for debts, and each operation can take its next step
+-- if the invariant holds, the tree is lawful except for debts, and each operation can take its next step
 abbrev pub InvariantGivesOrder : Type 0
 InvariantGivesOrder = (tree_state : TreeState) → Invariant tree_state → IsInOrder tree_state
 
@@ -45,7 +46,7 @@ pub record IsMapAt (tree_state : TreeState) (entries : List Entry) : Type 0 wher
   pub ascending : IsAscending entries
   pub kept : Keeps tree_state entries
 
--- they are some plain map, and no other
+-- the tree's entries are exactly one plain map
 pub record HasOneMap (tree_state : TreeState) : Type 0 where
   pub entries : List Entry
   pub is_map : IsMapAt tree_state entries
@@ -56,8 +57,8 @@ InvariantGivesOneMap = (tree_state : TreeState) → Invariant tree_state → Has
 
 -- ---- 4: idle workers
 
--- the tree states tell the same of each number and of each worker. A worker without an operation isn't told of, and so may be there in the one and not in
--- the other
+-- the tree states agree on each page number and on each worker; a worker without an operation isn't part of a tree state, so one
+-- of the two may have it and the other not
 pub record TellTheSame (tree_state other : TreeState) : Type 0 where
   pub same_fan : other.fan ≡ tree_state.fan
   pub same_prime : other.prime ≡ tree_state.prime
@@ -65,20 +66,21 @@ pub record TellTheSame (tree_state other : TreeState) : Type 0 where
   pub same_holder : (number : ℕ) → other.holder number ≡ tree_state.holder number
   pub same_machines : (worker : ℕ) → other.machines worker ≡ tree_state.machines worker
 
--- so one idle worker more or less is all the same
+-- so one idle worker more or less doesn't matter
 abbrev pub IdleWorkersDontMatter : Type 0
 IdleWorkersDontMatter = (tree_state other : TreeState) → TellTheSame tree_state other → Invariant tree_state → Invariant other
 
 -- ---- 5: what a step keeps
 
--- a step keeps the invariant, whatever operation an idle worker takes on, and whatever number that no page has a new page gets
+-- a step keeps the invariant, whatever operation an idle worker begins, and whatever free number a new page gets
 abbrev pub StepKeepsInvariant : Type 0
 StepKeepsInvariant = (old new : TreeState) (worker : ℕ) (m after : PlainMachine) (step : Step) → Invariant old → FitsWords m.op → IsItsOperation old worker m
     → Steps old worker m step after new → Invariant new
 
 -- ---- 6: what it decides
 
--- a deciding step answers as the plain map does and changes the entries as the operation changes the map; no other step changes them
+-- a deciding step answers as the plain map does, and changes the entries as the operation changes the map; no other step changes
+-- the entries
 pub data Decides (new : TreeState) (m after : PlainMachine) (entries : List Entry) : Type 0 where
   deciding : m.answer ≡ None → after.answer ≡ Some (answer_of entries m.op) → Keeps new (map_after entries m.op) → Decides new m after entries
   other : after.answer ≡ m.answer → Keeps new entries → Decides new m after entries
@@ -89,7 +91,7 @@ StepDecides = (old new : TreeState) (worker : ℕ) (m after : PlainMachine) (ste
 
 -- ---- 7: how it ends
 
--- where every worker is idle no latch is held, and the tree is at rest
+-- if every worker is idle, no latch is held, and the tree is at rest
 pub record IsAllAtRest (tree_state : TreeState) : Type 0 where
   pub no_latch : (page : ℕ) → tree_state.holder page ≡ None
   pub at_rest : IsAtRest tree_state.fan tree_state.prime tree_state.pages
@@ -99,7 +101,7 @@ AllIdleIsAtRest = (tree_state : TreeState) → Invariant tree_state → ((worker
 
 -- ---- 8: where pages stand
 
--- no page goes away or changes its level or floor in a step, and what an operation reads always leads it further
+-- no step removes a page or changes its level or floor, and what an operation reads always leads it further
 pub record PlacesStay : Type 0 where
   pub stay : (old new : TreeState) (worker : ℕ) (m after : PlainMachine) (step : Step) → Invariant old → IsItsOperation old worker m
       → Steps old worker m step after new → KeepsPlaces old.pages new.pages
@@ -108,7 +110,8 @@ pub record PlacesStay : Type 0 where
 
 -- ---- 9: what an operation may still need
 
--- at its begin at most so many page numbers and page writes, and one prime block write; before each such step at least one, and after it one fewer
+-- an operation begins with at most this many page numbers and page writes, and one write of the prime block; it has at least one
+-- before each such step, and one fewer after it
 pub record AllowanceIsUsedUp : Type 0 where
   pub at_its_begin : (fan : ℕ) (op : Op) → (numbers_left (fresh fan op) ≤ MAX_NEW_PAGES_PER_INSERT) × (writes_left (fresh fan op) ≤ MAX_PAGE_WRITES_PER_INSERT) × (primes_left (fresh fan op) ≤ 1)
   pub enough : (tree_state : TreeState) (worker : ℕ) (m : PlainMachine) → Invariant tree_state → IsItsOperation tree_state worker m → HasEnough m

@@ -1,4 +1,4 @@
--- The table of states: what an operation makes of what it reads, what it writes, and where it is afterwards.
+-- The table of states: what an operation makes of what it reads, what it writes, and its state afterwards.
 use Rattle.std.specs.Prelude.{◌≡◌, ℕ, ◌+◌, ◌-◌, ◌<◌, ◌≤◌, Option, Some, None, List, [], ◌∷◌, ◌++◌, length, slice_get}
 use Rattle.std.specs.List.{last_or}
 use Rattle.blink_batch.specs.declared.Answer.TheVariants.{Absent, Exists}
@@ -16,12 +16,12 @@ use Rattle.blink_machine.specs.declared.machine.State.{State}
 use Rattle.blink_machine.specs.declared.machine.State.TheVariants.{Start, Going, Want, Held, Change, SplitNew, SplitOld, AskPrime, Root, NewPrime, Leave, Posting, Ended}
 use Rattle.blink_machine.specs.Machine.{PlainMachine, at_state, answered, target, level_of, entry_of}
 
--- the page is the leftmost of the top level, and this is its level
+-- the page is the leftmost page of the top level, and `level` is that level
 pub record IsTopLeftmost (prime : List ℕ) (level page : ℕ) : Type 0 where
   pub top : length prime ≡ level + 1
   pub leftmost : slice_get prime level ≡ Some page
 
--- the prime block is read: a row each
+-- a read of the prime block, a row for each state
 pub data SeesPrime (m : PlainMachine) (prime : List ℕ) (after : PlainMachine) : Type 0 where
   begins : (top : ℕ) → m.state ≡ Start → last_or None prime ≡ Some top
       → after ≡ record m { remembered = []; state = Going top (length prime - 1) } → SeesPrime m prime after
@@ -32,25 +32,25 @@ pub data SeesPrime (m : PlainMachine) (prime : List ℕ) (after : PlainMachine) 
   finds_leftmost : (debt : Debt) (leftmost : ℕ) → m.state ≡ Posting → m.job ≡ Parent debt → slice_get prime (debt.level + 1) ≡ Some leftmost
       → after ≡ at_state m (Want leftmost) → SeesPrime m prime after
 
--- the level that it posts to isn't there yet
+-- the level that the operation posts to isn't there yet
 pub record WaitsForLevel (m : PlainMachine) (prime : List ℕ) : Type 0 where
   pub debt : Debt
   pub posting : m.state ≡ Posting
   pub job : m.job ≡ Parent debt
   pub not_there : slice_get prime (debt.level + 1) ≡ None
 
--- it is an insertion, a deletion or a replacement
+-- the operation is an insertion, a deletion or a replacement
 abbrev pub IsUpdate : Op → Type 0
 IsUpdate (Find key) = ⊥
 IsUpdate op = Unit {0}
 
--- it brings its entry into a page: an insertion does, and a posting
+-- the operation adds its entry to a page: an insertion does, and a posting
 abbrev pub Brings : Op → Job → Type 0
 Brings op (Parent debt) = Unit {0}
 Brings (Insert key pointer) Leaf = Unit {0}
 Brings op Leaf = ⊥
 
--- the page with the change that the operation makes, and what a leaf keeps under the key before
+-- the page after the operation's change, and the pointer that a leaf had for the key before
 pub data IsChange (m : PlainMachine) (page changed : PlainPage) (kept : Option ℕ) : Type 0 where
   gains : Brings m.op m.job → value_at (target m) page.entries ≡ None → length page.entries < m.fan → kept ≡ None
       → changed ≡ with_entries page (entries_with page (entry_of m)) → IsChange m page changed kept
@@ -59,13 +59,13 @@ pub data IsChange (m : PlainMachine) (page changed : PlainPage) (kept : Option �
   exchanges : (key new pointer : ℕ) → m.job ≡ Leaf → m.op ≡ Replace key new → value_at key page.entries ≡ Some pointer → kept ≡ Some pointer
       → changed ≡ with_entries page (replaced (key, new) page.entries) → IsChange m page changed kept
 
--- the page is full, and the operation has an entry for it
+-- the page is full, and the operation has an entry to add
 pub record IsFullFor (m : PlainMachine) (page : PlainPage) : Type 0 where
   pub brings : Brings m.op m.job
   pub absent : value_at (target m) page.entries ≡ None
   pub full : length page.entries ≡ m.fan
 
--- a page is read on the way down: a row each
+-- a read of a page in a descent, a row for each case
 pub data SeesOnItsWay (m : PlainMachine) (number : ℕ) (page : PlainPage) (after : PlainMachine) : Type 0 where
   goes_right : (level next : ℕ) → m.state ≡ Going number level → Leads page (target m) (Right next)
       → after ≡ at_state m (Going next level) → SeesOnItsWay m number page after
@@ -76,7 +76,7 @@ pub data SeesOnItsWay (m : PlainMachine) (number : ℕ) (page : PlainPage) (afte
   update_wants : (level : ℕ) → m.state ≡ Going number level → Leads page (target m) Here → IsUpdate m.op
       → after ≡ at_state m (Want number) → SeesOnItsWay m number page after
 
--- a page is read under its latch: a row each
+-- a read of a page under its latch, a row for each case
 pub data SeesUnderLatch (m : PlainMachine) (number : ℕ) (page : PlainPage) (after : PlainMachine) : Type 0 where
   is_above_high_key : (next : ℕ) → page.high < target m → page.right ≡ Some next
       → after ≡ at_state m (Leave number (MoveRight next)) → SeesUnderLatch m number page after
@@ -93,20 +93,20 @@ pub data SeesUnderLatch (m : PlainMachine) (number : ℕ) (page : PlainPage) (af
   is_to_split : target m ≤ page.high → IsFullFor m page
       → after ≡ at_state m (SplitNew number page) → SeesUnderLatch m number page after
 
--- a page is read
+-- a read of a page
 pub data SeesPage (m : PlainMachine) (number : ℕ) (page : PlainPage) (after : PlainMachine) : Type 0 where
   on_its_way : SeesOnItsWay m number page after → SeesPage m number page after
   under_latch : m.state ≡ Held number → SeesUnderLatch m number page after → SeesPage m number page after
 
--- the entries of a page that is split, with the one that it gets
+-- the entries of a page that is split, with the one that the operation adds
 abbrev pub overfull : PlainMachine → PlainPage → List (ℕ × ℕ)
 overfull m page = entries_with page (entry_of m)
 
--- what the split owes, where the new page has this number
+-- the debt of the split, if the new page has this number
 abbrev pub debt_of_split : PlainMachine → PlainPage → ℕ → Debt
 debt_of_split m page new = record { level = level_of m.job; separator = separator_of m.fan (overfull m page); page = new }
 
--- the page that the wanted write writes; `new` is the number of a new one
+-- the page that the next write writes; `new` is the number of a new one
 abbrev pub page_out_at : PlainMachine → State → ℕ → PlainPage
 page_out_at m (Change page changed kept) new = changed
 page_out_at m (SplitNew page before) new = upper_half m.fan before (overfull m before)
@@ -117,12 +117,13 @@ page_out_at m state new = empty_leaf
 abbrev pub page_out : PlainMachine → ℕ → PlainPage
 page_out m new = page_out_at m m.state new
 
--- the operation after a leaf operation's write of its leaf, which is its deciding step; a posting has decided before
+-- the operation after a write of a page: for an operation on a leaf that write is the deciding step, and a posting has decided
+-- before
 abbrev pub decided_with : PlainMachine → Job → State → Option ℕ → PlainMachine
 decided_with m Leaf state kept = answered m state (answer_at m.op kept)
 decided_with m (Parent debt) state kept = at_state m state
 
--- the operation on its way to post a debt: it wants the page of that level that it remembers, where it does
+-- the operation that sets out to post a debt: it wants the page that it remembers of that level, if it remembers one
 abbrev pub sets_out : PlainMachine → Debt → List ℕ → PlainMachine
 sets_out m debt [] = record m { job = Parent debt; remembered = []; state = Posting }
 sets_out m debt (page ∷ above) = record m { job = Parent debt; remembered = above; state = Want page }
@@ -132,11 +133,11 @@ leaves_for m Finish = at_state m Ended
 leaves_for m (MoveRight page) = at_state m (Want page)
 leaves_for m (Post debt) = sets_out m debt m.remembered
 
--- the operation between the two writes of a split: the upper half has this number, and the lower one is to be written
+-- the operation between the two writes of a split: the upper half has this number, and the lower half is to be written
 abbrev pub halved : PlainMachine → ℕ → PlainPage → ℕ → PlainMachine
 halved m page before new = at_state m (SplitOld page (lower_half m.fan new before (overfull m before)) (debt_of_split m before new))
 
--- the operation after a latch that was got, a write or an unlatch; `new` is the number of a new page
+-- the operation after it got a latch, wrote or released a latch; `new` is the number of a new page
 abbrev pub done_at : PlainMachine → State → ℕ → PlainMachine
 done_at m (Want page) new = at_state m (Held page)
 done_at m (Change page changed kept) new = decided_with m m.job (Leave page Finish) kept

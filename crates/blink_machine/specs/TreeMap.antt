@@ -6,15 +6,15 @@ use Rattle.blink_rest.specs.{AreEntries}
 use Rattle.blink_store.specs.{PlainStore, page_of}
 use Rattle.blink_machine.specs.TreeState.{TreeState}
 
--- the entries of a plain map as a tree keeps them
+-- the entries of a plain map as a tree stores them
 abbrev pub pairs_of : List Entry → List (ℕ × ℕ)
 pairs_of entries = map (λ (e : Entry). (e.key, e.pointer)) entries
 
--- and pairs as the entries of a plain map
+-- such pairs as the entries of a plain map
 abbrev pub entries_from : List (ℕ × ℕ) → List Entry
 entries_from pairs = map (λ (pair : ℕ × ℕ). entry pair.0 pair.1) pairs
 
--- the tree of a tree state keeps the entries of this map
+-- the tree of a tree state has the entries of this map
 abbrev pub Keeps : TreeState → List Entry → Type 0
 Keeps tree_state entries = AreEntries tree_state.fan tree_state.prime tree_state.pages (pairs_of entries)
 
@@ -23,6 +23,6 @@ pub record IsMapOf (store : PlainStore) (entries : List Entry) : Type 0 where
   pub ascending : IsAscending entries
   pub kept : AreEntries store.fan store.prime (page_of store) (pairs_of entries)
 
--- they are some plain map
+-- the store's tree has some plain map
 abbrev pub HasMap : PlainStore → Type 0
 HasMap store = (entries : List Entry) × IsMapOf store entries

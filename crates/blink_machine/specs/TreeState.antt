@@ -11,8 +11,8 @@ use Rattle.blink_machine.specs.declared.step.Step.TheVariants.{Moved, Waited}
 use Rattle.blink_machine.specs.Machine.{PlainMachine, fresh, NeedsPrime, NeedsPage, NeedsLatch, NeedsNew, NeedsWrite, NeedsPrimeWrite, NeedsUnlatch}
 use Rattle.blink_machine.specs.Table.{SeesPrime, WaitsForLevel, SeesPage, page_out, done, PrimeOut}
 
--- the pages by number, the prime block, who holds each page's latch, and the operation of each worker that isn't idle;
--- there may be any number of workers
+-- the pages by number, the prime block, the holder of each page's latch, and the operation of each worker that isn't idle; there
+-- may be any number of workers
 pub record TreeState : Type 0 where
   pub fan : ℕ
   pub prime : List ℕ
@@ -20,17 +20,17 @@ pub record TreeState : Type 0 where
   pub holder : ℕ → Option ℕ
   pub machines : ℕ → Option PlainMachine
 
--- page n was written, and no other
+-- exactly page n was written
 pub record WritesOne (old new : Pages) (n : ℕ) (page : PlainPage) : Type 0 where
   pub written : new n ≡ Some page
   pub others : (other : ℕ) → other ≢ n → new other ≡ old other
 
--- the latch of a page changed hands, and no other
+-- the latch of exactly this page changed its holder
 pub record LatchPasses (old new : ℕ → Option ℕ) (page : ℕ) (holder : Option ℕ) : Type 0 where
   pub changed : new page ≡ holder
   pub others : (other : ℕ) → other ≢ page → new other ≡ old other
 
--- an operation that goes on; of one that has ended nothing is left
+-- an operation that goes on; nothing is left of one that has ended
 abbrev pub goes_on : PlainMachine → State → Option PlainMachine
 goes_on m Ended = None
 goes_on m state = Some m
@@ -40,12 +40,12 @@ pub record IsWorkersNow (old new : ℕ → Option PlainMachine) (worker : ℕ) (
   pub own : new worker ≡ goes_on m m.state
   pub others : (other : ℕ) → other ≢ worker → new other ≡ old other
 
--- the operation that a worker's step is one of: its own, or, where it is idle, any that it takes on
+-- the operation of a worker's step: its own, or, if the worker is idle, any that it begins
 pub data IsItsOperation (old : TreeState) (worker : ℕ) (m : PlainMachine) : Type 0 where
   under_way : old.machines worker ≡ Some m → IsItsOperation old worker m
   taken_on : (op : Op) → old.machines worker ≡ None → m ≡ fresh old.fan op → IsItsOperation old worker m
 
--- what the step changes beside the operation
+-- a step that changes nothing but the operation
 pub record Leaves (old new : TreeState) : Type 0 where
   pub same_fan : new.fan ≡ old.fan
   pub same_prime : new.prime ≡ old.prime

@@ -1,4 +1,4 @@
--- A lawful tree with debts: what is so of the pages in every state of the tree, in five parts. A debt is a split that isn't posted.
+-- A lawful tree with debts: what holds of the pages in every tree state, in five parts. A debt is a split that isn't posted.
 use Rattle.std.specs.Prelude.{◌≡◌, ℕ, ◌+◌, ◌<◌, ◌≤◌, ◌⊎◌, Some, None, List, [], length, slice_get}
 use Rattle.blink_page.specs.{value_at, PlainPage, root_over, upper_half}
 use Rattle.blink_page.specs.declared.limits.TheConstants.{GREATEST_KEY}
@@ -11,7 +11,7 @@ use Rattle.blink_machine.specs.TreeState.{TreeState}
 use Rattle.blink_machine.specs.Owned.{debt_of, unlinked_of, split_of}
 use Rattle.blink_machine.specs.Table.{overfull}
 
--- the chain of each level; no cells for a level that the prime block doesn't name
+-- the chain of each level; a level that the prime block doesn't name has no cells
 abbrev pub Levels : Type 0
 Levels = ℕ → List Cell
 
@@ -25,7 +25,7 @@ pub record LevelsAreChains (fan : ℕ) (prime : List ℕ) (pages : Pages) (level
       → IsChain fan pages level leftmost (levels level)
   pub unnamed : (level : ℕ) → length prime ≤ level → levels level ≡ []
 
--- ---- new pages outside chains
+-- ---- unlinked pages
 
 -- the page of this number is in a chain
 pub record IsInChain (levels : Levels) (number : ℕ) : Type 0 where
@@ -41,7 +41,7 @@ pub record IsUnlinked (tree_state : TreeState) (number : ℕ) : Type 0 where
   pub under_way : tree_state.machines worker ≡ Some m
   pub unlinked : unlinked_of m ≡ Some number
 
--- each page is in a chain or is the new page of one operation, and of one alone
+-- each page is in a chain or is the new page of exactly one operation
 pub record PagesArePlaced (tree_state : TreeState) (levels : Levels) : Type 0 where
   pub placed : (number : ℕ) (page : PlainPage) → tree_state.pages number ≡ Some page
       → IsInChain levels number ⊎ IsUnlinked tree_state number
@@ -51,8 +51,8 @@ pub record PagesArePlaced (tree_state : TreeState) (levels : Levels) : Type 0 wh
       → tree_state.machines other ≡ Some n
       → unlinked_of m ≡ Some number → unlinked_of n ≡ Some number → worker ≡ other
 
--- what the new page of an operation has: the upper half of a page, which keeps its entries until the lower half is written
--- over it; or a new root over two halves, until the prime block names it
+-- the content of an operation's new page: the upper half of a page, which has those entries too until the lower half replaces
+-- it; or a new root over two halves, until the prime block names it
 pub data HasContent (tree_state : TreeState) (m : PlainMachine) (page : PlainPage) : Type 0 where
   is_upper_half : (number : ℕ) (whole lower : PlainPage) (debt : Debt)
       → m.state ≡ SplitOld number lower debt
@@ -62,13 +62,13 @@ pub data HasContent (tree_state : TreeState) (m : PlainMachine) (page : PlainPag
       → m.state ≡ NewPrime left debt root prime
       → page ≡ root_over (debt.level + 1) debt.separator left debt.page → HasContent tree_state m page
 
--- the page of this number is there, with what the operation gave it
+-- the page of this number exists, with the content that the operation gave it
 pub record IsWritten (tree_state : TreeState) (m : PlainMachine) (number : ℕ) : Type 0 where
   pub page : PlainPage
   pub there : tree_state.pages number ≡ Some page
   pub content : HasContent tree_state m page
 
--- pages outside chains are the new pages of operations, which have written them
+-- unlinked pages are the new pages of operations, which have written them
 pub record NewPagesStandOutside (tree_state : TreeState) (levels : Levels) : Type 0 where
   pub placed : PagesArePlaced tree_state levels
   pub written : (worker number : ℕ) (m : PlainMachine) → tree_state.machines worker ≡ Some m
@@ -80,14 +80,14 @@ pub record NewPagesStandOutside (tree_state : TreeState) (levels : Levels) : Typ
 abbrev pub EachRefers : Levels → Type 0
 EachRefers levels = (level : ℕ) → Refers (levels level) None (entries_along (levels (level + 1)))
 
--- chains, of which each refers to the one below
+-- chains, each of which refers to the one below
 pub record IsTree (fan : ℕ) (prime : List ℕ) (pages : Pages) (levels : Levels) : Type 0 where
   pub chains : LevelsAreChains fan prime pages levels
   pub refers : EachRefers levels
 
 -- ---- debts
 
--- the key is a debt of the level: a high key below the greatest, and no separator of the level above
+-- the key is a debt of the level: a high key below the greatest key, and no separator of the level above
 pub record IsDebt (levels : Levels) (level key : ℕ) : Type 0 where
   pub is_high_key : IsHighKey (levels level) key
   pub below_greatest : key < GREATEST_KEY
@@ -106,7 +106,7 @@ pub record IsOwed (tree_state : TreeState) (level separator : ℕ) : Type 0 wher
   pub same_level : debt.level ≡ level
   pub same_separator : debt.separator ≡ separator
 
--- each debt is owed by exactly one operation, together with the page that it leads to; and operations owe nothing else
+-- exactly one operation owes each debt, together with the page that the debt leads to; and operations owe nothing else
 pub record DebtsAreOwed (tree_state : TreeState) (levels : Levels) : Type 0 where
   pub owed : (level separator : ℕ) → IsDebt levels level separator → IsOwed tree_state level separator
   pub is_debt : (worker : ℕ) (m : PlainMachine) (debt : Debt) → IsOwing tree_state worker m debt
@@ -118,20 +118,20 @@ pub record DebtsAreOwed (tree_state : TreeState) (levels : Levels) : Type 0 wher
 
 -- ---- the growing top
 
--- an operation has split the page, and has asked no prime block since, or is making a new root
+-- an operation has split the page, and has not asked the prime block since, or is making a new root
 pub record IsSplitBy (tree_state : TreeState) (page : ℕ) : Type 0 where
   pub worker : ℕ
   pub m : PlainMachine
   pub under_way : tree_state.machines worker ≡ Some m
   pub split : split_of m ≡ Some page
 
--- where the top level has more than one page, its leftmost page is split by such an operation
+-- if the top level has more than one page, such an operation has split its leftmost page
 abbrev pub TopIsGrowing : TreeState → Levels → Type 0
 TopIsGrowing tree_state levels = (level leftmost : ℕ) → length tree_state.prime ≡ level + 1
     → slice_get tree_state.prime level ≡ Some leftmost
     → 2 ≤ length (levels level) → IsSplitBy tree_state leftmost
 
--- and whoever has split a page so keeps its latch
+-- the operation that has split a page so holds its latch
 pub record TopGrowsUnderLatch (tree_state : TreeState) (levels : Levels) : Type 0 where
   pub growing : TopIsGrowing tree_state levels
   pub latched : (worker page : ℕ) (m : PlainMachine) → tree_state.machines worker ≡ Some m

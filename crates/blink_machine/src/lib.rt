@@ -1,4 +1,4 @@
-//! The machine of one operation on its way through a B-link tree, one atomic step at a time over any memory, and the law that
+//! The machine of one operation on a B-link tree, one atomic step at a time over any memory, and the law of the invariant that
 //! each of its steps keeps.
 #![tactic(auto)]
 

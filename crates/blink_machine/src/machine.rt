@@ -1,4 +1,4 @@
-//! One operation on its way through a tree, over any pages: the state that it is in, and what it needs next.
+//! One operation on a tree, over any pages: the state that it is in, and the step that it needs next.
 
 ghost use Rattle.std.specs.Prelude.{◌≡◌, ◌↔◌, IsTrue, reverse};
 ghost use Rattle.blink_page.specs.{IsFan};
@@ -14,72 +14,72 @@ use blink_batch::{Answer, Op};
 use blink_page::{Page, Prime};
 use std::marker::Model;
 
-/// What a split owes: the separator of two pages of a level, and the number of the new one. It is to be posted to the
+/// What a split owes: the separator between its two pages, and the number of the new page. The operation has to post both to the
 /// level above.
 #[derive(Clone, Copy, Debug, PartialEq, Eq)]
 pub struct Debt {
     /// The level of the two pages.
     pub level: u8,
-    /// The high key of the old one, which has the lower half.
+    /// The high key of the old page, which has the lower half.
     pub separator: u64,
-    /// The number of the new one.
+    /// The number of the new page.
     pub page: u32,
 }
 
-/// What an operation is about: its own key, on a leaf, or what a split below owes, on the level above it.
+/// What an operation works on: its own key, on a leaf, or the debt of a split below, on the level above that split.
 #[derive(Clone, Copy, Debug, PartialEq, Eq)]
 pub enum Job {
     /// The operation's own key.
     Leaf,
-    /// This debt of a split of its own.
+    /// This debt, from a split of the operation's own.
     Parent(Debt),
 }
 
-/// Where an operation goes from a page whose latch it lets go.
+/// Where an operation goes from a page after it releases the page's latch.
 #[derive(Clone, Copy, Debug, PartialEq, Eq)]
 pub enum Next {
-    /// Nowhere: it ends.
+    /// The operation ends.
     Finish,
-    /// To the page that its right link leads to.
+    /// To the page that the right link names.
     MoveRight(u32),
-    /// To the level above, with what its split owes.
+    /// To the level above, to post this debt.
     Post(Debt),
 }
 
-/// Where an operation is: the states of the table, each with what it has to know there. The first number of each is the page that
-/// it is about to read, latch, write or leave.
+/// The state of an operation: the states of the table, each with what the operation has to know there. The first number of each
+/// is the page that the operation is about to read, latch, write or leave.
 #[derive(Debug, Drop)]
 pub enum State {
-    /// Before the prime block read that begins it.
+    /// Before the read of the prime block that begins the operation.
     Start,
-    /// On its way down: the page that it reads next, and that page's level.
+    /// In its descent, with the page that it reads next, and that page's level.
     Going(u32, u8),
-    /// It wants the page's latch.
+    /// Wants the page's latch.
     Want(u32),
-    /// It has the page's latch and reads the page again.
+    /// Holds the page's latch; next it reads the page again.
     Held(u32),
-    /// It writes the page with its change. The last part is what a leaf keeps under the key before.
+    /// Writes the page with its change. The last part is the pointer that a leaf had for the key before.
     Change(u32, Page, Option<u64>),
-    /// It writes the upper half of the page, which it has read, as a new page.
+    /// Writes the upper half of the page, which it has read, as a new page.
     SplitNew(u32, Page),
-    /// It writes the lower half in the page's place, which links to the new page of the debt.
+    /// Writes the lower half in place of the page. The lower half links to the new page of the debt.
     SplitOld(u32, Page, Debt),
-    /// It has split the page and asks the prime block whether that was the root.
+    /// Has split the page; next it asks the prime block whether that page was the root.
     AskPrime(u32, Debt),
-    /// It writes a new root over the two halves of the old one; it has read this prime block.
+    /// Writes a new root over the two halves of the old one. It has read this prime block.
     Root(u32, Debt, Prime),
-    /// It writes the prime block with the new root, of this number, added.
+    /// Writes the prime block with the new root added. The third part is the root's number.
     NewPrime(u32, Debt, u32, Prime),
-    /// It lets the page's latch go.
+    /// Releases the page's latch.
     Leave(u32, Next),
-    /// It has to post to a level of which it remembers no page, and reads the prime block for the leftmost.
+    /// Has to post to a level of which it remembers no page; next it reads the prime block for the leftmost page.
     Posting,
-    /// It has ended.
+    /// Has ended.
     Ended,
 }
 
 impl State {
-    // Goes on to another page. A state has room for a whole page, so that on the way down only what differs is written.
+    // Goes on to another page. A state has room for a whole page, so a descent writes only what differs.
     fn go(&mut self, page: u32, level: u8)
         ensures { self.new ≡ State.Going page level }
     {
@@ -92,41 +92,40 @@ impl State {
     }
 }
 
-/// The step that comes next of an operation.
+/// The next step of an operation.
 #[derive(Clone, Copy, Debug, PartialEq, Eq)]
 pub enum Need {
-    /// The prime block is to be read and shown to `saw_prime`.
+    /// Read the prime block, and hand it to `saw_prime`.
     ReadPrime,
-    /// The page of this number is to be read and shown to `saw_page`.
+    /// Read the page of this number, and hand it to `saw_page`.
     ReadPage(u32),
-    /// This page's latch is to be got, or waited for.
+    /// Get this page's latch, or wait for it.
     Latch(u32),
-    /// `page_out` is to be written as a new page, at a number that no page has.
+    /// Write `page_out` as a new page, under a number that no page has.
     WriteNew,
-    /// `page_out` is to be written over the page of this number.
+    /// Replace the page of this number by `page_out`.
     WritePage(u32),
-    /// `prime_out` is to be written over the prime block.
+    /// Replace the prime block by `prime_out`.
     WritePrime,
-    /// This page's latch is to be let go.
+    /// Release this page's latch.
     Unlatch(u32),
     /// The operation has ended.
     End,
 }
 
-/// The state of one operation on its way through a tree whose pages have at most `fan` entries, over whatever memory keeps
-/// the pages: whoever runs it does the step that `need` tells, and then tells it, by `saw_prime` and `saw_page` after a read
-/// and by `done` after any other step. It takes no memory. That each step of it is one that a tree bears, whatever other
-/// operations do between, is the law `step_keeps`; the table of states is that of Lehman and Yao, with deletions, replacements
-/// and a prime block.
+/// One operation on a tree whose pages have at most `fan` entries, over whatever memory holds the pages. Whoever runs it takes
+/// the step that `need` returns. Then the runner reports the step: by `saw_prime` or `saw_page` after a read, by `done` after
+/// any other step. The machine takes no memory. The law `step_keeps` states that a tree admits each of its steps, whatever other
+/// operations do in between. The table of states is that of Lehman and Yao 1981, with deletions, replacements and a prime block.
 #[derive(Debug, Drop)]
 pub struct Machine {
     fan: u8,
     op: Op,
     job: Job,
-    // The pages that it looked at last on each inner level.
+    // The page that the operation read last on each inner level.
     remembered: Remembered,
     state: State,
-    // From its deciding step on.
+    // `Some` from the deciding step on.
     answer: Option<Answer>,
 }
 
@@ -144,7 +143,7 @@ impl Model for Machine {
 }
 
 impl Machine {
-    /// The operation before the prime block read that begins it. `fan` is 4 to 32.
+    /// Makes the operation in its state before the read of the prime block that begins it. `fan` is 4 to 32.
     pub fn new(op: Op, fan: u8) -> Machine
         requires { IsFan fan }
         ensures { result ≡ fresh fan op }
@@ -159,7 +158,7 @@ impl Machine {
         }
     }
 
-    /// The step that comes next.
+    /// Returns the step that comes next.
     pub fn need(&self) -> Need
         ensures { result ≡ need_at self.now.state }
     {
@@ -175,21 +174,21 @@ impl Machine {
         }
     }
 
-    /// What it answers: some answer from its deciding step on.
+    /// Returns the operation's answer: `Some` from its deciding step on.
     pub fn answer(&self) -> Option<Answer>
         ensures { result ≡ self.now.answer }
     {
         self.answer
     }
 
-    /// Whether it has ended, so that nothing of it is left to do.
+    /// Returns whether the operation has ended, so that nothing is left to do.
     pub fn ended(&self) -> bool
         ensures { IsTrue result ↔ self.now.state ≡ State.Ended }
     {
         matches!(self.state, State::Ended)
     }
 
-    /// The key that its job is about.
+    /// Returns the key that the operation's job is about.
     pub fn target(&self) -> u64
         ensures { result ≡ target self.now }
     {
@@ -199,29 +198,29 @@ impl Machine {
         }
     }
 
-    /// Where it is.
+    /// Returns the operation's state.
     pub fn state(&self) -> &State
         ensures { result.now ≡ self.now.state }
     {
         &self.state
     }
 
-    /// What it is about.
+    /// Returns the operation's job.
     pub fn job(&self) -> Job
         ensures { result ≡ self.now.job }
     {
         self.job
     }
 
-    /// The pages that it remembers of its way down, one of each level above its job's that it has not gone back to, the top level
-    /// first.
+    /// Returns the pages that the operation remembers of its descent, the top level first. There is one for each level above its
+    /// job's to which it has not gone back.
     pub fn remembered(&self) -> &[u32]
         ensures { self.now.remembered ≡ reverse result.now }
     {
         self.remembered.pages()
     }
 
-    // What its job brings into a page.
+    // The value that the job adds to a page.
     fn value(&self) -> u64
         ensures { result ≡ value_of_job self.now.op self.now.job }
     {
@@ -231,7 +230,7 @@ impl Machine {
         }
     }
 
-    // Decides: answers, and goes on.
+    // Decides: sets the answer, and goes on.
     fn decide(&mut self, state: State, answer: Answer)
         requires { KeptAt self.old state }
         ensures { self.new ≡ answered self.old state answer }

@@ -1,11 +1,11 @@
-//! The pages that an operation remembers on its way down.
+//! The pages that an operation remembers of its descent.
 ghost use Rattle.std.specs.Prelude.{◌≡◌, ◌<◌, [], ◌∷◌, length, reverse, MatchOption};
 
 use arrayvec::ArrayVec;
 use blink_page::LEVELS;
 use std::marker::Model;
 
-/// The pages that an operation looked at last, one a level. Contracts see the lowest level first.
+/// The page that an operation read last on each level. Contracts see the lowest level first.
 #[derive(Debug, Drop)]
 pub(crate) struct Remembered {
     // The top level first.
@@ -21,7 +21,7 @@ impl Model for Remembered {
 }
 
 impl Remembered {
-    /// None yet.
+    /// No pages.
     pub(crate) fn new() -> Remembered
         ensures { result ≡ [] }
     {
@@ -45,7 +45,7 @@ impl Remembered {
         self.pages.push(page);
     }
 
-    /// Forgets the page of the lowest level, to go there.
+    /// Removes the remembered page of the lowest level, and returns it.
     pub(crate) fn pop(&mut self) -> Option<u32>
         ensures { MatchOption result
             ((self.old ≡ []) × (self.new ≡ []))

@@ -1,6 +1,6 @@
 //! The atomic steps.
 
-/// One atomic step that a worker has taken, with the number of the page that it was about.
+/// One atomic step that a worker has taken, with the number of the step's page.
 #[derive(Clone, Copy, Debug, PartialEq, Eq)]
 pub enum Kind {
     ReadPage(u32),
@@ -11,12 +11,12 @@ pub enum Kind {
     WritePrime,
 }
 
-/// What became of a worker's turn.
+/// The result of a worker's turn.
 #[derive(Clone, Copy, Debug, PartialEq, Eq)]
 pub enum Step {
-    /// A step was taken.
+    /// The worker took a step.
     Moved(Kind),
-    /// The page's latch is another's, or the level to post to isn't there yet. Nothing changed.
+    /// The page's latch is another worker's, or the level to post to isn't there yet. Nothing changed.
     Waited,
     /// The worker's lane is at its end. Nothing changed.
     Idle,

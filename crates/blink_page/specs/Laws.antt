@@ -1,4 +1,4 @@
--- Laws of postings, whatever the page.
+-- Laws of postings, for any page.
 use Rattle.std.specs.Prelude.{◌≡◌, ◌≢◌, ℕ, List}
 use Rattle.blink_page.specs.Entries.{posted}
 

@@ -2,23 +2,23 @@
 
 -- a page of the tree as plain data, and what makes it lawful
 pub use Rattle.blink_page.specs.Page.{IsKeyOf, IsLawfulPage, PlainPage, empty_leaf, entries_with, root_over, with_entries}
--- the entries of a page as a list of a key and a value each: look-ups, and the list after a change
+-- the entries of a page as a list of pairs of a key and a value: look-ups, and the list after a change
 pub use Rattle.blink_page.specs.Entries.{ValuesWithin, added, child_for, last_key, posted, removed, replaced, value_at}
--- ascending keys: what a list of entries spans, from a least key to an end that is excluded
+-- ascending keys: the range of a list of entries, from a least key to an excluded end
 pub use Rattle.blink_page.specs.Rising.{IsRising, least_above}
 -- where a search for a key goes from a page
 pub use Rattle.blink_page.specs.Way.{Leads}
--- facts for one answer of a `put`
+-- facts for one result of a `put`
 pub use Rattle.blink_page.specs.Put.{IfPresent, UnlessPresent}
--- facts for one answer of a `post`
+-- facts for one result of a `post`
 pub use Rattle.blink_page.specs.Post.{OnAlready, UnlessAlready}
--- how a full page with one entry more is split in two
+-- the split of a full page with one more entry
 pub use Rattle.blink_page.specs.Split.{kept_count, lower_half, separator_of, upper_half}
--- how many entries a page may have, and which numbers a page may have
+-- the bounds of a page's number of entries, and of page numbers
 pub use Rattle.blink_page.specs.Limits.{ExceedsPageLimit, IsFan, IsPageNumber}
--- laws of postings, whatever the page
+-- laws of postings, for any page
 pub use Rattle.blink_page.specs.Laws.{PostingsCommute}
--- where a search within a page ends
+-- the end of a search within a page
 pub use Rattle.blink_page.specs.Place.{place_of}
 -- by their file, since they have its name or another file's word: Put.{OnDone, OnFull, UnlessDone}; Post.{OnDone, OnFull, UnlessDone}
 

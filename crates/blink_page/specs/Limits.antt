@@ -1,15 +1,15 @@
--- How many entries a page may have, and which numbers a page may have.
+-- The bounds of a page's number of entries, and of page numbers.
 use Rattle.std.specs.Prelude.{ℕ, ◌+◌, ◌*◌, ◌<◌, ◌≤◌}
 use Rattle.blink_page.specs.declared.limits.TheConstants.{MIN_FAN, MAX_FAN, MAX_PAGE, MAX_NEW_PAGES_PER_INSERT}
 
--- the most entries that a page of some tree has
+-- a tree may allow its pages this many entries
 abbrev pub IsFan : ℕ → Type 0
 IsFan fan = (MIN_FAN ≤ fan) × (fan ≤ MAX_FAN)
 
--- a number that a page may have: 0 is the prime block's
+-- a page may have this number; number 0 is the prime block's
 abbrev pub IsPageNumber : ℕ → Type 0
 IsPageNumber number = (1 ≤ number) × (number ≤ MAX_PAGE)
 
--- so many insertions into a tree of so many pages might need more page numbers than there are, with the prime block's
+-- this many insertions into a tree of this many pages might need more page numbers than exist, the prime block's included
 abbrev pub ExceedsPageLimit : ℕ → ℕ → Type 0
 ExceedsPageLimit pages inserts = MAX_PAGE + 1 < 1 + pages + MAX_NEW_PAGES_PER_INSERT * inserts

@@ -5,8 +5,8 @@ use Rattle.blink_page.specs.Rising.{least_above, IsRising, Covers}
 use Rattle.blink_page.specs.Entries.{added, posted, ValuesWithin}
 use Rattle.blink_page.specs.declared.limits.TheConstants.{MAX_LEVEL, MAX_PAGE, GREATEST_KEY}
 
--- level 0 is a leaf; the keys are those above the floor and at most the high key;
--- right is the next page of the level; a leaf's entries have values, an inner page's children
+-- level 0 is a leaf; the keys are those above the floor and at most the high key; `right` is the next page of the level; a
+-- leaf's entries have values, an inner page's entries children
 pub record PlainPage : Type 0 where
   pub level : ℕ
   pub floor : Option ℕ
@@ -18,13 +18,13 @@ pub record PlainPage : Type 0 where
 abbrev pub IsKeyOf : PlainPage → ℕ → Type 0
 IsKeyOf p key = (least_above p.floor ≤ key) × (key ≤ p.high)
 
--- the separators reach up to the high key, which is the last, and so each of the page's keys has a child
+-- the separators reach up to the high key, which is the last one, so each of the page's keys has a child
 pub record HasChildren (p : PlainPage) : Type 0 where
   pub two_at_least : 2 ≤ length p.entries
   pub last_is_high : Covers (least_above p.floor) p.entries (p.high + 1)
   pub children : ValuesWithin 1 MAX_PAGE p.entries
 
--- what a page keeps wherever it stands, and at most fan entries
+-- what holds of a page wherever it stands, with at most `fan` entries
 pub record IsLawfulPage (fan : ℕ) (p : PlainPage) : Type 0 where
   pub level_in_range : p.level ≤ MAX_LEVEL
   pub high_in_range : p.high ≤ GREATEST_KEY

@@ -1,4 +1,4 @@
--- What a contract sees of a `Page`.
+-- A `Page` as a contract sees it.
 use Rattle.blink_page.specs.Page.{PlainPage}
 use Rattle.blink_page.specs.declared.page.Page.TheInside.{Inside}
 

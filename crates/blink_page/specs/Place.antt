@@ -1,7 +1,7 @@
--- Where a search within a page ends.
+-- The end of a search within a page.
 use Rattle.std.specs.Prelude.{ℕ, suc, nat_le, if◌then◌else◌, List, [], ◌∷◌}
 
--- how many entries stand before the first whose key is at least this one
+-- the number of entries before the first whose key is at least `key`
 abbrev pub place_of : ℕ → List (ℕ × ℕ) → ℕ
 place_of key [] = 0
 place_of key ((k, v) ∷ rest) = if nat_le key k then 0 else suc (place_of key rest)

@@ -1,32 +1,32 @@
--- Facts for one answer of a `post`.
+-- Facts for one result of a `post`.
 use Rattle.blink_page.specs.declared.post.Post.{Post}
 use Rattle.blink_page.specs.declared.post.Post.TheVariants.{Done, Already, Full}
 
--- the fact, where the separator was posted
+-- the fact, if the separator was posted
 abbrev pub OnDone : Post → Type 0 → Type 0
 OnDone Done fact = fact
 OnDone Already fact = Unit {0}
 OnDone Full fact = Unit {0}
 
--- the fact, where it was not
+-- the fact, if the separator wasn't posted
 abbrev pub UnlessDone : Post → Type 0 → Type 0
 UnlessDone Done fact = Unit {0}
 UnlessDone Already fact = fact
 UnlessDone Full fact = fact
 
--- the fact, where the separator was there
+-- the fact, if the separator was present
 abbrev pub OnAlready : Post → Type 0 → Type 0
 OnAlready Done fact = Unit {0}
 OnAlready Already fact = fact
 OnAlready Full fact = Unit {0}
 
--- the fact, where it was not there
+-- the fact, if the separator was absent
 abbrev pub UnlessAlready : Post → Type 0 → Type 0
 UnlessAlready Done fact = fact
 UnlessAlready Already fact = Unit {0}
 UnlessAlready Full fact = fact
 
--- the fact, where the page was full
+-- the fact, if the page was full
 abbrev pub OnFull : Post → Type 0 → Type 0
 OnFull Done fact = Unit {0}
 OnFull Already fact = Unit {0}

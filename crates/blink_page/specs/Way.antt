@@ -5,7 +5,8 @@ use Rattle.blink_page.specs.Page.{PlainPage}
 use Rattle.blink_page.specs.declared.search.Way.{Way}
 use Rattle.blink_page.specs.declared.search.Way.TheVariants.{Right, Down, Here}
 
--- a key above the high key is to the right; else it is here on a leaf, and below the first separator at least key
+-- a key above the high key is to the right; otherwise it is here on a leaf, or below the first separator that is at least the
+-- key
 abbrev pub Leads : PlainPage → ℕ → Way → Type 0
 Leads p key (Right page) = (p.high < key) × (p.right ≡ Some page)
 Leads p key (Down page) = (key ≤ p.high) × (0 < p.level) × (child_for key p.entries ≡ Some page)

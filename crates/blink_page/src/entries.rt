@@ -1,4 +1,4 @@
-//! Changes of a list of entries, whatever its room.
+//! Changes of a list of entries, for any capacity of the list.
 ghost use Rattle.std.specs.Prelude.{◌≡◌, ◌+◌, ◌<◌, ◌≤◌, length, slice_set};
 ghost use Rattle.arrayvec.specs.ArrayVec.{array_vec_len};
 ghost use Rattle.blink_page.specs.Entries.{added, posted};
@@ -8,7 +8,7 @@ ghost use Rattle.blink_page.specs.Rising.{Rises};
 use crate::search::place;
 use arrayvec::ArrayVec;
 
-/// A list of these entries.
+/// Returns a list of these entries.
 pub(crate) fn copied<const ROOM: usize>(entries: &[(u64, u64)]) -> ArrayVec<(u64, u64), ROOM>
     requires { length entries.now ≤ ROOM }
     ensures { result.items ≡ entries.now }
@@ -29,7 +29,7 @@ pub(crate) fn add<const ROOM: usize>(items: &mut ArrayVec<(u64, u64), ROOM>, key
     items.insert(at, (key, value));
 }
 
-/// Puts another entry in the place of the first whose key is at least `key`.
+/// Replaces the first entry whose key is at least `key`.
 pub(crate) fn set_among<const ROOM: usize>(
     items: &mut ArrayVec<(u64, u64), ROOM>,
     key: u64,
@@ -43,7 +43,8 @@ pub(crate) fn set_among<const ROOM: usize>(
     items[at] = (key, value);
 }
 
-/// Posts a separator: the first entry at or above it goes on to the new child, and its own child moves to the separator.
+/// Posts a separator: the first entry whose key is at least the separator gets the new child, and its own child moves to the
+/// separator.
 pub(crate) fn post_among<const ROOM: usize>(
     items: &mut ArrayVec<(u64, u64), ROOM>,
     separator: u64,

@@ -1,4 +1,4 @@
-//! One page of a B-link tree: what it keeps, how a search reads it, and how it changes and splits.
+//! One page of a B-link tree: what it holds, how a search reads it, and how it changes and splits.
 //!
 //! Contracts see a page as plain data, the record `PlainPage`. No call takes memory.
 #![tactic(auto)]

@@ -1,4 +1,4 @@
-//! A page, and how new ones are made.
+//! A page, and how new pages are made.
 ghost use Rattle.std.specs.Prelude.{◌≡◌, ◌<◌, ◌≤◌};
 ghost use Rattle.blink_page.specs.Limits.{IsPageNumber};
 ghost use Rattle.blink_page.specs.Page.{empty_leaf, root_over};
@@ -8,12 +8,12 @@ use crate::limits::{GREATEST_KEY, MAX_FAN, MAX_LEVEL};
 use arrayvec::ArrayVec;
 use std::marker::Model;
 
-/// A page of the tree: a leaf, of level 0, or an inner page.
+/// A page of the tree: a leaf, of level 0, or an inner page (Lehman and Yao 1981, the B-link tree).
 ///
-/// Its keys are those above `floor` and at most `high`. `floor` is `None` on the leftmost page of a level, and `high` is
-/// the greatest number on the last, which alone has no link to the `right`. A link is a page's number, from 1 to `MAX_PAGE`.
-/// A leaf's items are keys with their values, an inner page's are separators with the numbers of their children (Lehman and
-/// Yao 1981, the B-link tree).
+/// Its keys are those above `floor` and at most `high`. `floor` is `None` on the leftmost page of a level. On the last page of a
+/// level `high` is the greatest number; that page alone has no link to the `right`. A link is a page's number, from 1 to
+/// `MAX_PAGE`. The items of a leaf are keys with their values. The items of an inner page are separators with the numbers of
+/// their children.
 #[derive(Debug, Drop, PartialEq, Eq)]
 pub struct Page {
     pub level: u8,
@@ -39,7 +39,7 @@ impl Model for Page {
 }
 
 impl Page {
-    /// The page of a new tree: an empty leaf for all keys.
+    /// Makes the page of a new tree: an empty leaf for all keys.
     pub fn leaf() -> Page
         ensures { result ≡ empty_leaf }
     {
@@ -52,7 +52,7 @@ impl Page {
         }
     }
 
-    /// A root over the two pages into which the old root was split: `left` has the keys up to `separator`, `right` those
+    /// Makes a root over the two pages into which the old root was split. `left` has the keys up to `separator`, `right` those
     /// above it.
     pub fn root(level: u8, separator: u64, left: u32, right: u32) -> Page
         requires inner { 1 ≤ level }
@@ -74,7 +74,7 @@ impl Page {
         }
     }
 
-    /// The same page once more. It takes no memory.
+    /// Copies the page. The call takes no memory.
     pub fn copy(&self) -> Page
         ensures { result ≡ self.now }
     {

@@ -7,7 +7,7 @@ ghost use Rattle.blink_page.specs.Page.{IsKeyOf, with_entries};
 use crate::entries::post_among;
 use crate::page::Page;
 
-/// What became of a separator that was posted.
+/// The result of a posting.
 #[derive(Clone, Copy, Debug, PartialEq, Eq)]
 pub enum Post {
     Done,
@@ -18,7 +18,7 @@ pub enum Post {
 impl Page {
     ghost use Rattle.blink_page.specs.Post.{OnDone, UnlessDone, OnAlready, UnlessAlready, OnFull};
 
-    /// Posts a split of a child: it keeps the keys up to `separator`, and `child` is the new page for those above. A full
+    /// Posts a split of a child: the child has the keys up to `separator`, and `child` is the new page for those above. A full
     /// page stays as it is, to be split.
     pub fn post(&mut self, fan: u8, separator: u64, child: u32) -> Post
         requires fan { IsFan fan }
@@ -27,7 +27,7 @@ impl Page {
         requires child { IsPageNumber child }
         requires at_most_fan { length self.old.entries ≤ fan }
 
-        // Whether the separator is there comes before whether the page is full.
+        // The separator's presence is checked before the page's fullness.
         ensures already { OnAlready result (IsSome (value_at separator self.old.entries)) }
         ensures absent { UnlessAlready result (value_at separator self.old.entries ≡ None) }
         ensures full { OnFull result (length self.old.entries ≡ fan) }

@@ -6,8 +6,8 @@ use crate::limits::LEVELS;
 use arrayvec::ArrayVec;
 use std::marker::Model;
 
-/// The prime block: the numbers of the leftmost pages, level 0 first (Lehman and Yao 1981). The last is the
-/// leftmost page of the top level. There is one at least, and each is from 1 to `MAX_PAGE`.
+/// The prime block: the numbers of the leftmost pages, level 0 first (Lehman and Yao 1981). The last is the leftmost page of the
+/// top level. The prime block names at least one page, and each number is from 1 to `MAX_PAGE`.
 #[derive(Debug, Drop, PartialEq, Eq)]
 pub struct Prime {
     pub leftmost: ArrayVec<u32, LEVELS>,
@@ -27,7 +27,7 @@ impl Model for Prime {
 }
 
 impl Prime {
-    /// The prime block of a new tree, whose only page is page 1.
+    /// Makes the prime block of a new tree, whose only page is page 1.
     pub fn new() -> Prime
         ensures { result ≡ 1 ∷ [] }
     {
@@ -36,7 +36,7 @@ impl Prime {
         Prime { leftmost }
     }
 
-    /// Names the only page of a new top level.
+    /// Adds the only page of a new top level.
     pub fn grow(&mut self, page: u32)
         requires room { length self.old < LEVELS }
         requires page_number { IsPageNumber page }
@@ -45,7 +45,7 @@ impl Prime {
         self.leftmost.push(page);
     }
 
-    /// The same prime block once more. It takes no memory.
+    /// Copies the prime block. The call takes no memory.
     pub fn copy(&self) -> Prime
         ensures { result ≡ self.now }
     {

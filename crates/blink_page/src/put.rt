@@ -7,7 +7,7 @@ ghost use Rattle.blink_page.specs.Page.{IsKeyOf, with_entries};
 use crate::entries::add;
 use crate::page::Page;
 
-/// What became of an entry that was put: `Present` has the value that the key had already.
+/// The result of a put. `Present` has the value that the key had already.
 #[derive(Clone, Copy, Debug, PartialEq, Eq)]
 pub enum Put {
     Done,
@@ -18,14 +18,14 @@ pub enum Put {
 impl Page {
     ghost use Rattle.blink_page.specs.Put.{OnDone, UnlessDone, IfPresent, UnlessPresent, OnFull};
 
-    /// Adds an entry to a leaf, unless its key is there. A full page stays as it is, to be split.
+    /// Adds an entry to a leaf, unless its key is present. A full page stays as it is, to be split.
     pub fn put(&mut self, fan: u8, key: u64, value: u64) -> Put
         requires fan { IsFan fan }
         requires leaf { self.old.level ≡ 0 }
         requires key { IsKeyOf self.old key }
         requires at_most_fan { length self.old.entries ≤ fan }
 
-        // Whether the key is there comes before whether the page is full.
+        // The key's presence is checked before the page's fullness.
         ensures present { IfPresent result (λ found. value_at key self.old.entries ≡ Some found) }
         ensures absent { UnlessPresent result (value_at key self.old.entries ≡ None) }
         ensures full { OnFull result (length self.old.entries ≡ fan) }

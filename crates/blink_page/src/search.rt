@@ -1,4 +1,5 @@
-//! Searches within a page. A search of the tree reads pages under no latch, an update its own page under one.
+//! Searches within a page. A search of the tree reads pages under no latch. An update reads the page that it changes under that
+//! page's latch.
 ghost use Rattle.std.specs.Prelude.{◌≡◌, ◌<◌, ◌≤◌, ◌+◌, ◌*◌, Some, length};
 ghost use Rattle.blink_page.specs.Entries.{value_at, child_for};
 ghost use Rattle.blink_page.specs.Place.{place_of};
@@ -18,8 +19,8 @@ pub enum Way {
 impl Page {
     ghost use Rattle.blink_page.specs.Way.{Leads};
 
-    /// The next step of a search for `key` (Lehman and Yao 1981, the search algorithm): a key above the high key has gone
-    /// to the right by a split that the page above does not show yet.
+    /// Returns the next step of a search for `key` (Lehman and Yao 1981, the search algorithm). A key above the high key has
+    /// gone to the right by a split that the page above does not show yet.
     pub fn way(&self, key: u64) -> Way
         ensures { Leads self.now key result }
     {
@@ -30,7 +31,7 @@ impl Page {
         }
     }
 
-    /// The value of the entry with this key.
+    /// Returns the value of the entry with this key.
     pub fn look(&self, key: u64) -> Option<u64>
         ensures { result ≡ value_at key self.now.entries }
     {
@@ -42,7 +43,7 @@ impl Page {
         if found == key { Some(value) } else { None }
     }
 
-    // The child below which a key is that is not to the right.
+    // The child for a key that is at most the high key.
     fn child(&self, key: u64) -> u32
         requires inner { 0 < self.now.level }
         requires not_right { key ≤ self.now.high }
@@ -53,13 +54,13 @@ impl Page {
     }
 }
 
-// How many entries a line of the processor's cache has, at 64 bytes a line.
+// The number of entries in a cache line of the processor, at 64 bytes a line.
 const LINE: usize = 4;
 
-/// How many entries stand before the first whose key is at least `key`.
+/// Returns the number of entries before the first whose key is at least `key`.
 ///
-/// It asks the last key of each line of the cache whether the line is passed, and then each of four keys, all without
-/// a branch on a key: at 16 and at 32 entries that takes less time than to stop at the first, or than a search by halves.
+/// It compares the last key of each cache line, to count the lines that it passes, and then each of four keys, all without a
+/// branch on a key. At 16 and at 32 entries that takes less time than to stop at the first such entry, or than a binary search.
 pub(crate) fn place(entries: &[(u64, u64)], key: u64) -> usize
     requires rise { Rises entries.now }
     ensures place { result ≡ place_of key entries.now }
@@ -89,7 +90,7 @@ fn place_from_front(entries: &[(u64, u64)], key: u64) -> usize
     entries.len()
 }
 
-// How many whole lines stand before the place of the key.
+// The number of whole lines before the place of the key.
 fn lines_passed(entries: &[(u64, u64)], key: u64) -> usize
     requires rise { Rises entries.now }
     ensures passed { LINE * result ≤ place_of key entries.now }

@@ -12,9 +12,9 @@ use crate::page::Page;
 use arrayvec::ArrayVec;
 
 impl Page {
-    /// Splits a full page that gets one entry more: the lower page, which takes its place, the upper page, which gets the
-    /// number `new`, and the separator between them (Lehman and Yao 1981, the insertion algorithm). On a leaf the entry is
-    /// added, on an inner page it is posted.
+    /// Splits a full page that gets one more entry (Lehman and Yao 1981, the insertion algorithm). It returns the lower page,
+    /// which replaces the full page, the upper page, which gets the number `new`, and the separator between them. On a leaf the
+    /// entry is added, on an inner page it is posted.
     pub fn split_with(&self, fan: u8, key: u64, value: u64, new: u32) -> (Page, Page, u64)
         requires fan { IsFan fan }
         requires full { length self.now.entries ≡ fan }
@@ -38,7 +38,8 @@ impl Page {
         (lower, upper, separator)
     }
 
-    /// The lower page of `split_with` alone, for who writes the two pages in two steps. Its high key is the separator.
+    /// Returns the lower page of `split_with` alone, for a caller that writes the two pages in two steps. Its high key is the
+    /// separator.
     pub fn lower_with(&self, fan: u8, key: u64, value: u64, new: u32) -> Page
         requires fan { IsFan fan }
         requires full { length self.now.entries ≡ fan }
@@ -52,7 +53,7 @@ impl Page {
         self.lower_of(fan, &whole, new)
     }
 
-    /// The upper page of `split_with` alone.
+    /// Returns the upper page of `split_with` alone.
     pub fn upper_with(&self, fan: u8, key: u64, value: u64) -> Page
         requires fan { IsFan fan }
         requires full { length self.now.entries ≡ fan }
@@ -119,7 +120,7 @@ impl Page {
     }
 }
 
-// How many of so many entries stay, and the key that parts them from the others.
+// The number of these entries that stay, and the key that parts them from the others.
 fn parted(fan: u8, whole: &[(u64, u64)]) -> (usize, u64)
     requires fan { IsFan fan }
     requires overfull { length whole.now ≡ fan + 1 }

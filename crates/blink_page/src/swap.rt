@@ -7,7 +7,8 @@ use crate::entries::set_among;
 use crate::page::Page;
 
 impl Page {
-    /// Puts another value under this key of a leaf, and returns the one before. Where the key isn't there nothing changes.
+    /// Replaces the value of this key of a leaf, and returns the one before. If the key is absent, nothing changes, and the call
+    /// returns `None`.
     pub fn swap(&mut self, key: u64, value: u64) -> Option<u64>
         requires { self.old.level ≡ 0 }
         ensures value { result ≡ value_at key self.old.entries }

@@ -7,8 +7,8 @@ use crate::page::Page;
 use crate::search::place;
 
 impl Page {
-    /// Removes the entry with this key from a leaf, and returns its value. A leaf that gets empty stays a page of the tree
-    /// (Lehman and Yao 1981, deletion).
+    /// Removes the entry with this key from a leaf, and returns its value (Lehman and Yao 1981, deletion). A leaf that becomes
+    /// empty stays a page of the tree.
     pub fn take(&mut self, key: u64) -> Option<u64>
         requires { self.old.level ≡ 0 }
         ensures value { result ≡ value_at key self.old.entries }

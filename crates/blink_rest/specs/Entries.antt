@@ -1,4 +1,4 @@
--- What a tree keeps: the entries of its leaves, joined along the chain of level 0.
+-- The entries of a tree: those of its leaves, joined along the chain of level 0.
 use Rattle.std.specs.Prelude.{◌≡◌, ℕ, Some, List, slice_get}
 use Rattle.blink_rest.specs.Chain.{Cell, IsChain, Pages}
 use Rattle.blink_rest.specs.Level.{entries_along}

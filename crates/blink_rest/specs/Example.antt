@@ -20,6 +20,6 @@ root_page = record { level = 1; floor = None; high = GREATEST_KEY; right = None;
 abbrev pub example_store : ℕ → PlainStore
 example_store fan = record { fan = fan; prime = 1 ∷ 3 ∷ []; pages = left_leaf ∷ right_leaf ∷ root_page ∷ [] }
 
--- what the tree keeps
+-- the entries of the tree
 abbrev pub example_entries : List (ℕ × ℕ)
 example_entries = (1, 10) ∷ (2, 20) ∷ (3, 30) ∷ (4, 40) ∷ (5, 50) ∷ []

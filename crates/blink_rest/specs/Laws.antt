@@ -1,4 +1,4 @@
--- Laws of trees, whatever the fan, the prime block and the pages.
+-- Laws of trees, for any fan, prime block and pages.
 use Rattle.std.specs.Prelude.{◌≡◌, ℕ, ◌+◌, ◌<◌, ◌≤◌, Some, List, [], ◌∷◌, length}
 use Rattle.blink_page.specs.{value_at, PlainPage, IsRising}
 use Rattle.blink_page.specs.declared.limits.TheConstants.{GREATEST_KEY, LEVELS, MIN_FAN}
@@ -16,7 +16,7 @@ abbrev pub EntriesAscend : Type 0
 EntriesAscend = (fan : ℕ) (prime : List ℕ) (pages : Pages) (entries : List (ℕ × ℕ)) → AreEntries fan prime pages entries
     → IsRising 0 entries (GREATEST_KEY + 1)
 
--- a tree, at rest or not, has no two lists of entries
+-- a tree, at rest or not, has only one list of entries
 abbrev pub EntriesAreOneList : Type 0
 EntriesAreOneList = (fan : ℕ) (prime : List ℕ) (pages : Pages) (entries others : List (ℕ × ℕ)) → AreEntries fan prime pages entries
     → AreEntries fan prime pages others → entries ≡ others
@@ -26,12 +26,12 @@ abbrev pub EntriesExistAtRest : Type 0
 EntriesExistAtRest = (fan : ℕ) (prime : List ℕ) (pages : Pages) → IsAtRest fan prime pages
     → (entries : List (ℕ × ℕ)) × AreEntries fan prime pages entries
 
--- in a tree at rest a search for any key comes to one leaf, and that is the leaf that the key belongs to
+-- in a tree at rest a search for any key ends at one leaf, which is the leaf that the key belongs to
 abbrev pub SearchEndsAtLeaf : Type 0
 SearchEndsAtLeaf = (fan : ℕ) (prime : List ℕ) (pages : Pages) (entries : List (ℕ × ℕ)) (key : ℕ) → IsAtRest fan prime pages
     → AreEntries fan prime pages entries → key ≤ GREATEST_KEY → EndsAtLeaf prime pages entries key
 
--- in a tree at rest a search for a key that has an entry comes to one leaf, and that leaf has the entry
+-- in a tree at rest a search for a key that has an entry ends at one leaf, and that leaf has the entry
 abbrev pub EachKeyIsReached : Type 0
 EachKeyIsReached = (fan : ℕ) (prime : List ℕ) (pages : Pages) (entries : List (ℕ × ℕ)) (key value : ℕ) → IsAtRest fan prime pages
     → AreEntries fan prime pages entries → value_at key entries ≡ Some value
@@ -47,11 +47,11 @@ abbrev pub EachRightLinkLeads : Type 0
 EachRightLinkLeads = (fan : ℕ) (prime : List ℕ) (pages : Pages) (number next : ℕ) (page : PlainPage) → IsAtRest fan prime pages
     → pages number ≡ Some page → page.right ≡ Some next → IsInLine pages next page.level (Some page.high)
 
--- in a store at rest the prime block has room for one level more
+-- in a store at rest the prime block has room for one more level
 abbrev pub LevelsAreFew : Type 0
 LevelsAreFew = (store : PlainStore) → IsLawfulStore store → IsStoreAtRest store → length store.prime < LEVELS
 
--- the example is at rest, and keeps the entries of its two leaves
+-- the example is at rest, and has the entries of its two leaves
 abbrev pub ExampleIsAtRest : Type 0
 ExampleIsAtRest = (fan : ℕ) → MIN_FAN ≤ fan → IsStoreAtRest (example_store fan)
     × AreEntries fan (1 ∷ 3 ∷ []) (page_of (example_store fan)) example_entries

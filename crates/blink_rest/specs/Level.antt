@@ -1,4 +1,4 @@
--- What a level says of its keys, and of the level below it.
+-- The keys of a level, and its references to the level below.
 use Rattle.std.specs.Prelude.{◌≡◌, ℕ, List, map}
 use Rattle.std.specs.List.{flat_map}
 use Rattle.blink_rest.specs.Chain.{Cell}
@@ -23,8 +23,8 @@ separators cells = map (λ (entry : ℕ × ℕ). entry.0) (entries_along cells)
 abbrev pub children : List Cell → List ℕ
 children cells = map (λ (entry : ℕ × ℕ). entry.1) (entries_along cells)
 
--- a level names the one below: its separators are the high keys there, and its children, in order, the pages. So each
--- child's floor is the separator before its own, or none for the first
+-- a level names the one below: its separators are the high keys there, and its children, in order, the pages; so each child's
+-- floor is the separator before its own, and the first child has none
 pub record IsParentOf (upper lower : List Cell) : Type 0 where
   pub separators_are_high_keys : separators upper ≡ high_keys lower
   pub children_are_pages : children upper ≡ numbers_of lower

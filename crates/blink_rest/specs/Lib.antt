@@ -2,21 +2,21 @@
 
 -- a chain: the pages of one level, met from its leftmost page along right links
 pub use Rattle.blink_rest.specs.Chain.{InLine, IsChain, Pages}
--- what a level says of its keys, and of the level below it
+-- the keys of a level, and its references to the level below
 pub use Rattle.blink_rest.specs.Level.{entries_along, numbers_of}
--- what a level says of the level below it
+-- the references of a level to the level below it
 pub use Rattle.blink_rest.specs.References.{BeginsAt, IsHighKey, Refers}
--- what a tree keeps: the entries of its leaves, joined along the chain of level 0
+-- the entries of a tree: those of its leaves, joined along the chain of level 0
 pub use Rattle.blink_rest.specs.Entries.{AreEntries}
 -- a tree at rest: no operation is under way, and every split is posted
 pub use Rattle.blink_rest.specs.Rest.{AreLevels, IsAtRest, IsStoreAtRest}
 -- how a search reaches a page: down from the root, and to the right
 pub use Rattle.blink_rest.specs.Reach.{IsReached}
--- laws of trees, whatever the fan, the prime block and the pages
+-- laws of trees, for any fan, prime block and pages
 pub use Rattle.blink_rest.specs.Laws.{EachKeyIsReached, EachPageRefersBelow, EachRightLinkLeads, EntriesAreOneList, EntriesAscend, EntriesExistAtRest, ExampleIsAtRest, LevelsAreFew, SearchEndsAtLeaf}
--- lists of numbers: which are among them, whether they all differ, and whether they are from 1 to a last one
+-- lists of numbers: membership, whether all differ, and whether all are from 1 to a last one
 pub use Rattle.blink_rest.specs.Numbers.{IsMember}
--- what a walk along a level meets
+-- the pages that a walk along a level meets
 pub use Rattle.blink_rest.specs.Walk.{IsTail}
 -- by their file, since they have its name or another file's word: Chain.{Cell, cell}; Level.{children}
 

@@ -6,7 +6,7 @@ use Rattle.blink_store.specs.{PlainStore, page_of}
 use Rattle.blink_rest.specs.Chain.{Cell, IsChain, Pages}
 use Rattle.blink_rest.specs.Level.{IsParentOf, numbers_of}
 
--- from a level on, each level that the prime block names is a chain
+-- each level that the prime block names is a chain, from this level on
 abbrev pub AreChains : ℕ → Pages → ℕ → List ℕ → List (List Cell) → Type 0
 AreChains fan pages level [] [] = ⊤
 AreChains fan pages level [] (cells ∷ above) = ⊥
@@ -25,8 +25,8 @@ TopHasOne [] = ⊥
 TopHasOne (cells ∷ []) = length cells ≡ 1
 TopHasOne (cells ∷ next ∷ above) = TopHasOne (next ∷ above)
 
--- the levels of a tree at rest, level 0 first: each is a chain that the one above names, the top level has one page,
--- and every page stands in a chain
+-- the levels of a tree at rest, level 0 first: each is a chain that the one above names, the top level has one page, and every
+-- page stands in a chain
 pub record AreLevels (fan : ℕ) (prime : List ℕ) (pages : Pages) (levels : List (List Cell)) : Type 0 where
   pub chains : AreChains fan pages 0 prime levels
   pub named : EachIsParent levels
@@ -37,6 +37,6 @@ pub record AreLevels (fan : ℕ) (prime : List ℕ) (pages : Pages) (levels : Li
 abbrev pub IsAtRest : ℕ → List ℕ → Pages → Type 0
 IsAtRest fan prime pages = (levels : List (List Cell)) × AreLevels fan prime pages levels
 
--- the tree that a store keeps is at rest
+-- the tree of a store is at rest
 abbrev pub IsStoreAtRest : PlainStore → Type 0
 IsStoreAtRest store = IsAtRest store.fan store.prime (page_of store)

@@ -1,11 +1,11 @@
--- What a walk along a level meets.
+-- The pages that a walk along a level meets.
 use Rattle.std.specs.Prelude.{◌≡◌, ℕ, ◌+◌, Option, Some, None, List, ◌++◌, length, map}
 use Rattle.blink_page.specs.{PlainPage}
 use Rattle.blink_page.specs.declared.limits.TheConstants.{GREATEST_KEY}
 use Rattle.blink_rest.specs.Chain.{Cell, Pages, AreAmong, InLine, IsChain}
 use Rattle.blink_rest.specs.Level.{entries_along, IsParentOf}
 
--- the number is that of a page with this level and this floor
+-- a page of this level and this floor has this number
 pub record IsInLine (pages : Pages) (number level : ℕ) (floor : Option ℕ) : Type 0 where
   pub page : PlainPage
   pub there : pages number ≡ Some page
@@ -19,7 +19,7 @@ pub record IsTail (fan : ℕ) (pages : Pages) (link : Option ℕ) (cells : List 
   pub pages_there : AreAmong pages cells
   pub in_line : InLine fan level floor link cells (Some GREATEST_KEY) None
 
--- there are such pages
+-- the link leads to the last pages of a chain, or nowhere
 abbrev pub HasTail : ℕ → Pages → Option ℕ → Type 0
 HasTail fan pages link = (cells : List Cell) × IsTail fan pages link cells
 
@@ -35,12 +35,12 @@ pub record NamesFirst (fan : ℕ) (pages : Pages) (entries : List (ℕ × ℕ)) 
   pub left : IsTail fan pages after rest
   pub named : entries ≡ names_for prefix
 
--- entries name no first pages from a link on
+-- the entries name no first pages from a link on
 abbrev pub NamesNone : ℕ → Pages → List (ℕ × ℕ) → Option ℕ → Type 0
 NamesNone fan pages entries link =
     (cells : List Cell) (more : List (ℕ × ℕ)) → IsTail fan pages link cells → entries ++ more ≡ names_for cells → ⊥
 
--- the pages from one link on name those from another on
+-- the pages from the upper link on name those from the lower link on
 pub record TailNames (fan : ℕ) (pages : Pages) (upper lower : ℕ) : Type 0 where
   pub uppers : List Cell
   pub lowers : List Cell
@@ -48,7 +48,7 @@ pub record TailNames (fan : ℕ) (pages : Pages) (upper lower : ℕ) : Type 0 wh
   pub below : IsTail fan pages (Some lower) lowers
   pub named : entries_along uppers ≡ names_for lowers
 
--- the level has a chain, of so many pages
+-- the level has a chain of this many pages
 pub record HasChain (fan : ℕ) (pages : Pages) (level leftmost count : ℕ) : Type 0 where
   pub cells : List Cell
   pub chain : IsChain fan pages level leftmost cells
@@ -58,11 +58,11 @@ pub record HasChain (fan : ℕ) (pages : Pages) (level leftmost count : ℕ) : T
 abbrev pub HasSomeChain : ℕ → Pages → ℕ → ℕ → Type 0
 HasSomeChain fan pages level leftmost = (cells : List Cell) × IsChain fan pages level leftmost cells
 
--- the level has none
+-- the level has no chain
 abbrev pub HasNoChain : ℕ → Pages → ℕ → ℕ → Type 0
 HasNoChain fan pages level leftmost = (cells : List Cell) → IsChain fan pages level leftmost cells → ⊥
 
--- the level has a chain, of so many pages, which the chain of the level above names
+-- the level has a chain of this many pages, which the chain of the level above names
 pub record HasNamedChain (fan : ℕ) (pages : Pages) (level lower upper count : ℕ) : Type 0 where
   pub uppers : List Cell
   pub cells : List Cell
@@ -71,6 +71,6 @@ pub record HasNamedChain (fan : ℕ) (pages : Pages) (level lower upper count : 
   pub named : IsParentOf uppers cells
   pub counted : length cells ≡ count
 
--- the level has none
+-- the level has no chain that the chain of the level above names
 abbrev pub HasNoNamedChain : ℕ → Pages → ℕ → ℕ → ℕ → Type 0
 HasNoNamedChain fan pages level lower upper = (uppers cells : List Cell) → IsChain fan pages (level + 1) upper uppers → IsChain fan pages level lower cells → IsParentOf uppers cells → ⊥

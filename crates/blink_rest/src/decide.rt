@@ -1,4 +1,4 @@
-//! Whether a tree is at rest.
+//! A test whether a tree is at rest.
 ghost use Rattle.std.specs.Prelude.{◌↔◌, IsTrue};
 ghost use Rattle.blink_store.specs.{page_of};
 ghost use Rattle.blink_rest.specs.Rest.{IsAtRest};
@@ -6,8 +6,8 @@ ghost use Rattle.blink_rest.specs.Rest.{IsAtRest};
 use crate::walk::{chain_length, named_chain_length};
 use blink_store::Store;
 
-/// Whether no operation is under way in the tree, and every split is posted. It takes no memory, and time in proportion
-/// to the pages and their entries.
+/// Returns whether no operation is under way in the tree, and every split is posted. The call takes no memory, and time in
+/// proportion to the pages and their entries.
 pub fn at_rest(store: &Store) -> bool
     ensures { IsTrue result ↔ IsAtRest store.now.fan store.now.prime (page_of store.now) }
 {

@@ -1,6 +1,6 @@
-//! What a B-link tree is: chains of pages, levels that name one another, searches, and trees at rest.
+//! The definition of a B-link tree: chains of pages, levels that name one another, searches, and trees at rest.
 //!
-//! Contracts see a tree at rest as its store, the record `PlainStore`. What is so of every tree stands in `laws`.
+//! Contracts see a tree at rest as its store, the record `PlainStore`. The laws of every tree stand in `laws`.
 #![tactic(auto)]
 
 mod decide;

@@ -11,7 +11,7 @@ use std::marker::Model;
 
 /// A tree at rest: no operation is under way, and every split is posted.
 ///
-/// Its type keeps this, so that whoever is given one need not look at the pages.
+/// The type guarantees this, so whoever is given one need not look at the pages.
 #[derive(Debug, Drop)]
 pub struct Rest {
     store: Store,
@@ -30,7 +30,7 @@ impl Model for Rest {
 }
 
 impl Rest {
-    /// A new tree, whose pages will have at most `fan` entries. Its only page is an empty leaf.
+    /// Makes a new tree, whose pages will have at most `fan` entries. Its only page is an empty leaf.
     pub fn empty(alloc: Global, fan: u8) -> Result<Rest, StoreError>
         requires { IsFan fan }
         ensures new { IfOk result (λ rest. rest ≡ new_store fan) }
@@ -42,7 +42,7 @@ impl Rest {
         }
     }
 
-    /// The same tree once more: each page has the number that it has here.
+    /// Copies the tree. Each page has the same number in the copy.
     pub fn copy(&self, alloc: Global) -> Result<Rest, StoreError>
         ensures tree { IfOk result (λ rest. rest ≡ self.now) }
         ensures refused { IsOkUnless result StoreError.OutOfMemory }
@@ -51,15 +51,15 @@ impl Rest {
         Ok(Rest::of(store))
     }
 
-    /// Whether the two are the same tree: the same fan, the same prime block, and the same page under each number. It takes
-    /// no memory.
+    /// Returns whether the two trees are the same: the same fan, the same prime block, and the same page under each number. The
+    /// call takes no memory.
     pub fn is_same(&self, other: &Rest) -> bool
         ensures { IsTrue result ↔ self.now ≡ other.now }
     {
         self.store.is_same(&other.store)
     }
 
-    /// The tree of a store that is at rest. It takes no memory.
+    /// Makes the tree of a store that is at rest. The call takes no memory.
     pub fn of(store: Store) -> Rest
         requires { IsStoreAtRest store }
         ensures { result ≡ store }
@@ -67,19 +67,19 @@ impl Rest {
         Rest { store }
     }
 
-    /// The store of the tree, to be read.
+    /// Returns the store of the tree, to be read.
     pub fn store(&self) -> &Store
         ensures store { result.now ≡ self.now }
         ensures at_rest { IsStoreAtRest self.now }
         ensures few_levels { length self.now.prime < LEVELS }
         ensures lawful { IsLawfulStore self.now }
     {
-        // Called for the proof: a store has at most so many pages.
+        // Called for the proof: a store's number of pages is bounded.
         let _count = self.store.pages();
         &self.store
     }
 
-    /// The store of the tree, to be changed.
+    /// Returns the store of the tree, to be changed.
     pub fn into_store(self) -> Store
         ensures { result ≡ self }
     {

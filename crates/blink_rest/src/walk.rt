@@ -6,7 +6,7 @@ ghost use Rattle.blink_rest.specs.Walk.{IsInLine, HasTail, NamesFirst, NamesNone
 
 use blink_store::Store;
 
-// Whether there is a page of this number, at this level and above this floor.
+// Whether a page has this number, this level and this floor.
 fn is_in_line(store: &Store, number: u32, level: usize, floor: Option<u64>) -> bool
     ensures in_line { IsTrue result ↔ IsInLine (page_of store.now) number level floor }
     ensures few_pages { IsPageNumber (length store.now.pages) }
@@ -19,7 +19,7 @@ fn is_in_line(store: &Store, number: u32, level: usize, floor: Option<u64>) -> b
     usize::from(page.level) == level && page.floor == floor
 }
 
-/// How many pages the chain of a level has, if it is one.
+/// The number of pages of a level's chain, or `None` if the level is no chain.
 pub(crate) fn chain_length(store: &Store, level: usize, leftmost: u32) -> Option<u32>
     ensures { MatchOption result (HasNoChain store.now.fan (page_of store.now) level leftmost)
         (λ count. HasChain store.now.fan (page_of store.now) level leftmost count) }
@@ -39,8 +39,8 @@ pub(crate) fn chain_length(store: &Store, level: usize, leftmost: u32) -> Option
     Some(count)
 }
 
-// Compares the entries of a page with the pages below it, from the one that `first` leads to on, and returns the link
-// after those that the entries name.
+// Compares the entries of a page with the pages below it, from the one that `first` links to, and returns the link after those
+// that the entries name.
 fn named(store: &Store, entries: &[(u64, u64)], first: Option<u32>) -> Option<Option<u32>>
     requires { HasTail store.now.fan (page_of store.now) first }
     ensures named { IfSome result
@@ -62,7 +62,7 @@ fn named(store: &Store, entries: &[(u64, u64)], first: Option<u32>) -> Option<Op
     Some(below)
 }
 
-/// Whether the pages of the one chain name those of the other.
+/// Whether the pages of the upper chain name those of the lower.
 fn names(store: &Store, upper: u32, lower: u32) -> bool
     requires upper { HasTail store.now.fan (page_of store.now) (Some upper) }
     requires lower { HasTail store.now.fan (page_of store.now) (Some lower) }
@@ -81,7 +81,7 @@ fn names(store: &Store, upper: u32, lower: u32) -> bool
     below.is_none()
 }
 
-/// How many pages the chain of a level has, if it is one and the chain above it names it.
+/// The number of pages of a level's chain, or `None` if the level is no chain or the chain above doesn't name it.
 pub(crate) fn named_chain_length(store: &Store, level: usize, lower: u32, upper: u32) -> Option<u32>
     requires { HasSomeChain store.now.fan (page_of store.now) (level + 1) upper }
     ensures { MatchOption result

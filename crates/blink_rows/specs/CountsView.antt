@@ -1,4 +1,4 @@
--- What a contract sees of `Counts`.
+-- The `Counts` of a table as a contract sees them.
 use Rattle.blink_rows.specs.Counts.{PlainCounts}
 use Rattle.blink_rows.specs.declared.counts.Counts.TheInside.{Inside}
 

@@ -1,4 +1,4 @@
--- A row: the 70 words that say what a page is, or what a prime block is.
+-- A row: the 70 words that determine a page, or a prime block.
 use Rattle.std.specs.Prelude.{◌≡◌, ℕ, ◌<◌, ◌≤◌, Option, Some, None, List, [], ◌∷◌, length, slice_index, EachIndex, unwrap_or, All}
 use Rattle.blink_page.specs.declared.limits.TheConstants.{LEVELS, MAX_FAN}
 use Rattle.blink_page.specs.{IsPageNumber, PlainPage, IsLawfulPage}
@@ -9,17 +9,18 @@ abbrev pub flat : List (ℕ × ℕ) → List ℕ
 flat [] = []
 flat ((key, value) ∷ rest) = key ∷ value ∷ flat rest
 
--- 1 where there is a number, else 0
+-- 1 for a number, 0 for None
 abbrev pub flag : Option ℕ → ℕ
 flag None = 0
 flag (Some number) = 1
 
--- level, whether there is a floor, floor or 0, high key, right link or 0, number of entries, and the entries
+-- the level, whether the page has a floor, the floor or 0, the high key, the right link or 0, the number of entries, and the
+-- entries
 abbrev pub page_words : PlainPage → List ℕ
 page_words p =
     p.level ∷ flag p.floor ∷ unwrap_or p.floor 0 ∷ p.high ∷ unwrap_or p.right 0 ∷ length p.entries ∷ flat p.entries
 
--- the number of levels, where a page has the number of its entries, and the leftmost page of each level
+-- the number of levels, at the place of a page's number of entries, and the leftmost page of each level
 abbrev pub prime_words : List ℕ → List ℕ
 prime_words leftmost = 0 ∷ 0 ∷ 0 ∷ 0 ∷ 0 ∷ length leftmost ∷ leftmost
 
@@ -44,7 +45,7 @@ IsPrimeRow leftmost words = IsRowOf words (prime_words leftmost)
 abbrev pub IsRowOfNoPage : List ℕ → Type 0
 IsRowOfNoPage words = (page : PlainPage) → IsLawfulPage MAX_FAN page → IsPageRow page words → ⊥
 
--- a prime block names a page at least, and has room for so many
+-- a prime block names at least one page, and has room for only so many
 pub record IsLawfulPrime (leftmost : List ℕ) : Type 0 where
   pub one_at_least : 0 < length leftmost
   pub at_most_levels : length leftmost ≤ LEVELS

@@ -1,6 +1,6 @@
-//! How many changes a table has room for.
+//! The number of changes that a table has room for.
 
-/// How many insertions and how many deletions may change a table. A replacement uses a deletion.
+/// The number of insertions and of deletions that may change a table. A replacement uses a deletion.
 #[derive(Clone, Copy, Debug, PartialEq, Eq)]
 pub struct Allowance {
     pub inserts: u32,

@@ -1,4 +1,4 @@
-//! How large a table is, and where its rows stand.
+//! The size of a table, and the places of its rows.
 ghost use Rattle.std.specs.Prelude.{◌≡◌, ◌+◌, ◌-◌, ◌*◌, ◌≤◌};
 
 use crate::allowance::Allowance;
@@ -6,7 +6,7 @@ use crate::limits::{MAX_ROWS_PER_INSERT, ROW_WORDS};
 use blink_page::{MAX_NEW_PAGES_PER_INSERT, MAX_PAGE};
 use std::marker::Model;
 
-/// How many page numbers a table has, with number 0, which is the prime block's, and how many rows.
+/// The number of page numbers of a table, with number 0, which is the prime block's, and the number of its rows.
 #[derive(Clone, Copy, Debug, PartialEq, Eq)]
 pub struct Counts {
     pub numbers: u64,
@@ -28,8 +28,8 @@ impl Model for Counts {
 }
 
 impl Counts {
-    /// The counts of a table that opens with so many pages and has room for these changes: a row for each page and for the
-    /// prime block, and what the changes may take.
+    /// Returns the counts of a table that opens with this many pages and has room for these changes: a row for each page and for
+    /// the prime block, and the rows and numbers that the changes may take.
     pub fn of(pages: u32, allowance: Allowance) -> Counts
         requires { 1 + pages + MAX_NEW_PAGES_PER_INSERT * allowance.inserts ≤ MAX_PAGE + 1 }
         ensures numbers { result.numbers ≡ 1 + pages + MAX_NEW_PAGES_PER_INSERT * allowance.inserts }
@@ -44,7 +44,7 @@ impl Counts {
         }
     }
 
-    /// The place of a row's first word in the table. The rows, from row 1 on, stand behind two words for each number.
+    /// Returns the place of a row's first word in the table. The rows, from row 1 on, stand after two words for each number.
     pub fn row_start(&self, row: u64) -> u64
         requires first { 1 ≤ row }
         requires last { row ≤ self.now.rows }

@@ -1,4 +1,4 @@
-//! What makes a page lawful, as a test.
+//! A test whether a page is lawful.
 ghost use Rattle.std.specs.Prelude.{◌≡◌, ◌+◌, ◌≤◌, ◌↔◌, IfSome, IsTrue, EachIndex, length, slice_index_or};
 ghost use Rattle.blink_page.specs.{IsPageNumber, least_above, IsRising, ValuesWithin, last_key, PlainPage, IsLawfulPage};
 
@@ -58,7 +58,7 @@ fn keys_rise(entries: &[(u64, u64)], floor: Option<u64>, high: u64) -> bool
     true
 }
 
-// Whether there are two entries at least, the last key is the high key, and each value is a page's number.
+// Whether there are at least two entries, the last key is the high key, and each value is a page's number.
 fn lead_down(entries: &[(u64, u64)], high: u64) -> bool
     ensures { IsTrue result ↔ ((2 ≤ length entries.now)
         × (last_key entries.now ≡ high) × ValuesWithin 1 MAX_PAGE entries.now) }

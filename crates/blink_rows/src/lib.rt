@@ -1,6 +1,6 @@
 //! Pages and prime blocks as rows of words, for a table that threads share.
 //!
-//! A row says all that a page is. No call takes memory.
+//! A row determines its page. No call takes memory.
 #![tactic(auto)]
 
 mod allowance;

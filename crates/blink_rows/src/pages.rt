@@ -9,7 +9,7 @@ use crate::words::{content, page_number, row_of};
 use arrayvec::ArrayVec;
 use blink_page::{GREATEST_KEY, MAX_FAN, MAX_LEVEL, Page};
 
-/// The row of a page.
+/// Returns the row of a page.
 pub fn page_row(page: &Page) -> [u64; ROW_WORDS]
     ensures { IsPageRow page.now result }
 {
@@ -29,7 +29,7 @@ pub fn page_row(page: &Page) -> [u64; ROW_WORDS]
     words
 }
 
-/// The page whose row these words are, if they are one's.
+/// Returns the page whose row these words are, or `None` if they are no page's row.
 pub fn row_page(words: &[u64; ROW_WORDS]) -> Option<Page>
     ensures page { IfSome result (λ page. IsPageRow page words.now) }
     ensures none { IfNone result (IsRowOfNoPage words.now) }
@@ -52,7 +52,7 @@ pub fn row_page(words: &[u64; ROW_WORDS]) -> Option<Page>
     })
 }
 
-// The level with this number.
+// The level that this word stores.
 fn level_of(word: u64) -> Option<u8>
     ensures some { IfSome result (λ level. (level ≡ word) × (level ≤ MAX_LEVEL)) }
     ensures none { IfNone result (MAX_LEVEL < word) }
@@ -64,7 +64,7 @@ fn level_of(word: u64) -> Option<u8>
     }
 }
 
-// The floor that these two words say.
+// The floor that these two words store.
 fn floor_of(has_floor: u64, word: u64) -> Option<Option<u64>>
     ensures some { IfSome result (λ floor. (flag floor ≡ has_floor) × (unwrap_or floor 0 ≡ word)) }
     ensures none { IfNone result
@@ -77,7 +77,7 @@ fn floor_of(has_floor: u64, word: u64) -> Option<Option<u64>>
     }
 }
 
-// The right link that this word says.
+// The right link that this word stores.
 fn link_of(word: u64) -> Option<Option<u32>>
     ensures link { IfSome result (λ link. unwrap_or link 0 ≡ word) }
     ensures number { IfSome result (λ link. IfSome link IsPageNumber) }
@@ -90,7 +90,7 @@ fn link_of(word: u64) -> Option<Option<u32>>
     page_number(word).map(Some)
 }
 
-// How many entries this word says, where a page has room for them.
+// The number of entries that this word stores, if a page has room for that many.
 fn count_of(word: u64) -> Option<usize>
     ensures some { IfSome result (λ count. (count ≡ word) × (count ≤ MAX_FAN)) }
     ensures none { IfNone result (MAX_FAN < word) }
@@ -102,7 +102,7 @@ fn count_of(word: u64) -> Option<usize>
     }
 }
 
-// The entries that these words are, a key and a value in turn.
+// The entries that these words store, a key and a value in turn.
 fn entries_of(words: &[u64], count: usize) -> ArrayVec<(u64, u64), MAX_FAN>
     requires even { length words.now ≡ 2 * count }
     requires room { count ≤ MAX_FAN }

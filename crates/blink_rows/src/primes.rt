@@ -8,7 +8,7 @@ use crate::words::{are_zero, content, page_number, row_of};
 use arrayvec::ArrayVec;
 use blink_page::{LEVELS, Prime};
 
-/// The row of a prime block.
+/// Returns the row of a prime block.
 pub fn prime_row(prime: &Prime) -> [u64; ROW_WORDS]
     ensures { IsPrimeRow prime.now result }
 {
@@ -19,7 +19,7 @@ pub fn prime_row(prime: &Prime) -> [u64; ROW_WORDS]
     words
 }
 
-/// The prime block whose row these words are, if they are one's.
+/// Returns the prime block whose row these words are, or `None` if they are no prime block's row.
 pub fn row_prime(words: &[u64; ROW_WORDS]) -> Option<Prime>
     ensures prime { IfSome result (λ prime. IsPrimeRow prime words.now) }
     ensures none { IfNone result (IsRowOfNoPrime words.now) }

@@ -1,7 +1,7 @@
-//! Numbers in a row.
+//! Consecutive numbers.
 ghost use Rattle.std.specs.Prelude.{◌≡◌, ◌-◌};
 
-/// The numbers from `next` on that are below `stop`: none where `next` is not below it.
+/// The numbers from `next` on that are below `stop`; none if `next` is not below `stop`.
 #[derive(Clone, Copy, Debug, PartialEq, Eq)]
 pub struct Span {
     pub next: u64,
@@ -9,7 +9,7 @@ pub struct Span {
 }
 
 impl Span {
-    /// How many they are.
+    /// Returns how many numbers the span has.
     pub fn len(&self) -> u64
         ensures { result ≡ self.now.stop - self.now.next }
     {

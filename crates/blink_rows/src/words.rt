@@ -1,4 +1,4 @@
-//! What the rows of pages and of prime blocks have alike.
+//! What the rows of pages and of prime blocks have in common.
 ghost use Rattle.std.specs.Prelude.{◌≡◌, ◌+◌, ◌≤◌, ◌↔◌, IfSome, IfNone, IsTrue, take, drop};
 ghost use Rattle.blink_page.specs.{IsPageNumber};
 ghost use Rattle.blink_rows.specs.Row.{AreZero, IsRowOf};
@@ -15,7 +15,7 @@ pub(crate) fn row_of(head: [u64; HEAD_WORDS]) -> [u64; ROW_WORDS]
     words
 }
 
-/// So many words behind the head, where all words behind them are 0.
+/// The first `count` words after the head, if all words after them are 0.
 pub(crate) fn content(words: &[u64; ROW_WORDS], count: usize) -> Option<&[u64]>
     requires { HEAD_WORDS + count ≤ ROW_WORDS }
     ensures found { IfSome result (λ found. found.now ≡ take count (drop HEAD_WORDS words.now)) }
@@ -26,7 +26,7 @@ pub(crate) fn content(words: &[u64; ROW_WORDS], count: usize) -> Option<&[u64]>
     if are_zero(rest) { Some(found) } else { None }
 }
 
-/// The page that has this number.
+/// The page number that this word stores.
 pub(crate) fn page_number(word: u64) -> Option<u32>
     ensures some { IfSome result (λ page. (page ≡ word) × IsPageNumber page) }
     ensures none { IfNone result (IsPageNumber word → ⊥) }

@@ -1,4 +1,5 @@
--- A script that is run as its settings say: over pages of their fan, each batch cut among their workers in their way, by their driver.
+-- A script's run as its settings say. It runs over pages of their fan. Their workers run each batch, cut by their kind of cut,
+-- by their driver.
 use Rattle.std.specs.Prelude.{ℕ, ◌≡◌, ◌+◌, List, [], ◌∷◌, ◌++◌, Option, Some, Ok, count_by, ⊤}
 use Rattle.blink_batch.specs.declared.Op.{Op}
 use Rattle.blink_batch.specs.declared.Part.{Part}
@@ -14,31 +15,32 @@ use Rattle.blink_locked.specs.{IsReplayed, MayRefuse}
 use Rattle.blink_run.specs.Served.{is_batch}
 use Rattle.blink_settings.specs.{PlainSettings, lanes_by}
 
--- whose operation each is
+-- the worker of each operation
 abbrev pub assignment_by : PlainSettings → List Op → Assignment
 assignment_by settings ops = record { workers = settings.workers; lanes = lanes_by settings.cut settings.workers ops }
 
--- the batch led from the one tree to the other: under the lock by a replay of these lanes; at a table its pages are numbered anew
+-- the batch led from the one tree to the other: under the lock it is that of a replay of these lanes; at a table its pages are
+-- numbered anew
 pub record RunsBatchBy (settings : PlainSettings) (before : PlainStore) (ops : List Op) (after : PlainStore) : Type 0 where
   pub locked : settings.driver ≡ Locked → IsReplayed before ops (assignment_by settings ops) after
   pub live : settings.driver ≡ Live → IsNumberedInOrder after
 
--- what is no batch leaves the tree as it is
+-- a part that is no batch leaves the tree as it is
 abbrev pub RunsPartBy : PlainSettings → PlainStore → Part → PlainStore → Type 0
 RunsPartBy settings before (Batch ops) after = RunsBatchBy settings before ops after
 RunsPartBy settings before part after = after ≡ before
 
--- parts one after another
+-- parts run one after another
 abbrev pub RunsPartsBy : PlainSettings → PlainStore → List Part → PlainStore → Type 0
 RunsPartsBy settings before [] after = after ≡ before
 RunsPartsBy settings before (part ∷ parts) after = (between : PlainStore) × RunsPartBy settings before part between × RunsPartsBy settings between parts after
 
--- the parts of what was read, on a new tree of the settings' fan
+-- the parts of what was read run on a new tree of the settings' fan
 abbrev pub ServesBy : PlainSettings → Option (List ℕ) → Type 0
 ServesBy settings to_read = (read : List ℕ) → to_read ≡ Some read
     → (parts : List Part) × (script_of (records_of read) ≡ Ok parts) × (after : PlainStore) × RunsPartsBy settings (new_store settings.fan) parts after
 
--- ---- which refusal of a batch is told
+-- ---- which refusal of a batch comes
 
 -- a batch that isn't run is refused as its run by these settings may be, on the tree before it
 abbrev pub RefusesPart : PlainSettings → PlainStore → Part → ServeError → Type 0
@@ -57,12 +59,12 @@ pub record StopsAt (settings : PlainSettings) (before : PlainStore) (parts : Lis
   pub ran : RunsPartsBy settings before prefix between
   pub refused : MayRefuse settings.driver settings.workers between ops error
 
--- so it is with each refusal of a run
+-- each refusal of a run comes so
 abbrev pub TellsRun : PlainSettings → PlainStore → List Part → ServeError → Type 0
 TellsRun settings before parts (serve.Run number error) = StopsAt settings before parts number error
 TellsRun settings before parts error = ⊤
 
--- of the parts of what was read
+-- likewise for the parts of what was read
 abbrev pub TellsRunOf : PlainSettings → Option (List ℕ) → ServeError → Type 0
 TellsRunOf settings to_read (serve.Run number error) = (read : List ℕ) → to_read ≡ Some read
     → (parts : List Part) × (script_of (records_of read) ≡ Ok parts) × StopsAt settings (new_store settings.fan) parts number error

@@ -1,4 +1,4 @@
--- What workers' lanes do at a table of words, each with a pass of its own.
+-- The lanes of workers at a table of words, each with a pass of its own.
 use Rattle.std.specs.Prelude.{◌≡◌, ◌↔◌, ℕ, ◌+◌, ◌<◌, ◌≤◌, Some, List, [], ◌∷◌, length, Bool, true, false, Contains, count_by, map, slice_get, take, vec_capacity, vec_len}
 use Rattle.blink_batch.specs.declared.Answer.{Answer}
 use Rattle.blink_batch.specs.declared.Entry.{Entry}
@@ -13,7 +13,7 @@ use Rattle.blink_run.specs.declared.live.lane.LaneRun.{LaneRun}
 use Rattle.blink_run.specs.declared.live.needs.Needs.{Needs}
 use Rattle.blink_run.specs.declared.live.threads.RunsLane.{RunsLane}
 
--- it uses one deletion of a pass: an update does that isn't an insertion
+-- the operation uses one deletion of a pass: a deletion does, and a replacement
 abbrev pub uses_deletion : Op → Bool
 uses_deletion (Find key) = false
 uses_deletion (Insert key pointer) = false
@@ -25,7 +25,7 @@ uses_deletion op = true
 abbrev pub lane_ops : List Op → List ℕ → ℕ → List Op
 lane_ops ops lanes worker = operations_at ops (lane_of lanes worker)
 
--- how many operations of the lane stand before the place
+-- the number of the lane's operations before the place
 abbrev pub rank_in_lane : List ℕ → ℕ → ℕ → ℕ
 rank_in_lane lanes worker place = length (part_of lanes worker (take place (places_from 0 lanes)))
 
@@ -33,9 +33,10 @@ rank_in_lane lanes worker place = length (part_of lanes worker (take place (plac
 abbrev pub IsKeyOfOne : List Op → ℕ → Type 0
 IsKeyOfOne ops key = (op : Op) × Contains ops op × (key_of op ≡ key)
 
--- ---- what a lane is dealt
+-- ---- what a lane needs
 
--- the keys of the operations, each once, how many operations there are, how many insertions of them, and how many that use a deletion
+-- the keys of the operations, each once; the number of operations, of the insertions among them, and of those that use a
+-- deletion
 pub record IsNeeded (ops : List Op) (needs : Needs) : Type 0 where
   pub keys : (key : ℕ) → Contains needs.keys.items key ↔ IsKeyOfOne ops key
   pub each_once : NoneIsTaken [] needs.keys.items
@@ -51,7 +52,7 @@ pub record IsNewKeeper (live : Live) (ops : List Op) (keeper : Keeper) : Type 0 
   pub inserts : count_by is_insert ops ≤ inserts_left keeper.pages
   pub deletes : count_by uses_deletion ops ≤ deletes_left keeper.pages keeper.rows
 
--- it has dealt a pass to each of so many workers, and no key but those of the operations
+-- the keeper has dealt a pass to each of this many workers, and no key but those of the operations
 pub record HasDealtAll (live : Live) (ops : List Op) (workers : ℕ) (keeper : Keeper) : Type 0 where
   pub its_own : IsKeeperOf live keeper
   pub taken : (key : ℕ) → Contains (taken_of keeper) key → IsKeyOfOne ops key
@@ -59,8 +60,8 @@ pub record HasDealtAll (live : Live) (ops : List Op) (workers : ℕ) (keeper : K
 
 -- ---- a lane's run
 
--- the pass has the operations' keys, each with what the opened entries have, and enough insertions and deletions; none is
--- answered yet, and there is room for each answer
+-- the pass has the operations' keys, each with its opening state, and enough insertions and deletions; none is answered yet, and
+-- there is room for each answer
 pub record MayRun (live : Live) (ops : List Op) (run : LaneRun) : Type 0 where
   pub its_own : IsPassOf live run.pass
   pub keys : (key : ℕ) → Contains (keys_of run.pass) key ↔ IsKeyOfOne ops key
@@ -70,7 +71,8 @@ pub record MayRun (live : Live) (ops : List Op) (run : LaneRun) : Type 0 where
   pub none_yet : run.answers.items ≡ []
   pub room : length ops ≤ vec_capacity run.answers
 
--- the pass has those keys, and began with a share of them; the answers are the operations' on it, and it is as they leave it
+-- the pass has those keys, and began with a share of them; the answers are those of the operations on that share, and the share
+-- is as they leave it
 pub record HasRun (live : Live) (ops : List Op) (run : LaneRun) : Type 0 where
   pub its_own : IsPassOf live run.pass
   pub keys : (key : ℕ) → Contains (keys_of run.pass) key ↔ IsKeyOfOne ops key
@@ -81,7 +83,7 @@ pub record HasRun (live : Live) (ops : List Op) (run : LaneRun) : Type 0 where
 
 -- ---- an operation of a lane
 
--- the pass has the operation's key, and an insertion or deletion for it where it uses one, and there is room for the answer
+-- the pass has the operation's key, and an insertion or deletion for it if it uses one, and there is room for the answer
 pub record CanRun (live : Live) (op : Op) (run : LaneRun) : Type 0 where
   pub its_own : IsPassOf live run.pass
   pub key : Contains (keys_of run.pass) (key_of op)
@@ -89,7 +91,7 @@ pub record CanRun (live : Live) (op : Op) (run : LaneRun) : Type 0 where
   pub deletes : count_by uses_deletion (op ∷ []) ≤ deletes_left run.pass.pages run.pass.rows
   pub room : vec_len run.answers < vec_capacity run.answers
 
--- the pass after the operation: its plain map is changed by it, and it has used one insertion or deletion where the operation uses one
+-- the pass after the operation: the operation has changed its plain map, and has used one insertion or deletion if it uses one
 pub record IsPassAfter (live : Live) (op : Op) (old new : Pass) : Type 0 where
   pub its_own : IsPassOf live new
   pub same_keys : keys_of new ≡ keys_of old
@@ -103,12 +105,12 @@ pub record IsPassAfter (live : Live) (op : Op) (old new : Pass) : Type 0 where
 abbrev pub with_worker : RunsLane → ℕ → RunsLane
 with_worker first worker = record first { worker = worker }
 
--- there is a run for each of so many workers, and each lane's may begin
+-- each of this many workers has a run, and each lane's run may begin
 pub record MayRunAll (live : Live) (ops : List Op) (workers : ℕ) (lanes : List ℕ) (runs : List LaneRun) : Type 0 where
   pub as_many : length runs ≡ workers
   pub each : (worker : ℕ) (run : LaneRun) → slice_get runs worker ≡ Some run → MayRun live (lane_ops ops lanes worker) run
 
--- and each has ended
+-- each worker has a run, and each has ended
 pub record HaveRun (live : Live) (ops : List Op) (workers : ℕ) (lanes : List ℕ) (runs : List LaneRun) : Type 0 where
   pub as_many : length runs ≡ workers
   pub each : (worker : ℕ) (run : LaneRun) → slice_get runs worker ≡ Some run → HasRun live (lane_ops ops lanes worker) run

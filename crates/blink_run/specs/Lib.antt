@@ -1,16 +1,16 @@
 -- What a caller of `blink_run` reads, in this order; then what proofs above it need; then the files themselves.
 
--- a script that is run as its settings say: over pages of their fan, each batch cut among their workers in their way, by their driver
+-- a script's run as its settings say
 pub use Rattle.blink_run.specs.BySettings.{ServesBy, TellsRunOf}
--- what is written of what is read: the text of a script's parts, one after another, by one thread on one plain map
+-- the output for a script: the text of its parts, one after another, by one thread on one plain map
 pub use Rattle.blink_run.specs.Served.{IsPrefixOf, IsTextOf, OutputAfterError, Serves, TellsFault, WritesText, is_batch}
--- what a replay of a script writes: the trace of its last batch, the text of its parts, and the pages that it ends with
+-- the output of a script's replay: the trace of its last batch, the text of its parts, and the pages at the end
 pub use Rattle.blink_run.specs.ServedReplay.{HaveRunParts, IsPartsFault, IsReplayText, LeavesReplay, Replays, TellsReplayFault, TellsReplayOf, TellsTooLarge, TellsWorkersFault}
--- a batch's replay: the turns of a schedule, of which there is a trace, and then picked turns to the end
+-- a batch's replay: the turns of a schedule, with a trace of them, and then picked turns to the end
 pub use Rattle.blink_run.specs.Replay.{IsRefusedMemory, by_residue}
--- the trace of turns: a line for each, with its worker and what became of it
+-- the trace of turns: a line for each, with its worker and the turn's result
 pub use Rattle.blink_run.specs.Trace.{turn_line}
--- what a writer is given, call by call: a text goes out piece by piece, and the first call that fails is the last
+-- the calls of a writer: a text is written piece by piece, and the first call that fails is the last
 pub use Rattle.blink_run.specs.TrackedWriter.{Writes, WritesAll, WritesPrefix}
 -- ---- for proofs above
 pub use Rattle.blink_run.specs.Served.{IsTextBeforeBatch, IsTextOfPrefix}

@@ -1,4 +1,4 @@
--- What is written of what is read: the text of a script's parts, one after another, by one thread on one plain map.
+-- The output for a script: the text of its parts, one after another, by one thread on one plain map.
 use Rattle.std.specs.Prelude.{ℕ, ◌≡◌, ◌+◌, ◌⊎◌, List, [], ◌∷◌, ◌++◌, Option, Some, Ok, Bool, true, false, count_by, filter, take, ⊤}
 use Rattle.std.specs.Io.KnownBytes.{Keeps}
 use Rattle.blink_batch.specs.declared.Entry.{Entry}
@@ -21,7 +21,7 @@ part_text map (Batch ops) = text_of (answers map ops)
 part_text map (Scan lo hi) = scan_text (filter (is_within lo hi) map)
 part_text map (Page lo n) = scan_text (take n (filter (is_from lo) map))
 
--- the map after a part: what is no batch changes nothing
+-- the map after a part: a part that is no batch changes nothing
 abbrev pub part_after : List Entry → Part → List Entry
 part_after map (Batch ops) = map_after_all map ops
 part_after map part = map
@@ -37,18 +37,18 @@ map_after_parts map (part ∷ parts) = map_after_parts (part_after map part) par
 
 -- ---- what is written
 
--- the text of some records, where they are a script: that of its parts, on an empty map
+-- the text of records that are a script: that of its parts, on an empty map
 pub record IsTextOf (records : List (List (List ℕ))) (text : List ℕ) : Type 0 where
   pub parts : List Part
   pub a_script : script_of records ≡ Ok parts
   pub its_text : text ≡ script_text [] parts
 
--- where the bytes to be read and those written before are known, a text of what is read is written behind the others
+-- if the bytes to be read and those written before are known, a text of what is read stands after those written before
 abbrev pub WritesText : (List (List (List ℕ)) → List ℕ → Type 0) → Option (List ℕ) → Option (List ℕ) → Option (List ℕ) → Type 0
 WritesText is_text to_read before after = (read written : List ℕ) → to_read ≡ Some read → before ≡ Some written
     → (text : List ℕ) × is_text (records_of read) text × (after ≡ Some (written ++ text))
 
--- all of a script's text is
+-- all of a script's text is written
 abbrev pub Serves : Option (List ℕ) → Option (List ℕ) → Option (List ℕ) → Type 0
 Serves to_read before after = WritesText IsTextOf to_read before after
 
@@ -58,7 +58,7 @@ abbrev pub is_batch : Part → Bool
 is_batch (Batch ops) = true
 is_batch part = false
 
--- the text of a script's first parts, where some come after them
+-- the text of a script's first parts, which other parts follow
 pub record IsTextBefore (records : List (List (List ℕ))) (prefix rest : List Part) (text : List ℕ) : Type 0 where
   pub a_script : script_of records ≡ Ok (prefix ++ rest)
   pub its_text : text ≡ script_text [] prefix
@@ -75,7 +75,7 @@ pub record IsTextBeforeBatch (number : ℕ) (records : List (List (List ℕ))) (
 abbrev pub IsTextOfPrefix : List (List (List ℕ)) → List ℕ → Type 0
 IsTextOfPrefix records text = (prefix : List Part) × (rest : List Part) × IsTextBefore records prefix rest text
 
--- a beginning of a text, of which the rest may be empty
+-- a prefix of a text, possibly the whole
 abbrev pub IsPrefixOf : (List (List (List ℕ)) → List ℕ → Type 0) → List (List (List ℕ)) → List ℕ → Type 0
 IsPrefixOf is_text records text = (rest : List ℕ) × is_text records (text ++ rest)
 
@@ -83,14 +83,15 @@ IsPrefixOf is_text records text = (rest : List ℕ) × is_text records (text ++ 
 abbrev pub IsAScript : Option (List ℕ) → Type 0
 IsAScript to_read = (read : List ℕ) → to_read ≡ Some read → (parts : List Part) × (script_of (records_of read) ≡ Ok parts)
 
--- a refusal of the script is the reader's own, and after every other what was read is a script; no step is refused by itself
+-- a refusal of the script is the reader's own, and after every other refusal what was read is a script; no step is refused by
+-- itself
 abbrev pub TellsFault : Option (List ℕ) → ServeError → Type 0
 TellsFault to_read (serve.Script error) = IsReadable error × TellsRefusal to_read error
 TellsFault to_read (serve.Step error) = ⊥
 TellsFault to_read error = IsAScript to_read
 
--- after a refusal of the script nothing was written, and after one of a run or of memory exactly the lines of the parts before;
--- where the writer failed a beginning of the text of all parts was
+-- after a refusal of the script nothing was written; after one of a run or of memory exactly the lines of the parts before;
+-- after a failure of the writer a prefix of the text of all parts
 abbrev pub OutputAfterError : Option (List ℕ) → ServeError → Option (List ℕ) → Option (List ℕ) → Type 0
 OutputAfterError to_read (serve.Script error) before after = Keeps before after
 OutputAfterError to_read (serve.Run number error) before after = WritesText (IsTextBeforeBatch number) to_read before after
@@ -98,7 +99,7 @@ OutputAfterError to_read (serve.Step error) before after = ⊥
 OutputAfterError to_read serve.Output before after = WritesText (IsPrefixOf IsTextOf) to_read before after
 OutputAfterError to_read serve.OutOfMemory before after = WritesText IsTextOfPrefix to_read before after
 
--- ---- parts one after another, on the way
+-- ---- parts one after another, while they are served
 
 -- why a part isn't served: its batch, of this number, isn't run, or the writer failed, or memory was refused
 abbrev pub IsPartFault : Part → ℕ → ServeError → Type 0
@@ -112,7 +113,7 @@ IsPartFault part number serve.OutOfMemory = ⊤
 abbrev pub IsBatchFault : ℕ → ServeError → Type 0
 IsBatchFault number error = ((fault : RunError) × (error ≡ serve.Run number fault)) ⊎ (error ≡ serve.OutOfMemory)
 
--- after such a refusal of a part nothing of its text was written, and where the writer failed that was the last call
+-- after such a refusal of a part nothing of its text was written; if the writer failed, that was the last call
 abbrev pub PartOutputAfterError : {O : Type 0} → (O → List ℕ → Option ℕ → O → Type 0) → (O → Bool → O → Type 0) → List ℕ → ServeError → O → O → Type 0
 PartOutputAfterError offered settled text (serve.Script error) before after = ⊥
 PartOutputAfterError offered settled text (serve.Run number error) before after = after ≡ before
@@ -120,7 +121,7 @@ PartOutputAfterError offered settled text (serve.Step error) before after = ⊥
 PartOutputAfterError offered settled text serve.Output before after = WritesPrefix offered settled before text after
 PartOutputAfterError offered settled text serve.OutOfMemory before after = after ≡ before
 
--- the lines of the parts before others went out
+-- the lines of the parts before others are written
 pub record WroteBefore {O : Type 0} (offered : O → List ℕ → Option ℕ → O → Type 0) (map : List Entry) (parts prefix rest : List Part) (before after : O) : Type 0 where
   pub in_order : parts ≡ prefix ++ rest
   pub written : WritesAll offered before (script_text map prefix) after
@@ -133,7 +134,7 @@ pub record WroteBeforeBatch {O : Type 0} (offered : O → List ℕ → Option �
   pub its_number : number ≡ count_by is_batch prefix + 1
   pub wrote : WroteBefore offered map parts prefix (Batch ops ∷ rest) before after
 
--- where some of the parts aren't served
+-- what is written if some of the parts aren't served
 abbrev pub PrefixOutputAfterError : {O : Type 0} → (O → List ℕ → Option ℕ → O → Type 0) → (O → Bool → O → Type 0) → List Entry → List Part → ServeError → O → O → Type 0
 PrefixOutputAfterError offered settled map parts (serve.Script error) before after = ⊥
 PrefixOutputAfterError offered settled map parts (serve.Run number error) before after = WroteBeforeBatch offered number map parts before after
@@ -142,7 +143,7 @@ PrefixOutputAfterError offered settled map parts serve.Output before after = Wri
 PrefixOutputAfterError offered settled map parts serve.OutOfMemory before after =
     (prefix : List Part) × (rest : List Part) × WroteBefore offered map parts prefix rest before after
 
--- and what was written is flushed, unless the writer failed
+-- what was written is flushed, unless the writer failed
 abbrev pub FlushedOutputAfterError : {O : Type 0} → (O → List ℕ → Option ℕ → O → Type 0) → (O → Bool → O → Type 0) → List Entry → List Part → ServeError → O → O → Type 0
 FlushedOutputAfterError offered settled map parts serve.Output before after = WritesPrefix offered settled before (script_text map parts) after
 FlushedOutputAfterError {O} offered settled map parts error before after = (between : O) × PrefixOutputAfterError offered settled map parts error before between × settled between true after

@@ -1,4 +1,4 @@
--- What a replay of a script writes: the trace of its last batch, the text of its parts, and the pages that it ends with.
+-- The output of a script's replay: the trace of its last batch, the text of its parts, and the pages at the end.
 use Rattle.std.specs.Prelude.{ℕ, ◌≡◌, ◌⊎◌, ◌==◌, List, [], ◌∷◌, ◌++◌, Option, Some, Ok, if◌then◌else◌, count_by, ⊤}
 use Rattle.std.specs.Io.KnownBytes.{Keeps}
 use Rattle.blink_batch.specs.declared.Op.{Op}
@@ -14,11 +14,11 @@ use Rattle.blink_run.specs.Served.{IsAScript, IsPrefixOf, WritesText, is_batch, 
 use Rattle.blink_settings.specs.declared.error.ServeError.{ServeError}
 use Rattle.blink_settings.specs.declared.error.ServeError.TheVariants as serve
 
--- what a batch takes of the schedule, where so many batches come after it: the last takes it whole, and those before take none
+-- what a batch takes of the schedule, if this many batches follow it: the last takes it whole, and the others take none
 abbrev pub taken_where : ℕ → List ℕ → List ℕ
 taken_where left schedule = if left == 0 then schedule else []
 
--- parts run one after another, from one tree to another, and these are the traces of their batches
+-- parts run one after another, from one tree to another, with these traces of their batches
 abbrev pub RunsParts : ℕ → List ℕ → PlainStore → List Part → PlainStore → List ℕ → Type 0
 RunsParts workers schedule before [] after trace = (after ≡ before) × (trace ≡ [])
 RunsParts workers schedule before (Batch ops ∷ rest) after trace = (between : PlainStore) × (first : List ℕ) × (others : List ℕ)
@@ -30,7 +30,7 @@ RunsParts workers schedule before (part ∷ rest) after trace = RunsParts worker
 abbrev pub HaveRunParts : ℕ → PlainStore → List Part → PlainStore → Type 0
 HaveRunParts workers before parts after = (trace : List ℕ) × RunsParts workers [] before parts after trace
 
--- the text of a replay of some records, where they are a script: trace, text and pages
+-- the text of a replay of records that are a script: trace, text and pages
 pub record IsReplayText (workers fan : ℕ) (schedule : List ℕ) (records : List (List (List ℕ))) (text : List ℕ) : Type 0 where
   pub parts : List Part
   pub a_script : script_of records ≡ Ok parts
@@ -39,12 +39,12 @@ pub record IsReplayText (workers fan : ℕ) (schedule : List ℕ) (records : Lis
   pub runs : RunsParts workers schedule (new_store fan) parts after trace
   pub its_text : text ≡ trace ++ (script_text [] parts ++ text_of_store after)
 
--- it is written behind what was written before
+-- this text stands after what was written before
 abbrev pub Replays : ℕ → ℕ → List ℕ → Option (List ℕ) → Option (List ℕ) → Option (List ℕ) → Type 0
 Replays workers fan schedule to_read before after = WritesText (IsReplayText workers fan schedule) to_read before after
 
--- why a script isn't replayed where each number of the schedule is a worker: it is no script; a batch is too large for its tree;
--- the writer failed, or memory was refused
+-- why a script isn't replayed although each number of the schedule is a worker: it is no script; a batch is too large for its
+-- tree; the writer failed, or memory was refused
 abbrev pub TellsWorkersFault : Option (List ℕ) → ServeError → Type 0
 TellsWorkersFault to_read (serve.Script error) = IsReadable error × TellsRefusal to_read error
 TellsWorkersFault to_read (serve.Run number error) = ⊥
@@ -54,12 +54,12 @@ TellsWorkersFault to_read (serve.Step step.OutOfMemory) = ⊤
 TellsWorkersFault to_read serve.Output = ⊤
 TellsWorkersFault to_read serve.OutOfMemory = ⊤
 
--- why it isn't replayed: a number of the schedule is no worker, the first such, or one of those
+-- why a script isn't replayed: for the first number of the schedule that is no worker, or for one of those causes
 abbrev pub TellsReplayFault : ℕ → List ℕ → Option (List ℕ) → ServeError → Type 0
 TellsReplayFault workers schedule to_read error =
     ((worker : ℕ) × (error ≡ serve.Step (step.NoWorker worker)) × IsFirstNoWorker workers schedule worker) ⊎ TellsWorkersFault to_read error
 
--- nothing was written, unless the writer failed: then a beginning of the text of the replay was
+-- nothing was written, unless the writer failed: then a prefix of the text of the replay was written
 abbrev pub LeavesReplay : ℕ → ℕ → List ℕ → Option (List ℕ) → ServeError → Option (List ℕ) → Option (List ℕ) → Type 0
 LeavesReplay workers fan schedule to_read (serve.Script error) before after = Keeps before after
 LeavesReplay workers fan schedule to_read (serve.Run number error) before after = Keeps before after
@@ -77,8 +77,8 @@ pub record HaveTooLarge (workers : ℕ) (before : PlainStore) (parts : List Part
   pub ran : HaveRunParts workers before prefix between
   pub too_large : IsTooLarge between ops
 
--- what else a refusal tells of what was read: where a batch is told as too large, there is such a batch; and where the script isn't
--- what is refused, it is one
+-- what else a refusal says of what was read: if a batch is refused as too large, some batch is; and if the refusal isn't the
+-- script's, what was read is a script
 abbrev pub TellsReplayOf : ℕ → ℕ → Option (List ℕ) → ServeError → Type 0
 TellsReplayOf workers fan to_read (serve.Script error) = ⊤
 TellsReplayOf workers fan to_read (serve.Step (step.NoWorker worker)) = ⊤
@@ -86,9 +86,9 @@ TellsReplayOf workers fan to_read (serve.Step step.TooLarge) = (read : List ℕ)
     → (parts : List Part) × (script_of (records_of read) ≡ Ok parts) × HaveTooLarge workers (new_store fan) parts
 TellsReplayOf workers fan to_read error = IsAScript to_read
 
--- ---- parts one after another, on the way
+-- ---- parts one after another, while they run
 
--- the trace of a part's batch is told behind what was told before; what is no batch changes nothing
+-- the trace of a part's batch stands after the trace before it; a part that is no batch changes nothing
 abbrev pub TellsPart : ℕ → List ℕ → PlainStore → Part → List ℕ → List ℕ → PlainStore → Type 0
 TellsPart workers schedule before (Batch ops) old new after = TellsBatch workers schedule before ops old new after
 TellsPart workers schedule before part old new after = (after ≡ before) × (new ≡ old)
@@ -103,7 +103,7 @@ abbrev pub IsPartRefusal : PlainStore → Part → ServeError → Type 0
 IsPartRefusal before (Batch ops) error = IsReplayFault before ops error
 IsPartRefusal before part error = IsRefusedMemory error
 
--- where it is told that a batch among parts is too large, one is
+-- if the refusal says that a batch among the parts is too large, one is
 abbrev pub TellsTooLarge : ℕ → PlainStore → List Part → ServeError → Type 0
 TellsTooLarge workers before parts error = error ≡ serve.Step step.TooLarge → HaveTooLarge workers before parts
 

@@ -8,7 +8,7 @@ use Rattle.blink_batch.specs.declared.Entry.{Entry}
 abbrev pub entry_line : Entry → List ℕ
 entry_line entry = decimal entry.key ++ (codes " " ++ (decimal entry.pointer ++ codes "\n"))
 
--- the last line, with the number of the entries that are shown
+-- the last line, with the number of the entries shown
 abbrev pub end_line : ℕ → List ℕ
 end_line shown = codes "end " ++ (decimal shown ++ codes "\n")
 

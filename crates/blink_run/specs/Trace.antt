@@ -1,4 +1,4 @@
--- The trace of turns: a line for each, with its worker and what became of it.
+-- The trace of turns: a line for each, with its worker and the turn's result.
 use Rattle.std.specs.Prelude.{ℕ, List, ◌++◌, reverse, codes}
 use Rattle.std.specs.List.{flat_map}
 use Rattle.std.specs.Fmt.{decimal}
@@ -25,6 +25,6 @@ words_of_step Idle = codes "idle"
 abbrev pub turn_line : ℕ → Step → List ℕ
 turn_line worker step = decimal worker ++ (codes " " ++ (words_of_step step ++ codes "\n"))
 
--- the lines of turns, which are given the last first
+-- the lines of turns, which are listed the last first
 abbrev pub trace_of : List Event → List ℕ
 trace_of turns = flat_map (λ (taken : Event). turn_line taken.worker taken.step) (reverse turns)

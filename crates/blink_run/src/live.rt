@@ -1,4 +1,4 @@
-//! A batch's run on an index by threads that share a table of words, without a lock.
+//! A batch's run on an index by threads that share a table of words without a lock.
 ghost use Rattle.std.specs.Prelude.{◌≡◌, ◌↔◌, count_by, IfErr, IfOk, IsErrOf, OnErr};
 ghost use Rattle.blink_batch.specs.{IsLawfulCut, answers, map_after_all, is_insert, IsAscending};
 ghost use Rattle.blink_index.specs.{map_of};
@@ -26,7 +26,7 @@ use std::sync::Wait;
 use std::thread::Threads;
 use threads::run_all;
 
-/// Runs it at a table of words, each lane with a pass of its own.
+/// Runs the batch at a table of words, each lane with a pass of its own.
 pub(crate) fn run_live<R: Threads + Wait + Sync, G: Gate + Sync>(
     rt: &R,
     alloc: Global,
@@ -62,7 +62,7 @@ pub(crate) fn run_live<R: Threads + Wait + Sync, G: Gate + Sync>(
     }
 }
 
-// Deals each lane a pass and runs it to its end: the passes, and the answers of all lanes, place by place.
+// Deals each lane a pass and runs the lane to its end. It returns the passes, and the answers of all lanes, place by place.
 fn run_passes<R: Threads + Wait + Sync, G: Gate + Sync>(
     rt: &R,
     alloc: Global,
@@ -92,7 +92,7 @@ fn run_passes<R: Threads + Wait + Sync, G: Gate + Sync>(
     }
 }
 
-// How many insertions the batch has, and how many deletions and replacements.
+// The number of the batch's insertions, and of its deletions and replacements together.
 fn allowance_of(batch: &Batch) -> Allowance
     ensures inserts { result.inserts ≡ count_by is_insert batch.now }
     ensures deletes { result.deletes ≡ count_by uses_deletion batch.now }

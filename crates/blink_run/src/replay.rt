@@ -1,4 +1,4 @@
-//! A script served by a replay, without threads.
+//! Serving a script by a replay, without threads.
 ghost use Rattle.std.specs.Prelude.{◌≡◌, ◌<◌, ◌++◌, ◌↔◌, [], All, Err, IfOk, IfErr, IsErrOf, IsOk, OnOk, MatchOption, count_by, string_bytes};
 ghost use Rattle.blink_batch.specs.{IsLawfulCut, MayWork, answers, map_after_all, text_of};
 ghost use Rattle.blink_index.specs.{map_of};
@@ -23,13 +23,13 @@ use blink_steps::{StepError, World};
 use std::alloc::{AllocError, Global};
 use std::io::{Read, Write};
 
-/// Reads a whole script and runs its parts one after another on one new index, without threads: each batch is cut by the
+/// Reads a whole script and runs its parts one after another on one new index, without threads. Each batch is cut by the
 /// remainders of the keys, whatever the settings say, and no driver is used. The script's last batch takes a turn for each
-/// number of the schedule, and is then finished, as [`World::finish`] does it; the batches before it are finished at once.
+/// number of the schedule, and is then finished as by [`World::finish`]. The batches before it are finished at once.
 ///
-/// When all turns are taken the trace is written, a line for each number of the schedule; then the text that
-/// [`serve`](crate::serve) writes; then the pages that the index ends with, as `Index::dump` tells them. A schedule with a
-/// number that isn't below the workers is refused before anything is read. After every error but `Output` nothing was
+/// When all turns are taken, the call writes three texts: the trace, with a line for each number of the schedule; the text that
+/// [`serve`](crate::serve) writes; and the pages of the index at the end, as `Index::dump` returns them. A schedule with a
+/// number that isn't below the number of workers is refused before anything is read. After every error but `Output` nothing was
 /// written.
 pub fn serve_replay<R: Read, W: Write>(
     alloc: Global,
@@ -58,7 +58,7 @@ pub fn serve_replay<R: Read, W: Write>(
     }
 }
 
-// Serves it, where each number of the schedule is a worker.
+// Serves the script, if each number of the schedule is a worker.
 fn replay_script<R: Read, W: Write>(
     alloc: Global,
     reader: &mut R,
@@ -84,7 +84,7 @@ fn replay_script<R: Read, W: Write>(
     write_replay(writer, &told.trace, &told.text, &pages)
 }
 
-// Runs the script that is read, and gives the pages at the end.
+// Runs the script that the reader has, and returns the texts, with the pages at the end.
 fn replay_read<R: Read>(
     alloc: Global,
     reader: &mut R,
@@ -106,7 +106,7 @@ fn replay_read<R: Read>(
     replay_new(alloc, script.parts, settings, schedule, told)
 }
 
-// Runs parts on a new index, and gives its pages at the end.
+// Runs parts on a new index, and returns the texts, with its pages at the end.
 fn replay_new(
     alloc: Global,
     parts: Vec<Part>,
@@ -149,7 +149,7 @@ pub fn write_replay<O: TrackedWriter>(
     flush_out(tracked_writer)
 }
 
-/// The first number of a schedule that isn't below the workers.
+/// Returns the first number of a schedule that isn't below the number of workers.
 pub fn first_of_no_worker(schedule: &[u8], workers: u8) -> Option<u8>
     ensures { MatchOption result (All (λ worker. worker < workers) schedule.now)
         (IsFirstNoWorker workers schedule.now) }
@@ -162,7 +162,7 @@ pub fn first_of_no_worker(schedule: &[u8], workers: u8) -> Option<u8>
     None
 }
 
-/// Runs parts one after another on an index, as a replay runs those before a script's last batch: each batch is cut by the
+/// Runs parts one after another on an index, as a replay runs those before a script's last batch. Each batch is cut by the
 /// remainders of the keys and finished at once, without threads. A refusal gives up the index.
 pub fn run_parts(
     alloc: Global,
@@ -210,14 +210,14 @@ fn replay_parts(
     Ok(index)
 }
 
-// The turns that a batch takes where so many batches come after it: those of the schedule, if it is the last.
+// The turns of a batch that `left` batches follow: those of the schedule, if it is the last.
 fn taken_where(left: u64, schedule: &[u8]) -> &[u8]
     ensures { result.now ≡ taken_where left schedule.now }
 {
     if left == 0 { schedule } else { &[] }
 }
 
-// How many of the parts are batches.
+// The number of batches among the parts.
 fn batches_among(parts: &[Part]) -> u64
     ensures { result ≡ count_by is_batch parts.now }
 {
@@ -228,7 +228,7 @@ fn batches_among(parts: &[Part]) -> u64
     batches
 }
 
-// Runs a part; where it is a batch it takes the schedule.
+// Runs a part. A batch takes the schedule.
 fn replay_part(
     alloc: Global,
     index: Index,
@@ -259,7 +259,7 @@ fn replay_part(
     }
 }
 
-// The index once more, where it was shown.
+// Returns the index again if it was shown.
 fn kept_where(index: Index, shown: Result<(), AllocError>) -> Result<Index, ServeError>
     ensures kept { IfOk result (λ after. after ≡ index) }
     ensures map { IfOk result (λ after. map_of after ≡ map_of index) }
@@ -272,8 +272,8 @@ fn kept_where(index: Index, shown: Result<(), AllocError>) -> Result<Index, Serv
     }
 }
 
-// Runs a batch, cut by residue, over an index: a turn for each number of the schedule, with a line of the trace for each, and then
-// picked turns to the end. A line for each answer is added to the text.
+// Runs a batch, cut by residue, over an index: a turn for each number of the schedule, and then picked turns to the end. Each
+// scheduled turn adds a line to the trace, and each answer a line to the text.
 fn replay_batch(
     alloc: Global,
     index: Index,
@@ -298,7 +298,7 @@ fn replay_batch(
     Ok(Index::from_rest(world.into_rest()))
 }
 
-// The first tree state of a batch's replay over an index.
+// The world of a batch's replay over an index before its first turn.
 fn first_world(alloc: Global, index: Index, batch: Batch, workers: u8) -> Result<World, ServeError>
     requires { MayWork workers }
     ensures begins { IfOk result (λ world. IsStart index batch (by_residue workers batch) world) }
@@ -310,8 +310,8 @@ fn first_world(alloc: Global, index: Index, batch: Batch, workers: u8) -> Result
     Ok(World::start(alloc, index.into_rest(), batch, lanes)?)
 }
 
-// Takes the turns of the schedule, with a line of the trace for each, and then picked turns to the end. A line for each answer is
-// added to the text.
+// Takes the turns of the schedule, and then picked turns to the end. Each scheduled turn adds a line to the trace, and each
+// answer a line to the text.
 fn run_to_end(
     alloc: Global,
     world: &mut World,
@@ -332,7 +332,8 @@ fn run_to_end(
     Ok(())
 }
 
-/// The lane of each operation, by the remainder of its key: the lanes of a replay. An error is a refusal of memory alone.
+/// Returns the lane of each operation, by the remainder of its key: the lanes of a replay. An error is a refusal of memory
+/// alone.
 pub fn lanes_by_residue(alloc: Global, batch: &Batch, workers: u8) -> Result<Lanes, AllocError>
     requires { MayWork workers }
     ensures lanes { IfOk result (λ lanes. lanes ≡ by_residue workers batch.now) }
@@ -344,7 +345,7 @@ pub fn lanes_by_residue(alloc: Global, batch: &Batch, workers: u8) -> Result<Lan
     }
 }
 
-/// What a replay tells: the trace of the schedule's turns, and the text of the parts.
+/// The texts of a replay: the trace of the schedule's turns, and the text of the parts.
 #[derive(Drop)]
 struct Told {
     trace: String,

@@ -16,11 +16,11 @@ use std::sync::Wait;
 use std::thread::Threads;
 
 /// Runs a batch on an index: each worker's lane, an empty one too, in a thread of its own. The answers are those of one thread
-/// that runs the batch in order on the plain map of the index, place by place, and the index keeps that map afterwards.
+/// that runs the batch in order on the plain map of the index, place by place. Afterwards the index has that map.
 ///
-/// Each error leaves the index as it was. `TooLarge` comes before anything else; `Worker` tells the smallest worker that
-/// couldn't be started, and comes before `OutOfMemory` where both came. Nothing is said of how long the call waits for its
-/// threads.
+/// Each error leaves the index as it was. The call refuses first with `TooLarge`. It refuses with `Worker`, which names the
+/// smallest worker that couldn't be started, before `OutOfMemory`, if both apply. The contract says nothing of how long the call
+/// waits for its threads.
 pub fn run_batch<R: Threads + Wait + Sync, G: Gate + Sync>(
     rt: &R,
     alloc: Global,
@@ -38,7 +38,7 @@ pub fn run_batch<R: Threads + Wait + Sync, G: Gate + Sync>(
     ensures refused { IfErr result (MayRefuse driver cut.now.workers index.old batch.now) }
     ensures unchanged { OnErr result (index.new ≡ index.old) }
 
-    // What is so of the driver `Locked` alone, and what of `Live`.
+    // What the driver `Locked` alone guarantees, and what `Live` alone does.
     ensures replayed { driver ≡ Driver.Locked
         → IfOk result (λ given. IsReplayed index.old batch.now cut.now index.new) }
     ensures numbered { driver ≡ Driver.Live → IfOk result (λ given. IsNumberedInOrder index.new) }

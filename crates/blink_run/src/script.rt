@@ -1,4 +1,4 @@
-//! A script served: from its text to its output.
+//! Serving a script: from its text to its output.
 ghost use Rattle.std.specs.Prelude.{◌≡◌, ◌+◌, ◌<◌, ◌^◌, [], ◌∷◌, count_by, IfErr, IfOk, IsErrOf, OnOk, string_bytes};
 ghost use Rattle.blink_batch.specs.{answers, map_after_all, text_of};
 ghost use Rattle.blink_batch.specs.declared.Part.TheVariants.{Batch as PartBatch};
@@ -21,13 +21,13 @@ use std::io::{Read, Write};
 use std::sync::Wait;
 use std::thread::Threads;
 
-/// Reads a whole script, runs its parts one after another on one new index, and writes what they answer: a line for each
-/// operation, in the order of its batch, and for a scan or a page a line for each entry that it shows, in ascending order,
-/// and then their number. Each batch is run by the workers of the settings, in threads of their own.
+/// Reads a whole script, runs its parts one after another on one new index, and writes their answers. It writes a line for each
+/// operation, in the order of its batch. For a scan or a page it writes a line for each entry, in ascending order, and then
+/// their number. The workers of the settings run each batch, in threads of their own.
 ///
-/// Each part's lines are handed to the writer before the next part begins, and the writer is flushed at the end: after a batch that
-/// isn't run and after refused memory too, once the script is read. A write or a flush that fails, for whatever reason, and a write
-/// that takes nothing, is answered as `Output` at once, and no call of the writer comes after it.
+/// The writer gets each part's lines before the next part begins. The call flushes the writer at the end. It does so after a
+/// batch that isn't run and after refused memory too, once the script is read. If a write or a flush fails, for whatever reason,
+/// or a write takes nothing, the call refuses with `Output` at once, and calls the writer no more.
 pub fn serve<T: Threads + Wait + Sync, R: Read, W: Write, G: Gate + Sync>(
     rt: &T,
     alloc: Global,
@@ -49,7 +49,7 @@ pub fn serve<T: Threads + Wait + Sync, R: Read, W: Write, G: Gate + Sync>(
     serve_script(rt, alloc, &script.parts, &mut index, writer, settings, gate)
 }
 
-/// The index that a script is run on: a new one.
+/// Makes the new index that a script is run on.
 pub fn new_index(alloc: Global, settings: &Settings) -> Result<Index, AllocError>
     ensures index { IfOk result (λ index. index ≡ new_store settings.now.fan) }
     ensures empty { IfOk result (λ index. map_of index ≡ []) }
@@ -119,7 +119,7 @@ fn serve_parts<T: Threads + Wait + Sync, O: TrackedWriter, G: Gate + Sync>(
     Ok(())
 }
 
-/// How many batches there are with this part, where there are so many before it.
+/// Returns the number of batches up to this part and with it, if `before` batches come before it.
 pub(crate) fn batches_with(part: &Part, before: u64) -> u64
     requires { before + 1 < 2 ^ 64 }
     ensures { result ≡ before + count_by is_batch (part.now ∷ []) }
@@ -131,7 +131,7 @@ pub(crate) fn batches_with(part: &Part, before: u64) -> u64
     }
 }
 
-// Serves one part, where it is a batch the one of this number.
+// Serves one part. `number` is the part's number if it is a batch.
 fn serve_part<T: Threads + Wait + Sync, O: TrackedWriter, G: Gate + Sync>(
     rt: &T,
     alloc: Global,
@@ -155,7 +155,7 @@ fn serve_part<T: Threads + Wait + Sync, O: TrackedWriter, G: Gate + Sync>(
     write_out(tracked_writer, &text)
 }
 
-// Runs one part, where it is a batch the one of this number, and gives its lines.
+// Runs one part, and returns its lines. `number` is the part's number if it is a batch.
 fn text_of_part<T: Threads + Wait + Sync, G: Gate + Sync>(
     rt: &T,
     alloc: Global,
@@ -181,7 +181,7 @@ fn text_of_part<T: Threads + Wait + Sync, G: Gate + Sync>(
     }
 }
 
-// Runs a batch of this number, and gives the lines of its answers.
+// Runs the batch of this number, and returns the lines of its answers.
 fn batch_text<T: Threads + Wait + Sync, G: Gate + Sync>(
     rt: &T,
     alloc: Global,
@@ -204,7 +204,7 @@ fn batch_text<T: Threads + Wait + Sync, G: Gate + Sync>(
     Ok(answers_text(alloc, &answers)?)
 }
 
-// Runs a batch of this number, and gives its answers.
+// Runs the batch of this number, and returns its answers.
 fn batch_answers<T: Threads + Wait + Sync, G: Gate + Sync>(
     rt: &T,
     alloc: Global,

@@ -37,7 +37,7 @@ fn push_entry(text: &mut String, entry: Entry) -> Result<(), AllocError>
     writeln!(text, "{} {}", entry.key, entry.pointer)
 }
 
-// Adds the last line, with the number of the entries that are shown.
+// Adds the last line, with the number of the entries shown.
 fn push_end(text: &mut String, shown: usize) -> Result<(), AllocError>
     ensures { OnOk result (string_bytes text.new ≡ string_bytes text.old ++ end_line shown) }
 {

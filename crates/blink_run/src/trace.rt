@@ -30,8 +30,8 @@ impl fmt::Display for Words {
     }
 }
 
-/// Takes a turn for each number of the schedule, and adds a line for each to the trace. The refusal of a step's memory
-/// is the step's; memory for the trace is refused as `OutOfMemory`.
+/// Takes a turn for each number of the schedule, and adds a line for each to the trace. If a step is refused memory, the call
+/// refuses with the step's refusal; if the trace is, with `OutOfMemory`.
 pub(crate) fn trace_steps(
     world: &mut World,
     schedule: &[u8],
@@ -49,7 +49,7 @@ pub(crate) fn trace_steps(
     Ok(())
 }
 
-/// Adds the line of a turn to a trace: its worker, and the words of what became of it.
+/// Adds the line of a turn to a trace: its worker, and the words of the turn's result.
 pub fn push_turn(trace: &mut String, worker: u8, step: Step) -> Result<(), AllocError>
     ensures { OnOk result (string_bytes trace.new ≡ string_bytes trace.old ++ turn_line worker step) }
 {

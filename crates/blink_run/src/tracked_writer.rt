@@ -1,25 +1,25 @@
-//! What texts go out to, call by call.
+//! What texts are written to, call by call.
 ghost use Rattle.std.specs.Prelude.{◌≡◌, ℕ, ◌≤◌, Bool, true, false, List, Option, length, IfErr, IfSome, OnOk};
 ghost use Rattle.blink_run.specs.TrackedWriter.{WritesPrefix, WritesAll};
 
 use blink_settings::ServeError;
 use std::io::Write;
 
-/// A writer, without the kinds of its errors. Its contracts tell one call from another, so that the functions that use it can say
-/// which calls it has seen.
+/// A writer, without the kinds of its errors. Its contracts tell one call from another, so the functions that use it can say
+/// which calls they made.
 pub trait TrackedWriter {
-    // A call that is offered these bytes takes so many of them, or fails, and leaves this.
+    // A call that is offered these bytes takes this many of them, or fails, and leaves this writer.
     ghost offered: { Self → List ℕ → Option ℕ → Self → Type 0 };
 
-    // A flush goes well, or fails, and leaves this.
+    // A flush succeeds or fails, and leaves this writer.
     ghost settled: { Self → Bool → Self → Type 0 };
 
-    /// How many of the bytes it takes. There is no number where it fails.
+    /// Offers bytes to the writer. It returns how many of them the writer takes, or `None` if it fails.
     fn offer(&mut self, bytes: &[u8]) -> Option<usize>
         ensures taken { IfSome result (λ taken. taken ≤ length bytes.now) }
         ensures offered { offered self.old bytes.now result self.new };
 
-    /// Whether a flush of what it has taken goes well.
+    /// Flushes what the writer has taken, and returns whether that succeeds.
     fn settle(&mut self) -> bool
         ensures { settled self.old result self.new };
 }
@@ -40,7 +40,7 @@ impl<W: Write> TrackedWriter for W {
     }
 }
 
-/// Writes the whole text. The first call that fails, or takes nothing, is the last.
+/// Writes the whole text. The first call of the writer that fails, or takes nothing, is the last.
 pub fn write_out<O: TrackedWriter>(tracked_writer: &mut O, text: &str) -> Result<(), ServeError>
     ensures written { OnOk result (WritesAll O.offered tracked_writer.old text.now tracked_writer.new) }
     ensures broken_off { IfErr result (λ error. (error ≡ ServeError.Output)

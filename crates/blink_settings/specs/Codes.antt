@@ -1,4 +1,4 @@
--- The number of each refusal.
+-- The code of each refusal.
 use Rattle.std.specs.Prelude.{ℕ}
 use Rattle.blink_batch.specs.{code_of_script_error}
 use Rattle.blink_steps.specs.Codes as step

@@ -1,4 +1,4 @@
--- How a script is run, and whose worker each key is.
+-- The settings of a script's run, and the worker of each key.
 use Rattle.std.specs.Prelude.{ℕ, ◌-◌, ◌*◌, ◌/◌, ◌%◌, ◌^◌, List, map}
 use Rattle.std.specs.List.{range_with_len}
 use Rattle.blink_batch.specs.declared.Op.{Op}
@@ -8,14 +8,14 @@ use Rattle.blink_settings.specs.declared.settings.Driver.{Driver}
 use Rattle.blink_settings.specs.declared.settings.CutKind.{CutKind}
 use Rattle.blink_settings.specs.declared.settings.CutKind.TheVariants.{Residue, Ranges}
 
--- the workers, the greatest number of entries in a page, how batches are cut, and how the tree is shared
+-- the workers, the greatest number of entries in a page, how batches are cut, and how the workers share the tree
 pub record PlainSettings : Type 0 where
   pub workers : ℕ
   pub fan : ℕ
   pub cut : CutKind
   pub driver : Driver
 
--- as many workers as a run may have, and a fan that a tree may have
+-- a run may have this many workers, and a tree this fan
 abbrev pub IsAllowed : ℕ → ℕ → Type 0
 IsAllowed workers fan = MayWork workers × ¬ IsBadFan fan
 
@@ -23,7 +23,7 @@ IsAllowed workers fan = MayWork workers × ¬ IsBadFan fan
 abbrev pub lanes_by_residue : ℕ → List Op → List ℕ
 lanes_by_residue workers ops = map (λ op. key_of op % workers) ops
 
--- the greatest keys of as many ranges as workers, without the last: each a multiple of the same width
+-- the greatest keys of as many ranges as there are workers, without the last: each a multiple of the same width
 abbrev pub even_bounds : ℕ → List ℕ
 even_bounds workers = map (λ number. number * ((2 ^ 64 - 1) / workers)) (range_with_len 1 (workers - 1))
 

@@ -1,4 +1,4 @@
-//! Why a batch isn't run, and why a script isn't served.
+//! The refusals of a batch's run, and of serving a script.
 ghost use Rattle.std.specs.Prelude.{◌≡◌};
 ghost use Rattle.blink_settings.specs.Codes.{code_of, code_of_serve_error};
 
@@ -10,7 +10,7 @@ use thiserror::Error;
 /// Why a batch isn't run. The index is then as it was.
 #[derive(Clone, Copy, Debug, PartialEq, Eq, Error)]
 pub enum RunError {
-    /// The batch's insertions might need more page numbers than there are.
+    /// The batch's insertions might need more page numbers than exist.
     #[error("too large")]
     TooLarge,
     /// Memory was refused.
@@ -19,13 +19,13 @@ pub enum RunError {
     /// This worker's thread couldn't be started, and those of all smaller workers could.
     #[error("worker {0} not started")]
     Worker(u8),
-    /// The book that came out of the lock isn't this run's, or isn't at its end. No run meets it.
+    /// The book that came out of the lock isn't this run's, or isn't at its end. No run meets this refusal.
     #[error("foreign book")]
     Foreign,
 }
 
 impl RunError {
-    /// The number of the refusal, the same in every release.
+    /// Returns the refusal's code, the same in every release.
     pub fn code(&self) -> u8
         ensures { result ≡ code_of self.now }
     {
@@ -53,13 +53,14 @@ pub enum ServeError {
     /// The writer failed.
     #[error("write failed")]
     Output,
-    /// Memory was refused, and neither to the reading of the script, nor to a run, nor to a step.
+    /// Memory was refused, but neither to the reading of the script, nor to a run, nor to a step.
     #[error("out of memory")]
     OutOfMemory,
 }
 
 impl ServeError {
-    /// The number of the refusal, the same in every release: that of the script's, the run's or the step's, where it is one of these.
+    /// Returns the refusal's code, the same in every release. If the refusal is the script's, the run's or the step's, it is
+    /// that one's code.
     pub fn code(&self) -> u8
         ensures { result ≡ code_of_serve_error self.now }
     {

@@ -1,5 +1,5 @@
-//! What a run is asked for, and why one is refused: settings and errors, apart from the threads so that a command line is proved
-//! beside them. Its public items are `blink_run`'s too.
+//! The settings and the refusals of a run. They stand apart from the threads, so that a command line is proved beside them.
+//! `blink_run` exports the public items of this crate too.
 #![tactic(auto)]
 
 mod error;

@@ -1,4 +1,4 @@
-//! How a script is run.
+//! The settings that a script is run by.
 ghost use Rattle.std.specs.Prelude.{◌≡◌, ◌+◌, ◌<◌, ◌↔◌, IfOk, IfErr, IsOkUnless, IsErrOf, IsOk, length};
 ghost use Rattle.blink_batch.specs.{IsLawfulCut, MayWork, lanes_by_ranges};
 ghost use Rattle.blink_index.specs.{IsBadFan};
@@ -16,25 +16,25 @@ use thiserror::Error;
 pub enum CutKind {
     /// By the remainders of the keys: a key's worker is `key % workers`.
     Residue,
-    /// By ranges of keys. The greatest key of range i, counted from 1, is `i * (MAX / workers)`, where MAX is the greatest
-    /// key; the last range goes up to MAX.
+    /// By ranges of keys. The greatest key of range i, counted from 1, is `i * (MAX / workers)`, where MAX is the greatest key.
+    /// The last range goes up to MAX.
     Ranges,
 }
 
 /// How the workers share the tree.
 #[derive(Clone, Copy, Debug, PartialEq, Eq)]
 pub enum Driver {
-    /// Each step is taken under one lock.
+    /// Workers take each step under one lock.
     Locked,
-    /// Without a lock, at one table of atomic words. The table has 25 KB for each insertion, and takes twice as much while
-    /// it is opened, before the threads begin.
+    /// Workers share one table of atomic words without a lock. The table has 25 KB for each insertion. While it is opened,
+    /// before the threads begin, it takes twice as much.
     Live,
 }
 
 /// Why settings are refused.
 #[derive(Clone, Copy, Debug, PartialEq, Eq, Error)]
 pub enum SettingsError {
-    /// The workers aren't 1 to 64.
+    /// The number of workers isn't 1 to 64.
     #[error("bad number of workers")]
     BadWorkers,
     /// The number of entries that a page may have isn't from 4 to 32.
@@ -43,7 +43,7 @@ pub enum SettingsError {
 }
 
 impl SettingsError {
-    /// The number of the refusal, the same in every release.
+    /// Returns the refusal's code, the same in every release.
     pub fn code(&self) -> u8
         ensures { result ≡ code_of_settings_error self.now }
     {
@@ -54,8 +54,8 @@ impl SettingsError {
     }
 }
 
-/// How a script is run: by how many workers, over pages of how many entries, how its batches are cut, and how the workers
-/// share the tree.
+/// The settings of a script's run: the number of workers, the greatest number of entries in a page, how batches are cut, and how
+/// the workers share the tree.
 #[derive(Clone, Copy, Debug, PartialEq, Eq)]
 pub struct Settings {
     workers: u8,
@@ -77,8 +77,8 @@ impl Model for Settings {
 }
 
 impl Settings {
-    /// Settings for 1 to 64 workers and a new index whose pages have at most `fan` entries, 4 to 32. It takes no memory.
-    /// `BadWorkers` is told before `BadFan`.
+    /// Makes the settings for 1 to 64 workers and a new index whose pages have at most `fan` entries, 4 to 32. The call takes no
+    /// memory. It refuses with `BadWorkers` first, and then with `BadFan`.
     pub fn new(
         workers: u8,
         fan: u8,
@@ -105,7 +105,7 @@ impl Settings {
         })
     }
 
-    /// The number of workers.
+    /// Returns the number of workers.
     pub fn workers(&self) -> u8
         ensures workers { result ≡ self.now.workers }
         ensures allowed { MayWork self.now.workers }
@@ -113,7 +113,7 @@ impl Settings {
         self.workers
     }
 
-    /// The greatest number of entries in a page of the new index.
+    /// Returns the greatest number of entries in a page of the new index.
     pub fn fan(&self) -> u8
         ensures fan { result ≡ self.now.fan }
         ensures allowed { ¬ IsBadFan self.now.fan }
@@ -121,21 +121,21 @@ impl Settings {
         self.fan
     }
 
-    /// How the workers share the tree.
+    /// Returns how the workers share the tree.
     pub fn driver(&self) -> Driver
         ensures { result ≡ self.now.driver }
     {
         self.driver
     }
 
-    /// How batches are cut among the workers.
+    /// Returns how batches are cut among the workers.
     pub fn cut(&self) -> CutKind
         ensures { result ≡ self.now.cut }
     {
         self.cut
     }
 
-    /// The cut of a batch among the workers. An error is a refusal of memory.
+    /// Cuts a batch among the workers. An error is a refusal of memory.
     pub fn cut_batch(&self, alloc: Global, batch: &Batch) -> Result<Cut, AllocError>
         ensures workers { IfOk result (λ cut. cut.workers ≡ self.now.workers) }
         ensures lanes { IfOk result
@@ -149,7 +149,7 @@ impl Settings {
     }
 }
 
-// The cut of a batch by the remainders of the keys.
+// Cuts a batch by the remainders of the keys.
 fn by_residue(alloc: Global, batch: &Batch, workers: u8) -> Result<Cut, AllocError>
     requires { MayWork workers }
     ensures workers { IfOk result (λ cut. cut.workers ≡ workers) }
@@ -162,7 +162,7 @@ fn by_residue(alloc: Global, batch: &Batch, workers: u8) -> Result<Cut, AllocErr
     }
 }
 
-// The cut of a batch by as many ranges of keys as workers.
+// Cuts a batch by as many ranges of keys as there are workers.
 fn by_even_ranges(alloc: Global, batch: &Batch, workers: u8) -> Result<Cut, AllocError>
     requires { MayWork workers }
     ensures workers { IfOk result (λ cut. cut.workers ≡ workers) }
@@ -177,7 +177,7 @@ fn by_even_ranges(alloc: Global, batch: &Batch, workers: u8) -> Result<Cut, Allo
     }
 }
 
-// The greatest keys of all ranges but the last, where the keys are cut into as many ranges as workers.
+// The greatest keys of all ranges but the last, if the keys are cut into as many ranges as there are workers.
 fn even_bounds(alloc: Global, workers: u8) -> Result<Vec<u64>, AllocError>
     requires { MayWork workers }
     ensures bounds { IfOk result (λ bounds. bounds.items ≡ even_bounds workers) }

@@ -1,4 +1,4 @@
--- The text of a batch that is replayed: its operations, and a frame for each tree state.
+-- The text of a batch's replay: its operations, and a frame for each tree state.
 use Rattle.std.specs.Prelude.{◌≡◌, ℕ, ◌+◌, ◌%◌, List, [], ◌∷◌, ◌++◌, codes}
 use Rattle.std.specs.Fmt.{decimal}
 use Rattle.blink_batch.specs.declared.Op.{Op}
@@ -10,7 +10,7 @@ use Rattle.blink_show.specs.Frames.{first_frame}
 use Rattle.blink_show.specs.Turns.{ShowsFinish}
 use Rattle.blink_show.specs.Words.{words_of_op}
 
--- an operation: its place, its worker, and itself
+-- an operation: its place, its worker, and the operation itself
 abbrev pub op_line : ℕ → ℕ → Op → List ℕ
 op_line place worker op = codes "op " ++ (decimal place ++ (codes " " ++ (decimal worker ++ (codes " " ++ (words_of_op op ++ codes "\n")))))
 
@@ -19,8 +19,8 @@ abbrev pub ops_from : ℕ → ℕ → List Op → List ℕ
 ops_from workers place [] = []
 ops_from workers place (op ∷ ops) = op_line place (key_of op % workers) op ++ ops_from workers (place + 1) ops
 
--- the text of a batch's replay over a tree: its operations, the first tree state, the turns that are asked for, and then each picked turn,
--- until all operations have ended
+-- the text of a batch's replay over a tree: its operations, the first tree state, the turns asked for, and then each picked
+-- turn, until all operations have ended
 pub record ShowsBatch (workers : ℕ) (asked : PlainWorld → PlainWorld → List ℕ → Type 0) (before : PlainStore) (ops : List Op) (text : List ℕ) : Type 0 where
   pub start : PlainWorld
   pub is_start : IsStart before ops (by_residue workers ops) start
@@ -33,6 +33,6 @@ pub record ShowsBatch (workers : ℕ) (asked : PlainWorld → PlainWorld → Lis
   pub ended : HasEnded finished.run
   pub its_text : text ≡ ops_from workers 0 ops ++ (first_frame start.run ++ (turns ++ finish))
 
--- such a text is added behind what was there
+-- such a text stands after the text before it
 abbrev pub AddsBatch : ℕ → (PlainWorld → PlainWorld → List ℕ → Type 0) → PlainStore → List Op → List ℕ → List ℕ → Type 0
 AddsBatch workers asked before ops old new = (text : List ℕ) × ShowsBatch workers asked before ops text × (new ≡ old ++ text)

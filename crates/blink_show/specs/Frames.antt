@@ -1,4 +1,4 @@
--- Frames: each is a heading, the lines that aren't what they were a frame before, and the operations that have decided since.
+-- Frames: each is a heading, the lines that differ from those of the frame before, and the operations that have decided since.
 use Rattle.std.specs.Prelude.{ℕ, List, [], ◌++◌, Option, Some, None, codes, drop, if◌then◌else◌, length, slice_get}
 use Rattle.std.specs.List.{flat_map, range_with_len}
 use Rattle.std.specs.Str.{bytes_eq}
@@ -7,21 +7,21 @@ use Rattle.blink_machine.specs.declared.Step.{Step}
 use Rattle.blink_steps.specs.{PlainRun}
 use Rattle.blink_show.specs.Lines.{decided_line, lines_of}
 
--- a line, unless it is the one before
+-- a line, unless it equals the one before
 abbrev pub unless_same : Option (List ℕ) → Option (List ℕ) → List ℕ
 unless_same before None = []
 unless_same None (Some line) = line
 unless_same (Some before) (Some line) = if bytes_eq before line then [] else line
 
--- of two lists of lines the second's, but for those that stand at the same place of the first
+-- the lines of `new` that differ from the line of `old` at the same place
 abbrev pub changed : List (List ℕ) → List (List ℕ) → List ℕ
 changed old new = flat_map (λ place. unless_same (slice_get old place) (slice_get new place)) (range_with_len 0 (length new))
 
--- what a frame shows, where these lines and so many decided operations were shown before
+-- what a frame shows, if these lines and this many decided operations were shown before
 abbrev pub changes : List (List ℕ) → ℕ → PlainRun → List ℕ
 changes lines decided run = changed lines (lines_of run) ++ flat_map (decided_line run.outcome.answers) (drop decided run.outcome.order)
 
--- the frame of the first tree state shows all
+-- the frame of the first tree state shows all lines
 abbrev pub first_frame : PlainRun → List ℕ
 first_frame run = codes "first\n" ++ changes [] 0 run
 

@@ -1,6 +1,6 @@
 -- What a caller of `blink_show` reads, in this order; then what proofs above it need; then the files themselves.
 
--- what is written of a script's replay that is to be looked at
+-- the text of a script's replay, to be looked at
 pub use Rattle.blink_show.specs.Show.{IsSeedText, IsShowText, LeavesShow}
 -- ---- the files
 pub mod Show

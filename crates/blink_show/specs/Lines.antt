@@ -19,8 +19,8 @@ after_space number = codes " " ++ decimal number
 abbrev pub prime_line : List ℕ → List ℕ
 prime_line leftmost = codes "prime" ++ (flat_map after_space leftmost ++ codes "\n")
 
--- what a worker has under way: its place in the batch, the pages that it remembers, the top level first, what it is about, and its
--- state; an idle worker has a dash
+-- what a worker has under way: the operation's place in the batch, the pages that it remembers, the top level first, its job,
+-- and its state; an idle worker has a dash
 abbrev pub words_of_working : Option Working → List ℕ
 words_of_working None = codes "-"
 words_of_working (Some working) =
@@ -35,7 +35,7 @@ abbrev pub words_of_page : PlainPage → List ℕ
 words_of_page page =
     decimal page.level ++ (codes " " ++ (words_of page.floor ++ (codes " " ++ (decimal page.high ++ (codes " " ++ words_of page.right)))))
 
--- its number, who holds its latch, itself, and its entries
+-- a page's number, the holder of its latch, the page itself, and its entries
 abbrev pub line_of_page : ℕ → Option ℕ → PlainPage → List ℕ
 line_of_page number holder page =
     codes "page " ++ (decimal number ++ (codes " " ++ (words_of holder ++ (codes " " ++ (words_of_page page ++ (flat_map entry_text page.entries ++ codes "\n"))))))
@@ -57,7 +57,7 @@ lines_of run =
     prime_line run.shared.store.prime
     ∷ (map (line_of_worker run) (range_with_len 0 run.assignment.workers) ++ map (line_of_number run.shared) (range_with_len 1 (length run.shared.store.pages)))
 
--- what an operation has answered
+-- the answer of an operation
 abbrev pub words_of_answer : Option (Option Answer) → List ℕ
 words_of_answer (Some (Some given)) = answer.words_of given
 words_of_answer (Some None) = codes "-"

@@ -1,4 +1,4 @@
--- What is written of a script's replay that is to be looked at.
+-- The text of a script's replay, to be looked at.
 use Rattle.std.specs.Prelude.{◌≡◌, ℕ, List, [], ◌∷◌, ◌++◌, Option, Ok, codes, count_by}
 use Rattle.std.specs.Fmt.{decimal}
 use Rattle.std.specs.Io.KnownBytes.{Keeps}
@@ -20,7 +20,8 @@ pub record IsLastBatch (parts prefix : List Part) (ops : List Op) : Type 0 where
   pub in_order : parts ≡ prefix ++ Batch ops ∷ rest
   pub last : count_by is_batch rest ≡ 0
 
--- the text of some parts over a tree: that of the last batch, over the tree that those before it leave; without a batch there is none
+-- the text of some parts over a tree: that of the last batch, over the tree that the parts before it leave; without a batch the
+-- text is empty
 pub data ShowsParts (workers : ℕ) (asked : PlainWorld → PlainWorld → List ℕ → Type 0) (start : PlainStore) (parts : List Part) (text : List ℕ) : Type 0 where
   no_batch : count_by is_batch parts ≡ 0 → text ≡ [] → ShowsParts workers asked start parts text
   last_batch : (prefix : List Part) (ops : List Op) (before : PlainStore) → IsLastBatch parts prefix ops → HaveRunParts workers start prefix before
@@ -30,7 +31,7 @@ pub data ShowsParts (workers : ℕ) (asked : PlainWorld → PlainWorld → List 
 abbrev pub sizes_text : ℕ → ℕ → List ℕ
 sizes_text workers fan = codes "workers " ++ (decimal workers ++ (codes "\nfan " ++ (decimal fan ++ codes "\n")))
 
--- the text between a head and a tail, of some records, where they are a script
+-- the text between a head and a tail, of records that are a script
 pub record IsTextOf (head tail : List ℕ) (workers fan : ℕ) (asked : PlainWorld → PlainWorld → List ℕ → Type 0) (records : List (List (List ℕ))) (text : List ℕ) : Type 0 where
   pub parts : List Part
   pub a_script : script_of records ≡ Ok parts
@@ -38,20 +39,20 @@ pub record IsTextOf (head tail : List ℕ) (workers fan : ℕ) (asked : PlainWor
   pub shows : ShowsParts workers asked (new_store fan) parts frames
   pub its_text : text ≡ head ++ ((sizes_text workers fan ++ frames) ++ tail)
 
--- that of a schedule's turns
+-- the text for a schedule's turns
 abbrev pub IsShowText : List ℕ → List ℕ → ℕ → ℕ → List ℕ → List (List (List ℕ)) → List ℕ → Type 0
 IsShowText head tail workers fan schedule records text =
     IsTextOf head tail workers fan (λ (start world : PlainWorld) (turns : List ℕ). ShowsSchedule start schedule world turns) records text
 
--- that of the turns that are drawn by a seed
+-- the text for the turns that a seed draws
 abbrev pub IsSeedText : List ℕ → List ℕ → ℕ → ℕ → ℕ → List (List (List ℕ)) → List ℕ → Type 0
 IsSeedText head tail workers fan seed records text = IsTextOf head tail workers fan (ShowsDrawn seed) records text
 
--- nothing was written, unless the writer failed: then a beginning of such a text was
+-- nothing was written, unless the writer failed: then a prefix of such a text was
 abbrev pub LeavesShow : (List (List (List ℕ)) → List ℕ → Type 0) → Option (List ℕ) → ServeError → Option (List ℕ) → Option (List ℕ) → Type 0
 LeavesShow is_text to_read serve.Output before after = WritesText (IsPrefixOf is_text) to_read before after
 LeavesShow is_text to_read error before after = Keeps before after
 
--- such a text of parts is added behind what was there
+-- such a text of parts stands after the text before it
 abbrev pub AddsParts : ℕ → (PlainWorld → PlainWorld → List ℕ → Type 0) → PlainStore → List Part → List ℕ → List ℕ → Type 0
 AddsParts workers asked start parts old new = (text : List ℕ) × ShowsParts workers asked start parts text × (new ≡ old ++ text)

@@ -1,4 +1,4 @@
--- How the turns before the finish come about: by a schedule, or by a seed.
+-- The origin of the turns before the finish: a schedule, or a seed.
 use Rattle.std.specs.Prelude.{◌≡◌, ℕ, ◌<◌, List, ◌++◌, All, ⊤}
 use Rattle.blink_steps.specs.{PlainWorld}
 use Rattle.blink_show.specs.Turns.{ShowsDrawn, ShowsSchedule}
@@ -10,7 +10,7 @@ abbrev pub ShowsAsked : Turns → PlainWorld → PlainWorld → List ℕ → Typ
 ShowsAsked (Schedule schedule) start world text = ShowsSchedule start schedule.now world text
 ShowsAsked (Seed seed) start world text = ShowsDrawn seed start world text
 
--- that text is added behind what was there
+-- that text stands after the text before it
 abbrev pub AddsAsked : Turns → PlainWorld → PlainWorld → List ℕ → List ℕ → Type 0
 AddsAsked turns start world old new = (text : List ℕ) × ShowsAsked turns start world text × (new ≡ old ++ text)
 

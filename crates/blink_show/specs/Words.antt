@@ -1,4 +1,4 @@
--- The words of an operation on its way: its state, in those of the machine's table, what it remembers, and what it is about.
+-- The words of an operation under way: its state, in the words of the machine's table, the pages that it remembers, and its job.
 use Rattle.std.specs.Prelude.{ℕ, List, [], ◌∷◌, ◌++◌, codes}
 use Rattle.std.specs.List.{flat_map}
 use Rattle.std.specs.Fmt.{decimal}
@@ -11,13 +11,13 @@ use Rattle.blink_machine.specs.declared.Next.TheVariants.{Finish, MoveRight, Pos
 use Rattle.blink_machine.specs.declared.State.{State}
 use Rattle.blink_machine.specs.declared.State.TheVariants.{Start, Going, Want, Held, Change, SplitNew, SplitOld, AskPrime, Root, NewPrime, Leave, Posting, Ended}
 
--- where it goes from a page that it leaves
+-- where the operation goes from a page that it leaves
 abbrev pub words_of_next : Next → List ℕ
 words_of_next Finish = codes " and ends"
 words_of_next (MoveRight page) = codes " for " ++ decimal page
 words_of_next (Post debt) = codes " to post"
 
--- where it is
+-- the state of the operation
 abbrev pub words_of_state : State → List ℕ
 words_of_state Start = codes "begins"
 words_of_state (Going page level) = codes "going down, page " ++ decimal page
@@ -33,7 +33,7 @@ words_of_state (Leave page next) = codes "leaves " ++ (decimal page ++ words_of_
 words_of_state Posting = codes "posting, no page remembered"
 words_of_state Ended = codes "ended"
 
--- what it is about: a dash for its own key, or the level, the separator and the new page that it posts
+-- the job: a dash for the operation's own key, or the level, the separator and the new page that it posts
 abbrev pub words_of_job : Job → List ℕ
 words_of_job Leaf = codes "-"
 words_of_job (Parent debt) = decimal debt.level ++ (codes ":" ++ (decimal debt.separator ++ (codes ":" ++ decimal debt.page)))
@@ -42,12 +42,12 @@ words_of_job (Parent debt) = decimal debt.level ++ (codes ":" ++ (decimal debt.s
 abbrev pub after_dot : ℕ → List ℕ
 after_dot page = codes "." ++ decimal page
 
--- pages with a dot between any two, or a dash where there is none
+-- pages with a dot between each two, or a dash if there are no pages
 abbrev pub dotted : List ℕ → List ℕ
 dotted [] = codes "-"
 dotted (page ∷ pages) = decimal page ++ flat_map after_dot pages
 
--- an operation, as a script has it, but for spaces
+-- an operation, spelled as in a script, except for spaces
 abbrev pub words_of_op : Op → List ℕ
 words_of_op (Find key) = codes "find " ++ decimal key
 words_of_op (Insert key pointer) = codes "insert " ++ (decimal key ++ (codes " " ++ decimal pointer))

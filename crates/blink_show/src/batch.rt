@@ -15,8 +15,8 @@ use blink_steps::World;
 use std::alloc::{AllocError, Global};
 use std::fmt::Write as _;
 
-/// Runs a batch, cut by the remainders of its keys, over an index: the turns that are asked for, and then picked turns to the end. Its
-/// operations are added to the text, and then a frame for the first tree state and one for each turn.
+/// Runs a batch, cut by the remainders of its keys, over an index: the turns asked for, and then picked turns to the end. It
+/// adds the batch's operations to the text, and then a frame for the first tree state and one for each turn.
 pub(crate) fn show_batch(
     alloc: Global,
     index: Index,

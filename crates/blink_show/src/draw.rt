@@ -1,4 +1,4 @@
-//! Workers that are drawn by chance.
+//! Workers drawn at random.
 ghost use Rattle.std.specs.Prelude.{◌≡◌, ◌<◌, ◌↔◌, IfOk, IfSome, IsTrue, MatchOption, OnOk, length};
 ghost use Rattle.rand_xoshiro.specs.SplitMix64.{next_state};
 ghost use Rattle.blink_steps.specs.{WouldMove, HasEnded, IsWorld};
@@ -10,8 +10,8 @@ use rand_core::utils::NextWord;
 use rand_xoshiro::SplitMix64;
 use std::alloc::{AllocError, Global};
 
-/// Draws one of the workers whose next turn would be a step, by the generator's next word: it is told none where all operations have
-/// ended, and then no word is taken. The owners are the workers of the batch's operations.
+/// Draws one of the workers whose next turn would be a step, by the generator's next word. If all operations have ended, it
+/// returns `None`, and takes no word. The owners are the workers of the batch's operations.
 pub(crate) fn draw(
     alloc: Global,
     world: &World,
@@ -51,7 +51,7 @@ fn movers(alloc: Global, world: &World, owners: &[u8]) -> Result<Vec<u8>, AllocE
     Ok(movers)
 }
 
-// Whether the worker's next turn would be a step: it doesn't wait, and has an operation under way or before it.
+// Whether the worker's next turn would be a step: the worker doesn't wait, and has an operation under way or still to begin.
 fn would_move(world: &World, owners: &[u8], worker: u8) -> bool
     requires a_worker { worker < world.now.run.assignment.workers }
     requires owners { owners.now ≡ world.now.run.assignment.lanes }

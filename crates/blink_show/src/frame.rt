@@ -7,7 +7,7 @@ use crate::line::{lines_of, push_decided};
 use blink_steps::World;
 use std::alloc::{AllocError, Global};
 
-/// What the last frame has left to be compared with: its lines, and how many operations had decided then.
+/// What the next frame is compared with: the lines of the last frame, and the number of operations that had decided then.
 #[derive(Debug, Drop)]
 pub(crate) struct Shown {
     pub lines: Vec<String>,
@@ -15,7 +15,7 @@ pub(crate) struct Shown {
 }
 
 impl Shown {
-    /// Nothing is shown yet.
+    /// The state before the first frame.
     pub(crate) fn nothing(alloc: Global) -> Shown
         ensures lines { result.lines.items ≡ [] }
         ensures decided { result.decided ≡ 0 }
@@ -26,7 +26,7 @@ impl Shown {
         }
     }
 
-    /// Adds what has changed since the last frame to the text, and keeps what there is now.
+    /// Adds what has changed since the last frame to the text, and remembers the world's lines.
     pub(crate) fn show(
         &mut self,
         alloc: Global,
@@ -51,7 +51,7 @@ impl Shown {
     }
 }
 
-// Adds the second lines, but for those that stand at the same place of the first.
+// Adds the lines of `new` that differ from the line of `old` at the same place.
 fn push_changed(text: &mut String, old: &[String], new: &[String]) -> Result<(), AllocError>
     ensures { OnOk result (string_bytes text.new ≡ string_bytes text.old
         ++ changed (map string_bytes old.now) (map string_bytes new.now)) }
@@ -62,7 +62,7 @@ fn push_changed(text: &mut String, old: &[String], new: &[String]) -> Result<(),
     Ok(())
 }
 
-// Adds a line, unless it is the one before.
+// Adds a line, unless it equals the one before.
 fn push_unless_same(
     text: &mut String,
     before: Option<&String>,

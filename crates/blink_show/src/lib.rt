@@ -1,5 +1,5 @@
-//! The text of a replay that is to be looked at: a frame for each tree state of a script's last batch, which shows the pages by number,
-//! who has latched what, each worker's operation, and what is decided.
+//! The text of a replay to look at. It has a frame for each tree state of a script's last batch. A frame shows the pages by
+//! number, the latches and their holders, each worker's operation, and what is decided.
 #![tactic(auto)]
 
 mod batch;

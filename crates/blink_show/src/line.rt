@@ -12,7 +12,7 @@ use std::alloc::{AllocError, Global};
 use std::fmt;
 use std::fmt::Write as _;
 
-// What an operation has answered, or a dash.
+// The answer of an operation, or a dash.
 #[derive(Clone, Copy)]
 struct Answered(Option<Option<Answer>>);
 
@@ -30,7 +30,7 @@ impl fmt::Display for Answered {
     }
 }
 
-/// The lines of the prime block, of each worker, and of each page.
+/// Returns the lines of the prime block, of each worker, and of each page.
 pub(crate) fn lines_of(alloc: Global, world: &World) -> Result<Vec<String>, AllocError>
     ensures { IfOk result (λ lines. map string_bytes lines.items ≡ lines_of world.now.run) }
 {
@@ -85,7 +85,7 @@ fn worker_line(alloc: Global, worker: u8, working: Option<&Working>) -> Result<S
     Ok(line)
 }
 
-// Adds what a worker has under way.
+// Adds the operation that a worker has under way.
 fn push_working(line: &mut String, working: Option<&Working>) -> Result<(), AllocError>
     ensures { OnOk result (string_bytes line.new ≡ string_bytes line.old
         ++ words_of_working (option_map (λ working. working.now) working.entry)) }
@@ -132,7 +132,7 @@ fn page_line(
     Ok(line)
 }
 
-// Adds what a line says of a page itself.
+// Adds the part of a line that is about the page itself.
 fn push_page(line: &mut String, page: &Page) -> Result<(), AllocError>
     ensures { OnOk result (string_bytes line.new ≡ string_bytes line.old ++ words_of_page page.now) }
 {

@@ -16,14 +16,14 @@ use std::alloc::Global;
 use std::fmt::Write as _;
 use std::io::{Read, Write};
 
-/// Reads a whole script and replays it, as [`blink_run::serve_replay`] does: each batch is cut by the remainders of the keys, the last
-/// one takes a turn for each number of the schedule and is then finished, and those before it are finished at once.
+/// Reads a whole script and replays it, as [`blink_run::serve_replay`] does. Each batch is cut by the remainders of the keys. The
+/// last batch takes a turn for each number of the schedule, and is then finished. The batches before it are finished at once.
 ///
-/// When all turns are taken, `head` is written; then the workers and the fan; where there is a batch, its operations, a frame for its
-/// first tree state and one for each turn, of the schedule and of the finish; and then `tail`. The first frame has a line for the prime
-/// block, for each worker and for each page, and each other one those that have changed, with the operations that have decided since.
-/// A schedule with a number that isn't below the workers is refused before anything is read. After every error but `Output`
-/// nothing was written.
+/// When all turns are taken, the call writes `head`, and then the workers and the fan. If the script has a batch, it writes the
+/// last batch's operations, a frame for its first tree state, and one for each turn of the schedule and of the finish. It ends
+/// with `tail`. The first frame has a line for the prime block, for each worker and for each page. Each other frame has the
+/// lines that have changed, and the operations that have decided since. A schedule with a number that isn't below the number of
+/// workers is refused before anything is read. After every error but `Output` nothing was written.
 pub fn serve_show<R: Read, W: Write>(
     alloc: Global,
     reader: &mut R,
@@ -60,9 +60,9 @@ pub fn serve_show<R: Read, W: Write>(
     }
 }
 
-/// Reads a whole script and replays it, as [`serve_show`] does, by another order of turns: each turn of the last batch is a worker's that
-/// is drawn by the words of SplitMix64 from this seed, among those whose next turn neither waits nor is idle, until all operations have
-/// ended. What is written is the text of [`serve_show`] for that schedule.
+/// Reads a whole script and replays it, as [`serve_show`] does, by another order of turns. The words of SplitMix64 from this
+/// seed draw the worker of each turn of the last batch, until all operations have ended. They draw among the workers whose next
+/// turn neither waits nor is idle. The call writes the text of [`serve_show`] for that schedule.
 pub fn serve_seed<R: Read, W: Write>(
     alloc: Global,
     reader: &mut R,
@@ -91,7 +91,7 @@ pub fn serve_seed<R: Read, W: Write>(
     )
 }
 
-// Shows it by the turns that are asked for, where each number of a schedule is a worker.
+// Shows the script by the turns asked for, if each number of a schedule is a worker.
 fn show_script<R: Read, W: Write>(
     alloc: Global,
     reader: &mut R,

@@ -15,12 +15,12 @@ use rand_core::SeedableRng;
 use rand_xoshiro::SplitMix64;
 use std::alloc::{AllocError, Global};
 
-/// Which turns are taken before the finish.
+/// The turns before the finish.
 #[derive(Clone, Copy, Debug)]
 pub(crate) enum Turns<'a> {
-    /// Those of a schedule: the worker of each.
+    /// The turns of a schedule: the worker of each.
     Schedule(&'a [u8]),
-    /// Those of workers that are drawn by this seed, until all operations have ended.
+    /// The turns of workers that this seed draws, until all operations have ended.
     Seed(u64),
 }
 
@@ -41,7 +41,7 @@ pub(crate) fn show_first(
     shown.show(alloc, world, text)
 }
 
-/// Takes the turns that are asked for, and adds a frame for each. The owners are the workers of the batch's operations.
+/// Takes the turns asked for, and adds a frame for each. The owners are the workers of the batch's operations.
 pub(crate) fn show_turns(
     alloc: Global,
     world: &mut World,
@@ -86,7 +86,7 @@ fn show_schedule(
     Ok(())
 }
 
-// Takes turns of workers that are drawn by the seed, until all operations have ended, and adds a frame for each.
+// Takes turns of workers that the seed draws, until all operations have ended, and adds a frame for each.
 fn show_drawn(
     alloc: Global,
     world: &mut World,
@@ -130,7 +130,7 @@ pub(crate) fn show_finish(
     Ok(())
 }
 
-// Adds the frame of a turn that has led to this world.
+// Adds the frame of the turn that has led to this world.
 fn show_turn(
     alloc: Global,
     word: &str,

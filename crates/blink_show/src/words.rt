@@ -1,4 +1,4 @@
-//! The words of an operation on its way.
+//! The words of an operation under way.
 ghost use Rattle.std.specs.Prelude.{◌≡◌, ◌++◌, OnOk, string_bytes};
 ghost use Rattle.blink_show.specs.Words.{dotted, words_of_job, words_of_op, words_of_state};
 
@@ -48,7 +48,7 @@ pub(crate) fn push_state(text: &mut String, state: &State) -> Result<(), AllocEr
     }
 }
 
-/// Adds what an operation is about.
+/// Adds the words of a job.
 pub(crate) fn push_job(text: &mut String, job: Job) -> Result<(), AllocError>
     ensures { OnOk result (string_bytes text.new ≡ string_bytes text.old ++ words_of_job job) }
 {
@@ -58,7 +58,7 @@ pub(crate) fn push_job(text: &mut String, job: Job) -> Result<(), AllocError>
     }
 }
 
-/// Adds page numbers, with a dot between any two, or a dash where there is none.
+/// Adds page numbers, with a dot between each two, or a dash if there are no pages.
 pub(crate) fn push_dotted(text: &mut String, pages: &[u32]) -> Result<(), AllocError>
     ensures { OnOk result (string_bytes text.new ≡ string_bytes text.old ++ dotted pages.now) }
 {

@@ -1,4 +1,4 @@
--- What an operation's step does to the store and the latches that workers share.
+-- The effect of an operation's step on the store and the latches that workers share.
 use Rattle.std.specs.Prelude.{◌≡◌, ℕ, ◌+◌, ◌<◌, ◌≤◌, Option, Some, None, IsSome, List, length}
 use Rattle.blink_page.specs.{IsPageNumber, PlainPage, least_above}
 use Rattle.blink_page.specs.declared.limits.TheConstants.{LEVELS, MAX_PAGE}
@@ -16,7 +16,7 @@ pub record PlainShared : Type 0 where
   pub store : PlainStore
   pub latches : List (Option ℕ)
 
--- a step for each need: what it is, what becomes of the operation, and what of the store and the latches
+-- a step for each need: its kind, and the operation, the store and the latches after it
 abbrev pub ActsOn : Need → PlainShared → ℕ → PlainMachine → Step → PlainMachine → PlainShared → Type 0
 ActsOn ReadPrime old worker m (Moved kind) after new = (kind ≡ read_prime) × SeesPrime m old.store.prime after × (new ≡ old)
 ActsOn ReadPrime old worker m Waited after new = WaitsForLevel m old.store.prime × (after ≡ m) × (new ≡ old)
@@ -54,7 +54,7 @@ ActsOn End old worker m step after new = ⊥
 abbrev pub Acts : PlainShared → ℕ → PlainMachine → Step → PlainMachine → PlainShared → Type 0
 Acts old worker m step after new = ActsOn (need_at m.state) old worker m step after new
 
--- a page that may be put in the place of page n
+-- a page that may replace page n
 pub record MayReplace (store : PlainStore) (number : ℕ) (page : PlainPage) : Type 0 where
   pub exists : HasPage store number
   pub before : PlainPage
@@ -62,7 +62,7 @@ pub record MayReplace (store : PlainStore) (number : ℕ) (page : PlainPage) : T
   pub same_floor_and_level : SameFloorAndLevel before page
   pub at_most_fan : length page.entries ≤ store.fan
 
--- the page that it reads is one that its state lets it read
+-- the page that the operation reads is one that its state lets it read
 pub record MayRead (store : PlainStore) (number : ℕ) (m : PlainMachine) : Type 0 where
   pub exists : HasPage store number
   pub page : PlainPage
@@ -70,7 +70,7 @@ pub record MayRead (store : PlainStore) (number : ℕ) (m : PlainMachine) : Type
   pub has_level : page.level ≡ level_read m
   pub floor_below : least_above page.floor ≤ target m
 
--- what a step needs of the store and the latches, for each need
+-- for each need, what a step requires of the store and the latches
 abbrev pub CanActOn : Need → PlainShared → ℕ → PlainMachine → Type 0
 CanActOn ReadPrime shared worker m = length shared.store.prime < LEVELS
 CanActOn (ReadPage number) shared worker m = MayRead shared.store number m

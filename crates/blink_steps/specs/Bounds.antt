@@ -1,4 +1,4 @@
--- What no operation of a history and no run goes beyond: page numbers, writes, and levels.
+-- The bounds of the operations of a history and of a run: page numbers, writes, and levels.
 use Rattle.std.specs.Prelude.{ℕ, ◌+◌, ◌*◌, ◌<◌, ◌≤◌, List, length}
 use Rattle.blink_page.specs.declared.limits.TheConstants.{LEVELS}
 use Rattle.blink_store.specs.{PlainStore}
@@ -6,7 +6,7 @@ use Rattle.blink_page.specs.declared.limits.TheConstants.{MAX_NEW_PAGES_PER_INSE
 use Rattle.blink_steps.specs.Counts.{begun_inserts, numbers_in, page_writes_in, prime_writes_in}
 use Rattle.blink_steps.specs.Run.{PlainRun, Event}
 
--- no operation takes more page numbers, or writes more pages or more often the prime block, than this
+-- no operation takes more page numbers than this, or writes more pages, or writes the prime block more often
 pub record IsBounded (start : PlainStore) (history : List Event) (run : PlainRun) : Type 0 where
   pub numbers : (place : ℕ) → numbers_in history place ≤ MAX_NEW_PAGES_PER_INSERT
   pub page_writes : (place : ℕ) → page_writes_in history place ≤ MAX_PAGE_WRITES_PER_INSERT

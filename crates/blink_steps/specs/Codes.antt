@@ -1,4 +1,4 @@
--- The number of each refusal.
+-- The code of each refusal.
 use Rattle.std.specs.Prelude.{ℕ}
 use Rattle.blink_steps.specs.declared.error.StepError.{StepError}
 use Rattle.blink_steps.specs.declared.error.StepError.TheVariants.{OutOfMemory, NoWorker, TooLarge}

@@ -1,4 +1,4 @@
--- How often the operations of a history took new page numbers, wrote pages and the prime block, read pages, and moved.
+-- Counts of a history's operations: new page numbers taken, pages and prime blocks written, pages read, and moves.
 use Rattle.std.specs.Prelude.{◌≡◌, ℕ, ◌==◌, nat_lt, ◌&&◌, Bool, true, List, count_by}
 use Rattle.std.specs.List.{zip}
 use Rattle.blink_batch.specs.declared.Op.{Op}
@@ -14,30 +14,30 @@ HasMoved step = has_moved step ≡ true
 abbrev pub HasWaited : Step → Type 0
 HasWaited step = step ≡ Waited
 
--- how many turns of the operation at a place, of such a kind, there are in a history
+-- the number of turns of this kind of the operation at a place, in a history
 abbrev pub turns_of : ℕ → (Event → Bool) → List Event → ℕ
 turns_of place of_kind history = count_by (λ (taken : Event). taken.place == place && of_kind taken) history
 
 abbrev pub takes_number : Event → Bool
 takes_number taken = has_moved taken.step && writes_new_page taken.before.state
 
--- how many page numbers the operation at a place has taken
+-- the number of page numbers that the operation at a place has taken
 abbrev pub numbers_in : List Event → ℕ → ℕ
 numbers_in history place = turns_of place takes_number history
 
--- how often it has written a page
+-- the number of page writes of the operation
 abbrev pub page_writes_in : List Event → ℕ → ℕ
 page_writes_in history place = turns_of place (λ (taken : Event). moved_by is_page_write taken.step) history
 
--- how often it has written the prime block
+-- the number of its writes of the prime block
 abbrev pub prime_writes_in : List Event → ℕ → ℕ
 prime_writes_in history place = turns_of place (λ (taken : Event). moved_by is_prime_write taken.step) history
 
--- how many pages it has read, those under latches with them
+-- the number of its page reads, those under latches included
 abbrev pub page_reads_in : List Event → ℕ → ℕ
 page_reads_in history place = turns_of place (λ (taken : Event). moved_by is_page_read taken.step) history
 
--- how many steps it has taken; waits are not counted
+-- the number of its steps; waits are not counted
 abbrev pub moves_in : List Event → ℕ → ℕ
 moves_in history place = turns_of place (λ (taken : Event). has_moved taken.step) history
 

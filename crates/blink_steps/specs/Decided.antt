@@ -1,4 +1,4 @@
--- What the operations of a run have decided so far.
+-- The decisions of a run's operations so far.
 use Rattle.std.specs.Prelude.{◌≡◌, ℕ, ◌<◌, Option, Some, None, List, length, All, Contains, slice_get}
 use Rattle.std.specs.List.{zip}
 use Rattle.blink_batch.specs.declared.Answer.{Answer}
@@ -8,17 +8,17 @@ use Rattle.blink_batch.specs.{answers, map_after_all, operations_at}
 use Rattle.blink_steps.specs.Run.{PlainRun, tree_state_of}
 use Rattle.blink_machine.specs.{Keeps}
 
--- the answers so far are those of a run in the given order on a map, each at its operation's place
+-- the answers so far are those of a run on a map in the given order, each at its operation's place
 abbrev pub AnswersSoFar : List Entry → List Op → List ℕ → List (Option Answer) → Type 0
 AnswersSoFar entries ops order given =
     All (λ decided. slice_get given decided.0 ≡ Some (Some decided.1))
     (zip order (answers entries (operations_at ops order)))
 
--- what the operations decided so far leave of a map, one after another in the order of their deciding steps
+-- a map after the operations decided so far, one after another in the order of their deciding steps
 abbrev pub map_now : List Entry → PlainRun → List Entry
 map_now entries run = map_after_all entries (operations_at run.ops run.outcome.order)
 
--- what is decided is the run of the operations on the entries at the start, in the order of their deciding steps
+-- answers and entries are those of a run of the operations on the entries at the start, in the order of their deciding steps
 pub record IsDecided (entries : List Entry) (run : PlainRun) : Type 0 where
   pub places_of_batch : All (λ place. place < length run.ops) run.outcome.order
   pub answered : AnswersSoFar entries run.ops run.outcome.order run.outcome.answers

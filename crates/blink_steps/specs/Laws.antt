@@ -1,4 +1,4 @@
--- Laws of turns, whatever the run.
+-- Laws of turns, for any run.
 use Rattle.std.specs.Prelude.{◌≡◌, ◌≢◌, ◌↔◌, ℕ, ◌+◌, Option, [], ◌∷◌, ◌++◌, length}
 use Rattle.blink_store.specs.{PlainStore}
 use Rattle.blink_machine.specs.declared.step.Step.{Step}
@@ -25,7 +25,7 @@ pub record IsStepOfTreeStates (old : PlainRun) (taken : Event) (new : PlainRun) 
 abbrev pub TurnsAreSteps : Type 0
 TurnsAreSteps = (old new : PlainRun) (taken : Event) → AppliesEvent old taken new → taken.step ≢ Idle → IsStepOfTreeStates old taken new
 
--- the turn that takes a step of an operation of this place
+-- the turn that takes a step of the operation at this place
 abbrev pub turn_of : ℕ → ℕ → PlainMachine → Step → PlainMachine → Event
 turn_of worker place m step after = record { worker = worker; step = step; place = place; before = m; after = after }
 
@@ -35,7 +35,7 @@ pub record HasTurnTo (old : PlainRun) (taken : Event) (then : TreeState) : Type 
   pub turn : AppliesEvent old taken new
   pub same_tree_state : tree_state_of new ≡ then
 
--- and each such step of a world's operation, with that number for a new page, is a turn
+-- each such step of a world's operation, with that number for a new page, is a turn
 abbrev pub StepsAreTurns : Type 0
 StepsAreTurns = (world : PlainWorld) (worker place : ℕ) (m after : PlainMachine) (next : Option ℕ) (step : Step) (then : TreeState) → IsWorld world
     → IsNextOf world.run worker place m next → Steps (tree_state_of world.run) worker m step after then
@@ -43,10 +43,10 @@ StepsAreTurns = (world : PlainWorld) (worker place : ℕ) (m after : PlainMachin
 
 -- ---- idle workers
 
--- the run has one worker more, who is idle
+-- the run with one more worker, who is idle
 abbrev pub with_idle_worker : PlainRun → Option ℕ → PlainRun
 with_idle_worker run next = record run { seats = run.seats ++ idle_seat next ∷ [] }
 
--- with it the tree state has the invariant exactly where it was without
+-- the invariant holds for the tree state with that worker exactly if it holds without
 abbrev pub IdleWorkersDontMatter : Type 0
 IdleWorkersDontMatter = (run : PlainRun) (next : Option ℕ) → Invariant (tree_state_of (with_idle_worker run next)) ↔ Invariant (tree_state_of run)

@@ -1,24 +1,24 @@
 -- What a caller of `blink_steps` reads, in this order; then what proofs above it need; then the files themselves.
 
--- a batch's run over a tree, as plain data: the tree, the workers, and what is decided; and one turn of a worker
+-- a batch's run over a tree, as plain data: the tree, the workers, and the outcome; and one turn of a worker
 pub use Rattle.blink_steps.specs.Run.{Event, PlainRun, working_of}
 -- a world: a run with its schedule, and the world that a schedule leads to
 pub use Rattle.blink_steps.specs.World.{GoesOnBy, HasEnded, InItsHistory, IsAtLanesEnd, IsFirstNoWorker, IsReplay, IsReplayRefusal, IsStart, IsStepRefusal, IsTooLarge, IsWorld, IsWorldOf, KeepsItsStart, PlainWorld, SameBatch, TakesStep, with_turn}
--- what is promised of the world of every schedule, over every tree at rest, for every batch and all lanes
+-- the promises of the world of every schedule, over every tree at rest, for every batch and all lanes
 pub use Rattle.blink_steps.specs.Promises.{HasAnswerAt, IsPromised}
--- what one thread would answer and leave, whatever the schedule was; and that in every state of the tree each key then present is reached
+-- what one thread would answer and leave, whatever the schedule was; and in every tree state each key then present is reached
 pub use Rattle.blink_steps.specs.Headline.{IsOneThread, IsReachedThroughout, NoKeyIsLost}
--- laws of turns, whatever the run
+-- laws of turns, for any run
 pub use Rattle.blink_steps.specs.Laws.{IdleWorkersDontMatter, StepsAreTurns, TurnsAreSteps}
--- which workers are idle, which wait, whose turn is picked, and a run that goes on by picked turns alone
+-- idle workers, waiting workers, the picked worker, and runs that go on by picked turns alone
 pub use Rattle.blink_steps.specs.Pick.{GoesOnPicked, IsFirstMover, IsIdleWorker, WouldMove, WouldWait, steps_left}
--- how often the operations of a history took new page numbers, wrote pages and the prime block, read pages, and moved
+-- counts of a history's operations: new page numbers taken, pages and prime blocks written, pages read, and moves
 pub use Rattle.blink_steps.specs.Counts.{HasMoved, HasWaited, moves_in, page_reads_in}
--- how long an operation's way is: it reads no page twice on its way down and latches none twice, so that its steps are bounded by the number of pages
+-- the length of an operation: it reads no page twice in its descent and latches none twice, so the number of pages bounds its steps
 pub use Rattle.blink_steps.specs.StepBounds.{steps_at_most_with}
--- what an operation's step does to the store and the latches that workers share
+-- the effect of an operation's step on the store and the latches that workers share
 pub use Rattle.blink_steps.specs.Acts.{PlainShared}
--- the number of each refusal
+-- the code of each refusal
 pub use Rattle.blink_steps.specs.Codes.{code_of}
 -- by their file, since they have its name or another file's word: RunInvariant.{RunInvariant}
 

@@ -1,4 +1,4 @@
--- A batch's run over a tree, as plain data: the tree, the workers, and what is decided; and one turn of a worker.
+-- A batch's run over a tree, as plain data: the tree, the workers, and the outcome; and one turn of a worker.
 use Rattle.std.specs.Prelude.{◌≡◌, ℕ, ◌+◌, ◌<◌, Option, Some, None, List, [], ◌∷◌, length, slice_get, slice_set}
 use Rattle.blink_batch.specs.declared.Op.{Op}
 use Rattle.blink_batch.specs.{Assignment, next_place}
@@ -17,16 +17,16 @@ pub record PlainRun : Type 0 where
   pub shared : PlainShared
   pub ops : List Op
   pub assignment : Assignment
-  -- a seat for each worker
+  -- the state of each worker
   pub seats : List WorkerState
   -- what is decided, and how far each operation has come
   pub outcome : PlainOutcome
 
--- a worker without an operation, and the place of its next one
+-- an idle worker, with the place of its next operation
 abbrev pub idle_seat : Option ℕ → WorkerState
 idle_seat next = record { working = None; next = next }
 
--- a worker with an operation of this place, and the place of its next one
+-- a worker with the operation of this place, and the place of its next one
 abbrev pub busy_seat : ℕ → PlainMachine → Option ℕ → WorkerState
 busy_seat place m next = record { working = Some (record { place = place; machine = m }); next = next }
 
@@ -35,7 +35,7 @@ abbrev pub machine_in : Option Working → Option PlainMachine
 machine_in None = None
 machine_in (Some working) = Some working.machine
 
--- what a worker's seat has under way
+-- the working part of a worker's state
 abbrev pub working_of : Option WorkerState → Option Working
 working_of None = None
 working_of (Some seat) = seat.working
@@ -44,7 +44,7 @@ abbrev pub machine_of_seat : Option WorkerState → Option PlainMachine
 machine_of_seat None = None
 machine_of_seat (Some seat) = machine_in seat.working
 
--- the tree state of a run: what a step of the tree is about
+-- the tree state of a run, between which steps of the tree lead
 abbrev pub tree_state_with : PlainShared → (ℕ → Option PlainMachine) → TreeState
 tree_state_with shared machines = record {
   fan = shared.store.fan;
@@ -57,7 +57,7 @@ tree_state_with shared machines = record {
 abbrev pub tree_state_of : PlainRun → TreeState
 tree_state_of run = tree_state_with run.shared (λ worker. machine_of_seat (slice_get run.seats worker))
 
--- the seat of a worker after a step of its operation: with the operation, or, where that has ended, without
+-- a worker's state after a step of its operation: with the operation, or without it if it has ended
 abbrev pub seat_after : Option PlainMachine → ℕ → Option ℕ → WorkerState
 seat_after None place next = idle_seat next
 seat_after (Some m) place next = busy_seat place m next
@@ -70,15 +70,14 @@ after_move old worker place next m kind after shared = record old {
   outcome = recorded old.outcome place kind m.answer after.answer;
 }
 
--- the operation of a worker's step: the one under way, or, where it is idle, the next of its lane, which has taken no step;
--- and the place of the one after it
+-- the operation of a worker's step, and the place of the one after it: the operation under way, or, if the worker is idle, the
+-- next of its lane, which has taken no step
 pub data IsNextOf (run : PlainRun) (worker place : ℕ) (m : PlainMachine) (next : Option ℕ) : Type 0 where
   under_way : slice_get run.seats worker ≡ Some (busy_seat place m next) → IsNextOf run worker place m next
   taken_on : (op : Op) → slice_get run.seats worker ≡ Some (idle_seat (Some place)) → slice_get run.ops place ≡ Some op
       → m ≡ fresh run.shared.store.fan op → next ≡ next_place run.assignment.lanes worker (place + 1) → IsNextOf run worker place m next
 
--- one turn of a worker: what became of it, and, where it took a step, the place of the operation, and the operation before
--- and after
+-- one turn of a worker and what became of it; if it took a step, also the operation's place, and the operation before and after
 pub record Event : Type 0 where
   pub worker : ℕ
   pub step : Step
@@ -86,8 +85,7 @@ pub record Event : Type 0 where
   pub before : PlainMachine
   pub after : PlainMachine
 
--- a turn is taken: the worker's operation moves; or it waits, and nothing changes; or the lane is at its end, and nothing
--- changes
+-- a turn: the worker's operation moves; or it waits, and nothing changes; or the lane is at its end, and nothing changes
 pub data AppliesEvent (old : PlainRun) (taken : Event) (new : PlainRun) : Type 0 where
   moves : (next : Option ℕ) (kind : Kind) → IsNextOf old taken.worker taken.place taken.before next → taken.step ≡ Moved kind
       → Acts old.shared taken.worker taken.before (Moved kind) taken.after new.shared
@@ -96,16 +94,16 @@ pub data AppliesEvent (old : PlainRun) (taken : Event) (new : PlainRun) : Type 0
       → Acts old.shared taken.worker taken.before Waited taken.after old.shared → new ≡ old → AppliesEvent old taken new
   idles : slice_get old.seats taken.worker ≡ Some (idle_seat None) → taken.step ≡ Idle → new ≡ old → AppliesEvent old taken new
 
--- the worker takes a turn, of which this becomes
+-- the worker takes a turn with this result
 abbrev pub AppliesSomeEvent : PlainRun → ℕ → Step → PlainRun → Type 0
 AppliesSomeEvent old worker step new = (taken : Event) × (taken.worker ≡ worker) × (taken.step ≡ step) × AppliesEvent old taken new
 
--- turns taken one after another, the last first, lead from one tree state of a run to another
+-- turns, the last first, lead from one state of a run to another
 abbrev pub IsHistory : PlainRun → List Event → PlainRun → Type 0
 IsHistory start [] run = run ≡ start
 IsHistory start (taken ∷ history) run = (before : PlainRun) × IsHistory start history before × AppliesEvent before taken run
 
--- the first tree state of a run: no latch is held, every worker is idle, and nothing is decided
+-- the first state of a run: no latch is held, every worker is idle, and no operation is decided
 pub record IsOpeningRun (start : PlainStore) (ops : List Op) (assignment : Assignment) (run : PlainRun) : Type 0 where
   pub same_store : run.shared.store ≡ start
   pub no_latch : (page : ℕ) → holder_of run.shared.latches page ≡ None

@@ -1,4 +1,4 @@
--- What is so in every state of the tree of a run.
+-- The invariant of a run: what holds in every one of its tree states.
 use Rattle.std.specs.Prelude.{◌≡◌, ◌≢◌, ℕ, ◌+◌, ◌<◌, Bool, true, false, Option, Some, None, List, length, All, count_by, slice_get, slice_index_or, take, ◌^◌}
 use Rattle.blink_batch.specs.declared.Answer.{Answer}
 use Rattle.blink_batch.specs.declared.Entry.{Entry}
@@ -18,12 +18,12 @@ abbrev pub is_answered : Option Answer → Bool
 is_answered None = false
 is_answered (Some answer) = true
 
--- of the operations up to a worker's own, those before it are decided, and it is where it has its answer
+-- the place up to which a worker's lane is decided: its operation's own place, and one more once the operation has its answer
 abbrev pub decided_below : ℕ → Option Answer → ℕ
 decided_below place None = place
 decided_below place (Some answer) = place + 1
 
--- a worker's part of the order is its lane up to a place
+-- the worker's part of the order is its lane up to a place
 abbrev pub HasDecided : PlainRun → ℕ → ℕ → Type 0
 HasDecided run worker place = part_of run.assignment.lanes worker run.outcome.order ≡ part_of run.assignment.lanes worker (take place (places_from 0 run.assignment.lanes))
 
@@ -36,7 +36,7 @@ pub record WorkingInvariant (run : PlainRun) (worker : ℕ) (working : Working) 
   pub next_of_lane : next ≡ next_place run.assignment.lanes worker (working.place + 1)
   pub decided : HasDecided run worker (decided_below working.place working.machine.answer)
 
--- an idle worker, who has decided its lane up to the next place
+-- an idle worker has decided its lane up to the next place
 pub record IdleInvariant (run : PlainRun) (worker : ℕ) (next : Option ℕ) : Type 0 where
   pub from : ℕ
   pub next_of_lane : next ≡ next_place run.assignment.lanes worker from
@@ -46,7 +46,7 @@ abbrev pub WorkerInvariant : PlainRun → ℕ → Option Working → Option ℕ 
 WorkerInvariant run worker None next = IdleInvariant run worker next
 WorkerInvariant run worker (Some working) next = WorkingInvariant run worker working next
 
--- the lists of a run have their lengths, and its operations and lanes are those of a batch
+-- the lists of a run have the right lengths, and its operations and lanes are those of a batch
 pub record IsShaped (run : PlainRun) : Type 0 where
   pub lawful_store : IsLawfulStore run.shared.store
   pub words : All FitsWords run.ops
@@ -69,7 +69,7 @@ pub record RunInvariant (entries : List Entry) (run : PlainRun) : Type 0 where
 abbrev pub NextCanAct : PlainRun → ℕ → Type 0
 NextCanAct run worker = (place : ℕ) (m : PlainMachine) (next : Option ℕ) → IsNextOf run worker place m next → CanAct run.shared worker m
 
--- what a worker's turn finds: a seat, a place of the batch, a step that can be taken, and room to note it
+-- what a worker's turn requires: a worker state, a place of the batch, a step that can be taken, and room to record it
 pub record CanTakeTurn (run : PlainRun) (worker : ℕ) : Type 0 where
   pub seated : worker < length run.seats
   pub next_of_batch : (place : ℕ) → slice_get run.seats worker ≡ Some (idle_seat (Some place)) → place < length run.ops

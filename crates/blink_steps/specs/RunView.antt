@@ -1,4 +1,4 @@
--- What a contract sees of a `Run`, and what its links keep.
+-- A `Run` as a contract sees it, and the invariant of its links.
 use Rattle.std.specs.Prelude.{◌≡◌, length}
 use Rattle.blink_steps.specs.declared.run.Run.TheInside.{Inside}
 use Rattle.blink_steps.specs.LaneQueues.{NextInLane}
@@ -15,7 +15,7 @@ plain run = record {
   outcome = run.outcome;
 }
 
--- each place has its link, to the next of its lane
+-- each place links to the next of its lane
 pub record IsLinked (run : Inside) : Type 0 where
   pub a_lane_each : length run.lanes.lanes ≡ length run.batch
   pub a_link_each : length run.following.items ≡ length run.lanes.lanes

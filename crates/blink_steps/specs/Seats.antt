@@ -1,4 +1,4 @@
--- What a worker has in its seat between two turns.
+-- The state of a worker between two turns.
 use Rattle.std.specs.Prelude.{◌≡◌, ℕ, Option, Some, None, List, slice_get, Result, IfOk, OnErr}
 use Rattle.blink_batch.specs.declared.Answer.{Answer}
 use Rattle.blink_steps.specs.Acts.{PlainShared, Acts, CanAct}
@@ -9,12 +9,12 @@ use Rattle.blink_steps.specs.declared.seat.Working.{Working}
 use Rattle.blink_machine.specs.{PlainMachine, goes_on}
 use Rattle.blink_steps.specs.Run.{PlainRun, busy_seat}
 
--- the operation of a place, where it goes on
+-- the operation of a place, if it goes on
 abbrev pub working_after : Option PlainMachine → ℕ → Option Working
 working_after None place = None
 working_after (Some m) place = Some (record { place = place; machine = m })
 
--- what is left in a seat: its operation, where that goes on
+-- what stays in the worker's state: its operation, if that goes on
 abbrev pub left_in_seat : WorkerState → WorkerState
 left_in_seat seat = record { working = left_of seat.working; next = seat.next }
   where
@@ -22,7 +22,7 @@ left_in_seat seat = record { working = left_of seat.working; next = seat.next }
     left_of None = None
     left_of (Some working) = working_after (goes_on working.machine working.machine.state) working.place
 
--- what the operation in a seat answers
+-- the answer of the operation under way
 abbrev pub answer_in_seat : WorkerState → Option Answer
 answer_in_seat seat = answer_of seat.working
   where
@@ -30,11 +30,11 @@ answer_in_seat seat = answer_of seat.working
     answer_of None = None
     answer_of (Some working) = working.machine.answer
 
--- the operation in the seat can take its next step
+-- the operation under way can take its next step
 abbrev pub IsAbleInSeat : PlainShared → ℕ → WorkerState → Type 0
 IsAbleInSeat shared worker seat = (working : Working) × (seat.working ≡ Some working) × CanAct shared worker working.machine
 
--- the operation in the seat took this step, and is there still
+-- the operation under way took this step, and is still under way
 abbrev pub ActsInSeat : PlainShared → ℕ → WorkerState → Result Step StepError → WorkerState → PlainShared → Type 0
 ActsInSeat old worker before result after new = (working : Working) → before.working ≡ Some working →
     (m : PlainMachine) × (after ≡ record { working = Some (record { place = working.place; machine = m }); next = before.next })

@@ -1,5 +1,5 @@
--- How long an operation's way is: it reads no page twice on its way down and latches none twice, so that its steps are
--- bounded by the number of pages.
+-- The length of an operation: it reads no page twice in its descent and latches none twice, so the number of pages bounds its
+-- steps.
 use Rattle.std.specs.Prelude.{◌≡◌, ◌≢◌, ℕ, ◌+◌, ◌*◌, ◌≤◌, ◌==◌, ◌&&◌, if◌then◌else◌, Option, Some, None, List, length, count_by, slice_get, AllPairs}
 use Rattle.std.specs.List.{filter_map}
 use Rattle.blink_batch.specs.declared.Op.TheVariants.{Find}
@@ -12,39 +12,39 @@ use Rattle.blink_steps.specs.Counts.{moves_in, page_reads_in}
 use Rattle.blink_machine.specs.{has_moved}
 use Rattle.blink_steps.specs.Run.{PlainRun, Event}
 
--- the page that is read at a state on the way down
+-- the page that a descending operation reads at a state
 abbrev pub page_on_way : State → Option ℕ
 page_on_way (Going page level) = Some page
 page_on_way state = None
 
--- the page that is latched at a state
+-- the page that an operation latches at a state
 abbrev pub page_to_latch : State → Option ℕ
 page_to_latch (Want page) = Some page
 page_to_latch state = None
 
--- of the turns of the operation at a place that moved, the pages of those at such a state
+-- of the moving turns of the operation at a place, the pages of those at such a state
 abbrev pub pages_of_turns : (State → Option ℕ) → List Event → ℕ → List ℕ
 pages_of_turns page_at history place =
     filter_map (λ (taken : Event). if taken.place == place && has_moved taken.step then page_at taken.before.state else None) history
 
--- the pages that it has read on its way down
+-- the pages that the operation has read in its descent
 abbrev pub read_on_way : List Event → ℕ → List ℕ
 read_on_way history place = pages_of_turns page_on_way history place
 
--- the pages that it has latched
+-- the pages that the operation has latched
 abbrev pub latched_by : List Event → ℕ → List ℕ
 latched_by history place = pages_of_turns page_to_latch history place
 
--- no two of them are the same
+-- no two of these pages are the same
 abbrev pub AreDifferent : List ℕ → Type 0
 AreDifferent pages = AllPairs (λ (page other : ℕ). page ≢ other) pages
 
--- how many turns moved, of all operations
+-- the number of moving turns of all operations
 abbrev pub all_moves : List Event → ℕ
 all_moves history = count_by (λ (taken : Event). has_moved taken.step) history
 
--- no operation takes more steps than these in a tree of so many pages: it reads each at most once on its way down and latches each
--- at most once
+-- no operation takes more steps than this in a tree of this many pages: it reads each at most once in its descent and latches
+-- each at most once
 abbrev pub steps_at_most_with : ℕ → ℕ
 steps_at_most_with pages = 4 * pages + 90
 

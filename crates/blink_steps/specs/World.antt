@@ -23,7 +23,7 @@ pub record MayBegin (start : PlainStore) (ops : List Op) (assignment : Assignmen
   pub a_lane_each : length assignment.lanes ≡ length ops
   pub numbers_suffice : length start.pages + MAX_NEW_PAGES_PER_INSERT * count_by is_insert ops ≤ MAX_PAGE
 
--- the schedule is the worker of each turn so far
+-- a run with its schedule: the worker of each turn so far
 pub record PlainWorld : Type 0 where
   pub run : PlainRun
   pub schedule : List ℕ
@@ -33,12 +33,12 @@ pub record IsWorldOf (start : PlainStore) (world : PlainWorld) : Type 0 where
   pub may_begin : MayBegin start world.run.ops world.run.assignment
   pub opening : PlainRun
   pub is_opening : IsOpeningRun start world.run.ops world.run.assignment opening
-  -- the last turn first
+  -- the events, the last first
   pub history : List Event
   pub follows : IsHistory opening history world.run
   pub same_schedule : world.schedule ≡ reverse (map (λ (taken : Event). taken.worker) history)
 
--- it is that of some start
+-- the world began with some tree
 abbrev pub IsWorld : PlainWorld → Type 0
 IsWorld world = (start : PlainStore) × IsWorldOf start world
 
@@ -56,7 +56,7 @@ pub record IsReplay (start : PlainStore) (ops : List Op) (assignment : Assignmen
   pub same_assignment : world.run.assignment ≡ assignment
   pub same_schedule : world.schedule ≡ schedule
 
--- one turn of a worker, which the schedule tells afterwards
+-- the world after one turn of a worker, which its schedule records
 pub record TakesStep (old : PlainWorld) (worker : ℕ) (step : Step) (new : PlainWorld) : Type 0 where
   pub taken : Event
   pub same_worker : taken.worker ≡ worker
@@ -64,7 +64,7 @@ pub record TakesStep (old : PlainWorld) (worker : ℕ) (step : Step) (new : Plai
   pub turn : AppliesEvent old.run taken new.run
   pub told : new.schedule ≡ old.schedule ++ worker ∷ []
 
--- the world has one turn more: its history is the old one with this turn in front
+-- the world has one more turn: its history is the old one after this event
 pub record HasTurnMore (start : PlainStore) (old : PlainWorld) (is_world : IsWorldOf start old) (worker : ℕ) (step : Step) (new : PlainWorld) : Type 0 where
   pub taken : Event
   pub same_worker : taken.worker ≡ worker
@@ -74,15 +74,15 @@ pub record HasTurnMore (start : PlainStore) (old : PlainWorld) (is_world : IsWor
   pub same_opening : now.opening ≡ is_world.opening
   pub one_more : now.history ≡ taken ∷ is_world.history
 
--- it goes on by such a turn, over whatever tree it began
+-- the world goes on by such a turn, over whatever tree it began with
 abbrev pub GoesOnBy : PlainWorld → ℕ → Step → PlainWorld → Type 0
 GoesOnBy old worker step new = (start : PlainStore) (is_world : IsWorldOf start old) → HasTurnMore start old is_world worker step new
 
--- it goes on over whatever tree it began
+-- the new world began with the same tree as the old, whatever that is
 abbrev pub KeepsItsStart : PlainWorld → PlainWorld → Type 0
 KeepsItsStart old new = (start : PlainStore) → IsWorldOf start old → IsWorldOf start new
 
--- the fact of its history, over whatever tree it began
+-- the fact holds of the world's history, over whatever tree it began with
 abbrev pub InItsHistory : PlainWorld → (List Event → Type 0) → Type 0
 InItsHistory world fact = (start : PlainStore) (is_world : IsWorldOf start world) → fact is_world.history
 
@@ -91,11 +91,11 @@ pub record SameBatch (old new : PlainRun) : Type 0 where
   pub same_ops : new.ops ≡ old.ops
   pub same_assignment : new.assignment ≡ old.assignment
 
--- only the schedule is another
+-- the world with one more turn in its schedule, and otherwise as before
 abbrev pub with_turn : PlainWorld → ℕ → PlainWorld
 with_turn world worker = record world { schedule = world.schedule ++ worker ∷ [] }
 
--- a run can't begin where its insertions might need more page numbers than there are, the prime block's with them
+-- a batch is too large if its insertions might need more page numbers than exist, the prime block's included
 abbrev pub IsTooLarge : PlainStore → List Op → Type 0
 IsTooLarge start ops = ExceedsPageLimit (length start.pages) (count_by is_insert ops)
 
@@ -107,7 +107,7 @@ pub record IsFirstNoWorker (workers : ℕ) (schedule : List ℕ) (number : ℕ) 
   pub no_worker : workers ≤ number
   pub workers_before : All (λ worker. worker < workers) prefix
 
--- the worker is idle, with its lane at its end
+-- the worker is idle, and its lane is at its end
 abbrev pub IsAtLanesEnd : PlainRun → ℕ → Type 0
 IsAtLanesEnd run worker = slice_get run.seats worker ≡ Some (idle_seat None)
 
@@ -115,27 +115,27 @@ IsAtLanesEnd run worker = slice_get run.seats worker ≡ Some (idle_seat None)
 abbrev pub HasEnded : PlainRun → Type 0
 HasEnded run = (worker : ℕ) → worker < run.assignment.workers → IsAtLanesEnd run worker
 
--- what is so of each turn of a history
+-- the fact holds of each turn of a history
 abbrev pub OnEachTurn : (PlainRun → Event → PlainRun → Type 0) → (start : PlainRun) (history : List Event) (run : PlainRun) → IsHistory start history run → Type 0
 OnEachTurn fact start [] run follows = ⊤
 OnEachTurn fact start (taken ∷ history) run follows = fact follows.0 taken run × OnEachTurn fact start history follows.0 follows.1
 
--- what is so of the run after each turn of a history
+-- the fact holds of the run after each turn of a history
 abbrev pub AfterEachTurn : (PlainRun → Type 0) → (start : PlainRun) (history : List Event) (run : PlainRun) → IsHistory start history run → Type 0
 AfterEachTurn fact start history run follows = OnEachTurn (λ (before : PlainRun) (taken : Event) (after : PlainRun). fact after) start history run follows
 
--- a page is written only by the worker that holds its latch, or at a number that no page has
+-- a worker writes only a page whose latch it holds, or under a number that no page has
 abbrev pub WritesItsOwn : PlainRun → Event → PlainRun → Type 0
 WritesItsOwn before taken after = (number : ℕ) → taken.step ≡ Moved (write_page number)
     → IsItsToWrite (holder_of before.shared.latches) (page_of before.shared.store) taken.worker number
 
--- why a schedule isn't replayed: memory; its first number that is no worker's; or a batch that is too large
+-- the refusals of a replay: memory; the schedule's first number that is no worker's; or a batch that is too large
 abbrev pub IsReplayRefusal : PlainStore → List Op → ℕ → List ℕ → StepError → Type 0
 IsReplayRefusal start ops workers schedule OutOfMemory = ⊤
 IsReplayRefusal start ops workers schedule (NoWorker number) = IsFirstNoWorker workers schedule number
 IsReplayRefusal start ops workers schedule TooLarge = IsTooLarge start ops
 
--- why a step isn't taken: memory, or no such worker
+-- the refusals of a step: memory, or a worker that doesn't exist
 abbrev pub IsStepRefusal : ℕ → ℕ → StepError → Type 0
 IsStepRefusal workers worker OutOfMemory = ⊤
 IsStepRefusal workers worker (NoWorker number) = (number ≡ worker) × (workers ≤ worker)

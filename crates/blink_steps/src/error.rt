@@ -1,4 +1,4 @@
-//! Why a run is refused.
+//! The refusals of a run.
 ghost use Rattle.std.specs.Prelude.{◌≡◌};
 ghost use Rattle.blink_steps.specs.Codes.{code_of};
 
@@ -10,16 +10,16 @@ pub enum StepError {
     /// Memory was refused.
     #[error("out of memory")]
     OutOfMemory,
-    /// There is no worker of this number: it isn't below the number of workers.
+    /// No worker has this number: it isn't below the number of workers.
     #[error("no worker {0}")]
     NoWorker(u8),
-    /// The batch's insertions might need more page numbers than there are.
+    /// The batch's insertions might need more page numbers than exist.
     #[error("too large")]
     TooLarge,
 }
 
 impl StepError {
-    /// The number of the refusal, the same in every release.
+    /// Returns the refusal's code, the same in every release.
     pub fn code(&self) -> u8
         ensures { result ≡ code_of self.now }
     {

@@ -1,4 +1,4 @@
-//! Lanes as links, so that a worker finds its next operation without a search.
+//! Lanes as links, by which a worker finds its next operation without a search.
 ghost use Rattle.std.specs.Prelude.{◌≡◌, ◌<◌, ◌≤◌, length, All, IfOk};
 ghost use Rattle.blink_store.specs.declared.latches.TheConstants.{WORKERS};
 ghost use Rattle.blink_steps.specs.LaneQueues.{FirstInLane, NextInLane};
@@ -7,10 +7,10 @@ use blink_batch::WORKER_LIMIT;
 use blink_store::WORKERS;
 use std::alloc::{AllocError, Global};
 
-// As many workers may hold a latch as a batch may be cut for.
+// A batch may be cut for exactly as many workers as may hold latches.
 const _: () = prove!(WORKERS == WORKER_LIMIT as usize);
 
-/// For each place the next one of its lane, and for each worker the first one of its own.
+/// Returns for each place the next place of its lane, and for each worker the first place of its lane.
 pub(crate) fn lane_queues(
     alloc: Global,
     lanes: &[u8],

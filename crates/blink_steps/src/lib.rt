@@ -1,5 +1,5 @@
-//! A batch's run over a B-link tree, under any schedule of its workers' steps. What one operation does to pages, one atomic step
-//! at a time, is `blink_machine`'s, whose public items are to be had here too.
+//! A batch's run over a B-link tree, under any schedule of its workers' steps. `blink_machine` has what one operation does to
+//! pages, one atomic step at a time. This crate exports its public items too.
 #![tactic(auto)]
 
 mod error;

@@ -1,4 +1,4 @@
-//! What is decided in a run, and how far each operation has come.
+//! The outcome of a run: what is decided, and how far each operation has come.
 ghost use Rattle.std.specs.Prelude.{◌≡◌, ◌<◌, true, length, slice_index_or, IfOk};
 ghost use Rattle.blink_steps.specs.Outcome.{decides_now, empty_outcome, recorded};
 
@@ -7,7 +7,7 @@ use blink_machine::Kind;
 use std::alloc::{AllocError, Global};
 use std::marker::Model;
 
-/// The answers so far, the order of the deciding steps, and of each operation how many pages it has read and how many
+/// The answers so far, the order of the deciding steps, and for each operation the number of pages it has read and the number of
 /// steps it has taken.
 #[derive(Debug, Drop)]
 pub(crate) struct Outcome {
@@ -30,13 +30,13 @@ impl Model for Outcome {
       moves = l.moves.items;
     } };
 
-    // There is room for each operation in the order, so that nothing is refused at a deciding step.
+    // The order has room for each operation, so that no deciding step is refused memory.
     ghost invariant = { λ l. (length l.answers.items ≤ vec_capacity l.order)
         × (length l.reads.items ≡ length l.answers.items) × (length l.moves.items ≡ length l.answers.items) };
 }
 
 impl Outcome {
-    /// The outcome of so many operations before any step.
+    /// Makes the outcome of `places` operations before any step.
     pub(crate) fn new(alloc: Global, places: usize) -> Result<Outcome, AllocError>
         ensures { IfOk result (λ outcome. outcome ≡ empty_outcome places) }
     {
@@ -48,7 +48,7 @@ impl Outcome {
         })
     }
 
-    /// Notes a step of the operation at a place: its kind, and the operation's answer before and after.
+    /// Records a step of the operation at a place: its kind, and the operation's answer before and after it.
     pub(crate) fn note(
         &mut self,
         place: u32,

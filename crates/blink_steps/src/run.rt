@@ -17,15 +17,15 @@ use blink_store::{Latches, Store};
 use std::alloc::{AllocError, Global};
 use std::marker::Model;
 
-/// The tree, the workers, and what is decided.
+/// The tree, the workers, and the outcome so far.
 #[derive(Debug, Drop)]
 pub(crate) struct Run {
     shared: Shared,
     batch: Batch,
     lanes: Lanes,
-    // For each operation, the place of the next one in its lane.
+    // For each operation the place of the next one in its lane.
     following: Vec<Option<u32>>,
-    // For each worker.
+    // The state of each worker.
     seats: Vec<WorkerState>,
     outcome: Outcome,
 }
@@ -43,7 +43,7 @@ impl Model for Run {
 }
 
 impl Run {
-    /// The first tree state of a run of a batch over a tree: every worker is idle.
+    /// Makes the run of a batch over a tree before its first turn: every worker is idle.
     pub(crate) fn new(
         alloc: Global,
         store: Store,
@@ -76,8 +76,8 @@ impl Run {
         })
     }
 
-    /// One turn of a worker: a step of its operation, where it is idle of the next in its lane; or a wait; or, at the
-    /// lane's end, nothing. A refusal of memory changes nothing.
+    /// Gives a worker a turn. The worker takes a step of its operation, or, if it is idle, of the next operation in its lane. Or
+    /// it waits. Or, at the lane's end, it does nothing. A refusal of memory changes nothing.
     pub(crate) fn turn(&mut self, worker: u8) -> Result<Step, StepError>
         requires { CanTakeTurn self.old worker }
         ensures turn { IfOk result (λ step. AppliesSomeEvent self.old worker step self.new) }
@@ -94,7 +94,7 @@ impl Run {
         }
     }
 
-    // A step of the operation that the worker has under way. The operation stays in its seat, since it is large.
+    // Takes a step of the operation that the worker has under way. The operation stays in place meanwhile, since it is large.
     fn go_on(&mut self, worker: u8) -> Result<Step, StepError>
         requires ready { CanTakeTurn self.old worker }
         requires busy { HasOperation self.old worker }
@@ -118,7 +118,7 @@ impl Run {
         Ok(step)
     }
 
-    // Takes up the next operation of the worker's lane, and its first step.
+    // Begins the next operation of the worker's lane, and takes its first step.
     fn begin(&mut self, worker: u8, place: u32) -> Result<Step, StepError>
         requires ready { CanTakeTurn self.old worker }
         requires idle { slice_get self.old.seats worker ≡ Some (idle_seat (Some place)) }
@@ -140,7 +140,7 @@ impl Run {
         Ok(step)
     }
 
-    /// Whether every operation has ended: each worker is idle, with its lane at its end.
+    /// Whether every operation has ended: each worker is idle, and its lane is at its end.
     pub(crate) fn ended(&self) -> bool
         requires { length self.now.seats ≡ self.now.assignment.workers }
         ensures { IsTrue result ↔ HasEnded self.now }
@@ -161,7 +161,7 @@ impl Run {
         self.seats[usize::from(worker)].working.is_none()
     }
 
-    /// Whether the worker's next step would be a wait. An operation that no step has taken yet doesn't wait.
+    /// Whether the worker's next step would be a wait. An operation that has taken no step yet doesn't wait.
     pub(crate) fn waits(&self, worker: u8) -> bool
         requires { worker < length self.now.seats }
         ensures { IsTrue result ↔ WouldWait self.now worker }
@@ -197,21 +197,21 @@ impl Run {
         None
     }
 
-    /// The tree, as it is between two turns.
+    /// The tree as it is between two turns.
     pub(crate) fn store(&self) -> &Store
         ensures { result.now ≡ self.now.shared.store }
     {
         &self.shared.store
     }
 
-    /// Which worker holds which page's latch.
+    /// The latches: for each latched page the worker that holds its latch.
     pub(crate) fn latches(&self) -> &Latches
         ensures { result.now ≡ self.now.shared.latches }
     {
         &self.shared.latches
     }
 
-    /// The operation that the worker has under way, if it isn't idle.
+    /// The operation that the worker has under way, or `None` if the worker is idle.
     pub(crate) fn working(&self, worker: u8) -> Option<&Working>
         requires { worker < length self.now.seats }
         ensures { option_map (λ working. working.now) result
@@ -220,7 +220,7 @@ impl Run {
         self.seats[usize::from(worker)].working.as_ref()
     }
 
-    /// How many workers there are, those without an operation included.
+    /// The number of workers, those without an operation included.
     pub(crate) fn workers(&self) -> u8
         ensures { result ≡ self.now.assignment.workers }
     {
@@ -241,21 +241,21 @@ impl Run {
         &self.outcome.order
     }
 
-    /// How many pages each operation has read.
+    /// The number of pages that each operation has read.
     pub(crate) fn reads(&self) -> &[u64]
         ensures { result.now ≡ self.now.outcome.reads }
     {
         &self.outcome.reads
     }
 
-    /// How many steps each operation has taken.
+    /// The number of steps that each operation has taken.
     pub(crate) fn moves(&self) -> &[u64]
         ensures { result.now ≡ self.now.outcome.moves }
     {
         &self.outcome.moves
     }
 
-    /// The tree, at the run's end.
+    /// The tree at the run's end.
     pub(crate) fn into_store(self) -> Store
         ensures { result ≡ self.shared.store }
     {

@@ -1,4 +1,4 @@
-//! What a worker has under way, and what its lane has next.
+//! The state of a worker: its operation under way, and the next one of its lane.
 ghost use Rattle.std.specs.Prelude.{◌≡◌, IsOkUnless};
 ghost use Rattle.blink_steps.specs.Seats.{left_in_seat, answer_in_seat, IsAbleInSeat, ActsInSeat};
 
@@ -10,13 +10,14 @@ use blink_machine::{Machine, Step};
 /// An operation under way, and its place in the batch.
 #[derive(Debug, Drop)]
 pub struct Working {
-    /// The place, from 0.
+    /// The operation's place in the batch, from 0.
     pub place: u32,
     /// The operation.
     pub machine: Machine,
 }
 
-/// A worker: its operation under way, where it isn't idle, and the place of its next one, where its lane has one more.
+/// A worker's state: its operation under way, unless it is idle, and the place of its next operation, unless its lane is at its
+/// end.
 #[derive(Debug, Drop)]
 pub(crate) struct WorkerState {
     pub working: Option<Working>,
@@ -24,7 +25,7 @@ pub(crate) struct WorkerState {
 }
 
 impl WorkerState {
-    /// A step of the operation, which stays in the seat meanwhile, since it is large.
+    /// Takes a step of the operation. The operation stays in place meanwhile, since it is large.
     pub(crate) fn act(&mut self, shared: &mut Shared, worker: u8) -> Result<Step, StepError>
         requires { IsAbleInSeat shared.old worker self.old }
         ensures acted { ActsInSeat shared.old worker self.old result self.new shared.new }
@@ -36,7 +37,7 @@ impl WorkerState {
         }
     }
 
-    /// What the operation answers, from its deciding step on.
+    /// The operation's answer, from its deciding step on.
     pub(crate) fn answer(&self) -> Option<Answer>
         ensures { result ≡ answer_in_seat self.now }
     {
@@ -46,7 +47,7 @@ impl WorkerState {
         }
     }
 
-    /// Lets the operation go where it has ended.
+    /// Drops the operation if it has ended.
     pub(crate) fn forget_ended(&mut self)
         ensures { self.new ≡ left_in_seat self.old }
     {

@@ -1,4 +1,4 @@
-//! The store and the latches that workers share, and what a step of an operation does to them.
+//! The store and the latches that workers share, and the effect of an operation's step on them.
 ghost use Rattle.std.specs.Prelude.{◌≡◌, ◌↔◌, ℕ, ◌+◌, ◌<◌, ◌≤◌, length, IsTrue, IfOk, OnErr, IsOkUnless};
 ghost use Rattle.blink_page.specs.declared.limits.TheConstants.{MAX_PAGE};
 ghost use Rattle.blink_page.specs.{IsFan};
@@ -11,7 +11,7 @@ use blink_machine::{Kind, Machine, Need, Step};
 use blink_store::{Latches, Store};
 use std::marker::Model;
 
-/// The store, and which worker holds which page's latch.
+/// The store, and for each latched page the worker that holds its latch.
 #[derive(Debug, Drop)]
 pub(crate) struct Shared {
     pub store: Store,
@@ -27,7 +27,7 @@ impl Model for Shared {
 }
 
 impl Shared {
-    /// The most entries that a page of the tree has.
+    /// The greatest number of entries in a page of the tree.
     pub(crate) fn fan(&self) -> u8
         ensures fan { result ≡ self.now.store.fan }
         ensures in_range { IsFan result }
@@ -35,7 +35,7 @@ impl Shared {
         self.store.fan()
     }
 
-    /// Does what the worker's operation needs next, or waits. A refusal of memory changes nothing.
+    /// Takes the step that the worker's operation needs next, or waits. A refusal of memory changes nothing.
     pub(crate) fn act(&mut self, worker: u8, machine: &mut Machine) -> Result<Step, StepError>
         requires { CanAct self.old worker machine.old }
         ensures step { IfOk result
@@ -88,7 +88,7 @@ impl Shared {
         })
     }
 
-    /// Whether the operation's next step would be a wait, whichever worker's it is.
+    /// Whether the operation's next step would be a wait, for any worker.
     pub(crate) fn waits(&self, machine: &Machine) -> bool
         ensures { (worker : ℕ)
             → (IsTrue result ↔ Acts self.now worker machine.now Step.Waited machine.now self.now) }
@@ -100,7 +100,7 @@ impl Shared {
         }
     }
 
-    // Writes the page that the operation wants written over page `number`.
+    // Replaces page `number` by the page that the operation wants written.
     fn write(&mut self, number: u32, machine: &Machine)
         requires needs { NeedsWrite machine.now number }
         requires allowed { MayReplace self.old.store number (page_out machine.now 0) }
@@ -111,7 +111,7 @@ impl Shared {
         self.store.write(number, machine.page_out(0));
     }
 
-    // Writes the new page that the operation wants written. Its number is the next one.
+    // Adds the new page that the operation wants written, under the next number.
     fn add(&mut self, machine: &Machine) -> Result<u32, StepError>
         requires needs { NeedsNew machine.now }
         requires room { length self.old.store.pages < MAX_PAGE }

@@ -20,10 +20,10 @@ use blink_store::{Latches, Store};
 use std::alloc::Global;
 use std::marker::Model;
 
-/// A batch's run over a tree at rest, up to some tree state: one turn for each number of its schedule.
+/// A batch's run over a tree at rest, up to some tree state. The run has taken one turn for each number of its schedule.
 ///
-/// Its type keeps that it is the world of its own schedule, over the tree, the batch and the lanes that it began with: so
-/// what is promised of every schedule can be said of any `World`.
+/// The type guarantees that a world is the world of its own schedule, over the tree, the batch and the lanes that it began with.
+/// So what is promised of every schedule holds for any `World`.
 #[derive(Debug, Drop)]
 pub struct World {
     run: Run,
@@ -41,10 +41,10 @@ impl Model for World {
 }
 
 impl World {
-    /// The first tree state of a run: nothing is latched, every worker is idle, and nothing is decided. The lanes need be no
-    /// lawful cut. A refusal gives up what was handed in.
+    /// Starts a run: no page is latched, every worker is idle, and no operation is decided. The lanes need not be a lawful cut.
     ///
-    /// The refusal `TooLarge` comes before memory is asked for; then no later step wants for page numbers.
+    /// The call refuses with `TooLarge` before it asks for memory; so no later step runs out of page numbers. It refuses with
+    /// `OutOfMemory`, if memory was refused. A refusal gives up what was handed in.
     pub fn start(alloc: Global, rest: Rest, batch: Batch, lanes: Lanes) -> Result<World, StepError>
         requires a_lane_each { length lanes.lanes ≡ length batch }
         ensures start { IfOk result (λ world. IsStart rest batch lanes world) }
@@ -68,8 +68,9 @@ impl World {
         }
     }
 
-    /// Gives a worker one turn. It takes one step of its operation, where it is idle of the next in its lane; or it waits;
-    /// or its lane is at its end. The schedule tells every turn. A refusal changes nothing.
+    /// Gives a worker one turn, and returns what became of it. The worker takes one step of its operation, or, if it is idle, of
+    /// the next operation in its lane. Or it waits. Or its lane is at its end. The schedule records every turn. A refusal
+    /// changes nothing.
     pub fn step(&mut self, worker: u8) -> Result<Step, StepError>
         ensures step { IfOk result (λ step. TakesStep self.old worker step self.new) }
         ensures goes_on { IfOk result (λ step. GoesOnBy self.old worker step self.new) }
@@ -96,9 +97,9 @@ impl World {
         Ok(step)
     }
 
-    /// The answers so far: at each operation's place in the batch the answer that it has, from its deciding step on. They
-    /// are those of the operations one after another, on a plain map of the entries at the start, in the order of
-    /// [`World::order`]; and where the lanes are a lawful cut, once all operations have ended, those of the batch's own order.
+    /// Returns the answers so far: at each operation's place in the batch its answer, from its deciding step on. A plain map of
+    /// the entries at the start gives the same answers to the operations one after another, in the order of [`World::order`]. If
+    /// the lanes are a lawful cut and all operations have ended, the answers are also those of the batch's own order.
     pub fn answers(&self) -> &[Option<Answer>]
         ensures answers { result.now ≡ self.now.run.outcome.answers }
         ensures one_each { length result.now ≡ length self.now.run.ops }
@@ -107,9 +108,9 @@ impl World {
         self.run.answers()
     }
 
-    /// The operations that have decided, by their places in the batch, in the order of their deciding steps: the leaf read
-    /// that answers a find, the read under the latch of an update that changes nothing, and the write of the leaf of one
-    /// that changes something (in a split, of the old leaf).
+    /// Returns the places of the operations that have decided, in the order of their deciding steps. A find decides at the leaf
+    /// read that answers it. An update that changes nothing decides at its read under the latch. An update that changes
+    /// something decides at its write of the leaf, in a split of the old leaf.
     pub fn order(&self) -> &[u32]
         ensures order { result.now ≡ self.now.run.outcome.order }
         ensures promised { IsPromised self.now }
@@ -117,7 +118,7 @@ impl World {
         self.run.order()
     }
 
-    /// The worker of each turn so far, waits and idle turns with them.
+    /// Returns the worker of each turn so far, waits and idle turns included.
     pub fn schedule(&self) -> &[u8]
         ensures schedule { result.now ≡ self.now.schedule }
         ensures of_its_schedule { IsWorld self.now }
@@ -125,7 +126,7 @@ impl World {
         &self.schedule
     }
 
-    /// The pages and the prime block, as they are after the turns so far. It takes no memory.
+    /// Returns the pages and the prime block as they are after the turns so far. The call takes no memory.
     pub fn store(&self) -> &Store
         ensures store { result.now ≡ self.now.run.shared.store }
         ensures promised { IsPromised self.now }
@@ -133,22 +134,22 @@ impl World {
         self.run.store()
     }
 
-    /// Which worker holds which page's latch. It takes no memory.
+    /// Returns the latches: for each latched page the worker that holds its latch. The call takes no memory.
     pub fn latches(&self) -> &Latches
         ensures { result.now ≡ self.now.run.shared.latches }
     {
         self.run.latches()
     }
 
-    /// How many workers there are, 1 to 64, those without an operation included.
+    /// Returns the number of workers, 1 to 64, those without an operation included.
     pub fn workers(&self) -> u8
         ensures { result ≡ self.now.run.assignment.workers }
     {
         self.run.workers()
     }
 
-    /// The operation that the worker has under way, with its place in the batch; there is none where it is idle. It takes no
-    /// memory.
+    /// Returns the operation that the worker has under way, with its place in the batch, or `None` if the worker is idle. The
+    /// call takes no memory.
     pub fn working(&self, worker: u8) -> Option<&Working>
         requires { worker < self.now.run.assignment.workers }
         ensures { option_map (λ working. working.now) result
@@ -157,7 +158,7 @@ impl World {
         self.run.working(worker)
     }
 
-    /// Whether all operations have ended: then each has its answer, and the tree is at rest.
+    /// Returns whether all operations have ended. Then each has its answer, and the tree is at rest.
     pub fn ended(&self) -> bool
         ensures ended { IsTrue result ↔ HasEnded self.now.run }
         ensures promised { IsPromised self.now }
@@ -165,8 +166,8 @@ impl World {
         self.run.ended()
     }
 
-    /// How many pages the operation at this place of the batch has read, those under latches with them: a find at most as many as
-    /// there are pages, and no operation more than 4n + 90 where there are n.
+    /// Returns the number of pages that the operation at this place of the batch has read, those under latches included. In a
+    /// tree of n pages a find reads at most n pages, and no operation reads more than 4n + 90.
     pub fn reads_of(&self, op: u32) -> u64
         requires { op < length self.now.run.ops }
         ensures count { InItsHistory self.now (λ history. result ≡ page_reads_in history op) }
@@ -178,8 +179,8 @@ impl World {
         self.run.reads()[op as usize]
     }
 
-    /// How many steps the operation at this place of the batch has taken, at most 4n + 90 where there are n pages. Waits are not
-    /// counted.
+    /// Returns the number of steps that the operation at this place of the batch has taken: at most 4n + 90 in a tree of n
+    /// pages. Waits are not counted.
     pub fn moves_of(&self, op: u32) -> u64
         requires { op < length self.now.run.ops }
         ensures count { InItsHistory self.now (λ history. result ≡ moves_in history op) }
@@ -189,8 +190,8 @@ impl World {
         self.run.moves()[op as usize]
     }
 
-    /// Whether the worker has no operation under way, one that is begun and not ended. At its next turn it takes up the next of
-    /// its lane, if there is one.
+    /// Returns whether the worker has no operation that is begun and not ended. At its next turn an idle worker begins the next
+    /// operation of its lane, if its lane has one.
     pub fn is_idle(&self, worker: u8) -> bool
         requires { worker < self.now.run.assignment.workers }
         ensures { IsTrue result ↔ IsIdleWorker self.now.run worker }
@@ -198,8 +199,8 @@ impl World {
         self.run.is_idle(worker)
     }
 
-    /// Whether the worker's next turn would be a wait: for a latch that another worker holds, or for a level that isn't there
-    /// yet.
+    /// Returns whether the worker's next turn would be a wait: for a latch that another worker holds, or for a level that isn't
+    /// there yet.
     pub fn waits(&self, worker: u8) -> bool
         requires { worker < self.now.run.assignment.workers }
         ensures { IsTrue result ↔ WouldWait self.now.run worker }
@@ -207,7 +208,7 @@ impl World {
         self.run.waits(worker)
     }
 
-    /// The smallest worker whose next turn would be a step. While operations are left there is one.
+    /// Returns the smallest worker whose next turn would be a step. While operations are left, some worker's is.
     pub fn pick(&self) -> Option<u8>
         ensures none { IsNone result ↔ HasEnded self.now.run }
         ensures first { IfSome result (λ worker. IsFirstMover self.now.run worker) }
@@ -215,9 +216,9 @@ impl World {
         self.run.pick()
     }
 
-    /// Gives the picked worker a turn, and again, until none is picked: then all operations have ended.
+    /// Gives the picked worker a turn, again and again, until no worker is picked. Then all operations have ended.
     ///
-    /// After a refusal the turns so far stand, and it may be called again.
+    /// After a refusal the turns so far stand, and the call may be repeated.
     pub fn finish(&mut self) -> Result<(), StepError>
         ensures ended { IfOk result (λ _. HasEnded self.new.run) }
         ensures picked { GoesOnPicked self.old self.new }
@@ -232,8 +233,8 @@ impl World {
         Ok(())
     }
 
-    /// Gives the picked worker a turn, and tells its step: [`World::finish`] takes one such turn after another. There are fewer
-    /// steps left after it. A refusal changes nothing.
+    /// Gives the picked worker a turn, and returns its step. [`World::finish`] takes one such turn after another. After the turn
+    /// fewer steps are left. A refusal changes nothing.
     pub fn advance(&mut self, worker: u8) -> Result<Step, StepError>
         requires { IsFirstMover self.old.run worker }
         ensures turn { IfOk result (λ step. TakesStep self.old worker step self.new) }
@@ -250,7 +251,7 @@ impl World {
         Ok(taken)
     }
 
-    /// The tree, once all operations have ended. It takes no memory.
+    /// Returns the tree, once all operations have ended. The call takes no memory.
     pub fn into_rest(self) -> Rest
         requires { HasEnded self.run }
         ensures tree { result ≡ self.run.shared.store }
@@ -260,11 +261,11 @@ impl World {
     }
 }
 
-/// The world of a schedule: the first tree state, and then one turn for each number. The first refusal is the answer.
+/// Runs a schedule: from the first tree state it gives one turn for each number. It returns the world, or the first refusal.
 ///
-/// Where the lanes are a lawful cut and all operations have ended, the answers are those of one thread that runs the batch in
-/// its own order on the plain list of the tree's entries, place by place, and the tree's entries are that list's. And at every
-/// tree state on the way each key then present is reached from the root.
+/// Let the lanes be a lawful cut, and all operations have ended. Then the answers are, place by place, those of one thread that
+/// runs the batch in its own order on the plain list of the tree's entries. The tree's entries are those of that list. In every
+/// tree state of the run, whatever the lanes, each key then present is reached from the root.
 pub fn replay(
     alloc: Global,
     rest: Rest,

@@ -1,4 +1,4 @@
--- The number of each refusal.
+-- The code of each refusal.
 use Rattle.std.specs.Prelude.{ℕ}
 use Rattle.blink_store.specs.declared.error.StoreError.{StoreError}
 use Rattle.blink_store.specs.declared.error.StoreError.TheVariants.{OutOfMemory, OutOfPages}

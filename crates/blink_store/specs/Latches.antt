@@ -1,35 +1,35 @@
--- Which worker holds which page.
+-- Which worker holds which page's latch.
 use Rattle.std.specs.Prelude.{◌≡◌, ◌≢◌, ℕ, ◌==◌, Bool, false, suc, if◌then◌else◌, Option, Some, None, List, [], ◌∷◌, length, slice_get}
 use Rattle.blink_store.specs.declared.latches.TheConstants.{WORKERS}
 
--- the worker holds the page, in the list of the pages that the workers hold
+-- the worker holds the page's latch, in the list of the pages that the workers hold
 abbrev pub Holds : List (Option ℕ) → ℕ → ℕ → Type 0
 Holds held worker page = slice_get held worker ≡ Some (Some page)
 
--- one entry a worker, and no page with two of them
+-- one entry for each worker, and no page with two of them
 pub record IsHeldByOne (held : List (Option ℕ)) : Type 0 where
   pub workers : length held ≡ WORKERS
   pub one_each : (first second page : ℕ) → Holds held first page → Holds held second page → first ≡ second
 
--- what a worker holds is this page
+-- this page is what the worker holds
 abbrev pub is_page : ℕ → Option ℕ → Bool
 is_page page None = false
 is_page page (Some held) = held == page
 
--- who holds the page, in a list that begins with the worker `first`
+-- the worker that holds the page's latch, in a list that begins with the worker `first`
 abbrev pub holder_from : ℕ → List (Option ℕ) → ℕ → Option ℕ
 holder_from first [] page = None
 holder_from first (held ∷ rest) page = if is_page page held then Some first else holder_from (suc first) rest page
 
--- the worker who holds the page, where one does
+-- the worker that holds the page's latch, if one does
 abbrev pub holder_of : List (Option ℕ) → ℕ → Option ℕ
 holder_of held page = holder_from 0 held page
 
--- the worker holds no page
+-- the worker holds no latch
 abbrev pub HoldsNone : List (Option ℕ) → ℕ → Type 0
 HoldsNone held worker = (page : ℕ) → holder_of held page ≢ Some worker
 
--- the page changed hands, and no other did
+-- the latch of exactly this page changed its holder
 pub record ChangesHolder (old new : List (Option ℕ)) (page : ℕ) (holder : Option ℕ) : Type 0 where
   pub changed : holder_of new page ≡ holder
   pub others : (other : ℕ) → other ≢ page → holder_of new other ≡ holder_of old other

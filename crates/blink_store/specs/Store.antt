@@ -1,8 +1,8 @@
--- A store as plain data, its page n, and what a write changes.
+-- A store as plain data, its page n, and the change of a write.
 use Rattle.std.specs.Prelude.{◌≡◌, ◌≢◌, ℕ, ◌<◌, ◌≤◌, zero, suc, Option, Some, None, List, [], ◌∷◌, length, All, slice_get}
 use Rattle.blink_page.specs.{IsFan, IsPageNumber, PlainPage, IsLawfulPage, empty_leaf}
 
--- the most entries of a page, the leftmost page of each level, and the pages, of which the n-th is page n
+-- the greatest number of entries in a page, the leftmost page of each level, and the pages; the n-th is page n
 pub record PlainStore : Type 0 where
   pub fan : ℕ
   pub prime : List ℕ
@@ -17,7 +17,7 @@ page_of store (suc n) = slice_get store.pages n
 abbrev pub HasPage : PlainStore → ℕ → Type 0
 HasPage store n = (1 ≤ n) × (n ≤ length store.pages)
 
--- what a store keeps: some level is named, by a page number as every level, each page is within the fan, and each has a
+-- what holds of a store: it names some level, each level by a page number; each page has at most `fan` entries, and each has a
 -- number
 pub record IsLawfulStore (store : PlainStore) : Type 0 where
   pub fan_in_range : IsFan store.fan
@@ -30,18 +30,18 @@ pub record IsLawfulStore (store : PlainStore) : Type 0 where
 abbrev pub new_store : ℕ → PlainStore
 new_store fan = record { fan = fan; prime = 1 ∷ []; pages = empty_leaf ∷ [] }
 
--- page n was written, and nothing else
+-- exactly page n was written
 pub record WritesPage (old new : PlainStore) (n : ℕ) (page : PlainPage) : Type 0 where
   pub same_fan : new.fan ≡ old.fan
   pub same_prime : new.prime ≡ old.prime
   pub written : page_of new n ≡ Some page
   pub others : (other : ℕ) → other ≢ n → page_of new other ≡ page_of old other
 
--- the two stand alike in a tree: at one level, above one floor
+-- the two pages stand alike in a tree: at one level, above one floor
 abbrev pub SameFloorAndLevel : PlainPage → PlainPage → Type 0
 SameFloorAndLevel old new = (new.floor ≡ old.floor) × (new.level ≡ old.level)
 
--- every page that existed exists, with its floor and its level
+-- every page that existed still exists, with its floor and its level
 abbrev pub KeepsFloorsAndLevels : PlainStore → PlainStore → Type 0
 KeepsFloorsAndLevels old new = (n : ℕ) (page : PlainPage) → page_of old n ≡ Some page
     → (after : PlainPage) × (page_of new n ≡ Some after) × SameFloorAndLevel page after

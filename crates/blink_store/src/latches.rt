@@ -1,16 +1,16 @@
-//! Latches: which worker holds which page.
+//! The latches: which worker holds which page's latch.
 ghost use Rattle.std.specs.Prelude.{◌≡◌, ◌<◌, ◌↔◌, ℕ, IsTrue, Some, None, IfSome};
 ghost use Rattle.std.specs.Bool.{OnTrue, OnFalse};
 ghost use Rattle.blink_store.specs.Latches.{holder_of, IsHeldByOne, HoldsNone, ChangesHolder};
 
 use std::marker::Model;
 
-/// How many workers there are at most. They are numbered from 0 on.
+/// The greatest number of workers. They are numbered from 0 on.
 pub const WORKERS: usize = 64;
 
-/// The latches on the pages of a tree, each held by at most one worker.
+/// The latches of the pages of a tree, each held by at most one worker.
 ///
-/// A worker holds at most one, so the page of each worker says it all, however many pages there are.
+/// A worker holds at most one latch. So the page of each worker determines all latches, however many pages the tree has.
 #[derive(Debug, Drop)]
 pub struct Latches {
     held: [Option<u32>; WORKERS],
@@ -29,7 +29,7 @@ impl Model for Latches {
 }
 
 impl Latches {
-    /// No page is held.
+    /// Makes the latches of a tree of which no latch is held.
     pub fn new() -> Latches
         ensures { (page : ℕ) → holder_of result page ≡ None }
     {
@@ -38,7 +38,7 @@ impl Latches {
         }
     }
 
-    /// Latches a page for a worker, unless another holds it.
+    /// Latches a page for a worker, unless another worker holds the latch, and returns whether the worker got it.
     pub fn try_latch(&mut self, page: u32, worker: u8) -> bool
         requires worker { worker < WORKERS }
         requires holds_none { HoldsNone self.old worker }
@@ -53,7 +53,7 @@ impl Latches {
         true
     }
 
-    /// Gives back the latch that the worker holds.
+    /// Releases the latch that the worker holds.
     pub fn unlatch(&mut self, page: u32, worker: u8)
         requires { holder_of self.old page ≡ Some worker }
         ensures { ChangesHolder self.old self.new page None }
@@ -61,7 +61,7 @@ impl Latches {
         self.held[usize::from(worker)] = None;
     }
 
-    /// The worker who holds the page.
+    /// Returns the worker that holds the page's latch.
     pub fn holder(&self, page: u32) -> Option<u8>
         ensures holder { result ≡ holder_of self.now page }
         ensures worker { IfSome result (λ worker. worker < WORKERS) }

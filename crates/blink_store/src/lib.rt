@@ -1,6 +1,6 @@
-//! The pages of a B-link tree by number, its prime block, and the latches on its pages.
+//! The pages of a B-link tree by number, its prime block, and the latches of its pages.
 //!
-//! Contracts see a store as plain data, the record `PlainStore`, and the latches as the page that each worker holds, with
+//! Contracts see a store as plain data, the record `PlainStore`. They see the latches as the page that each worker holds, with
 //! `holder_of` the map from pages to workers.
 #![tactic(auto)]
 

@@ -11,7 +11,7 @@ use std::marker::Model;
 
 /// The pages of a tree, numbered from 1 on, and its prime block, which has number 0.
 ///
-/// A page is never removed, and its floor and its level never change: so a number that was read once leads to the same
+/// A page is never removed, and its floor and its level never change. So a page number that was read once leads to the same
 /// place in the tree for ever (Lehman and Yao 1981).
 #[derive(Debug, Drop)]
 pub struct Store {
@@ -35,7 +35,7 @@ impl Model for Store {
 }
 
 impl Store {
-    /// The store of a new tree, whose pages will have at most `fan` entries.
+    /// Makes the store of a new tree, whose pages will have at most `fan` entries.
     pub fn new(alloc: Global, fan: u8) -> Result<Store, StoreError>
         requires { IsFan fan }
         ensures store { IfOk result (λ store. store ≡ new_store fan) }
@@ -52,7 +52,7 @@ impl Store {
         }
     }
 
-    /// The same store once more: the same fan, the same prime block, and each page under its number.
+    /// Copies the store: the same fan, the same prime block, and each page under its number.
     pub fn copy(&self, alloc: Global) -> Result<Store, StoreError>
         ensures store { IfOk result (λ store. store ≡ self.now) }
         ensures refused { IsOkUnless result StoreError.OutOfMemory }
@@ -70,8 +70,8 @@ impl Store {
         })
     }
 
-    /// Whether the two are the same store: the same fan, the same prime block, and the same page under each number. It takes
-    /// no memory.
+    /// Returns whether the two stores are the same: the same fan, the same prime block, and the same page under each number. The
+    /// call takes no memory.
     pub fn is_same(&self, other: &Store) -> bool
         ensures { IsTrue result ↔ self.now ≡ other.now }
     {
@@ -81,7 +81,7 @@ impl Store {
         self.pages == other.pages
     }
 
-    /// Page `n`.
+    /// Returns page `n`.
     pub fn read(&self, n: u32) -> &Page
         requires { HasPage self.now n }
         ensures page { page_of self.now n ≡ Some result.now }
@@ -90,7 +90,7 @@ impl Store {
         &self.pages[n as usize - 1]
     }
 
-    /// Puts a page in the place of page `n`. It takes no memory.
+    /// Replaces page `n`. The call takes no memory.
     pub fn write(&mut self, n: u32, page: Page)
         requires exists { HasPage self.old n }
         requires same_floor_and_level { ForSome (page_of self.old n)
@@ -105,7 +105,7 @@ impl Store {
         self.pages[n as usize - 1] = page;
     }
 
-    /// The prime block.
+    /// Returns the prime block.
     pub fn prime(&self) -> &Prime
         ensures prime { result.now ≡ self.now.prime }
         ensures some_level { 0 < length self.now.prime }
@@ -114,7 +114,7 @@ impl Store {
         &self.prime
     }
 
-    /// Puts another prime block in the place of this one.
+    /// Replaces the prime block.
     pub fn set_prime(&mut self, prime: Prime)
         ensures prime { self.new ≡ record self.old { prime = prime } }
         ensures kept { KeepsFloorsAndLevels self.old self.new }
@@ -124,7 +124,7 @@ impl Store {
         self.prime = prime;
     }
 
-    /// How many pages there are, from 1 to `MAX_PAGE`. The prime block isn't counted.
+    /// Returns the number of pages, from 1 to `MAX_PAGE`. The prime block isn't counted.
     pub fn pages(&self) -> u32
         ensures count { result ≡ length self.now.pages }
         ensures in_range { IsPageNumber result }
@@ -133,7 +133,7 @@ impl Store {
         self.pages.len() as u32
     }
 
-    /// The most entries that a page of this tree has.
+    /// Returns the greatest number of entries in a page of this tree.
     pub fn fan(&self) -> u8
         ensures fan { result ≡ self.now.fan }
         ensures in_range { IsFan result }
@@ -149,7 +149,7 @@ impl Store {
         ensures count { IfOk result (λ n. length self.new.pages ≡ n) }
         ensures kept { KeepsFloorsAndLevels self.old self.new }
 
-        // Whether there is a number left comes before whether there is memory.
+        // The page numbers are checked before memory is asked for.
         ensures full { IsErrOf result StoreError.OutOfPages ↔ (length self.old.pages ≡ MAX_PAGE) }
         ensures unchanged { OnErr result (self.new ≡ self.old) }
     {

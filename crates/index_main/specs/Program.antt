@@ -1,4 +1,4 @@
--- What the program writes for a command line, and what it leaves behind after a refusal.
+-- The program's output for a command line, and what is left after a refusal.
 use Rattle.std.specs.Prelude.{◌≡◌, ◌⊎◌, ⊤, ℕ, List, [], ◌++◌, Option, Some, Result, Ok, Err}
 use Rattle.blink_batch.specs.{records_of}
 use Rattle.blink_run.specs.{IsTextOf, OutputAfterError, Serves, IsReplayText, LeavesReplay, Replays}
@@ -7,23 +7,23 @@ use Rattle.blink_settings.specs.declared.error.ServeError.TheVariants as serve
 use Rattle.blink_line.specs.declared.line.Line.{Line}
 use Rattle.blink_line.specs.declared.line.Line.TheVariants.{Run, Replay}
 
--- the text of the script that is read, or its replay, is written behind what was written before
+-- the text of the script that is read, or its replay, stands after what was written before
 abbrev pub Writes : Line → Option (List ℕ) → Option (List ℕ) → Option (List ℕ) → Type 0
 Writes (Run settings) to_read before after = Serves to_read before after
 Writes (Replay settings schedule) to_read before after = Replays settings.workers settings.fan schedule.items to_read before after
 
--- what a refusal leaves: of a run the lines of the parts before, and of a replay nothing; where the writer failed, a beginning of
--- the text
+-- what a refusal leaves: of a run the lines of the parts before, and of a replay nothing; if the writer failed, a prefix of the
+-- text
 abbrev pub Leaves : Line → Option (List ℕ) → ServeError → Option (List ℕ) → Option (List ℕ) → Type 0
 Leaves (Run settings) to_read error before after = OutputAfterError to_read error before after
 Leaves (Replay settings schedule) to_read error before after = LeavesReplay settings.workers settings.fan schedule.items to_read error before after
 
--- the text of some records, where they are a script
+-- the text of records that are a script
 abbrev pub IsText : Line → List (List (List ℕ)) → List ℕ → Type 0
 IsText (Run settings) records text = IsTextOf records text
 IsText (Replay settings schedule) records text = IsReplayText settings.workers settings.fan schedule.items records text
 
--- what has left is a beginning of what had left before and the text behind it; what is refused has no text
+-- what has left the buffer is a prefix of what had left before and the text after it; what is refused has no text
 pub record HasLeftPrefix (line : Line) (records : List (List (List ℕ))) (written : List ℕ) (after : Option (List ℕ)) : Type 0 where
   pub text : List ℕ
   pub its_text : IsText line records text ⊎ (text ≡ [])
@@ -32,7 +32,7 @@ pub record HasLeftPrefix (line : Line) (records : List (List (List ℕ))) (writt
   pub known : after ≡ Some left
   pub in_order : written ++ text ≡ left ++ rest
 
--- what leaves the buffer then, where the bytes to be read and those that had left before are known
+-- what leaves the buffer then, if the bytes to be read and those that had left before are known
 abbrev pub LetsOut : Line → Option (List ℕ) → ServeError → Option (List ℕ) → Option (List ℕ) → Type 0
 LetsOut line to_read (serve.Script error) before after = Leaves line to_read (serve.Script error) before after
 LetsOut line to_read (serve.Run number error) before after = Leaves line to_read (serve.Run number error) before after

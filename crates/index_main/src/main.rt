@@ -15,7 +15,7 @@ use std::{env, io};
 // The size of the output's buffer in bytes. The input's is csv's own.
 const BUFFER: usize = 64 * 1024;
 
-// Reads the command line and carries it out.
+// Reads the command line, and does what it asks for.
 fn blink(
     rt: &(impl Env + Input + Print + AllocGlobal + Threads + Wait + Sync),
 ) -> Result<(), ProgramError> {
@@ -30,7 +30,8 @@ fn blink(
         return Err(ProgramError::Memory);
     };
     let outcome = carry_out(rt, alloc, &line, &mut rt.reader(), &mut output);
-    // Only a writer that failed has left something in the buffer, and it isn't tried again, as it would be at the buffer's end.
+    // Bytes are left in the buffer only if the writer failed. They aren't written again, as they would be when the buffer is
+    // dropped.
     let _ = output.into_parts();
     outcome.map_err(ProgramError::Serve)
 }

@@ -1,4 +1,4 @@
-//! What the command line asks for, carried out.
+//! The program's work for a command line.
 ghost use Rattle.std.specs.Prelude.{◌≡◌, ◌↔◌, [], Err, IfErr, IsTrue, OnOk};
 ghost use Rattle.std.specs.Io.Buffered.{writer_buffer, writer_inner};
 ghost use Rattle.index_main.specs.Program.{HasLeft, Leaves, LetsOut, Writes};
@@ -13,9 +13,9 @@ use std::thread::Threads;
 #[cfg(test)]
 mod tests;
 
-/// Carries a command line out: reads the script and writes what it answers, or what its replay tells.
+/// Does what a command line asks for: reads the script and writes its answers, or the texts of its replay.
 ///
-/// Whatever the end is, nothing is left in the buffer but where the writer failed: then the answer is `Output`, and nothing more is
+/// After the call the buffer is empty, unless the writer failed. Then the call refuses with `Output`, and nothing more is
 /// written.
 pub fn carry_out<T: Threads + Wait + Sync, R: Read, W: Write + Drop>(
     rt: &T,

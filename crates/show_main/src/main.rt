@@ -1,4 +1,4 @@
-//! The program `blink-show`: it replays a script of operations on standard input and writes a page to look at it.
+//! The program `blink-show`: it replays a script of operations on standard input and writes a page to look at.
 #![tactic(auto)]
 
 mod page;
@@ -11,7 +11,7 @@ use std::process::ExitCode;
 use std::rt::Env;
 use std::{env, io};
 
-// Reads the command line and carries it out.
+// Reads the command line, and does what it asks for.
 fn blink_show(rt: &(impl Env + Input + Print + AllocGlobal)) -> Result<(), ProgramError> {
     let alloc = rt.alloc();
     let words: Vec<String> = match env::args(rt) {

@@ -1,4 +1,4 @@
-//! What the command line asks for, carried out.
+//! The program's work for a command line.
 ghost use Rattle.std.specs.Prelude.{◌≡◌, IfErr, OnOk};
 ghost use Rattle.clap.specs.Walk.{texts};
 ghost use Rattle.blink_run.specs.{WritesText};
@@ -14,9 +14,9 @@ use std::io::{Read, Write};
 #[cfg(test)]
 mod tests;
 
-/// Carries out what the words of a command line ask for, the program's name first: reads the script and writes the page of its
-/// replay, the frames between `head` and `tail`. Nothing is read where the words ask for nothing, and nothing is written after a
-/// refusal, but where the writer failed: then a beginning of the page was.
+/// Does what the words of a command line ask for, the program's name first. It reads the script and writes the page of its
+/// replay, with the frames between `head` and `tail`. If the words ask for nothing, nothing is read. After a refusal nothing was
+/// written, unless the writer failed: then a prefix of the page was.
 pub fn carry_out<R: Read, W: Write>(
     alloc: Global,
     words: &[&str],

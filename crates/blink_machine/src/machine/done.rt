@@ -1,4 +1,4 @@
-//! Where an operation is after a step of which it learns no more than that it is done.
+//! The state of an operation after a step that gives it no more than that the step is done.
 ghost use Rattle.std.specs.Prelude.{◌≡◌};
 ghost use Rattle.blink_page.specs.{IsPageNumber};
 ghost use Rattle.blink_machine.specs.Machine.{NeedsNew, at_state};
@@ -10,8 +10,8 @@ use super::{Debt, Job, Machine, Next, State};
 use blink_page::Page;
 
 impl Machine {
-    /// It has got the latch, written the page or the prime block, or let the latch go. `new` is the number of the page, from 1 to
-    /// 1,048,575, where that was a new one, and else 0.
+    /// Reports that the operation has got the latch, has written the page or the prime block, or has released the latch. `new`
+    /// is the number of a new page, from 1 to 1,048,575, and 0 after any other step.
     pub fn done(&mut self, new: u32)
         requires needs { NeedsNoRead self.old }
         requires new_number { NeedsNew self.old → IsPageNumber new }
@@ -40,7 +40,7 @@ impl Machine {
         }
     }
 
-    // Goes on from the write of its page. For an operation on a leaf that is the deciding step, and a posting has decided
+    // Goes on after the write of a page. For an operation on a leaf that write is the deciding step. A posting has decided
     // before.
     fn written(&mut self, state: State, kept: Option<u64>)
         requires { KeptAt self.old state }
@@ -53,7 +53,8 @@ impl Machine {
         }
     }
 
-    // The upper half is written as the page `new`: the lower one is next, and the split is owed to the level above.
+    // The state after the write of the upper half as page `new`. The lower half is to be written next, and the split owes its
+    // debt to the level above.
     fn half_split(&self, page: u32, before: &Page, new: u32) -> State
         requires to_split { IsToSplit self.now before.now }
         requires new_number { IsPageNumber new }
@@ -68,7 +69,7 @@ impl Machine {
         State::SplitOld(page, lower, debt)
     }
 
-    // Goes where it goes from a page whose latch it has let go.
+    // Goes on after the page's latch is released.
     fn leave(&mut self, next: Next)
         requires { KeptForNext self.old next }
         ensures { self.new ≡ leaves_for self.old next }
@@ -80,7 +81,7 @@ impl Machine {
         }
     }
 
-    // Sets out to post a debt to the level above it, at the page of that level that it remembers, where it does.
+    // Sets out to post a debt to the level above it. It goes to the page that it remembers of that level, if it remembers one.
     fn set_out(&mut self, debt: Debt)
         requires { IsPostable debt }
         ensures { self.new ≡ sets_out self.old debt self.old.remembered }

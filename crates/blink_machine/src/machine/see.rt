@@ -1,4 +1,4 @@
-//! What an operation makes of what it reads.
+//! The state of an operation after a read.
 ghost use Rattle.std.specs.Prelude.{◌≡◌, ◌↔◌, ℕ, ◌<◌, ◌≤◌, ◌+◌, List, length, IsTrue};
 ghost use Rattle.std.specs.Bool.{OnTrue, OnFalse};
 ghost use Rattle.blink_page.specs.declared.limits.TheConstants.{LEVELS};
@@ -16,8 +16,8 @@ use blink_batch::{Answer, Op};
 use blink_page::{Page, Post, Prime, Put, Way};
 
 impl Machine {
-    /// It has read the prime block that it needs, which has fewer than 21 levels. `false` says that it waits: the level to
-    /// post to isn't there yet, so that it has to read the prime block again. Then it is as it was.
+    /// Hands the operation the prime block that it needs, of fewer than 21 levels. It returns `false` if the operation waits,
+    /// since the level to post to isn't there yet. Then the operation is as it was, and has to read the prime block again.
     pub fn saw_prime(&mut self, prime: &Prime) -> bool
         requires needs { NeedsPrime self.old }
         requires few_levels { length prime.now < LEVELS }
@@ -34,7 +34,7 @@ impl Machine {
         true
     }
 
-    // Begins at the root, the page that the prime block names last.
+    // Begins at the root, the last page that the prime block names.
     fn begin(&mut self, prime: &Prime)
         requires state { self.old.state ≡ State.Start }
         requires few_levels { length prime.now < LEVELS }
@@ -44,7 +44,7 @@ impl Machine {
         self.saw_top(top as u8, prime.leftmost[top]);
     }
 
-    /// It has read as much of the prime block as tells the top level and its leftmost page, which is enough to begin.
+    /// Hands the operation the top level and its leftmost page. That much of the prime block is enough to begin.
     pub fn saw_top(&mut self, level: u8, page: u32)
         requires state { self.old.state ≡ State.Start }
         requires few_levels { level + 1 < LEVELS }
@@ -54,7 +54,7 @@ impl Machine {
         self.state = State::Going(page, level);
     }
 
-    // Makes a new root if the page that it has split was the root, and else posts the split.
+    // Goes on to make a new root if the page that it has split was the root; otherwise posts the split.
     fn ask(&mut self, page: u32, debt: Debt, prime: &Prime)
         requires state { self.old.state ≡ State.AskPrime page debt }
         requires few_levels { length prime.now < LEVELS }
@@ -68,7 +68,7 @@ impl Machine {
         }
     }
 
-    // Goes to the leftmost page of the level to post to, if that is there.
+    // Goes to the leftmost page of the level to post to, if that level exists.
     fn find_level(&mut self, prime: &Prime) -> bool
         requires { self.old.state ≡ State.Posting }
         ensures moved { OnTrue result (SeesPrime self.old prime.now self.new) }
@@ -85,7 +85,7 @@ impl Machine {
         true
     }
 
-    /// Whether it would read the prime block in vain, since the level to post to isn't there yet.
+    /// Returns whether the operation would read the prime block in vain, since the level to post to isn't there yet.
     pub fn waits_for_level(&self, prime: &Prime) -> bool
         ensures { IsTrue result ↔ WaitsForLevel self.now prime.now }
     {
@@ -97,8 +97,8 @@ impl Machine {
         }
     }
 
-    /// It has read the page that it needs, which has the level that its state says, no floor or one below its key, and at most
-    /// `fan` entries; where the invariant holds each page that it needs is such a page.
+    /// Hands the operation the page that it needs. The page has the level that the operation's state says, no floor or one below
+    /// its key, and at most `fan` entries. While the invariant holds, each page that it needs is such a page.
     pub fn saw_page(&mut self, page: &Page)
         requires needs { NeedsSomePage self.old }
         requires level { page.now.level ≡ level_read self.old }
@@ -114,7 +114,7 @@ impl Machine {
         }
     }
 
-    // Goes right or down, and at the leaf does what is done under no latch.
+    // Goes right or down; at the leaf it does what needs no latch.
     fn read_on_its_way(&mut self, number: u32, level: u8, page: &Page)
         requires state { self.old.state ≡ State.Going number level }
         requires level { page.now.level ≡ level }
@@ -125,7 +125,7 @@ impl Machine {
         self.saw_way(way, kept);
     }
 
-    // What the page keeps under a find's key, where its way ends there.
+    // The pointer that the page stores for a find's key, if the find's descent ends there.
     fn kept_at_end(&self, page: &Page, way: Way) -> Option<u64>
         ensures { (key : ℕ) → self.now.op ≡ Find key → way ≡ Here
             → value_at key page.now.entries ≡ result }
@@ -136,8 +136,8 @@ impl Machine {
         }
     }
 
-    /// It has read as much of the page that it needs on its way down as tells which way its key leads from there, and, where
-    /// it is a find and the page is the key's leaf, what the leaf keeps under the key. So it need not be shown the page.
+    /// Hands a descending operation where its key leads from the page that it needs. For a find at the key's leaf, `kept` is the
+    /// pointer that the leaf stores for the key. So the operation need not be handed the page.
     pub fn saw_way(&mut self, way: Way, kept: Option<u64>)
         requires on_its_way { IsOnItsWay self.old }
         requires read { (page : PlainPage) × TellsWay self.old page way kept }
@@ -162,7 +162,7 @@ impl Machine {
         }
     }
 
-    // Looks again, now that nobody else changes the page: it may have been split since.
+    // Reads the page again under its latch. No other worker changes it now; it may have been split before.
     fn read_under_latch(&mut self, number: u32, page: &Page)
         requires state { self.old.state ≡ State.Held number }
         requires level { page.now.level ≡ level_of self.old.job }
@@ -183,7 +183,7 @@ impl Machine {
         }
     }
 
-    // Adds its entry to the leaf, unless the key is there, or splits it.
+    // Adds the operation's entry to the leaf unless the key is present, or splits the leaf.
     fn insert(&mut self, number: u32, page: &Page, key: u64, pointer: u64)
         requires state { self.old.state ≡ State.Held number }
         requires job { self.old.job ≡ Job.Leaf }
@@ -204,7 +204,7 @@ impl Machine {
         }
     }
 
-    // Takes the key's entry out of the leaf, if it is there.
+    // Removes the key's entry from the leaf, if the key is present.
     fn delete(&mut self, number: u32, page: &Page, key: u64)
         requires state { self.old.state ≡ State.Held number }
         requires job { self.old.job ≡ Job.Leaf }
@@ -220,7 +220,7 @@ impl Machine {
         }
     }
 
-    // Puts its pointer in the place of the key's in the leaf, if the key is there.
+    // Replaces the key's pointer in the leaf by the operation's, if the key is present.
     fn replace(&mut self, number: u32, page: &Page, key: u64, pointer: u64)
         requires state { self.old.state ≡ State.Held number }
         requires job { self.old.job ≡ Job.Leaf }
@@ -236,7 +236,7 @@ impl Machine {
         }
     }
 
-    // Posts the debt to the page, unless its separator is there, or splits it.
+    // Posts the debt to the page unless its separator is present, or splits the page.
     fn post(&mut self, number: u32, page: &Page, debt: Debt)
         requires state { self.old.state ≡ State.Held number }
         requires job { self.old.job ≡ Job.Parent debt }

@@ -9,8 +9,7 @@ use super::{Machine, State};
 use blink_page::{Page, Prime};
 
 impl Machine {
-    /// The page that the wanted write writes. `new` is the number that the page gets, from 1 to 1,048,575, where it is a new one,
-    /// and else 0.
+    /// Returns the page that the next write writes. `new` is the number of a new page, from 1 to 1,048,575, and 0 for any other.
     pub fn page_out(&self, new: u32) -> Page
         requires needs { NeedsSomeWrite self.now }
         requires new_number { NeedsNew self.now → IsPageNumber new }
@@ -29,7 +28,7 @@ impl Machine {
         }
     }
 
-    /// The prime block that the wanted write writes: the one that it has read, with its new root added.
+    /// Returns the prime block that the next write writes: the one that the operation has read, with its new root added.
     pub fn prime_out(&self) -> Prime
         requires { NeedsPrimeWrite self.now }
         ensures { PrimeOut self.now result }

@@ -1,4 +1,4 @@
-//! How the keeper of a table deals a pass for each worker's lane.
+//! Dealing: the keeper of a table deals a pass to each worker's lane.
 ghost use Rattle.std.specs.Prelude.{◌≡◌, ◌≤◌, [], IfOk, OnOk, vec_capacity};
 ghost use Rattle.blink_batch.specs.{IsLawfulCut};
 ghost use Rattle.blink_live.specs.{HasDealt, IsDealt, LacksAllowance, NoneIsTaken, IsKeeperOf, taken_of};
@@ -10,7 +10,7 @@ use blink_batch::{Batch, Cut};
 use blink_live::{Keeper, Live, LiveError};
 use std::alloc::{AllocError, Global};
 
-/// A run for each worker's lane, with room for its answers and a pass for its keys.
+/// Makes a run for each worker's lane, with room for its answers and a pass for its keys.
 pub(crate) fn deal_all(
     alloc: Global,
     live: &Live,
@@ -33,7 +33,7 @@ pub(crate) fn deal_all(
     Ok(runs)
 }
 
-// A run with a pass of what is needed.
+// Makes a run whose pass has what the lane needs.
 fn deal(
     alloc: Global,
     live: &Live,

@@ -1,4 +1,4 @@
-//! What the lanes give when all have ended.
+//! The results of the lanes when all have ended.
 ghost use Rattle.std.specs.Prelude.{◌≡◌, ◌<◌, ℕ, All, Some, length, map, slice_get, IfOk};
 ghost use Rattle.blink_batch.specs.{lane_of};
 ghost use Rattle.blink_run.specs.Lanes.{AreGathered};
@@ -9,7 +9,7 @@ use blink_batch::{Answer, Cut, WORKER_LIMIT};
 use blink_live::Pass;
 use std::alloc::{AllocError, Global};
 
-/// The answers of all lanes, each at its operation's place in the batch.
+/// Returns the answers of all lanes, each at its operation's place in the batch.
 pub(crate) fn gathered(
     alloc: Global,
     cut: &Cut,
@@ -31,7 +31,7 @@ pub(crate) fn gathered(
     Ok(given)
 }
 
-/// The passes of all lanes.
+/// Returns the passes of all lanes.
 pub(crate) fn passes_of(alloc: Global, runs: Vec<LaneRun>) -> Result<Vec<Pass>, AllocError>
     ensures { IfOk result (λ passes. passes.items ≡ map (λ run. run.pass) runs.items) }
 {

@@ -9,7 +9,7 @@ use blink_live::{Live, Pass, PassError};
 use blink_locked::Gate;
 use std::sync::Wait;
 
-/// A lane on its way: its pass, and the answers to its operations so far.
+/// A lane under way: its pass, and the answers to its operations so far.
 #[derive(Drop)]
 pub(crate) struct LaneRun {
     pub pass: Pass,
@@ -17,7 +17,7 @@ pub(crate) struct LaneRun {
 }
 
 impl LaneRun {
-    /// Runs the worker's lane to its end. The gate is called between operations, when the pass has no latch.
+    /// Runs the worker's lane to its end. It calls the gate between operations, when the pass has no latch.
     pub(crate) fn to_end<R: Wait, G: Gate>(
         mut self,
         rt: &R,
@@ -42,7 +42,7 @@ impl LaneRun {
         self
     }
 
-    // Runs one operation, of one of its keys.
+    // Runs one operation, on one of the lane's keys.
     fn run<R: Wait>(&mut self, rt: &R, live: &Live, op: Op)
         requires can { CanRun live.now op self.old }
         ensures pass { IsPassAfter live.now op self.old.pass self.new.pass }
@@ -55,7 +55,8 @@ impl LaneRun {
     }
 }
 
-// The answer of an operation at the table. Nothing refuses it to a pass that has its key, and an insertion or deletion for it.
+// The answer of an operation at the table. The table doesn't refuse it, since the pass has its key, and an insertion or deletion
+// for it.
 fn answer_at<R: Wait>(rt: &R, live: &Live, pass: &mut Pass, op: Op) -> Answer
     requires its_own { IsPassOf live.now pass.old }
     requires key { Contains (keys_of pass.old) (key_of op) }

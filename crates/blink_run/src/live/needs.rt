@@ -1,4 +1,4 @@
-//! What a worker's pass is to be dealt.
+//! The needs of a worker's lane: what its pass is dealt.
 ghost use Rattle.std.specs.Prelude.{◌≡◌, ◌↔◌, ℕ, [], length, Contains, IfOk};
 ghost use Rattle.blink_live.specs.{NoneIsTaken};
 ghost use Rattle.blink_run.specs.Lanes.{IsNeeded, lane_ops};
@@ -6,7 +6,7 @@ ghost use Rattle.blink_run.specs.Lanes.{IsNeeded, lane_ops};
 use blink_batch::{Batch, Op};
 use std::alloc::{AllocError, Global};
 
-/// The keys of a lane's operations, each once, how many operations there are, how many insertions of them, and how many that use
+/// The keys of a lane's operations, each once; the number of its operations, of the insertions among them, and of those that use
 /// a deletion.
 #[derive(Drop)]
 pub(crate) struct Needs {
@@ -17,7 +17,7 @@ pub(crate) struct Needs {
 }
 
 impl Needs {
-    /// The needs of a worker's lane.
+    /// Returns the needs of a worker's lane.
     pub(crate) fn of(
         alloc: Global,
         batch: &Batch,

@@ -1,4 +1,4 @@
-//! How the lanes run, each in a thread of its own.
+//! The threads of the lanes, one for each.
 ghost use Rattle.std.specs.Prelude.{◌≡◌, ◌≤◌, [], length, vec_capacity, vec_len, IfErr, IfOk, OnOk};
 ghost use Rattle.std.specs.List.{AllZip};
 ghost use Rattle.blink_run.specs.Lanes.{HasRun, HaveRun, MayRun, MayRunAll, lane_ops, with_worker};
@@ -13,7 +13,7 @@ use std::alloc::Global;
 use std::sync::Wait;
 use std::thread::{self, Promise, PromisedHandle, Scope, Threads};
 
-/// The promise of a worker's thread: that its lane has run to its end.
+/// The promise of a worker's thread: its lane has run to its end.
 #[derive(Clone, Copy)]
 struct RunsLane<'a> {
     live: &'a Live,
@@ -28,8 +28,8 @@ impl<'a> Promise<LaneRun> for RunsLane<'a> {
 
 /// Runs each worker's lane to its end, in a thread of its own, and returns when all have ended.
 ///
-/// `Worker` tells the smallest worker that couldn't be started; those that could have run to their ends then too.
-/// `OutOfMemory` comes where memory was refused, before any is started.
+/// The call refuses with `Worker`, which names the smallest worker that couldn't be started; the lanes of the workers before it
+/// have run to their ends then too. It refuses with `OutOfMemory`, if memory was refused; then no thread is started.
 pub(crate) fn run_all<R: Threads + Wait + Sync, G: Gate + Sync>(
     rt: &R,
     alloc: Global,
@@ -132,7 +132,7 @@ fn start<'s, E, R: Threads + Wait + Sync, G: Gate + Sync>(
     }
 }
 
-// What the threads give, put into `all` in the order of the handles.
+// Joins the threads, and adds what they return to `all` in the order of the handles.
 fn joined<T: Drop, P: Promise<T>, R: Threads>(
     rt: &R,
     handles: Vec<PromisedHandle<T, P>>,

@@ -13,7 +13,7 @@ fn settings(driver: Driver) -> Result<Settings, Fail> {
     Ok(Settings::new(2, 4, CutKind::Residue, driver)?)
 }
 
-// What has left the buffer is all that is written.
+// All that is written is what has left the buffer.
 #[test]
 fn all_lines_leave_the_program(rt: HostRuntime) -> Result<(), Fail> {
     let alloc = rt.alloc();
@@ -42,7 +42,7 @@ fn all_lines_leave_the_program(rt: HostRuntime) -> Result<(), Fail> {
     Ok(())
 }
 
-// Gives nothing and fails.
+// A writer that takes nothing and fails.
 #[derive(Drop)]
 struct Broken;
 
@@ -67,7 +67,7 @@ fn a_failed_read_is_reported(rt: HostRuntime) -> Result<(), Fail> {
     Ok(())
 }
 
-// Takes so many bytes, and then has no room; a flush goes well or not.
+// A writer that takes this many bytes, and then has no room; a flush succeeds or fails.
 #[derive(Drop)]
 struct Disk {
     taken: Vec<u8>,

@@ -52,7 +52,7 @@ page 1 - 0 - 18446744073709551615 - 5:50
     Ok(())
 }
 
-// What the words ask for, the script and its end: the refusals are those of `blink replay`.
+// The words' request, the script and its end: the refusals are those of `blink replay`.
 #[test]
 fn refusals_write_nothing(rt: HostRuntime) -> Result<(), Fail> {
     let alloc = rt.alloc();
