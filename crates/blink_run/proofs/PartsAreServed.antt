@@ -106,9 +106,9 @@ module _ {O : Type 0} (offered : O → List ℕ → Option ℕ → O → Type 0)
     -- where the writer hasn't failed before, a flush that goes wrong leaves a beginning of the text
     pub unflushed : (outcome : Result (Unit {0}) ServeError) → OnOk outcome (WritesAll offered before (script_text map parts) between) → IfErr outcome (λ error. PrefixOutputAfterError offered settled map parts error before between)
         → (outcome ≡ Err serve.Output → ⊥) → WritesPrefix offered settled before (script_text map parts) after
-    unflushed (Ok done) poured left not_output = breaks_unflushed offered settled before between after (script_text map parts) poured wrong
-    unflushed (Err (serve.Script error)) poured left not_output = absurd left
-    unflushed (Err (serve.Run number error)) poured left not_output = prefix_unflushed left.prefix (Batch left.ops ∷ left.rest) left.wrote
-    unflushed (Err (serve.Step error)) poured left not_output = absurd left
-    unflushed (Err serve.Output) poured left not_output = absurd (not_output refl)
-    unflushed (Err serve.OutOfMemory) poured left not_output = prefix_unflushed left.0 left.1 left.2
+    unflushed (Ok done) all_written left not_output = breaks_unflushed offered settled before between after (script_text map parts) all_written wrong
+    unflushed (Err (serve.Script error)) all_written left not_output = absurd left
+    unflushed (Err (serve.Run number error)) all_written left not_output = prefix_unflushed left.prefix (Batch left.ops ∷ left.rest) left.wrote
+    unflushed (Err (serve.Step error)) all_written left not_output = absurd left
+    unflushed (Err serve.Output) all_written left not_output = absurd (not_output refl)
+    unflushed (Err serve.OutOfMemory) all_written left not_output = prefix_unflushed left.0 left.1 left.2

@@ -8,40 +8,40 @@ module _ {O : Type 0} (offered : O → List ℕ → Option ℕ → O → Type 0)
   -- one text after another goes out as both
   pub writes_all_of_both : (before between after : O) (one other : List ℕ) → WritesAll offered before one between → WritesAll offered between other after → WritesAll offered before (one ++ other) after
   writes_all_of_both before between _ one _ first nothing = subst (λ (text : List ℕ). WritesAll offered before text between) (sym (append-nil one)) first
-  writes_all_of_both before between after one other first (more text bytes _ taken last _ poured call some longer) =
-      more (one ++ text) bytes (one ++ other) taken last after (writes_all_of_both before between last one text first poured) call some
+  writes_all_of_both before between after one other first (more text bytes _ taken last _ all_written call some longer) =
+      more (one ++ text) bytes (one ++ other) taken last after (writes_all_of_both before between last one text first all_written) call some
       (ap (λ (t : List ℕ). one ++ t) longer ∙ sym (append_assoc one text (take taken bytes)))
 
   -- where an offer takes some of what is left of a text, more of it has gone out
   pub writes_all_more : (before between after : O) (text written rest left : List ℕ) (taken : ℕ) → text ≡ written ++ rest → WritesAll offered before written between → offered between rest (Some taken) after → 0 < taken → left ≡ drop taken rest
-      → record { written : List ℕ; in_order : text ≡ written ++ left; poured : WritesAll offered before written after }
-  writes_all_more before between after text written rest left taken in_order poured call some dropped = record {
+      → record { written : List ℕ; in_order : text ≡ written ++ left; all_written : WritesAll offered before written after }
+  writes_all_more before between after text written rest left taken in_order all_written call some dropped = record {
     written = written ++ take taken rest;
     in_order = in_order ∙ ap (λ (t : List ℕ). written ++ t) (sym (take-append-drop taken rest)) ∙ sym (append_assoc written (take taken rest) (drop taken rest)) ∙ ap (λ (t : List ℕ). written ++ take taken rest ++ t) (sym dropped);
-    poured = more written rest (written ++ take taken rest) taken between after poured call some refl;
+    all_written = more written rest (written ++ take taken rest) taken between after all_written call some refl;
   }
 
   module _ (settled : O → Bool → O → Type 0) where
     -- a call fails where a beginning of a text has gone out
     pub breaks_here : (before between after : O) (text prefix rest : List ℕ) → text ≡ prefix ++ rest → WritesAll offered before prefix between → Fails offered settled between after → WritesPrefix offered settled before text after
-    breaks_here before between after text prefix rest in_order poured failed = record { prefix = prefix; rest = rest; in_order = in_order; between = between; poured = poured; failed = failed }
+    breaks_here before between after text prefix rest in_order all_written failed = record { prefix = prefix; rest = rest; in_order = in_order; between = between; all_written = all_written; failed = failed }
 
     -- where a text breaks off, so does a longer one
     pub breaks_before : (before after : O) (text rest : List ℕ) → WritesPrefix offered settled before text after → WritesPrefix offered settled before (text ++ rest) after
     breaks_before before after text rest broken =
         breaks_here before broken.between after (text ++ rest) broken.prefix (broken.rest ++ rest)
-        (ap (λ (t : List ℕ). t ++ rest) broken.in_order ∙ append_assoc broken.prefix broken.rest rest) broken.poured broken.failed
+        (ap (λ (t : List ℕ). t ++ rest) broken.in_order ∙ append_assoc broken.prefix broken.rest rest) broken.all_written broken.failed
 
     -- and where the text behind one that goes out breaks off, so do both
     pub breaks_after : (before between after : O) (text rest : List ℕ) → WritesAll offered before text between → WritesPrefix offered settled between rest after → WritesPrefix offered settled before (text ++ rest) after
-    breaks_after before between after text rest poured broken =
+    breaks_after before between after text rest all_written broken =
         breaks_here before broken.between after (text ++ rest) (text ++ broken.prefix) broken.rest
         (ap (λ (t : List ℕ). text ++ t) broken.in_order ∙ sym (append_assoc text broken.prefix broken.rest))
-        (writes_all_of_both before between broken.between text broken.prefix poured broken.poured) broken.failed
+        (writes_all_of_both before between broken.between text broken.prefix all_written broken.all_written) broken.failed
 
     -- a flush of a text that went out goes wrong
     pub breaks_unflushed : (before between after : O) (text : List ℕ) → WritesAll offered before text between → settled between false after → WritesPrefix offered settled before text after
-    breaks_unflushed before between after text poured wrong = breaks_here before between after text text [] (sym (append-nil text)) poured (is_not_flushed wrong)
+    breaks_unflushed before between after text all_written wrong = breaks_here before between after text text [] (sym (append-nil text)) all_written (is_not_flushed wrong)
 
 -- bytes that grow by one text and then by another grow by both
 appends_both : (before between after : Option (List ℕ)) (one other : List ℕ) → Appends before between one → Appends between after other → Appends before after (one ++ other)
@@ -72,8 +72,8 @@ module _ {W : Type 0} (contents : W → Option (List ℕ)) where
   -- what goes out to a writer is taken by it
   pub takes_poured : (before after : W) (text : List ℕ) → WritesAll (TakesOffered contents) before text after → Appends (contents before) (contents after) text
   takes_poured before _ _ nothing = appends_nothing (contents before)
-  takes_poured before after text (more shorter bytes _ taken between _ poured call some longer) =
-      subst (λ (t : List ℕ). Appends (contents before) (contents after) t) (sym longer) (appends_both (contents before) (contents between) (contents after) shorter (take taken bytes) (takes_poured before between shorter poured) call)
+  takes_poured before after text (more shorter bytes _ taken between _ all_written call some longer) =
+      subst (λ (t : List ℕ). Appends (contents before) (contents after) t) (sym longer) (appends_both (contents before) (contents between) (contents after) shorter (take taken bytes) (takes_poured before between shorter all_written) call)
 
   -- a call that fails leaves it as it is
   keeps_failed : (before after : W) → Fails (TakesOffered contents) (KeepsFlushed contents) before after → Keeps (contents before) (contents after)
@@ -89,9 +89,9 @@ module _ {W : Type 0} (contents : W → Option (List ℕ)) where
     broken.rest,
     broken.in_order,
     appends_kept (contents before) (contents broken.between) (contents after) broken.prefix
-        (takes_poured before broken.between broken.prefix broken.poured) (keeps_failed broken.between after broken.failed),
+        (takes_poured before broken.between broken.prefix broken.all_written) (keeps_failed broken.between after broken.failed),
   )
 
   -- and one of a text that goes out has taken the whole
   pub takes_whole : (before after : W) (text : List ℕ) → Writes (TakesOffered contents) (KeepsFlushed contents) before text after → Appends (contents before) (contents after) text
-  takes_whole before after text out = appends_kept (contents before) (contents out.between) (contents after) text (takes_poured before out.between text out.poured) out.flushed
+  takes_whole before after text out = appends_kept (contents before) (contents out.between) (contents after) text (takes_poured before out.between text out.all_written) out.flushed

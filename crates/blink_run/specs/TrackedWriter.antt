@@ -29,11 +29,11 @@ pub record WritesPrefix {O : Type 0} (offered : O → List ℕ → Option ℕ �
   pub rest : List ℕ
   pub in_order : text ≡ prefix ++ rest
   pub between : O
-  pub poured : WritesAll offered before prefix between
+  pub all_written : WritesAll offered before prefix between
   pub failed : Fails offered settled between after
 
 -- the whole text is written, and flushed
 pub record Writes {O : Type 0} (offered : O → List ℕ → Option ℕ → O → Type 0) (settled : O → Bool → O → Type 0) (before : O) (text : List ℕ) (after : O) : Type 0 where
   pub between : O
-  pub poured : WritesAll offered before text between
+  pub all_written : WritesAll offered before text between
   pub flushed : settled between true after

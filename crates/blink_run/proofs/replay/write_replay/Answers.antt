@@ -32,11 +32,11 @@ returns-in_err-write_out-3-clause-broken_off g c =
 -- all three go out, and are flushed
 pub returns-clause-written : goal.returns-clause-written
 returns-clause-written g c =
-    let poured = writes_all_of_both g.O.TrackedWriter.offered _ _ _ c.args.trace.now _ c.in_ok-write_out.ensures.written (writes_all_of_both g.O.TrackedWriter.offered _ _ _ c.args.text.now c.args.pages.now c.in_ok-write_out-2.ensures.written c.in_ok-write_out-3.ensures.written) in
-    on_ok_weaker c.flush_out.result (λ flushed. record { between = c.write_out-3.new.tracked_writer; poured = poured; flushed = flushed }) c.flush_out.ensures.flushed
+    let all_written = writes_all_of_both g.O.TrackedWriter.offered _ _ _ c.args.trace.now _ c.in_ok-write_out.ensures.written (writes_all_of_both g.O.TrackedWriter.offered _ _ _ c.args.text.now c.args.pages.now c.in_ok-write_out-2.ensures.written c.in_ok-write_out-3.ensures.written) in
+    on_ok_weaker c.flush_out.result (λ flushed. record { between = c.write_out-3.new.tracked_writer; all_written = all_written; flushed = flushed }) c.flush_out.ensures.flushed
 
 -- and aren't
 pub returns-clause-broken_off : goal.returns-clause-broken_off
 returns-clause-broken_off g c =
-    let poured = writes_all_of_both g.O.TrackedWriter.offered _ _ _ c.args.trace.now _ c.in_ok-write_out.ensures.written (writes_all_of_both g.O.TrackedWriter.offered _ _ _ c.args.text.now c.args.pages.now c.in_ok-write_out-2.ensures.written c.in_ok-write_out-3.ensures.written) in
-    IfErr-weaker c.flush_out.result _ _ (λ error wrong. (wrong.0, breaks_unflushed g.O.TrackedWriter.offered g.O.TrackedWriter.settled _ _ _ _ poured wrong.1)) c.flush_out.ensures.unflushed
+    let all_written = writes_all_of_both g.O.TrackedWriter.offered _ _ _ c.args.trace.now _ c.in_ok-write_out.ensures.written (writes_all_of_both g.O.TrackedWriter.offered _ _ _ c.args.text.now c.args.pages.now c.in_ok-write_out-2.ensures.written c.in_ok-write_out-3.ensures.written) in
+    IfErr-weaker c.flush_out.result _ _ (λ error wrong. (wrong.0, breaks_unflushed g.O.TrackedWriter.offered g.O.TrackedWriter.settled _ _ _ _ all_written wrong.1)) c.flush_out.ensures.unflushed

@@ -7,7 +7,7 @@ abbrev pub invariant-loop-rest : goal.invariant-loop-rest
 invariant-loop-rest g l = record {
   written : List ℕ;
   in_order : l.fn.text ≡ written ++ l.rest;
-  poured : WritesAll g.O.TrackedWriter.offered l.initial.tracked_writer written l.tracked_writer;
+  all_written : WritesAll g.O.TrackedWriter.offered l.initial.tracked_writer written l.tracked_writer;
 }
 
 -- each call takes some of the rest
