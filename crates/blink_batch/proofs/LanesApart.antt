@@ -1,4 +1,4 @@
--- A worker's lane of a lawfully cut batch, run apart: over a share of the map, which keeps what the map keeps under the lane's keys.
+-- A worker's lane of a lawfully cut batch, run apart: over a share of the map, which maps the lane's keys as the map does.
 use Rattle.std.proofs.Common.{◌≡◌, ℕ, suc, ◌+◌, ◌<◌, List, [], ◌∷◌, ◌++◌, length, map, get_or, take, drop, filter, Bool, true, Some, refl, ap, sym, ◌∙◌, subst, arith}
 use Rattle.std.proofs.lemmas.Bool.{eq-eqb, eqb-true}
 use Rattle.std.proofs.lemmas.List.{drop_more, get_or_default, length-append, take-append-drop}
@@ -27,7 +27,7 @@ use Rattle.blink_batch.proofs.RunsByKey.{answers_on_key, every_weaker, pointer_o
 abbrev pub IsKeyOfLane : List Op → List ℕ → ℕ → ℕ → Type 0
 IsKeyOfLane ops lanes worker key = (place : ℕ) × (op : Op) × (slice_get ops place ≡ Some op) × (slice_get lanes place ≡ Some worker) × (key_of op ≡ key)
 
--- the share keeps what the map keeps under each of the lane's keys
+-- the share maps each of the lane's keys as the map does
 abbrev pub IsShareFor : List Op → List ℕ → ℕ → List Entry → List Entry → Type 0
 IsShareFor ops lanes worker map share = (key : ℕ) → IsKeyOfLane ops lanes worker key → pointer_of share key ≡ pointer_of map key
 

@@ -10,6 +10,6 @@ pub use Rattle.blink_batch.proofs.RunsByKey.{IsAscending-map_after, IsAscending-
 pub use Rattle.blink_batch.proofs.OneThread.{one_thread_answers, one_thread_map}
 -- that a lawful cut gives the operations on one key to one worker
 pub use Rattle.blink_batch.proofs.OneThread.{same_worker_from_key}
--- what a worker's lane answers and leaves apart, over its share of the map, and that ascending maps that keep the same are one
+-- what a worker's lane answers and leaves apart, over its share of the map, and that ascending maps that map every key alike are one
 pub use Rattle.blink_batch.proofs.LanesApart.{IsKeyOfLane, IsShareFor, lane_at_place, lane_place, lane_within, lane_rank, lane_answers, lane_answers-at_place, lane_map, untouched_by_batch}
 pub use Rattle.blink_batch.proofs.RunsByKey.{same_map_from_pointers}

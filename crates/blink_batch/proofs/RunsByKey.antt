@@ -11,7 +11,7 @@ use Rattle.blink_batch.specs.PlainMap.{entry, IsAscending, pointer_of, added, re
 use Rattle.blink_batch.specs.Operation.{key_of, answer_at, cell_after, map_at, answer_of, map_after, answers, map_after_all}
 use Rattle.blink_batch.specs.Cell.{cell_answers, cell_after_all, is_on_key, on_key}
 
--- an entry added under a key that had none is what the key keeps
+-- a key that was absent maps to the pointer of the entry added
 pub pointer_of-added : (m : List Entry) (k p : ℕ) → pointer_of m k ≡ None → pointer_of (added m (entry k p)) k ≡ Some p
 pointer_of-added [] k p none = rw (eq-eqb k k refl)
 pointer_of-added (e ∷ es) k p none =
@@ -25,7 +25,7 @@ pointer_of-added_elsewhere (e ∷ es) k p q other =
     let rest : pointer_of (added es (entry k p)) q ≡ pointer_of es q = pointer_of-added_elsewhere es k p q other in
     grind (arith, nat_tests, rest)
 
--- a key whose entry is removed keeps nothing
+-- a key whose entry is removed maps to nothing
 pub pointer_of-removed : (m : List Entry) (k : ℕ) → pointer_of (removed m k) k ≡ None
 pointer_of-removed [] k = refl
 pointer_of-removed (e ∷ es) k =
@@ -39,7 +39,7 @@ pointer_of-removed_elsewhere (e ∷ es) k q other =
     let rest : pointer_of (removed es k) q ≡ pointer_of es q = pointer_of-removed_elsewhere es k q other in
     grind (arith, nat_tests, rest)
 
--- a key whose pointer is replaced keeps the new one
+-- a key whose pointer is replaced maps to the new one
 pub pointer_of-replaced : (m : List Entry) (k p there : ℕ) → pointer_of m k ≡ Some there → pointer_of (replaced m k p) k ≡ Some p
 pointer_of-replaced [] k p there kept = absurd (cc)
 pointer_of-replaced (e ∷ es) k p there kept =
@@ -127,7 +127,7 @@ pub IsAscending-map_after_all : (m : List Entry) (ops : List Op) → IsAscending
 IsAscending-map_after_all m [] ascending = ascending
 IsAscending-map_after_all m (op ∷ ops) ascending = IsAscending-map_after_all (map_after m op) ops (IsAscending-map_after m op ascending)
 
--- a key below all of the map's keeps nothing
+-- a key below all of the map's maps to nothing
 pub pointer_of-below : (m : List Entry) (k : ℕ) → AllByRecursion (λ e. k < e.key) m → pointer_of m k ≡ None
 pointer_of-below [] k below = refl
 pointer_of-below (e ∷ es) k below = let here : k < e.key = below.0 in rw (ne_eqb e.key k (λ same. omega arith)) (pointer_of-below es k below.1)
@@ -141,7 +141,7 @@ pointer_of-rest e es k other = rw (ne_eqb e.key k other)
 same_entry : (d e : Entry) → d.key ≡ e.key → d.pointer ≡ e.pointer → d ≡ e
 same_entry d e keys pointers = λ i. record { key = keys i; pointer = pointers i }
 
--- a key that one map begins with isn't kept alike in a map that begins above it
+-- a key that one map begins with isn't mapped alike by a map that begins above it
 least_is_only_its_own : (d : Entry) (ds : List Entry) (e : Entry) (es : List Entry) → d.key < e.key → IsAscending (e ∷ es) → pointer_of (d ∷ ds) d.key ≡ pointer_of (e ∷ es) d.key → ⊥
 least_is_only_its_own d ds e es less ascending same =
     let first = pointer_of-first d ds d.key refl in

@@ -1,4 +1,4 @@
--- What a search by halves finds in a plain map, and what the map keeps and becomes there.
+-- What a search by halves finds in a plain map, and what the map has and becomes there.
 use Rattle.std.proofs.Common.{◌≡◌, ◌≢◌, ℕ, zero, suc, ◌<◌, ◌≤◌, List, [], ◌∷◌, length, get_or, set, Some, None, Result, Ok, Err, IfOk, IfErr, refl, sym, ap, arith, inl, inr, subst}
 use Rattle.std.specs.List.{insert, remove, AllByRecursion}
 use Rattle.std.specs.List.Sorted.{IsSearchInRange, IsBinarySearchResult, IsNonDecreasingBy}
@@ -25,7 +25,7 @@ keys_ascend (e ∷ es) ascending i zero before in_range = absurd (omega arith)
 keys_ascend (e ∷ es) ascending zero (suc j) before in_range = all_at (λ after. e.key < after.key) es j (entry 0 0) ascending.0 (omega arith)
 keys_ascend (e ∷ es) ascending (suc i) (suc j) before in_range = keys_ascend es ascending.1 i j (omega arith) (omega arith)
 
--- an entry of which no earlier one has the key is what the map keeps under it
+-- the map maps the key of an entry to its pointer, if no earlier entry has the key
 pointer_of-first : (map : List Entry) (key place : ℕ) → IsPlaceOf map key place → ((other : ℕ) → other < place → key_at map other ≢ key) → pointer_of map key ≡ Some (get_or map place (entry 0 0)).pointer
 pointer_of-first [] key place found first = absurd (omega (arith, found.in_range))
 pointer_of-first (e ∷ es) key zero found first = grind (arith, nat_tests, found.has_key)
@@ -38,18 +38,18 @@ pointer_of-first (e ∷ es) key (suc place) found first =
           (record { in_range = omega (arith, found.in_range); has_key = found.has_key }) (λ other before. first (suc other) (omega arith)),
     )
 
--- a key that no entry has is not kept
+-- a key that no entry has maps to nothing
 pointer_of-absent : (map : List Entry) (key : ℕ) → ((other : ℕ) → other < length map → key_at map other ≢ key) → pointer_of map key ≡ None
 pointer_of-absent [] key absent = refl
 pointer_of-absent (e ∷ es) key absent =
     grind (arith, nat_tests, absent 0 (omega arith), pointer_of-absent es key (λ other in_range. absent (suc other) (omega arith)))
 
--- the entry found is what an ascending map keeps
+-- an ascending map maps the key to the pointer of the entry found
 pub pointer_of-found : (map : List Entry) (key place : ℕ) → IsAscending map → IsPlaceOf map key place → pointer_of map key ≡ Some (get_or map place (entry 0 0)).pointer
 pointer_of-found map key place ascending found =
     pointer_of-first map key place found (λ other before same. omega (arith, keys_ascend map ascending other place before found.in_range, found.has_key))
 
--- a key with a gap is not kept
+-- a key in a gap maps to nothing
 pub pointer_of-gap : (map : List Entry) (key place : ℕ) → IsGapFor map key place → pointer_of map key ≡ None
 pointer_of-gap map key place gap =
     pointer_of-absent map key (λ other in_range same. elim (cases_lt other place) [
@@ -128,7 +128,7 @@ module _ (map : List Entry) (ascending : IsAscending map) (key : ℕ) where
     };
   }
 
--- an ascending map keeps under a key the pointer of the entry at its place
+-- an ascending map maps a key to the pointer of the entry at its place
 pub kept_at_place : (map : List Entry) (key place : ℕ) (x : Entry) → IsAscending map → IsPlaceOf map key place → x ≡ get_or map place x → pointer_of map key ≡ Some x.pointer
 kept_at_place map key place x ascending found read =
     let same = get_or_default map place x (entry 0 0) found.in_range in

@@ -9,7 +9,7 @@ use Rattle.blink_batch.specs.declared.Entry.{Entry}
 use Rattle.blink_batch.specs.declared.Op.TheVariants.{Find}
 use Rattle.blink_batch.specs.{answer_at, answer_of, entry, pointer_of, IsAscending}
 
--- what is kept under a key is an entry
+-- a key and the pointer that it maps to are an entry
 pub entry-from_pointer : (map : List Entry) (key pointer : ℕ) → pointer_of map key ≡ Some pointer → Contains map (entry key pointer)
 entry-from_pointer [] key pointer is = absurd (cc)
 entry-from_pointer (e ∷ rest) key pointer is = dite (ℕ_discrete e.key key)
@@ -26,7 +26,7 @@ above_first first [] x all is = absurd (let inside = is.1 in omega (arith, insid
 above_first first (e ∷ rest) x all (zero, inside, is) = subst (λ (y : Entry). first.key < y.key) is all.0
 above_first first (e ∷ rest) x all (suc k, inside, is) = above_first first rest x all.1 (k, omega (arith, inside), is)
 
--- and an entry is what is kept under its key, since keys ascend
+-- and an entry's key maps to its pointer, since keys ascend
 pub pointer-from_entry : (map : List Entry) (key pointer : ℕ) → IsAscending map → Contains map (entry key pointer) → pointer_of map key ≡ Some pointer
 pointer-from_entry [] key pointer ascending is = absurd (let inside = is.1 in omega (arith, inside))
 pointer-from_entry (e ∷ rest) key pointer ascending (zero, inside, is) =

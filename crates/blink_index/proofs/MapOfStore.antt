@@ -1,4 +1,4 @@
--- The plain map of a store at rest: what its tree keeps, and nothing else.
+-- The plain map of a store at rest: the entries of its tree, and nothing else.
 use Rattle.std.proofs.Common.{◌≡◌, ℕ, Some, List, [], ◌∷◌, cond, eqb, refl, sym, ap, ◌∙◌, subst}
 use Rattle.blink_batch.specs.{pointer_of}
 use Rattle.blink_page.specs.{value_at}

@@ -2,5 +2,5 @@
 
 -- the plain map of a store has the entries of its tree
 pub use Rattle.blink_index.proofs.MapOfStore.{map_of-entries}
--- an entry of a plain map is what is kept under its key, and what a find answers, and the other way round
+-- an entry's key maps to its pointer in a plain map, which is what a find answers, and the other way round
 pub use Rattle.blink_index.proofs.EntriesOfMaps.{entry-from_pointer, pointer-from_entry, found-from_pointer, pointer-from_found}

@@ -67,7 +67,7 @@ module _ (store : PlainStore) (at_rest : IsStoreAtRest store) (key : ℕ) (in_ra
       pub leaf_on_the_way : page.level ≡ 0 → IsLeafFor store key page
       leaf_on_the_way is_leaf = record { number = number; there = there; is_leaf = is_leaf; belongs = key_on_the_way }
 
-  -- what the tree keeps under a key is what the key's leaf keeps
+  -- the tree maps a key to what the key's leaf maps it to
   pub leaf_value : (leaf : PlainPage) (entries : List (ℕ × ℕ)) → IsLeafFor store key leaf → AreEntries store.fan store.prime (page_of store) entries
       → value_at key entries ≡ value_at key leaf.entries
   leaf_value leaf entries is_for are =
@@ -77,7 +77,7 @@ module _ (store : PlainStore) (at_rest : IsStoreAtRest store) (key : ℕ) (in_ra
       let same : ends.leaf ≡ leaf = cc (known, is_for.there, ap (page_of store) same_number) in
       ends.is_leaf_of.same_value ∙ ap (λ (p : PlainPage). value_at key p.entries) same
 
-  -- and so is what its plain map keeps
+  -- and so does its plain map
   pub leaf_pointer : (leaf : PlainPage) → IsLeafFor store key leaf → pointer_of (map_of store) key ≡ value_at key leaf.entries
   leaf_pointer leaf is_for =
       let found = entries_exist_at_rest store.fan store.prime (page_of store) at_rest in

@@ -1,10 +1,10 @@
 -- What this crate offers to the proofs of the crates above.
 
--- the entries of some keys keep what all entries keep under these
+-- the entries of some keys map these as all entries do
 pub use Rattle.blink_live.proofs.dealt.KeysOfShare.{among_from_contains, entries_of_keep}
 -- what an operation adds to its pass's own changes, key by key; and these are what the pass has seen of its own keys
 pub use Rattle.blink_live.proofs.changed.OwnChangesByKey.{own_changes-own_key, own_changes-other_key, own_changes-are_seen}
--- of a longer list a key has more states, it keeps the last of them, and where there are no more than before, it keeps the same
+-- of a longer list a key has more states, it maps to the last of them, and where there are no more than before, it maps to the same
 pub use Rattle.blink_live.proofs.told.PrefixesOfOneList.{prefix_of_prefix}
 pub use Rattle.blink_live.proofs.told.StatesOfKeys.{states_of-prefix, after-last_state, after-exactly, prefixes_of_each_other, last_state-push}
 -- the entries of a closed table

@@ -48,7 +48,7 @@ pub record ReadsPrime (me : SeatState) (row : ℕ) (prime : List ℕ) : Type 0 w
 -- `way` says where the key leads from the page; if the page is its leaf, `kept` is the pointer stored for the key
 pub record TellsWayFor (key : ℕ) (page : PlainPage) (way : Way) (kept : Option ℕ) : Type 0 where
   pub leads : Leads page key way
-  pub keeps : way ≡ Here → value_at key page.entries ≡ kept
+  pub maps : way ≡ Here → value_at key page.entries ≡ kept
 
 -- an operation on a leaf is in its descent
 pub record IsGoing (m : PlainMachine) : Type 0 where

@@ -1,4 +1,4 @@
-//! The indexes over which the tests open tables, and what those have to keep that they get back. A page has at most 4 entries.
+//! The indexes over which the tests open tables, and the entries that a closed table must have. A page has at most 4 entries.
 use blink_batch::{Batch, Entry, Lanes, Op};
 use blink_index::Index;
 use blink_steps::World;

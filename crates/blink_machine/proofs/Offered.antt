@@ -1,6 +1,6 @@
 -- What this crate offers to the proofs of the crates above.
 
--- a tree at rest keeps a plain map
+-- a tree at rest has a plain map
 pub use Rattle.blink_machine.proofs.law.EntriesAtStart.{entries_at_start}
 -- a plain map is told by its pairs
 pub use Rattle.blink_machine.proofs.law.InvariantGivesOneMap.{entries_from-pairs_of}

@@ -18,7 +18,7 @@ pub mod LowerHalfKeepsInvariant
 pub mod NewRootKeepsInvariant
 pub mod StepsKeepInvariant
 pub mod ReadsSucceed
-pub mod EntriesThatATreeKeeps
+pub mod EntriesOfATree
 pub mod ReadsDecide
 pub mod WritesDecide
 pub mod WritesChangeEntries

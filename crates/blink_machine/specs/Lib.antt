@@ -23,7 +23,7 @@ pub use Rattle.blink_machine.specs.Allowance.{HasEnough, UsesUp, numbers_left, p
 -- the kinds of step that an operation may need, whatever the page
 pub use Rattle.blink_machine.specs.Needs.{NeedsNoRead, NeedsSomePage, NeedsSomeWrite}
 -- the entries of a tree as a plain map
-pub use Rattle.blink_machine.specs.TreeMap.{HasMap, IsMapOf, Keeps, entries_from, pairs_of}
+pub use Rattle.blink_machine.specs.TreeMap.{HasMap, IsMapOf, HasEntries, entries_from, pairs_of}
 -- the law that all other facts about steps follow from, in nine parts
 pub use Rattle.blink_machine.specs.StepLaw.{IsMapAt}
 -- what an operation makes of what it reads is determined

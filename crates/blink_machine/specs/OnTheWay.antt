@@ -16,4 +16,4 @@ IsOnItsWay m = (number : ℕ) × (level : ℕ) × (m.state ≡ Going number leve
 pub record TellsWay (m : PlainMachine) (page : PlainPage) (way : Way) (kept : Option ℕ) : Type 0 where
   pub has_level : page.level ≡ level_read m
   pub leads : Leads page (target m) way
-  pub keeps : (key : ℕ) → m.op ≡ Find key → way ≡ Here → value_at key page.entries ≡ kept
+  pub maps : (key : ℕ) → m.op ≡ Find key → way ≡ Here → value_at key page.entries ≡ kept

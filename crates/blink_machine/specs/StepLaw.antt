@@ -16,7 +16,7 @@ use Rattle.blink_machine.specs.TreeState.{TreeState, IsItsOperation, Steps}
 use Rattle.blink_machine.specs.Places.{KeepsPlaces, GoesFurther}
 use Rattle.blink_machine.specs.Invariant.{Invariant}
 use Rattle.blink_machine.specs.Table.{SeesPage}
-use Rattle.blink_machine.specs.TreeMap.{Keeps}
+use Rattle.blink_machine.specs.TreeMap.{HasEntries}
 
 -- ---- 1: it begins
 
@@ -44,7 +44,7 @@ InvariantGivesOrder = (tree_state : TreeState) → Invariant tree_state → IsIn
 -- the entries of the tree state's tree are this plain map
 pub record IsMapAt (tree_state : TreeState) (entries : List Entry) : Type 0 where
   pub ascending : IsAscending entries
-  pub kept : Keeps tree_state entries
+  pub kept : HasEntries tree_state entries
 
 -- the tree's entries are exactly one plain map
 pub record HasOneMap (tree_state : TreeState) : Type 0 where
@@ -82,12 +82,12 @@ StepKeepsInvariant = (old new : TreeState) (worker : ℕ) (m after : PlainMachin
 -- a deciding step answers as the plain map does, and changes the entries as the operation changes the map; no other step changes
 -- the entries
 pub data Decides (new : TreeState) (m after : PlainMachine) (entries : List Entry) : Type 0 where
-  deciding : m.answer ≡ None → after.answer ≡ Some (answer_of entries m.op) → Keeps new (map_after entries m.op) → Decides new m after entries
-  other : after.answer ≡ m.answer → Keeps new entries → Decides new m after entries
+  deciding : m.answer ≡ None → after.answer ≡ Some (answer_of entries m.op) → HasEntries new (map_after entries m.op) → Decides new m after entries
+  other : after.answer ≡ m.answer → HasEntries new entries → Decides new m after entries
 
 abbrev pub StepDecides : Type 0
 StepDecides = (old new : TreeState) (worker : ℕ) (m after : PlainMachine) (step : Step) (entries : List Entry) → Invariant old → FitsWords m.op → IsItsOperation old worker m
-    → Steps old worker m step after new → IsAscending entries → Keeps old entries → Decides new m after entries
+    → Steps old worker m step after new → IsAscending entries → HasEntries old entries → Decides new m after entries
 
 -- ---- 7: how it ends
 

@@ -15,8 +15,8 @@ abbrev pub entries_from : List (ℕ × ℕ) → List Entry
 entries_from pairs = map (λ (pair : ℕ × ℕ). entry pair.0 pair.1) pairs
 
 -- the tree of a tree state has the entries of this map
-abbrev pub Keeps : TreeState → List Entry → Type 0
-Keeps tree_state entries = AreEntries tree_state.fan tree_state.prime tree_state.pages (pairs_of entries)
+abbrev pub HasEntries : TreeState → List Entry → Type 0
+HasEntries tree_state entries = AreEntries tree_state.fan tree_state.prime tree_state.pages (pairs_of entries)
 
 -- the entries of the store's tree are this plain map
 pub record IsMapOf (store : PlainStore) (entries : List Entry) : Type 0 where

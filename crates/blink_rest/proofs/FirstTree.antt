@@ -1,4 +1,4 @@
--- The tree that a new store keeps: one empty leaf, which is page 1.
+-- The tree of a new store: one empty leaf, which is page 1.
 use Rattle.std.proofs.Common.{◌≡◌, ℕ, Some, [], ◌∷◌, inl, refl, arith}
 use Rattle.std.proofs.Common.{rules}
 use Rattle.blink_page.specs.{PlainPage, IsLawfulPage, empty_leaf}

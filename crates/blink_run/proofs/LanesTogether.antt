@@ -86,7 +86,7 @@ module _ (live : Live) (ops : List Op) (workers : ℕ) (lanes : List ℕ) (runs 
     run_here : (run : LaneRun) × (slice_get runs worker_here ≡ Some run)
     run_here = element_at runs worker_here (let as_many = have.as_many in let below = is_worker in omega arith)
 
-  -- the share that a run began with keeps what the opened entries keep
+  -- the share that a run began with maps its keys as the opening entries do
   share_for : (m : List Entry) → opening_of live ≡ m → (worker : ℕ) (run : LaneRun) (has : HasRun live (lane_ops ops lanes worker) run) → IsShareFor ops lanes worker m has.share
   share_for m opening worker run has key its = has.began key ((has.keys key).1 (key_of_one ops lanes worker key its)) ∙ ap (λ (entries : List Entry). pointer_of entries key) opening
 

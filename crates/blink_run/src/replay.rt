@@ -76,12 +76,12 @@ fn replay_script<R: Read, W: Write>(
         LeavesReplay settings.now.workers settings.now.fan schedule.now (R.remaining reader.old)
         error (W.contents writer.old) (W.contents writer.new)) }
 {
-    let mut told = Told {
+    let mut texts = Texts {
         trace: String::new(alloc),
         text: String::new(alloc),
     };
-    let pages = replay_read(alloc, reader, settings, schedule, &mut told)?;
-    write_replay(writer, &told.trace, &told.text, &pages)
+    let pages = replay_read(alloc, reader, settings, schedule, &mut texts)?;
+    write_replay(writer, &texts.trace, &texts.text, &pages)
 }
 
 // Runs the script that the reader has, and returns the texts, with the pages at the end.
@@ -90,20 +90,20 @@ fn replay_read<R: Read>(
     reader: &mut R,
     settings: &Settings,
     schedule: &[u8],
-    told: &mut Told,
+    texts: &mut Texts,
 ) -> Result<String, ServeError>
     requires workers { All (λ worker. worker < settings.now.workers) schedule.now }
-    requires none_told { (string_bytes told.old.trace ≡ []) × (string_bytes told.old.text ≡ []) }
+    requires none_yet { (string_bytes texts.old.trace ≡ []) × (string_bytes texts.old.text ≡ []) }
     ensures texts { IfOk result (λ pages. AreToWrite settings.now.workers settings.now.fan schedule.now
         (R.remaining reader.old)
-        (string_bytes told.new.trace ++ (string_bytes told.new.text ++ string_bytes pages))) }
+        (string_bytes texts.new.trace ++ (string_bytes texts.new.text ++ string_bytes pages))) }
     ensures fault { IfErr result (TellsWorkersFault (R.remaining reader.old)) }
     ensures too_large { IfErr result
         (TellsReplayOf settings.now.workers settings.now.fan (R.remaining reader.old)) }
     ensures no_writer { ¬ IsErrOf result ServeError.Output }
 {
     let script = read_script(alloc, reader)?;
-    replay_new(alloc, script.parts, settings, schedule, told)
+    replay_new(alloc, script.parts, settings, schedule, texts)
 }
 
 // Runs parts on a new index, and returns the texts, with its pages at the end.
@@ -112,19 +112,19 @@ fn replay_new(
     parts: Vec<Part>,
     settings: &Settings,
     schedule: &[u8],
-    told: &mut Told,
+    texts: &mut Texts,
 ) -> Result<String, ServeError>
     requires workers { All (λ worker. worker < settings.now.workers) schedule.now }
-    requires none_told { (string_bytes told.old.trace ≡ []) × (string_bytes told.old.text ≡ []) }
+    requires none_yet { (string_bytes texts.old.trace ≡ []) × (string_bytes texts.old.text ≡ []) }
     ensures texts { IfOk result (λ pages. AreTexts settings.now.workers settings.now.fan schedule.now
-        parts.items (string_bytes told.new.trace) (string_bytes told.new.text) (string_bytes pages)) }
+        parts.items (string_bytes texts.new.trace) (string_bytes texts.new.text) (string_bytes pages)) }
     ensures too_large { IfErr result
         (TellsTooLarge settings.now.workers (new_store settings.now.fan) parts.items) }
     ensures refused { IfErr result IsPartsFault }
 {
     let index = new_index(alloc, settings)?;
     let workers = settings.workers();
-    let index = replay_parts(alloc, index, parts, workers, schedule, told)?;
+    let index = replay_parts(alloc, index, parts, workers, schedule, texts)?;
     match index.dump(alloc) {
         Ok(pages) => Ok(pages),
         Err(_) => Err(ServeError::OutOfMemory),
@@ -175,11 +175,11 @@ pub fn run_parts(
     ensures too_large { IfErr result (TellsTooLarge workers index parts.items) }
     ensures refused { IfErr result IsPartsFault }
 {
-    let mut told = Told {
+    let mut texts = Texts {
         trace: String::new(alloc),
         text: String::new(alloc),
     };
-    replay_parts(alloc, index, parts, workers, &[], &mut told)
+    replay_parts(alloc, index, parts, workers, &[], &mut texts)
 }
 
 // Runs parts one after another. The last batch among them takes the schedule.
@@ -189,14 +189,14 @@ fn replay_parts(
     parts: Vec<Part>,
     workers: u8,
     schedule: &[u8],
-    told: &mut Told,
+    texts: &mut Texts,
 ) -> Result<Index, ServeError>
     requires allowed { MayWork workers }
     requires workers { All (λ worker. worker < workers) schedule.now }
     ensures told { IfOk result (TellsParts workers schedule.now index parts.items
-        (string_bytes told.old.trace) (string_bytes told.new.trace)) }
-    ensures text { IfOk result (λ _. string_bytes told.new.text
-        ≡ string_bytes told.old.text ++ script_text (map_of index) parts.items) }
+        (string_bytes texts.old.trace) (string_bytes texts.new.trace)) }
+    ensures text { IfOk result (λ _. string_bytes texts.new.text
+        ≡ string_bytes texts.old.text ++ script_text (map_of index) parts.items) }
     ensures too_large { IfErr result (TellsTooLarge workers index parts.items) }
     ensures refused { IfErr result IsPartsFault }
 {
@@ -205,7 +205,7 @@ fn replay_parts(
     for part in parts {
         left -= batches_with(&part, 0);
         let taken = taken_where(left, schedule);
-        index = replay_part(alloc, index, part, workers, taken, told)?;
+        index = replay_part(alloc, index, part, workers, taken, texts)?;
     }
     Ok(index)
 }
@@ -235,25 +235,25 @@ fn replay_part(
     part: Part,
     workers: u8,
     schedule: &[u8],
-    told: &mut Told,
+    texts: &mut Texts,
 ) -> Result<Index, ServeError>
     requires allowed { MayWork workers }
     requires workers { All (λ worker. worker < workers) schedule.now }
     ensures told { IfOk result (TellsPart workers schedule.now index part
-        (string_bytes told.old.trace) (string_bytes told.new.trace)) }
-    ensures text { IfOk result (λ _. string_bytes told.new.text
-        ≡ string_bytes told.old.text ++ part_text (map_of index) part) }
+        (string_bytes texts.old.trace) (string_bytes texts.new.trace)) }
+    ensures text { IfOk result (λ _. string_bytes texts.new.text
+        ≡ string_bytes texts.old.text ++ part_text (map_of index) part) }
     ensures map { IfOk result (λ after. map_of after ≡ part_after (map_of index) part) }
     ensures refused { IfErr result (IsPartRefusal index part) }
 {
     match part {
-        Part::Batch(batch) => replay_batch(alloc, index, batch, workers, schedule, told),
+        Part::Batch(batch) => replay_batch(alloc, index, batch, workers, schedule, texts),
         Part::Scan(lo, hi) => {
-            let shown = push_scan(&mut told.text, index.scan(lo, hi));
+            let shown = push_scan(&mut texts.text, index.scan(lo, hi));
             kept_where(index, shown)
         }
         Part::Page(lo, n) => {
-            let shown = push_scan(&mut told.text, index.page(lo, n));
+            let shown = push_scan(&mut texts.text, index.page(lo, n));
             kept_where(index, shown)
         }
     }
@@ -280,19 +280,19 @@ fn replay_batch(
     batch: Batch,
     workers: u8,
     schedule: &[u8],
-    told: &mut Told,
+    texts: &mut Texts,
 ) -> Result<Index, ServeError>
     requires allowed { MayWork workers }
     requires workers { All (λ worker. worker < workers) schedule.now }
     ensures told { IfOk result
-        (TellsBatch workers schedule.now index batch (string_bytes told.old.trace) (string_bytes told.new.trace)) }
-    ensures text { IfOk result (λ _. string_bytes told.new.text
-        ≡ string_bytes told.old.text ++ text_of (answers (map_of index) batch)) }
+        (TellsBatch workers schedule.now index batch (string_bytes texts.old.trace) (string_bytes texts.new.trace)) }
+    ensures text { IfOk result (λ _. string_bytes texts.new.text
+        ≡ string_bytes texts.old.text ++ text_of (answers (map_of index) batch)) }
     ensures map { IfOk result (λ after. map_of after ≡ map_after_all (map_of index) batch) }
     ensures refused { IfErr result (IsReplayFault index batch) }
 {
     let mut world = first_world(alloc, index, batch, workers)?;
-    run_to_end(alloc, &mut world, schedule, told)?;
+    run_to_end(alloc, &mut world, schedule, texts)?;
     the_map_is_kept();
     no_other_map_is_kept();
     Ok(Index::from_rest(world.into_rest()))
@@ -316,19 +316,19 @@ fn run_to_end(
     alloc: Global,
     world: &mut World,
     schedule: &[u8],
-    told: &mut Told,
+    texts: &mut Texts,
 ) -> Result<(), ServeError>
     requires { All (λ worker. worker < world.old.run.assignment.workers) schedule.now }
     ensures ran { OnOk result (TellsRun world.old schedule.now world.new
-        (string_bytes told.old.trace) (string_bytes told.new.trace)
-        (string_bytes told.old.text) (string_bytes told.new.text)) }
+        (string_bytes texts.old.trace) (string_bytes texts.new.trace)
+        (string_bytes texts.old.text) (string_bytes texts.new.text)) }
     ensures refused { IfErr result IsRefusedMemory }
 {
-    trace_steps(world, schedule, &mut told.trace)?;
+    trace_steps(world, schedule, &mut texts.trace)?;
     world.finish()?;
     let _of_its_schedule = world.schedule();
     let answers = all_of(alloc, world.answers())?;
-    push_answers(&mut told.text, &answers)?;
+    push_answers(&mut texts.text, &answers)?;
     Ok(())
 }
 
@@ -347,7 +347,7 @@ pub fn lanes_by_residue(alloc: Global, batch: &Batch, workers: u8) -> Result<Lan
 
 /// The texts of a replay: the trace of the schedule's turns, and the text of the parts.
 #[derive(Drop)]
-struct Told {
+struct Texts {
     trace: String,
     text: String,
 }

@@ -7,7 +7,7 @@ pub mod Show
 pub mod Frames
 pub mod Lines
 pub mod Turns
-pub mod Ways
+pub mod AskedTurns
 pub mod Draw
 pub mod Batch
 pub mod Words

@@ -3,7 +3,7 @@ ghost use Rattle.std.specs.Prelude.{◌≡◌, ◌++◌, IfErr, OnOk, string_byt
 ghost use Rattle.blink_batch.specs.{MayWork};
 ghost use Rattle.blink_run.specs.{IsPartsFault};
 ghost use Rattle.blink_show.specs.Batch.{AddsBatch, ops_from};
-ghost use Rattle.blink_show.specs.Ways.{AreOfWorkers, ShowsAsked};
+ghost use Rattle.blink_show.specs.AskedTurns.{AreOfWorkers, ShowsAsked};
 
 use crate::frame::Shown;
 use crate::turns::{Turns, show_finish, show_first, show_turns};

@@ -4,7 +4,7 @@ ghost use Rattle.blink_batch.specs.{MayWork};
 ghost use Rattle.blink_run.specs.{WritesText, is_batch, IsPartsFault, TellsReplayFault, TellsWorkersFault};
 ghost use Rattle.blink_steps.specs.{IsFirstNoWorker};
 ghost use Rattle.blink_show.specs.Show.{AddsParts, IsLastBatch, IsSeedText, IsShowText, IsTextOf, LeavesShow};
-ghost use Rattle.blink_show.specs.Ways.{AreOfWorkers, ShowsAsked};
+ghost use Rattle.blink_show.specs.AskedTurns.{AreOfWorkers, ShowsAsked};
 
 use crate::batch::show_batch;
 use crate::turns::Turns;

@@ -5,7 +5,7 @@ ghost use Rattle.blink_steps.specs.{HasEnded, PlainRun};
 ghost use Rattle.blink_show.specs.Frames.{first_frame, frame};
 ghost use Rattle.blink_show.specs.Keeping.{Keeps};
 ghost use Rattle.blink_show.specs.Turns.{AddsDrawn, AddsFinish, AddsSchedule};
-ghost use Rattle.blink_show.specs.Ways.{AddsAsked, AreOfWorkers};
+ghost use Rattle.blink_show.specs.AskedTurns.{AddsAsked, AreOfWorkers};
 
 use crate::draw::draw;
 use crate::frame::Shown;

@@ -6,7 +6,7 @@ use Rattle.blink_batch.specs.declared.Entry.{Entry}
 use Rattle.blink_batch.specs.declared.Op.{Op}
 use Rattle.blink_batch.specs.{answers, map_after_all, operations_at}
 use Rattle.blink_steps.specs.Run.{PlainRun, tree_state_of}
-use Rattle.blink_machine.specs.{Keeps}
+use Rattle.blink_machine.specs.{HasEntries}
 
 -- the answers so far are those of a run on a map in the given order, each at its operation's place
 abbrev pub AnswersSoFar : List Entry → List Op → List ℕ → List (Option Answer) → Type 0
@@ -24,4 +24,4 @@ pub record IsDecided (entries : List Entry) (run : PlainRun) : Type 0 where
   pub answered : AnswersSoFar entries run.ops run.outcome.order run.outcome.answers
   pub undecided : (place : ℕ) → place < length run.ops → ¬ Contains run.outcome.order place
       → slice_get run.outcome.answers place ≡ Some None
-  pub kept : Keeps (tree_state_of run) (map_now entries run)
+  pub kept : HasEntries (tree_state_of run) (map_now entries run)

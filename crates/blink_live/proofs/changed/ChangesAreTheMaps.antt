@@ -28,7 +28,7 @@ states_of-append key (change ∷ xs) ys = dite (ℕ_discrete change.key key)
     ∙ (states_of-append key xs ys
     ∙ ap (λ (b : Bool). (if b then change.pointer ∷ states_of key xs else states_of key xs) ++ states_of key ys) (sym (ne_eqb change.key key ne))))
 
--- an operation that doesn't answer that it made a change leaves what its key keeps, and the map
+-- an operation that doesn't answer that it made a change leaves the state of its key, and the map
 stays_unchanged : (op : Op) (kept : Option ℕ) → has_changed (answer_at op kept) ≡ false → cell_after op kept ≡ kept
 stays_unchanged (Find key) kept none = refl
 stays_unchanged op (Some kept) none = cc
@@ -74,7 +74,7 @@ other_stays f op kept key differ = stays_else (change_of op kept) f (has_changed
 own_becomes : (f : ℕ → Option ℕ) (op : Op) (kept : Option ℕ) → f (key_of op) ≡ kept → after f (changes_made op kept) (key_of op) ≡ cell_after op kept
 own_becomes f op kept is = becomes_here (change_of op kept) f (has_changed (answer_at op kept)) (λ none. is ∙ sym (stays_unchanged op kept none))
 
--- so where a map keeps of the operation's key and of this one what the changes leave, the map after the operation keeps of it what they leave with its own
+-- so where a map maps the operation's key and this one to what the changes leave, the map after the operation maps it to what they leave with its own
 pub map_is_changed : (opening : ℕ → Option ℕ) (log : List Change) (map : List Entry) (op : Op) (kept : Option ℕ) → pointer_of map (key_of op) ≡ kept → after opening log (key_of op) ≡ kept
     → (key : ℕ) → pointer_of map key ≡ after opening log key → pointer_of (map_after map op) key ≡ after opening (log ++ changes_made op kept) key
 map_is_changed opening log map op kept in_map in_log key is =

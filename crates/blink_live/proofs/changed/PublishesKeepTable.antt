@@ -14,7 +14,7 @@ use Rattle.blink_machine.specs.declared.machine.State.TheVariants.{Ended}
 use Rattle.blink_machine.specs.declared.step.Kind.{Kind}
 use Rattle.blink_machine.specs.declared.step.Step.TheVariants.{Moved}
 use Rattle.blink_machine.specs.declared.step.Kind.TheVariants as kinds
-use Rattle.blink_machine.specs.{UsesUp, write_page, write_prime, PlainMachine, NeedsNew, NeedsWrite, NeedsPrimeWrite, goes_on, Steps, writes_page, writes_new, writes_prime, IsItsOperation, under_way, descent_bound, deciding, other, done, page_out, PrimeOut, Keeps}
+use Rattle.blink_machine.specs.{UsesUp, write_page, write_prime, PlainMachine, NeedsNew, NeedsWrite, NeedsPrimeWrite, goes_on, Steps, writes_page, writes_new, writes_prime, IsItsOperation, under_way, descent_bound, deciding, other, done, page_out, PrimeOut, HasEntries}
 use Rattle.blink_machine.specs.TreeState.{TreeState}
 use Rattle.blink_machine.proofs.Offered.{step_law, has_answer_at_end}
 use Rattle.blink_live.specs.declared.view.Change.{Change}
@@ -66,9 +66,9 @@ module _ (plan : Plan) (s : State ℕ View) (tree_state then : TreeState) (h : I
   its_changes = changes_made m.op kept_before
 
   -- the changes where the step decides the operation
-  decides_here : Keeps then (map_after h.now m.op)
+  decides_here : HasEntries then (map_after h.now m.op)
       → ChangesOwn plan s tree_state then h id number (descent_bound then.pages after_it) me.0 after_it content pages at role tree in_range room is_row its_changes (map_after h.now m.op) (changed_by m.op me.0.share)
-  decides_here keeps_map = record {
+  decides_here has_entries = record {
     other_changes = λ key apart. none_of_other m.op kept_before key (its_key key apart);
     other_kept = λ key apart. other_stays (after (pointer_of plan.opening) h.log) m.op kept_before key (its_key key apart);
     own_share = λ key mine.
@@ -77,13 +77,13 @@ module _ (plan : Plan) (s : State ℕ View) (tree_state then : TreeState) (h : I
           kept = map_is_changed (pointer_of plan.opening) h.log me.0.share.entries m.op kept_before refl (sym own_key.kept) key own.kept;
           changes = states_of-append key h.log its_changes ∙ (ap (λ (l : List (Option ℕ)). l ++ states_of key its_changes) own.changes ∙ sym (states_of-append key me.0.share.changes its_changes));
         };
-    is_map = record { ascending = IsAscending-map_after h.now m.op h.is_map.ascending; kept = keeps_map };
+    is_map = record { ascending = IsAscending-map_after h.now m.op h.is_map.ascending; kept = has_entries };
     kept_now = λ key. map_is_changed (pointer_of plan.opening) h.log h.now m.op kept_before in_map (sym own_key.kept) key (h.kept key);
   }
 
   -- and where it doesn't
-  decides_nothing : Keeps then h.now → ChangesOwn plan s tree_state then h id number (descent_bound then.pages after_it) me.0 after_it content pages at role tree in_range room is_row [] h.now me.0.share
-  decides_nothing keeps_map = record {
+  decides_nothing : HasEntries then h.now → ChangesOwn plan s tree_state then h id number (descent_bound then.pages after_it) me.0 after_it content pages at role tree in_range room is_row [] h.now me.0.share
+  decides_nothing has_entries = record {
     other_changes = λ key apart. refl;
     other_kept = λ key apart. refl;
     own_share = λ key mine.
@@ -92,7 +92,7 @@ module _ (plan : Plan) (s : State ℕ View) (tree_state then : TreeState) (h : I
           kept = own.kept ∙ ap (λ (l : List Change). after (pointer_of plan.opening) l key) (sym (append-nil h.log));
           changes = ap (states_of key) (append-nil h.log) ∙ own.changes;
         };
-    is_map = record { ascending = h.is_map.ascending; kept = keeps_map };
+    is_map = record { ascending = h.is_map.ascending; kept = has_entries };
     kept_now = λ key. h.kept key ∙ ap (λ (l : List Change). after (pointer_of plan.opening) l key) (sym (append-nil h.log));
   }
 
@@ -114,29 +114,29 @@ module _ (plan : Plan) (s : State ℕ View) (tree_state then : TreeState) (h : I
         heard = (known.heard.0 ++ made, sym (append_assoc me.0.told known.heard.0 made) ∙ ap (λ (l : List Change). l ++ made) known.heard.1);
       } in
       elim (step_law.step_decides tree_state then id m after_it (Moved kind) h.now h.invariant fits its stepped h.is_map.ascending h.is_map.kept) as (λ d. BecomesPublished plan s id number kind pages me m after_it) [
-        | deciding none_yet answers keeps_map ↦ record {
+        | deciding none_yet answers has_entries ↦ record {
           way = way;
           share = changed_by m.op me.0.share;
           seen = h.log ++ its_changes;
-          table = publish_keeps plan s tree_state then h id number way me.0 after_it content pages at role tree in_range room is_row its_changes (map_after h.now m.op) (changed_by m.op me.0.share) (decides_here keeps_map) bounded;
+          table = publish_keeps plan s tree_state then h id number way me.0 after_it content pages at role tree in_range room is_row its_changes (map_after h.now m.op) (changed_by m.op me.0.share) (decides_here has_entries) bounded;
           learns = learns its_changes;
           decided = Decided.deciding none_yet (answers ∙ ap (λ (k : Option ℕ). Some (answer_at m.op k)) in_map) refl;
           next = next;
           uses = uses;
           answers_at_end = answers_at_end;
-          knows_own = own_known its_changes (changed_by m.op me.0.share) (decides_here keeps_map).own_share;
+          knows_own = own_known its_changes (changed_by m.op me.0.share) (decides_here has_entries).own_share;
         }
-        | other same_answer keeps_map ↦ record {
+        | other same_answer has_entries ↦ record {
           way = way;
           share = me.0.share;
           seen = h.log ++ [];
-          table = publish_keeps plan s tree_state then h id number way me.0 after_it content pages at role tree in_range room is_row [] h.now me.0.share (decides_nothing keeps_map) bounded;
+          table = publish_keeps plan s tree_state then h id number way me.0 after_it content pages at role tree in_range room is_row [] h.now me.0.share (decides_nothing has_entries) bounded;
           learns = learns [];
           decided = Decided.other same_answer refl;
           next = next;
           uses = uses;
           answers_at_end = answers_at_end;
-          knows_own = own_known [] me.0.share (decides_nothing keeps_map).own_share;
+          knows_own = own_known [] me.0.share (decides_nothing has_entries).own_share;
         }
       ]
 

@@ -50,7 +50,7 @@ abbrev pub gives_row : Owners → ℕ → Owners
 gives_row owners row = record owners { row = put owners.row row 0 }
 
 module _ (plan : Plan) (s : State ℕ View) (tree_state then : TreeState) (h : IsTableAt plan s tree_state) (id number way : ℕ) (v : View) (after_it : PlainMachine) (content : List ℕ) (pages : Span) (at : get_elem? s.views id ≡ some v) (role : v.role ≡ Pass) where
-  -- the tree's step: what the row keeps is the page of this number now, or for number 0 the prime block, and else all is as it was
+  -- the tree's step: what the row holds is the page of this number now, or for number 0 the prime block, and else all is as it was
   pub record IsStepOfTree : Type 0 where
     pub same_fan : then.fan ≡ tree_state.fan
     pub same_holder : (n : ℕ) → then.holder n ≡ tree_state.holder n

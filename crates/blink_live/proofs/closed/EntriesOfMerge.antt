@@ -1,4 +1,4 @@
--- The entries of a closed table: what the passes' shares keep, and under keys that weren't dealt what the opening entries keep.
+-- The entries of a closed table: each dealt key as its pass's share maps it, and each other key as the opening entries do.
 use Rattle.std.proofs.Common.{◌≡◌, ℕ, Some, List, ◌∙◌}
 use Rattle.std.specs.Prelude.{Contains, slice_get}
 use Rattle.blink_batch.specs.declared.Entry.{Entry}

@@ -23,7 +23,7 @@ use Rattle.blink_live.specs.Words.{KeepsPage}
 use Rattle.blink_live.proofs.closed.AllBack.{all_back}
 use Rattle.blink_live.proofs.dealt.KeysOfShare.{after_untouched}
 
--- what a table at the end says: its tree keeps these entries, which are those of the shares that came back, and else the opening ones
+-- what a table at the end says: its tree has these entries, which are those of the shares that came back, and else the opening ones
 pub record IsAtEnd (plan : Plan) (words : List ℕ) (v : View) : Type 0 where
   pub now : List Entry
   pub tree : KeepsTree plan.counts words plan.fan now

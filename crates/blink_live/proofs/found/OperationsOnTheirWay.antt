@@ -39,7 +39,7 @@ module _ (op : Op) (number row : ℕ) (first me : SeatState) (m then : PlainMach
     next = subst (λ (p : Plan). CanGoOn p then) (ap (λ (v : View). v.plan) has.same.0) loads.next;
   }
 
-  -- what it answers now is what its key keeps after the changes that the seat has seen
+  -- what it answers now is what its key maps to after the changes that the seat has seen
   pub answers_as_told : AnswersAfter (after (pointer_of me.0.plan.opening) loads.seen) m then → m.answer ≡ None → (then.answer ≡ None) ⊎ (then.answer ≡ Some (answer_at op (known_of new.0 (key_of op))))
   answers_as_told (inl same) none_yet = inl (same ∙ none_yet)
   answers_as_told (inr (was_none, given)) none_yet =

@@ -33,10 +33,10 @@ module _ (tree_state : TreeState) (worker number : ℕ) (m then : PlainMachine) 
       (record { same_fan = refl; same_prime = refl; same_pages = refl; same_holder = refl })
       (record { own = put_here tree_state.machines worker (goes_on then then.state); others = λ some_other ne. put_else tree_state.machines worker some_other (goes_on then then.state) ne })
 
--- what it answers is what its key keeps after the changes so far
+-- what it answers is what its key maps to after the changes so far
 answers_after : (kept : ℕ → Option ℕ) (tree_state : TreeState) (m then : PlainMachine) (now : List _) → ((key : ℕ) → pointer_of now key ≡ kept key) → Decides tree_state m then now → AnswersAfter kept m then
-answers_after kept tree_state m then now is (deciding none_yet answered keeps_map) = inr (none_yet, answered ∙ ap (λ (o : Option ℕ). Some (answer_at m.op o)) (is (key_of m.op)))
-answers_after kept tree_state m then now is (other same keeps_map) = inl same
+answers_after kept tree_state m then now is (deciding none_yet answered has_entries) = inr (none_yet, answered ∙ ap (λ (o : Option ℕ). Some (answer_at m.op o)) (is (key_of m.op)))
+answers_after kept tree_state m then now is (other same has_entries) = inl same
 
 -- a page of some tree is lawful under the greatest fan
 lawful_within : (fan : ℕ) (page : PlainPage) → fan ≤ MAX_FAN → IsLawfulPage fan page → IsLawfulPage MAX_FAN page

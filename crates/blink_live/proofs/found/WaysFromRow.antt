@@ -26,7 +26,7 @@ has_link page key word lawful fits above is = go page.right refl
         }
 
 pub leads_right : (page : PlainPage) (key word : ℕ) → page.high < key → HasLink page word → TellsWayFor key page (Right word) None
-leads_right page key word above has = record { leads = (above, has.link); keeps = λ is. absurd (cc) }
+leads_right page key word above has = record { leads = (above, has.link); maps = λ is. absurd (cc) }
 
 -- ---- where the search among the entries ended
 
@@ -72,7 +72,7 @@ some_child page key lawful inner not_right none =
     omega (arith, inside, past)
 
 pub leads_down : (page : PlainPage) (key child : ℕ) → key ≤ page.high → 0 < page.level → child_for key page.entries ≡ Some child → TellsWayFor key page (Down child) None
-leads_down page key child not_right inner is = record { leads = (not_right, inner, is); keeps = λ here. absurd (cc) }
+leads_down page key child not_right inner is = record { leads = (not_right, inner, is); maps = λ here. absurd (cc) }
 
 pub ends_here : (page : PlainPage) (key : ℕ) (kept : Option ℕ) → key ≤ page.high → page.level ≡ 0 → kept ≡ value_at key page.entries → TellsWayFor key page Here kept
-ends_here page key kept not_right leaf is = record { leads = (not_right, leaf); keeps = λ here. sym is }
+ends_here page key kept not_right leaf is = record { leads = (not_right, leaf); maps = λ here. sym is }

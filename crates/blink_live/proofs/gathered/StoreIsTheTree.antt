@@ -47,14 +47,14 @@ module _ (counts : PlainCounts) (words : List ℕ) (fan : ℕ) (prime : List ℕ
       let fit = levels_fit counts words fan pages kept bounded prime levels are.chains in
       rw (same_fan, of_levels.same_prime) (are-levels_anew fan pages store prime levels are of_levels.same_pages fit)
 
-  -- it has the entries of whatever tree the words keep
+  -- it has the entries of whatever tree is in the words
   entries_of_it : HasTheEntries counts words fan prime store
   entries_of_it pages kept at_rest entries are =
       let of_levels = whole pages at_rest.0 kept at_rest.1 in
       let fit = levels_fit counts words fan pages kept bounded prime at_rest.0 at_rest.1.chains in
       rw (same_fan, of_levels.same_prime) (entries-levels_anew fan pages store prime at_rest.0 entries at_rest.1 are of_levels.same_pages fit)
 
--- the store is the tree that the words keep
+-- the store is the tree in the words
 pub record IsTheTree (counts : PlainCounts) (words : List ℕ) (fan : ℕ) (prime : List ℕ) (store : PlainStore) : Type 0 where
   pub at_rest : IsStoreAtRest store
   pub entries : HasTheEntries counts words fan prime store

@@ -1,4 +1,4 @@
--- What lists of changes say of one key: a longer list gives it more states, and it keeps the last of them.
+-- What lists of changes say of one key: a longer list gives it more states, and the last of them is what it maps to.
 use Rattle.std.proofs.Common.{◌≡◌, ℕ, Bool, Option, List, [], ◌∷◌, ◌++◌, refl, sym, ap, ◌∙◌, subst, eq-eqb, ne_eqb}
 use Rattle.std.specs.Prelude.{if◌then◌else◌}
 use mathlib.Core.List.{IsPrefix}
@@ -13,7 +13,7 @@ use Rattle.blink_live.proofs.table.MapsWithOneChange.{put_else}
 pub states_of-prefix : (key : ℕ) (seen more : List Change) → IsPrefix seen more → IsPrefix (states_of key seen) (states_of key more)
 states_of-prefix key seen more is = (states_of key is.0, sym (states_of-append key seen is.0) ∙ ap (states_of key) is.1)
 
--- the key keeps the last of its states
+-- the key maps to the last of its states
 pub after-last_state : (f : ℕ → Option ℕ) (changes : List Change) (key : ℕ) → after f changes key ≡ last_state (f key) (states_of key changes)
 after-last_state f [] key = refl
 after-last_state f (change ∷ rest) key = after-last_state (put f change.key change.pointer) rest key ∙ dite (ℕ_discrete change.key key)
@@ -34,7 +34,7 @@ prefixes_of_each_other (x ∷ first) (y ∷ second) one two =
     let rest : first ≡ second = prefixes_of_each_other first second (one.0, let e = one.1 in cc) (two.0, let e = two.1 in cc) in
     λ i. same i ∷ rest i
 
--- so where a key's states were these at first, and later are no more, the key keeps the last of these
+-- so where a key's states were these at first, and later are no more, the key maps to the last of these
 pub after-exactly : (f : ℕ → Option ℕ) (key : ℕ) (first later : List Change) (states : List (Option ℕ)) → states_of key first ≡ states → IsPrefix first later → IsPrefix (states_of key later) states → after f later key ≡ last_state (f key) states
 after-exactly f key first later states at_first prefix no_more =
     let no_fewer : IsPrefix states (states_of key later) = subst (λ (list : List (Option ℕ)). IsPrefix list (states_of key later)) at_first (states_of-prefix key first later prefix) in

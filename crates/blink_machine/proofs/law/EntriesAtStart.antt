@@ -25,7 +25,7 @@ pub ascending_from : (from : ℕ) (pairs : List (ℕ × ℕ)) (to : ℕ) → IsR
 ascending_from from [] to rising = tt
 ascending_from from (pair ∷ pairs) to rising = (all_above pair.0 (pair.0 + 1) pairs to (omega arith) rising.1, ascending_from (pair.0 + 1) pairs to rising.1)
 
--- a tree at rest keeps a plain map
+-- a tree at rest has a plain map
 pub entries_at_start : (start : PlainStore) → IsStoreAtRest start → (entries : List Entry) × IsMapOf start entries
 entries_at_start start at_rest =
     let found = entries_exist_at_rest start.fan start.prime (page_of start) at_rest in

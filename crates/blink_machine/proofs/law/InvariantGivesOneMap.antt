@@ -6,7 +6,7 @@ use Rattle.blink_rest.specs.{AreEntries, entries_along}
 use Rattle.blink_rest.proofs.Offered.{entries_ascend}
 use Rattle.blink_machine.specs.StepLaw.{InvariantGivesOneMap}
 use Rattle.blink_machine.specs.TreeMap.{entries_from, pairs_of}
-use Rattle.blink_machine.proofs.tree_state.EntriesThatATreeKeeps.{are_entries, entries_are}
+use Rattle.blink_machine.proofs.tree_state.EntriesOfATree.{are_entries, entries_are}
 use Rattle.blink_machine.proofs.law.EntriesAtStart.{ascending_from, pairs_of-entries_from}
 
 -- a plain map is told by its pairs

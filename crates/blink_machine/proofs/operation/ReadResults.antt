@@ -129,7 +129,7 @@ data Row : Type 0 where
   changes : Row
   splits : Row
 
--- the row of a page that has the key's place, by what the page keeps under the key and whether it has room
+-- the row of a page that has the key's place, by what the page maps the key to and whether it has room
 abbrev row_here : Job → Op → Option ℕ → Bool → Row
 row_here Leaf (Find key) kept room = splits
 row_here Leaf (Insert key pointer) (Some kept) room = finds_key

@@ -8,7 +8,7 @@ use Rattle.blink_batch.specs.PlainMap as map
 use Rattle.blink_page.specs.{value_at, added, removed, replaced}
 use Rattle.blink_machine.specs.TreeMap.{pairs_of}
 
--- a key has in the tree what the map keeps under it
+-- the tree maps a key as the map does
 pub value_at-pairs_of : (key : ℕ) (entries : List Entry) → value_at key (pairs_of entries) ≡ pointer_of entries key
 value_at-pairs_of key [] = refl
 value_at-pairs_of key (e ∷ es) = ap (λ rest. cond (eqb e.key key) (Some e.pointer) rest) (value_at-pairs_of key es)

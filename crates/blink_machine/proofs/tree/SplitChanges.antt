@@ -11,7 +11,7 @@ use Rattle.blink_machine.proofs.tree.EntriesAcross.{added_across}
 use Rattle.blink_machine.proofs.tree.PostingChanges.{posted_refers, gains_separator, leaves_same}
 use Rattle.blink_machine.proofs.tree.SplitLevel.{halves, levels_split, entries_of_halves, is_split}
 
--- a leaf that is split keeps its entries, and the new one
+-- the halves of a leaf have its entries, and the new one
 pub leaf_split_keeps : LeafSplitKeeps
 leaf_split_keeps fan prime pages after levels c entry number tree split =
     let here = stands_so fan prime pages levels tree 0 c split.stands in

@@ -9,7 +9,7 @@ use Rattle.blink_rest.specs.Chain.{cell}
 use Rattle.blink_rest.specs.{IsMember}
 use Rattle.blink_machine.specs.declared.machine.Job.TheVariants.{Leaf}
 use Rattle.blink_machine.specs.declared.machine.State.TheVariants.{Going, Held}
-use Rattle.blink_machine.specs.TreeMap.{Keeps}
+use Rattle.blink_machine.specs.TreeMap.{HasEntries}
 use Rattle.blink_machine.specs.Machine.{PlainMachine, target, level_of}
 use Rattle.blink_machine.specs.TreeState.{TreeState, IsItsOperation, Leaves}
 use Rattle.blink_machine.specs.Placed.{PlacedAt, AnsweredInJob}
@@ -17,7 +17,7 @@ use Rattle.blink_machine.specs.Invariant.{InvariantWith}
 use Rattle.blink_machine.specs.Table.{SeesPrime, SeesPage, SeesOnItsWay, SeesUnderLatch}
 use Rattle.blink_machine.specs.Tree.{BeginsBelow}
 use Rattle.blink_machine.specs.TreeWithDebts.{Levels}
-use Rattle.blink_machine.proofs.tree_state.EntriesThatATreeKeeps.{pointer_in_leaf, keeps_left, decides_by, decides_nothing}
+use Rattle.blink_machine.proofs.tree_state.EntriesOfATree.{pointer_in_leaf, has_entries_left, decides_by, decides_nothing}
 use Rattle.blink_machine.proofs.operation.OperationIsPlaced.{its_own, at_state}
 use Rattle.blink_machine.specs.StepLaw.{Decides}
 use Rattle.blink_machine.proofs.tree.TreeStatements.{TreeLaws}
@@ -25,7 +25,7 @@ use Rattle.blink_machine.proofs.operation.PageUnderLatch.{stands_here, of_level}
 use Rattle.blink_machine.proofs.operation.WhatJobsAreAbout.{target-leaf}
 
 -- no read of the prime block decides
-pub prime_read_decides : (new : TreeState) (m after : PlainMachine) (prime : List ℕ) (entries : List Entry) → SeesPrime m prime after → Keeps new entries → Decides new m after entries
+pub prime_read_decides : (new : TreeState) (m after : PlainMachine) (prime : List ℕ) (entries : List Entry) → SeesPrime m prime after → HasEntries new entries → Decides new m after entries
 prime_read_decides new m after prime entries (SeesPrime.begins top is root same) keeps = decides_nothing new m after entries _ same refl keeps
 prime_read_decides new m after prime entries (SeesPrime.asks_of_root page debt is top same) keeps = decides_nothing new m after entries _ same refl keeps
 prime_read_decides new m after prime entries (SeesPrime.asks_of_other page debt is top same) keeps = decides_nothing new m after entries _ same refl keeps
@@ -35,13 +35,13 @@ prime_read_decides new m after prime entries (SeesPrime.finds_leftmost debt left
 pub unanswered_on_leaf : (m : PlainMachine) → m.job ≡ Leaf → AnsweredInJob m.job m.answer → m.answer ≡ None
 unanswered_on_leaf m leaf answered = subst (λ job. AnsweredInJob job m.answer) leaf answered
 
-module _ (laws : TreeLaws) (old new : TreeState) (levels : Levels) (invariant : InvariantWith old levels) (left : Leaves old new) (worker : ℕ) (m after : PlainMachine) (entries : List Entry) (kept : Keeps old entries)
+module _ (laws : TreeLaws) (old new : TreeState) (levels : Levels) (invariant : InvariantWith old levels) (left : Leaves old new) (worker : ℕ) (m after : PlainMachine) (entries : List Entry) (kept : HasEntries old entries)
     (number : ℕ) (page : PlainPage) (there : old.pages number ≡ Some page) where
-  -- a read leaves what the tree keeps
-  keeps : Keeps new entries
-  keeps = keeps_left old new entries left kept
+  -- a read leaves the tree's entries
+  keeps : HasEntries new entries
+  keeps = has_entries_left old new entries left kept
 
-  -- where the page that it stands at is a leaf that its key belongs to, the map keeps under the key what the leaf does
+  -- where the page that it stands at is a leaf that its key belongs to, the map maps the key as the leaf does
   pointer_here : (op : Op) (level : ℕ) → level ≡ 0 → m.job ≡ Leaf → m.op ≡ op → BeginsBelow (levels level) number (target m) → target m ≤ page.high
       → pointer_of entries (key_of op) ≡ value_at (key_of op) page.entries
   pointer_here op level bottom leaf is begins inside =
@@ -74,7 +74,7 @@ module _ (laws : TreeLaws) (old new : TreeState) (levels : Levels) (invariant : 
       → after.answer ≡ Some (answer_at op found) → map_at op found entries ≡ entries → Decides new m after entries
   held_decides op found placed inside leaf is finds answer unchanged =
       decides_by new m after entries op found is (pointer_here op (level_of m.job) (ap level_of leaf) leaf is placed.0.stands_at.begins inside ∙ finds) (unanswered_on_leaf m leaf placed.1) answer
-      (subst (Keeps new) (sym unchanged) keeps)
+      (subst (HasEntries new) (sym unchanged) keeps)
 
   -- and no other read under a latch decides
   latched_read_decides : PlacedAt old levels m (Held number) → SeesUnderLatch m number page after → Decides new m after entries

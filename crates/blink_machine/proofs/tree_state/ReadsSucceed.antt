@@ -72,7 +72,7 @@ module _ (m : PlainMachine) (number : ℕ) (page : PlainPage) (lawful : IsLawful
       | inr none ↦ (_, is_to_split below (record { brings = brings; absent = absent; full = (let most = lawful.at_most_fan in omega arith) }) refl)
     ]
 
-    -- a leaf operation, by what the leaf keeps under the key
+    -- a leaf operation, by what the leaf maps the key to
     on_leaf : m.job ≡ Leaf → (op : Op) → m.op ≡ op → MayChange op Leaf → (kept : Option ℕ) → value_at (target m) page.entries ≡ kept → MakesUnderLatch m number page
     on_leaf job (Find key) op may kept there = absurd may
     on_leaf job (Insert key pointer) op may (Some kept) there = (_, insertion_finds_key key pointer kept below job op (rw (job, op) at there) refl)

@@ -1,4 +1,4 @@
--- Each step decides as the plain map does, or changes nothing of what the tree keeps.
+-- Each step decides as the plain map does, or changes none of the tree's entries.
 use Rattle.std.proofs.Common.{◌≡◌, ℕ, ◌+◌, ◌<◌, ◌++◌, Some, None, List, [], ◌∷◌, refl, sym, ap, subst, arith}
 use Rattle.blink_batch.specs.declared.Entry.{Entry}
 use Rattle.blink_batch.specs.{IsAscending}
@@ -15,10 +15,10 @@ use Rattle.blink_machine.specs.TreeState.{TreeState, Steps, WritesOne}
 use Rattle.blink_machine.specs.Owned.{debt_at, unlinked_at}
 use Rattle.blink_machine.specs.Placed.{PlacedAt}
 use Rattle.blink_machine.specs.Invariant.{InvariantWith}
-use Rattle.blink_machine.specs.TreeMap.{Keeps, pairs_of}
+use Rattle.blink_machine.specs.TreeMap.{HasEntries, pairs_of}
 use Rattle.blink_machine.specs.Table.{PrimeOut, IsTopLeftmost, done, done_at, page_out, page_out_at, sets_out}
 use Rattle.blink_machine.specs.TreeWithDebts.{Levels}
-use Rattle.blink_machine.proofs.tree_state.EntriesThatATreeKeeps.{entries_are, keeps_entries, keeps_by, keeps_left, decides_nothing}
+use Rattle.blink_machine.proofs.tree_state.EntriesOfATree.{entries_are, tree_has_entries, has_entries_by, has_entries_left, decides_nothing}
 use Rattle.blink_machine.proofs.operation.OperationIsPlaced.{begun, its_own, at_state}
 use Rattle.blink_machine.proofs.tree_state.ReadsDecide.{prime_read_decides, page_read_decides}
 use Rattle.blink_machine.specs.StepLaw.{Decides, StepDecides}
@@ -40,9 +40,9 @@ done_answer m (Leave page (Post debt)) new elsewhere = sets_out_answer m debt m.
 done_answer m other new elsewhere = refl
 
 module _ (laws : TreeLaws) (old : TreeState) (levels : Levels) (invariant : InvariantWith old levels) (worker : ℕ) (m : PlainMachine) (under : old.machines worker ≡ Some m) where
-  -- a new root stands over all that the tree keeps
-  growth_keeps_entries : (page : ℕ) (debt : Debt) (root : ℕ) (read : List ℕ) → m.state ≡ NewPrime page debt root read → AreEntries old.fan (read ++ root ∷ []) old.pages (entries_along (levels 0))
-  growth_keeps_entries page debt root read is =
+  -- a new root stands over all of the tree's entries
+  growth_leaves_entries : (page : ℕ) (debt : Debt) (root : ℕ) (read : List ℕ) → m.state ≡ NewPrime page debt root read → AreEntries old.fan (read ++ root ∷ []) old.pages (entries_along (levels 0))
+  growth_leaves_entries page debt root read is =
       let placed = at_state old levels invariant worker m (NewPrime page debt root read) under is in
       let split = placed.1 in
       let asked = placed.2 in
@@ -62,9 +62,9 @@ module _ (laws : TreeLaws) (old : TreeState) (levels : Levels) (invariant : Inva
       } in
       let it = laws.growth_keeps old.fan old.prime old.pages levels debt.level split.cell debt.page root invariant.lawful.tree to_grow in
       subst (λ p. AreEntries old.fan (p ++ root ∷ []) old.pages (entries_along (levels 0))) (sym asked.same_prime)
-      (keeps_entries old.fan (old.prime ++ root ∷ []) old.pages it.new it.tree (entries_along (levels 0)) (ap entries_along (it.same_below 0 (λ same. omega arith))))
+      (tree_has_entries old.fan (old.prime ++ root ∷ []) old.pages it.new it.tree (entries_along (levels 0)) (ap entries_along (it.same_below 0 (λ same. omega arith))))
 
-  module _ (new : TreeState) (after : PlainMachine) (entries : List Entry) (kept : Keeps old entries) (ascending : IsAscending entries) (same_fan : new.fan ≡ old.fan) where
+  module _ (new : TreeState) (after : PlainMachine) (entries : List Entry) (kept : HasEntries old entries) (ascending : IsAscending entries) (same_fan : new.fan ≡ old.fan) where
     -- the map's entries are those along level 0
     joined : pairs_of entries ≡ entries_along (levels 0)
     joined = entries_are old.fan old.prime old.pages levels invariant.lawful.tree (pairs_of entries) kept
@@ -73,8 +73,8 @@ module _ (laws : TreeLaws) (old : TreeState) (levels : Levels) (invariant : Inva
     prime_write_decides : PrimeOut m new.prime → after ≡ done m 0 → need_at m.state ≡ WritePrime → new.pages ≡ old.pages → Decides new m after entries
     prime_write_decides (PrimeOut.adds_root page debt root read is written) same needs same_pages =
         decides_nothing new m after entries (done m 0) same (done_answer m m.state 0 (λ number writes. cc))
-        (keeps_by new old.fan (read ++ root ∷ []) old.pages entries same_fan written same_pages
-        (subst (AreEntries old.fan (read ++ root ∷ []) old.pages) (sym joined) (growth_keeps_entries page debt root read is)))
+        (has_entries_by new old.fan (read ++ root ∷ []) old.pages entries same_fan written same_pages
+        (subst (AreEntries old.fan (read ++ root ∷ []) old.pages) (sym joined) (growth_leaves_entries page debt root read is)))
 
     module _ (same_prime : new.prime ≡ old.prime) where
       -- nor does the write of a new page
@@ -82,7 +82,7 @@ module _ (laws : TreeLaws) (old : TreeState) (levels : Levels) (invariant : Inva
       new_page_decides number page free writes same needs =
           let tree = laws.free_write_keeps old.fan old.prime old.pages new.pages levels number page invariant.lawful.tree free writes in
           decides_nothing new m after entries (done m number) same (done_answer m m.state number (λ other needed. cc))
-          (keeps_by new old.fan old.prime new.pages entries same_fan same_prime refl (keeps_entries old.fan old.prime new.pages levels tree (pairs_of entries) (sym joined)))
+          (has_entries_by new old.fan old.prime new.pages entries same_fan same_prime refl (tree_has_entries old.fan old.prime new.pages levels tree (pairs_of entries) (sym joined)))
 
       -- the write of a page in its place decides for a leaf operation
       page_write_decides : (state : State) (number : ℕ) → m.state ≡ state → PlacedAt old levels m state → need_at state ≡ WritePage number → after ≡ done_at m state 0
@@ -100,15 +100,15 @@ module _ (laws : TreeLaws) (old : TreeState) (levels : Levels) (invariant : Inva
 -- every step
 pub step_decides : TreeLaws → StepDecides
 step_decides laws old new worker m after step entries invariant words its (Steps.reads_prime needs sees moved left now) ascending kept =
-    prime_read_decides new m after old.prime entries sees (keeps_left old new entries left kept)
+    prime_read_decides new m after old.prime entries sees (has_entries_left old new entries left kept)
 step_decides laws old new worker m after step entries invariant words its (Steps.waits_for_level needs waits waited same same_after) ascending kept =
-    decides_nothing new m after entries m same_after refl (subst (λ (x : TreeState). Keeps x entries) (sym same) kept)
+    decides_nothing new m after entries m same_after refl (subst (λ (x : TreeState). HasEntries x entries) (sym same) kept)
 step_decides laws old new worker m after step entries invariant words its (Steps.reads_page number page needs there sees moved left now) ascending kept =
     page_read_decides laws old new invariant.0 invariant.1 left worker m after entries kept number page there its sees
 step_decides laws old new worker m after step entries invariant words its (Steps.latches number needs free same moved same_fan same_prime same_pages passes now) ascending kept =
-    decides_nothing new m after entries (done m 0) same (done_answer m m.state 0 (λ other writes. cc)) (keeps_by new old.fan old.prime old.pages entries same_fan same_prime same_pages kept)
+    decides_nothing new m after entries (done m 0) same (done_answer m m.state 0 (λ other writes. cc)) (has_entries_by new old.fan old.prime old.pages entries same_fan same_prime same_pages kept)
 step_decides laws old new worker m after step entries invariant words its (Steps.waits_for_latch number holder needs held waited same same_after) ascending kept =
-    decides_nothing new m after entries m same_after refl (subst (λ (x : TreeState). Keeps x entries) (sym same) kept)
+    decides_nothing new m after entries m same_after refl (subst (λ (x : TreeState). HasEntries x entries) (sym same) kept)
 step_decides laws old new worker m after step entries invariant words its (Steps.writes_new number needs in_range free same moved same_fan same_prime writes same_holder now) ascending kept =
     let under = its_own old invariant.0 invariant.1 worker m its (begun m (λ same_need. cc)) in
     new_page_decides laws old invariant.0 invariant.1 worker m under new after entries kept ascending same_fan same_prime number (page_out m number) free writes same needs
@@ -120,4 +120,4 @@ step_decides laws old new worker m after step entries invariant words its (Steps
     let under = its_own old invariant.0 invariant.1 worker m its (begun m (λ same_need. cc)) in
     prime_write_decides laws old invariant.0 invariant.1 worker m under new after entries kept ascending same_fan written same needs same_pages
 step_decides laws old new worker m after step entries invariant words its (Steps.unlatches number needs same moved same_fan same_prime same_pages passes now) ascending kept =
-    decides_nothing new m after entries (done m 0) same (done_answer m m.state 0 (λ other writes. cc)) (keeps_by new old.fan old.prime old.pages entries same_fan same_prime same_pages kept)
+    decides_nothing new m after entries (done m 0) same (done_answer m m.state 0 (λ other writes. cc)) (has_entries_by new old.fan old.prime old.pages entries same_fan same_prime same_pages kept)

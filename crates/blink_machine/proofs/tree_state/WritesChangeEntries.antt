@@ -1,4 +1,4 @@
--- What the writes of an operation make of the entries that a tree keeps.
+-- What the writes of an operation make of a tree's entries.
 use Rattle.std.proofs.Common.{◌≡◌, ℕ, ◌+◌, Option, Some, None, sym, ap, subst, ◌∙◌, arith}
 use Rattle.blink_page.specs.{value_at, added, removed, replaced, posted, PlainPage, IsKeyOf, with_entries, entries_with, lower_half, upper_half}
 use Rattle.blink_page.proofs.Offered.{entries_with-leaf, entries_with-inner}
@@ -13,7 +13,7 @@ use Rattle.blink_machine.specs.Placed.{IsAtWork, HasRead, HasHalved}
 use Rattle.blink_machine.specs.Invariant.{InvariantWith}
 use Rattle.blink_machine.specs.Table.{IsChange, overfull}
 use Rattle.blink_machine.specs.TreeWithDebts.{Levels}
-use Rattle.blink_machine.proofs.tree_state.EntriesThatATreeKeeps.{keeps_entries}
+use Rattle.blink_machine.proofs.tree_state.EntriesOfATree.{tree_has_entries}
 use Rattle.blink_machine.proofs.tree.TreeStatements.{TreeLaws, LeadsBelow, CanBeSplit}
 use Rattle.blink_machine.proofs.operation.PageUnderLatch.{value_fits, read_stands, read_of_level, change_replaces}
 
@@ -45,7 +45,7 @@ module _ (laws : TreeLaws) (tree_state : TreeState) (levels : Levels) (invariant
         let gains : changed.entries ≡ added (entry_of m) page.entries = ap (λ (p : PlainPage). p.entries) same ∙ entries_with-leaf page (entry_of m) (page_level 0 (ap level_of leaf)) in
         let it = laws.leaf_gain_keeps tree_state.fan tree_state.prime tree_state.pages after levels (cell number page) changed (entry_of m) invariant.lawful.tree (read_stands_at 0 (ap level_of leaf)) writes
         (change_replaces laws tree_state levels invariant worker m under owes number page at_work read changed kept change) read.belongs absent gains in
-        keeps_entries tree_state.fan tree_state.prime after it.new it.replaced.tree _ it.entries
+        tree_has_entries tree_state.fan tree_state.prime after it.new it.replaced.tree _ it.entries
 
     -- or loses its entry
     pub leaf_loses : (key pointer : ℕ) → m.job ≡ Leaf → target m ≡ key → value_at key page.entries ≡ Some pointer → changed ≡ with_entries page (removed key page.entries)
@@ -54,7 +54,7 @@ module _ (laws : TreeLaws) (tree_state : TreeState) (levels : Levels) (invariant
         let loses : changed.entries ≡ removed key page.entries = ap (λ (p : PlainPage). p.entries) same in
         let it = laws.leaf_loss_keeps tree_state.fan tree_state.prime tree_state.pages after levels (cell number page) changed key pointer invariant.lawful.tree (read_stands_at 0 (ap level_of leaf)) writes
         (change_replaces laws tree_state levels invariant worker m under owes number page at_work read changed kept change) (subst (IsKeyOf page) own read.belongs) there loses in
-        keeps_entries tree_state.fan tree_state.prime after it.new it.replaced.tree _ it.entries
+        tree_has_entries tree_state.fan tree_state.prime after it.new it.replaced.tree _ it.entries
 
     -- or another value in its entry
     pub leaf_exchanges : (key new pointer : ℕ) → m.job ≡ Leaf → target m ≡ key → value_at key page.entries ≡ Some pointer → changed ≡ with_entries page (replaced (key, new) page.entries)
@@ -63,16 +63,16 @@ module _ (laws : TreeLaws) (tree_state : TreeState) (levels : Levels) (invariant
         let exchanges : changed.entries ≡ replaced (key, new) page.entries = ap (λ (p : PlainPage). p.entries) same in
         let it = laws.leaf_exchange_keeps tree_state.fan tree_state.prime tree_state.pages after levels (cell number page) changed (key, new) pointer invariant.lawful.tree (read_stands_at 0 (ap level_of leaf)) writes
         (change_replaces laws tree_state levels invariant worker m under owes number page at_work read changed kept change) (subst (IsKeyOf page) own read.belongs) there exchanges in
-        keeps_entries tree_state.fan tree_state.prime after it.new it.page_replaced.tree _ it.entries
+        tree_has_entries tree_state.fan tree_state.prime after it.new it.page_replaced.tree _ it.entries
 
     -- a posting changes no leaf
-    pub posting_keeps_entries : (debt : Debt) → m.job ≡ Parent debt → value_at (target m) page.entries ≡ None → changed ≡ with_entries page (entries_with page (entry_of m))
+    pub posting_leaves_entries : (debt : Debt) → m.job ≡ Parent debt → value_at (target m) page.entries ≡ None → changed ≡ with_entries page (entries_with page (entry_of m))
         → AreEntries tree_state.fan tree_state.prime after (entries_along (levels 0))
-    posting_keeps_entries debt job absent same =
+    posting_leaves_entries debt job absent same =
         let gains : changed.entries ≡ posted (entry_of m) page.entries = ap (λ (p : PlainPage). p.entries) same ∙ entries_with-inner page (entry_of m) (omega (arith, page_level (debt.level + 1) (ap level_of job))) in
         let it = laws.posting_keeps tree_state.fan tree_state.prime tree_state.pages after levels debt.level (cell number page) changed (entry_of m) invariant.lawful.tree (read_stands_at (debt.level + 1) (ap level_of job)) writes
         (change_replaces laws tree_state levels invariant worker m under owes number page at_work read changed kept change) read.belongs absent gains (posting_leads debt job) in
-        keeps_entries tree_state.fan tree_state.prime after it.new it.replaced.tree _ it.same_entries
+        tree_has_entries tree_state.fan tree_state.prime after it.new it.replaced.tree _ it.same_entries
 
 module _ (laws : TreeLaws) (tree_state : TreeState) (levels : Levels) (invariant : InvariantWith tree_state levels) (worker : ℕ) (m : PlainMachine) (under : tree_state.machines worker ≡ Some m)
     (owes : debt_of m ≡ debt_of_job m.job) (number : ℕ) (lower : PlainPage) (debt : Debt) (unlinked : unlinked_of m ≡ Some debt.page) (at_work : IsAtWork levels m number)
@@ -94,18 +94,18 @@ module _ (laws : TreeLaws) (tree_state : TreeState) (levels : Levels) (invariant
         writes = subst (λ f. WritesOne tree_state.pages after number (lower_half f debt.page halved.page (overfull m halved.page))) fan (subst (WritesOne tree_state.pages after number) halved.lower_half_of writes);
       }
 
-  -- the two halves of a leaf keep the entry between them
+  -- the two halves of a leaf have the entry between them
   pub leaf_split_gains : m.job ≡ Leaf → AreEntries tree_state.fan tree_state.prime after (added (entry_of m) (entries_along (levels 0)))
   leaf_split_gains leaf =
       let it = laws.leaf_split_keeps tree_state.fan tree_state.prime tree_state.pages after levels (cell number halved.page) (entry_of m) debt.page invariant.lawful.tree (to_split 0 (ap level_of leaf)) in
-      keeps_entries tree_state.fan tree_state.prime after it.new it.split.tree _ it.entries
+      tree_has_entries tree_state.fan tree_state.prime after it.new it.split.tree _ it.entries
 
   -- the split of an inner page changes no leaf
-  pub inner_split_keeps_entries : (posts : Debt) → m.job ≡ Parent posts → AreEntries tree_state.fan tree_state.prime after (entries_along (levels 0))
-  inner_split_keeps_entries posts job =
+  pub inner_split_leaves_entries : (posts : Debt) → m.job ≡ Parent posts → AreEntries tree_state.fan tree_state.prime after (entries_along (levels 0))
+  inner_split_leaves_entries posts job =
       let leads = posting_leads laws tree_state levels invariant worker m under owes number halved.page at_work halved.read posts job in
       let fits = value_fits laws tree_state levels invariant worker m under owes in
       let level : level_of m.job ≡ posts.level + 1 = ap level_of job in
       let it = laws.inner_split_keeps tree_state.fan tree_state.prime tree_state.pages after levels posts.level (cell number halved.page) (entry_of m) debt.page invariant.lawful.tree (to_split (posts.level + 1) level) leads
       (fits.number_above (omega arith)) in
-      keeps_entries tree_state.fan tree_state.prime after it.new it.split.tree _ it.same_entries
+      tree_has_entries tree_state.fan tree_state.prime after it.new it.split.tree _ it.same_entries

@@ -17,15 +17,15 @@ use Rattle.blink_machine.specs.TreeState.{TreeState, WritesOne}
 use Rattle.blink_machine.specs.Owned.{debt_of, debt_of_job, unlinked_of}
 use Rattle.blink_machine.specs.Placed.{IsAtWork, HasRead, HasHalved, AnsweredInJob}
 use Rattle.blink_machine.specs.Invariant.{InvariantWith}
-use Rattle.blink_machine.specs.TreeMap.{Keeps, pairs_of}
+use Rattle.blink_machine.specs.TreeMap.{HasEntries, pairs_of}
 use Rattle.blink_machine.specs.Table.{Brings, IsChange, decided_with}
 use Rattle.blink_machine.specs.TreeWithDebts.{Levels}
 use Rattle.blink_machine.proofs.tree.EntriesAsMap.{added-pairs_of, removed-pairs_of, replaced-pairs_of}
-use Rattle.blink_machine.proofs.tree_state.EntriesThatATreeKeeps.{entries_are, pointer_in_leaf, keeps_by, decides_by, decides_nothing}
+use Rattle.blink_machine.proofs.tree_state.EntriesOfATree.{entries_are, pointer_in_leaf, has_entries_by, decides_by, decides_nothing}
 use Rattle.blink_machine.proofs.tree_state.ReadsDecide.{unanswered_on_leaf}
 use Rattle.blink_machine.specs.StepLaw.{Decides}
 use Rattle.blink_machine.proofs.tree.TreeStatements.{TreeLaws}
-use Rattle.blink_machine.proofs.tree_state.WritesChangeEntries.{read_stands_at, leaf_gains, leaf_loses, leaf_exchanges, posting_keeps_entries, leaf_split_gains, inner_split_keeps_entries}
+use Rattle.blink_machine.proofs.tree_state.WritesChangeEntries.{read_stands_at, leaf_gains, leaf_loses, leaf_exchanges, posting_leaves_entries, leaf_split_gains, inner_split_leaves_entries}
 use Rattle.blink_machine.proofs.operation.WhatJobsAreAbout.{target-leaf}
 
 -- what an insertion brings to a leaf
@@ -34,21 +34,21 @@ entry_on_leaf m key pointer leaf is =
     ap (λ (job : Job). (key_of_job m.op job, value_of_job m.op job)) leaf ∙ ap (λ (op : Op). (key_of op, pointer_with op)) is
 
 module _ (laws : TreeLaws) (old new : TreeState) (levels : Levels) (invariant : InvariantWith old levels) (worker : ℕ) (m after : PlainMachine) (entries : List Entry)
-    (under : old.machines worker ≡ Some m) (kept : Keeps old entries) (same_fan : new.fan ≡ old.fan) (same_prime : new.prime ≡ old.prime)
+    (under : old.machines worker ≡ Some m) (kept : HasEntries old entries) (same_fan : new.fan ≡ old.fan) (same_prime : new.prime ≡ old.prime)
     (owes : debt_of m ≡ debt_of_job m.job) (number : ℕ) (page : PlainPage) (at_work : IsAtWork levels m number) (read : HasRead old m number page) where
   -- the map's entries are those along level 0
   joined : pairs_of entries ≡ entries_along (levels 0)
   joined = entries_are old.fan old.prime old.pages levels invariant.lawful.tree (pairs_of entries) kept
 
-  -- what the new pages keep
-  keeps_new : (xs : List (ℕ × ℕ)) (others : List Entry) → AreEntries old.fan old.prime new.pages xs → xs ≡ pairs_of others → Keeps new others
-  keeps_new xs others are same = keeps_by new old.fan old.prime new.pages others same_fan same_prime refl (subst (AreEntries old.fan old.prime new.pages) same are)
+  -- the entries of the new pages
+  has_entries_new : (xs : List (ℕ × ℕ)) (others : List Entry) → AreEntries old.fan old.prime new.pages xs → xs ≡ pairs_of others → HasEntries new others
+  has_entries_new xs others are same = has_entries_by new old.fan old.prime new.pages others same_fan same_prime refl (subst (AreEntries old.fan old.prime new.pages) same are)
 
-  -- where no leaf changes they keep what the old ones did
-  pub keeps_old : AreEntries old.fan old.prime new.pages (entries_along (levels 0)) → Keeps new entries
-  keeps_old are = keeps_new (entries_along (levels 0)) entries are (sym joined)
+  -- where no leaf changes they are those of the old ones
+  pub has_entries_old : AreEntries old.fan old.prime new.pages (entries_along (levels 0)) → HasEntries new entries
+  has_entries_old are = has_entries_new (entries_along (levels 0)) entries are (sym joined)
 
-  -- the map keeps under the operation's key what the leaf that it has read does
+  -- the map maps the operation's key as the leaf that it has read does
   pointer_read : (op : Op) → m.job ≡ Leaf → m.op ≡ op → pointer_of entries (key_of op) ≡ value_at (key_of op) page.entries
   pointer_read op leaf is =
       pointer_in_leaf old.fan old.prime old.pages levels invariant.lawful.tree laws entries (key_of op) (cell number page) kept
@@ -62,7 +62,7 @@ module _ (laws : TreeLaws) (old new : TreeState) (levels : Levels) (invariant : 
       let none : pointer_of entries key ≡ None =
       pointer_read (Insert key pointer) leaf is ∙ ap (λ k. value_at k page.entries) (sym (target-leaf m (Insert key pointer) leaf is)) ∙ absent in
       decides_by new m after entries (Insert key pointer) None is none (unanswered_on_leaf m leaf answered) answer
-      (keeps_new _ (map.added entries (entry key pointer)) are
+      (has_entries_new _ (map.added entries (entry key pointer)) are
       (ap (λ (e : ℕ × ℕ). added e (entries_along (levels 0))) (entry_on_leaf m key pointer leaf is) ∙ ap (added (key, pointer)) (sym joined) ∙ added-pairs_of key pointer entries none))
   gain_decides other is leaf answered brings absent are answer = absurd brings
 
@@ -71,7 +71,7 @@ module _ (laws : TreeLaws) (old new : TreeState) (levels : Levels) (invariant : 
       → (xs : List (ℕ × ℕ)) → AreEntries old.fan old.prime new.pages xs → xs ≡ pairs_of (map_at op (Some pointer) entries) → after.answer ≡ Some (answer_at op (Some pointer)) → Decides new m after entries
   found_decides op pointer is leaf answered there xs are made answer =
       decides_by new m after entries op (Some pointer) is (pointer_read op leaf is ∙ there) (unanswered_on_leaf m leaf answered) answer
-      (keeps_new xs (map_at op (Some pointer) entries) are made)
+      (has_entries_new xs (map_at op (Some pointer) entries) are made)
 
   -- a leaf operation has its answer after its write
   pub answer_on_leaf : (op : Op) (state : State) (found outcome : Option ℕ) → m.op ≡ op → m.job ≡ Leaf → found ≡ outcome → after ≡ decided_with m m.job state found → after.answer ≡ Some (answer_at op outcome)
@@ -102,7 +102,7 @@ module _ (laws : TreeLaws) (old new : TreeState) (levels : Levels) (invariant : 
         (answer_on_leaf _ state found (Some pointer) op leaf some same)
     changes_decide (Parent debt) job (IsChange.gains brings absent room nothing eq) =
         decides_nothing new m after entries _ same (answer_above debt state found job)
-        (keeps_old (posting_keeps_entries laws old levels invariant worker m under owes number page at_work read new.pages changed found change writes debt job absent eq))
+        (has_entries_old (posting_leaves_entries laws old levels invariant worker m under owes number page at_work read new.pages changed found change writes debt job absent eq))
     changes_decide (Parent debt) job (IsChange.loses key pointer leaf op there some eq) = absurd (cc (job, leaf))
     changes_decide (Parent debt) job (IsChange.exchanges key to pointer leaf op there some eq) = absurd (cc (job, leaf))
 
@@ -111,7 +111,7 @@ module _ (laws : TreeLaws) (old new : TreeState) (levels : Levels) (invariant : 
     change_decides = changes_decide m.job refl change
 
 module _ (laws : TreeLaws) (old new : TreeState) (levels : Levels) (invariant : InvariantWith old levels) (worker : ℕ) (m after : PlainMachine) (entries : List Entry)
-    (under : old.machines worker ≡ Some m) (kept : Keeps old entries) (same_fan : new.fan ≡ old.fan) (same_prime : new.prime ≡ old.prime)
+    (under : old.machines worker ≡ Some m) (kept : HasEntries old entries) (same_fan : new.fan ≡ old.fan) (same_prime : new.prime ≡ old.prime)
     (owes : debt_of m ≡ debt_of_job m.job) (number : ℕ) (lower : PlainPage) (debt : Debt) (unlinked : unlinked_of m ≡ Some debt.page) (at_work : IsAtWork levels m number)
     (answered : AnsweredInJob m.job m.answer) (halved : HasHalved old m number lower debt) (writes : WritesOne old.pages new.pages number lower) (state : State) (same : after ≡ decided_with m m.job state None) where
   -- and so does a split
@@ -124,8 +124,8 @@ module _ (laws : TreeLaws) (old new : TreeState) (levels : Levels) (invariant : 
   split_decides_at (Parent posts) job =
       decides_nothing new m after entries _ same
       (answer_above laws old new levels invariant worker m after entries under kept same_fan same_prime owes number halved.page at_work halved.read posts state None job)
-      (keeps_old laws old new levels invariant worker m after entries under kept same_fan same_prime owes number halved.page at_work halved.read
-      (inner_split_keeps_entries laws old levels invariant worker m under owes number lower debt unlinked at_work halved new.pages writes posts job))
+      (has_entries_old laws old new levels invariant worker m after entries under kept same_fan same_prime owes number halved.page at_work halved.read
+      (inner_split_leaves_entries laws old levels invariant worker m under owes number lower debt unlinked at_work halved new.pages writes posts job))
 
   -- likewise
   pub split_decides : Decides new m after entries

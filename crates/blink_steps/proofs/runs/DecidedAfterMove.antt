@@ -16,7 +16,7 @@ use Rattle.blink_steps.specs.Run.{PlainRun, tree_state_of}
 use Rattle.blink_steps.specs.Outcome.{decides_now}
 use Rattle.blink_steps.specs.RunInvariant.{is_answered}
 use Rattle.blink_steps.specs.Decided.{AnswersSoFar, IsDecided}
-use Rattle.blink_machine.specs.{Keeps}
+use Rattle.blink_machine.specs.{HasEntries}
 
 -- ---- lists
 
@@ -69,8 +69,8 @@ decides_not_same (Some kept) after same = refl
 -- ---- what is decided
 
 module _ (entries : List Entry) (old new : PlainRun) (decided : IsDecided entries old) (same_ops : new.ops ≡ old.ops) (place : ℕ) where
-  -- a step that doesn't decide leaves what is decided, if the tree keeps the same entries
-  pub decided_stays : Keeps (tree_state_of new) (map_after_all entries (operations_at old.ops old.outcome.order)) → new.outcome.order ≡ old.outcome.order → new.outcome.answers ≡ old.outcome.answers → IsDecided entries new
+  -- a step that doesn't decide leaves what is decided, if the tree has the same entries
+  pub decided_stays : HasEntries (tree_state_of new) (map_after_all entries (operations_at old.ops old.outcome.order)) → new.outcome.order ≡ old.outcome.order → new.outcome.answers ≡ old.outcome.answers → IsDecided entries new
   decided_stays kept same_order same_answers = record {
     places_of_batch = rw (same_ops, same_order) decided.places_of_batch;
     answered = rw (same_ops, same_order, same_answers) decided.answered;
@@ -80,9 +80,9 @@ module _ (entries : List Entry) (old new : PlainRun) (decided : IsDecided entrie
 
   module _ (op : Op) (answer : Answer) (there : slice_get old.ops place ≡ Some op) (undecided : slice_get old.outcome.answers place ≡ Some None) (fresh : Contains old.outcome.order place → ⊥)
       (is_answer : answer ≡ answer_of (map_after_all entries (operations_at old.ops old.outcome.order)) op)
-      (kept : Keeps (tree_state_of new) (map_after (map_after_all entries (operations_at old.ops old.outcome.order)) op)) where
-    -- what the tree keeps is what the run of all that is decided leaves
-    kept_more : Keeps (tree_state_of new) (map_after_all entries (operations_at old.ops (old.outcome.order ++ place ∷ [])))
+      (kept : HasEntries (tree_state_of new) (map_after (map_after_all entries (operations_at old.ops old.outcome.order)) op)) where
+    -- the tree's entries are what the run of all that is decided leaves
+    kept_more : HasEntries (tree_state_of new) (map_after_all entries (operations_at old.ops (old.outcome.order ++ place ∷ [])))
     kept_more = rw (operations_at-push old.ops old.outcome.order place op there, map_after_all-push entries (operations_at old.ops old.outcome.order) op) kept
 
     -- a place that isn't in the longer order has no answer

@@ -17,7 +17,7 @@ use Rattle.blink_steps.specs.declared.seat.WorkerState.{WorkerState}
 use Rattle.blink_steps.specs.Run.{PlainRun, IsOpeningRun, idle_seat, machine_of_seat, tree_state_of}
 use Rattle.blink_steps.specs.RunInvariant.{IsShaped, RunInvariant, WorkerInvariant, is_answered, IdleInvariant}
 use Rattle.blink_steps.specs.Decided.{IsDecided}
-use Rattle.blink_machine.specs.{Keeps, pairs_of, IsOpening}
+use Rattle.blink_machine.specs.{HasEntries, pairs_of, IsOpening}
 use Rattle.blink_steps.proofs.runs.RunStatements.{MayBegin, OpeningRunHasInvariant}
 use Rattle.blink_machine.specs.StepLaw.{StepLaw}
 use Rattle.blink_steps.specs.Outcome.{PlainOutcome}
@@ -75,8 +75,8 @@ module _ (start : PlainStore) (ops : List Op) (assignment : Assignment) (run : P
     a_move_count_each = ap (λ (outcome : PlainOutcome). length outcome.moves) opening.nothing_recorded ∙ length-replicate (length ops) 0 ∙ ap length (sym opening.same_ops);
   }
 
-  -- the tree keeps the entries
-  keeps : Keeps (tree_state_of run) entries
+  -- the tree has the entries
+  keeps : HasEntries (tree_state_of run) entries
   keeps = subst (λ (store : PlainStore). AreEntries store.fan store.prime (page_of store) (pairs_of entries)) (sym opening.same_store) are
 
   -- nothing is decided

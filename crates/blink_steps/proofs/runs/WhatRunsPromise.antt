@@ -11,7 +11,7 @@ use Rattle.blink_machine.specs.{Steps, pairs_of}
 use Rattle.blink_steps.specs.Run.{tree_state_of}
 use Rattle.blink_machine.specs.StepLaw.{StepLaw}
 use Rattle.blink_machine.proofs.tree.EntriesAsMap.{value_at-pairs_of}
-use Rattle.blink_machine.proofs.tree_state.EntriesThatATreeKeeps.{pointer_in_leaf}
+use Rattle.blink_machine.proofs.tree_state.EntriesOfATree.{pointer_in_leaf}
 use Rattle.blink_steps.proofs.runs.OperationOfTurn.{turn_is_step, next_is_busy}
 use Rattle.blink_steps.proofs.runs.RunStatements.{NextIsUnanswered, PresentIsReached, WritesAreOwn}
 use Rattle.blink_machine.proofs.tree.TreeStatements.{TreeLaws}

@@ -9,7 +9,7 @@ use Rattle.blink_steps.specs.Headline.{IsOneThread}
 use Rattle.blink_steps.specs.Promises.{IsLawfullyCut}
 use Rattle.blink_steps.specs.Run.{PlainRun, tree_state_of}
 use Rattle.blink_steps.specs.RunInvariant.{RunInvariant}
-use Rattle.blink_machine.specs.{Keeps, IsMapOf}
+use Rattle.blink_machine.specs.{HasEntries, IsMapOf}
 use Rattle.blink_steps.specs.World.{HasEnded}
 use Rattle.blink_steps.proofs.runs.RunStatements.{RunLaws}
 
@@ -26,7 +26,7 @@ one_thread laws start run invariant some some_is lawful ended =
           found.all_given ∙ ap (λ (xs : List Answer). map Some xs) (one_thread_answers entries run.ops run.assignment.workers run.assignment.lanes run.outcome.order found.given lawful whole long found.in_order);
       same_entries = λ entries is_map. record {
         ascending = IsAscending-map_after_all entries run.ops is_map.ascending;
-        kept = subst (λ (after : List Entry). Keeps (tree_state_of run) after)
+        kept = subst (λ (after : List Entry). HasEntries (tree_state_of run) after)
             (one_thread_map entries run.ops run.assignment.workers run.assignment.lanes run.outcome.order is_map.ascending lawful whole)
             (invariant entries is_map).decided.kept;
       };

@@ -32,7 +32,7 @@ can_take_turn world is worker within short = let found = entries_at_start is.0 i
 pub counted : (start : PlainStore) (world : PlainWorld) (is_world : IsWorldOf start world) → CountsAreOf is_world.history world.run
 counted start world is_world = let found = entries_at_start start is_world.may_begin.at_rest in counts_with run_laws start world is_world found.0 found.1
 
--- its run has the invariant, whatever map its tree kept at the start
+-- its run has the invariant, whatever map its tree had at the start
 pub invariant : (world : PlainWorld) → IsWorld world → (entries : List Entry) × RunInvariant entries world.run
 invariant world is = let found = entries_at_start is.0 is.1.may_begin.at_rest in (found.0, invariant_now run_laws is.0 world is.1 found.0 found.1)
 

@@ -171,7 +171,7 @@ module _ (laws : RunLaws) where
     pub counts_with : CountsAreOf is_world.history world.run
     counts_with = laws.counts_are_kept start world.run.ops world.run.assignment is_world.opening world.run is_world.history is_world.is_opening is_world.follows
 
-    -- whatever map the tree kept at the start
+    -- whatever map the tree had at the start
     invariant_with : (others : List Entry) → IsMapOf start others → RunInvariant others world.run
     invariant_with others are = invariant_after start world.run.ops world.run.assignment is_world.opening world.run is_world.history others is_world.may_begin are is_world.is_opening is_world.follows
 

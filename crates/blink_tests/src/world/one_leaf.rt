@@ -1,5 +1,5 @@
 //! Examples in which no page splits.
-use crate::fixtures::stores::{empty_tree, has_pages, keeps_entries, page_at};
+use crate::fixtures::stores::{empty_tree, has_pages, page_has_entries, page_at};
 use crate::fixtures::worlds::{
     finish, has_answers, has_order, has_schedule, is_at_end, takes, tree_after, turns_to,
     two_leaves, world_of,
@@ -48,7 +48,7 @@ fn a_second_worker_waits_for_the_latch(rt: HostRuntime) {
     takes(&rt, &mut world, 1, &rest_of_second);
     let rest = tree_after(&rt, world);
     has_pages(&rt, rest.store(), 1);
-    keeps_entries(&rt, rest.store(), 1, &[(1, 1), (2, 2)]);
+    page_has_entries(&rt, rest.store(), 1, &[(1, 1), (2, 2)]);
 }
 
 #[test]
@@ -66,7 +66,7 @@ fn an_empty_leaf_stays(rt: HostRuntime) {
     has_answers(&rt, &world, &answers);
     let rest = tree_after(&rt, world);
     has_pages(&rt, rest.store(), 3);
-    keeps_entries(&rt, rest.store(), 1, &[]);
+    page_has_entries(&rt, rest.store(), 1, &[]);
     same(&rt, &page_at(&rt, rest.store(), 1).high, &3);
 }
 
@@ -92,7 +92,7 @@ fn an_empty_leaf_takes_a_key(rt: HostRuntime) {
     takes(&rt, &mut world, 0, &steps);
     let rest = tree_after(&rt, world);
     has_pages(&rt, rest.store(), 3);
-    keeps_entries(&rt, rest.store(), 1, &[(2, 21)]);
+    page_has_entries(&rt, rest.store(), 1, &[(2, 21)]);
 }
 
 // Worker 0 comes to page 2 of the two leaves, latches it and reads it again.
@@ -125,7 +125,7 @@ fn a_replacement_writes_its_leaf_once(rt: HostRuntime) {
     has_answers(&rt, &world, &answers);
     let rest = tree_after(&rt, world);
     has_pages(&rt, rest.store(), 3);
-    keeps_entries(&rt, rest.store(), 2, &[(4, 41), (5, 50)]);
+    page_has_entries(&rt, rest.store(), 2, &[(4, 41), (5, 50)]);
 }
 
 #[test]

@@ -1,6 +1,6 @@
 //! Examples of picked turns and of waits.
 use crate::fixtures::same;
-use crate::fixtures::stores::{empty_tree, has_leftmost, has_pages, keeps_entries};
+use crate::fixtures::stores::{empty_tree, has_leftmost, has_pages, page_has_entries};
 use crate::fixtures::worlds::{
     finish, full_leaf, has_answers, has_moved, has_schedule, tree_after, world_of,
 };
@@ -148,5 +148,5 @@ fn a_worker_waits_for_a_level(rt: HostRuntime) {
     has_pages(&rt, rest.store(), 4);
     has_leftmost(&rt, rest.store(), &[1, 4]);
     let root = [(3, 1), (6, 2), (GREATEST_KEY, 3)];
-    keeps_entries(&rt, rest.store(), 4, &root);
+    page_has_entries(&rt, rest.store(), 4, &root);
 }

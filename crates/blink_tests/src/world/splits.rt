@@ -1,6 +1,6 @@
 //! Examples in which pages split and roots grow.
 use crate::fixtures::pages::{Bounds, has_bounds};
-use crate::fixtures::stores::{has_leftmost, has_pages, keeps_entries, page_at};
+use crate::fixtures::stores::{has_leftmost, has_pages, page_has_entries, page_at};
 use crate::fixtures::worlds::{
     full_leaf, has_answers, has_moved, has_order, has_schedule, is_at_end, keys_to, takes,
     tree_after, turns_to, world_of,
@@ -20,13 +20,13 @@ fn has_halves(rt: &impl Abort, rest: &Rest) {
     let store = rest.store();
     has_pages(rt, store, 3);
     has_leftmost(rt, store, &[1, 3]);
-    keeps_entries(rt, store, 1, &[(1, 10), (2, 20), (3, 30)]);
+    page_has_entries(rt, store, 1, &[(1, 10), (2, 20), (3, 30)]);
     let left: Bounds = (None, 3, Some(2));
     has_bounds(rt, page_at(rt, store, 1), 0, left);
-    keeps_entries(rt, store, 2, &[(4, 40), (5, 50)]);
+    page_has_entries(rt, store, 2, &[(4, 40), (5, 50)]);
     let right: Bounds = (Some(3), GREATEST_KEY, None);
     has_bounds(rt, page_at(rt, store, 2), 0, right);
-    keeps_entries(rt, store, 3, &[(3, 1), (GREATEST_KEY, 2)]);
+    page_has_entries(rt, store, 3, &[(3, 1), (GREATEST_KEY, 2)]);
 }
 
 #[test]
@@ -145,17 +145,17 @@ fn splits_second(rt: &impl Abort, world: &mut World) {
 fn grows_a_root(rt: &impl Abort, world: &mut World) {
     let growth = [ReadPrime, WritePage(4), WritePrime, Unlatch(1)];
     takes(rt, world, 0, &growth);
-    keeps_entries(rt, world.store(), 4, &[(3, 1), (GREATEST_KEY, 2)]);
+    page_has_entries(rt, world.store(), 4, &[(3, 1), (GREATEST_KEY, 2)]);
 }
 
 // The tree in which both splits are posted.
 fn has_both_postings(rt: &impl Abort, rest: &Rest) {
     let store = rest.store();
     has_pages(rt, store, 4);
-    keeps_entries(rt, store, 2, &[(4, 40), (5, 50), (6, 60)]);
-    keeps_entries(rt, store, 3, &[(7, 70), (8, 80)]);
+    page_has_entries(rt, store, 2, &[(4, 40), (5, 50), (6, 60)]);
+    page_has_entries(rt, store, 3, &[(7, 70), (8, 80)]);
     let root = [(3, 1), (6, 2), (GREATEST_KEY, 3)];
-    keeps_entries(rt, store, 4, &root);
+    page_has_entries(rt, store, 4, &root);
 }
 
 // Worker 0 splits the full leaf; worker 1 splits its right half, and is ready to post it before there is a root.
@@ -166,8 +166,8 @@ fn postings_overtake_each_other(rt: HostRuntime) {
     inserts_into_second(&rt, &mut world);
     inserts_into_second(&rt, &mut world);
     splits_second(&rt, &mut world);
-    keeps_entries(&rt, world.store(), 2, &[(4, 40), (5, 50), (6, 60)]);
-    keeps_entries(&rt, world.store(), 3, &[(7, 70), (8, 80)]);
+    page_has_entries(&rt, world.store(), 2, &[(4, 40), (5, 50), (6, 60)]);
+    page_has_entries(&rt, world.store(), 3, &[(7, 70), (8, 80)]);
     turns_to(&rt, &mut world, 1, Step::Waited);
     same(&rt, &world.pick(), &Some(0));
     grows_a_root(&rt, &mut world);
@@ -185,7 +185,7 @@ fn full_root(rt: &impl Abort, alloc: Global) -> Rest {
     let rest = keys_to(rt, alloc, 4, 13);
     has_pages(rt, rest.store(), 5);
     let root = [(3, 1), (6, 2), (9, 4), (GREATEST_KEY, 5)];
-    keeps_entries(rt, rest.store(), 3, &root);
+    page_has_entries(rt, rest.store(), 3, &root);
     rest
 }
 
@@ -193,11 +193,11 @@ fn full_root(rt: &impl Abort, alloc: Global) -> Rest {
 fn has_split_root(rt: &impl Abort, rest: &Rest) {
     let store = rest.store();
     has_pages(rt, store, 8);
-    keeps_entries(rt, store, 3, &[(3, 1), (6, 2), (9, 4)]);
+    page_has_entries(rt, store, 3, &[(3, 1), (6, 2), (9, 4)]);
     let left: Bounds = (None, 9, Some(7));
     has_bounds(rt, page_at(rt, store, 3), 1, left);
-    keeps_entries(rt, store, 7, &[(12, 5), (GREATEST_KEY, 6)]);
-    keeps_entries(rt, store, 8, &[(9, 3), (GREATEST_KEY, 7)]);
+    page_has_entries(rt, store, 7, &[(12, 5), (GREATEST_KEY, 6)]);
+    page_has_entries(rt, store, 8, &[(9, 3), (GREATEST_KEY, 7)]);
     has_leftmost(rt, store, &[1, 3, 8]);
 }
 
@@ -250,7 +250,7 @@ fn splits_at(rt: &impl Abort, alloc: Global, fan: u8, separator: u64) {
     has_keys(rt, store, 2, (separator.saturating_add(1), greatest));
     let (left, right) = (page_at(rt, store, 1), page_at(rt, store, 2));
     same(rt, &(left.high, right.floor), &(separator, Some(separator)));
-    keeps_entries(rt, store, 3, &[(separator, 1), (GREATEST_KEY, 2)]);
+    page_has_entries(rt, store, 3, &[(separator, 1), (GREATEST_KEY, 2)]);
 }
 
 #[test]

@@ -38,7 +38,7 @@ loop-level-init c =
           (leaves_added counts words fan pages kept (get_or prime 0 0) (drop 1 prime) levels stored bounded parts adds);
     }
 
--- the next level of the tree that the words keep
+-- the next level of the tree in the words
 pub add_pages-requires-clause-pages : goal.add_pages-requires-clause-pages
 add_pages-requires-clause-pages c =
     let counts = c.args.counts.now in let words = slots_items c.args.closed.now.words in let prime = c.args.prime.now in let fan = c.args.fan in

@@ -36,7 +36,7 @@ returns-clause-text c =
     let ran = c.in_ok-run_to_end.ensures.ran in
     let at_rest = at_rest_before c.args.workers c.args.schedule.now c.args.index c.args.batch c.in_ok-world.world c.run_to_end.new.world ran.0 ran.1 c.in_ok-world.ensures.begins c.in_ok-world.ensures.lawful ran.2 in
     let given = one_thread_answers c.args.index c.from_rest.result c.args.batch ran.1 (done c) (map_of c.args.index) (c.the_map_is_kept.ensures c.args.index at_rest) in
-    ran.4 ∙ ap (λ (given : List Answer). string_bytes c.args.told.now.text ++ text_of given) given
+    ran.4 ∙ ap (λ (given : List Answer). string_bytes c.args.texts.now.text ++ text_of given) given
 
 pub returns-clause-map : goal.returns-clause-map
 returns-clause-map c =

@@ -17,7 +17,7 @@ returns-in_err-index-2-clause-too_large c =
 
 pub returns-in-Ok-clause-texts : goal.returns-in-Ok-clause-texts
 returns-in-Ok-clause-texts c =
-    are_texts c.args.settings.now.workers c.args.settings.now.fan c.args.schedule.now c.args.parts.items c.in_ok-index.index c.in_ok-index-2.index (string_bytes c.args.told.now.trace) (string_bytes c.args.told.now.text)
-    (string_bytes c.replay_parts.new.told.trace) (string_bytes c.replay_parts.new.told.text) (string_bytes c.in-Ok.pages) c.in_ok-index.ensures.index c.in_ok-index.ensures.empty c.requires.none_told.0 c.requires.none_told.1
-    (subst (λ (workers : ℕ). TellsParts workers c.args.schedule.now c.in_ok-index.index c.args.parts.items (string_bytes c.args.told.now.trace) (string_bytes c.replay_parts.new.told.trace) c.in_ok-index-2.index) c.workers-workers.ensures.workers c.in_ok-index-2.ensures.told)
+    are_texts c.args.settings.now.workers c.args.settings.now.fan c.args.schedule.now c.args.parts.items c.in_ok-index.index c.in_ok-index-2.index (string_bytes c.args.texts.now.trace) (string_bytes c.args.texts.now.text)
+    (string_bytes c.replay_parts.new.texts.trace) (string_bytes c.replay_parts.new.texts.text) (string_bytes c.in-Ok.pages) c.in_ok-index.ensures.index c.in_ok-index.ensures.empty c.requires.none_yet.0 c.requires.none_yet.1
+    (subst (λ (workers : ℕ). TellsParts workers c.args.schedule.now c.in_ok-index.index c.args.parts.items (string_bytes c.args.texts.now.trace) (string_bytes c.replay_parts.new.texts.trace) c.in_ok-index-2.index) c.workers-workers.ensures.workers c.in_ok-index-2.ensures.told)
     c.in_ok-index-2.ensures.text c.in-Ok.ensures

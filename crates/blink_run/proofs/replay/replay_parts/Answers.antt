@@ -14,19 +14,19 @@ pub loop-part-preserved : goal.loop-part-preserved
 loop-part-preserved c =
     let steps = c.in-Some.ensures.steps in
     let others : List Part = into_iter_items c.next.new.self in
-    let so_far = subst (λ (parts : List Part). IsToldWith c.args.workers c.args.schedule.now c.args.index c.args.parts.items (string_bytes c.args.told.now.trace) (string_bytes c.args.told.now.text) parts c.loop-part.index (string_bytes c.loop-part.told.trace) (string_bytes c.loop-part.told.text) c.loop-part.left)
+    let so_far = subst (λ (parts : List Part). IsToldWith c.args.workers c.args.schedule.now c.args.index c.args.parts.items (string_bytes c.args.texts.now.trace) (string_bytes c.args.texts.now.text) parts c.loop-part.index (string_bytes c.loop-part.texts.trace) (string_bytes c.loop-part.texts.text) c.loop-part.left)
     steps.0 c.loop-part.invariant.told in
     let fewer : c.loop-part.left - c.batches_with-left.result ≡ count_by is_batch others = batches_left c.in-Some.part others c.loop-part.left c.batches_with-left.result so_far.counted c.batches_with-left.ensures in
     record {
       can_next = tt;
       is_finite = tt;
       long = omega (arith, steps.1, c.loop-part.invariant.long, ap (λ (parts : List Part). length parts) steps.0);
-      told = one_told c.args.workers c.args.schedule.now c.args.index c.args.parts.items (string_bytes c.args.told.now.trace) (string_bytes c.args.told.now.text) c.in-Some.part others c.loop-part.index c.in_ok-index.index _ _ _ _ c.loop-part.left _ so_far
-          (subst (λ (schedule : List ℕ). TellsPart c.args.workers schedule c.loop-part.index c.in-Some.part (string_bytes c.loop-part.told.trace) (string_bytes c.replay_part.new.told.trace) c.in_ok-index.index) (c.taken_where-taken.ensures ∙ ap (λ (n : ℕ). taken_where n c.args.schedule.now) fewer) c.in_ok-index.ensures.told)
+      told = one_told c.args.workers c.args.schedule.now c.args.index c.args.parts.items (string_bytes c.args.texts.now.trace) (string_bytes c.args.texts.now.text) c.in-Some.part others c.loop-part.index c.in_ok-index.index _ _ _ _ c.loop-part.left _ so_far
+          (subst (λ (schedule : List ℕ). TellsPart c.args.workers schedule c.loop-part.index c.in-Some.part (string_bytes c.loop-part.texts.trace) (string_bytes c.replay_part.new.texts.trace) c.in_ok-index.index) (c.taken_where-taken.ensures ∙ ap (λ (n : ℕ). taken_where n c.args.schedule.now) fewer) c.in_ok-index.ensures.told)
           c.in_ok-index.ensures.text c.in_ok-index.ensures.map fewer;
       ran = one_run c.args.workers c.args.index c.args.parts.items c.in-Some.part others c.loop-part.index (subst (λ (parts : List Part). HasRunBefore c.args.workers c.args.index c.args.parts.items parts c.loop-part.index) steps.0 c.loop-part.invariant.ran)
           c.args.schedule.now _ _ c.in_ok-index.index
-          (subst (λ (schedule : List ℕ). TellsPart c.args.workers schedule c.loop-part.index c.in-Some.part (string_bytes c.loop-part.told.trace) (string_bytes c.replay_part.new.told.trace) c.in_ok-index.index) (c.taken_where-taken.ensures ∙ ap (λ (n : ℕ). taken_where n c.args.schedule.now) fewer) c.in_ok-index.ensures.told);
+          (subst (λ (schedule : List ℕ). TellsPart c.args.workers schedule c.loop-part.index c.in-Some.part (string_bytes c.loop-part.texts.trace) (string_bytes c.replay_part.new.texts.trace) c.in_ok-index.index) (c.taken_where-taken.ensures ∙ ap (λ (n : ℕ). taken_where n c.args.schedule.now) fewer) c.in_ok-index.ensures.told);
     }
 
 -- a batch that is too large is the part that was taken
@@ -47,6 +47,6 @@ returns-in_err-index-clause-refused c =
 pub returns-clause-told : goal.returns-clause-told
 returns-clause-told c =
     let none : into_iter_items c.loop-part.part-iterator ≡ [] = no_part (into_iter_items c.loop-part.part-iterator) (omega (arith, c.in-None.ensures.steps.0, c.loop-part.invariant.long)) in
-    (all_told c.args.workers c.args.schedule.now c.args.index c.args.parts.items (string_bytes c.args.told.now.trace) (string_bytes c.args.told.now.text) c.loop-part.index _ _ c.loop-part.left
-    (subst (λ (parts : List Part). IsToldWith c.args.workers c.args.schedule.now c.args.index c.args.parts.items (string_bytes c.args.told.now.trace) (string_bytes c.args.told.now.text) parts c.loop-part.index (string_bytes c.loop-part.told.trace) (string_bytes c.loop-part.told.text) c.loop-part.left)
+    (all_told c.args.workers c.args.schedule.now c.args.index c.args.parts.items (string_bytes c.args.texts.now.trace) (string_bytes c.args.texts.now.text) c.loop-part.index _ _ c.loop-part.left
+    (subst (λ (parts : List Part). IsToldWith c.args.workers c.args.schedule.now c.args.index c.args.parts.items (string_bytes c.args.texts.now.trace) (string_bytes c.args.texts.now.text) parts c.loop-part.index (string_bytes c.loop-part.texts.trace) (string_bytes c.loop-part.texts.text) c.loop-part.left)
     none c.loop-part.invariant.told)).0

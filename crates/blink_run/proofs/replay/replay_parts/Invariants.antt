@@ -10,6 +10,6 @@ invariant-loop-part l = record {
   can_next : (goal.iterator-loop-part).can_next l.part-iterator;
   is_finite : (goal.iterator-loop-part).is_finite l.part-iterator;
   long : into_iter_len l.part-iterator ≡ length (into_iter_items l.part-iterator);
-  told : IsToldWith l.workers l.schedule l.fn.index l.fn.parts.items (string_bytes l.fn.told.trace) (string_bytes l.fn.told.text) (into_iter_items l.part-iterator) l.index (string_bytes l.told.trace) (string_bytes l.told.text) l.left;
+  told : IsToldWith l.workers l.schedule l.fn.index l.fn.parts.items (string_bytes l.fn.texts.trace) (string_bytes l.fn.texts.text) (into_iter_items l.part-iterator) l.index (string_bytes l.texts.trace) (string_bytes l.texts.text) l.left;
   ran : HasRunBefore l.workers l.fn.index l.fn.parts.items (into_iter_items l.part-iterator) l.index;
 }

@@ -27,5 +27,5 @@ returns-clause-ran c =
         all_given = sym c.answers.ensures.answers ∙ c.in_ok-answers.ensures;
       },
       traced.2,
-      subst (λ (given : List Answer). string_bytes c.push_answers.new.text ≡ string_bytes c.args.told.now.text ++ text_of given) c.deref.ensures.value c.in_ok-push_answers.ensures,
+      subst (λ (given : List Answer). string_bytes c.push_answers.new.text ≡ string_bytes c.args.texts.now.text ++ text_of given) c.deref.ensures.value c.in_ok-push_answers.ensures,
     )

@@ -5,7 +5,7 @@ use Rattle.blink_batch.proofs.SearchByHalves.{kept_at_place, pointer_of-gap, ins
 use Rattle.blink_batch.proofs.RunsByKey.{IsAscending-added, IsAscending-removed}
 use Rattle.blink_batch.proofs.plain.Plain.apply.Goals as goal
 
--- the key is there: the map keeps the pointer that is read
+-- the key is there: it maps to the pointer that is read
 pub returns-in-Find-Ok-clause-answer : goal.returns-in-Find-Ok-clause-answer
 returns-in-Find-Ok-clause-answer c =
     let place = rw c.in-Find-Ok.is-1 at c.place-place.ensures.found in
@@ -27,7 +27,7 @@ returns-in-Insert-Ok-clause-map c =
     let kept = kept_at_place c.args.self.now c.key.result c.in-Insert-Ok.at c.index-in-Insert-Ok.result.now ascending place (rw c.self.view_is at c.index-in-Insert-Ok.ensures) in
     rw c.in-Insert-Ok.is-0 (rw (rw (c.key.ensures, c.in-Insert-Ok.is-0) at kept) refl)
 
--- the key is not there: the map keeps nothing under it
+-- the key is not there: it maps to nothing
 pub returns-in-Find-Err-clause-answer : goal.returns-in-Find-Err-clause-answer
 returns-in-Find-Err-clause-answer c =
     let gap = rw c.in-Find-Err.is-1 at c.place-place.ensures.gap in

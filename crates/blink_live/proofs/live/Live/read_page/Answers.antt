@@ -25,9 +25,9 @@ tells_way : (m : PlainMachine) (key number : ℕ) (page : PlainPage) (way : Way)
 tells_way m key number page way kept going same readable tells = record {
   has_level = readable.has_level;
   leads = subst (λ (k : ℕ). Leads page k way) same tells.leads;
-  keeps = λ found op here.
+  maps = λ found op here.
       let is_found : key ≡ found = same ∙ ap (λ (job : Job). key_of_job m.op job) going.same_job ∙ ap key_of op in
-      subst (λ (k : ℕ). value_at k page.entries ≡ kept) is_found (tells.keeps here);
+      subst (λ (k : ℕ). value_at k page.entries ≡ kept) is_found (tells.maps here);
 }
 
 pub returns-clause-read : goal.returns-clause-read

@@ -11,10 +11,10 @@ use Rattle.blink_machine.proofs.machine.Machine.read_on_its_way.Goals as goal
 
 tells : (m : PlainMachine) (number level key : ℕ) (page : PlainPage) (way : Way) (kept : Option ℕ) → m.state ≡ Going number level → page.level ≡ level → key ≡ target m → Leads page key way
     → ((found : ℕ) → m.op ≡ Find found → way ≡ Here → value_at found page.entries ≡ kept) → TellsWay m page way kept
-tells m number level key page way kept at has is leads keeps = record {
+tells m number level key page way kept at has is leads maps = record {
   has_level = has ∙ sym (ap (λ (state : State). level_read_at state m.job) at);
   leads = subst (λ (k : ℕ). Leads page k way) is leads;
-  keeps = keeps;
+  maps = maps;
 }
 
 pub saw_way-requires-clause-read : goal.saw_way-requires-clause-read

@@ -43,7 +43,7 @@ returns-in-Find c number page needs tells =
     let leads : Leads page (target c.args.self.now) Here = subst (Leads page (target c.args.self.now)) c.in-Here.is tells.leads in
     let op : c.args.self.now.op ≡ Find c.in-Find.key = sym (ap (λ (m : PlainMachine). m.op) c.self.view_is) ∙ c.in-Find.is in
     find_answers c.in-Going.level c.in-Find.key (is_going c.args.self.now c.in-Going.number number c.in-Going.level at needs) leads op
-    (c.decide.ensures ∙ ap (answered c.args.self.now Ended) (c.answer.ensures ∙ ap (answer_at (Find c.in-Find.key)) (sym (tells.keeps c.in-Find.key op c.in-Here.is))))
+    (c.decide.ensures ∙ ap (answered c.args.self.now Ended) (c.answer.ensures ∙ ap (answer_at (Find c.in-Find.key)) (sym (tells.maps c.in-Find.key op c.in-Here.is))))
 
 pub returns-in-Insert : goal.returns-in-Insert
 returns-in-Insert c number page needs tells =

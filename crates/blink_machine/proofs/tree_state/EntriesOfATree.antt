@@ -1,4 +1,4 @@
--- The entries that a tree keeps, as a plain map, and what it takes for a step to decide on them.
+-- The entries of a tree, as a plain map, and what it takes for a step to decide on them.
 use Rattle.std.proofs.Common.{◌≡◌, ℕ, Option, Some, None, List, refl, sym, ap, subst, ◌∙◌}
 use Rattle.blink_batch.specs.declared.Entry.{Entry}
 use Rattle.blink_batch.specs.declared.Op.{Op}
@@ -9,7 +9,7 @@ use Rattle.blink_rest.specs.Chain.{Cell}
 use Rattle.blink_rest.proofs.Offered.{same_entries}
 use Rattle.blink_machine.specs.Machine.{PlainMachine}
 use Rattle.blink_machine.specs.TreeState.{TreeState, Leaves}
-use Rattle.blink_machine.specs.TreeMap.{Keeps, pairs_of}
+use Rattle.blink_machine.specs.TreeMap.{HasEntries, pairs_of}
 use Rattle.blink_machine.specs.Tree.{IsTree}
 use Rattle.blink_machine.specs.TreeWithDebts.{Levels}
 use Rattle.blink_machine.proofs.tree.PrimeAsList.{leftmost_of}
@@ -29,36 +29,36 @@ module _ (fan : ℕ) (prime : List ℕ) (pages : Pages) (levels : Levels) (tree 
   entries_are xs are = same_entries fan pages prime xs (entries_along (levels 0)) are are_entries
 
   -- in whatever words they are given
-  pub keeps_entries : (xs : List (ℕ × ℕ)) → entries_along (levels 0) ≡ xs → AreEntries fan prime pages xs
-  keeps_entries xs same = subst (AreEntries fan prime pages) same are_entries
+  pub tree_has_entries : (xs : List (ℕ × ℕ)) → entries_along (levels 0) ≡ xs → AreEntries fan prime pages xs
+  tree_has_entries xs same = subst (AreEntries fan prime pages) same are_entries
 
-  -- a key has in its leaf what the map keeps under it
+  -- a key's leaf maps it as the map does
   pub pointer_in_leaf : TreeLaws → (entries : List Entry) (key : ℕ) (c : Cell) → AreEntries fan prime pages (pairs_of entries) → IsMember c (levels 0) → IsKeyOf c.page key
       → pointer_of entries key ≡ value_at key c.page.entries
   pointer_in_leaf laws entries key c are stands belongs =
       sym (value_at-pairs_of key entries) ∙ ap (value_at key) (entries_are (pairs_of entries) are) ∙ laws.level_keeps fan prime pages levels 0 key c tree stands belongs
 
--- a tree state keeps the entries of its fan, prime block and pages
-pub keeps_by : (new : TreeState) (fan : ℕ) (prime : List ℕ) (pages : Pages) (entries : List Entry) → new.fan ≡ fan → new.prime ≡ prime → new.pages ≡ pages
-    → AreEntries fan prime pages (pairs_of entries) → Keeps new entries
-keeps_by new fan prime pages entries same_fan same_prime same_pages are =
+-- a tree state has the entries of its fan, prime block and pages
+pub has_entries_by : (new : TreeState) (fan : ℕ) (prime : List ℕ) (pages : Pages) (entries : List Entry) → new.fan ≡ fan → new.prime ≡ prime → new.pages ≡ pages
+    → AreEntries fan prime pages (pairs_of entries) → HasEntries new entries
+has_entries_by new fan prime pages entries same_fan same_prime same_pages are =
     subst (λ f. AreEntries f new.prime new.pages (pairs_of entries)) (sym same_fan)
     (subst (λ p. AreEntries fan p new.pages (pairs_of entries)) (sym same_prime)
     (subst (λ (ps : Pages). AreEntries fan prime ps (pairs_of entries)) (sym same_pages) are))
 
--- where nothing of the tree changes it keeps what it kept
-pub keeps_left : (old new : TreeState) (entries : List Entry) → Leaves old new → Keeps old entries → Keeps new entries
-keeps_left old new entries left kept = keeps_by new old.fan old.prime old.pages entries left.same_fan left.same_prime left.same_pages kept
+-- where nothing of the tree changes it has the same entries
+pub has_entries_left : (old new : TreeState) (entries : List Entry) → Leaves old new → HasEntries old entries → HasEntries new entries
+has_entries_left old new entries left kept = has_entries_by new old.fan old.prime old.pages entries left.same_fan left.same_prime left.same_pages kept
 
 module _ (new : TreeState) (m after : PlainMachine) (entries : List Entry) where
-  -- an operation decides by what the map keeps under its key
+  -- an operation decides by what the map maps its key to
   pub decides_by : (op : Op) (kept : Option ℕ) → m.op ≡ op → pointer_of entries (key_of op) ≡ kept → m.answer ≡ None → after.answer ≡ Some (answer_at op kept)
-      → Keeps new (map_at op kept entries) → Decides new m after entries
+      → HasEntries new (map_at op kept entries) → Decides new m after entries
   decides_by op kept is same unanswered answer keeps =
       Decides.deciding unanswered
       (subst (λ o. after.answer ≡ Some (answer_of entries o)) (sym is) (subst (λ k. after.answer ≡ Some (answer_at op k)) (sym same) answer))
-      (subst (λ o. Keeps new (map_after entries o)) (sym is) (subst (λ k. Keeps new (map_at op k entries)) (sym same) keeps))
+      (subst (λ o. HasEntries new (map_after entries o)) (sym is) (subst (λ k. HasEntries new (map_at op k entries)) (sym same) keeps))
 
   -- a step with the operation's answer as it was decides nothing
-  pub decides_nothing : (other : PlainMachine) → after ≡ other → other.answer ≡ m.answer → Keeps new entries → Decides new m after entries
+  pub decides_nothing : (other : PlainMachine) → after ≡ other → other.answer ≡ m.answer → HasEntries new entries → Decides new m after entries
   decides_nothing other same answer keeps = Decides.other (ap (λ (x : PlainMachine). x.answer) same ∙ answer) keeps
