@@ -31,7 +31,7 @@ done >"$work/found"
 # Every .md file, without what a build leaves; of each the lines outside code blocks.
 find . \( -name .git -o -name out \) -prune -o -name '*.md' -print | sed 's|^\./||' | sort >"$work/pages"
 
-words=$(xargs cat <"$work/pages" | wc -w)
+words=$(xargs awk '{ words += NF } END { print words }' <"$work/pages")
 [ "$words" -lt $most_words ] || echo "all documents have $words words, and $most_words are too many" >>"$work/found"
 
 prose() {
