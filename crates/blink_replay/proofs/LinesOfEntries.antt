@@ -5,7 +5,7 @@ use Rattle.std.specs.List.{flat_map}
 use Rattle.std.proofs.lemmas.Grind.{flat_map-append}
 use Rattle.std.proofs.lemmas.List.{append-nil}
 use Rattle.blink_batch.specs.declared.Entry.{Entry}
-use Rattle.blink_run.specs.Text.{entry_line}
+use Rattle.blink_replay.specs.Text.{entry_line}
 
 -- a line has a byte at least
 line_long : (e : Entry) → 1 ≤ length (entry_line e)

@@ -5,11 +5,11 @@ use Rattle.blink_batch.specs.declared.Part.{Part}
 use Rattle.blink_batch.specs.declared.Part.TheVariants.{Batch}
 use Rattle.std.proofs.lemmas.List.{take-append-drop, drop_more}
 use Rattle.std.proofs.lemmas.List.Sums.{sum_by-append}
-use Rattle.blink_run.specs.TrackedWriter.{WritesPrefix, WritesAll, is_not_flushed}
-use Rattle.blink_run.specs.Served.{IsPrefixOf, IsPartFault, IsTextBefore, IsTextOf, PrefixOutputAfterError, PartOutputAfterError, WroteBefore, WroteBeforeBatch, is_batch, map_after_parts, part_after, part_text, script_text}
+use Rattle.blink_replay.specs.TrackedWriter.{WritesPrefix, WritesAll, is_not_flushed}
+use Rattle.blink_replay.specs.Served.{IsPrefixOf, IsPartFault, IsTextBefore, IsTextOf, PrefixOutputAfterError, PartOutputAfterError, WroteBefore, WroteBeforeBatch, is_batch, map_after_parts, part_after, part_text, script_text}
 use Rattle.blink_settings.specs.declared.error.ServeError.{ServeError}
 use Rattle.blink_settings.specs.declared.error.ServeError.TheVariants as serve
-use Rattle.blink_run.proofs.WritersTake.{breaks_after, breaks_before, breaks_here, breaks_unflushed, writes_all_of_both}
+use Rattle.blink_replay.proofs.WritersTake.{breaks_after, breaks_before, breaks_here, breaks_unflushed, writes_all_of_both}
 
 -- the text of some parts and others
 pub text_of_both : (map : List Entry) (prefix rest : List Part) → script_text map (prefix ++ rest) ≡ script_text map prefix ++ script_text (map_after_parts map prefix) rest

@@ -7,9 +7,9 @@ use Rattle.blink_batch.specs.{Assignment, IsLawfulCut}
 use Rattle.blink_rest.specs.{IsStoreAtRest}
 use Rattle.blink_store.specs.{PlainStore}
 use Rattle.blink_steps.specs.{IsPromised, Event, PlainWorld, HasEnded, IsStart, IsWorldOf}
-use Rattle.blink_run.specs.Replay.{IsRunToEnd, RunsBatch, by_residue}
+use Rattle.blink_replay.specs.Replay.{IsRunToEnd, RunsBatch, by_residue}
 use Rattle.blink_settings.specs.{lanes_by_residue}
-use Rattle.blink_run.specs.Trace.{trace_of}
+use Rattle.blink_replay.specs.Trace.{trace_of}
 use Rattle.blink_locked.proofs.Offered.{all_some, no_turn_yet}
 use Rattle.blink_locked.proofs.Offered.{IsDone}
 

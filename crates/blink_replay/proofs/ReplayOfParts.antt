@@ -5,8 +5,8 @@ use Rattle.blink_batch.specs.declared.Part.TheVariants.{Batch}
 use Rattle.blink_batch.specs.{ReadsAs}
 use Rattle.blink_index.specs.{text_of_store, map_of}
 use Rattle.blink_store.specs.{PlainStore, new_store}
-use Rattle.blink_run.specs.Served.{is_batch, part_after, part_text, script_text}
-use Rattle.blink_run.specs.ServedReplay.{AreTexts, AreToWrite, RunsParts, TellsPart, TellsParts, taken_where}
+use Rattle.blink_replay.specs.Served.{is_batch, part_after, part_text, script_text}
+use Rattle.blink_replay.specs.ServedReplay.{AreTexts, AreToWrite, RunsParts, TellsPart, TellsParts, taken_where}
 
 -- what is told of some first parts, from one tree to another: with what the others add it is told of all
 pub record IsToldWith (workers : ℕ) (schedule : List ℕ) (start : PlainStore) (parts : List Part) (old_trace old_text : List ℕ) (others : List Part) (tree : PlainStore) (trace text : List ℕ) (left : ℕ) : Type 0 where

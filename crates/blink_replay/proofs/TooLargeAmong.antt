@@ -6,11 +6,11 @@ use Rattle.blink_batch.specs.declared.Part.{Part}
 use Rattle.blink_batch.specs.declared.Part.TheVariants.{Batch, Scan, Page}
 use Rattle.blink_batch.specs.{ReadsAs}
 use Rattle.blink_store.specs.{PlainStore, new_store}
-use Rattle.blink_run.specs.Replay.{IsRefusedMemory, RunsBatch}
-use Rattle.blink_run.specs.Served.{is_batch}
-use Rattle.blink_run.specs.ServedReplay.{HaveRunParts, HaveTooLarge, IsPartRefusal, IsPartsFault, RunsParts, TellsPart, TellsReplayOf, TellsTooLarge, taken_where}
+use Rattle.blink_replay.specs.Replay.{IsRefusedMemory, RunsBatch}
+use Rattle.blink_replay.specs.Served.{is_batch}
+use Rattle.blink_replay.specs.ServedReplay.{HaveRunParts, HaveTooLarge, IsPartRefusal, IsPartsFault, RunsParts, TellsPart, TellsReplayOf, TellsTooLarge, taken_where}
 use Rattle.blink_settings.specs.declared.error.ServeError.{ServeError}
-use Rattle.blink_run.proofs.WhatWritersTake.{is_a_script}
+use Rattle.blink_replay.proofs.WhatWritersTake.{is_a_script}
 
 -- ---- the parts before a batch
 

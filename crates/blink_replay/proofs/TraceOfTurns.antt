@@ -8,8 +8,8 @@ use Rattle.blink_machine.specs.declared.Step.{Step}
 use Rattle.blink_steps.specs.declared.StepError.{StepError}
 use Rattle.blink_steps.specs.declared.StepError.TheVariants as step
 use Rattle.blink_steps.specs.{Event, PlainWorld, GoesOnBy, IsStepRefusal, IsWorldOf, SameBatch, TakesStep}
-use Rattle.blink_run.specs.Replay.{HasTurnsMore, IsTraced}
-use Rattle.blink_run.specs.Trace.{trace_of, turn_line}
+use Rattle.blink_replay.specs.Replay.{HasTurnsMore, IsTraced}
+use Rattle.blink_replay.specs.Trace.{trace_of, turn_line}
 
 -- where no turn is taken nothing is told
 pub no_turn : (world : PlainWorld) → IsTraced world [] world []

@@ -4,11 +4,11 @@ use Rattle.std.specs.Io.KnownBytes.{Appends, Keeps}
 use Rattle.blink_batch.specs.declared.Part.{Part}
 use Rattle.blink_batch.specs.declared.Part.TheVariants.{Batch}
 use Rattle.blink_batch.specs.{ReadsAs, records_of}
-use Rattle.blink_run.specs.TrackedWriter.{WritesPrefix, Writes, KeepsFlushed, TakesOffered}
-use Rattle.blink_run.specs.Served.{IsAScript, IsPrefixOf, IsTextOf, IsTextBefore, FlushedOutputAfterError, OutputAfterError, Serves, TellsFault, WritesText, WroteBefore, script_text}
+use Rattle.blink_replay.specs.TrackedWriter.{WritesPrefix, Writes, KeepsFlushed, TakesOffered}
+use Rattle.blink_replay.specs.Served.{IsAScript, IsPrefixOf, IsTextOf, IsTextBefore, FlushedOutputAfterError, OutputAfterError, Serves, TellsFault, WritesText, WroteBefore, script_text}
 use Rattle.blink_settings.specs.declared.error.ServeError.{ServeError}
 use Rattle.blink_settings.specs.declared.error.ServeError.TheVariants as serve
-use Rattle.blink_run.proofs.WritersTake.{appends_kept, takes_prefix, takes_poured, takes_whole}
+use Rattle.blink_replay.proofs.WritersTake.{appends_kept, takes_prefix, takes_poured, takes_whole}
 
 -- known bytes that grow by a text
 known_after : (before after : Option (List ℕ)) (written text : List ℕ) → before ≡ Some written → Appends before after text → after ≡ Some (written ++ text)

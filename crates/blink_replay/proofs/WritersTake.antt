@@ -2,7 +2,7 @@
 use Rattle.std.proofs.Common.{◌≡◌, ℕ, ◌<◌, Bool, false, List, [], ◌++◌, Option, Some, None, take, drop, refl, sym, ap, ◌∙◌, subst, append_assoc, append-nil}
 use Rattle.std.proofs.lemmas.List.{take-append-drop}
 use Rattle.std.specs.Io.KnownBytes.{Appends, Keeps}
-use Rattle.blink_run.specs.TrackedWriter.{WritesPrefix, Fails, Writes, KeepsFlushed, WritesAll, TakesOffered, nothing, more, refuses, takes_nothing, is_not_flushed}
+use Rattle.blink_replay.specs.TrackedWriter.{WritesPrefix, Fails, Writes, KeepsFlushed, WritesAll, TakesOffered, nothing, more, refuses, takes_nothing, is_not_flushed}
 
 module _ {O : Type 0} (offered : O → List ℕ → Option ℕ → O → Type 0) where
   -- one text after another goes out as both

@@ -9,7 +9,7 @@ use Rattle.blink_steps.specs.declared.StepError.TheVariants as step
 use Rattle.blink_settings.specs.declared.error.ServeError.{ServeError}
 use Rattle.blink_settings.specs.declared.error.ServeError.TheVariants.{Step, OutOfMemory}
 use Rattle.blink_settings.specs.{lanes_by_residue}
-use Rattle.blink_run.specs.Trace.{trace_of}
+use Rattle.blink_replay.specs.Trace.{trace_of}
 
 -- the worker of each operation is the remainder of its key
 abbrev pub by_residue : ℕ → List Op → Assignment

@@ -7,8 +7,8 @@ use Rattle.blink_batch.specs.declared.Part.{Part}
 use Rattle.blink_batch.specs.declared.Part.TheVariants.{Batch, Scan, Page}
 use Rattle.blink_batch.specs.{answers, map_after_all, IsReadable, TellsRefusal, records_of, script_of, text_of}
 use Rattle.blink_index.specs.{is_from, is_within}
-use Rattle.blink_run.specs.TrackedWriter.{WritesPrefix, WritesAll}
-use Rattle.blink_run.specs.Text.{scan_text}
+use Rattle.blink_replay.specs.TrackedWriter.{WritesPrefix, WritesAll}
+use Rattle.blink_replay.specs.Text.{scan_text}
 use Rattle.blink_settings.specs.declared.error.RunError.{RunError}
 use Rattle.blink_settings.specs.declared.error.ServeError.{ServeError}
 use Rattle.blink_settings.specs.declared.error.ServeError.TheVariants as serve

@@ -9,8 +9,8 @@ use Rattle.blink_index.specs.{text_of_store}
 use Rattle.blink_store.specs.{PlainStore, new_store}
 use Rattle.blink_steps.specs.declared.StepError.TheVariants as step
 use Rattle.blink_steps.specs.{IsFirstNoWorker, IsTooLarge}
-use Rattle.blink_run.specs.Replay.{IsRefusedMemory, IsReplayFault, RunsBatch, TellsBatch}
-use Rattle.blink_run.specs.Served.{IsAScript, IsPrefixOf, WritesText, is_batch, script_text}
+use Rattle.blink_replay.specs.Replay.{IsRefusedMemory, IsReplayFault, RunsBatch, TellsBatch}
+use Rattle.blink_replay.specs.Served.{IsAScript, IsPrefixOf, WritesText, is_batch, script_text}
 use Rattle.blink_settings.specs.declared.error.ServeError.{ServeError}
 use Rattle.blink_settings.specs.declared.error.ServeError.TheVariants as serve
 

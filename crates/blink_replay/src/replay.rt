@@ -4,13 +4,13 @@ ghost use Rattle.blink_batch.specs.{IsLawfulCut, MayWork, answers, map_after_all
 ghost use Rattle.blink_index.specs.{map_of};
 ghost use Rattle.blink_steps.specs.{IsFirstNoWorker, IsStart};
 ghost use Rattle.blink_store.specs.{new_store};
-ghost use Rattle.blink_run.specs.TrackedWriter.{WritesPrefix, Writes, WritesAll};
-ghost use Rattle.blink_run.specs.Replay.{IsRefusedMemory, IsReplayFault, TellsBatch, TellsRun, by_residue};
-ghost use Rattle.blink_run.specs.Served.{is_batch, part_after, part_text, script_text};
+ghost use Rattle.blink_replay.specs.TrackedWriter.{WritesPrefix, Writes, WritesAll};
+ghost use Rattle.blink_replay.specs.Replay.{IsRefusedMemory, IsReplayFault, TellsBatch, TellsRun, by_residue};
+ghost use Rattle.blink_replay.specs.Served.{is_batch, part_after, part_text, script_text};
 ghost use Rattle.blink_settings.specs.{lanes_by_residue};
-ghost use Rattle.blink_run.specs.ServedReplay.{AreTexts, AreToWrite, HaveRunParts, IsPartRefusal, IsPartsFault, LeavesReplay, Replays, TellsPart, TellsParts, TellsReplayFault, TellsReplayOf, TellsTooLarge, TellsWorkersFault, taken_where};
+ghost use Rattle.blink_replay.specs.ServedReplay.{AreTexts, AreToWrite, HaveRunParts, IsPartRefusal, IsPartsFault, LeavesReplay, Replays, TellsPart, TellsParts, TellsReplayFault, TellsReplayOf, TellsTooLarge, TellsWorkersFault, taken_where};
 
-use crate::script::{batches_with, new_index};
+use crate::parts::{batches_with, new_index};
 use crate::text::{push_answers, push_scan};
 use crate::trace::trace_steps;
 use crate::tracked_writer::{TrackedWriter, flush_out, write_out};
@@ -28,7 +28,7 @@ use std::io::{Read, Write};
 /// number of the schedule, and is then finished as by [`World::finish`]. The batches before it are finished at once.
 ///
 /// When all turns are taken, the call writes three texts: the trace, with a line for each number of the schedule; the text that
-/// [`serve`](crate::serve) writes; and the pages of the index at the end, as `Index::dump` returns them. A schedule with a
+/// `serve` of `blink_run` writes; and the pages of the index at the end, as `Index::dump` returns them. A schedule with a
 /// number that isn't below the number of workers is refused before anything is read. After every error but `Output` nothing was
 /// written.
 pub fn serve_replay<R: Read, W: Write>(

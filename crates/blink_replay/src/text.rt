@@ -1,7 +1,7 @@
 //! The text of answers, of scans and of pages.
 ghost use Rattle.std.specs.Prelude.{◌≡◌, ◌++◌, OnOk, string_bytes};
 ghost use Rattle.blink_batch.specs.{text_of};
-ghost use Rattle.blink_run.specs.Text.{end_line, entry_line, scan_text};
+ghost use Rattle.blink_replay.specs.Text.{end_line, entry_line, scan_text};
 
 use blink_batch::{Answer, Entry};
 use blink_index::Scan;
@@ -9,7 +9,7 @@ use std::alloc::AllocError;
 use std::fmt::Write as _;
 
 /// Adds a line for each answer.
-pub(crate) fn push_answers(text: &mut String, answers: &[Answer]) -> Result<(), AllocError>
+pub fn push_answers(text: &mut String, answers: &[Answer]) -> Result<(), AllocError>
     ensures { OnOk result (string_bytes text.new ≡ string_bytes text.old ++ text_of answers.now) }
 {
     for answer in answers {
@@ -19,7 +19,7 @@ pub(crate) fn push_answers(text: &mut String, answers: &[Answer]) -> Result<(), 
 }
 
 /// Adds a line for each entry of a scan or a page, and then one with their number.
-pub(crate) fn push_scan(text: &mut String, scan: Scan<'_>) -> Result<(), AllocError>
+pub fn push_scan(text: &mut String, scan: Scan<'_>) -> Result<(), AllocError>
     ensures { OnOk result (string_bytes text.new ≡ string_bytes text.old ++ scan_text scan.entry) }
 {
     let mut shown = 0usize;

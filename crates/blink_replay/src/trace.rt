@@ -1,7 +1,7 @@
 //! The trace of a schedule's turns.
 ghost use Rattle.std.specs.Prelude.{◌≡◌, ◌<◌, ◌++◌, All, Some, OnOk, IfErr, string_bytes};
-ghost use Rattle.blink_run.specs.Replay.{IsRefusedMemory, TellsSteps};
-ghost use Rattle.blink_run.specs.Trace.{turn_line, words_of_step};
+ghost use Rattle.blink_replay.specs.Replay.{IsRefusedMemory, TellsSteps};
+ghost use Rattle.blink_replay.specs.Trace.{turn_line, words_of_step};
 
 use blink_settings::ServeError;
 use blink_steps::{Kind, Step, World};

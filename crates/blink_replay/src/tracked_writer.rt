@@ -1,6 +1,6 @@
 //! What texts are written to, call by call.
 ghost use Rattle.std.specs.Prelude.{◌≡◌, ℕ, ◌≤◌, Bool, true, false, List, Option, length, IfErr, IfSome, OnOk};
-ghost use Rattle.blink_run.specs.TrackedWriter.{WritesPrefix, WritesAll};
+ghost use Rattle.blink_replay.specs.TrackedWriter.{WritesPrefix, WritesAll};
 
 use blink_settings::ServeError;
 use std::io::Write;
@@ -25,7 +25,7 @@ pub trait TrackedWriter {
 }
 
 impl<W: Write> TrackedWriter for W {
-    ghost use Rattle.blink_run.specs.TrackedWriter.{KeepsFlushed, TakesOffered};
+    ghost use Rattle.blink_replay.specs.TrackedWriter.{KeepsFlushed, TakesOffered};
 
     ghost offered = { TakesOffered W.contents };
 

@@ -1,6 +1,6 @@
 use Rattle.std.proofs.Common.{◌≡◌, take, count_by}
-use Rattle.blink_run.specs.Served.{is_batch}
-use Rattle.blink_run.proofs.replay.batches_among.Given as goal
+use Rattle.blink_replay.specs.Served.{is_batch}
+use Rattle.blink_replay.proofs.replay.batches_among.Given as goal
 
 -- the batches so far are counted
 abbrev pub invariant-loop-part : goal.invariant-loop-part

@@ -1,7 +1,7 @@
 use Rattle.std.proofs.Common.{◌<◌, ◌+◌, All, take, drop, sym, ap, ◌∙◌, subst, List, ℕ, ◌++◌, arith}
 use Rattle.std.proofs.lemmas.List.{drop_more, take_all, take-append-drop}
 use Rattle.std.proofs.lemmas.List.Elements.{All-more}
-use Rattle.blink_run.proofs.replay.first_of_no_worker.Goals as goal
+use Rattle.blink_replay.proofs.replay.first_of_no_worker.Goals as goal
 
 -- this number is no worker's, and those before it are workers
 pub returns-then-worker-workers : goal.returns-then-worker-workers

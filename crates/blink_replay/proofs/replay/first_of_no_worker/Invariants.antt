@@ -1,5 +1,5 @@
 use Rattle.std.proofs.Common.{◌<◌, All, take}
-use Rattle.blink_run.proofs.replay.first_of_no_worker.Given as goal
+use Rattle.blink_replay.proofs.replay.first_of_no_worker.Given as goal
 
 -- the numbers so far are workers
 abbrev pub invariant-loop-worker : goal.invariant-loop-worker

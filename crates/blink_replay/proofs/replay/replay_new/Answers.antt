@@ -1,9 +1,9 @@
 use Rattle.std.proofs.Common.{◌<◌, ℕ, All, subst, sym, string_bytes}
 use Rattle.std.proofs.lemmas.Result.{err_from_is_err_and}
 use Rattle.blink_store.specs.{PlainStore}
-use Rattle.blink_run.specs.ServedReplay.{TellsTooLarge, TellsParts}
-use Rattle.blink_run.proofs.ReplayOfParts.{are_texts}
-use Rattle.blink_run.proofs.replay.replay_new.Goals as goal
+use Rattle.blink_replay.specs.ServedReplay.{TellsTooLarge, TellsParts}
+use Rattle.blink_replay.proofs.ReplayOfParts.{are_texts}
+use Rattle.blink_replay.proofs.replay.replay_new.Goals as goal
 
 pub replay_parts-requires-clause-workers : goal.replay_parts-requires-clause-workers
 replay_parts-requires-clause-workers c = subst (λ (workers : ℕ). All (λ worker. worker < workers) c.args.schedule.now) (sym c.workers-workers.ensures.workers) c.requires.workers

@@ -2,12 +2,12 @@ use Rattle.std.proofs.Common.{◌≡◌, ◌-◌, [], ℕ, List, count_by, ap, �
 use Rattle.std.proofs.lemmas.Result.{err_from_is_err_and}
 use Rattle.std.specs.Vec.Iter.{into_iter_items}
 use Rattle.blink_batch.specs.declared.Part.{Part}
-use Rattle.blink_run.specs.Served.{is_batch}
-use Rattle.blink_run.specs.ServedReplay.{TellsPart, taken_where}
-use Rattle.blink_run.proofs.ReplayOfParts.{IsToldWith, all_told, no_part, one_told}
-use Rattle.blink_run.proofs.PartsAreServed.{batches_left}
-use Rattle.blink_run.proofs.TooLargeAmong.{HasRunBefore, found_too_large, one_run, part_refused}
-use Rattle.blink_run.proofs.replay.replay_parts.Goals as goal
+use Rattle.blink_replay.specs.Served.{is_batch}
+use Rattle.blink_replay.specs.ServedReplay.{TellsPart, taken_where}
+use Rattle.blink_replay.proofs.ReplayOfParts.{IsToldWith, all_told, no_part, one_told}
+use Rattle.blink_replay.proofs.PartsAreServed.{batches_left}
+use Rattle.blink_replay.proofs.TooLargeAmong.{HasRunBefore, found_too_large, one_run, part_refused}
+use Rattle.blink_replay.proofs.replay.replay_parts.Goals as goal
 
 -- one part more is told
 pub loop-part-preserved : goal.loop-part-preserved

@@ -1,8 +1,8 @@
 use Rattle.std.proofs.Common.{◌≡◌, length, string_bytes}
 use Rattle.std.specs.Vec.Iter.{into_iter_items, into_iter_len}
-use Rattle.blink_run.proofs.ReplayOfParts.{IsToldWith}
-use Rattle.blink_run.proofs.TooLargeAmong.{HasRunBefore}
-use Rattle.blink_run.proofs.replay.replay_parts.Given as goal
+use Rattle.blink_replay.proofs.ReplayOfParts.{IsToldWith}
+use Rattle.blink_replay.proofs.TooLargeAmong.{HasRunBefore}
+use Rattle.blink_replay.proofs.replay.replay_parts.Given as goal
 
 -- with what the parts to come add, all is told
 abbrev pub invariant-loop-part : goal.invariant-loop-part

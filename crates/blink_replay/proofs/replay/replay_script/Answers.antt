@@ -1,8 +1,8 @@
 use Rattle.std.proofs.Common.{◌++◌}
 use Rattle.std.proofs.lemmas.Result.{IfErr-weaker, on_ok_weaker}
-use Rattle.blink_run.specs.ServedReplay.{AreToWrite, IsReplayText, LeavesReplay, TellsReplayOf}
-use Rattle.blink_run.proofs.WhatWritersTake.{writes_prefix, writes_whole}
-use Rattle.blink_run.proofs.replay.replay_script.Goals as goal
+use Rattle.blink_replay.specs.ServedReplay.{AreToWrite, IsReplayText, LeavesReplay, TellsReplayOf}
+use Rattle.blink_replay.proofs.WhatWritersTake.{writes_prefix, writes_whole}
+use Rattle.blink_replay.proofs.replay.replay_script.Goals as goal
 
 -- all of it is written
 pub returns-clause-replayed : goal.returns-clause-replayed

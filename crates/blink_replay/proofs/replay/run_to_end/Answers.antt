@@ -1,8 +1,8 @@
 use Rattle.std.proofs.Common.{◌≡◌, ◌∙◌, ◌++◌, List, Option, All, IsSome, length, ap, sym, subst, string_bytes}
 use Rattle.blink_batch.specs.declared.Answer.{Answer}
 use Rattle.blink_batch.specs.{text_of}
-use Rattle.blink_run.proofs.ReplayOfBatch.{all_answered}
-use Rattle.blink_run.proofs.replay.run_to_end.Goals as goal
+use Rattle.blink_replay.proofs.ReplayOfBatch.{all_answered}
+use Rattle.blink_replay.proofs.replay.run_to_end.Goals as goal
 
 -- every operation has its answer
 pub all_of-requires : goal.all_of-requires

@@ -1,11 +1,11 @@
 use Rattle.std.proofs.Common.{◌≡◌, ◌<◌, ℕ, All, Result, Err, IfErr, ap, subst}
 use Rattle.blink_steps.specs.{IsFirstNoWorker}
-use Rattle.blink_run.specs.ServedReplay.{TellsWorkersFault}
+use Rattle.blink_replay.specs.ServedReplay.{TellsWorkersFault}
 use Rattle.blink_settings.specs.declared.error.ServeError.{ServeError}
 use Rattle.blink_settings.specs.declared.error.ServeError.TheVariants as serve
 use Rattle.blink_steps.specs.declared.StepError.TheVariants as step
-use Rattle.blink_run.proofs.FirstThatIsNoWorker.{none_first, one_first}
-use Rattle.blink_run.proofs.replay.serve_replay.Goals as goal
+use Rattle.blink_replay.proofs.FirstThatIsNoWorker.{none_first, one_first}
+use Rattle.blink_replay.proofs.replay.serve_replay.Goals as goal
 
 -- the number that is told is the first that is no worker's
 pub returns-in-Some-clause-no_worker : goal.returns-in-Some-clause-no_worker

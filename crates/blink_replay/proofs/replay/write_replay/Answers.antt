@@ -1,7 +1,7 @@
 use Rattle.std.proofs.Common.{◌++◌}
 use Rattle.std.proofs.lemmas.Result.{IfErr-weaker, err_from_is_err_and, on_ok_weaker}
-use Rattle.blink_run.proofs.WritersTake.{breaks_after, breaks_before, breaks_unflushed, writes_all_of_both}
-use Rattle.blink_run.proofs.replay.write_replay.Goals as goal
+use Rattle.blink_replay.proofs.WritersTake.{breaks_after, breaks_before, breaks_unflushed, writes_all_of_both}
+use Rattle.blink_replay.proofs.replay.write_replay.Goals as goal
 
 -- the trace breaks off
 pub returns-in_err-write_out-clause-broken_off : goal.returns-in_err-write_out-clause-broken_off

@@ -3,7 +3,7 @@ use Rattle.std.proofs.lemmas.List.{flat_map_more, take_all, take_more}
 use Rattle.blink_batch.specs.declared.Answer.{Answer}
 use Rattle.blink_batch.specs.declared.Answer.TheVariants.{Found}
 use Rattle.blink_batch.specs.{line_of, text_of}
-use Rattle.blink_run.proofs.text.push_answers.Goals as goal
+use Rattle.blink_replay.proofs.text.push_answers.Goals as goal
 
 -- no line is added yet
 pub loop-answer-init : goal.loop-answer-init

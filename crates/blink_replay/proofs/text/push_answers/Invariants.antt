@@ -1,6 +1,6 @@
 use Rattle.std.proofs.Common.{◌≡◌, ◌++◌, take, string_bytes}
 use Rattle.blink_batch.specs.{text_of}
-use Rattle.blink_run.proofs.text.push_answers.Given as goal
+use Rattle.blink_replay.proofs.text.push_answers.Given as goal
 
 -- the lines of the answers so far are added
 abbrev pub invariant-loop-answer : goal.invariant-loop-answer

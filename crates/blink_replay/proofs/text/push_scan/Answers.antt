@@ -1,9 +1,9 @@
 use Rattle.std.proofs.Common.{◌≡◌, ◌+◌, ◌∙◌, ◌++◌, ◌∷◌, [], ℕ, List, length, length-append, string_bytes, append_assoc, ap, sym, arith}
 use Rattle.std.specs.List.{flat_map}
 use Rattle.blink_batch.specs.declared.Entry.{Entry}
-use Rattle.blink_run.specs.Text.{entry_line}
-use Rattle.blink_run.proofs.LinesOfEntries.{line_more, shown_few}
-use Rattle.blink_run.proofs.text.push_scan.Goals as goal
+use Rattle.blink_replay.specs.Text.{entry_line}
+use Rattle.blink_replay.proofs.LinesOfEntries.{line_more, shown_few}
+use Rattle.blink_replay.proofs.text.push_scan.Goals as goal
 
 -- the lines so far, and one more
 told_more : (c : goal.In_ok-push_entry) → string_bytes c.push_entry.new.text ≡ string_bytes c.args.text.now ++ flat_map entry_line (c.loop-entry.invariant.shown ++ c.in-Some.entry ∷ [])

@@ -1,8 +1,8 @@
 use Rattle.std.proofs.Common.{◌≡◌, List, ◌++◌, length, string_bytes}
 use Rattle.std.specs.List.{flat_map}
 use Rattle.blink_batch.specs.declared.Entry.{Entry}
-use Rattle.blink_run.specs.Text.{entry_line}
-use Rattle.blink_run.proofs.text.push_scan.Given as goal
+use Rattle.blink_replay.specs.Text.{entry_line}
+use Rattle.blink_replay.proofs.text.push_scan.Given as goal
 
 -- the lines of the entries so far are added, and each is counted
 abbrev pub invariant-loop-entry : goal.invariant-loop-entry

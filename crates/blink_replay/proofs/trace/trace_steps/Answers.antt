@@ -2,11 +2,11 @@ use Rattle.std.proofs.Common.{[], ◌∙◌, ◌++◌, ◌<◌, List, ℕ, inl, 
 use Rattle.std.proofs.lemmas.List.{append-nil, take_all, take_more}
 use Rattle.std.proofs.lemmas.List.Elements.{All-get_or}
 use Rattle.std.proofs.lemmas.Result.{err_from_is_err_and}
-use Rattle.blink_run.specs.Replay.{IsTraced}
-use Rattle.blink_run.specs.Trace.{turn_line}
+use Rattle.blink_replay.specs.Replay.{IsTraced}
+use Rattle.blink_replay.specs.Trace.{turn_line}
 use Rattle.blink_settings.specs.declared.error.ServeError.TheVariants as serve
-use Rattle.blink_run.proofs.TraceOfTurns.{no_turn, one_turn, only_memory}
-use Rattle.blink_run.proofs.trace.trace_steps.Goals as goal
+use Rattle.blink_replay.proofs.TraceOfTurns.{no_turn, one_turn, only_memory}
+use Rattle.blink_replay.proofs.trace.trace_steps.Goals as goal
 
 -- no turn is taken yet
 pub loop-worker-init : goal.loop-worker-init

@@ -1,6 +1,6 @@
 use Rattle.std.proofs.Common.{take, string_bytes}
-use Rattle.blink_run.specs.Replay.{TellsSteps}
-use Rattle.blink_run.proofs.trace.trace_steps.Given as goal
+use Rattle.blink_replay.specs.Replay.{TellsSteps}
+use Rattle.blink_replay.proofs.trace.trace_steps.Given as goal
 
 -- the turns so far are told
 abbrev pub invariant-loop-worker : goal.invariant-loop-worker

@@ -1,8 +1,8 @@
 use Rattle.std.proofs.Common.{◌<◌, [], arith, refl, rules, sym}
 use Rattle.std.proofs.lemmas.Grind.{common_steps}
-use Rattle.blink_run.specs.TrackedWriter.{nothing, refuses, takes_nothing}
-use Rattle.blink_run.proofs.WritersTake.{breaks_here, writes_all_more}
-use Rattle.blink_run.proofs.tracked_writer.write_out.Goals as goal
+use Rattle.blink_replay.specs.TrackedWriter.{nothing, refuses, takes_nothing}
+use Rattle.blink_replay.proofs.WritersTake.{breaks_here, writes_all_more}
+use Rattle.blink_replay.proofs.tracked_writer.write_out.Goals as goal
 
 -- nothing is written yet
 pub loop-rest-init : goal.loop-rest-init

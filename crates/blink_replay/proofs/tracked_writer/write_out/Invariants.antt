@@ -1,6 +1,6 @@
 use Rattle.std.proofs.Common.{◌≡◌, ◌++◌, List, ℕ, length}
-use Rattle.blink_run.specs.TrackedWriter.{WritesAll}
-use Rattle.blink_run.proofs.tracked_writer.write_out.Given as goal
+use Rattle.blink_replay.specs.TrackedWriter.{WritesAll}
+use Rattle.blink_replay.proofs.tracked_writer.write_out.Given as goal
 
 -- a beginning of the text is written, and the rest is left
 abbrev pub invariant-loop-rest : goal.invariant-loop-rest
