@@ -8,7 +8,7 @@ ghost use Rattle.blink_batch.specs.{FitsWords, key_of};
 ghost use Rattle.blink_page.specs.{place_of, value_at, PlainPage, IsRising};
 ghost use Rattle.blink_rows.specs.declared.limits.TheConstants.{ROW_WORDS};
 ghost use Rattle.blink_rows.specs.{IsPageRow, IsPrimeRow};
-ghost use Rattle.blink_machine.specs.{PlainMachine, NeedsPage, NeedsPrime, SeesPrime};
+ghost use Rattle.blink_machine.specs.{PlainMachine, fresh, NeedsPage, NeedsPrime, SeesPrime};
 ghost use Rattle.blink_live.specs.Seats.{BeginsAt, HasRead, IsAtLeaf, IsAtPage, IsPassSeat, IsSameSeat, ReadsPage, ReadsWay, TellsWayFor, ReadsPrime};
 ghost use Rattle.blink_live.specs.Views.{CanBegin, for_call, known_of};
 ghost use Rattle.blink_live.specs.Words.{AreNumbersIn, AreRowsIn, IsRowNumber, row_start, word_count};
@@ -32,39 +32,26 @@ const RIGHT_LINK: usize = 4;
 const COUNT: usize = 5;
 
 impl Live {
-    // Runs an operation's descent to the leaf of its key.
-    pub(crate) fn descend(&self, seat: &mut Seat<u8, View>, op: Op) -> Machine
+    // Runs the descent of an operation that has not begun, to the leaf of its key. The operation stays where its caller made it,
+    // since it is large.
+    pub(crate) fn descend(&self, seat: &mut Seat<u8, View>, machine: &mut Machine, op: Op)
         requires seat { IsPassSeat self.now seat.old.table_id seat.old.me }
+        requires fresh { machine.old ≡ fresh self.now.fan op }
         requires idle { seat.old.me.0.operation ≡ None }
         requires fits { FitsWords op }
         requires can_begin { CanBegin seat.old.me.0 op }
         ensures same_table { (seat.new.table_id ≡ seat.old.table_id) × (seat.new.id ≡ seat.old.id) }
         ensures rows { AreRowsIn self.now.counts seat.old.me.0.rows }
         ensures pages { AreNumbersIn self.now.counts seat.old.me.0.pages }
-        ensures read { HasRead op (for_call seat.old.me.0 op, seat.old.me.1) seat.new.me result }
-        ensures at_leaf { IsAtLeaf op (known_of seat.new.me.0 (key_of op)) result }
+        ensures read { HasRead op (for_call seat.old.me.0 op, seat.old.me.1) seat.new.me machine.new }
+        ensures at_leaf { IsAtLeaf op (known_of seat.new.me.0 (key_of op)) machine.new }
     {
-        let mut machine = self.begin(seat, op);
+        let (root, level) = self.root(seat, op);
+        machine.saw_top(level, root);
         while let &State::Going(number, level) = machine.state() {
             let (way, kept) = self.read_page(seat, op.key(), number, level);
             machine.saw_way(way, kept);
         }
-        machine
-    }
-
-    // Begins an operation: it reads the root's level and number from the prime block.
-    fn begin(&self, seat: &mut Seat<u8, View>, op: Op) -> Machine
-        requires seat { IsPassSeat self.now seat.old.table_id seat.old.me }
-        requires idle { seat.old.me.0.operation ≡ None }
-        requires fits { FitsWords op }
-        requires can_begin { CanBegin seat.old.me.0 op }
-        ensures same { (seat.new.table_id ≡ seat.old.table_id) × (seat.new.id ≡ seat.old.id) }
-        ensures begun { (row : ℕ) × Begins op seat.old.me row result seat.new.me }
-    {
-        let (root, level) = self.root(seat, op);
-        let mut machine = Machine::new(op, self.fan);
-        machine.saw_top(level, root);
-        machine
     }
 
     // Begins an operation, and returns the root's number and level.

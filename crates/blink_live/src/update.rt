@@ -58,7 +58,8 @@ impl Live {
         ensures same { SameBesideCall (for_call seat.old.me.0 op) seat.new.me.0 }
         ensures same_slots { seat.new.me.1 ≡ seat.old.me.1 }
     {
-        let mut machine = self.descend(seat, op);
+        let mut machine = Machine::new(op, self.fan);
+        self.descend(seat, &mut machine, op);
         for _ in rt.forever() {
             if machine.ended() {
                 break;

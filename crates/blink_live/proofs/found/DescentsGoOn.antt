@@ -43,22 +43,26 @@ module _ (op : Op) (number level : ℕ) (me then : SeatState) (begun : BeginsAt 
   is_at_root : begun.machine ≡ at_root me.0.plan.fan op number level
   is_at_root = sym (begun.begins.only (at_root me.0.plan.fan op number level) (sees_root me.0.plan.fan op begun.begins.prime number level begun.top))
 
-  pub comes_to_root : HasComeTo op (for_call me.0 op, me.1) then number level
-  comes_to_root =
+  pub read_at_root : HasRead op (for_call me.0 op, me.1) then begun.machine
+  read_at_root =
       let begins = begun.begins in record {
-        machine = begun.machine;
-        read = record {
-          same = (same_reading (for_call me.0 op) begun.machine begins.way begun.row _ begins.seen then.0 (ap (λ (x : SeatState). x.0) begins.is), ap (λ (x : SeatState). x.1) begins.is);
-          saw = subst (λ (seen : List Change). IsPrefix me.0.seen seen) (sym (ap (λ (x : SeatState). x.0.seen) begins.is)) begins.learns.saw;
-          knows_own = begins.knows_own;
-          operation = ap (λ (x : SeatState). x.0.operation) begins.is;
-          same_op = ap (λ (m : PlainMachine). m.op) is_at_root;
-          same_job = ap (λ (m : PlainMachine). m.job) is_at_root;
-          next = begins.next;
-        };
-        state = ap (λ (m : PlainMachine). m.state) is_at_root;
-        none_yet = ap (λ (m : PlainMachine). m.answer) is_at_root;
+        same = (same_reading (for_call me.0 op) begun.machine begins.way begun.row _ begins.seen then.0 (ap (λ (x : SeatState). x.0) begins.is), ap (λ (x : SeatState). x.1) begins.is);
+        saw = subst (λ (seen : List Change). IsPrefix me.0.seen seen) (sym (ap (λ (x : SeatState). x.0.seen) begins.is)) begins.learns.saw;
+        knows_own = begins.knows_own;
+        operation = ap (λ (x : SeatState). x.0.operation) begins.is;
+        same_op = ap (λ (m : PlainMachine). m.op) is_at_root;
+        same_job = ap (λ (m : PlainMachine). m.job) is_at_root;
+        next = begins.next;
       }
+
+  pub state_at_root : begun.machine.state ≡ Going number level
+  state_at_root = ap (λ (m : PlainMachine). m.state) is_at_root
+
+  pub none_at_root : begun.machine.answer ≡ None
+  none_at_root = ap (λ (m : PlainMachine). m.answer) is_at_root
+
+  pub comes_to_root : HasComeTo op (for_call me.0 op, me.1) then number level
+  comes_to_root = record { machine = begun.machine; read = read_at_root; state = state_at_root; none_yet = none_at_root }
 
 -- ---- any operation at a page
 

@@ -1,17 +1,39 @@
-use Rattle.std.proofs.Common.{◌≡◌, ◌≤◌, ◌+◌, ap, sym, ◌∙◌, subst}
+use Rattle.std.proofs.Common.{◌≡◌, ◌≤◌, ◌+◌, ap, sym, ◌∙◌, subst, arith}
 use Rattle.blink_batch.specs.{key_of}
 use Rattle.blink_page.specs.declared.limits.TheConstants.{MAX_PAGE}
 use Rattle.blink_rows.specs.{PlainCounts}
 use Rattle.blink_machine.specs.declared.machine.State.TheVariants.{Going}
-use Rattle.blink_machine.specs.{need_at}
+use Rattle.blink_machine.specs.{PlainMachine, SeesPrime, fresh, need_at}
 use Rattle.blink_live.specs.declared.view.Plan.{Plan}
-use Rattle.blink_live.specs.Views.{for_call, known_of}
-use Rattle.blink_live.proofs.found.DescentsGoOn.{at_page, goes_on_down, tells_way}
+use Rattle.blink_live.specs.Seats.{HasRead, IsDescending, going}
+use Rattle.blink_live.specs.Views.{SeatState, for_call, known_of}
+use Rattle.blink_live.proofs.found.DescentsGoOn.{at_page, goes_on_down, none_at_root, read_at_root, state_at_root, tells_way}
 use Rattle.blink_live.proofs.found.OperationsOnTheirWay.{comes_nearer, else_at_leaf, is_its_operation, is_its_seat, needs_on_its_way, page_in_range}
 use Rattle.blink_live.proofs.live.Live.descend.Goals as goal
 
-pub begin-machine-requires : goal.begin-machine-requires
-begin-machine-requires c = record { seat = c.requires.seat; idle = c.requires.idle; fits = c.requires.fits; can_begin = c.requires.can_begin }
+pub saw_top-requires-clause-few_levels : goal.saw_top-requires-clause-few_levels
+saw_top-requires-clause-few_levels c =
+    let begun = c.root-root.ensures.begun in
+    let few = begun.begins.few_levels in
+    let high = begun.top.top in
+    omega (arith, few, high)
+
+pub loop-number-init : goal.loop-number-init
+loop-number-init c =
+    let me : SeatState = c.args.seat.now.me in
+    let after : PlainMachine = c.saw_top.new.self in
+    let begun = c.root-root.ensures.begun in
+    let is_fresh : c.args.machine.now ≡ fresh me.0.plan.fan c.args.op = c.requires.fresh ∙ ap (λ fan. fresh fan c.args.op) (c.args.self.now.fan_is.0 ∙ sym (ap (λ (p : Plan). p.fan) c.requires.seat.same_plan)) in
+    let sees : SeesPrime (fresh me.0.plan.fan c.args.op) begun.begins.prime after = subst (λ (m : PlainMachine). SeesPrime m begun.begins.prime after) is_fresh (c.saw_top.ensures begun.begins.prime begun.top) in
+    let same : begun.machine ≡ after = sym (begun.begins.only after sees) in
+    let read = read_at_root c.args.op c.root-root.result.0 c.root-root.result.1 me c.root-root.new.seat.me begun in
+    let state = state_at_root c.args.op c.root-root.result.0 c.root-root.result.1 me c.root-root.new.seat.me begun in
+    let none_yet = none_at_root c.args.op c.root-root.result.0 c.root-root.result.1 me c.root-root.new.seat.me begun in record {
+      same_table = c.root-root.ensures.same;
+      read = subst (HasRead c.args.op (for_call me.0 c.args.op, me.1) c.root-root.new.seat.me) same read;
+      descends = subst (IsDescending c.args.op (known_of c.root-root.new.seat.me.0 (key_of c.args.op))) same
+          (going (record { same_job = read.same_job; on_its_way = (c.root-root.result.0, c.root-root.result.1, state) }) none_yet);
+    }
 
 pub read_page-way-requires : goal.read_page-way-requires
 read_page-way-requires c =
@@ -64,7 +86,7 @@ loop-number-smaller c =
 
 pub returns : goal.returns
 returns c =
-    let begun = c.begin-machine.ensures.begun.1 in
+    let begun = c.root-root.ensures.begun.begins in
     let same_counts : c.args.seat.now.me.0.plan.counts ≡ c.args.self.now.counts = ap (λ (p : Plan). p.counts) c.requires.seat.same_plan ∙ sym c.args.self.now.counts_are in
     record {
       same_table = c.loop-number.invariant.same_table;
