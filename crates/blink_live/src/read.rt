@@ -5,9 +5,10 @@
 ghost use Rattle.std.specs.Prelude.{◌≡◌, None, ℕ, ◌+◌, ◌*◌, ◌<◌, ◌≤◌, Some, List, Option, slice_get, slice_index, ◌⊎◌, length};
 ghost use Rattle.std.specs.Bool.{OnTrue, OnFalse};
 ghost use Rattle.blink_batch.specs.{FitsWords, key_of};
-ghost use Rattle.blink_page.specs.{place_of, value_at, PlainPage, IsRising};
+ghost use Rattle.blink_page.specs.{place_of, value_at, PlainPage, IsRising, IsLawfulPage};
+ghost use Rattle.blink_page.specs.declared.limits.TheConstants.{MAX_FAN};
 ghost use Rattle.blink_rows.specs.declared.limits.TheConstants.{ROW_WORDS};
-ghost use Rattle.blink_rows.specs.{IsPageRow, IsPrimeRow};
+ghost use Rattle.blink_rows.specs.{IsPrimeRow, page_words};
 ghost use Rattle.blink_machine.specs.{PlainMachine, fresh, NeedsPage, NeedsPrime, SeesPrime};
 ghost use Rattle.blink_live.specs.Seats.{BeginsAt, HasRead, IsAtLeaf, IsAtPage, IsPassSeat, IsSameSeat, ReadsPage, ReadsWay, TellsWayFor, ReadsPrime};
 ghost use Rattle.blink_live.specs.Views.{CanBegin, for_call, known_of};
@@ -17,14 +18,21 @@ ghost use Rattle.blink_live.specs.AtomicSteps.{Begins, LoadsPage, LoadsPrime};
 use crate::live::Live;
 use crate::rule::{Begin, Begun, LoadPage, LoadPrime, LoadWord};
 use crate::view::View;
+use arrayvec::ArrayVec;
 use atomic_table::Seat;
 use blink_batch::Op;
 use blink_machine::{Machine, State};
-use blink_page::Way;
-use blink_rows::{HEAD_WORDS, ROW_WORDS, row_page, row_prime};
+use blink_page::{Page, Way};
+use blink_rows::{HEAD_WORDS, ROW_WORDS, row_prime};
 use std::marker::Brand;
 
 // The places of a row's head words.
+const LEVEL: usize = 0;
+
+const HAS_FLOOR: usize = 1;
+
+const FLOOR: usize = 2;
+
 const HIGH_KEY: usize = 3;
 
 const RIGHT_LINK: usize = 4;
@@ -157,7 +165,7 @@ impl Live {
 
     // The place in the table where the row begins. The loads of its words share it, since each is a load that the compiler can't
     // move.
-    fn row_place(&self, row: u64) -> usize
+    pub(crate) fn row_place(&self, row: u64) -> usize
         requires row { IsRowNumber self.now.counts row }
         ensures start { result ≡ row_start self.now.counts row }
         ensures inside { result + ROW_WORDS ≤ word_count self.now.counts }
@@ -193,29 +201,38 @@ impl Live {
         ensures read { (row : ℕ) × LoadsPage machine.old number seat.old.me row machine.new seat.new.me }
     {
         let row = self.table.shared.load::<LoadPage>(seat, number as usize);
-        let words = self.read_row(seat, row);
-        let Some(page) = row_page(&words) else {
-            unreachable!()
-        };
-        // Read for the proof: a page is lawful.
-        let _level = page.level;
+        let page = self.page_in_row(seat, row);
         machine.saw_page(&page);
     }
 
-    // The row of the page that the seat reads. The words behind the page's are 0.
-    fn read_row(&self, seat: &mut Seat<u8, View>, row: u64) -> [u64; ROW_WORDS]
+    // The page whose row the seat reads. Its words aren't tested, since they are a lawful page's.
+    fn page_in_row(&self, seat: &mut Seat<u8, View>, row: u64) -> Page
         requires seat { IsPassSeat self.now seat.old.table_id seat.old.me }
         requires row { IsRowNumber self.now.counts row }
         requires page { (page : PlainPage) × ReadsPage seat.old.me row page }
         ensures same { IsSameSeat seat.old seat.new }
-        ensures words { (page : PlainPage) → ReadsPage seat.old.me row page → IsPageRow page result }
+        ensures page { (page : PlainPage) → ReadsPage seat.old.me row page → result ≡ page }
     {
         let start = self.row_place(row);
-        let mut words = [0; ROW_WORDS];
-        self.load_words(seat, start, &mut words, 0, HEAD_WORDS);
-        let stop = HEAD_WORDS + 2 * words[COUNT] as usize;
-        self.load_words(seat, start, &mut words, HEAD_WORDS, stop);
-        words
+        let level = self.load_word(seat, start, LEVEL);
+        let has_floor = self.load_word(seat, start, HAS_FLOOR);
+        let floor = self.load_word(seat, start, FLOOR);
+        let high = self.load_word(seat, start, HIGH_KEY);
+        let right = self.load_word(seat, start, RIGHT_LINK);
+        let count = self.load_word(seat, start, COUNT) as usize;
+        let mut items = ArrayVec::new();
+        for place in 0..count {
+            let at = HEAD_WORDS + 2 * place;
+            let key = self.load_word(seat, start, at);
+            items.push((key, self.load_word(seat, start, at + 1)));
+        }
+        Page {
+            level: level as u8,
+            floor: floor_of(has_floor, floor),
+            high,
+            right: link_of(right),
+            items,
+        }
     }
 
     // Loads the words of the row that begins at `start`, from `from` to before `to`.
@@ -288,4 +305,22 @@ fn kept_under(key: u64, found: u64, value: u64) -> Option<u64>
         → result ≡ value_at key entries }
 {
     if found == key { Some(value) } else { None }
+}
+
+// The floor that these two words of a page's row store.
+fn floor_of(has_floor: u64, word: u64) -> Option<u64>
+    ensures { (page : PlainPage) → has_floor ≡ slice_index (page_words page) 1
+        → word ≡ slice_index (page_words page) 2
+        → result ≡ page.floor }
+{
+    if has_floor == 0 { None } else { Some(word) }
+}
+
+// The right link that this word of a page's row stores.
+fn link_of(word: u64) -> Option<u32>
+    requires { (page : PlainPage) × IsLawfulPage MAX_FAN page × (word ≡ slice_index (page_words page) 4) }
+    ensures { (page : PlainPage) → IsLawfulPage MAX_FAN page → word ≡ slice_index (page_words page) 4
+        → result ≡ page.right }
+{
+    if word == 0 { None } else { Some(word as u32) }
 }
