@@ -1,6 +1,7 @@
 //! Dealing: the keeper gives a new pass keys, rows and page numbers. Here are also the reads of a keeper's and a pass's own
 //! fields.
-ghost use Rattle.std.specs.Prelude.{◌≡◌, ◌⊎◌, ◌↔◌, ℕ, ◌+◌, ◌*◌, ◌≤◌, IfOk, IfErr, OnOk, OnErr, IsErrOf, IsTrue, Contains, IsSorted, [], ◌<◌, length, take, slice_index, IfSome, IfNone};
+ghost use Rattle.std.specs.Prelude.{◌≡◌, ◌⊎◌, ◌↔◌, ◌++◌, ℕ, IsPermutation, ◌+◌, ◌*◌, ◌≤◌, IfOk, IfErr, OnOk, OnErr, IsErrOf, IsTrue, Contains, IsSorted, [], ◌<◌, length, take, slice_index, IfSome, IfNone};
+ghost use Rattle.std.specs.List.Sorted.{IsStrictlyIncreasing};
 ghost use Rattle.std.specs.Ordering.{nat_cmp};
 ghost use Rattle.blink_page.specs.declared.limits.TheConstants.{MAX_NEW_PAGES_PER_INSERT};
 ghost use Rattle.blink_live.specs.Dealing.{CanDeal, HasMet};
@@ -23,7 +24,7 @@ use std::marker::Brand;
 impl Live {
     /// Deals a pass with these keys, which no other pass has. The pass has room for `inserts` insertions and `deletes`
     /// deletions. Its share begins with the entries that the table was opened with. The call's work grows nearly linearly with
-    /// the keys and those dealt before. If memory is refused, it grows with the square of the keys.
+    /// the keys and those dealt before. If it refuses and memory is refused to it, it grows with the square of the keys.
     ///
     /// The call refuses first with `Taken`, which names the first key of the list that was dealt before or stands earlier in the
     /// list. Then it refuses with `NoAllowance` exactly if the keeper has fewer insertions or deletions left, or has dealt
@@ -156,19 +157,27 @@ impl Keeper {
         ensures refused { IfErr result IsDealRefusal }
     {
         let alloc = *self.taken.allocator();
-        let found = first_taken(alloc, &self.taken, keys);
-        if let Some(key) = found.first {
-            return Err(LiveError::Taken(key));
+        if let Ok(all) = joined(alloc, &self.taken, keys) {
+            if ascends(&all) && !self.lacks_allowance(inserts, deletes) {
+                return Ok(all);
+            }
         }
-        if self.lacks_allowance(inserts, deletes) {
-            return Err(LiveError::NoAllowance);
-        }
-        if found.refused {
-            return Err(LiveError::DealOutOfMemory);
-        }
-        match joined(alloc, &self.taken, keys) {
-            Ok(all) => Ok(all),
-            Err(_) => Err(LiveError::DealOutOfMemory),
+        Err(self.refusal(keys, inserts, deletes))
+    }
+
+    // The refusal of a deal of these keys: which one, if memory isn't what is lacking.
+    fn refusal(&self, keys: &[u64], inserts: u32, deletes: u32) -> LiveError
+        ensures taken { (key : ℕ) → result ≡ LiveError.Taken key
+            ↔ IsFirstTaken (taken_of self.now) keys.now key }
+        ensures no_allowance { result ≡ LiveError.NoAllowance
+            ↔ (NoneIsTaken (taken_of self.now) keys.now × LacksAllowance self.now inserts deletes) }
+        ensures refused { IsDealRefusal result }
+    {
+        let alloc = *self.taken.allocator();
+        match first_taken(alloc, &self.taken, keys) {
+            Some(key) => LiveError::Taken(key),
+            None if self.lacks_allowance(inserts, deletes) => LiveError::NoAllowance,
+            None => LiveError::DealOutOfMemory,
         }
     }
 
@@ -238,18 +247,11 @@ impl Met {
     }
 }
 
-// The first key of the list that was taken before or stands earlier in the list; and whether memory was refused.
-#[derive(Clone, Copy)]
-struct Search {
-    first: Option<u64>,
-    refused: bool,
-}
-
-// Looks for the first taken key of a list, in the list's order.
-fn first_taken(alloc: Global, taken: &[u64], keys: &[u64]) -> Search
+// Looks for the first key of a list, in the list's order, that was taken before or stands earlier in the list.
+fn first_taken(alloc: Global, taken: &[u64], keys: &[u64]) -> Option<u64>
     requires ascending { IsSorted nat_cmp taken.now }
-    ensures first { IfSome result.first (IsFirstTaken taken.now keys.now) }
-    ensures none { IfNone result.first (NoneIsTaken taken.now keys.now) }
+    ensures first { IfSome result (IsFirstTaken taken.now keys.now) }
+    ensures none { IfNone result (NoneIsTaken taken.now keys.now) }
 {
     let mut met = Met {
         keys: BTreeSet::new(alloc),
@@ -258,16 +260,22 @@ fn first_taken(alloc: Global, taken: &[u64], keys: &[u64]) -> Search
     for place in 0..keys.len() {
         let key = keys[place];
         if met.meets_again(keys, place) || is_among(taken, key) {
-            return Search {
-                first: Some(key),
-                refused: met.refused,
-            };
+            return Some(key);
         }
     }
-    Search {
-        first: None,
-        refused: met.refused,
+    None
+}
+
+// Whether each key is below the next.
+fn ascends(keys: &[u64]) -> bool
+    ensures { IsTrue result → IsStrictlyIncreasing keys.now }
+{
+    for place in 0..keys.len().saturating_sub(1) {
+        if keys[place] >= keys[place + 1] {
+            return false;
+        }
     }
+    true
 }
 
 // Whether the key is one of these.
@@ -323,8 +331,7 @@ fn reached(keys: &[u64], place: usize, key: u64) -> usize
 // The keys of both lists, ascending, in a new list.
 fn joined(alloc: Global, keys: &[u64], more: &[u64]) -> Result<Vec<u64>, AllocError>
     ensures ascending { IfOk result (λ all. IsSorted nat_cmp all.items) }
-    ensures of_both { IfOk result (λ all. (key : ℕ)
-        → Contains all.items key ↔ (Contains keys.now key ⊎ Contains more.now key)) }
+    ensures of_both { IfOk result (λ all. IsPermutation (keys.now ++ more.now) all.items) }
 {
     let mut all = Vec::with_capacity(alloc, keys.len() + more.len())?;
     all.extend_from_slice(keys)?;
