@@ -268,7 +268,8 @@ fn first_taken(alloc: Global, taken: &[u64], keys: &[u64]) -> Option<u64>
 
 // Whether each key is below the next.
 fn ascends(keys: &[u64]) -> bool
-    ensures { IsTrue result → IsStrictlyIncreasing keys.now }
+    ensures strictly { IsTrue result → IsStrictlyIncreasing keys.now }
+    ensures sorted { IsTrue result → IsSorted nat_cmp keys.now }
 {
     for place in 0..keys.len().saturating_sub(1) {
         if keys[place] >= keys[place + 1] {
@@ -328,14 +329,29 @@ fn reached(keys: &[u64], place: usize, key: u64) -> usize
     usize::from(keys[place] <= key)
 }
 
-// The keys of both lists, ascending, in a new list.
+// The keys of both lists in a new list, which ascends if the first list does: one merge, once the second is in order.
 fn joined(alloc: Global, keys: &[u64], more: &[u64]) -> Result<Vec<u64>, AllocError>
-    ensures ascending { IfOk result (λ all. IsSorted nat_cmp all.items) }
     ensures of_both { IfOk result (λ all. IsPermutation (keys.now ++ more.now) all.items) }
 {
-    let mut all = Vec::with_capacity(alloc, keys.len() + more.len())?;
-    all.extend_from_slice(keys)?;
-    all.extend_from_slice(more)?;
-    all.sort_unstable();
+    let mut others = Vec::with_capacity(alloc, more.len())?;
+    others.extend_from_slice(more)?;
+    others.sort_unstable();
+    merged(alloc, keys, &others)
+}
+
+// The keys of both lists in a new list, of the next keys of the two always the lesser.
+fn merged(alloc: Global, keys: &[u64], others: &[u64]) -> Result<Vec<u64>, AllocError>
+    ensures of_both { IfOk result (λ all. IsPermutation (keys.now ++ others.now) all.items) }
+{
+    let mut all = Vec::with_capacity(alloc, keys.len() + others.len())?;
+    let mut next = 0;
+    for &other in others {
+        while next < keys.len() && keys[next] < other {
+            all.push(keys[next])?;
+            next += 1;
+        }
+        all.push(other)?;
+    }
+    all.extend_from_slice(&keys[next..])?;
     Ok(all)
 }

@@ -1,5 +1,5 @@
 -- The keys of two lists in one ascending list: which they are, and that none stands twice where each is below the next.
-use Rattle.std.proofs.Common.{◌≡◌, ◌≢◌, ◌↔◌, ◌⊎◌, ℕ, ◌+◌, ◌<◌, Some, List, ◌++◌, [], ◌∷◌, zero, suc, length, take, get_or, ⊎_elim, sym, ◌∙◌, arith}
+use Rattle.std.proofs.Common.{◌≡◌, ◌≢◌, ◌↔◌, ◌⊎◌, ℕ, ◌+◌, ◌<◌, Some, List, ◌++◌, [], ◌∷◌, zero, suc, length, take, get_or, ⊎_elim, sym, ◌∙◌, arith, append_assoc, subst, ap}
 use Rattle.std.specs.Prelude.{Contains, slice_get, ◌==◌}
 use Rattle.std.specs.List.{AllPairs}
 use Rattle.std.specs.List.Sorted.{IsPermutation, IsStrictlyIncreasing}
@@ -7,7 +7,11 @@ use Rattle.std.proofs.lemmas.Bool.Decides.{Decides-eqb, nat_tests}
 use Rattle.std.proofs.lemmas.List.{get_or-append-add, get_or_append_left, get_or_default, length-append, length-take, get_or-take}
 use Rattle.std.proofs.lemmas.List.Elements.{Contains-append_left, Contains-append_right, Contains-append_cases}
 use Rattle.std.proofs.lemmas.List.Kept.{AllPairs-from_increasing}
-use Rattle.std.proofs.lemmas.List.Sorted.{Contains-permutation, IsPermutation-sym}
+use Rattle.std.proofs.lemmas.List.Sorted.{Contains-permutation, IsPermutation-append_comm, IsPermutation-append_left, IsPermutation-append_right, IsPermutation-middle, IsPermutation-sym, IsPermutation-trans}
+use Rattle.std.specs.Prelude.{IsSorted}
+use Rattle.std.specs.Ordering.{nat_cmp, is_lt}
+use Rattle.std.specs.Cmp.{nat_cmp_is}
+use Rattle.std.specs.declared.cmp.Ordering.TheVariants.{Greater}
 use Rattle.std.proofs.lemmas.Map.Keys.{IsDistinct-IsPermutation}
 use Rattle.std.proofs.lemmas.Map.Made.{AllPairs-from_IsDistinct, IsDistinct-from_AllPairs}
 use Rattle.blink_live.specs.Deals.{NoneIsTaken}
@@ -57,3 +61,32 @@ module _ (taken keys all : List ℕ) (moved : IsPermutation (taken ++ keys) all)
       let t = among_first keys place key earlier in
       not_twice (length taken + t.0) place (let low = t.1 in omega (arith, low)) here.0 (get_or-append-add taken keys t.0 0 ∙ t.3 ∙ sym here.1))
       is.again
+
+-- ---- a merge
+
+module _ (first second all : List ℕ) (moved : IsPermutation (first ++ second) all) (x : ℕ) where
+  -- one more key of the second list
+  pub second_more : IsPermutation (first ++ (second ++ x ∷ [])) (all ++ x ∷ [])
+  second_more = subst (λ (l : List ℕ). IsPermutation l (all ++ x ∷ [])) (append_assoc first second (x ∷ [])) (IsPermutation-append_left (x ∷ []) (first ++ second) all moved)
+
+  -- one more key of the first list
+  pub first_more : IsPermutation ((first ++ x ∷ []) ++ second) (all ++ x ∷ [])
+  first_more = subst (λ (l : List ℕ). IsPermutation l (all ++ x ∷ [])) (sym (append_assoc first (x ∷ []) second))
+      (IsPermutation-trans (first ++ x ∷ second) (x ∷ (first ++ second)) (all ++ x ∷ []) (IsPermutation-middle first x second)
+      (IsPermutation-trans (x ∷ (first ++ second)) ((first ++ second) ++ x ∷ []) (all ++ x ∷ []) (IsPermutation-append_comm (x ∷ []) (first ++ second)) (IsPermutation-append_left (x ∷ []) (first ++ second) all moved)))
+
+-- and all others of the first list
+pub rest_more : (first rest second all : List ℕ) → IsPermutation (first ++ second) all → IsPermutation ((first ++ rest) ++ second) (all ++ rest)
+rest_more first rest second all moved =
+    subst (λ (l : List ℕ). IsPermutation l (all ++ rest)) (sym (append_assoc first rest second))
+    (IsPermutation-trans (first ++ (rest ++ second)) (first ++ (second ++ rest)) (all ++ rest)
+    (IsPermutation-append_right first (rest ++ second) (second ++ rest) (IsPermutation-append_comm rest second))
+    (subst (λ (l : List ℕ). IsPermutation l (all ++ rest)) (append_assoc first second rest) (IsPermutation-append_left rest (first ++ second) all moved)))
+
+-- keys that rise are in order
+pub sorted_from_rising : (keys : List ℕ) → IsStrictlyIncreasing keys → IsSorted nat_cmp keys
+sorted_from_rising keys rises k d low inside =
+    let below = rises k inside in
+    let here : get_or keys k 0 ≡ get_or keys k d = get_or_default keys k 0 d (omega (arith, inside)) in
+    let next : get_or keys (k + 1) 0 ≡ get_or keys (k + 1) d = get_or_default keys (k + 1) 0 d inside in
+    ap is_lt (sym (nat_cmp_is (get_or keys (k + 1) d) (get_or keys k d) Greater (omega (arith, below, here, next))))
