@@ -1,14 +1,17 @@
 //! What callers of a table know from its contracts alone.
 #![tactic(auto)]
 
-ghost use Rattle.std.specs.Prelude.{◌≡◌, ◌≢◌, ℕ, Some, None, [], Contains, OnErr, OnOk};
+ghost use Rattle.std.specs.Prelude.{◌≡◌, ◌≢◌, ℕ, Some, None, [], Contains, IfOk, OnErr, OnOk};
 ghost use Rattle.blink_batch.specs.{pointer_of};
 ghost use Rattle.blink_batch.specs.declared.Op.TheVariants.{Insert};
-ghost use Rattle.blink_live.specs.{after, IsChangedBy, IsPassOf, IsSameBesideSeen, keys_of, opening_of, own_changes_of, seen_of, share_of};
-ghost use Rattle.blink_client.specs.Shown.{IsShown, IsShownTwice};
+ghost use Rattle.blink_live.specs.{after, IsChangedBy, IsKeeperOf, IsPassOf, IsSameBesideSeen, keys_of, opening_of, own_changes_of, seen_of, share_of};
+ghost use Rattle.blink_client.specs.Shown.{IsNewWith, IsShown, IsShownTwice};
 
 use blink_batch::Answer;
-use blink_live::{Live, Pass, PassError};
+use blink_index::Index;
+use blink_live::{Keeper, Live, LiveError, Pass, PassError};
+use blink_rows::Allowance;
+use std::alloc::Global;
 use std::sync::Wait;
 use std::thread::{Threads, join_mut};
 
@@ -61,6 +64,43 @@ pub fn insert_and_show_on<R: Wait>(
     let shown = live.glance(third, key);
     live.tell(third, one);
     Some(shown)
+}
+
+/// Opens a table over an index that lacks the key, deals a pass with the key and one without, and has them run as
+/// `insert_beside_a_reader` says. It returns what was shown: nothing, if the index has the key, or the insertion was refused.
+pub fn two_threads<R: Threads + Wait + Sync>(
+    rt: &R,
+    alloc: Global,
+    index: &Index,
+    key: u64,
+    pointer: u64,
+) -> Result<Option<Glances>, LiveError>
+    ensures shown { IfOk result (IsShownTwice pointer) }
+{
+    if index.find(key).is_some() {
+        return Ok(None);
+    }
+    let allowance = Allowance {
+        inserts: 1,
+        deletes: 0,
+    };
+    let (live, mut keeper) = Live::open(alloc, index, allowance)?;
+    let mut one = deal_key(alloc, &live, &mut keeper, key)?;
+    let mut other = live.deal(&mut keeper, Vec::new(alloc), 0, 0)?;
+    Ok(insert_beside_a_reader(rt, &live, &mut one, &mut other, key, pointer))
+}
+
+// Deals a pass with this key and room for one insertion.
+fn deal_key(alloc: Global, live: &Live, keeper: &mut Keeper, key: u64) -> Result<Pass, LiveError>
+    requires its_own { IsKeeperOf live.now keeper.old }
+    ensures new { IfOk result (IsNewWith live.now key) }
+    ensures keeper { OnOk result (IsKeeperOf live.now keeper.new) }
+{
+    let mut keys = Vec::new(alloc);
+    if keys.push(key).is_err() {
+        return Err(LiveError::DealOutOfMemory);
+    }
+    live.deal(keeper, keys, 1, 0)
 }
 
 /// What two glances at a key returned: one while another thread inserted the key, and one after its pass had told.
