@@ -85,13 +85,19 @@ pub fn two_threads<R: Threads + Wait + Sync>(
         deletes: 0,
     };
     let (live, mut keeper) = Live::open(alloc, index, allowance)?;
-    let mut one = deal_key(alloc, &live, &mut keeper, key)?;
+    let mut one = deal_key(alloc, &live, &mut keeper, key, 1)?;
     let mut other = live.deal(&mut keeper, Vec::new(alloc), 0, 0)?;
     Ok(insert_beside_a_reader(rt, &live, &mut one, &mut other, key, pointer))
 }
 
-// Deals a pass with this key and room for one insertion.
-fn deal_key(alloc: Global, live: &Live, keeper: &mut Keeper, key: u64) -> Result<Pass, LiveError>
+// Deals a pass with this key and room for so many insertions.
+fn deal_key(
+    alloc: Global,
+    live: &Live,
+    keeper: &mut Keeper,
+    key: u64,
+    inserts: u32,
+) -> Result<Pass, LiveError>
     requires its_own { IsKeeperOf live.now keeper.old }
     ensures new { IfOk result (IsNewWith live.now key) }
     ensures keeper { OnOk result (IsKeeperOf live.now keeper.new) }
@@ -100,7 +106,26 @@ fn deal_key(alloc: Global, live: &Live, keeper: &mut Keeper, key: u64) -> Result
     if keys.push(key).is_err() {
         return Err(LiveError::DealOutOfMemory);
     }
-    live.deal(keeper, keys, 1, 0)
+    live.deal(keeper, keys, inserts, 0)
+}
+
+/// Glances at a key that was never dealt, and shows what it returned to be the opening state: it deals the key, and its new owner,
+/// who has made no change, tells the pass. The call refuses where the deal does.
+pub fn glance_at_nobodys_key(
+    alloc: Global,
+    live: &Live,
+    keeper: &mut Keeper,
+    pass: &mut Pass,
+    key: u64,
+) -> Result<Option<u64>, LiveError>
+    requires its_keeper { IsKeeperOf live.now keeper.old }
+    requires its_pass { IsPassOf live.now pass.old }
+    ensures opening { IfOk result (λ shown. shown ≡ pointer_of (opening_of live.now) key) }
+{
+    let shown = live.glance(pass, key);
+    let mut owner = deal_key(alloc, live, keeper, key, 0)?;
+    live.tell(&mut owner, pass);
+    Ok(shown)
 }
 
 /// What two glances at a key returned: one while another thread inserted the key, and one after its pass had told.

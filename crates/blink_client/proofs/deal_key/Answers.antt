@@ -24,8 +24,8 @@ pushed (Err e) key old new good none is = absurd (true≢false (sym good))
 has : (key : ℕ) → Contains (key ∷ []) key
 has key = (0, omega arith, refl)
 
-new_with : (live : Live) (keeper : Keeper) (key : ℕ) (keys : List ℕ) → keys ≡ key ∷ [] → (pass : Pass) → IsDealt live keeper keys 1 0 pass → IsNewWith live key pass
-new_with live keeper key keys is pass dealt =
+new_with : (live : Live) (keeper : Keeper) (key inserts : ℕ) (keys : List ℕ) → keys ≡ key ∷ [] → (pass : Pass) → IsDealt live keeper keys inserts 0 pass → IsNewWith live key pass
+new_with live keeper key inserts keys is pass dealt =
     let there : Contains keys key = subst (λ (l : List ℕ). Contains l key) (sym is) (has key) in record {
       its_own = dealt.its_own;
       own_key = Contains-permutation keys _ key dealt.same_keys there;
@@ -35,4 +35,4 @@ new_with live keeper key keys is pass dealt =
 
 pub returns-clause-new : goal.returns-clause-new
 returns-clause-new c =
-    ok_so c.deal.result (new_with c.args.live.now c.args.keeper.now c.args.key c.push.new.self.items (pushed c.push.result c.args.key c.new-keys.result.items c.push.new.self.items c.if-is_err.ensures.value c.new-keys.ensures.items c.push.ensures.items)) c.deal.ensures.dealt
+    ok_so c.deal.result (new_with c.args.live.now c.args.keeper.now c.args.key c.args.inserts c.push.new.self.items (pushed c.push.result c.args.key c.new-keys.result.items c.push.new.self.items c.if-is_err.ensures.value c.new-keys.ensures.items c.push.ensures.items)) c.deal.ensures.dealt
