@@ -48,10 +48,13 @@ below() {
     done
 }
 
-# How many processors a crate's check may use: those that the others wait for get all, the others one, so that they don't slow these.
+# How many processors a crate's check may use: all where nothing else can be done beside it, half where two crates that the others
+# wait for are done side by side, and else one, so that it doesn't slow these.
 jobs_of() {
+    processors=$(nproc)
     case $1 in
-    blink_page | blink_store | blink_rest | blink_machine | blink_index | blink_live | blink_run) nproc ;;
+    blink_machine | blink_run) echo "$processors" ;;
+    blink_batch | blink_page | blink_store | blink_rest | blink_index | blink_steps | blink_live) echo $(((processors + 1) / 2)) ;;
     *) echo 1 ;;
     esac
 }

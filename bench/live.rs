@@ -1,18 +1,15 @@
 //! Finds in Rust's `BTreeMap` by threads, each with keys of its own, timed: the same keys and finds as in live.rt.txt.
 //!
-//! `live finds lock THREADS` has the map under a `RwLock`, which each find takes for reading, and `live finds plain
-//! THREADS` has it without a lock. Each prints how many finds found their key, the sum of the pointers found, without carry
+//! `live finds lock THREADS ENTRIES` has a map of so many entries under a `RwLock`, which each find takes for reading, and
+//! `live finds plain THREADS ENTRIES` has it without a lock. Each prints how many finds found their key, the sum of the pointers found, without carry
 //! beyond 64 bits, and the nanoseconds that all finds took. live_mixed.rs has `live mixed`.
 mod live_mixed;
 
-use live_mixed::time_mixed;
+use live_mixed::{Keys, time_mixed};
 use std::collections::BTreeMap;
 use std::sync::RwLock;
 use std::thread;
 use std::time::Instant;
-
-/// How many entries the map has.
-const ENTRIES: u64 = 40_000;
 
 /// How many finds all threads make together.
 const FINDS: u64 = 1_000_000;
@@ -37,7 +34,7 @@ fn streams(keys: &[u64], threads: u64) -> Vec<Vec<u64>> {
     let finds = FINDS / threads;
     keys.chunks(keys.len().div_ceil(threads as usize))
         .zip(0..)
-        .map(|(part, turn)| picked(part, ENTRIES + turn * finds, finds))
+        .map(|(part, turn)| picked(part, keys.len() as u64 + turn * finds, finds))
         .collect()
 }
 
@@ -72,8 +69,8 @@ fn run(streams: &[Vec<u64>], find: impl Fn(u64) -> Option<u64> + Sync) {
 }
 
 // Times finds by so many threads, and prints what came of it.
-fn time_finds(kind: &str, threads: u64) {
-    let keys: Vec<u64> = (0..ENTRIES).map(spread).collect();
+fn time_finds(kind: &str, threads: u64, entries: u64) {
+    let keys: Vec<u64> = (0..entries).map(spread).collect();
     let streams = streams(&keys, threads);
     // As in live.rt.txt, each key's pointer is its bits turned over.
     let map: BTreeMap<u64, u64> = keys.iter().map(|&key| (key, !key)).collect();
@@ -90,10 +87,13 @@ fn main() {
     let words: Vec<String> = std::env::args().skip(1).collect();
     let words: Vec<&str> = words.iter().map(String::as_str).collect();
     match words[..] {
-        ["finds", kind, threads] => time_finds(kind, threads.parse().unwrap()),
-        ["mixed", kind, finds, threads] => {
-            time_mixed(kind, finds.parse().unwrap(), threads.parse().unwrap());
+        ["finds", kind, threads, entries] => {
+            time_finds(kind, threads.parse().unwrap(), entries.parse().unwrap());
         }
-        _ => panic!("finds KIND THREADS, or mixed KIND FINDS THREADS"),
+        ["mixed", kind, keys, finds, threads] => {
+            let keys = Keys::named(keys);
+            time_mixed(kind, keys, finds.parse().unwrap(), threads.parse().unwrap());
+        }
+        _ => panic!("finds KIND THREADS ENTRIES, or mixed KIND KEYS FINDS THREADS"),
     }
 }

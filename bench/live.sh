@@ -1,12 +1,14 @@
 #!/bin/sh
-# Times a table of blink_live by 1 and by 4 threads, each with keys of its own, on an index of 40,000 entries, against
-# Rust's BTreeMap, for each fan that is given (16 where none is):
+# Times a table of blink_live by 1, by 4 and by 8 threads, each with keys of its own, on an index of 40,000 entries,
+# against Rust's BTreeMap, for each fan that is given (16 where none is):
 #
 #     bench/live.sh [FAN ..]
 #
-# First finds: against the map under a RwLock that each find takes for reading, and without a lock. Then finds with
-# insertions and deletions, 80 + 10 + 10 and 90 + 5 + 5 of a hundred: against the map under a Mutex, and under a RwLock
-# that finds take for reading and the others for writing.
+# First finds, by 1 and by 4 threads also on an index of 1,000,000 entries: against the map under a RwLock that each find
+# takes for reading, and without a lock. Then finds with insertions and deletions, 80 + 10 + 10 and 90 + 5 + 5 of a hundred:
+# against the map under a Mutex, and under a RwLock that finds take for reading and the others for writing. Last the same
+# 80 + 10 + 10 on 1,000 entries whose keys follow one another, each thread with every so manyth of them, so that all threads
+# meet in the same leaves.
 #
 # No lock and no thread crosses to Rust in a static library, so two programs make the same operations: live.rt.txt with
 # live_mixed.rt.txt, and live.rs with live_mixed.rs. They are run in turn, nine times, and what they answered is compared,
@@ -36,7 +38,7 @@ cd crates/live_bench
 cp "$here/live.rt.txt" src/main.rt
 cp "$here/live_mixed.rt.txt" src/mixed.rt
 cp "$here/live_mixed.antt.txt" proofs/mixed/carried_out/Invariants.antt
-if ! rt run -- finds 1 16 >run.log 2>&1; then
+if ! rt run -- finds 1 16 40000 >run.log 2>&1; then
     cat run.log >&2
     exit 1
 fi
@@ -71,7 +73,7 @@ common='
 # The medians of rounds of finds. A line has what each program prints: how many finds found their key, the sum of what
 # they found, and the nanoseconds that all took.
 tell_finds() {
-    awk -v threads="$1" "$common"'
+    awk -v threads="$1" -v entries="$2" "$common"'
         NF != 9 || !are_same(1, 4, 7) || !are_same(2, 5, 8) {
             refuse()
         }
@@ -84,7 +86,7 @@ tell_finds() {
         }
         END {
             if (!differ) {
-                printf "%s, a find: ", count_of_threads()
+                printf "%s, a find among %d: ", count_of_threads(), entries
                 printf "table %.1f ns, RwLock %.1f ns, BTreeMap %.1f ns, ", median(table), median(lock), median(plain)
                 printf "ratios %.2f and %.2f (checksums agree)\n", median(to_lock), median(to_plain)
             }
@@ -95,7 +97,7 @@ tell_finds() {
 # of them changed the map, the sum of the answers, that of the entries at the end, and the nanoseconds that all took; for
 # the table also those that opening and closing took.
 tell_mixed() {
-    awk -v finds="$1" -v threads="$2" "$common"'
+    awk -v keys="$1" -v finds="$2" -v threads="$3" "$common"'
         NF != 17 || !are_same(1, 8, 13) || !are_same(2, 9, 14) || !are_same(3, 10, 15) || !are_same(4, 11, 16) {
             refuse()
         }
@@ -112,7 +114,7 @@ tell_mixed() {
         END {
             if (!differ) {
                 updates = (100 - finds) / 2
-                printf "%s, %d finds + %d insertions + %d deletions", count_of_threads(), finds, updates, updates
+                printf "%s, %s keys, %d finds + %d insertions + %d deletions", count_of_threads(), keys, finds, updates, updates
                 printf " of a hundred, %d changes, an operation: ", changes
                 printf "table %.1f ns, Mutex %.1f ns, RwLock %.1f ns, ", median(table), median(mutex), median(lock)
                 printf "ratios %.2f and %.2f (checksums agree)\n", median(to_mutex), median(to_lock)
@@ -121,20 +123,36 @@ tell_mixed() {
         }'
 }
 
+# Rounds of finds by so many threads among so many entries.
+time_finds() {
+    for _ in $(seq 1 $rounds); do
+        table=$(out/live_bench finds "$2" "$1" "$3")
+        echo "$table $(./live finds lock "$2" "$3") $(./live finds plain "$2" "$3")"
+    done | tell_finds "$2" "$3"
+}
+
+# Rounds of mixed work on these keys, with so many finds in a hundred operations, by so many threads.
+time_mixed() {
+    for _ in $(seq 1 $rounds); do
+        table=$(out/live_bench mixed "$2" "$3" "$4" "$1")
+        echo "$table $(./live mixed mutex "$2" "$3" "$4") $(./live mixed lock "$2" "$3" "$4")"
+    done | tell_mixed "$2" "$3" "$4"
+}
+
 for fan in "${@:-16}"; do
     echo "fan $fan"
+    for threads in 1 4 8; do
+        time_finds "$fan" $threads 40000
+    done
     for threads in 1 4; do
-        for _ in $(seq 1 $rounds); do
-            table=$(out/live_bench finds $threads "$fan")
-            echo "$table $(./live finds lock $threads) $(./live finds plain $threads)"
-        done | tell_finds $threads
+        time_finds "$fan" $threads 1000000
     done
     for finds in 80 90; do
-        for threads in 1 4; do
-            for _ in $(seq 1 $rounds); do
-                table=$(out/live_bench mixed $finds $threads "$fan")
-                echo "$table $(./live mixed mutex $finds $threads) $(./live mixed lock $finds $threads)"
-            done | tell_mixed $finds $threads
+        for threads in 1 4 8; do
+            time_mixed "$fan" spread $finds $threads
         done
+    done
+    for threads in 1 4 8; do
+        time_mixed "$fan" near 80 $threads
     done
 done

@@ -1,19 +1,58 @@
 //! Finds, insertions and deletions in Rust's `BTreeMap` under a lock by threads, each with keys of its own, timed: the same
 //! operations as in live_mixed.rt.txt.
 //!
-//! `live mixed mutex FINDS THREADS` has the map under a `Mutex`, and `live mixed lock FINDS THREADS` under a `RwLock`, which
-//! finds take for reading and the others for writing. FINDS tells how many of a hundred operations are finds. Each prints
-//! how many operations were answered, how many of them changed the map, a sum of all answers, one of the entries at the
+//! `live mixed mutex KEYS FINDS THREADS` has the map under a `Mutex`, and `live mixed lock KEYS FINDS THREADS` under a
+//! `RwLock`, which finds take for reading and the others for writing. KEYS tells which keys there are, `spread` or `near`,
+//! and FINDS how many of a hundred operations are finds. Each prints how many operations were answered, how many of them changed the map, a sum of all answers, one of the entries at the
 //! end, and the nanoseconds that all operations took.
-use crate::{ENTRIES, spread};
+use crate::spread;
 use std::collections::BTreeMap;
 use std::collections::btree_map::Entry;
 use std::sync::{Mutex, RwLock};
 use std::thread;
 use std::time::Instant;
 
-/// How many keys that the map doesn't have are there to be inserted.
-const FRESH: u64 = 10_000;
+/// Which keys there are. Each is one thread's own, by what is left of it after a division by the number of threads.
+#[derive(Clone, Copy)]
+pub struct Keys {
+    /// How many entries the map has.
+    entries: u64,
+    /// How many keys that it doesn't have are there to be inserted.
+    fresh: u64,
+    /// Whether the keys follow one another without a gap, so that all threads meet in few leaves.
+    near: bool,
+}
+
+/// How many keys are near each other.
+const NEAR: u64 = 1_250;
+
+impl Keys {
+    /// The keys that this word names.
+    pub fn named(word: &str) -> Keys {
+        match word {
+            "spread" => Keys {
+                entries: 40_000,
+                fresh: 10_000,
+                near: false,
+            },
+            "near" => Keys {
+                entries: 1_000,
+                fresh: 250,
+                near: true,
+            },
+            _ => panic!("spread or near"),
+        }
+    }
+
+    // The key at a place. No two places below the number of all keys have the same.
+    fn at(&self, place: u64) -> u64 {
+        if self.near {
+            place.wrapping_mul(7_919) % NEAR
+        } else {
+            spread(place)
+        }
+    }
+}
 
 /// About how many insertions and deletions all threads make together.
 const UPDATES: u64 = 20_000;
@@ -40,10 +79,10 @@ fn picked(keys: &[u64], number: u64) -> u64 {
     keys[(number % keys.len() as u64) as usize]
 }
 
-// The keys at these places of the sequence that belong to this one of so many threads.
-fn own_keys(from: u64, count: u64, turn: u64, threads: u64) -> Vec<u64> {
+// The keys at these places that belong to this one of so many threads.
+fn own_keys(all: Keys, from: u64, count: u64, turn: u64, threads: u64) -> Vec<u64> {
     (from..from + count)
-        .map(spread)
+        .map(|place| all.at(place))
         .filter(|key| key % threads == turn)
         .collect()
 }
@@ -51,12 +90,12 @@ fn own_keys(from: u64, count: u64, turn: u64, threads: u64) -> Vec<u64> {
 // The operations of this one of so many threads, with so many finds in a hundred: of keys that were there first or were
 // inserted since. Of the other operations one half are insertions, of keys that weren't there first and of keys that were
 // deleted, and one half are deletions.
-fn stream(turn: u64, threads: u64, finds: u64) -> Vec<Op> {
-    let mut known = own_keys(0, ENTRIES, turn, threads);
-    let fresh = own_keys(ENTRIES, FRESH, turn, threads);
+fn stream(all: Keys, turn: u64, threads: u64, finds: u64) -> Vec<Op> {
+    let mut known = own_keys(all, 0, all.entries, turn, threads);
+    let fresh = own_keys(all, all.entries, all.fresh, turn, threads);
     let mut taken = Vec::new();
     let count = UPDATES * 100 / (100 - finds) / threads;
-    let from = turn * count + ENTRIES + FRESH;
+    let from = turn * count + all.entries + all.fresh;
     let inserts = (finds + 100) / 2;
     (from..from + count)
         .map(|place| {
@@ -217,12 +256,15 @@ fn run(shared: impl Shared, streams: &[Vec<Op>]) {
 }
 
 /// Times so many threads, with so many finds in a hundred operations, and prints what came of it.
-pub fn time_mixed(kind: &str, finds: u64, threads: u64) {
+pub fn time_mixed(kind: &str, keys: Keys, finds: u64, threads: u64) {
     let streams: Vec<_> = (0..threads)
-        .map(|turn| stream(turn, threads, finds))
+        .map(|turn| stream(keys, turn, threads, finds))
         .collect();
     // As in live.rt.txt, each key's pointer is its bits turned over.
-    let map: Map = (0..ENTRIES).map(spread).map(|key| (key, !key)).collect();
+    let map: Map = (0..keys.entries)
+        .map(|place| keys.at(place))
+        .map(|key| (key, !key))
+        .collect();
     match kind {
         "mutex" => run(Mutex::new(map), &streams),
         _ => run(RwLock::new(map), &streams),

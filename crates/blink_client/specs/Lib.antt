@@ -1,6 +1,6 @@
 -- What a caller of `blink_client` reads, in this order; then what proofs above it need; then the files themselves.
 
 -- what was shown
-pub use Rattle.blink_client.specs.Shown.{IsShown}
+pub use Rattle.blink_client.specs.Shown.{IsNewWith, IsShown, IsShownTwice}
 -- ---- the files
 pub mod Shown

@@ -7,3 +7,4 @@ pub mod DealsKeepTable
 pub mod KeeperCanDeal
 pub mod RefusalsOfDeal
 pub mod LatchNumbers
+pub mod KeyIsFound

@@ -6,3 +6,4 @@ pub mod EntriesInRow
 pub mod RootInRow
 pub mod WaysFromRow
 pub mod OperationsOnTheirWay
+pub mod DescentsGoOn

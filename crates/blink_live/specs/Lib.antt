@@ -36,6 +36,7 @@ pub mod AtomicSteps
 pub mod Seats
 pub mod Updating
 pub mod Dealing
+pub mod KeyTest
 pub mod Words
 pub mod Laid
 pub mod Laying

@@ -5,7 +5,7 @@ use Rattle.atomic_table.specs.declared.Seat.{Seat}
 use Rattle.atomic_table.specs.Seated.{TableId}
 use Rattle.blink_batch.specs.declared.Op.{Op}
 use Rattle.blink_batch.specs.declared.Op.TheVariants.{Find}
-use Rattle.blink_batch.specs.{answer_at}
+use Rattle.blink_batch.specs.{FitsWords, answer_at, key_of}
 use Rattle.blink_page.specs.{value_at, PlainPage, IsLawfulPage, Leads}
 use Rattle.blink_page.specs.declared.limits.TheConstants.{LEVELS, MAX_FAN}
 use Rattle.blink_page.specs.declared.search.Way.{Way}
@@ -13,12 +13,12 @@ use Rattle.blink_page.specs.declared.search.Way.TheVariants.{Here}
 use Rattle.blink_rows.specs.{page_words, prime_words}
 use Rattle.blink_rows.specs.declared.span.Span.{Span}
 use Rattle.blink_machine.specs.declared.machine.Job.TheVariants.{Leaf}
-use Rattle.blink_machine.specs.declared.machine.State.TheVariants.{Want, Ended}
-use Rattle.blink_machine.specs.{IsOnItsWay, PlainMachine, goes_on, IsUpdate}
+use Rattle.blink_machine.specs.declared.machine.State.TheVariants.{Going, Want, Ended}
+use Rattle.blink_machine.specs.{IsOnItsWay, IsTopLeftmost, PlainMachine, goes_on, IsUpdate}
 use Rattle.blink_live.specs.declared.live.Live.{Live}
 use Rattle.blink_live.specs.declared.view.Role.TheVariants.{Pass}
 use Rattle.blink_live.specs.declared.view.View.{View}
-use Rattle.blink_live.specs.AtomicSteps.{CanGoOn}
+use Rattle.blink_live.specs.AtomicSteps.{Begins, CanGoOn, LoadsPage}
 use Rattle.blink_live.specs.Views.{SeatState, KnowsItsOwn, SameBesideReads, plan_of}
 
 -- the seat is that of a pass of this table
@@ -75,3 +75,33 @@ pub record HasRead (op : Op) (first me : SeatState) (m : PlainMachine) : Type 0 
   pub same_op : m.op ≡ op
   pub same_job : m.job ≡ Leaf
   pub next : CanGoOn first.0.plan m
+
+-- ---- a descent, a page at a time
+
+-- the operation has begun, and this is the root
+pub record BeginsAt (op : Op) (me : SeatState) (number level : ℕ) (then : SeatState) : Type 0 where
+  pub row : ℕ
+  pub machine : PlainMachine
+  pub begins : Begins op me row machine then
+  pub top : IsTopLeftmost begins.prime level number
+
+-- the operation needs the page of this number and level next, to look for this key
+pub record IsAtPage (m : PlainMachine) (key number level : ℕ) : Type 0 where
+  pub state : m.state ≡ Going number level
+  pub same_job : m.job ≡ Leaf
+  pub same_key : key_of m.op ≡ key
+  pub fits : FitsWords m.op
+
+-- the operation has read the page of this number, from which the key leads this way
+pub record ReadsWay (m : PlainMachine) (key number : ℕ) (me : SeatState) (way : Way) (kept : Option ℕ) (then : SeatState) : Type 0 where
+  pub row : ℕ
+  pub machine : PlainMachine
+  pub loads : LoadsPage m number me row machine then
+  pub tells : TellsWayFor key loads.page way kept
+
+-- the operation needs the page of this number and level next, and hasn't answered yet
+pub record HasComeTo (op : Op) (first me : SeatState) (number level : ℕ) : Type 0 where
+  pub machine : PlainMachine
+  pub read : HasRead op first me machine
+  pub state : machine.state ≡ Going number level
+  pub none_yet : machine.answer ≡ None

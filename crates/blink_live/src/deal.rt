@@ -1,11 +1,13 @@
 //! Dealing: the keeper gives a new pass keys, rows and page numbers. Here are also the reads of a keeper's and a pass's own
 //! fields.
-ghost use Rattle.std.specs.Prelude.{◌≡◌, ◌⊎◌, ◌↔◌, ℕ, ◌+◌, ◌*◌, ◌≤◌, IfOk, IfErr, OnOk, OnErr, IsErrOf, IsTrue, Contains, IsSorted, [], ◌<◌, length, take, slice_index, IfSome, IfNone};
+ghost use Rattle.std.specs.Prelude.{◌≡◌, ◌⊎◌, ◌↔◌, ◌++◌, ℕ, IsPermutation, ◌+◌, ◌*◌, ◌≤◌, IfOk, IfErr, OnOk, OnErr, IsErrOf, IsTrue, Contains, IsSorted, [], ◌<◌, length, take, slice_index, IfSome, IfNone};
+ghost use Rattle.std.specs.List.Sorted.{IsStrictlyIncreasing};
 ghost use Rattle.std.specs.Ordering.{nat_cmp};
 ghost use Rattle.blink_page.specs.declared.limits.TheConstants.{MAX_NEW_PAGES_PER_INSERT};
 ghost use Rattle.blink_live.specs.Dealing.{CanDeal, HasMet};
 ghost use Rattle.blink_live.specs.Deals.{IsFirstTaken, NoneIsTaken, LacksAllowance, IsDealt, HasDealt, IsDealRefusal, rows_for};
 ghost use Rattle.blink_live.specs.Handles.{IsKeeperOf, taken_of, keys_of};
+ghost use Rattle.blink_live.specs.KeyTest.{HasReached, IsWindow};
 ghost use Rattle.blink_live.specs.Views.{span, keeps_rest, gets_first};
 
 use crate::error::LiveError;
@@ -22,7 +24,7 @@ use std::marker::Brand;
 impl Live {
     /// Deals a pass with these keys, which no other pass has. The pass has room for `inserts` insertions and `deletes`
     /// deletions. Its share begins with the entries that the table was opened with. The call's work grows nearly linearly with
-    /// the keys and those dealt before. If memory is refused, it grows with the square of the keys.
+    /// the keys and those dealt before. If it refuses and memory is refused to it, it grows with the square of the keys.
     ///
     /// The call refuses first with `Taken`, which names the first key of the list that was dealt before or stands earlier in the
     /// list. Then it refuses with `NoAllowance` exactly if the keeper has fewer insertions or deletions left, or has dealt
@@ -155,19 +157,27 @@ impl Keeper {
         ensures refused { IfErr result IsDealRefusal }
     {
         let alloc = *self.taken.allocator();
-        let found = first_taken(alloc, &self.taken, keys);
-        if let Some(key) = found.first {
-            return Err(LiveError::Taken(key));
+        if let Ok(all) = joined(alloc, &self.taken, keys) {
+            if ascends(&all) && !self.lacks_allowance(inserts, deletes) {
+                return Ok(all);
+            }
         }
-        if self.lacks_allowance(inserts, deletes) {
-            return Err(LiveError::NoAllowance);
-        }
-        if found.refused {
-            return Err(LiveError::DealOutOfMemory);
-        }
-        match joined(alloc, &self.taken, keys) {
-            Ok(all) => Ok(all),
-            Err(_) => Err(LiveError::DealOutOfMemory),
+        Err(self.refusal(keys, inserts, deletes))
+    }
+
+    // The refusal of a deal of these keys: which one, if memory isn't what is lacking.
+    fn refusal(&self, keys: &[u64], inserts: u32, deletes: u32) -> LiveError
+        ensures taken { (key : ℕ) → result ≡ LiveError.Taken key
+            ↔ IsFirstTaken (taken_of self.now) keys.now key }
+        ensures no_allowance { result ≡ LiveError.NoAllowance
+            ↔ (NoneIsTaken (taken_of self.now) keys.now × LacksAllowance self.now inserts deletes) }
+        ensures refused { IsDealRefusal result }
+    {
+        let alloc = *self.taken.allocator();
+        match first_taken(alloc, &self.taken, keys) {
+            Some(key) => LiveError::Taken(key),
+            None if self.lacks_allowance(inserts, deletes) => LiveError::NoAllowance,
+            None => LiveError::DealOutOfMemory,
         }
     }
 
@@ -237,18 +247,11 @@ impl Met {
     }
 }
 
-// The first key of the list that was taken before or stands earlier in the list; and whether memory was refused.
-#[derive(Clone, Copy)]
-struct Search {
-    first: Option<u64>,
-    refused: bool,
-}
-
-// Looks for the first taken key of a list, in the list's order.
-fn first_taken(alloc: Global, taken: &[u64], keys: &[u64]) -> Search
+// Looks for the first key of a list, in the list's order, that was taken before or stands earlier in the list.
+fn first_taken(alloc: Global, taken: &[u64], keys: &[u64]) -> Option<u64>
     requires ascending { IsSorted nat_cmp taken.now }
-    ensures first { IfSome result.first (IsFirstTaken taken.now keys.now) }
-    ensures none { IfNone result.first (NoneIsTaken taken.now keys.now) }
+    ensures first { IfSome result (IsFirstTaken taken.now keys.now) }
+    ensures none { IfNone result (NoneIsTaken taken.now keys.now) }
 {
     let mut met = Met {
         keys: BTreeSet::new(alloc),
@@ -257,16 +260,23 @@ fn first_taken(alloc: Global, taken: &[u64], keys: &[u64]) -> Search
     for place in 0..keys.len() {
         let key = keys[place];
         if met.meets_again(keys, place) || is_among(taken, key) {
-            return Search {
-                first: Some(key),
-                refused: met.refused,
-            };
+            return Some(key);
         }
     }
-    Search {
-        first: None,
-        refused: met.refused,
+    None
+}
+
+// Whether each key is below the next.
+fn ascends(keys: &[u64]) -> bool
+    ensures strictly { IsTrue result → IsStrictlyIncreasing keys.now }
+    ensures sorted { IsTrue result → IsSorted nat_cmp keys.now }
+{
+    for place in 0..keys.len().saturating_sub(1) {
+        if keys[place] >= keys[place + 1] {
+            return false;
+        }
     }
+    true
 }
 
 // Whether the key is one of these.
@@ -274,18 +284,74 @@ fn is_among(keys: &[u64], key: u64) -> bool
     requires ascending { IsSorted nat_cmp keys.now }
     ensures { IsTrue result ↔ Contains keys.now key }
 {
-    keys.binary_search(&key).is_ok()
+    let place = place_of_key(keys, key);
+    place < keys.len() && keys[place] == key
 }
 
-// The keys of both lists, ascending, in a new list.
-fn joined(alloc: Global, keys: &[u64], more: &[u64]) -> Result<Vec<u64>, AllocError>
-    ensures ascending { IfOk result (λ all. IsSorted nat_cmp all.items) }
-    ensures of_both { IfOk result (λ all. (key : ℕ)
-        → Contains all.items key ↔ (Contains keys.now key ⊎ Contains more.now key)) }
+// The place of the last key that is at most `key`; 0 if there is none.
+fn place_of_key(keys: &[u64], key: u64) -> usize
+    requires ascending { IsSorted nat_cmp keys.now }
+    ensures { IsWindow keys.now key result 1 ⊎ (length keys.now ≡ 0) }
 {
-    let mut all = Vec::with_capacity(alloc, keys.len() + more.len())?;
-    all.extend_from_slice(keys)?;
-    all.extend_from_slice(more)?;
-    all.sort_unstable();
+    let (mut first, mut size) = quartered(keys, key);
+    while size > 1 {
+        first += reached(keys, first + 1, key);
+        size -= 1;
+    }
+    first
+}
+
+// Narrows the keys down to at most three, in steps that each leave a quarter. A step has no branch on a key, which would be
+// mispredicted every other time: it counts the quarters that it passes. Its three loads are on their way at once.
+fn quartered(keys: &[u64], key: u64) -> (usize, usize)
+    requires ascending { IsSorted nat_cmp keys.now }
+    ensures window { IsWindow keys.now key result.0 result.1 }
+    ensures small { (result.1 ≡ 0) ↔ (length keys.now ≡ 0) }
+{
+    let mut first = 0;
+    let mut size = keys.len();
+    while size > 3 {
+        let quarter = size / 4;
+        let passed = reached(keys, first + quarter, key)
+            + reached(keys, first + 2 * quarter, key)
+            + reached(keys, first + 3 * quarter, key);
+        first += quarter * passed;
+        size -= 3 * quarter;
+    }
+    (first, size)
+}
+
+// 1 for a key that is at most `key`, and 0 for any other.
+fn reached(keys: &[u64], place: usize, key: u64) -> usize
+    requires inside { place < length keys.now }
+    ensures { HasReached keys.now key place result }
+{
+    usize::from(keys[place] <= key)
+}
+
+// The keys of both lists in a new list, which ascends if the first list does: one merge, once the second is in order.
+fn joined(alloc: Global, keys: &[u64], more: &[u64]) -> Result<Vec<u64>, AllocError>
+    ensures of_both { IfOk result (λ all. IsPermutation (keys.now ++ more.now) all.items) }
+{
+    let mut others = Vec::with_capacity(alloc, more.len())?;
+    others.extend_from_slice(more)?;
+    others.sort_unstable();
+    merged(alloc, keys, &others)
+}
+
+// The keys of both lists in a new list, of the next keys of the two always the lesser.
+fn merged(alloc: Global, keys: &[u64], others: &[u64]) -> Result<Vec<u64>, AllocError>
+    ensures of_both { IfOk result (λ all. IsPermutation (keys.now ++ others.now) all.items) }
+{
+    let mut all = Vec::with_capacity(alloc, keys.len() + others.len())?;
+    let mut next = 0;
+    for &other in others {
+        while next < keys.len() && keys[next] < other {
+            all.push(keys[next])?;
+            next += 1;
+        }
+        all.push(other)?;
+    }
+    all.extend_from_slice(&keys[next..])?;
     Ok(all)
 }

@@ -15,6 +15,7 @@ use crate::room::{changes_left, next_of};
 use crate::view::View;
 use atomic_table::Seat;
 use blink_batch::{Answer, Op};
+use blink_page::Way;
 use std::sync::Wait;
 
 impl Live {
@@ -116,7 +117,8 @@ impl Live {
         self.change(rt, pass, Op::Replace(key, pointer))
     }
 
-    // Answers a find of the key by the state of the key after the changes that the seat has seen by the end of the call.
+    // Answers a find of the key by the state of the key after the changes that the seat has seen by the end of the call. Of the
+    // operation it has only the page that comes next; its machine is in the seat's view, for the proofs.
     pub(crate) fn search(&self, seat: &mut Seat<u8, View>, key: u64) -> Answer
         requires seat { IsPassSeat self.now seat.old.table_id seat.old.me }
         requires idle { seat.old.me.0.operation ≡ None }
@@ -129,11 +131,17 @@ impl Live {
         ensures same { SameBesideReads (for_call seat.old.me.0 (Find key)) seat.new.me.0 }
         ensures same_slots { seat.new.me.1 ≡ seat.old.me.1 }
     {
-        let machine = self.descend(seat, Op::Find(key));
-        let Some(answer) = machine.answer() else {
-            unreachable!()
-        };
-        answer
+        let (mut number, mut level) = self.root(seat, Op::Find(key));
+        loop {
+            match self.read_page(seat, key, number, level) {
+                (Way::Right(next), _) => number = next,
+                (Way::Down(child), _) => {
+                    number = child;
+                    level -= 1;
+                }
+                (Way::Here, kept) => return Op::Find(key).answer(kept),
+            }
+        }
     }
 
     // Runs an operation that changes the tree, on one of the pass's keys. It uses one of the changes of its kind that the pass

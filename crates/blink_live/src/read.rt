@@ -1,31 +1,37 @@
 //! The descent of an operation to the leaf of its key, and a seat's reads of pages. Each read of a page first loads its page
 //! word. That load is the tree's read. Then the seat loads as many words of the row that the page word names as decide where the
-//! operation's key leads. Of a page that the operation has latched the seat loads the words up to the last entry. Of the prime
+//! operation's key leads. Not even the page's level is among them, since a child is one level below its parent. Of a page that the operation has latched the seat loads the words up to the last entry. Of the prime
 //! block it loads the words up to the leftmost page of the top level.
 ghost use Rattle.std.specs.Prelude.{◌≡◌, None, ℕ, ◌+◌, ◌*◌, ◌<◌, ◌≤◌, Some, List, Option, slice_get, slice_index, ◌⊎◌, length};
 ghost use Rattle.std.specs.Bool.{OnTrue, OnFalse};
 ghost use Rattle.blink_batch.specs.{FitsWords, key_of};
-ghost use Rattle.blink_page.specs.{place_of, value_at, PlainPage, IsRising};
+ghost use Rattle.blink_page.specs.{place_of, value_at, PlainPage, IsRising, IsLawfulPage};
+ghost use Rattle.blink_page.specs.declared.limits.TheConstants.{MAX_FAN};
 ghost use Rattle.blink_rows.specs.declared.limits.TheConstants.{ROW_WORDS};
-ghost use Rattle.blink_rows.specs.{IsPageRow, IsPrimeRow};
-ghost use Rattle.blink_machine.specs.{PlainMachine, NeedsPage, NeedsPrime, SeesPrime};
-ghost use Rattle.blink_live.specs.Seats.{HasRead, IsAtLeaf, IsPassSeat, IsGoing, IsSameSeat, ReadsPage, TellsWayFor, ReadsPrime};
+ghost use Rattle.blink_rows.specs.{IsPrimeRow, page_words};
+ghost use Rattle.blink_machine.specs.{PlainMachine, fresh, NeedsPage, NeedsPrime, SeesPrime};
+ghost use Rattle.blink_live.specs.Seats.{BeginsAt, HasRead, IsAtLeaf, IsAtPage, IsPassSeat, IsSameSeat, ReadsPage, ReadsWay, TellsWayFor, ReadsPrime};
 ghost use Rattle.blink_live.specs.Views.{CanBegin, for_call, known_of};
-ghost use Rattle.blink_live.specs.Words.{AreNumbersIn, AreRowsIn, IsRowNumber};
+ghost use Rattle.blink_live.specs.Words.{AreNumbersIn, AreRowsIn, IsRowNumber, row_start, word_count};
 ghost use Rattle.blink_live.specs.AtomicSteps.{Begins, LoadsPage, LoadsPrime};
 
 use crate::live::Live;
 use crate::rule::{Begin, Begun, LoadPage, LoadPrime, LoadWord};
 use crate::view::View;
+use arrayvec::ArrayVec;
 use atomic_table::Seat;
 use blink_batch::Op;
-use blink_machine::{Machine, Need};
-use blink_page::Way;
-use blink_rows::{HEAD_WORDS, ROW_WORDS, row_page, row_prime};
+use blink_machine::{Machine, State};
+use blink_page::{Page, Way};
+use blink_rows::{HEAD_WORDS, ROW_WORDS, row_prime};
 use std::marker::Brand;
 
 // The places of a row's head words.
 const LEVEL: usize = 0;
+
+const HAS_FLOOR: usize = 1;
+
+const FLOOR: usize = 2;
 
 const HIGH_KEY: usize = 3;
 
@@ -34,40 +40,42 @@ const RIGHT_LINK: usize = 4;
 const COUNT: usize = 5;
 
 impl Live {
-    // Runs an operation's descent to the leaf of its key.
-    pub(crate) fn descend(&self, seat: &mut Seat<u8, View>, op: Op) -> Machine
+    // Runs the descent of an operation that has not begun, to the leaf of its key. The operation stays where its caller made it,
+    // since it is large.
+    pub(crate) fn descend(&self, seat: &mut Seat<u8, View>, machine: &mut Machine, op: Op)
         requires seat { IsPassSeat self.now seat.old.table_id seat.old.me }
+        requires fresh { machine.old ≡ fresh self.now.fan op }
         requires idle { seat.old.me.0.operation ≡ None }
         requires fits { FitsWords op }
         requires can_begin { CanBegin seat.old.me.0 op }
         ensures same_table { (seat.new.table_id ≡ seat.old.table_id) × (seat.new.id ≡ seat.old.id) }
         ensures rows { AreRowsIn self.now.counts seat.old.me.0.rows }
         ensures pages { AreNumbersIn self.now.counts seat.old.me.0.pages }
-        ensures read { HasRead op (for_call seat.old.me.0 op, seat.old.me.1) seat.new.me result }
-        ensures at_leaf { IsAtLeaf op (known_of seat.new.me.0 (key_of op)) result }
+        ensures read { HasRead op (for_call seat.old.me.0 op, seat.old.me.1) seat.new.me machine.new }
+        ensures at_leaf { IsAtLeaf op (known_of seat.new.me.0 (key_of op)) machine.new }
     {
-        let mut machine = self.begin(seat, op);
-        while let Need::ReadPage(number) = machine.need() {
-            self.read_page(seat, &mut machine, number);
+        let (root, level) = self.root(seat, op);
+        machine.saw_top(level, root);
+        while let &State::Going(number, level) = machine.state() {
+            let (way, kept) = self.read_page(seat, op.key(), number, level);
+            machine.saw_way(way, kept);
         }
-        machine
     }
 
-    // Begins an operation: it reads the root's level and number from the prime block.
-    fn begin(&self, seat: &mut Seat<u8, View>, op: Op) -> Machine
+    // Begins an operation, and returns the root's number and level.
+    pub(crate) fn root(&self, seat: &mut Seat<u8, View>, op: Op) -> (u32, u8)
         requires seat { IsPassSeat self.now seat.old.table_id seat.old.me }
         requires idle { seat.old.me.0.operation ≡ None }
         requires fits { FitsWords op }
         requires can_begin { CanBegin seat.old.me.0 op }
         ensures same { (seat.new.table_id ≡ seat.old.table_id) × (seat.new.id ≡ seat.old.id) }
-        ensures begun { (row : ℕ) × Begins op seat.old.me row result seat.new.me }
+        ensures begun { BeginsAt op seat.old.me result.0 result.1 seat.new.me }
     {
         let row = self.load_prime::<Brand>(seat, op);
-        let levels = self.load_word(seat, row, COUNT);
-        let root = self.load_word(seat, row, HEAD_WORDS + levels as usize - 1);
-        let mut machine = Machine::new(op, self.fan);
-        machine.saw_top(levels as u8 - 1, root as u32);
-        machine
+        let start = self.row_place(row);
+        let levels = self.load_word(seat, start, COUNT);
+        let root = self.load_word(seat, start, HEAD_WORDS + levels as usize - 1);
+        (root as u32, levels as u8 - 1)
     }
 
     // Loads the prime block's page word for an operation that begins.
@@ -83,78 +91,102 @@ impl Live {
         self.table.shared.load::<Begin<B>>(seat, 0)
     }
 
-    // Reads the page that a descending operation needs next, and hands the operation where its key leads from there.
-    fn read_page(&self, seat: &mut Seat<u8, View>, machine: &mut Machine, number: u32)
+    // Reads the page that a descending operation needs next, of this number and level, and returns where the key leads from
+    // there. If the page is the key's leaf, it also returns the pointer stored for the key.
+    pub(crate) fn read_page(
+        &self,
+        seat: &mut Seat<u8, View>,
+        key: u64,
+        number: u32,
+        level: u8,
+    ) -> (Way, Option<u64>)
         requires seat { IsPassSeat self.now seat.old.table_id seat.old.me }
-        requires at { seat.old.me.0.operation ≡ Some machine.old }
-        requires fits { FitsWords machine.old.op }
-        requires going { IsGoing machine.old }
-        requires needs { NeedsPage machine.old number }
+        requires at { (m : PlainMachine) × IsAtPage m key number level × (seat.old.me.0.operation ≡ Some m) }
         requires in_range { (1 ≤ number) × (number < self.now.counts.numbers) }
         ensures same { (seat.new.table_id ≡ seat.old.table_id) × (seat.new.id ≡ seat.old.id) }
-        ensures read { (row : ℕ) × LoadsPage machine.old number seat.old.me row machine.new seat.new.me }
+        ensures way { (m : PlainMachine) → IsAtPage m key number level → seat.old.me.0.operation ≡ Some m
+            → ReadsWay m key number seat.old.me result.0 result.1 seat.new.me }
     {
         let row = self.table.shared.load::<LoadPage>(seat, number as usize);
-        let (way, kept) = self.way_from(seat, row, machine.target());
-        machine.saw_way(way, kept);
+        self.way_from(seat, row, level, key)
     }
 
-    // Where the key leads from the page whose row the seat reads. If that page is the key's leaf, also the pointer stored for
-    // the key.
-    fn way_from(&self, seat: &mut Seat<u8, View>, row: u64, key: u64) -> (Way, Option<u64>)
+    // Where the key leads from the page of this level whose row the seat reads. If that page is the key's leaf, also the pointer
+    // stored for the key. The page's high key matters only behind its last entry, since no entry's key is above it.
+    fn way_from(
+        &self,
+        seat: &mut Seat<u8, View>,
+        row: u64,
+        level: u8,
+        key: u64,
+    ) -> (Way, Option<u64>)
         requires seat { IsPassSeat self.now seat.old.table_id seat.old.me }
         requires row { IsRowNumber self.now.counts row }
-        requires page { (page : PlainPage) × ReadsPage seat.old.me row page }
+        requires page { (page : PlainPage) × ReadsPage seat.old.me row page × (page.level ≡ level) }
         ensures same { IsSameSeat seat.old seat.new }
-        ensures way { (page : PlainPage) → ReadsPage seat.old.me row page
+        ensures way { (page : PlainPage) → ReadsPage seat.old.me row page → page.level ≡ level
             → TellsWayFor key page result.0 result.1 }
     {
-        if key > self.load_word(seat, row, HIGH_KEY) {
-            let right = self.load_word(seat, row, RIGHT_LINK);
+        let start = self.row_place(row);
+        if let Some((found, value)) = self.entry_from(seat, start, key) {
+            if level > 0 {
+                return (Way::Down(value as u32), None);
+            }
+            return (Way::Here, kept_under(key, found, value));
+        }
+        if key > self.load_word(seat, start, HIGH_KEY) {
+            let right = self.load_word(seat, start, RIGHT_LINK);
             return (Way::Right(right as u32), None);
         }
-        let entry = self.entry_from(seat, row, key);
-        if self.load_word(seat, row, LEVEL) == 0 {
-            return (Way::Here, kept_under(key, entry));
-        }
-        let Some((_, child)) = entry else {
-            unreachable!()
-        };
-        (Way::Down(child as u32), None)
+        (Way::Here, None)
     }
 
     // The first entry whose key is at least `key`, in the page whose row the seat reads.
-    fn entry_from(&self, seat: &mut Seat<u8, View>, row: u64, key: u64) -> Option<(u64, u64)>
+    fn entry_from(&self, seat: &mut Seat<u8, View>, start: usize, key: u64) -> Option<(u64, u64)>
         requires seat { IsPassSeat self.now seat.old.table_id seat.old.me }
-        requires row { IsRowNumber self.now.counts row }
-        requires page { (page : PlainPage) × ReadsPage seat.old.me row page }
+        requires inside { start + ROW_WORDS ≤ word_count self.now.counts }
+        requires page { (row : ℕ) × (page : PlainPage) × (start ≡ row_start self.now.counts row)
+            × ReadsPage seat.old.me row page }
         ensures same { IsSameSeat seat.old seat.new }
-        ensures entry { (page : PlainPage) → ReadsPage seat.old.me row page
+        ensures entry { (row : ℕ) (page : PlainPage) → start ≡ row_start self.now.counts row
+            → ReadsPage seat.old.me row page
             → result ≡ slice_get page.entries (place_of key page.entries) }
     {
-        let count = self.load_word(seat, row, COUNT) as usize;
+        let count = self.load_word(seat, start, COUNT) as usize;
         for place in 0..count {
             let at = HEAD_WORDS + 2 * place;
-            let found = self.load_word(seat, row, at);
+            let found = self.load_word(seat, start, at);
             if key <= found {
-                return Some((found, self.load_word(seat, row, at + 1)));
+                return Some((found, self.load_word(seat, start, at + 1)));
             }
         }
         None
     }
 
-    // Loads a word of the row.
-    fn load_word(&self, seat: &mut Seat<u8, View>, row: u64, place: usize) -> u64
-        requires seat { IsPassSeat self.now seat.old.table_id seat.old.me }
+    // The place in the table where the row begins. The loads of its words share it, since each is a load that the compiler can't
+    // move.
+    pub(crate) fn row_place(&self, row: u64) -> usize
         requires row { IsRowNumber self.now.counts row }
+        ensures start { result ≡ row_start self.now.counts row }
+        ensures inside { result + ROW_WORDS ≤ word_count self.now.counts }
+    {
+        // Called for the proof: a place in the table is a `usize`.
+        let _count = self.table.word_count();
+        self.counts.row_start(row) as usize
+    }
+
+    // Loads a word of the row that begins at `start`.
+    fn load_word(&self, seat: &mut Seat<u8, View>, start: usize, place: usize) -> u64
+        requires seat { IsPassSeat self.now seat.old.table_id seat.old.me }
+        requires inside { start + ROW_WORDS ≤ word_count self.now.counts }
         requires place { place < ROW_WORDS }
         ensures same { IsSameSeat seat.old seat.new }
-        ensures word { (content : List ℕ) → seat.old.me.0.reads ≡ Some (row, content)
+        ensures word { (row : ℕ) (content : List ℕ) → start ≡ row_start self.now.counts row
+            → seat.old.me.0.reads ≡ Some (row, content)
             → result ≡ slice_index content place }
     {
         // Called for the proof: a place in the table is a `usize`.
         let _count = self.table.word_count();
-        let start = self.counts.row_start(row) as usize;
         self.table.shared.load::<LoadWord>(seat, start + place)
     }
 
@@ -169,51 +201,63 @@ impl Live {
         ensures read { (row : ℕ) × LoadsPage machine.old number seat.old.me row machine.new seat.new.me }
     {
         let row = self.table.shared.load::<LoadPage>(seat, number as usize);
-        let words = self.read_row(seat, row);
-        let Some(page) = row_page(&words) else {
-            unreachable!()
-        };
-        // Read for the proof: a page is lawful.
-        let _level = page.level;
+        let page = self.page_in_row(seat, row);
         machine.saw_page(&page);
     }
 
-    // The row of the page that the seat reads. The words behind the page's are 0.
-    fn read_row(&self, seat: &mut Seat<u8, View>, row: u64) -> [u64; ROW_WORDS]
+    // The page whose row the seat reads. Its words aren't tested, since they are a lawful page's.
+    fn page_in_row(&self, seat: &mut Seat<u8, View>, row: u64) -> Page
         requires seat { IsPassSeat self.now seat.old.table_id seat.old.me }
         requires row { IsRowNumber self.now.counts row }
         requires page { (page : PlainPage) × ReadsPage seat.old.me row page }
         ensures same { IsSameSeat seat.old seat.new }
-        ensures words { (page : PlainPage) → ReadsPage seat.old.me row page → IsPageRow page result }
+        ensures page { (page : PlainPage) → ReadsPage seat.old.me row page → result ≡ page }
     {
-        let mut words = [0; ROW_WORDS];
-        self.load_words(seat, row, &mut words, 0, HEAD_WORDS);
-        let stop = HEAD_WORDS + 2 * words[COUNT] as usize;
-        self.load_words(seat, row, &mut words, HEAD_WORDS, stop);
-        words
+        let start = self.row_place(row);
+        let level = self.load_word(seat, start, LEVEL);
+        let has_floor = self.load_word(seat, start, HAS_FLOOR);
+        let floor = self.load_word(seat, start, FLOOR);
+        let high = self.load_word(seat, start, HIGH_KEY);
+        let right = self.load_word(seat, start, RIGHT_LINK);
+        let count = self.load_word(seat, start, COUNT) as usize;
+        let mut items = ArrayVec::new();
+        for place in 0..count {
+            let at = HEAD_WORDS + 2 * place;
+            let key = self.load_word(seat, start, at);
+            items.push((key, self.load_word(seat, start, at + 1)));
+        }
+        Page {
+            level: level as u8,
+            floor: floor_of(has_floor, floor),
+            high,
+            right: link_of(right),
+            items,
+        }
     }
 
-    // Loads the row's words from `from` to before `to`.
+    // Loads the words of the row that begins at `start`, from `from` to before `to`.
     fn load_words(
         &self,
         seat: &mut Seat<u8, View>,
-        row: u64,
+        start: usize,
         words: &mut [u64; ROW_WORDS],
         from: usize,
         to: usize,
     )
         requires seat { IsPassSeat self.now seat.old.table_id seat.old.me }
-        requires row { IsRowNumber self.now.counts row }
+        requires inside { start + ROW_WORDS ≤ word_count self.now.counts }
         requires places { (from ≤ to) × (to ≤ ROW_WORDS) }
         ensures same { IsSameSeat seat.old seat.new }
         ensures width { length words.new ≡ ROW_WORDS }
-        ensures loaded { (content : List ℕ) → seat.old.me.0.reads ≡ Some (row, content) → (n : ℕ) → from ≤ n
+        ensures loaded { (row : ℕ) (content : List ℕ) → start ≡ row_start self.now.counts row
+            → seat.old.me.0.reads ≡ Some (row, content)
+            → (n : ℕ) → from ≤ n
             → n < to
             → slice_index words.new n ≡ slice_index content n }
         ensures others { (n : ℕ) → (n < from) ⊎ (to ≤ n) → slice_index words.new n ≡ slice_index words.old n }
     {
         for n in from..to {
-            words[n] = self.load_word(seat, row, n);
+            words[n] = self.load_word(seat, start, n);
         }
     }
 
@@ -245,22 +289,38 @@ impl Live {
         ensures same { IsSameSeat seat.old seat.new }
         ensures words { (prime : List ℕ) → ReadsPrime seat.old.me row prime → IsPrimeRow prime result }
     {
+        let start = self.row_place(row);
         let mut words = [0; ROW_WORDS];
-        self.load_words(seat, row, &mut words, 0, HEAD_WORDS);
+        self.load_words(seat, start, &mut words, 0, HEAD_WORDS);
         let stop = HEAD_WORDS + words[COUNT] as usize;
-        self.load_words(seat, row, &mut words, HEAD_WORDS, stop);
+        self.load_words(seat, start, &mut words, HEAD_WORDS, stop);
         words
     }
 }
 
-// The pointer stored for `key`, if `entry` is the first entry whose key is at least `key`.
-fn kept_under(key: u64, entry: Option<(u64, u64)>) -> Option<u64>
+// The pointer stored for `key`, if `found` is the first key that is at least `key`, and `value` its pointer.
+fn kept_under(key: u64, found: u64, value: u64) -> Option<u64>
     ensures { (from to : ℕ) (entries : List (ℕ × ℕ)) → IsRising from entries to
-        → entry ≡ slice_get entries (place_of key entries)
+        → Some (found, value) ≡ slice_get entries (place_of key entries)
         → result ≡ value_at key entries }
 {
-    match entry {
-        Some((found, value)) if found == key => Some(value),
-        _ => None,
-    }
+    if found == key { Some(value) } else { None }
+}
+
+// The floor that these two words of a page's row store.
+fn floor_of(has_floor: u64, word: u64) -> Option<u64>
+    ensures { (page : PlainPage) → has_floor ≡ slice_index (page_words page) 1
+        → word ≡ slice_index (page_words page) 2
+        → result ≡ page.floor }
+{
+    if has_floor == 0 { None } else { Some(word) }
+}
+
+// The right link that this word of a page's row stores.
+fn link_of(word: u64) -> Option<u32>
+    requires { (page : PlainPage) × IsLawfulPage MAX_FAN page × (word ≡ slice_index (page_words page) 4) }
+    ensures { (page : PlainPage) → IsLawfulPage MAX_FAN page → word ≡ slice_index (page_words page) 4
+        → result ≡ page.right }
+{
+    if word == 0 { None } else { Some(word as u32) }
 }

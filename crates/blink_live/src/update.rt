@@ -28,6 +28,12 @@ use blink_rows::{ROW_WORDS, page_row, prime_row};
 use std::sync::Wait;
 use std::thread;
 
+// The number of words in a cache line of the processor, at 64 bytes a line.
+const LINE_WORDS: usize = 8;
+
+// The number of lines that a row takes up, where it begins with one.
+const ROW_LINES: usize = 9;
+
 impl Live {
     // Changes the tree by an operation of one of the seat's keys, with the rows and page numbers of `room`. The seat's own
     // number stands in the latch words of the pages that it latches. The call retries a latch that another seat has, and a level
@@ -58,7 +64,9 @@ impl Live {
         ensures same { SameBesideCall (for_call seat.old.me.0 op) seat.new.me.0 }
         ensures same_slots { seat.new.me.1 ≡ seat.old.me.1 }
     {
-        let mut machine = self.descend(seat, op);
+        self.fetch_row(room.rows.next);
+        let mut machine = Machine::new(op, self.fan);
+        self.descend(seat, &mut machine, op);
         for _ in rt.forever() {
             if machine.ended() {
                 break;
@@ -71,6 +79,18 @@ impl Live {
             unreachable!()
         };
         answer
+    }
+
+    // Loads a word of each of the row's cache lines. The call that is to store the row begins with this, so that the lines come
+    // while it descends: a store waits for its line, and no other store overtakes it.
+    fn fetch_row(&self, row: u64) {
+        if row == 0 || row > self.counts.rows {
+            return;
+        }
+        let start = self.row_place(row);
+        for line in 0..ROW_LINES {
+            self.table.shared.peek(start + LINE_WORDS * line);
+        }
     }
 
     // Takes the operation's next step, and returns whether the operation moved. It waits if another seat has the latch that it

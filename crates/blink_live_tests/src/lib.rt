@@ -4,6 +4,8 @@
 #[cfg(test)]
 mod alone;
 #[cfg(test)]
+mod client;
+#[cfg(test)]
 mod closing;
 #[cfg(test)]
 mod dealing;

@@ -1,11 +1,4 @@
-pub mod TraceOfTurns
-pub mod LinesOfEntries
-pub mod ReplayOfBatch
-pub mod PartsAreServed
-pub mod ReplayOfParts
-pub mod TooLargeAmong
 pub mod PartsRunBySettings
-pub mod FirstThatIsNoWorker
 pub mod LaneSoFar
 pub mod LaneRuns
 pub mod GatheredSoFar
@@ -15,6 +8,3 @@ pub mod NeedsOfLane
 pub mod KeysOfLanes
 pub mod ChangesOfLanes
 pub mod LanesAreDealt
-pub mod WritersTake
-pub mod WhatWritersTake
-pub mod Offered

@@ -5,7 +5,7 @@ use Rattle.blink_batch.specs.declared.Part.{Part}
 use Rattle.blink_batch.specs.declared.Part.TheVariants.{Batch, Scan, Page}
 use Rattle.blink_store.specs.{PlainStore}
 use Rattle.blink_run.specs.BySettings.{RefusesPart, RunsPartBy, RunsPartsBy, StopsAt, TellsRun}
-use Rattle.blink_run.specs.Served.{IsPartFault, is_batch}
+use Rattle.blink_replay.specs.{IsPartFault, is_batch}
 use Rattle.blink_settings.specs.{PlainSettings}
 use Rattle.blink_settings.specs.declared.error.RunError.{RunError}
 use Rattle.blink_settings.specs.declared.error.ServeError.{ServeError}

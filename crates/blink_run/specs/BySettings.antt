@@ -12,7 +12,7 @@ use Rattle.blink_settings.specs.declared.error.ServeError.{ServeError}
 use Rattle.blink_settings.specs.declared.error.ServeError.TheVariants as serve
 use Rattle.blink_settings.specs.declared.settings.Driver.TheVariants.{Locked, Live}
 use Rattle.blink_locked.specs.{IsReplayed, MayRefuse}
-use Rattle.blink_run.specs.Served.{is_batch}
+use Rattle.blink_replay.specs.{is_batch}
 use Rattle.blink_settings.specs.{PlainSettings, lanes_by}
 
 -- the worker of each operation

@@ -6,17 +6,14 @@
 #![tactic(auto)]
 
 mod live;
-mod replay;
 mod run;
 mod script;
-mod text;
-mod trace;
-mod tracked_writer;
 
 pub use blink_locked::{Gate, Open};
+pub use blink_replay::{
+    TrackedWriter, first_of_no_worker, flush_out, lanes_by_residue, new_index, push_turn,
+    run_parts, serve_replay, write_out, write_replay,
+};
 pub use blink_settings::{CutKind, Driver, RunError, ServeError, Settings, SettingsError};
-pub use replay::{first_of_no_worker, lanes_by_residue, run_parts, serve_replay, write_replay};
 pub use run::run_batch;
-pub use script::{new_index, serve};
-pub use trace::push_turn;
-pub use tracked_writer::{TrackedWriter, flush_out, write_out};
+pub use script::serve;

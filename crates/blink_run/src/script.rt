@@ -1,20 +1,18 @@
 //! Serving a script: from its text to its output.
-ghost use Rattle.std.specs.Prelude.{◌≡◌, ◌+◌, ◌<◌, ◌^◌, [], ◌∷◌, count_by, IfErr, IfOk, IsErrOf, OnOk, string_bytes};
+ghost use Rattle.std.specs.Prelude.{◌≡◌, IfErr, IfOk, IsErrOf, OnOk, string_bytes};
 ghost use Rattle.blink_batch.specs.{answers, map_after_all, text_of};
 ghost use Rattle.blink_batch.specs.declared.Part.TheVariants.{Batch as PartBatch};
 ghost use Rattle.blink_index.specs.{map_of};
-ghost use Rattle.blink_store.specs.{new_store};
 ghost use Rattle.blink_run.specs.BySettings.{RefusesPart, RunsBatchBy, RunsPartBy, RunsPartsBy, ServesBy, TellsRun, TellsRunOf};
-ghost use Rattle.blink_run.specs.TrackedWriter.{Writes, WritesAll};
-ghost use Rattle.blink_run.specs.Text.{scan_text};
-ghost use Rattle.blink_run.specs.Served.{IsBatchFault, IsPartFault, FlushedOutputAfterError, PrefixOutputAfterError, OutputAfterError, PartOutputAfterError, Serves, TellsFault, is_batch, part_after, part_text, script_text};
+ghost use Rattle.blink_replay.specs.{IsBatchFault, IsPartFault, FlushedOutputAfterError, PrefixOutputAfterError, OutputAfterError, PartOutputAfterError, Serves, TellsFault, Writes, WritesAll, part_after, part_text, scan_text, script_text};
 
 use crate::run::run_batch;
-use crate::text::{push_answers, push_scan};
-use crate::tracked_writer::{TrackedWriter, flush_out, write_out};
 use blink_batch::{Answer, Batch, Part, read_script};
 use blink_index::{Index, Scan};
 use blink_locked::Gate;
+use blink_replay::{
+    TrackedWriter, batches_with, flush_out, new_index, push_answers, push_scan, write_out,
+};
 use blink_settings::{ServeError, Settings};
 use std::alloc::{AllocError, Global};
 use std::io::{Read, Write};
@@ -47,17 +45,6 @@ pub fn serve<T: Threads + Wait + Sync, R: Read, W: Write, G: Gate + Sync>(
     let script = read_script(alloc, reader)?;
     let mut index = new_index(alloc, settings)?;
     serve_script(rt, alloc, &script.parts, &mut index, writer, settings, gate)
-}
-
-/// Makes the new index that a script is run on.
-pub fn new_index(alloc: Global, settings: &Settings) -> Result<Index, AllocError>
-    ensures index { IfOk result (λ index. index ≡ new_store settings.now.fan) }
-    ensures empty { IfOk result (λ index. map_of index ≡ []) }
-{
-    match Index::new(alloc, settings.fan()) {
-        Ok(index) => Ok(index),
-        Err(_) => Err(AllocError),
-    }
 }
 
 // Serves the parts of a script, and flushes unless the writer failed.
@@ -117,18 +104,6 @@ fn serve_parts<T: Threads + Wait + Sync, O: TrackedWriter, G: Gate + Sync>(
         )?;
     }
     Ok(())
-}
-
-/// Returns the number of batches up to this part and with it, if `before` batches come before it.
-pub(crate) fn batches_with(part: &Part, before: u64) -> u64
-    requires { before + 1 < 2 ^ 64 }
-    ensures { result ≡ before + count_by is_batch (part.now ∷ []) }
-{
-    match part {
-        Part::Batch(_) => before + 1,
-        Part::Scan(..) => before,
-        Part::Page(..) => before,
-    }
 }
 
 // Serves one part. `number` is the part's number if it is a batch.

@@ -1,4 +1,4 @@
-//! Tests of the public calls of `blink_run` and `blink_locked`.
+//! Tests of the public calls of `blink_run`, `blink_replay` and `blink_locked`.
 #![tactic(auto)]
 
 #[cfg(test)]

@@ -1,6 +1,7 @@
 //! Examples of replays, worked by hand from the machine's table of states.
 use crate::calls::{locked, replayed};
-use blink_batch::{Batch, Entry, Op, RecordError, ScriptError, read_script};
+use blink_batch::{Answer, Batch, Entry, Op, Part, RecordError, ScriptError, read_script};
+use blink_replay::{batches_with, push_answers, push_scan};
 use blink_run::{
     CutKind, ServeError, first_of_no_worker, lanes_by_residue, new_index, push_turn, run_parts,
     write_replay,
@@ -169,6 +170,25 @@ fn parts_run_on_one_index(rt: HostRuntime) -> Result<(), Fail> {
         pointer: 20,
     };
     assert_eq!(rt; index.entries(alloc)?.as_slice(), [entry].as_slice());
+    let mut lines = String::new(alloc);
+    push_scan(&mut lines, index.scan(0, 9))?;
+    assert_eq!(rt; lines.as_str(), "2 20\nend 1\n");
+    Ok(())
+}
+
+#[test]
+fn answers_have_a_line_each(rt: HostRuntime) -> Result<(), Fail> {
+    let mut lines = String::new(rt.alloc());
+    push_answers(&mut lines, &[Answer::Inserted, Answer::Found(50)])?;
+    assert_eq!(rt; lines.as_str(), "inserted\nfound 50\n");
+    Ok(())
+}
+
+#[test]
+fn batches_are_counted_among_parts(rt: HostRuntime) -> Result<(), Fail> {
+    let batch = Batch::new([Op::Find(5)].to_vec(rt.alloc())?)?;
+    assert_eq!(rt; batches_with(&Part::Scan(0, 9), 3), 3);
+    assert_eq!(rt; batches_with(&Part::Batch(batch), 3), 4);
     Ok(())
 }
 

@@ -3,7 +3,7 @@ use Rattle.std.specs.Prelude.{◌≡◌, ℕ, ◌+◌, ◌%◌, List, [], ◌∷
 use Rattle.std.specs.Fmt.{decimal}
 use Rattle.blink_batch.specs.declared.Op.{Op}
 use Rattle.blink_batch.specs.{key_of}
-use Rattle.blink_run.specs.{by_residue}
+use Rattle.blink_replay.specs.{by_residue}
 use Rattle.blink_store.specs.{PlainStore}
 use Rattle.blink_steps.specs.{PlainWorld, HasEnded, IsStart}
 use Rattle.blink_show.specs.Frames.{first_frame}

@@ -2,7 +2,7 @@
 use Rattle.std.specs.Prelude.{ℕ, List, [], ◌++◌, Option, Some, None, codes, drop, if◌then◌else◌, length, slice_get}
 use Rattle.std.specs.List.{flat_map, range_with_len}
 use Rattle.std.specs.Str.{bytes_eq}
-use Rattle.blink_run.specs.{turn_line}
+use Rattle.blink_replay.specs.{turn_line}
 use Rattle.blink_machine.specs.declared.Step.{Step}
 use Rattle.blink_steps.specs.{PlainRun}
 use Rattle.blink_show.specs.Lines.{decided_line, lines_of}

@@ -6,7 +6,7 @@ use Rattle.blink_batch.specs.declared.Op.{Op}
 use Rattle.blink_batch.specs.declared.Part.{Part}
 use Rattle.blink_batch.specs.declared.Part.TheVariants.{Batch}
 use Rattle.blink_batch.specs.{script_of}
-use Rattle.blink_run.specs.{IsPrefixOf, WritesText, is_batch, HaveRunParts}
+use Rattle.blink_replay.specs.{IsPrefixOf, WritesText, is_batch, HaveRunParts}
 use Rattle.blink_settings.specs.declared.error.ServeError.{ServeError}
 use Rattle.blink_settings.specs.declared.error.ServeError.TheVariants as serve
 use Rattle.blink_store.specs.{PlainStore, new_store}

@@ -1,7 +1,7 @@
 //! A batch's replay as text.
 ghost use Rattle.std.specs.Prelude.{◌≡◌, ◌++◌, IfErr, OnOk, string_bytes};
 ghost use Rattle.blink_batch.specs.{MayWork};
-ghost use Rattle.blink_run.specs.{IsPartsFault};
+ghost use Rattle.blink_replay.specs.{IsPartsFault};
 ghost use Rattle.blink_show.specs.Batch.{AddsBatch, ops_from};
 ghost use Rattle.blink_show.specs.AskedTurns.{AreOfWorkers, ShowsAsked};
 
@@ -10,7 +10,8 @@ use crate::turns::{Turns, show_finish, show_first, show_turns};
 use crate::words::push_op;
 use blink_batch::{Batch, Op};
 use blink_index::Index;
-use blink_run::{ServeError, lanes_by_residue};
+use blink_replay::lanes_by_residue;
+use blink_settings::ServeError;
 use blink_steps::World;
 use std::alloc::{AllocError, Global};
 use std::fmt::Write as _;

@@ -1,7 +1,7 @@
 //! A script's replay, written to be looked at.
 ghost use Rattle.std.specs.Prelude.{◌≡◌, ◌++◌, ◌↔◌, Err, IfErr, IfOk, OnOk, MatchOption, count_by, string_bytes};
 ghost use Rattle.blink_batch.specs.{MayWork};
-ghost use Rattle.blink_run.specs.{WritesText, is_batch, IsPartsFault, TellsReplayFault, TellsWorkersFault};
+ghost use Rattle.blink_replay.specs.{WritesText, is_batch, IsPartsFault, TellsReplayFault, TellsWorkersFault};
 ghost use Rattle.blink_steps.specs.{IsFirstNoWorker};
 ghost use Rattle.blink_show.specs.Show.{AddsParts, IsLastBatch, IsSeedText, IsShowText, IsTextOf, LeavesShow};
 ghost use Rattle.blink_show.specs.AskedTurns.{AreOfWorkers, ShowsAsked};
@@ -10,13 +10,14 @@ use crate::batch::show_batch;
 use crate::turns::Turns;
 use blink_batch::{Batch, Part, read_script};
 use blink_index::Index;
-use blink_run::{ServeError, Settings, first_of_no_worker, new_index, run_parts, write_replay};
+use blink_replay::{first_of_no_worker, new_index, run_parts, write_replay};
+use blink_settings::{ServeError, Settings};
 use blink_steps::StepError;
 use std::alloc::Global;
 use std::fmt::Write as _;
 use std::io::{Read, Write};
 
-/// Reads a whole script and replays it, as [`blink_run::serve_replay`] does. Each batch is cut by the remainders of the keys. The
+/// Reads a whole script and replays it, as [`blink_replay::serve_replay`] does. Each batch is cut by the remainders of the keys. The
 /// last batch takes a turn for each number of the schedule, and is then finished. The batches before it are finished at once.
 ///
 /// When all turns are taken, the call writes `head`, and then the workers and the fan. If the script has a batch, it writes the

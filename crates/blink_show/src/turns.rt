@@ -1,6 +1,6 @@
 //! Turns one after another, with a frame for each.
 ghost use Rattle.std.specs.Prelude.{◌≡◌, ◌<◌, ◌++◌, [], All, IfErr, OnOk, string_bytes};
-ghost use Rattle.blink_run.specs.{IsRefusedMemory};
+ghost use Rattle.blink_replay.specs.{IsRefusedMemory};
 ghost use Rattle.blink_steps.specs.{HasEnded, PlainRun};
 ghost use Rattle.blink_show.specs.Frames.{first_frame, frame};
 ghost use Rattle.blink_show.specs.Keeping.{Keeps};
@@ -9,7 +9,8 @@ ghost use Rattle.blink_show.specs.AskedTurns.{AddsAsked, AreOfWorkers};
 
 use crate::draw::draw;
 use crate::frame::Shown;
-use blink_run::{ServeError, push_turn};
+use blink_replay::push_turn;
+use blink_settings::ServeError;
 use blink_steps::{Step, World};
 use rand_core::SeedableRng;
 use rand_xoshiro::SplitMix64;

@@ -6,7 +6,7 @@ use Rattle.blink_batch.specs.{records_of}
 use Rattle.blink_run.specs.{IsPrefixOf, IsTextBeforeBatch, IsTextOf, IsTextOfPrefix, OutputAfterError, WritesText, IsReplayText, LeavesReplay}
 use Rattle.blink_settings.specs.declared.error.ServeError.{ServeError}
 use Rattle.blink_settings.specs.declared.error.ServeError.TheVariants as serve
-use Rattle.blink_run.proofs.Offered.{prefix_of_text}
+use Rattle.blink_replay.proofs.Offered.{prefix_of_text}
 use Rattle.index_main.specs.Program.{HasLeftPrefix, IsText, Leaves, LetsOut, Writes}
 use Rattle.blink_line.specs.declared.line.Line.{Line}
 use Rattle.blink_line.specs.declared.line.Line.TheVariants.{Run, Replay}

@@ -8,7 +8,7 @@ use Rattle.blink_line.specs.declared.end.ProgramError.TheVariants as program
 use Rattle.blink_line.specs.declared.line.LineError.TheVariants.{OutOfMemory}
 use Rattle.blink_line.specs.declared.line.Turns.{Turns}
 use Rattle.blink_line.specs.declared.line.Turns.TheVariants.{Schedule, Seed}
-use Rattle.blink_run.specs.{WritesText, TellsReplayFault, TellsWorkersFault}
+use Rattle.blink_replay.specs.{WritesText, TellsReplayFault, TellsWorkersFault}
 use Rattle.blink_settings.specs.declared.error.ServeError.{ServeError}
 use Rattle.blink_settings.specs.{PlainSettings}
 use Rattle.blink_show.specs.{IsSeedText, IsShowText, LeavesShow}

@@ -1,12 +1,12 @@
 //! The program's work for a command line.
 ghost use Rattle.std.specs.Prelude.{◌≡◌, IfErr, OnOk};
 ghost use Rattle.clap.specs.Walk.{texts};
-ghost use Rattle.blink_run.specs.{WritesText};
+ghost use Rattle.blink_replay.specs.{WritesText};
 ghost use Rattle.blink_show.specs.{LeavesShow};
 ghost use Rattle.show_main.specs.Program.{IsFault, IsPage, Leaves, TellsFault, WritesPage};
 
 use blink_line::{ProgramError, Turns, read_show};
-use blink_run::{ServeError, Settings};
+use blink_settings::{ServeError, Settings};
 use blink_show::{serve_seed, serve_show};
 use std::alloc::Global;
 use std::io::{Read, Write};

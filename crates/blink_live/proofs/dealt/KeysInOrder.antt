@@ -1,35 +1,92 @@
--- A search by halves finds a key of an ascending list, and no other.
-use Rattle.std.proofs.Common.{◌≡◌, ◌↔◌, ◌⊎◌, ℕ, ◌<◌, ◌≤◌, List, ◌++◌, ⊎_elim, length, get_or, Result, refl, sym, ◌∙◌, true≢false, arith}
-use native.Mathlib.Decide.{dec_le}
-use Rattle.std.proofs.lemmas.List.{get_or_default}
-use Rattle.std.specs.Prelude.{IsSorted, Contains, IsOk, MatchResult}
-use Rattle.std.specs.Ordering.{nat_cmp}
-use Rattle.std.specs.List.Sorted.{IsBinarySearchResult, IsPermutation}
+-- The keys of two lists in one ascending list: which they are, and that none stands twice where each is below the next.
+use Rattle.std.proofs.Common.{◌≡◌, ◌≢◌, ◌↔◌, ◌⊎◌, ℕ, ◌+◌, ◌<◌, Some, List, ◌++◌, [], ◌∷◌, zero, suc, length, take, get_or, ⊎_elim, sym, ◌∙◌, arith, append_assoc, subst, ap}
+use Rattle.std.specs.Prelude.{Contains, slice_get, ◌==◌}
+use Rattle.std.specs.List.{AllPairs}
+use Rattle.std.specs.List.Sorted.{IsPermutation, IsStrictlyIncreasing}
+use Rattle.std.proofs.lemmas.Bool.Decides.{Decides-eqb, nat_tests}
+use Rattle.std.proofs.lemmas.List.{get_or-append-add, get_or_append_left, get_or_default, length-append, length-take, get_or-take}
 use Rattle.std.proofs.lemmas.List.Elements.{Contains-append_left, Contains-append_right, Contains-append_cases}
-use Rattle.std.proofs.lemmas.List.Sorted.{searched, Contains-permutation, IsPermutation-sym, IsNonDecreasingBy-from_sort}
-use Rattle.std.specs.declared.result.Result.TheVariants.{Ok, Err}
+use Rattle.std.proofs.lemmas.List.Kept.{AllPairs-from_increasing}
+use Rattle.std.proofs.lemmas.List.Sorted.{Contains-permutation, IsPermutation-append_comm, IsPermutation-append_left, IsPermutation-append_right, IsPermutation-middle, IsPermutation-sym, IsPermutation-trans}
+use Rattle.std.specs.Prelude.{IsSorted}
+use Rattle.std.specs.Ordering.{nat_cmp, is_lt}
+use Rattle.std.specs.Cmp.{nat_cmp_is}
+use Rattle.std.specs.declared.cmp.Ordering.TheVariants.{Greater}
+use Rattle.std.proofs.lemmas.Map.Keys.{IsDistinct-IsPermutation}
+use Rattle.std.proofs.lemmas.Map.Made.{AllPairs-from_IsDistinct, IsDistinct-from_AllPairs}
+use Rattle.blink_live.specs.Deals.{NoneIsTaken}
 
-found_or_not : (keys : List ℕ) (key : ℕ) (result : Result ℕ ℕ)
-    → MatchResult result (λ i. (i < length keys) × (get_or keys i 0 ≡ key)) (λ i. (i ≤ length keys) × ((k : ℕ) → k < i → get_or keys k 0 < key) × ((k : ℕ) → i ≤ k → k < length keys → key < get_or keys k 0))
-    → IsOk result ↔ Contains keys key
-found_or_not keys key (Ok i) is = (λ found. (i, is.0, get_or_default keys i key 0 is.0 ∙ is.1), λ there. refl)
-found_or_not keys key (Err i) is = (
-  λ found. absurd (true≢false (sym found)),
-  λ there.
-      let inside : there.0 < length keys = there.1 in
-      let same : get_or keys there.0 0 ≡ key = get_or_default keys there.0 0 key inside ∙ there.2 in
-      absurd (elim (dec_le i there.0) [
-        | yes from_there ↦ let above = is.2 there.0 from_there inside in omega (arith, above, same)
-        | no before ↦ let below = is.1 there.0 (omega (arith, before)) in omega (arith, below, same)
-      ]),
-)
-
-pub found_if_there : (keys : List ℕ) (key : ℕ) (result : Result ℕ ℕ) → IsSorted nat_cmp keys → IsBinarySearchResult (λ y. nat_cmp y key) keys result → IsOk result ↔ Contains keys key
-found_if_there keys key result ascending is = found_or_not keys key result (searched keys key result is (λ i j le inside. IsNonDecreasingBy-from_sort (λ x. x) keys ascending i j 0 le inside))
-
--- what two lists have together, in another order
 pub of_both : (keys more all : List ℕ) → IsPermutation (keys ++ more) all → (key : ℕ) → Contains all key ↔ (Contains keys key ⊎ Contains more key)
 of_both keys more all moved key = (
   λ there. Contains-append_cases keys more key (Contains-permutation all (keys ++ more) key (IsPermutation-sym (keys ++ more) all moved) there),
   λ either. Contains-permutation (keys ++ more) all key moved (⊎_elim (Contains-append_left keys more key) (Contains-append_right keys more key) either),
 )
+
+flips : (x y : ℕ) → (x == y) ≡ (y == x)
+flips x y = grind (arith, nat_tests)
+
+-- the element at a place of a list
+some_at : (keys : List ℕ) (n key : ℕ) → slice_get keys n ≡ Some key → (n < length keys) × (get_or keys n 0 ≡ key)
+some_at [] n key at = absurd (cc)
+some_at (first ∷ rest) zero key at = (omega arith, cc)
+some_at (first ∷ rest) (suc n) key at = let t = some_at rest n key at in (let inside = t.0 in omega (arith, inside), t.1)
+
+-- one of the first keys
+among_first : (keys : List ℕ) (n key : ℕ) → Contains (take n keys) key → (i : ℕ) × (i < n) × (i < length keys) × (get_or keys i 0 ≡ key)
+among_first keys n key there =
+    let i : ℕ = there.0 in
+    let inside : i < length (take n keys) = there.1 in
+    let long = length-take n keys in
+    let less : i < n = omega (arith, long, inside) in
+    (i, less, omega (arith, long, inside), sym (get_or-take n keys i 0 less) ∙ (get_or_default (take n keys) i 0 key inside ∙ there.2))
+
+module _ (taken keys all : List ℕ) (moved : IsPermutation (taken ++ keys) all) (rises : IsStrictlyIncreasing all) where
+  differ : AllPairs (λ (x y : ℕ). x ≢ y) (taken ++ keys)
+  differ = AllPairs-from_IsDistinct Decides-eqb (taken ++ keys)
+      (IsDistinct-IsPermutation (λ (x y : ℕ). x == y) flips all (taken ++ keys) (IsPermutation-sym (taken ++ keys) all moved)
+      (IsDistinct-from_AllPairs Decides-eqb all (λ i j d less inside same. let below = AllPairs-from_increasing all rises i j d less inside in omega (arith, below, same))))
+
+  not_twice : (i place : ℕ) → i < length taken + place → place < length keys → get_or (taken ++ keys) i 0 ≡ get_or keys place 0 → ⊥
+  not_twice i place before inside same =
+      differ i (length taken + place) 0 before (let long = length-append taken keys in omega (arith, long, inside)) (same ∙ sym (get_or-append-add taken keys place 0))
+
+  pub none_twice : NoneIsTaken taken keys
+  none_twice place key is =
+      let here = some_at keys place key is.at in
+      ⊎_elim
+      (λ (was : Contains taken key).
+      let inside : was.0 < length taken = was.1 in
+      not_twice was.0 place (omega (arith, inside)) here.0 (get_or_append_left taken keys 0 was.0 inside ∙ (get_or_default taken was.0 0 key inside ∙ was.2) ∙ sym here.1))
+      (λ (earlier : Contains (take place keys) key).
+      let t = among_first keys place key earlier in
+      not_twice (length taken + t.0) place (let low = t.1 in omega (arith, low)) here.0 (get_or-append-add taken keys t.0 0 ∙ t.3 ∙ sym here.1))
+      is.again
+
+-- ---- a merge
+
+module _ (first second all : List ℕ) (moved : IsPermutation (first ++ second) all) (x : ℕ) where
+  -- one more key of the second list
+  pub second_more : IsPermutation (first ++ (second ++ x ∷ [])) (all ++ x ∷ [])
+  second_more = subst (λ (l : List ℕ). IsPermutation l (all ++ x ∷ [])) (append_assoc first second (x ∷ [])) (IsPermutation-append_left (x ∷ []) (first ++ second) all moved)
+
+  -- one more key of the first list
+  pub first_more : IsPermutation ((first ++ x ∷ []) ++ second) (all ++ x ∷ [])
+  first_more = subst (λ (l : List ℕ). IsPermutation l (all ++ x ∷ [])) (sym (append_assoc first (x ∷ []) second))
+      (IsPermutation-trans (first ++ x ∷ second) (x ∷ (first ++ second)) (all ++ x ∷ []) (IsPermutation-middle first x second)
+      (IsPermutation-trans (x ∷ (first ++ second)) ((first ++ second) ++ x ∷ []) (all ++ x ∷ []) (IsPermutation-append_comm (x ∷ []) (first ++ second)) (IsPermutation-append_left (x ∷ []) (first ++ second) all moved)))
+
+-- and all others of the first list
+pub rest_more : (first rest second all : List ℕ) → IsPermutation (first ++ second) all → IsPermutation ((first ++ rest) ++ second) (all ++ rest)
+rest_more first rest second all moved =
+    subst (λ (l : List ℕ). IsPermutation l (all ++ rest)) (sym (append_assoc first rest second))
+    (IsPermutation-trans (first ++ (rest ++ second)) (first ++ (second ++ rest)) (all ++ rest)
+    (IsPermutation-append_right first (rest ++ second) (second ++ rest) (IsPermutation-append_comm rest second))
+    (subst (λ (l : List ℕ). IsPermutation l (all ++ rest)) (append_assoc first second rest) (IsPermutation-append_left rest (first ++ second) all moved)))
+
+-- keys that rise are in order
+pub sorted_from_rising : (keys : List ℕ) → IsStrictlyIncreasing keys → IsSorted nat_cmp keys
+sorted_from_rising keys rises k d low inside =
+    let below = rises k inside in
+    let here : get_or keys k 0 ≡ get_or keys k d = get_or_default keys k 0 d (omega (arith, inside)) in
+    let next : get_or keys (k + 1) 0 ≡ get_or keys (k + 1) d = get_or_default keys (k + 1) 0 d inside in
+    ap is_lt (sym (nat_cmp_is (get_or keys (k + 1) d) (get_or keys k d) Greater (omega (arith, below, here, next))))

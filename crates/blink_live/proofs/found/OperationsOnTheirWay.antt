@@ -88,8 +88,8 @@ needs_on_its_way op kept m number (at_leaf (found key is_find ended answer)) nee
 needs_on_its_way op kept m number (at_leaf (wants page updates wants_it none_yet)) needs = absurd (let e = ap need_at wants_it in cc)
 
 -- and else it has come there
-pub else_at_leaf : (op : Op) (kept : Option ℕ) (m : PlainMachine) → ((number : ℕ) → ¬ NeedsPage m number) → IsDescending op kept m → IsAtLeaf op kept m
-else_at_leaf op kept m none (going is_going none_yet) = absurd (none is_going.on_its_way.0 (ap need_at is_going.on_its_way.2))
+pub else_at_leaf : (op : Op) (kept : Option ℕ) (m : PlainMachine) → ((number level : ℕ) → ¬ (m.state ≡ Going number level)) → IsDescending op kept m → IsAtLeaf op kept m
+else_at_leaf op kept m none (going is_going none_yet) = absurd (none is_going.on_its_way.0 is_going.on_its_way.1 is_going.on_its_way.2)
 else_at_leaf op kept m none (at_leaf there) = there
 
 -- ---- the page that it reads next

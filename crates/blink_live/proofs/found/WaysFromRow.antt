@@ -1,10 +1,11 @@
 -- The words that a find loads of a page's row tell which way its key leads from the page.
-use Rattle.std.proofs.Common.{◌≡◌, ◌≢◌, ℕ, zero, suc, ◌<◌, ◌≤◌, ◌^◌, Option, Some, None, List, [], ◌∷◌, length, get_or, refl, sym, ap, ◌∙◌, subst, arith}
+use Rattle.std.proofs.Common.{◌≡◌, ◌≢◌, ℕ, zero, suc, ◌+◌, ◌<◌, ◌≤◌, ◌^◌, Option, Some, None, List, [], ◌∷◌, length, get_or, refl, sym, ap, ◌∙◌, subst, arith}
+use Rattle.std.proofs.lemmas.Bool.Decides.{nat_tests}
 use Rattle.std.specs.Prelude.{IsNone, IfSome, slice_get, unwrap_or}
-use Rattle.blink_page.specs.{value_at, child_for, IsPageNumber, PlainPage, IsLawfulPage, place_of, IsRising}
+use Rattle.blink_page.specs.{value_at, child_for, IsPageNumber, PlainPage, IsLawfulPage, place_of, IsRising, least_above}
 use Rattle.blink_page.specs.declared.limits.TheConstants.{MAX_FAN, MAX_PAGE, GREATEST_KEY}
 use Rattle.blink_page.specs.declared.search.Way.TheVariants.{Right, Down, Here}
-use Rattle.blink_page.proofs.Offered.{child_for-place, value_at-place, value_at-place_other, value_at-place_end, place_inside, child_inside}
+use Rattle.blink_page.proofs.Offered.{from_at_most_to, child_for-place, value_at-place, value_at-place_other, value_at-place_end, place_inside, child_inside}
 use Rattle.blink_live.specs.Seats.{TellsWayFor}
 
 -- a page that ends below a key has a link to the right
@@ -53,6 +54,27 @@ kept_not_there key found value from to entries rises at differ =
 
 pub none_kept : (key : ℕ) (entries : List (ℕ × ℕ)) → None ≡ slice_get entries (place_of key entries) → None ≡ value_at key entries
 none_kept key entries at = sym (value_at-place_end key entries (none_at entries (place_of key entries) (sym at)))
+
+-- the key of the entry there is no lesser one
+key_at : (key : ℕ) (entries : List (ℕ × ℕ)) (n : ℕ) → place_of key entries ≡ n → n < length entries → key ≤ (get_or entries n (0, 0)).0
+key_at key [] n is inside = absurd (omega (arith, inside))
+key_at key ((k, v) ∷ rest) zero is inside = grind (arith, nat_tests, is)
+key_at key ((k, v) ∷ rest) (suc n) is inside =
+    let further : place_of key rest ≡ n → key ≤ (get_or rest n (0, 0)).0 = λ there. key_at key rest n there (omega (arith, inside)) in
+    grind (arith, nat_tests, is, further)
+
+-- and no key is above the page's high key
+below_end : (entries : List (ℕ × ℕ)) (n from to : ℕ) → IsRising from entries to → n < length entries → (get_or entries n (0, 0)).0 < to
+below_end [] n from to rises inside = absurd (omega (arith, inside))
+below_end ((k, v) ∷ rest) zero from to rises inside = let reaches = from_at_most_to (k + 1) rest to rises.1 in omega (arith, reaches)
+below_end ((k, v) ∷ rest) (suc n) from to rises inside = below_end rest n (k + 1) to rises.1 (omega (arith, inside))
+
+pub not_right_of : (page : PlainPage) (key found value : ℕ) → IsLawfulPage MAX_FAN page → Some (found, value) ≡ slice_get page.entries (place_of key page.entries) → key ≤ page.high
+not_right_of page key found value lawful at =
+    let there = some_at page.entries (place_of key page.entries) (found, value) (sym at) in
+    let low = key_at key page.entries (place_of key page.entries) refl there.0 in
+    let high = below_end page.entries (place_of key page.entries) (least_above page.floor) (page.high + 1) lawful.keys_rise there.0 in
+    omega (arith, low, high)
 
 -- an inner page has a child for each of its keys
 pub child_there : (page : PlainPage) (key found child : ℕ) → IsLawfulPage MAX_FAN page → 0 < page.level → key ≤ page.high → Some (found, child) ≡ slice_get page.entries (place_of key page.entries)

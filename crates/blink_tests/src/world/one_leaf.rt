@@ -1,5 +1,5 @@
 //! Examples in which no page splits.
-use crate::fixtures::stores::{empty_tree, has_pages, page_has_entries, page_at};
+use crate::fixtures::stores::{empty_tree, has_pages, page_at, page_has_entries};
 use crate::fixtures::worlds::{
     finish, has_answers, has_order, has_schedule, is_at_end, takes, tree_after, turns_to,
     two_leaves, world_of,

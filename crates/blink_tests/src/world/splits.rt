@@ -1,6 +1,6 @@
 //! Examples in which pages split and roots grow.
 use crate::fixtures::pages::{Bounds, has_bounds};
-use crate::fixtures::stores::{has_leftmost, has_pages, page_has_entries, page_at};
+use crate::fixtures::stores::{has_leftmost, has_pages, page_at, page_has_entries};
 use crate::fixtures::worlds::{
     full_leaf, has_answers, has_moved, has_order, has_schedule, is_at_end, keys_to, takes,
     tree_after, turns_to, world_of,

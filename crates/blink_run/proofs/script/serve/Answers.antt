@@ -2,7 +2,7 @@ use Rattle.std.proofs.Common.{List, Ok, refl, subst, sym}
 use Rattle.std.proofs.lemmas.Result.{IfErr-weaker, err_from_is_err_and, on_ok_weaker}
 use Rattle.blink_batch.specs.declared.Part.{Part}
 use Rattle.blink_batch.specs.{ReadsAs}
-use Rattle.blink_run.proofs.WhatWritersTake.{fault_told, is_a_script, lines_left, none_written, serves_script}
+use Rattle.blink_replay.proofs.Offered.{fault_told, is_a_script, lines_left, none_written, serves_script}
 use Rattle.blink_run.proofs.script.serve.Goals as goal
 
 -- no index is made, and nothing is written

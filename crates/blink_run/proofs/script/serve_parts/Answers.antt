@@ -4,9 +4,9 @@ use Rattle.std.proofs.lemmas.Result.{err_from_is_err_and}
 use Rattle.blink_batch.specs.declared.Part.{Part}
 use Rattle.blink_index.specs.{map_of}
 use Rattle.blink_run.specs.BySettings.{RunsPartsBy}
-use Rattle.blink_run.specs.TrackedWriter.{nothing}
-use Rattle.blink_run.specs.Served.{is_batch}
-use Rattle.blink_run.proofs.PartsAreServed.{HasServed, prefix_output_after_error, serves_more}
+use Rattle.blink_replay.specs.{nothing}
+use Rattle.blink_replay.specs.{is_batch}
+use Rattle.blink_replay.proofs.Offered.{HasServed, prefix_output_after_error, serves_more}
 use Rattle.blink_run.proofs.PartsRunBySettings.{runs_one_more, stops_at}
 use Rattle.blink_run.proofs.script.serve_parts.Goals as goal
 

@@ -1,7 +1,7 @@
 use Rattle.std.proofs.Common.{take}
 use Rattle.blink_index.specs.{map_of}
 use Rattle.blink_run.specs.BySettings.{RunsPartsBy}
-use Rattle.blink_run.proofs.PartsAreServed.{HasServed}
+use Rattle.blink_replay.proofs.Offered.{HasServed}
 use Rattle.blink_run.proofs.script.serve_parts.Given as goal
 
 -- the parts so far are served

@@ -1,10 +1,10 @@
 use Rattle.std.proofs.Common.{◌≡◌, ◌<◌, ℕ, All, Result, Err, IfErr, ap, subst}
 use Rattle.blink_steps.specs.{IsFirstNoWorker}
-use Rattle.blink_run.specs.{TellsWorkersFault}
+use Rattle.blink_replay.specs.{TellsWorkersFault}
 use Rattle.blink_settings.specs.declared.error.ServeError.{ServeError}
 use Rattle.blink_settings.specs.declared.error.ServeError.TheVariants as serve
 use Rattle.blink_steps.specs.declared.StepError.TheVariants as step
-use Rattle.blink_run.proofs.Offered.{none_first, one_first}
+use Rattle.blink_replay.proofs.Offered.{none_first, one_first}
 use Rattle.blink_show.proofs.show.serve_show.Goals as goal
 
 -- the number that is told is the first that is no worker's

@@ -1,7 +1,7 @@
 use Rattle.std.proofs.Common.{◌≡◌, ◌++◌, ◌∙◌, List, ℕ, Some, refl, string_bytes}
 use Rattle.std.proofs.lemmas.Result.{IfErr-weaker, on_ok_weaker}
 use Rattle.blink_batch.specs.{records_of}
-use Rattle.blink_run.proofs.Offered.{writes_prefix, writes_whole}
+use Rattle.blink_replay.proofs.Offered.{writes_prefix, writes_whole}
 use Rattle.blink_show.specs.Show.{IsTextOf, LeavesShow, sizes_text}
 use Rattle.blink_show.specs.AskedTurns.{ShowsAsked}
 use Rattle.blink_show.proofs.TextOfReplay.{is_show_text}

@@ -1,6 +1,6 @@
 use Rattle.std.proofs.Common.{◌≡◌, ◌++◌, List, count_by}
 use Rattle.blink_batch.specs.declared.Part.{Part}
-use Rattle.blink_run.specs.{is_batch}
+use Rattle.blink_replay.specs.{is_batch}
 use Rattle.blink_show.proofs.show.take_last_batch.Given as goal
 
 -- among those taken away is no batch

@@ -16,9 +16,9 @@ none_past (e ∷ rest) (suc n) past = none_past rest n (omega (arith, past))
 pub loop-place-init : goal.loop-place-init
 loop-place-init c = record {
   same = (refl, refl, refl);
-  before = λ page reads.
-      let first : ReadsPage c.args.seat.now.me c.args.row page = subst (λ (x : SeatState). ReadsPage x c.args.row page) c.load_word-count.ensures.same.2 reads in
-      (c.load_word-count.ensures.word (page_words page) first.reads, omega arith);
+  before = λ row page begins reads.
+      let first : ReadsPage c.args.seat.now.me row page = subst (λ (x : SeatState). ReadsPage x row page) c.load_word-count.ensures.same.2 reads in
+      (c.load_word-count.ensures.word row (page_words page) begins first.reads, omega arith);
 }
 
 pub loop-place-preserved : goal.loop-place-preserved
@@ -26,30 +26,30 @@ loop-place-preserved c =
     let same = c.loop-place.invariant.same in
     let load = c.load_word-found.ensures in record {
       same = (load.same.0 ∙ same.0, load.same.1 ∙ same.1, load.same.2 ∙ same.2);
-      before = λ page reads.
-          let before = c.loop-place.invariant.before page reads in
-          let its = load.word (page_words page) (ap (λ (x : SeatState). x.0.reads) same.2 ∙ reads.reads) in
+      before = λ row page begins reads.
+          let before = c.loop-place.invariant.before row page begins reads in
+          let its = load.word row (page_words page) begins (ap (λ (x : SeatState). x.0.reads) same.2 ∙ reads.reads) in
           let key : c.load_word-found.result ≡ (get_or page.entries c.loop-place.place (0, 0)).0 = its ∙ key_word page c.loop-place.place _ refl in
           let further = goes_on_behind c.args.key page.entries c.loop-place.place before.1 (omega (arith, before.0, c.loop-place-test.true)) (omega (arith, key, c.if-key-found.false)) in
           (before.0, omega (arith, further));
     }
 
 pub returns-then-key-found-clause-entry : goal.returns-then-key-found-clause-entry
-returns-then-key-found-clause-entry c page reads =
+returns-then-key-found-clause-entry c row page begins reads =
     let same = c.loop-place.invariant.same in
-    let first : ReadsPage c.load_word-count.new.seat.me c.args.row page = subst (λ (x : SeatState). ReadsPage x c.args.row page) (sym c.load_word-count.ensures.same.2) reads in
-    let before = c.loop-place.invariant.before page first in
+    let first : ReadsPage c.load_word-count.new.seat.me row page = subst (λ (x : SeatState). ReadsPage x row page) (sym c.load_word-count.ensures.same.2) reads in
+    let before = c.loop-place.invariant.before row page begins first in
     let place = c.loop-place.place in
     let at_loop = ap (λ (x : SeatState). x.0.reads) same.2 ∙ first.reads in
-    let key : c.load_word-found.result ≡ (get_or page.entries place (0, 0)).0 = c.load_word-found.ensures.word (page_words page) at_loop ∙ key_word page place _ refl in
+    let key : c.load_word-found.result ≡ (get_or page.entries place (0, 0)).0 = c.load_word-found.ensures.word row (page_words page) begins at_loop ∙ key_word page place _ refl in
     let at_found = ap (λ (x : SeatState). x.0.reads) c.load_word-found.ensures.same.2 ∙ at_loop in
-    let value : c.load_word.result ≡ (get_or page.entries place (0, 0)).1 = c.load_word.ensures.word (page_words page) at_found ∙ value_word page place _ refl in
+    let value : c.load_word.result ≡ (get_or page.entries place (0, 0)).1 = c.load_word.ensures.word row (page_words page) begins at_found ∙ value_word page place _ refl in
     let inside : place < length page.entries = omega (arith, before.0, c.loop-place-test.true) in
     let end : place_of c.args.key page.entries ≡ place = ends_at c.args.key page.entries place before.1 inside (omega (arith, key, c.if-key-found.true)) in
     sym (ap (slice_get page.entries) end ∙ (slice_get-get_or page.entries place (0, 0) inside ∙ (λ i. let e : ℕ × ℕ = (sym key i, sym value i) in Some e)))
 
 pub returns-clause-entry : goal.returns-clause-entry
-returns-clause-entry c page reads =
-    let first : ReadsPage c.load_word-count.new.seat.me c.args.row page = subst (λ (x : SeatState). ReadsPage x c.args.row page) (sym c.load_word-count.ensures.same.2) reads in
-    let before = c.loop-place.invariant.before page first in
+returns-clause-entry c row page begins reads =
+    let first : ReadsPage c.load_word-count.new.seat.me row page = subst (λ (x : SeatState). ReadsPage x row page) (sym c.load_word-count.ensures.same.2) reads in
+    let before = c.loop-place.invariant.before row page begins first in
     sym (none_past page.entries (place_of c.args.key page.entries) (omega (arith, before.0, before.1, c.loop-place-test.false)))

@@ -20,22 +20,22 @@ ends me row head prime reads loaded =
     (omega (arith, levels, long), omega (arith, long, few))
 
 pub overflow_add-stop : goal.overflow_add-stop
-overflow_add-stop c = let end = ends _ _ _ c.requires.prime.0 c.requires.prime.1 c.load_words.ensures.loaded in omega (arith, end)
+overflow_add-stop c = let end = ends _ _ _ c.requires.prime.0 c.requires.prime.1 (λ content. c.load_words.ensures.loaded c.args.row content c.row_place-start.ensures.start) in omega (arith, end)
 
 pub load_words-requires-2-clause-places : goal.load_words-requires-2-clause-places
-load_words-requires-2-clause-places c = let end = ends _ _ _ c.requires.prime.0 c.requires.prime.1 c.load_words.ensures.loaded in (omega arith, omega (arith, end))
+load_words-requires-2-clause-places c = let end = ends _ _ _ c.requires.prime.0 c.requires.prime.1 (λ content. c.load_words.ensures.loaded c.args.row content c.row_place-start.ensures.start) in (omega arith, omega (arith, end))
 
 pub returns-clause-words : goal.returns-clause-words
 returns-clause-words c prime reads =
     let content = prime_words prime in
     let again = ap (λ (x : SeatState). x.0.reads) c.load_words.ensures.same.2 ∙ reads.reads in
-    let end = ends _ _ _ prime reads c.load_words.ensures.loaded in
+    let end = ends _ _ _ prime reads (λ words. c.load_words.ensures.loaded c.args.row words c.row_place-start.ensures.start) in
     record {
       width = c.load_words-2.ensures.width;
       filled = λ n inside. elim (dec_le HEAD_WORDS n) [
-        | no below ↦ c.load_words-2.ensures.others n (inl (omega (arith, below))) ∙ c.load_words.ensures.loaded content reads.reads n (omega arith) (omega (arith, below))
+        | no below ↦ c.load_words-2.ensures.others n (inl (omega (arith, below))) ∙ c.load_words.ensures.loaded c.args.row content c.row_place-start.ensures.start reads.reads n (omega arith) (omega (arith, below))
         | yes behind ↦ elim (dec_le (length content) n) [
-          | no within ↦ c.load_words-2.ensures.loaded content again n behind (omega (arith, within, end))
+          | no within ↦ c.load_words-2.ensures.loaded c.args.row content c.row_place-start.ensures.start again n behind (omega (arith, within, end))
           | yes beyond ↦
               c.load_words-2.ensures.others n (inr (omega (arith, beyond, end)))
               ∙ (c.load_words.ensures.others n (inr behind) ∙ (get_or-replicate ROW_WORDS n 0 0 inside ∙ sym (get_or_past content n 0 beyond)))

@@ -1,8 +1,6 @@
-use Rattle.std.proofs.Common.{◌≡◌, ℕ, ◌<◌, List, ap, sym, subst, arith}
-use Rattle.blink_page.specs.{PlainPage, IsLawfulPage}
-use Rattle.blink_page.specs.declared.limits.TheConstants.{MAX_FAN}
-use Rattle.blink_rows.specs.{PlainCounts, IsPageRow}
-use Rattle.blink_rows.proofs.Offered.{row_has_one_page}
+use Rattle.std.proofs.Common.{◌≡◌, ℕ, ◌<◌, ap, sym, subst, arith}
+use Rattle.blink_page.specs.{PlainPage}
+use Rattle.blink_rows.specs.{PlainCounts}
 use Rattle.blink_machine.specs.{IsReadable, PlainMachine, SeesPage}
 use Rattle.blink_live.specs.AtomicSteps.{LoadsPage}
 use Rattle.blink_live.specs.Seats.{ReadsPage}
@@ -20,25 +18,26 @@ load-row-requires c =
     )
 
 -- the page that the row's words tell is the one that the page word's load told
-same_page : (m : PlainMachine) (number row : ℕ) (me : SeatState) (machine : PlainMachine) (then : SeatState) (page : PlainPage) (words : List ℕ) (loads : LoadsPage m number me row machine then)
-    → ((told : PlainPage) → ReadsPage then row told → IsPageRow told words) → IsLawfulPage MAX_FAN page → IsPageRow page words → loads.page ≡ page
-same_page m number row me machine then page words loads read lawful is =
-    row_has_one_page loads.page page words loads.lawful lawful (read loads.page (record { reads = ap (λ (x : SeatState). x.0.reads) loads.is; lawful = loads.lawful })) is
+reads_it : {m machine : PlainMachine} {number row : ℕ} {me then : SeatState} → (loads : LoadsPage m number me row machine then) → ReadsPage then row loads.page
+reads_it loads = record { reads = ap (λ (x : SeatState). x.0.reads) loads.is; lawful = loads.lawful }
 
-readable : (c : goal.After-page-2-1) → IsReadable c.args.machine.now c.in-Some.page
-readable c =
-    let loads = (c.load-row.ensures.2 c.args.machine.now c.requires.at c.requires.needs).1 in
-    let same = same_page _ _ _ _ _ _ _ _ loads c.read_row-words.ensures.words (rw c.page.view_is at c.page.invariant) c.in-Some.ensures.page in
-    subst (IsReadable c.args.machine.now) same loads.readable
+readable : {m machine : PlainMachine} {number row : ℕ} {me then : SeatState} {page : PlainPage} → (loads : LoadsPage m number me row machine then) → page ≡ loads.page → IsReadable m page
+readable {m} loads same = subst (IsReadable m) (sym same) loads.readable
 
 pub saw_page-requires-clause-level : goal.saw_page-requires-clause-level
-saw_page-requires-clause-level c = (readable c).has_level
+saw_page-requires-clause-level c =
+    let loads = (c.load-row.ensures.2 c.args.machine.now c.requires.at c.requires.needs).1 in
+    (readable loads (c.page_in_row-page.ensures.page loads.page (reads_it loads))).has_level
 
 pub saw_page-requires-clause-below : goal.saw_page-requires-clause-below
-saw_page-requires-clause-below c = (readable c).floor_below
+saw_page-requires-clause-below c =
+    let loads = (c.load-row.ensures.2 c.args.machine.now c.requires.at c.requires.needs).1 in
+    (readable loads (c.page_in_row-page.ensures.page loads.page (reads_it loads))).floor_below
 
 pub saw_page-requires-clause-at_most_fan : goal.saw_page-requires-clause-at_most_fan
-saw_page-requires-clause-at_most_fan c = (readable c).at_most_fan
+saw_page-requires-clause-at_most_fan c =
+    let loads = (c.load-row.ensures.2 c.args.machine.now c.requires.at c.requires.needs).1 in
+    (readable loads (c.page_in_row-page.ensures.page loads.page (reads_it loads))).at_most_fan
 
 pub returns-clause-read : goal.returns-clause-read
 returns-clause-read c =
@@ -47,7 +46,7 @@ returns-clause-read c =
     let row = c.load-row.result in
     let after : PlainMachine = c.saw_page.new.self in
     let loads = c.load-row.ensures.2 m c.requires.at c.requires.needs in
-    let page_is = same_page _ _ _ _ _ _ _ _ loads.1 c.read_row-words.ensures.words (rw c.page.view_is at c.page.invariant) c.in-Some.ensures.page in
+    let page_is = sym (c.page_in_row-page.ensures.page loads.1.page (reads_it loads.1)) in
     let sees : SeesPage m c.args.number loads.1.page after = subst (λ (page : PlainPage). SeesPage m c.args.number page after) (sym page_is) (c.saw_page.ensures c.args.number c.requires.needs) in
     let same : after ≡ loads.0 = loads.1.only after sees in
-    (row, subst (λ (x : PlainMachine × SeatState). LoadsPage m c.args.number me row x.0 x.1) (λ i. (sym same i, sym c.read_row-words.ensures.same.2 i)) loads.1)
+    (row, subst (λ (x : PlainMachine × SeatState). LoadsPage m c.args.number me row x.0 x.1) (λ i. (sym same i, sym c.page_in_row-page.ensures.same.2 i)) loads.1)

@@ -1,44 +1,56 @@
-use Rattle.std.proofs.Common.{◌≡◌, ℕ, ◌<◌, Option, ap, sym, ◌∙◌, subst, arith}
-use Rattle.blink_page.specs.{PlainPage, value_at, Leads}
+use Rattle.std.proofs.Common.{◌≡◌, ℕ, ◌≤◌, ◌<◌, ap, sym, ◌∙◌, subst, arith}
 use Rattle.blink_rows.specs.{PlainCounts}
-use Rattle.blink_batch.specs.{key_of}
-use Rattle.blink_page.specs.declared.search.Way.{Way}
-use Rattle.blink_machine.specs.declared.machine.Job.{Job}
-use Rattle.blink_machine.specs.{TellsWay, IsReadable, PlainMachine, key_of_job, target, SeesPage, on_its_way}
-use Rattle.blink_live.specs.Seats.{IsGoing, ReadsPage, TellsWayFor}
+use Rattle.blink_machine.specs.declared.machine.State.{State}
+use Rattle.blink_machine.specs.{PlainMachine, at_state, level_read, need_at}
+use Rattle.blink_live.specs.declared.view.Plan.{Plan}
+use Rattle.blink_live.specs.declared.view.View.{View}
 use Rattle.blink_live.specs.AtomicSteps.{LoadsPage}
+use Rattle.blink_live.specs.Seats.{IsAtPage, ReadsPage, ReadsWay}
 use Rattle.blink_live.specs.Views.{SeatState}
 use Rattle.blink_live.proofs.found.ReadsPage.{reads_page_word}
 use Rattle.blink_live.proofs.live.Live.read_page.Goals as goal
 
 pub load-row-requires : goal.load-row-requires
 load-row-requires c =
-    let in_range = c.requires.in_range in (
+    let in_range = c.requires.in_range in
+    let m : PlainMachine = c.requires.at.0 in
+    let at : IsAtPage m c.args.key c.args.number c.args.level = c.requires.at.1 in (
       c.requires.seat.same_table,
       omega (arith, c.args.self.now.width, in_range),
-      reads_page_word _ _ _ _ _ c.args.machine.now c.requires.seat.role c.requires.at c.requires.fits c.requires.needs in_range.0
+      reads_page_word _ _ _ _ _ m c.requires.seat.role c.requires.at.2 at.fits (ap need_at at.state) in_range.0
           (subst (λ (counts : PlainCounts). c.args.number < counts.numbers) c.args.self.now.counts_are in_range.1),
     )
 
--- what an operation on its way down learns from the row
-tells_way : (m : PlainMachine) (key number : ℕ) (page : PlainPage) (way : Way) (kept : Option ℕ) → IsGoing m → key ≡ target m → IsReadable m page → TellsWayFor key page way kept → TellsWay m page way kept
-tells_way m key number page way kept going same readable tells = record {
-  has_level = readable.has_level;
-  leads = subst (λ (k : ℕ). Leads page k way) same tells.leads;
-  maps = λ found op here.
-      let is_found : key ≡ found = same ∙ ap (λ (job : Job). key_of_job m.op job) going.same_job ∙ ap key_of op in
-      subst (λ (k : ℕ). value_at k page.entries ≡ kept) is_found (tells.maps here);
-}
+reads_page : {m machine : PlainMachine} {key number level row : ℕ} {me then : SeatState} → IsAtPage m key number level → (loads : LoadsPage m number me row machine then) → ReadsPage then row loads.page × (loads.page.level ≡ level)
+reads_page {m} at loads =
+    (record { reads = ap (λ (x : SeatState). x.0.reads) loads.is; lawful = loads.lawful }, loads.readable.has_level ∙ ap (λ (state : State). level_read (at_state m state)) at.state)
 
-pub returns-clause-read : goal.returns-clause-read
-returns-clause-read c =
-    let m : PlainMachine = c.args.machine.now in
-    let me : SeatState = c.args.seat.now.me in
-    let row = c.load-row.result in
-    let after : PlainMachine = c.saw_way.new.self in
-    let loads = c.load-row.ensures.2 m c.requires.at c.requires.needs in
-    let reads : ReadsPage c.load-row.new.seat.me row loads.1.page = record { reads = ap (λ (x : SeatState). x.0.reads) loads.1.is; lawful = loads.1.lawful } in
-    let tells = tells_way m c.target.result c.args.number loads.1.page c.way_from-way.result.0 c.way_from-way.result.1 c.requires.going c.target.ensures loads.1.readable (c.way_from-way.ensures.way loads.1.page reads) in
-    let sees : SeesPage m c.args.number loads.1.page after = on_its_way (c.saw_way.ensures c.args.number loads.1.page c.requires.needs tells) in
-    let same : after ≡ loads.0 = loads.1.only after sees in
-    (row, subst (λ (x : PlainMachine × SeatState). LoadsPage m c.args.number me row x.0 x.1) (λ i. (sym same i, sym c.way_from-way.ensures.same.2 i)) loads.1)
+pub way_from-requires-clause-seat : goal.way_from-requires-clause-seat
+way_from-requires-clause-seat c =
+    let at : IsAtPage c.requires.at.0 c.args.key c.args.number c.args.level = c.requires.at.1 in
+    let loads = (c.load-row.ensures.2 c.requires.at.0 c.requires.at.2 (ap need_at at.state)).1 in
+    let same = ap (λ (x : SeatState). x.0) loads.is in record {
+      same_table = c.load-row.ensures.0 ∙ c.requires.seat.same_table;
+      same_plan = ap (λ (v : View). v.plan) same ∙ c.requires.seat.same_plan;
+      role = ap (λ (v : View). v.role) same ∙ c.requires.seat.role;
+    }
+
+pub way_from-requires-clause-row : goal.way_from-requires-clause-row
+way_from-requires-clause-row c =
+    let at : IsAtPage c.requires.at.0 c.args.key c.args.number c.args.level = c.requires.at.1 in
+    let loads = (c.load-row.ensures.2 c.requires.at.0 c.requires.at.2 (ap need_at at.state)).1 in
+    subst (λ (counts : PlainCounts). (1 ≤ c.load-row.result) × (c.load-row.result ≤ counts.rows)) (ap (λ (p : Plan). p.counts) c.requires.seat.same_plan ∙ sym c.args.self.now.counts_are) loads.row_in_range
+
+pub way_from-requires-clause-page : goal.way_from-requires-clause-page
+way_from-requires-clause-page c =
+    let at : IsAtPage c.requires.at.0 c.args.key c.args.number c.args.level = c.requires.at.1 in
+    let loads = (c.load-row.ensures.2 c.requires.at.0 c.requires.at.2 (ap need_at at.state)).1 in
+    let reads = reads_page at loads in
+    (loads.page, reads.0, reads.1)
+
+pub returns-clause-way : goal.returns-clause-way
+returns-clause-way c m at is =
+    let loads = c.load-row.ensures.2 m is (ap need_at at.state) in
+    let reads = reads_page at loads.1 in
+    subst (ReadsWay m c.args.key c.args.number c.args.seat.now.me c.way_from.result.0 c.way_from.result.1) (sym c.way_from.ensures.same.2)
+    (record { row = c.load-row.result; machine = loads.0; loads = loads.1; tells = c.way_from.ensures.way loads.1.page reads.0 reads.1 })

@@ -11,14 +11,14 @@ not_none : {A : Type 0} (o : Option A) → IsSome o → o ≡ None → ⊥
 not_none (Some x) some none = cc
 not_none None some none = cc
 
-pub descend-machine-requires : goal.descend-machine-requires
-descend-machine-requires g c = record { seat = c.requires.seat; idle = c.requires.idle; fits = c.requires.fits; can_begin = c.requires.can_begin }
+pub descend-requires : goal.descend-requires
+descend-requires g c = record { seat = c.requires.seat; fresh = c.new-machine.ensures; idle = c.requires.idle; fits = c.requires.fits; can_begin = c.requires.can_begin }
 
 pub loop-init : goal.loop-init
 loop-init g c =
-    let descended = c.descend-machine.ensures in record {
+    let descended = c.descend.ensures in record {
       turns = (tt, tt);
-      under_way = is_under_way c.args.self.now c.args.op c.args.own c.args.seat.now c.descend-machine.new.seat c.descend-machine.result c.args.room
+      under_way = is_under_way c.args.self.now c.args.op c.args.own c.args.seat.now c.descend.new.seat c.descend.new.machine c.args.room
           (can_update c.args.self.now c.args.op c.args.own c.args.seat.now c.requires.seat c.requires.updates c.requires.fits c.requires.own c.requires.own_key c.requires.can_begin descended.rows descended.pages)
           descended.same_table descended.read descended.at_leaf (c.requires.rows, c.requires.pages);
     }

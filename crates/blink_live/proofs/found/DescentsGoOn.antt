@@ -1,0 +1,170 @@
+-- A descent goes from the root on, page by page, the way that the loaded words tell.
+use Rattle.std.proofs.Common.{◌≡◌, ℕ, zero, suc, ◌+◌, ◌-◌, ◌<◌, ◌≤◌, Option, Some, None, List, [], ◌∷◌, length, refl, ap, sym, ◌∙◌, subst, arith}
+use Rattle.std.specs.Prelude.{slice_get}
+use Rattle.std.specs.List.{last_or}
+use mathlib.Core.List.{IsPrefix}
+use Rattle.blink_batch.specs.{FitsWords, answer_at, key_of}
+use Rattle.blink_batch.specs.declared.Answer.{Answer}
+use Rattle.blink_batch.specs.declared.Op.{Op}
+use Rattle.blink_batch.specs.declared.Op.TheVariants.{Find}
+use Rattle.blink_page.specs.{Leads, PlainPage, value_at}
+use Rattle.blink_page.specs.declared.search.Way.{Way}
+use Rattle.blink_page.specs.declared.search.Way.TheVariants.{Right, Down, Here}
+use Rattle.blink_machine.specs.declared.machine.Job.{Job}
+use Rattle.blink_machine.specs.declared.machine.State.{State}
+use Rattle.blink_machine.specs.declared.machine.State.TheVariants.{Going, Ended}
+use Rattle.blink_machine.specs.{IsReadable, IsTopLeftmost, PlainMachine, SeesOnItsWay, SeesPage, SeesPrime, TellsWay, at_state, fresh, key_of_job, level_read, target}
+use Rattle.blink_live.specs.declared.view.Change.{Change}
+use Rattle.blink_live.specs.Seats.{BeginsAt, HasComeTo, HasRead, IsAtPage, IsDescending, IsGoing, ReadsWay, TellsWayFor, at_leaf, found, going, wants}
+use Rattle.blink_live.specs.Views.{SeatState, for_call, known_of}
+use Rattle.blink_live.proofs.found.OperationsOnTheirWay.{goes_down, same_reading}
+
+-- ---- the root
+
+-- the last of a list whose length is known
+last_at : (d : Option ℕ) (xs : List ℕ) (n x : ℕ) → length xs ≡ suc n → slice_get xs n ≡ Some x → last_or d xs ≡ Some x
+last_at d [] n x long at = absurd (omega (arith, long))
+last_at d (y ∷ []) zero x long at = at
+last_at d (y ∷ []) (suc n) x long at = absurd (omega (arith, long))
+last_at d (y ∷ z ∷ xs) zero x long at = absurd (omega (arith, long))
+last_at d (y ∷ z ∷ xs) (suc n) x long at = last_at (Some y) (z ∷ xs) n x (omega (arith, long)) at
+
+-- an operation that has begun reads the root next
+abbrev pub at_root : ℕ → Op → ℕ → ℕ → PlainMachine
+at_root fan op number level = record (fresh fan op) { remembered = []; state = Going number level }
+
+pub sees_root : (fan : ℕ) (op : Op) (prime : List ℕ) (number level : ℕ) → IsTopLeftmost prime level number → SeesPrime (fresh fan op) prime (at_root fan op number level)
+sees_root fan op prime number level top =
+    let high : length prime ≡ level + 1 = top.top in
+    SeesPrime.begins number refl (last_at None prime level number (omega (arith, high)) top.leftmost)
+    (ap (at_root fan op number) (let e : level ≡ length prime - 1 = omega (arith, high) in e))
+
+module _ (op : Op) (number level : ℕ) (me then : SeatState) (begun : BeginsAt op me number level then) where
+  is_at_root : begun.machine ≡ at_root me.0.plan.fan op number level
+  is_at_root = sym (begun.begins.only (at_root me.0.plan.fan op number level) (sees_root me.0.plan.fan op begun.begins.prime number level begun.top))
+
+  pub read_at_root : HasRead op (for_call me.0 op, me.1) then begun.machine
+  read_at_root =
+      let begins = begun.begins in record {
+        same = (same_reading (for_call me.0 op) begun.machine begins.way begun.row _ begins.seen then.0 (ap (λ (x : SeatState). x.0) begins.is), ap (λ (x : SeatState). x.1) begins.is);
+        saw = subst (λ (seen : List Change). IsPrefix me.0.seen seen) (sym (ap (λ (x : SeatState). x.0.seen) begins.is)) begins.learns.saw;
+        knows_own = begins.knows_own;
+        operation = ap (λ (x : SeatState). x.0.operation) begins.is;
+        same_op = ap (λ (m : PlainMachine). m.op) is_at_root;
+        same_job = ap (λ (m : PlainMachine). m.job) is_at_root;
+        next = begins.next;
+      }
+
+  pub state_at_root : begun.machine.state ≡ Going number level
+  state_at_root = ap (λ (m : PlainMachine). m.state) is_at_root
+
+  pub none_at_root : begun.machine.answer ≡ None
+  none_at_root = ap (λ (m : PlainMachine). m.answer) is_at_root
+
+  pub comes_to_root : HasComeTo op (for_call me.0 op, me.1) then number level
+  comes_to_root = record { machine = begun.machine; read = read_at_root; state = state_at_root; none_yet = none_at_root }
+
+-- ---- any operation at a page
+
+pub at_page : (op : Op) (key number level : ℕ) (first me : SeatState) (m : PlainMachine) → HasRead op first me m → FitsWords op → key_of op ≡ key → m.state ≡ Going number level → IsAtPage m key number level
+at_page op key number level first me m read fits same_key state = record {
+  state = state;
+  same_job = read.same_job;
+  same_key = ap key_of read.same_op ∙ same_key;
+  fits = subst FitsWords (sym read.same_op) fits;
+}
+
+-- what an operation in its descent learns from the row
+pub tells_way : (m : PlainMachine) (key number level : ℕ) (page : PlainPage) (way : Way) (kept : Option ℕ) → IsAtPage m key number level → IsReadable m page → TellsWayFor key page way kept → TellsWay m page way kept
+tells_way m key number level page way kept at readable tells =
+    let its_key : key ≡ target m = sym (ap (λ (job : Job). key_of_job m.op job) at.same_job ∙ at.same_key) in record {
+      has_level = readable.has_level;
+      leads = subst (λ (k : ℕ). Leads page k way) its_key tells.leads;
+      maps = λ found_key op here. subst (λ (k : ℕ). value_at k page.entries ≡ kept) (sym at.same_key ∙ ap key_of op) (tells.maps here);
+    }
+
+pub goes_on_down : (op : Op) (key number level : ℕ) (first me new : SeatState) (m after : PlainMachine) (way : Way) (kept : Option ℕ) → HasRead op first me m → m.answer ≡ None → IsAtPage m key number level → (reads : ReadsWay m key number me way kept new)
+    → SeesOnItsWay m number reads.loads.page after → HasRead op first new after × IsDescending op (known_of new.0 (key_of op)) after
+goes_on_down op key number level first me new m after way kept read none_yet at reads sees =
+    let same : after ≡ reads.machine = reads.loads.only after (SeesPage.on_its_way sees) in
+    subst (λ (x : PlainMachine). HasRead op first new x × IsDescending op (known_of new.0 (key_of op)) x) (sym same)
+    (goes_down op number reads.row first me m reads.machine new read (record { same_job = at.same_job; on_its_way = (number, level, at.state) }) none_yet reads.loads)
+
+-- ---- a find from page to page
+
+module _ (op : Op) (key number level : ℕ) (first me new : SeatState) (way : Way) (kept : Option ℕ) (has : HasComeTo op first me number level) (same_key : key_of op ≡ key)
+    (reads : ReadsWay has.machine key number me way kept new) where
+  its_key : target has.machine ≡ key
+  its_key = ap (λ (job : Job). key_of_job has.machine.op job) has.read.same_job ∙ (ap key_of has.read.same_op ∙ same_key)
+
+  leads : Leads reads.loads.page (target has.machine) way
+  leads = subst (λ (k : ℕ). Leads reads.loads.page k way) (sym its_key) reads.tells.leads
+
+  its_level : reads.loads.page.level ≡ level
+  its_level = reads.loads.readable.has_level ∙ ap (λ (state : State). level_read (at_state has.machine state)) has.state
+
+  goes : IsGoing has.machine
+  goes = record { same_job = has.read.same_job; on_its_way = (number, level, has.state) }
+
+  now : HasRead op first new reads.machine × IsDescending op (known_of new.0 (key_of op)) reads.machine
+  now = goes_down op number reads.row first me has.machine reads.machine new has.read goes has.none_yet reads.loads
+
+  is_machine : (other : PlainMachine) → SeesOnItsWay has.machine number reads.loads.page other → reads.machine ≡ other
+  is_machine other sees = sym (reads.loads.only other (SeesPage.on_its_way sees))
+
+  pub comes_right : (next : ℕ) → way ≡ Right next → HasComeTo op first new next level
+  comes_right next right =
+      let is : reads.machine ≡ at_state has.machine (Going next level) =
+      is_machine (at_state has.machine (Going next level)) (SeesOnItsWay.goes_right level next has.state (subst (Leads reads.loads.page (target has.machine)) right leads) refl) in record {
+        machine = reads.machine;
+        read = now.0;
+        state = ap (λ (x : PlainMachine). x.state) is;
+        none_yet = ap (λ (x : PlainMachine). x.answer) is ∙ has.none_yet;
+      }
+
+  pub is_above_child : (child : ℕ) → way ≡ Down child → 1 ≤ level
+  is_above_child child down =
+      let above = (subst (Leads reads.loads.page (target has.machine)) down leads).1 in
+      let same = its_level in
+      omega (arith, above, same)
+
+  pub comes_down : (child : ℕ) → way ≡ Down child → HasComeTo op first new child (level - 1)
+  comes_down child down =
+      let some = is_above_child child down in
+      let at : has.machine.state ≡ Going number (level - 1 + 1) = has.state ∙ ap (Going number) (let e : level ≡ level - 1 + 1 = omega (arith, some) in e) in
+      let is : reads.machine ≡ record has.machine { remembered = number ∷ has.machine.remembered; state = Going child (level - 1) } =
+      is_machine (record has.machine { remembered = number ∷ has.machine.remembered; state = Going child (level - 1) })
+      (SeesOnItsWay.goes_down (level - 1) child at (subst (Leads reads.loads.page (target has.machine)) down leads) refl) in record {
+        machine = reads.machine;
+        read = now.0;
+        state = ap (λ (x : PlainMachine). x.state) is;
+        none_yet = ap (λ (x : PlainMachine). x.answer) is ∙ has.none_yet;
+      }
+
+  pub comes_nearer_by_way : new.0.descent_bound < me.0.descent_bound
+  comes_nearer_by_way = subst (λ (x : SeatState). x.0.descent_bound < me.0.descent_bound) (sym reads.loads.is) (reads.loads.nearer level has.state)
+
+  some_same : (a b : Answer) → Some a ≡ Some b → a ≡ b
+  some_same a b is = cc
+
+  abbrev answered : Answer → PlainMachine
+  answered answer = record has.machine { state = Ended; answer = Some answer }
+
+  module _ (is_find : op ≡ Find key) (here : way ≡ Here) where
+    ended_as : reads.machine ≡ answered (answer_at (Find key) kept)
+    ended_as =
+        is_machine (answered (answer_at (Find key) kept))
+        (SeesOnItsWay.find_answers level key has.state (subst (Leads reads.loads.page (target has.machine)) here leads) (has.read.same_op ∙ is_find)
+        (ap (λ (o : Option ℕ). answered (answer_at (Find key) o)) (sym (reads.tells.maps here))))
+
+    pub find_ends : HasRead op first new reads.machine × (reads.machine.state ≡ Ended)
+    find_ends = (now.0, ap (λ (x : PlainMachine). x.state) ended_as)
+
+    by_descent : IsDescending op (known_of new.0 (key_of op)) reads.machine → answer_at (Find key) kept ≡ answer_at op (known_of new.0 (key_of op))
+    by_descent (going is_going none_yet) = absurd (let given = ap (λ (x : PlainMachine). x.answer) ended_as in cc)
+    by_descent (at_leaf (wants page updates state none_yet)) = absurd (let given = ap (λ (x : PlainMachine). x.answer) ended_as in cc)
+    by_descent (at_leaf (found k found_is state answer)) =
+        some_same _ _ (sym (ap (λ (x : PlainMachine). x.answer) ended_as) ∙ answer)
+
+    pub answers_as_known : answer_at (Find key) kept ≡ answer_at (Find key) (known_of new.0 key)
+    answers_as_known = by_descent now.1 ∙ ap (λ (o : Op). answer_at o (known_of new.0 (key_of o))) is_find

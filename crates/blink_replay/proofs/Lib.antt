@@ -1,0 +1,10 @@
+pub mod TraceOfTurns
+pub mod LinesOfEntries
+pub mod ReplayOfBatch
+pub mod PartsAreServed
+pub mod ReplayOfParts
+pub mod TooLargeAmong
+pub mod FirstThatIsNoWorker
+pub mod WritersTake
+pub mod WhatWritersTake
+pub mod Offered
