@@ -1,13 +1,15 @@
 #!/bin/sh
-# Looks whether the documents say what is there: links and their anchors, paths, must-fail edits and names in backticks, and that no
-# old word stands in them. It prints a line for each finding and exits 1, or prints nothing and exits 0. A new old word goes to `old`.
+# Looks whether the documents say what is there: links and their anchors, paths, must-fail edits and names in backticks; that CHANGING.md
+# lists each edit; that no old word stands in them; and that they have fewer words than an engineer reads in an evening. It prints a line
+# for each finding and exits 1, or prints nothing and exits 0. A new old word goes to `old`.
 LC_ALL=C
 export LC_ALL
 cd "$(dirname "$0")/.." || exit 1
 work=$(mktemp -d) || exit 1
 trap 'rm -rf "$work"' EXIT
 
-documents="README.md docs/*.md crates/*/README.md"
+documents="README.md docs/*.md bench/README.md examples/README.md crates/*/README.md"
+most_words=22000
 
 # Names of code that were renamed, and words of prose that the field has others for.
 old='IsSound|Sound|SoundRun|SoundTree|SoundStatements|StepKeepsSound|TurnKeepsSoundRun|sound'
@@ -18,6 +20,7 @@ old="$old"'|Desk|desk|Outlet|Outlets|outlet|outlets|Pours|BreaksOff|GoesOut|Leav
 old="$old"'|Plays|Plays\.antt|Sat|drafts?|drafted|has_drafted|draft_row|DraftsKeepTable|RowsAreDrafted'
 old="$old"'|NUMBERS_OF_INSERTION|ROWS_OF_INSERTION|MOST_PASSES|is_too_large'
 old="$old"'|SawFrontOf|OneIsFront|FrontsOfOneList|IsAmong|StandsIn|fronts|fronts? of'
+old="$old"'|Keeps|EntriesThatATreeKeeps|kept under|keys? keeps?|keeps? (a|its|the) pointer|is kept for'
 
 # shellcheck disable=SC2086
 grep -nwE "$old" $documents | while IFS=: read -r file line text; do
@@ -27,6 +30,9 @@ done >"$work/found"
 
 # Every .md file, without what a build leaves; of each the lines outside code blocks.
 find . \( -name .git -o -name out \) -prune -o -name '*.md' -print | sed 's|^\./||' | sort >"$work/pages"
+
+words=$(xargs awk '{ words += NF } END { print words }' <"$work/pages")
+[ "$words" -lt $most_words ] || echo "all documents have $words words, and $most_words are too many" >>"$work/found"
 
 prose() {
     awk '/^```/ { code = !code; print ""; next } { print code ? "" : $0 }' "$1"
@@ -107,6 +113,11 @@ while IFS=: read -r page line text; do
             ;;
     esac
 done <"$work/quoted" >>"$work/found"
+
+for edit in crates/*/must-fail/*.edit; do
+    name=${edit##*/}
+    grep -q "${name%.edit}\`" docs/CHANGING.md || echo "docs/CHANGING.md: doesn't list $edit"
+done >>"$work/found"
 
 # Names: with an underscore, or with capital and small letters. Each stands in some source or file name; this script is none.
 {
