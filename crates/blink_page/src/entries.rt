@@ -26,20 +26,36 @@ pub(crate) fn add<const ROOM: usize>(items: &mut ArrayVec<(u64, u64), ROOM>, key
     ensures one_more { array_vec_len items.new ≡ array_vec_len items.old + 1 }
 {
     let at = place(items, key);
-    items.insert(at, (key, value));
+    add_at(items, at, key, value);
 }
 
-/// Replaces the first entry whose key is at least `key`.
-pub(crate) fn set_among<const ROOM: usize>(
+/// Adds an entry at its place, which the caller has found.
+pub(crate) fn add_at<const ROOM: usize>(
     items: &mut ArrayVec<(u64, u64), ROOM>,
+    at: usize,
     key: u64,
     value: u64,
 )
-    requires rise { Rises items.old.items }
+    requires place { at ≡ place_of key items.old.items }
+    requires within { at ≤ array_vec_len items.old }
+    requires room { array_vec_len items.old < ROOM }
+    ensures entries { items.new.items ≡ added (key, value) items.old.items }
+    ensures one_more { array_vec_len items.new ≡ array_vec_len items.old + 1 }
+{
+    items.insert(at, (key, value));
+}
+
+/// Replaces the first entry whose key is at least `key`, which the caller has found.
+pub(crate) fn set_at<const ROOM: usize>(
+    items: &mut ArrayVec<(u64, u64), ROOM>,
+    at: usize,
+    key: u64,
+    value: u64,
+)
+    requires place { at ≡ place_of key items.old.items }
     requires there { place_of key items.old.items < array_vec_len items.old }
     ensures { items.new.items ≡ slice_set items.old.items (place_of key items.old.items) (key, value) }
 {
-    let at = place(items, key);
     items[at] = (key, value);
 }
 
@@ -57,6 +73,22 @@ pub(crate) fn post_among<const ROOM: usize>(
     ensures one_more { array_vec_len items.new ≡ array_vec_len items.old + 1 }
 {
     let at = place(items, separator);
+    post_at(items, at, separator, new);
+}
+
+/// Posts a separator at its place, which the caller has found.
+pub(crate) fn post_at<const ROOM: usize>(
+    items: &mut ArrayVec<(u64, u64), ROOM>,
+    at: usize,
+    separator: u64,
+    new: u64,
+)
+    requires place { at ≡ place_of separator items.old.items }
+    requires room { array_vec_len items.old < ROOM }
+    requires below_last { place_of separator items.old.items < array_vec_len items.old }
+    ensures entries { items.new.items ≡ posted (separator, new) items.old.items }
+    ensures one_more { array_vec_len items.new ≡ array_vec_len items.old + 1 }
+{
     let (above, child) = items[at];
     items[at] = (above, new);
     items.insert(at, (separator, child));

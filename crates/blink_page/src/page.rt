@@ -86,4 +86,17 @@ impl Page {
             items: copied(&self.items),
         }
     }
+
+    /// Makes this page the same as another. Of a page that isn't full only the entries that are there are copied. The call takes
+    /// no memory.
+    pub fn assign(&mut self, other: &Page)
+        ensures { self.new ≡ other.now }
+    {
+        self.level = other.level;
+        self.floor = other.floor;
+        self.high = other.high;
+        self.right = other.right;
+        self.items.clear();
+        let _fits = self.items.try_extend_from_slice(&other.items);
+    }
 }

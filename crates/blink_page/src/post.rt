@@ -4,8 +4,9 @@ ghost use Rattle.blink_page.specs.Limits.{IsFan, IsPageNumber};
 ghost use Rattle.blink_page.specs.Entries.{value_at, posted};
 ghost use Rattle.blink_page.specs.Page.{IsKeyOf, with_entries};
 
-use crate::entries::post_among;
+use crate::entries::post_at;
 use crate::page::Page;
+use crate::search::place;
 
 /// The result of a posting.
 #[derive(Clone, Copy, Debug, PartialEq, Eq)]
@@ -37,13 +38,14 @@ impl Page {
             (self.new ≡ with_entries self.old (posted (separator, child) self.old.entries)) }
         ensures unchanged { UnlessDone result (self.new ≡ self.old) }
     {
-        if self.look(separator).is_some() {
+        let at = place(&self.items, separator);
+        if self.value_there(at, separator).is_some() {
             return Post::Already;
         }
         if self.items.len() == usize::from(fan) {
             return Post::Full;
         }
-        post_among(&mut self.items, separator, u64::from(child));
+        post_at(&mut self.items, at, separator, u64::from(child));
         Post::Done
     }
 }

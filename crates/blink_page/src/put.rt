@@ -4,8 +4,9 @@ ghost use Rattle.blink_page.specs.Limits.{IsFan};
 ghost use Rattle.blink_page.specs.Entries.{value_at, added};
 ghost use Rattle.blink_page.specs.Page.{IsKeyOf, with_entries};
 
-use crate::entries::add;
+use crate::entries::add_at;
 use crate::page::Page;
+use crate::search::place;
 
 /// The result of a put. `Present` has the value that the key had already.
 #[derive(Clone, Copy, Debug, PartialEq, Eq)]
@@ -35,13 +36,14 @@ impl Page {
             (self.new ≡ with_entries self.old (added (key, value) self.old.entries)) }
         ensures unchanged { UnlessDone result (self.new ≡ self.old) }
     {
-        if let Some(found) = self.look(key) {
+        let at = place(&self.items, key);
+        if let Some(found) = self.value_there(at, key) {
             return Put::Present(found);
         }
         if self.items.len() == usize::from(fan) {
             return Put::Full;
         }
-        add(&mut self.items, key, value);
+        add_at(&mut self.items, at, key, value);
         Put::Done
     }
 }

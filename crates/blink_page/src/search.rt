@@ -35,7 +35,15 @@ impl Page {
     pub fn look(&self, key: u64) -> Option<u64>
         ensures { result ≡ value_at key self.now.entries }
     {
-        let at = place(&self.items, key);
+        self.value_there(place(&self.items, key), key)
+    }
+
+    // The value of the entry at the place of this key, if the entry is the key's.
+    pub(crate) fn value_there(&self, at: usize, key: u64) -> Option<u64>
+        requires place { at ≡ place_of key self.now.entries }
+        requires within { at ≤ length self.now.entries }
+        ensures { result ≡ value_at key self.now.entries }
+    {
         if at == self.items.len() {
             return None;
         }

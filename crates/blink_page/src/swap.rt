@@ -3,8 +3,9 @@ ghost use Rattle.std.specs.Prelude.{◌≡◌, IfNone};
 ghost use Rattle.blink_page.specs.Entries.{value_at, replaced};
 ghost use Rattle.blink_page.specs.Page.{with_entries};
 
-use crate::entries::set_among;
+use crate::entries::set_at;
 use crate::page::Page;
+use crate::search::place;
 
 impl Page {
     /// Replaces the value of this key of a leaf, and returns the one before. If the key is absent, nothing changes, and the call
@@ -15,10 +16,11 @@ impl Page {
         ensures entries { self.new ≡ with_entries self.old (replaced (key, value) self.old.entries) }
         ensures unchanged { IfNone result (self.new ≡ self.old) }
     {
-        let Some(before) = self.look(key) else {
+        let at = place(&self.items, key);
+        let Some(before) = self.value_there(at, key) else {
             return None;
         };
-        set_among(&mut self.items, key, value);
+        set_at(&mut self.items, at, key, value);
         Some(before)
     }
 }

@@ -15,10 +15,11 @@ impl Page {
         ensures entries { self.new ≡ with_entries self.old (removed key self.old.entries) }
         ensures unchanged { IfNone result (self.new ≡ self.old) }
     {
-        let Some(value) = self.look(key) else {
+        let at = place(&self.items, key);
+        let Some(value) = self.value_there(at, key) else {
             return None;
         };
-        self.items.remove(place(&self.items, key));
+        self.items.remove(at);
         Some(value)
     }
 }

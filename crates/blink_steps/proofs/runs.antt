@@ -14,3 +14,4 @@ pub mod DecidedAtEnd
 pub mod WhatRunsPromise
 pub mod RunLaws
 pub mod OneIdleWorkerMore
+pub mod NextInItsSeat

@@ -1,13 +1,14 @@
 -- The state of a worker between two turns.
-use Rattle.std.specs.Prelude.{◌≡◌, ℕ, Option, Some, None, List, slice_get, Result, IfOk, OnErr}
+use Rattle.std.specs.Prelude.{◌≡◌, ℕ, Option, Some, None, List, slice_get, slice_set, Result, IfOk, OnErr}
 use Rattle.blink_batch.specs.declared.Answer.{Answer}
 use Rattle.blink_steps.specs.Acts.{PlainShared, Acts, CanAct}
 use Rattle.blink_steps.specs.declared.error.StepError.{StepError}
 use Rattle.blink_machine.specs.declared.step.Step.{Step}
 use Rattle.blink_steps.specs.declared.seat.WorkerState.{WorkerState}
 use Rattle.blink_steps.specs.declared.seat.Working.{Working}
-use Rattle.blink_machine.specs.{PlainMachine, goes_on}
-use Rattle.blink_steps.specs.Run.{PlainRun, busy_seat}
+use Rattle.blink_batch.specs.declared.Op.{Op}
+use Rattle.blink_machine.specs.{PlainMachine, fresh, goes_on}
+use Rattle.blink_steps.specs.Run.{PlainRun, IsNextOf, busy_seat}
 
 -- the operation of a place, if it goes on
 abbrev pub working_after : Option PlainMachine → ℕ → Option Working
@@ -46,6 +47,20 @@ pub record HasOperation (run : PlainRun) (worker : ℕ) : Type 0 where
   pub m : PlainMachine
   pub next : Option ℕ
   pub seated : slice_get run.seats worker ≡ Some (busy_seat place m next)
+
+-- the run with another seat of the worker
+abbrev pub with_seat : PlainRun → ℕ → WorkerState → PlainRun
+with_seat run worker seat = record run { seats = slice_set run.seats worker seat }
+
+-- the worker was idle, and the next operation of its lane is in its seat, before the operation's first step
+pub record SeatsNext (old : PlainRun) (worker place : ℕ) (new : PlainRun) : Type 0 where
+  pub op : Op
+  pub m : PlainMachine
+  pub next : Option ℕ
+  pub same_machine : m ≡ fresh old.shared.store.fan op
+  pub was_next : IsNextOf old worker place m next
+  pub its_own : slice_get old.assignment.lanes place ≡ Some worker
+  pub seated : new ≡ with_seat old worker (busy_seat place m next)
 
 -- the next place of each worker is one of its own lane
 abbrev pub AreOfLanes : List ℕ → List WorkerState → Type 0

@@ -2,7 +2,7 @@
 ghost use Rattle.std.specs.Prelude.{◌≡◌, ◌↔◌, ◌+◌, ◌<◌, ℕ, Some, length, option_map, slice_get, IsTrue, IsNone, IfOk, IfSome, OnErr, IsOkUnless};
 ghost use Rattle.blink_steps.specs.Pick.{IsFirstMover, IsIdleWorker, WouldMove, WouldWait};
 ghost use Rattle.blink_steps.specs.Run.{AppliesSomeEvent, IsOpeningRun, idle_seat, working_of};
-ghost use Rattle.blink_steps.specs.Seats.{HasOperation};
+ghost use Rattle.blink_steps.specs.Seats.{HasOperation, SeatsNext, with_seat};
 ghost use Rattle.blink_steps.specs.RunInvariant.{CanTakeTurn};
 ghost use Rattle.blink_steps.specs.World.{HasEnded};
 
@@ -12,7 +12,7 @@ use crate::outcome::Outcome;
 use crate::seat::{WorkerState, Working};
 use crate::shared::Shared;
 use blink_batch::{Answer, Batch, Lanes};
-use blink_machine::{Machine, Step};
+use blink_machine::Step;
 use blink_store::{Latches, Store};
 use std::alloc::{AllocError, Global};
 use std::marker::Model;
@@ -126,18 +126,37 @@ impl Run {
         ensures refused { IsOkUnless result StepError.OutOfMemory }
         ensures unchanged { OnErr result (self.new ≡ self.old) }
     {
-        let op = self.batch.ops()[place as usize];
-        let mut machine = Machine::new(op, self.shared.fan());
-        let step = self.shared.act(worker, &mut machine)?;
-        if let Step::Moved(kind) = step {
-            self.outcome.note(place, kind, None, machine.answer());
-            let next = self.following[place as usize];
-            self.seats[usize::from(worker)] = WorkerState {
-                working: Some(Working { place, machine }),
-                next,
-            };
+        self.seat_next(worker, place);
+        match self.go_on(worker) {
+            Ok(step) => Ok(step),
+            Err(refusal) => {
+                self.unseat(worker, place);
+                Err(refusal)
+            }
         }
-        Ok(step)
+    }
+
+    // Seats the next operation of the worker's lane before its first step.
+    fn seat_next(&mut self, worker: u8, place: u32)
+        requires ready { CanTakeTurn self.old worker }
+        requires idle { slice_get self.old.seats worker ≡ Some (idle_seat (Some place)) }
+        ensures { SeatsNext self.old worker place self.new }
+    {
+        let op = self.batch.ops()[place as usize];
+        let next = self.following[place as usize];
+        let fan = self.shared.fan();
+        self.seats[usize::from(worker)].begin(place, op, fan, next);
+    }
+
+    // Makes the worker idle again, with the place of its next operation.
+    fn unseat(&mut self, worker: u8, place: u32)
+        requires worker { worker < length self.old.seats }
+        requires of_lane { slice_get self.old.assignment.lanes place ≡ Some worker }
+        ensures { self.new ≡ with_seat self.old worker (idle_seat (Some place)) }
+    {
+        let seat = &mut self.seats[usize::from(worker)];
+        seat.working = None;
+        seat.next = Some(place);
     }
 
     /// Whether every operation has ended: each worker is idle, and its lane is at its end.

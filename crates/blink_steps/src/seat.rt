@@ -1,10 +1,13 @@
 //! The state of a worker: its operation under way, and the next one of its lane.
 ghost use Rattle.std.specs.Prelude.{◌≡◌, IsOkUnless};
+ghost use Rattle.blink_page.specs.{IsFan};
+ghost use Rattle.blink_machine.specs.{fresh};
+ghost use Rattle.blink_steps.specs.Run.{busy_seat};
 ghost use Rattle.blink_steps.specs.Seats.{left_in_seat, answer_in_seat, IsAbleInSeat, ActsInSeat};
 
 use crate::error::StepError;
 use crate::shared::Shared;
-use blink_batch::Answer;
+use blink_batch::{Answer, Op};
 use blink_machine::{Machine, Step};
 
 /// An operation under way, and its place in the batch.
@@ -25,6 +28,18 @@ pub(crate) struct WorkerState {
 }
 
 impl WorkerState {
+    /// Begins an operation. Its machine is made in its seat, since it is large.
+    pub(crate) fn begin(&mut self, place: u32, op: Op, fan: u8, next: Option<u32>)
+        requires { IsFan fan }
+        ensures { self.new ≡ busy_seat place (fresh fan op) next }
+    {
+        self.working = Some(Working {
+            place,
+            machine: Machine::new(op, fan),
+        });
+        self.next = next;
+    }
+
     /// Takes a step of the operation. The operation stays in place meanwhile, since it is large.
     pub(crate) fn act(&mut self, shared: &mut Shared, worker: u8) -> Result<Step, StepError>
         requires { IsAbleInSeat shared.old worker self.old }

@@ -108,7 +108,7 @@ impl Shared {
         ensures count { length self.new.store.pages ≡ length self.old.store.pages }
         ensures latches { self.new.latches ≡ self.old.latches }
     {
-        self.store.write(number, machine.page_out(0));
+        self.store.write_from(number, machine.page_in_place(number));
     }
 
     // Adds the new page that the operation wants written, under the next number.

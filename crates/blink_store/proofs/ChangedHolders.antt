@@ -1,8 +1,8 @@
 -- What one change of the list of held pages does to the holders.
-use Rattle.std.proofs.Common.{◌≡◌, ◌≢◌, ℕ, ◌<◌, zero, suc, Option, Some, None, List, set, replicate, inl, inr, refl, sym, ◌∙◌, subst, arith, length-set}
+use Rattle.std.proofs.Common.{◌≡◌, ◌≢◌, ℕ, ◌<◌, ◌≤◌, zero, suc, Option, Some, None, List, set, replicate, inl, inr, refl, sym, ◌∙◌, subst, arith, length-set}
 use Rattle.std.specs.Prelude.{◌⊎◌, slice_get}
 use Rattle.std.proofs.lemmas.Bool.{cases_eq}
-use Rattle.blink_store.specs.Latches.{Holds, IsHeldByOne, holder_of, HoldsNone, ChangesHolder}
+use Rattle.blink_store.specs.Latches.{Holds, IsHeldByOne, IsHeldBelow, holder_of, HoldsNone, ChangesHolder}
 use Rattle.blink_store.specs.declared.latches.TheConstants.{WORKERS}
 use Rattle.blink_store.proofs.ChangedLists.{slice_get-set_same, slice_get-set_other}
 use Rattle.blink_store.proofs.HoldersOfPages.{some_or_none, holder_holds, none_holds, holder_of-holds, empty_entry, same_holder, holder_inside}
@@ -83,6 +83,18 @@ module _ (held : List (Option ℕ)) (one : IsHeldByOne held) (worker page : ℕ)
         (λ also. differs (let e : Holds held worker page = holder_holds held page worker holds in cc)) (λ same. cc);
   }
 
+-- a bound of the workers that hold a page stays one where it grows past the worker whose entry changes
+pub changed_held_below : (held : List (Option ℕ)) (reach above worker : ℕ) (entry : Option ℕ) → IsHeldByOne held → IsHeldBelow held reach
+    → worker < WORKERS → above ≤ WORKERS → reach ≤ above → ((page : ℕ) → entry ≡ Some page → worker < above)
+    → IsHeldBelow (set held worker entry) above
+changed_held_below held reach above worker entry one below inside at_most grows covers = record {
+  inside = at_most;
+  below = λ who page holds. elim (held_after held one worker inside entry who page holds) [
+    | inl a ↦ let w : worker < above = covers page a.1 in let e : who ≡ worker = a.0 in omega arith
+    | inr a ↦ let w : who < reach = below.below who page a.1 in omega arith
+  ];
+}
+
 -- a list of empty entries
 pub no_entry : (count worker page : ℕ) → Holds (replicate count None) worker page → ⊥
 no_entry zero worker page holds = let e : ◌≡◌ {A = Option (Option ℕ)} None (Some (Some page)) = holds in cc
@@ -94,4 +106,10 @@ pub none_held_by_one : IsHeldByOne (replicate WORKERS None)
 none_held_by_one = record {
   workers = refl;
   one_each = λ first second page of_first of_second. absurd (no_entry WORKERS first page of_first);
+}
+
+pub none_held_below : IsHeldBelow (replicate WORKERS None) 0
+none_held_below = record {
+  inside = omega arith;
+  below = λ worker page holds. absurd (no_entry WORKERS worker page holds);
 }

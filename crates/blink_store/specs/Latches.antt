@@ -1,5 +1,5 @@
 -- Which worker holds which page's latch.
-use Rattle.std.specs.Prelude.{◌≡◌, ◌≢◌, ℕ, ◌==◌, Bool, false, suc, if◌then◌else◌, Option, Some, None, List, [], ◌∷◌, length, slice_get}
+use Rattle.std.specs.Prelude.{◌≡◌, ◌≢◌, ◌≤◌, ◌<◌, ℕ, ◌==◌, Bool, false, suc, if◌then◌else◌, Option, Some, None, List, [], ◌∷◌, length, slice_get}
 use Rattle.blink_store.specs.declared.latches.TheConstants.{WORKERS}
 
 -- the worker holds the page's latch, in the list of the pages that the workers hold
@@ -10,6 +10,11 @@ Holds held worker page = slice_get held worker ≡ Some (Some page)
 pub record IsHeldByOne (held : List (Option ℕ)) : Type 0 where
   pub workers : length held ≡ WORKERS
   pub one_each : (first second page : ℕ) → Holds held first page → Holds held second page → first ≡ second
+
+-- no worker from `reach` on holds a latch, and `reach` is at most the number of workers
+pub record IsHeldBelow (held : List (Option ℕ)) (reach : ℕ) : Type 0 where
+  pub inside : reach ≤ WORKERS
+  pub below : (worker page : ℕ) → Holds held worker page → worker < reach
 
 -- this page is what the worker holds
 abbrev pub is_page : ℕ → Option ℕ → Bool

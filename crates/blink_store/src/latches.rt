@@ -14,6 +14,8 @@ pub const WORKERS: usize = 64;
 #[derive(Debug, Drop)]
 pub struct Latches {
     held: [Option<u32>; WORKERS],
+    // No worker from this one on has held a latch. So a search for a holder stops here.
+    reach: usize,
 }
 
 impl Model for Latches {
@@ -21,11 +23,11 @@ impl Model for Latches {
 
     ghost Value = { List (Option ℕ) };
 
-    ghost use Rattle.blink_store.specs.Latches.{IsHeldByOne};
+    ghost use Rattle.blink_store.specs.Latches.{IsHeldByOne, IsHeldBelow};
 
     ghost view = { λ latches. latches.held };
 
-    ghost invariant = { λ latches. IsHeldByOne latches.held };
+    ghost invariant = { λ latches. IsHeldByOne latches.held × IsHeldBelow latches.held latches.reach };
 }
 
 impl Latches {
@@ -35,6 +37,7 @@ impl Latches {
     {
         Latches {
             held: [None; WORKERS],
+            reach: 0,
         }
     }
 
@@ -50,6 +53,7 @@ impl Latches {
             return false;
         }
         self.held[usize::from(worker)] = Some(page);
+        self.reach = self.reach.max(worker as usize + 1);
         true
     }
 
@@ -67,7 +71,7 @@ impl Latches {
         ensures worker { IfSome result (λ worker. worker < WORKERS) }
         ensures by_one { IsHeldByOne self.now }
     {
-        for worker in 0..WORKERS {
+        for worker in 0..self.reach {
             if self.held[worker] == Some(page) {
                 return Some(worker as u8);
             }

@@ -105,6 +105,21 @@ impl Store {
         self.pages[n as usize - 1] = page;
     }
 
+    /// Replaces page `n` by a copy of this page, in place. The call takes no memory.
+    pub fn write_from(&mut self, n: u32, page: &Page)
+        requires exists { HasPage self.old n }
+        requires same_floor_and_level { ForSome (page_of self.old n)
+            (λ old. SameFloorAndLevel old page.now) }
+        requires at_most_fan { length page.now.entries ≤ self.old.fan }
+        ensures written { WritesPage self.old self.new n page.now }
+        ensures count { length self.new.pages ≡ length self.old.pages }
+        ensures kept { KeepsFloorsAndLevels self.old self.new }
+    {
+        // Read for the proof: a page is lawful.
+        let _level = page.level;
+        self.pages[n as usize - 1].assign(page);
+    }
+
     /// Returns the prime block.
     pub fn prime(&self) -> &Prime
         ensures prime { result.now ≡ self.now.prime }

@@ -76,6 +76,7 @@ fn writes_new(rt: &impl Abort, machine: &mut Machine, number: u32) -> Page {
 fn writes_over(rt: &impl Abort, machine: &mut Machine, number: u32) -> Page {
     assert!(rt; matches!(machine.need(), Need::WritePage(at) if at == number));
     let page = machine.page_out(0);
+    same(rt, machine.page_in_place(number), &page);
     machine.done(0);
     page
 }

@@ -52,6 +52,19 @@ fn a_full_leaf_splits(rt: HostRuntime) {
 }
 
 #[test]
+fn a_page_is_assigned_another(rt: HostRuntime) {
+    let leaf = leaf_of(&rt, &[1, 2, 3, 4]);
+    let (lower, upper, _separator) = halves(&rt, &leaf, 4, (5, 50), 2);
+    let mut page = leaf.copy();
+    page.assign(&upper);
+    has_entries(&rt, &page, &[(4, 40), (5, 50)]);
+    has_bounds(&rt, &page, 0, (Some(3), GREATEST_KEY, None));
+    page.assign(&lower);
+    has_entries(&rt, &page, &[(1, 10), (2, 20), (3, 30)]);
+    has_bounds(&rt, &page, 0, (None, 3, Some(2)));
+}
+
+#[test]
 fn halves_are_the_same_one_by_one(rt: HostRuntime) {
     let leaf = leaf_of(&rt, &[1, 2, 3, 4]);
     let (lower, upper, _separator) = halves(&rt, &leaf, 4, (5, 50), 2);

@@ -1,7 +1,8 @@
 //! Stores and latches.
 use crate::fixtures::pages::{halves, leaf_of};
 use crate::fixtures::stores::{
-    add_as, empty_store, has_leftmost, has_pages, name_root, page_at, write_over,
+    add_as, empty_store, has_leftmost, has_pages, name_root, page_at, page_has_entries, write_over,
+    write_over_from,
 };
 use crate::fixtures::{given, is_shown, same};
 use blink_page::{MAX_PAGE, Page};
@@ -40,6 +41,20 @@ fn a_split_page_is_written_in_two(rt: HostRuntime) {
     name_root(&rt, &mut store, 3);
     has_leftmost(&rt, &store, &[1, 3]);
     has_pages(&rt, &store, 3);
+}
+
+#[test]
+fn a_page_is_written_from_another(rt: HostRuntime) {
+    let mut store = empty_store(&rt, rt.alloc(), 4);
+    let page = leaf_of(&rt, &[1, 2, 3, 4]);
+    let (lower, upper, _separator) = halves(&rt, &page, 4, (5, 50), 2);
+    add_as(&rt, &mut store, upper.copy(), 2);
+    write_over(&rt, &mut store, 1, page);
+    write_over_from(&rt, &mut store, 1, &lower);
+    is_page(&rt, &store, 1, &lower);
+    is_page(&rt, &store, 2, &upper);
+    page_has_entries(&rt, &store, 1, &[(1, 10), (2, 20), (3, 30)]);
+    has_pages(&rt, &store, 2);
 }
 
 // A store of fan 5 with three pages.

@@ -1,4 +1,4 @@
--- Moments that tell the same of each number and each worker are one.
+-- Tree states that tell the same of each number and each worker are one.
 use Rattle.std.proofs.Common.{◌≡◌, sym, subst}
 use Rattle.blink_machine.specs.TreeState.{TreeState}
 use Rattle.blink_machine.specs.Invariant.{Invariant}

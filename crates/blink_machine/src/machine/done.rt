@@ -1,13 +1,12 @@
 //! The state of an operation after a step that gives it no more than that the step is done.
-ghost use Rattle.std.specs.Prelude.{◌≡◌};
-ghost use Rattle.blink_page.specs.{IsPageNumber};
+ghost use Rattle.std.specs.Prelude.{◌≡◌, ℕ, List};
+ghost use Rattle.blink_page.specs.{IsPageNumber, PlainPage};
 ghost use Rattle.blink_machine.specs.Machine.{NeedsNew, at_state};
-ghost use Rattle.blink_machine.specs.Table.{done, decided_with, leaves_for, sets_out, halved};
-ghost use Rattle.blink_machine.specs.Kept.{KeptAt, KeptForNext, IsPostable, IsToSplit};
+ghost use Rattle.blink_machine.specs.Table.{done, decided_with, leaves_for, sets_out};
+ghost use Rattle.blink_machine.specs.Kept.{KeptForNext, IsPostable};
 ghost use Rattle.blink_machine.specs.Needs.{NeedsNoRead};
 
 use super::{Debt, Job, Machine, Next, State};
-use blink_page::Page;
 
 impl Machine {
     /// Reports that the operation has got the latch, has written the page or the prime block, or has released the latch. `new`
@@ -21,15 +20,21 @@ impl Machine {
             State::Want(page) => self.state = State::Held(*page),
             State::Change(page, _, kept) => {
                 let (page, kept) = (*page, *kept);
-                self.written(State::Leave(page, Next::Finish), kept);
+                self.written(kept);
+                self.state = State::Leave(page, Next::Finish);
             }
-            State::SplitNew(page, before) => self.state = self.half_split(*page, before, new),
+            State::SplitNew(page, _) => {
+                let page = *page;
+                self.halve(page, new);
+            }
             State::SplitOld(page, _, debt) => {
-                let state = State::AskPrime(*page, *debt);
-                self.written(state, None);
+                let (page, debt) = (*page, *debt);
+                self.written(None);
+                self.ask_prime(page, debt);
             }
-            State::Root(page, debt, prime) => {
-                self.state = State::NewPrime(*page, *debt, new, prime.copy());
+            State::Root(page, ..) => {
+                let page = *page;
+                self.name_root(page, new);
             }
             State::NewPrime(page, ..) => self.state = State::Leave(*page, Next::Finish),
             State::Leave(_, next) => {
@@ -40,33 +45,56 @@ impl Machine {
         }
     }
 
-    // Goes on after the write of a page. For an operation on a leaf that write is the deciding step. A posting has decided
+    // Answers after the write of a page, if the operation is on a leaf: that write is the deciding step. A posting has decided
     // before.
-    fn written(&mut self, state: State, kept: Option<u64>)
-        requires { KeptAt self.old state }
-        ensures { self.new ≡ decided_with self.old self.old.job state kept }
+    fn written(&mut self, kept: Option<u64>)
+        ensures { self.new ≡ decided_with self.old self.old.job self.old.state kept }
     {
-        let op = self.op;
-        match self.job {
-            Job::Leaf => self.decide(state, op.answer(kept)),
-            Job::Parent(_) => self.state = state,
+        if let Job::Leaf = self.job {
+            self.answer = Some(self.op.answer(kept));
         }
     }
 
-    // The state after the write of the upper half as page `new`. The lower half is to be written next, and the split owes its
-    // debt to the level above.
-    fn half_split(&self, page: u32, before: &Page, new: u32) -> State
-        requires to_split { IsToSplit self.now before.now }
+    // Goes on after the write of the upper half as page `new`. The lower half is to be written next, and the split owes its
+    // debt to the level above. The function is out of line, so that only a split clears room for two pages.
+    #[inline(never)]
+    fn halve(&mut self, page: u32, new: u32)
+        requires state { (before : PlainPage) × (self.old.state ≡ State.SplitNew page before) }
         requires new_number { IsPageNumber new }
-        ensures { at_state self.now result ≡ halved self.now page before.now new }
+        ensures { self.new ≡ done self.old new }
     {
+        let State::SplitNew(_, before) = &self.state else {
+            unreachable!()
+        };
         let lower = before.lower_with(self.fan, self.target(), self.value(), new);
         let debt = Debt {
             level: before.level,
             separator: lower.high,
             page: new,
         };
-        State::SplitOld(page, lower, debt)
+        self.state = State::SplitOld(page, lower, debt);
+    }
+
+    // Goes on after the write of the lower half. The function is out of line, as `halve` is.
+    #[inline(never)]
+    fn ask_prime(&mut self, page: u32, debt: Debt)
+        requires { IsPostable debt }
+        ensures { self.new ≡ at_state self.old (State.AskPrime page debt) }
+    {
+        self.state = State::AskPrime(page, debt);
+    }
+
+    // Goes on after the write of the new root as page `new`. The function is out of line, as `halve` is.
+    #[inline(never)]
+    fn name_root(&mut self, page: u32, new: u32)
+        requires state { (debt : Debt) × (prime : List ℕ) × (self.old.state ≡ State.Root page debt prime) }
+        requires new_number { IsPageNumber new }
+        ensures { self.new ≡ done self.old new }
+    {
+        let State::Root(_, debt, prime) = &self.state else {
+            unreachable!()
+        };
+        self.state = State::NewPrime(page, *debt, new, prime.copy());
     }
 
     // Goes on after the page's latch is released.
@@ -87,9 +115,9 @@ impl Machine {
         ensures { self.new ≡ sets_out self.old debt self.old.remembered }
     {
         self.job = Job::Parent(debt);
-        self.state = match self.remembered.pop() {
-            Some(page) => State::Want(page),
-            None => State::Posting,
-        };
+        match self.remembered.pop() {
+            Some(page) => self.state = State::Want(page),
+            None => self.state = State::Posting,
+        }
     }
 }

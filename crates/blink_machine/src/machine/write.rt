@@ -1,7 +1,7 @@
 //! What an operation writes.
 ghost use Rattle.std.specs.Prelude.{◌≡◌};
 ghost use Rattle.blink_page.specs.{IsPageNumber};
-ghost use Rattle.blink_machine.specs.Machine.{NeedsNew, NeedsPrimeWrite};
+ghost use Rattle.blink_machine.specs.Machine.{NeedsNew, NeedsWrite, NeedsPrimeWrite};
 ghost use Rattle.blink_machine.specs.Table.{page_out, PrimeOut};
 ghost use Rattle.blink_machine.specs.Needs.{NeedsSomeWrite};
 
@@ -24,6 +24,19 @@ impl Machine {
             State::Root(page, debt, _) => {
                 Page::root(debt.level + 1, debt.separator, *page, debt.page)
             }
+            _ => unreachable!(),
+        }
+    }
+
+    /// Returns the page by which the next write replaces page `number`: `page_out` without a copy.
+    pub fn page_in_place(&self, number: u32) -> &Page
+        requires { NeedsWrite self.now number }
+        ensures { result.now ≡ page_out self.now 0 }
+    {
+        // Read for the proof: the needed write is of this number.
+        let _number = number;
+        match &self.state {
+            State::Change(_, page, _) | State::SplitOld(_, page, _) => page,
             _ => unreachable!(),
         }
     }

@@ -3,6 +3,7 @@ use Rattle.blink_page.specs.declared.limits.TheConstants.{MAX_FAN}
 use Rattle.blink_page.specs.Entries.{value_at, replaced}
 use Rattle.blink_page.specs.Page.{PlainPage, IsLawfulPage, with_entries}
 use Rattle.blink_page.specs.PageView.{plain}
+use Rattle.blink_page.specs.Place.{place_of}
 use Rattle.blink_page.proofs.ChangedEntries.{replaced-absent}
 use Rattle.blink_page.proofs.WhereSearchesEnd.{place_found, replaced-place}
 use Rattle.blink_page.proofs.LawfulPages.{lawful_replaced}
@@ -14,12 +15,17 @@ returns-in_default-clause-entries c =
     let absent : value_at c.args.key c.args.self.now.entries ≡ None = cc in
     ap (with_entries c.args.self.now) (sym (replaced-absent c.args.key c.args.value c.args.self.now.entries absent))
 
-pub set_among-requires : goal.set_among-requires
-set_among-requires c =
+-- a page's keys rise
+pub place-at-requires : goal.place-at-requires
+place-at-requires c = record { rise = rw c.deref.ensures.0 (rising_rises _ c.self.inside.items.items _ c.self.invariant.keys_rise) }
+
+pub set_at-requires : goal.set_at-requires
+set_at-requires c =
     let own : c.self.inside.items.items ≡ c.args.self.now.entries = ap (λ (p : PlainPage). p.entries) c.self.view_is in
     let found : IsSome (value_at c.args.key c.args.self.now.entries) = ap is_some (sym c.in-Some.ensures) in
     let lawful : IsLawfulPage MAX_FAN c.args.self.now = subst (IsLawfulPage MAX_FAN) c.self.view_is c.self.invariant in
-    rw own (omega arith, (rising_rises _ c.args.self.now.entries _ lawful.keys_rise, place_found c.args.key _ c.args.self.now.entries _ lawful.keys_rise found))
+    let at : c.place-at.result ≡ place_of c.args.key c.self.inside.items.items = cc in
+    (omega arith, (at, rw own (place_found c.args.key _ c.args.self.now.entries _ lawful.keys_rise found)))
 
 -- the value is replaced in the list
 pub returns-clause-entries : goal.returns-clause-entries
@@ -28,7 +34,7 @@ returns-clause-entries c =
     let found : IsSome (value_at c.args.key c.args.self.now.entries) = ap is_some (sym c.in-Some.ensures) in
     let lawful : IsLawfulPage MAX_FAN c.args.self.now = subst (IsLawfulPage MAX_FAN) c.self.view_is c.self.invariant in
     let changed = replaced-place c.args.key c.args.value _ c.args.self.now.entries _ lawful.keys_rise found in
-    let entries : c.set_among.new.items.items ≡ replaced (c.args.key, c.args.value) c.args.self.now.entries = c.set_among.ensures ∙ rw own (sym changed) in
+    let entries : c.set_at.new.items.items ≡ replaced (c.args.key, c.args.value) c.args.self.now.entries = c.set_at.ensures ∙ rw own (sym changed) in
     ap (with_entries (plain c.self.inside)) entries ∙ ap (λ (p : PlainPage). with_entries p (replaced (c.args.key, c.args.value) c.args.self.now.entries)) c.self.view_is
 
 pub invariant_of-self : goal.invariant_of-self

@@ -11,8 +11,8 @@ use Rattle.blink_page.proofs.RisingKeys.{rising_rises}
 use Rattle.blink_page.proofs.page.Page.take.Goals as goal
 
 -- a page's keys rise
-pub place-requires : goal.place-requires
-place-requires c = record { rise = rw c.deref.ensures.0 (rising_rises _ c.self.inside.items.items _ c.self.invariant.keys_rise) }
+pub place-at-requires : goal.place-at-requires
+place-at-requires c = record { rise = rw c.deref.ensures.0 (rising_rises _ c.self.inside.items.items _ c.self.invariant.keys_rise) }
 
 pub returns-in_default-clause-entries : goal.returns-in_default-clause-entries
 returns-in_default-clause-entries c =
@@ -23,7 +23,7 @@ pub remove-requires : goal.remove-requires
 remove-requires c =
     let own : c.self.inside.items.items ≡ c.args.self.now.entries = ap (λ (p : PlainPage). p.entries) c.self.view_is in
     let found : IsSome (value_at c.args.key c.args.self.now.entries) = ap is_some (sym c.in-Some.ensures) in
-    let at : c.place.result ≡ place_of c.args.key c.args.self.now.entries = cc in
+    let at : c.place-at.result ≡ place_of c.args.key c.args.self.now.entries = cc in
     let lawful : IsLawfulPage MAX_FAN c.args.self.now = subst (IsLawfulPage MAX_FAN) c.self.view_is c.self.invariant in
     rw (own, at) (omega arith, place_found c.args.key _ c.args.self.now.entries _ lawful.keys_rise found)
 
@@ -32,7 +32,7 @@ pub returns-clause-entries : goal.returns-clause-entries
 returns-clause-entries c =
     let own : c.self.inside.items.items ≡ c.args.self.now.entries = ap (λ (p : PlainPage). p.entries) c.self.view_is in
     let found : IsSome (value_at c.args.key c.args.self.now.entries) = ap is_some (sym c.in-Some.ensures) in
-    let at : c.place.result ≡ place_of c.args.key c.args.self.now.entries = cc in
+    let at : c.place-at.result ≡ place_of c.args.key c.args.self.now.entries = cc in
     let lawful : IsLawfulPage MAX_FAN c.args.self.now = subst (IsLawfulPage MAX_FAN) c.self.view_is c.self.invariant in
     let gone = removed-place c.args.key _ c.args.self.now.entries _ lawful.keys_rise found in
     let entries : c.remove.new.self.items ≡ removed c.args.key c.args.self.now.entries = c.remove.ensures.items ∙ rw (own, at) (sym gone) in
