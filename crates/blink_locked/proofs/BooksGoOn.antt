@@ -1,7 +1,6 @@
 -- How a book begins and goes on, and what it shows at its end.
-use Rattle.std.proofs.Common.{◌≡◌, ℕ, ◌<◌, Bool, true, false, Option, Some, None, IsSome, is_some, List, [], ◌∷◌, length, map, reverse, get_or, All, refl, ap, sym, ◌∙◌, subst, arith}
+use Rattle.std.proofs.Common.{◌≡◌, ℕ, ◌<◌, Bool, true, false, Option, Some, None, is_some, List, [], length, map, get_or, refl, ap, sym, ◌∙◌, subst, arith}
 use Rattle.std.specs.Prelude.{slice_get}
-use Rattle.std.proofs.lemmas.List.{length-map, length-reverse}
 use Rattle.std.proofs.lemmas.List.Elements.{All-cons}
 use Rattle.std.proofs.lemmas.Option.{get_or_from_slice_get, slice_get-get_or, slice_get_within}
 use Rattle.blink_batch.specs.declared.Answer.{Answer}
@@ -9,25 +8,14 @@ use Rattle.blink_batch.specs.declared.Op.{Op}
 use Rattle.blink_batch.specs.{Assignment, IsLawfulCut}
 use Rattle.blink_store.specs.{PlainStore}
 use Rattle.blink_machine.specs.declared.step.Step.{Step}
+use Rattle.blink_settings.proofs.Offered.{IsDone, no_turn_yet}
 use Rattle.blink_steps.specs.{HasMoved, IsIdleWorker, HasAnswerAt, IsPromised, KeepsItsPromises, PlainRun, Event, PlainWorld, GoesOnBy, HasEnded, IsAtLanesEnd, IsStart, IsWorldOf, SameBatch}
 use Rattle.blink_locked.specs.Book.{PlainBook, AllMoved, HasEndedOp, IsBook, IsRunOf}
 use Rattle.blink_locked.specs.Run.{IsSettled}
 
 -- ---- the book's beginning
 
--- a world whose schedule tells no turn has none
-pub no_turn_yet : (start : PlainStore) (world : PlainWorld) (is_world : IsWorldOf start world) → world.schedule ≡ [] → is_world.history ≡ []
-no_turn_yet start world is_world none =
-    let workers : List ℕ = map (λ (taken : Event). taken.worker) is_world.history in
-    let long : length (reverse workers) ≡ length is_world.history = length-reverse workers ∙ length-map is_world.history (λ (taken : Event). taken.worker) in
-    let empty : length (reverse workers) ≡ 0 = ap (λ (xs : List ℕ). length xs) (sym is_world.same_schedule ∙ none) in
-    none_where_short is_world.history (omega arith)
-  where
-    none_where_short : (history : List Event) → length history ≡ 0 → history ≡ []
-    none_where_short [] short = refl
-    none_where_short (taken ∷ history) short = absurd (omega arith)
-
--- so it has moved at each
+-- a world whose schedule tells no turn has moved at each
 none_moved : (start : PlainStore) (world : PlainWorld) (is_world : IsWorldOf start world) → world.schedule ≡ [] → AllMoved is_world.history
 none_moved start world is_world none = subst AllMoved (sym (no_turn_yet start world is_world none)) (λ k default within. absurd (omega arith))
 
@@ -101,12 +89,6 @@ has_more start world is_world worker op kept one_each own within goes_on at_end 
 
 -- ---- the end
 
--- at the end each place has its answer
-pub all_some : (run : PlainRun) → length run.outcome.answers ≡ length run.ops → ((place : ℕ) → place < length run.ops → HasAnswerAt run.outcome.answers place) → All (λ (answer : Option Answer). IsSome answer) run.outcome.answers
-all_some run one_each answered k default within =
-    let has = answered k (omega arith) in
-    rw (get_or_from_slice_get run.outcome.answers k (Some has.0) default has.1) refl
-
 module _ (book : PlainBook) (is : IsBook book) (promised : IsPromised book.world) (start : PlainStore) (ops : List Op) (assignment : Assignment) (run_of : IsRunOf book start ops assignment)
     (lawful : IsLawfulCut ops assignment.workers assignment.lanes) (ended : HasEnded book.world.run) (given : List Answer) (all_given : book.world.run.outcome.answers ≡ map Some given) where
   -- the assignment is the given one
@@ -139,3 +121,14 @@ module _ (book : PlainBook) (is : IsBook book) (promised : IsPromised book.world
   settled tree same =
       subst (λ (s : PlainStore). IsSettled s ops assignment tree given) run_of.same_start
       (subst (λ (t : PlainStore). IsSettled book.start ops assignment t given) (sym same) settled_here)
+
+-- a settled run is done
+pub settled_done : (before after : PlainStore) (ops : List Op) (assignment : Assignment) (given : List Answer) → IsSettled before ops assignment after given → IsDone before after ops given
+settled_done before after ops assignment given settled = record {
+  run = settled.replayed.world.run;
+  same_ops = settled.replayed.replay.same_ops;
+  same_answers = settled.same_answers;
+  same_tree = settled.replayed.same_tree;
+  one_thread = settled.one_thread;
+  at_rest = settled.at_rest;
+}

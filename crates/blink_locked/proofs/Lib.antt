@@ -1,4 +1,3 @@
 pub mod BooksGoOn
-pub mod RunAtItsEnd
 pub mod EachPlace
 pub mod Offered

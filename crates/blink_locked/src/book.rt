@@ -1,5 +1,5 @@
 //! The book of a run. Its workers take turns to write it.
-ghost use Rattle.std.specs.Prelude.{◌≡◌, ◌↔◌, All, IfOk, IfErr, IsTrue, IsErrOf, IsSome, Some, map, slice_get};
+ghost use Rattle.std.specs.Prelude.{◌≡◌, ◌↔◌, IfOk, IfErr, IsTrue, IsErrOf, Some, map, slice_get};
 ghost use Rattle.blink_batch.specs.{IsLawfulCut};
 ghost use Rattle.std.specs.Bool.{OnFalse};
 ghost use Rattle.blink_steps.specs.{WouldMove, IsPromised, HasEnded, IsAtLanesEnd, IsStart, IsTooLarge};
@@ -9,7 +9,7 @@ ghost use Rattle.blink_locked.specs.Run.{IsSettled};
 use blink_batch::{Answer, Batch, Cut, Lanes};
 use blink_page::exceeds_page_limit;
 use blink_rest::Rest;
-use blink_settings::RunError;
+use blink_settings::{RunError, all_of};
 use blink_steps::{Kind, Step, StepError, World};
 use std::alloc::{AllocError, Global};
 use std::marker::Model;
@@ -273,16 +273,4 @@ fn lanes_of(alloc: Global, batch: &Batch, cut: &Cut) -> Result<Lanes, AllocError
 {
     let lanes = cut.lanes().to_vec(alloc)?;
     Ok(Lanes::new(batch, cut.workers(), lanes).unwrap())
-}
-
-/// Returns all answers, if each place has one.
-pub fn all_of(alloc: Global, given: &[Option<Answer>]) -> Result<Vec<Answer>, AllocError>
-    requires { All (λ answer. IsSome answer) given.now }
-    ensures { IfOk result (λ answers. given.now ≡ map Some answers.items) }
-{
-    let mut answers = Vec::with_capacity(alloc, given.len())?;
-    for answer in given {
-        answers.push_reserved(answer.unwrap());
-    }
-    Ok(answers)
 }

@@ -9,7 +9,8 @@ mod gate;
 mod locked_run;
 mod run;
 
-pub use book::{Book, Turn, all_of};
+pub use blink_settings::all_of;
+pub use book::{Book, Turn};
 pub use gate::{Gate, Open};
 pub use locked_run::LockedRun;
 pub use run::run_locked;

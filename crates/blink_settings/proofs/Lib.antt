@@ -1,0 +1,2 @@
+pub mod RunAtItsEnd
+pub mod Offered

@@ -2,7 +2,8 @@ use Rattle.std.proofs.Common.{ap, ◌∙◌, subst, sym}
 use Rattle.blink_index.specs.{map_of}
 use Rattle.blink_store.specs.{PlainStore}
 use Rattle.blink_locked.specs.Run.{IsReplayed, IsSettled}
-use Rattle.blink_locked.proofs.RunAtItsEnd.{one_thread_answers, one_thread_map, settled_done}
+use Rattle.blink_settings.proofs.Offered.{one_thread_answers, one_thread_map}
+use Rattle.blink_locked.proofs.BooksGoOn.{settled_done}
 use Rattle.blink_locked.proofs.run.run_locked.Goals as goal
 
 pub returns-clause-answers : goal.returns-clause-answers

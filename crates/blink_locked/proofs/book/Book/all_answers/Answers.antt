@@ -1,7 +1,7 @@
 use Rattle.std.proofs.Common.{All, IsSome, List, Option, length, sym, ap, ◌∙◌, subst}
 use Rattle.blink_batch.specs.declared.Answer.{Answer}
 use Rattle.blink_locked.specs.Book.{PlainBook, IsAtItsEnd, IsRunOf}
-use Rattle.blink_locked.proofs.BooksGoOn.{all_some}
+use Rattle.blink_settings.proofs.Offered.{all_some}
 use Rattle.blink_locked.proofs.book.Book.all_answers.Goals as goal
 
 pub all_of-requires : goal.all_of-requires
