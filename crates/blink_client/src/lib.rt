@@ -90,8 +90,9 @@ pub fn two_threads<R: Threads + Wait + Sync>(
     Ok(insert_beside_a_reader(rt, &live, &mut one, &mut other, key, pointer))
 }
 
-// Deals a pass with this key and room for so many insertions.
-fn deal_key(
+/// Deals a pass with this key, and with an allowance of so many insertions. The call refuses where `Live::deal` does, and for want
+/// of memory for the list of the one key.
+pub fn deal_key(
     alloc: Global,
     live: &Live,
     keeper: &mut Keeper,
@@ -100,7 +101,7 @@ fn deal_key(
 ) -> Result<Pass, LiveError>
     requires its_own { IsKeeperOf live.now keeper.old }
     ensures new { IfOk result (IsNewWith live.now key) }
-    ensures keeper { OnOk result (IsKeeperOf live.now keeper.new) }
+    ensures its_keeper { IsKeeperOf live.now keeper.new }
 {
     let mut keys = Vec::new(alloc);
     if keys.push(key).is_err() {
@@ -121,6 +122,8 @@ pub fn glance_at_nobodys_key(
     requires its_keeper { IsKeeperOf live.now keeper.old }
     requires its_pass { IsPassOf live.now pass.old }
     ensures opening { IfOk result (λ shown. shown ≡ pointer_of (opening_of live.now) key) }
+    ensures its_keeper { IsKeeperOf live.now keeper.new }
+    ensures its_pass { IsPassOf live.now pass.new }
 {
     let shown = live.glance(pass, key);
     let mut owner = deal_key(alloc, live, keeper, key, 0)?;

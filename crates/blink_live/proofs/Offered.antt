@@ -11,3 +11,5 @@ pub use Rattle.blink_live.proofs.told.StatesOfKeys.{states_of-prefix, after-last
 pub use Rattle.blink_live.proofs.closed.EntriesOfMerge.{entry-of_share, entry-of_opening}
 -- a pass's latch number is at least the row that its keeper dealt first, and below the one that the keeper deals next
 pub use Rattle.blink_live.proofs.dealt.LatchNumbers.{latch_number-from_keeper, latch_number-before_rest}
+-- a pending operation may go to another thread
+pub use Rattle.blink_live.proofs.changed.PendingsAreSent.{pending_send}

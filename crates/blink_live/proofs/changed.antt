@@ -8,3 +8,5 @@ pub mod UpdatesBegin
 pub mod OwnChangesByKey
 pub mod StepsOfUpdates
 pub mod UpdatesGoOn
+pub mod PassesComeBack
+pub mod PendingsAreSent

@@ -1,5 +1,5 @@
 -- The knowledge that each kind of atomic step gives whoever takes it.
-use Rattle.std.specs.Prelude.{◌≡◌, ◌≢◌, ◌⊎◌, ℕ, suc, ◌+◌, ◌<◌, ◌≤◌, Option, Some, None, IsSome, List, length, All, slice_index}
+use Rattle.std.specs.Prelude.{◌≡◌, ◌≢◌, ◌⊎◌, ℕ, suc, ◌+◌, ◌++◌, ◌<◌, ◌≤◌, Option, Some, None, IsSome, List, length, All, slice_index}
 use Rattle.atomic_table.specs.Table.{Step}
 use Rattle.blink_batch.specs.declared.Op.{Op}
 use Rattle.blink_batch.specs.{answer_at, answer_of, key_of, pointer_of}
@@ -15,6 +15,7 @@ use Rattle.blink_machine.specs.{HasEnough, UsesUp, numbers_left, writes_left, pr
 use Rattle.blink_live.specs.declared.view.Change.{Change}
 use Rattle.blink_live.specs.declared.view.Plan.{Plan}
 use Rattle.blink_live.specs.declared.view.Share.{Share}
+use Rattle.blink_live.specs.declared.view.View.{View}
 use Rattle.blink_live.specs.Changes.{after, Learns}
 use Rattle.blink_live.specs.Views.{SeatState, KnowsItsOwn, ShowsNoMore, for_call, going_on, stage_word, changed_by, publishes, reading, forgets_told, learns_of_others, span}
 use Rattle.blink_live.specs.Words.{AreNumbersIn, AreRowsIn, IsRowNumber, row_start}
@@ -181,6 +182,14 @@ pub data Decided (m after : PlainMachine) (before share : Share) : Type 0 where
   deciding : m.answer ≡ None → after.answer ≡ Some (answer_of before.entries m.op) → share ≡ changed_by m.op before → Decided m after before share
   other : after.answer ≡ m.answer → share ≡ before → Decided m after before share
 
+-- the seat has seen all changes so far, and then the change that the step makes of the share, if it makes one
+pub record EndsWithOwn (v : View) (share : Share) (seen : List Change) : Type 0 where
+  pub before : List Change
+  pub made : List Change
+  pub learns : Learns v before
+  pub own : share.changes ≡ v.share.changes ++ made
+  pub last : seen ≡ before ++ made
+
 -- a step of this kind publishes the row: the operation is `after` now, and the call may still use these page numbers
 pub record Publishes (kind : Kind) (pages : Span) (m after : PlainMachine) (me then : SeatState) : Type 0 where
   pub way : ℕ
@@ -193,6 +202,7 @@ pub record Publishes (kind : Kind) (pages : Span) (m after : PlainMachine) (me t
   pub uses : UsesUp m (Moved kind) after
   pub answers_at_end : after.state ≡ Ended → IsSome after.answer
   pub knows_own : KnowsItsOwn then.0
+  pub ends_with_own : EndsWithOwn me.0 share seen
 
 -- in the place of a page
 abbrev pub PublishesPage : ℕ → PlainMachine → SeatState → SeatState → Type 0

@@ -8,6 +8,8 @@ pub use Rattle.blink_live.specs.Changes.{after}
 pub use Rattle.blink_live.specs.Allowed.{AreForChanges, IsTooLarge, deletes_left, inserts_left}
 -- what a deal gives, and the refusals of a deal
 pub use Rattle.blink_live.specs.Deals.{HasDealt, IsDealRefusal, IsDealt, IsFirstTaken, LacksAllowance, NoneIsTaken}
+-- an operation under way: the pass before it, and which one it is
+pub use Rattle.blink_live.specs.Pendings.{HasBegun, IsPendingOf, op_of, pass_of}
 -- the entries of a table when all its passes are back: the merge of their shares
 pub use Rattle.blink_live.specs.Merge.{IsMerge}
 -- the code of each refusal
@@ -35,6 +37,7 @@ pub mod Views
 pub mod AtomicSteps
 pub mod Seats
 pub mod Updating
+pub mod Pendings
 pub mod Dealing
 pub mod KeyTest
 pub mod Words

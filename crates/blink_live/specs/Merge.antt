@@ -41,3 +41,7 @@ pub record KeepsTree (counts : PlainCounts) (words : List ℕ) (fan : ℕ) (entr
   pub at_rest : IsAtRest fan prime pages
   pub ascending : IsAscending entries
   pub are : AreEntries fan prime pages (pairs_of entries)
+
+-- the words hold a tree at rest
+abbrev pub KeepsSomeTree : PlainCounts → List ℕ → ℕ → Type 0
+KeepsSomeTree counts words fan = (entries : List Entry) × KeepsTree counts words fan entries

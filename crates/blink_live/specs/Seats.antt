@@ -1,5 +1,5 @@
 -- A pass's seat while a call is under way.
-use Rattle.std.specs.Prelude.{◌≡◌, ℕ, ◌<◌, Option, Some, None, List, length}
+use Rattle.std.specs.Prelude.{◌≡◌, ℕ, ◌<◌, Option, Some, None, List, [], length}
 use mathlib.Core.List.{IsPrefix}
 use Rattle.atomic_table.specs.declared.Seat.{Seat}
 use Rattle.atomic_table.specs.Seated.{TableId}
@@ -16,6 +16,7 @@ use Rattle.blink_machine.specs.declared.machine.Job.TheVariants.{Leaf}
 use Rattle.blink_machine.specs.declared.machine.State.TheVariants.{Going, Want, Ended}
 use Rattle.blink_machine.specs.{IsOnItsWay, IsTopLeftmost, PlainMachine, goes_on, IsUpdate}
 use Rattle.blink_live.specs.declared.live.Live.{Live}
+use Rattle.blink_live.specs.declared.view.Role.{Role}
 use Rattle.blink_live.specs.declared.view.Role.TheVariants.{Pass}
 use Rattle.blink_live.specs.declared.view.View.{View}
 use Rattle.blink_live.specs.AtomicSteps.{Begins, CanGoOn, LoadsPage}
@@ -27,9 +28,17 @@ pub record IsPassSeat (live : Live) (table : TableId) (me : SeatState) : Type 0 
   pub same_plan : me.0.plan ≡ plan_of live.table.shared.key
   pub role : me.0.role ≡ Pass
 
+-- the seat has the number that it had, in the same table
+abbrev pub HasSameNumber : Seat ℕ View → Seat ℕ View → Type 0
+HasSameNumber old new = (new.table_id ≡ old.table_id) × (new.id ≡ old.id)
+
 -- the seat is as it was
 abbrev pub IsSameSeat : Seat ℕ View → Seat ℕ View → Type 0
 IsSameSeat old new = (new.table_id ≡ old.table_id) × (new.id ≡ old.id) × (new.me ≡ old.me)
+
+-- the seat has this role, no operation under way and no slot
+abbrev pub IsIdleIn : Role → SeatState → Type 0
+IsIdleIn role me = (me.0.role ≡ role) × (me.0.operation ≡ None) × (me.1 ≡ [])
 
 -- the number is the first of the span
 abbrev pub IsFirst : ℕ → Span → Type 0
@@ -85,12 +94,14 @@ pub record BeginsAt (op : Op) (me : SeatState) (number level : ℕ) (then : Seat
   pub begins : Begins op me row machine then
   pub top : IsTopLeftmost begins.prime level number
 
--- the operation needs the page of this number and level next, to look for this key
-pub record IsAtPage (m : PlainMachine) (key number level : ℕ) : Type 0 where
-  pub state : m.state ≡ Going number level
-  pub same_job : m.job ≡ Leaf
-  pub same_key : key_of m.op ≡ key
-  pub fits : FitsWords m.op
+-- the seat's operation needs the page of this number and level next, to look for this key
+pub record IsAtPage (me : SeatState) (key number level : ℕ) : Type 0 where
+  pub machine : PlainMachine
+  pub operation : me.0.operation ≡ Some machine
+  pub state : machine.state ≡ Going number level
+  pub same_job : machine.job ≡ Leaf
+  pub same_key : key_of machine.op ≡ key
+  pub fits : FitsWords machine.op
 
 -- the operation has read the page of this number, from which the key leads this way
 pub record ReadsWay (m : PlainMachine) (key number : ℕ) (me : SeatState) (way : Way) (kept : Option ℕ) (then : SeatState) : Type 0 where
@@ -98,10 +109,3 @@ pub record ReadsWay (m : PlainMachine) (key number : ℕ) (me : SeatState) (way 
   pub machine : PlainMachine
   pub loads : LoadsPage m number me row machine then
   pub tells : TellsWayFor key loads.page way kept
-
--- the operation needs the page of this number and level next, and hasn't answered yet
-pub record HasComeTo (op : Op) (first me : SeatState) (number level : ℕ) : Type 0 where
-  pub machine : PlainMachine
-  pub read : HasRead op first me machine
-  pub state : machine.state ≡ Going number level
-  pub none_yet : machine.answer ≡ None

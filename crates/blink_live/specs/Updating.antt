@@ -3,19 +3,26 @@ use Rattle.std.specs.Prelude.{◌≡◌, ℕ, ◌+◌, ◌-◌, ◌≤◌, Some,
 use mathlib.Core.List.{IsPrefix}
 use Rattle.atomic_table.specs.declared.Seat.{Seat}
 use Rattle.blink_batch.specs.{FitsWords, answer_of, key_of}
+use Rattle.blink_batch.specs.declared.Answer.{Answer}
 use Rattle.blink_batch.specs.declared.Op.{Op}
 use Rattle.blink_machine.specs.declared.machine.State.{State}
 use Rattle.blink_machine.specs.declared.machine.State.TheVariants.{Start, Going, Ended}
 use Rattle.blink_machine.specs.{numbers_left, writes_left, primes_left, PlainMachine, goes_on, IsUpdate}
 use Rattle.blink_live.specs.declared.live.Live.{Live}
 use Rattle.blink_live.specs.declared.room.Room.{Room}
+use Rattle.blink_rows.specs.declared.span.Span.{Span}
 use Rattle.blink_live.specs.declared.view.Call.{Call}
 use Rattle.blink_live.specs.declared.view.Share.{Share}
 use Rattle.blink_live.specs.declared.view.View.{View}
 use Rattle.blink_live.specs.AtomicSteps.{CanGoOn}
-use Rattle.blink_live.specs.Seats.{IsPassSeat}
-use Rattle.blink_live.specs.Views.{SeatState, KnowsItsOwn, CanBegin, for_call, no_words, changed_by}
+use Rattle.blink_live.specs.Seats.{HasSameNumber, IsPassSeat}
+use Rattle.blink_live.specs.Views.{SeatState, KnowsItsOwn, CanBegin, for_call, no_words, changed_by, pages_of, rows_of, span}
 use Rattle.blink_live.specs.Words.{AreNumbersIn, AreRowsIn}
+
+-- what an operation may use of these rows and page numbers of its pass: the first of them; the pass's latch number is that of its
+-- last row
+abbrev pub room_for : Op → Span → Span → Room
+room_for op rows pages = record { rows = span rows.next (rows.next + rows_of op); pages = span pages.next (pages.next + pages_of op); latch_number = rows.stop - 1 }
 
 -- w is v, except for its operation, its share, what its call has stored, and what it reads and has seen
 abbrev pub SameBesideCall : View → View → Type 0
@@ -54,12 +61,24 @@ pub record IsUpdating (op : Op) (first me : SeatState) (m : PlainMachine) : Type
   pub past_descent : IsPastDescent m.state
   pub answers_at_end : m.state ≡ Ended → IsSome m.answer
 
--- the seat can make such a call, and puts this number into latch words
-pub record CanUpdate (live : Live) (op : Op) (own : ℕ) (first : Seat ℕ View) : Type 0 where
+-- the operation has ended with this answer. The seat is as it was at the beginning, except for the rows and page numbers that the
+-- operation takes, for its change of the share, and for what the seat has seen since
+pub record HasEnded (op : Op) (first seat : Seat ℕ View) (answer : Answer) : Type 0 where
+  pub answers : answer ≡ answer_of first.me.0.share.entries op
+  pub idle : seat.me.0.operation ≡ None
+  pub same_number : HasSameNumber first seat
+  pub share : seat.me.0.share ≡ changed_by op first.me.0.share
+  pub knows_own : KnowsItsOwn seat.me.0
+  pub saw : IsPrefix first.me.0.seen seat.me.0.seen
+  pub same : SameBesideCall (for_call first.me.0 op) seat.me.0
+  pub same_slots : seat.me.1 ≡ first.me.1
+
+-- the seat can make such a call
+pub record CanUpdate (live : Live) (op : Op) (first : Seat ℕ View) : Type 0 where
   pub seat : IsPassSeat live first.table_id first.me
   pub updates : IsUpdate op
   pub fits : FitsWords op
-  pub own_is : (own ≡ first.me.0.rows.stop - 1) × (1 ≤ own)
+  pub some_row : 1 ≤ first.me.0.rows.stop - 1
   pub own_key : Contains first.me.0.share.keys (key_of op)
   pub can_begin : CanBegin first.me.0 op
   pub rows : AreRowsIn live.counts first.me.0.rows
@@ -67,8 +86,9 @@ pub record CanUpdate (live : Live) (op : Op) (own : ℕ) (first : Seat ℕ View)
 
 -- the state between two turns of the operation: the seat was `first` when the operation began, and has the rows and page numbers
 -- that its call has left
-pub record IsUnderWay (live : Live) (op : Op) (own : ℕ) (first seat : Seat ℕ View) (m : PlainMachine) (room : Room) : Type 0 where
-  pub can : CanUpdate live op own first
-  pub same_table : (seat.table_id ≡ first.table_id) × (seat.id ≡ first.id)
+pub record IsUnderWay (live : Live) (op : Op) (first seat : Seat ℕ View) (m : PlainMachine) (room : Room) : Type 0 where
+  pub can : CanUpdate live op first
+  pub same_number : HasSameNumber first seat
   pub updating : IsUpdating op (for_call first.me.0 op, first.me.1) seat.me m
   pub room_is : (room.rows ≡ seat.me.0.call.rows) × (room.pages ≡ seat.me.0.call.pages)
+  pub latch_number : room.latch_number ≡ first.me.0.rows.stop - 1

@@ -205,6 +205,10 @@ takes_more role more = role
 abbrev pub takes_all_back : View → List Share → View
 takes_all_back v shares = record v { role = takes_more v.role (length shares); back = shares ++ v.back }
 
+-- the keeper's seat has taken all these shares back
+abbrev pub TakesAllBack : List Share → SeatState → SeatState → Type 0
+TakesAllBack shares me then = then ≡ (takes_all_back me.0 shares, me.1)
+
 -- ---- telling
 
 -- the note of what a pass has seen: a seat for another pass to take, of no other use

@@ -1,5 +1,5 @@
 -- The layout of a table's words: where its rows stand, and which rows hold pages.
-use Rattle.std.specs.Prelude.{◌≡◌, ℕ, ◌+◌, ◌-◌, ◌*◌, ◌<◌, ◌≤◌, Some, List, slice_index}
+use Rattle.std.specs.Prelude.{◌≡◌, ◌⊎◌, ℕ, ◌+◌, ◌-◌, ◌*◌, ◌<◌, ◌≤◌, Some, List, slice_index}
 use Rattle.blink_page.specs.{PlainPage}
 use Rattle.blink_rest.specs.{Pages}
 use Rattle.blink_rows.specs.{PlainCounts, page_words}
@@ -28,6 +28,10 @@ AreNumbersIn counts pages = (1 ≤ pages.next) × (pages.stop ≤ counts.numbers
 -- the row's words are these, and 0 behind them
 abbrev pub RowIs : PlainCounts → List ℕ → ℕ → List ℕ → Type 0
 RowIs counts words row content = (i : ℕ) → i < ROW_WORDS → slice_index words (row_start counts row + i) ≡ slice_index content i
+
+-- the words before `from`, and those from `to` on, are as they were
+abbrev pub IsSameOutside : ℕ → ℕ → List ℕ → List ℕ → Type 0
+IsSameOutside from to old new = (n : ℕ) → (n < from) ⊎ (to ≤ n) → slice_index new n ≡ slice_index old n
 
 -- the page word of this number names a row that holds the page
 pub record KeepsPage (counts : PlainCounts) (words : List ℕ) (number : ℕ) (page : PlainPage) : Type 0 where

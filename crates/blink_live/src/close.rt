@@ -9,11 +9,12 @@ ghost use Rattle.blink_machine.specs.{IsMapOf};
 ghost use Rattle.blink_live.specs.Gathered.{IsNumberedInOrder, KeepsTreeAtRest, HasTheEntries};
 ghost use Rattle.blink_live.specs.Handles.{IsKeeperOf, IsPassOf, fan_of, passes_dealt};
 ghost use Rattle.blink_live.specs.declared.view.Role.TheVariants.{Keeper as KeeperRole, Pass as PassRole};
-ghost use Rattle.blink_live.specs.Merge.{IsMerge, shares_of, KeepsPrime, KeepsTree};
-ghost use Rattle.blink_live.specs.Views.{plan_of, takes_back, takes_all_back};
+ghost use Rattle.blink_live.specs.Merge.{IsMerge, shares_of, KeepsPrime, KeepsSomeTree, KeepsTree};
+ghost use Rattle.blink_live.specs.Views.{TakesAllBack, plan_of, takes_back};
 ghost use Rattle.blink_live.specs.Words.{word_count};
 ghost use Rattle.blink_live.specs.ToCome.{HasPagesToCome, HasLeavesToCome, AddsPages, HasPageAt, IsPageAt};
 ghost use Rattle.blink_live.specs.Renumbered.{child_count, link_anew, page_anew, with_children};
+ghost use Rattle.blink_live.specs.Seats.{HasSameNumber, IsIdleIn};
 
 use crate::error::LiveError;
 use crate::live::{Keeper, Live, Pass};
@@ -71,8 +72,8 @@ impl Live {
         requires table { seat.old.table_id ≡ self.now.table.shared.table_id }
         requires role { (dealt : ℕ) × (back : ℕ) × (seat.old.me.0.role ≡ KeeperRole dealt back) }
         requires its_passes { All (IsPassOf self.now) passes.items }
-        ensures same { (seat.new.table_id ≡ seat.old.table_id) × (seat.new.id ≡ seat.old.id) }
-        ensures back { seat.new.me ≡ (takes_all_back seat.old.me.0 (shares_of passes.items), seat.old.me.1) }
+        ensures same { HasSameNumber seat.old seat.new }
+        ensures back { TakesAllBack (shares_of passes.items) seat.old.me seat.new.me }
     {
         while let Some(pass) = passes.pop() {
             let Pass {
@@ -91,8 +92,8 @@ impl Live {
             × (other.table_id ≡ self.now.table.shared.table_id) }
         requires picked { B.plan ≡ plan_of self.now.table.shared.key }
         requires keeper { (dealt : ℕ) × (back : ℕ) × (seat.old.me.0.role ≡ KeeperRole dealt back) }
-        requires pass { (other.me.0.role ≡ PassRole) × (other.me.0.operation ≡ None) × (other.me.1 ≡ []) }
-        ensures same { (seat.new.table_id ≡ seat.old.table_id) × (seat.new.id ≡ seat.old.id) }
+        requires pass { IsIdleIn PassRole other.me }
+        ensures same { HasSameNumber seat.old seat.new }
         ensures back { seat.new.me ≡ (takes_back seat.old.me.0 other.me.0, seat.old.me.1) }
     {
         self.table.shared.join_seat::<TakeBack<B>>(seat, other);
@@ -109,7 +110,7 @@ fn tree_at_end(
     requires full { IsFull closed.now.words }
     requires width { slots_len closed.now.words ≡ word_count counts.now }
     requires fan { IsFan fan }
-    requires tree { (entries : List Entry) × KeepsTree counts.now (slots_items closed.now.words) fan entries }
+    requires tree { KeepsSomeTree counts.now (slots_items closed.now.words) fan }
     ensures fan { IfOk result (λ rest. rest.fan ≡ fan) }
     ensures entries { IfOk result (λ rest. (entries : List Entry)
         → KeepsTree counts.now (slots_items closed.now.words) fan entries → IsMapOf rest entries) }

@@ -8,6 +8,7 @@ ghost use Rattle.blink_live.specs.Dealing.{CanDeal, HasMet};
 ghost use Rattle.blink_live.specs.Deals.{IsFirstTaken, NoneIsTaken, LacksAllowance, IsDealt, HasDealt, IsDealRefusal, rows_for};
 ghost use Rattle.blink_live.specs.Handles.{IsKeeperOf, taken_of, keys_of};
 ghost use Rattle.blink_live.specs.KeyTest.{HasReached, IsWindow};
+ghost use Rattle.blink_live.specs.Seats.{HasSameNumber};
 ghost use Rattle.blink_live.specs.Views.{span, keeps_rest, gets_first};
 
 use crate::error::LiveError;
@@ -105,7 +106,7 @@ impl Live {
         requires same_table { seat.old.table_id ≡ self.now.table.shared.table_id }
         requires picked { (keys.now ≡ B.keys) × (taken.now ≡ B.taken) × (rows ≡ B.rows) × (pages ≡ B.pages) }
         requires can { CanDeal seat.old.me.0 rows pages keys.now taken.now }
-        ensures left { (seat.new.table_id ≡ seat.old.table_id) × (seat.new.id ≡ seat.old.id)
+        ensures left { HasSameNumber seat.old seat.new
             × (seat.new.me ≡ (keeps_rest seat.old.me.0 rows pages taken.now, seat.old.me.1)) }
         ensures right { (result.table_id ≡ seat.old.table_id)
             × (result.me ≡ (gets_first seat.old.me.0 rows pages keys.now, [])) }

@@ -1,6 +1,7 @@
 //! A B-link tree in one table of words that threads share without a lock.
 #![tactic(auto)]
 
+mod advance;
 mod close;
 mod deal;
 mod error;
@@ -15,4 +16,4 @@ mod update;
 mod view;
 
 pub use error::{LiveError, PassError};
-pub use live::{Keeper, Live, Pass};
+pub use live::{Keeper, Live, Pass, Pending};

@@ -1,5 +1,6 @@
 //! The types of a table: `Live` holds the tree, `Keeper` deals the passes, and with a `Pass` a thread reads and changes some
-//! keys. These types stand apart from their calls, since the calls' contracts name them.
+//! keys. A `Pending` is a pass's operation under way. These types stand apart from their calls, since the calls' contracts name
+//! them.
 ghost use Rattle.std.specs.Prelude.{◌≡◌, ◌≤◌, [], IsSorted, None};
 ghost use Rattle.std.specs.Ordering.{nat_cmp};
 ghost use Rattle.blink_page.specs.{IsFan};
@@ -8,11 +9,14 @@ ghost use Rattle.blink_live.specs.declared.view.Role.TheVariants.{Keeper, Pass};
 ghost use Rattle.blink_live.specs.Allowed.{AreForChanges};
 ghost use Rattle.blink_live.specs.Views.{SawItsOwn};
 
+use crate::room::Room;
 use crate::rule::InvariantOfTree;
 use crate::view::{Opened, View};
 use atomic_table::{Seat, Table};
+use blink_machine::Machine;
 use blink_rows::{Counts, Span};
 use std::alloc::Global;
+use std::snapshot::Snapshot;
 
 /// A B-link tree in one table of words. Any number of threads share it without a lock, each with passes of its own.
 ///
@@ -69,4 +73,28 @@ pub struct Pass {
     ghost none_told: { seat.me.0.told ≡ [] },
     ghost idle: { seat.me.0.operation ≡ None },
     ghost no_slot: { seat.me.1 ≡ [] },
+}
+
+/// An insertion, a deletion or a replacement that has begun, with the pass that makes it. `Live::advance` takes its next steps.
+///
+/// The pass comes back when the operation has ended. A `Pending` that is dropped costs its pass, as a dropped pass does: `close`
+/// is then refused with `Missing`, and nobody gets the pass's keys, rows and page numbers again. What the operation has written
+/// stays, its change of the pass's share too, if it has made it. An operation waits only while it holds no page's latch, so no
+/// latch stays held and nobody waits for it.
+#[derive(Drop)]
+pub struct Pending {
+    pub(crate) now: UnderWay,
+    // The pass before the operation.
+    pub(crate) begun: Snapshot<Pass>,
+}
+
+/// An operation that has begun, and the parts of its pass. The operation may still use what is in `room`.
+#[derive(Drop)]
+pub(crate) struct UnderWay {
+    pub seat: Seat<u8, View>,
+    pub keys: Vec<u64>,
+    pub rows: Span,
+    pub pages: Span,
+    pub machine: Machine,
+    pub room: Room,
 }

@@ -1,11 +1,11 @@
 //! The operations of a pass on its own keys: find, insert, delete and replace.
-ghost use Rattle.std.specs.Prelude.{◌≡◌, ◌↔◌, IsTrue, IfErr, IfOk, OnErr, OnOk, IsErrOf, Contains, None};
+ghost use Rattle.std.specs.Prelude.{◌≡◌, ◌≢◌, ◌↔◌, IsTrue, IfErr, IfOk, OnErr, OnOk, IsErrOf, Contains, None};
 ghost use mathlib.Core.List.{IsPrefix};
 ghost use Rattle.blink_batch.specs.{answer_at, answer_of, key_of, FitsWords};
 ghost use Rattle.blink_batch.specs.declared.Op.TheVariants.{Find, Delete, Insert, Replace};
 ghost use Rattle.blink_machine.specs.{IsUpdate};
 ghost use Rattle.blink_live.specs.Handles.{IsPassOf, IsSameBesideSeen, KnowsItsKeys, keys_of, share_of, IsChangedBy};
-ghost use Rattle.blink_live.specs.Seats.{IsPassSeat};
+ghost use Rattle.blink_live.specs.Seats.{HasSameNumber, IsPassSeat};
 ghost use Rattle.blink_live.specs.Views.{CanBegin, SameBesideReads, for_call, KnowsItsOwn, known_of};
 ghost use Rattle.blink_live.specs.Allowed.{changes_left, deletes_left, inserts_left};
 
@@ -127,7 +127,7 @@ impl Live {
         ensures own { KnowsItsOwn seat.new.me.0 }
         ensures saw { IsPrefix seat.old.me.0.seen seat.new.me.0.seen }
         ensures idle { seat.new.me.0.operation ≡ None }
-        ensures same_table { (seat.new.table_id ≡ seat.old.table_id) × (seat.new.id ≡ seat.old.id) }
+        ensures same_table { HasSameNumber seat.old seat.new }
         ensures same { SameBesideReads (for_call seat.old.me.0 (Find key)) seat.new.me.0 }
         ensures same_slots { seat.new.me.1 ≡ seat.old.me.1 }
     {
@@ -158,20 +158,33 @@ impl Live {
             ↔ (Contains (keys_of pass.old) (key_of op) × (changes_left op pass.old.pages pass.old.rows ≡ 0)) }
         ensures unchanged { OnErr result (pass.new ≡ pass.old) }
     {
-        if !pass.has(op.key()) {
-            return Err(PassError::NotYours);
-        }
-        if changes_left(op, &pass.pages, &pass.rows) == 0 {
-            return Err(PassError::Spent);
-        }
+        pass.accepts(op)?;
         let Pass {
             seat,
             keys: _,
             rows,
             pages,
         } = pass;
-        let own = rows.stop - 1;
         let room = next_of(op, rows, pages);
-        Ok(self.update(rt, seat, room, own, op))
+        Ok(self.update(rt, seat, room, op))
+    }
+}
+
+impl Pass {
+    // Whether the pass can make such a change: the key is one of its own, and it has a change of that kind left.
+    pub(crate) fn accepts(&self, op: Op) -> Result<(), PassError>
+        ensures own_key { OnOk result (Contains (keys_of self.now) (key_of op)) }
+        ensures some_left { OnOk result (changes_left op self.now.pages self.now.rows ≢ 0) }
+        ensures not_yours { IsErrOf result PassError.NotYours ↔ ¬ Contains (keys_of self.now) (key_of op) }
+        ensures spent { IsErrOf result PassError.Spent
+            ↔ (Contains (keys_of self.now) (key_of op) × (changes_left op self.now.pages self.now.rows ≡ 0)) }
+    {
+        if !self.has(op.key()) {
+            return Err(PassError::NotYours);
+        }
+        if changes_left(op, &self.pages, &self.rows) == 0 {
+            return Err(PassError::Spent);
+        }
+        Ok(())
     }
 }

@@ -1,7 +1,8 @@
 //! The descent of an operation to the leaf of its key, and a seat's reads of pages. Each read of a page first loads its page
 //! word. That load is the tree's read. Then the seat loads as many words of the row that the page word names as decide where the
-//! operation's key leads. Not even the page's level is among them, since a child is one level below its parent. Of a page that the operation has latched the seat loads the words up to the last entry. Of the prime
-//! block it loads the words up to the leftmost page of the top level.
+//! operation's key leads. Not even the page's level is among them, since a child is one level below its parent. Of a page that
+//! the operation has latched the seat loads the words up to the last entry. Of the prime block it loads the words up to the
+//! leftmost page of the top level.
 ghost use Rattle.std.specs.Prelude.{◌≡◌, None, ℕ, ◌+◌, ◌*◌, ◌<◌, ◌≤◌, Some, List, Option, slice_get, slice_index, ◌⊎◌, length};
 ghost use Rattle.std.specs.Bool.{OnTrue, OnFalse};
 ghost use Rattle.blink_batch.specs.{FitsWords, key_of};
@@ -10,9 +11,9 @@ ghost use Rattle.blink_page.specs.declared.limits.TheConstants.{MAX_FAN};
 ghost use Rattle.blink_rows.specs.declared.limits.TheConstants.{ROW_WORDS};
 ghost use Rattle.blink_rows.specs.{IsPrimeRow, page_words};
 ghost use Rattle.blink_machine.specs.{PlainMachine, fresh, NeedsPage, NeedsPrime, SeesPrime};
-ghost use Rattle.blink_live.specs.Seats.{BeginsAt, HasRead, IsAtLeaf, IsAtPage, IsPassSeat, IsSameSeat, ReadsPage, ReadsWay, TellsWayFor, ReadsPrime};
+ghost use Rattle.blink_live.specs.Seats.{BeginsAt, HasRead, HasSameNumber, IsAtLeaf, IsAtPage, IsPassSeat, IsSameSeat, ReadsPage, ReadsWay, TellsWayFor, ReadsPrime};
 ghost use Rattle.blink_live.specs.Views.{CanBegin, for_call, known_of};
-ghost use Rattle.blink_live.specs.Words.{AreNumbersIn, AreRowsIn, IsRowNumber, row_start, word_count};
+ghost use Rattle.blink_live.specs.Words.{AreNumbersIn, AreRowsIn, IsRowNumber, IsSameOutside, row_start, word_count};
 ghost use Rattle.blink_live.specs.AtomicSteps.{Begins, LoadsPage, LoadsPrime};
 
 use crate::live::Live;
@@ -48,7 +49,7 @@ impl Live {
         requires idle { seat.old.me.0.operation ≡ None }
         requires fits { FitsWords op }
         requires can_begin { CanBegin seat.old.me.0 op }
-        ensures same_table { (seat.new.table_id ≡ seat.old.table_id) × (seat.new.id ≡ seat.old.id) }
+        ensures same_table { HasSameNumber seat.old seat.new }
         ensures rows { AreRowsIn self.now.counts seat.old.me.0.rows }
         ensures pages { AreNumbersIn self.now.counts seat.old.me.0.pages }
         ensures read { HasRead op (for_call seat.old.me.0 op, seat.old.me.1) seat.new.me machine.new }
@@ -68,7 +69,7 @@ impl Live {
         requires idle { seat.old.me.0.operation ≡ None }
         requires fits { FitsWords op }
         requires can_begin { CanBegin seat.old.me.0 op }
-        ensures same { (seat.new.table_id ≡ seat.old.table_id) × (seat.new.id ≡ seat.old.id) }
+        ensures same { HasSameNumber seat.old seat.new }
         ensures begun { BeginsAt op seat.old.me result.0 result.1 seat.new.me }
     {
         let row = self.load_prime::<Brand>(seat, op);
@@ -85,7 +86,7 @@ impl Live {
         requires picked { B.op ≡ op }
         requires fits { FitsWords op }
         requires can_begin { CanBegin seat.old.me.0 op }
-        ensures same { (seat.new.table_id ≡ seat.old.table_id) × (seat.new.id ≡ seat.old.id) }
+        ensures same { HasSameNumber seat.old seat.new }
         ensures begun { (machine : PlainMachine) × Begins op seat.old.me result machine seat.new.me }
     {
         self.table.shared.load::<Begin<B>>(seat, 0)
@@ -101,11 +102,11 @@ impl Live {
         level: u8,
     ) -> (Way, Option<u64>)
         requires seat { IsPassSeat self.now seat.old.table_id seat.old.me }
-        requires at { (m : PlainMachine) × IsAtPage m key number level × (seat.old.me.0.operation ≡ Some m) }
+        requires at { IsAtPage seat.old.me key number level }
         requires in_range { (1 ≤ number) × (number < self.now.counts.numbers) }
-        ensures same { (seat.new.table_id ≡ seat.old.table_id) × (seat.new.id ≡ seat.old.id) }
-        ensures way { (m : PlainMachine) → IsAtPage m key number level → seat.old.me.0.operation ≡ Some m
-            → ReadsWay m key number seat.old.me result.0 result.1 seat.new.me }
+        ensures same { HasSameNumber seat.old seat.new }
+        ensures way { (at : IsAtPage seat.old.me key number level)
+            → ReadsWay at.machine key number seat.old.me result.0 result.1 seat.new.me }
     {
         let row = self.table.shared.load::<LoadPage>(seat, number as usize);
         self.way_from(seat, row, level, key)
@@ -197,7 +198,7 @@ impl Live {
         requires fits { FitsWords machine.old.op }
         requires needs { NeedsPage machine.old number }
         requires in_range { (1 ≤ number) × (number < self.now.counts.numbers) }
-        ensures same { (seat.new.table_id ≡ seat.old.table_id) × (seat.new.id ≡ seat.old.id) }
+        ensures same { HasSameNumber seat.old seat.new }
         ensures read { (row : ℕ) × LoadsPage machine.old number seat.old.me row machine.new seat.new.me }
     {
         let row = self.table.shared.load::<LoadPage>(seat, number as usize);
@@ -254,7 +255,7 @@ impl Live {
             → (n : ℕ) → from ≤ n
             → n < to
             → slice_index words.new n ≡ slice_index content n }
-        ensures others { (n : ℕ) → (n < from) ⊎ (to ≤ n) → slice_index words.new n ≡ slice_index words.old n }
+        ensures others { IsSameOutside from to words.old words.new }
     {
         for n in from..to {
             words[n] = self.load_word(seat, start, n);
@@ -268,7 +269,7 @@ impl Live {
         requires at { seat.old.me.0.operation ≡ Some machine.old }
         requires fits { FitsWords machine.old.op }
         requires needs { NeedsPrime machine.old }
-        ensures same { (seat.new.table_id ≡ seat.old.table_id) × (seat.new.id ≡ seat.old.id) }
+        ensures same { HasSameNumber seat.old seat.new }
         ensures read { (row : ℕ) × LoadsPrime machine.old seat.old.me row machine.new seat.new.me }
         ensures moved { OnTrue result ((prime : List ℕ) × SeesPrime machine.old prime machine.new) }
         ensures waits { OnFalse result (machine.new ≡ machine.old) }

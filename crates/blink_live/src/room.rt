@@ -2,16 +2,19 @@
 //! change may use.
 ghost use Rattle.std.specs.Prelude.{◌≡◌, ◌+◌, ◌≤◌};
 ghost use Rattle.blink_live.specs.Allowed.{AreForChanges, changes_left, deletes_left, inserts_left};
+ghost use Rattle.blink_live.specs.Updating.{room_for};
 ghost use Rattle.blink_live.specs.Views.{pages_of, rows_of, span};
 
 use blink_batch::Op;
 use blink_rows::{MAX_NEW_PAGES_PER_INSERT, MAX_ROWS_PER_INSERT, Span};
 
-/// The rows and the page numbers that one operation may still use.
+/// The rows and the page numbers that one operation may still use, and its pass's latch number, which it puts into the latch
+/// words of pages.
 #[derive(Clone, Copy)]
 pub(crate) struct Room {
     pub rows: Span,
     pub pages: Span,
+    pub latch_number: u64,
 }
 
 // The number of insertions that these page numbers are enough for.
@@ -55,12 +58,13 @@ pub(crate) fn first_of(rest: &mut Span, count: u64) -> Span
     }
 }
 
-// Takes what the operation may use: the first rows and page numbers. The spans keep the rest.
+// Takes what the operation may use: the first rows and page numbers. The spans keep the rest. A pass's latch number is that of
+// its last row.
 pub(crate) fn next_of(op: Op, rows: &mut Span, pages: &mut Span) -> Room
     requires rows { rows.old.next + rows_of op ≤ rows.old.stop }
     requires pages { pages.old.next + pages_of op ≤ pages.old.stop }
-    ensures room_rows { result.rows ≡ span rows.old.next (rows.old.next + rows_of op) }
-    ensures room_pages { result.pages ≡ span pages.old.next (pages.old.next + pages_of op) }
+    requires some_row { 1 ≤ rows.old.stop }
+    ensures room { result ≡ room_for op rows.old pages.old }
     ensures rows { rows.new ≡ span (rows.old.next + rows_of op) rows.old.stop }
     ensures pages { pages.new ≡ span (pages.old.next + pages_of op) pages.old.stop }
 {
@@ -72,5 +76,6 @@ pub(crate) fn next_of(op: Op, rows: &mut Span, pages: &mut Span) -> Room
     Room {
         rows: first_of(rows, row_count),
         pages: first_of(pages, page_count),
+        latch_number: rows.stop - 1,
     }
 }

@@ -5,7 +5,7 @@ ghost use Rattle.blink_batch.specs.{pointer_of};
 ghost use Rattle.blink_live.specs.Changes.{after};
 ghost use Rattle.blink_live.specs.Handles.{IsPassOf, IsSameBesideSeen, KnowsItsKeys, opening_of, seen_of, IsSamePass, OneIsPrefix, SawAllOf, SawPrefixOf};
 ghost use Rattle.blink_live.specs.declared.view.Role.TheVariants.{Spent};
-ghost use Rattle.blink_live.specs.Seats.{IsPassSeat, IsSameSeat};
+ghost use Rattle.blink_live.specs.Seats.{HasSameNumber, IsIdleIn, IsPassSeat, IsSameSeat};
 ghost use Rattle.blink_live.specs.AtomicSteps.{LooksBack, LooksUp};
 ghost use Rattle.blink_live.specs.Views.{hears, note_of, plan_of};
 
@@ -75,7 +75,7 @@ impl Live {
         requires from { IsPassSeat self.now from.old.table_id from.old.me }
         requires to { IsPassSeat self.now to.old.table_id to.old.me }
         ensures from { IsSameSeat from.old from.new }
-        ensures to { (to.new.table_id ≡ to.old.table_id) × (to.new.id ≡ to.old.id) }
+        ensures to { HasSameNumber to.old to.new }
         ensures told { to.new.me ≡ (hears to.old.me.0 (note_of from.old.me.0), to.old.me.1) }
     {
         let note = self.table.shared.split_seat::<Note>(from);
@@ -85,7 +85,7 @@ impl Live {
     // The seat sees all changes so far.
     fn look_up(&self, seat: &mut Seat<u8, View>)
         requires seat { IsPassSeat self.now seat.old.table_id seat.old.me }
-        ensures same { (seat.new.table_id ≡ seat.old.table_id) × (seat.new.id ≡ seat.old.id) }
+        ensures same { HasSameNumber seat.old seat.new }
         ensures up { LooksUp seat.old.me seat.new.me }
     {
         self.table.shared.load::<LookUp>(seat, 0);
@@ -95,7 +95,7 @@ impl Live {
     // operations made.
     fn look_back(&self, seat: &mut Seat<u8, View>)
         requires seat { IsPassSeat self.now seat.old.table_id seat.old.me }
-        ensures same { (seat.new.table_id ≡ seat.old.table_id) × (seat.new.id ≡ seat.old.id) }
+        ensures same { HasSameNumber seat.old seat.new }
         ensures back { LooksBack seat.old.me seat.new.me }
     {
         self.table.shared.load::<LookBack>(seat, 0);
@@ -106,8 +106,8 @@ impl Live {
         requires seat { IsPassSeat self.now seat.old.table_id seat.old.me }
         requires table { note.table_id ≡ self.now.table.shared.table_id }
         requires picked { B.plan ≡ plan_of self.now.table.shared.key }
-        requires note { (note.me.0.role ≡ Spent) × (note.me.0.operation ≡ None) × (note.me.1 ≡ []) }
-        ensures same { (seat.new.table_id ≡ seat.old.table_id) × (seat.new.id ≡ seat.old.id) }
+        requires note { IsIdleIn Spent note.me }
+        ensures same { HasSameNumber seat.old seat.new }
         ensures heard { seat.new.me ≡ (hears seat.old.me.0 note.me.0, seat.old.me.1) }
     {
         self.table.shared.join_seat::<Hear<B>>(seat, note);

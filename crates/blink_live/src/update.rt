@@ -1,19 +1,18 @@
 //! How an operation changes the tree after its descent. To change a page it latches the page and stores the page's next version
 //! word by word in a row of its own. Then it names that row in the page word, and releases the latch.
-ghost use Rattle.std.specs.Prelude.{◌≡◌, ◌≢◌, ℕ, ◌+◌, ◌-◌, None, Contains, ◌<◌, ◌≤◌, Some, suc, List, IsTrue};
-ghost use mathlib.Core.List.{IsPrefix};
+ghost use Rattle.std.specs.Prelude.{◌≡◌, ◌≢◌, ℕ, ◌+◌, ◌-◌, None, Contains, ◌<◌, ◌≤◌, Some, suc, List, IsTrue, IfSome};
 ghost use Rattle.atomic_table.specs.declared.Seat.{Seat};
-ghost use Rattle.blink_batch.specs.{FitsWords, answer_of, key_of};
+ghost use Rattle.blink_batch.specs.{FitsWords, key_of};
 ghost use Rattle.blink_batch.specs.declared.Op.{Op};
 ghost use Rattle.blink_page.specs.{IsPageNumber};
 ghost use Rattle.blink_rows.specs.{page_words, prime_words, IsRowOf};
 ghost use Rattle.blink_rows.specs.declared.limits.TheConstants.{ROW_WORDS};
 ghost use Rattle.blink_machine.specs.declared.machine.State.TheVariants.{Ended};
-ghost use Rattle.blink_machine.specs.{IsUpdate, done, PrimeOut, page_out, NeedsNew, NeedsPrimeWrite, NeedsWrite, NeedsLatch, NeedsUnlatch, latch, unlatch};
+ghost use Rattle.blink_machine.specs.{IsUpdate, fresh, done, PrimeOut, page_out, NeedsNew, NeedsPrimeWrite, NeedsWrite, NeedsLatch, NeedsUnlatch, latch, unlatch};
 ghost use Rattle.blink_live.specs.declared.view.View.{View};
-ghost use Rattle.blink_live.specs.Seats.{IsPassSeat, IsFirst};
-ghost use Rattle.blink_live.specs.Updating.{IsUnderWay, SameBesideCall};
-ghost use Rattle.blink_live.specs.Views.{CanBegin, KnowsItsOwn, changed_by, for_call, pages_of, rows_of, span, is_staged, no_words, stage_word};
+ghost use Rattle.blink_live.specs.Seats.{HasSameNumber, IsPassSeat, IsFirst};
+ghost use Rattle.blink_live.specs.Updating.{HasEnded, IsUnderWay, room_for};
+ghost use Rattle.blink_live.specs.Views.{CanBegin, is_staged, no_words, stage_word};
 ghost use Rattle.blink_live.specs.AtomicSteps.{PublishesNew, PublishesPage, PublishesPrime, GoesOn};
 ghost use Rattle.blink_live.specs.Words.{IsRowNumber};
 
@@ -26,7 +25,7 @@ use blink_batch::{Answer, Op};
 use blink_machine::{Machine, Need};
 use blink_rows::{ROW_WORDS, page_row, prime_row};
 use std::sync::Wait;
-use std::thread;
+use std::{hint, thread};
 
 // The number of words in a cache line of the processor, at 64 bytes a line.
 const LINE_WORDS: usize = 8;
@@ -35,15 +34,13 @@ const LINE_WORDS: usize = 8;
 const ROW_LINES: usize = 9;
 
 impl Live {
-    // Changes the tree by an operation of one of the seat's keys, with the rows and page numbers of `room`. The seat's own
-    // number stands in the latch words of the pages that it latches. The call retries a latch that another seat has, and a level
-    // to post to that isn't there yet.
+    // Changes the tree by an operation of one of the seat's keys, with the rows and page numbers of `room`. The call retries a
+    // latch that another seat has, and a level to post to that isn't there yet.
     pub(crate) fn update<R: Wait>(
         &self,
         rt: &R,
         seat: &mut Seat<u8, View>,
         mut room: Room,
-        own: u64,
         op: Op,
     ) -> Answer
         requires seat { IsPassSeat self.now seat.old.table_id seat.old.me }
@@ -51,34 +48,41 @@ impl Live {
         requires fits { FitsWords op }
         requires updates { IsUpdate op }
         requires can_begin { CanBegin seat.old.me.0 op }
-        requires rows { room.rows ≡ span seat.old.me.0.rows.next (seat.old.me.0.rows.next + rows_of op) }
-        requires pages { room.pages ≡ span seat.old.me.0.pages.next (seat.old.me.0.pages.next + pages_of op) }
-        requires own { own ≡ seat.old.me.0.rows.stop - 1 }
+        requires room { room ≡ room_for op seat.old.me.0.rows seat.old.me.0.pages }
         requires own_key { Contains seat.old.me.0.share.keys (key_of op) }
-        ensures answer { result ≡ answer_of seat.old.me.0.share.entries op }
-        ensures idle { seat.new.me.0.operation ≡ None }
-        ensures same_table { (seat.new.table_id ≡ seat.old.table_id) × (seat.new.id ≡ seat.old.id) }
-        ensures share { seat.new.me.0.share ≡ changed_by op seat.old.me.0.share }
-        ensures own { KnowsItsOwn seat.new.me.0 }
-        ensures saw { IsPrefix seat.old.me.0.seen seat.new.me.0.seen }
-        ensures same { SameBesideCall (for_call seat.old.me.0 op) seat.new.me.0 }
-        ensures same_slots { seat.new.me.1 ≡ seat.old.me.1 }
+        ensures ended { HasEnded op seat.old seat.new result }
+    {
+        let mut machine = Machine::new(op, self.fan);
+        self.set_out(seat, &mut machine, &room, op);
+        for _ in rt.forever() {
+            if let Some(answer) = self.take_steps(seat, &mut machine, &mut room, 1) {
+                return answer;
+            }
+            thread::yield_now();
+        }
+        unreachable!()
+    }
+
+    // Takes a new operation to the leaf of its key. The operation stays where its caller made it, since it is large.
+    pub(crate) fn set_out(
+        &self,
+        seat: &mut Seat<u8, View>,
+        machine: &mut Machine,
+        room: &Room,
+        op: Op,
+    )
+        requires seat { IsPassSeat self.now seat.old.table_id seat.old.me }
+        requires fresh { machine.old ≡ fresh self.now.fan op }
+        requires idle { seat.old.me.0.operation ≡ None }
+        requires fits { FitsWords op }
+        requires updates { IsUpdate op }
+        requires can_begin { CanBegin seat.old.me.0 op }
+        requires room { room.now ≡ room_for op seat.old.me.0.rows seat.old.me.0.pages }
+        requires own_key { Contains seat.old.me.0.share.keys (key_of op) }
+        ensures under_way { IsUnderWay self.now op seat.old seat.new machine.new room.now }
     {
         self.fetch_row(room.rows.next);
-        let mut machine = Machine::new(op, self.fan);
-        self.descend(seat, &mut machine, op);
-        for _ in rt.forever() {
-            if machine.ended() {
-                break;
-            }
-            if !self.turn(seat, &mut machine, &mut room, own) {
-                thread::yield_now();
-            }
-        }
-        let Some(answer) = machine.answer() else {
-            unreachable!()
-        };
-        answer
+        self.descend(seat, machine, op);
     }
 
     // Loads a word of each of the row's cache lines. The call that is to store the row begins with this, so that the lines come
@@ -93,21 +97,49 @@ impl Live {
         }
     }
 
-    // Takes the operation's next step, and returns whether the operation moved. It waits if another seat has the latch that it
-    // wants, or if the level that it posts to isn't there yet.
-    fn turn(
+    // Takes steps of the operation until it has ended, and returns its answer; or `None` after so many steps in vain, at least
+    // one. It waits for nobody.
+    pub(crate) fn take_steps(
         &self,
         seat: &mut Seat<u8, View>,
         machine: &mut Machine,
         room: &mut Room,
-        own: u64,
-    ) -> bool
+        tries: u32,
+    ) -> Option<Answer>
         requires under_way { (op : Op) × (first : Seat ℕ View)
-            × IsUnderWay self.now op own first seat.old machine.old room.old }
+            × IsUnderWay self.now op first seat.old machine.old room.old }
+        ensures under_way { (op : Op) (first : Seat ℕ View)
+            → IsUnderWay self.now op first seat.old machine.old room.old
+            → IsUnderWay self.now op first seat.new machine.new room.new }
+        ensures ended { IfSome result
+            (λ answer. (machine.new.state ≡ Ended) × (machine.new.answer ≡ Some answer)) }
+    {
+        let mut left = tries;
+        // The range ends for the proof alone, which knows no bound of an operation's steps.
+        for _ in 0..u64::MAX {
+            if machine.ended() {
+                return machine.answer();
+            }
+            if !self.turn(seat, machine, room) {
+                left = left.saturating_sub(1);
+                if left == 0 {
+                    return None;
+                }
+                hint::spin_loop();
+            }
+        }
+        None
+    }
+
+    // Takes the operation's next step, and returns whether the operation moved. It waits if another seat has the latch that it
+    // wants, or if the level that it posts to isn't there yet.
+    fn turn(&self, seat: &mut Seat<u8, View>, machine: &mut Machine, room: &mut Room) -> bool
+        requires under_way { (op : Op) × (first : Seat ℕ View)
+            × IsUnderWay self.now op first seat.old machine.old room.old }
         requires goes_on { machine.old.state ≢ Ended }
         ensures under_way { (op : Op) (first : Seat ℕ View)
-            → IsUnderWay self.now op own first seat.old machine.old room.old
-            → IsUnderWay self.now op own first seat.new machine.new room.new }
+            → IsUnderWay self.now op first seat.old machine.old room.old
+            → IsUnderWay self.now op first seat.new machine.new room.new }
     {
         // Read for the proof: the room's numbers are words.
         let _stop = room.rows.stop;
@@ -117,7 +149,7 @@ impl Live {
                 self.read_latched(seat, machine, number);
                 true
             }
-            Need::Latch(number) => self.try_latch(seat, machine, number, own),
+            Need::Latch(number) => self.try_latch(seat, machine, number, room.latch_number),
             Need::WriteNew => {
                 self.write_new(seat, machine, room.pages.next as u32, room.rows.next);
                 room.pages.next += 1;
@@ -153,7 +185,7 @@ impl Live {
         requires row { IsFirst row seat.old.me.0.call.rows × IsRowNumber self.now.counts row }
         requires blank { seat.old.me.0.call.staged ≡ no_words }
         requires among { Contains seat.old.me.0.share.keys (key_of machine.old.op) }
-        ensures same { (seat.new.table_id ≡ seat.old.table_id) × (seat.new.id ≡ seat.old.id) }
+        ensures same { HasSameNumber seat.old seat.new }
         ensures machine { machine.new ≡ done machine.old 0 }
         ensures published { PublishesPage number machine.old seat.old.me seat.new.me }
     {
@@ -174,7 +206,7 @@ impl Live {
         requires row { IsFirst row seat.old.me.0.call.rows × IsRowNumber self.now.counts row }
         requires blank { seat.old.me.0.call.staged ≡ no_words }
         requires among { Contains seat.old.me.0.share.keys (key_of machine.old.op) }
-        ensures same { (seat.new.table_id ≡ seat.old.table_id) × (seat.new.id ≡ seat.old.id) }
+        ensures same { HasSameNumber seat.old seat.new }
         ensures machine { machine.new ≡ done machine.old number }
         ensures published { PublishesNew machine.old seat.old.me seat.new.me }
     {
@@ -193,7 +225,7 @@ impl Live {
         requires row { IsFirst row seat.old.me.0.call.rows × IsRowNumber self.now.counts row }
         requires blank { seat.old.me.0.call.staged ≡ no_words }
         requires among { Contains seat.old.me.0.share.keys (key_of machine.old.op) }
-        ensures same { (seat.new.table_id ≡ seat.old.table_id) × (seat.new.id ≡ seat.old.id) }
+        ensures same { HasSameNumber seat.old seat.new }
         ensures machine { machine.new ≡ done machine.old 0 }
         ensures published { PublishesPrime machine.old seat.old.me seat.new.me }
     {
@@ -208,7 +240,7 @@ impl Live {
         requires seat { IsPassSeat self.now seat.old.table_id seat.old.me }
         requires row { IsFirst row seat.old.me.0.call.rows × IsRowNumber self.now.counts row }
         requires blank { seat.old.me.0.call.staged ≡ no_words }
-        ensures same { (seat.new.table_id ≡ seat.old.table_id) × (seat.new.id ≡ seat.old.id) }
+        ensures same { HasSameNumber seat.old seat.new }
         ensures staged { seat.new.me ≡ (is_staged seat.old.me.0 words.now, seat.old.me.1) }
     {
         for (place, &word) in words.iter().enumerate() {
@@ -243,7 +275,7 @@ impl Live {
         requires needs { NeedsLatch machine.old number }
         requires in_range { number < self.now.counts.numbers }
         requires own { (own ≡ seat.old.me.0.rows.stop - 1) × (1 ≤ own) }
-        ensures same { (seat.new.table_id ≡ seat.old.table_id) × (seat.new.id ≡ seat.old.id) }
+        ensures same { HasSameNumber seat.old seat.new }
         ensures moved { IsTrue result → machine.new ≡ done machine.old 0 }
         ensures got { IsTrue result → GoesOn (latch number) machine.old seat.old.me seat.new.me }
         ensures lost { ¬ IsTrue result → (machine.new ≡ machine.old) × (seat.new.me ≡ seat.old.me) }
@@ -268,7 +300,7 @@ impl Live {
         requires fits { FitsWords machine.old.op }
         requires needs { NeedsUnlatch machine.old number }
         requires in_range { number < self.now.counts.numbers }
-        ensures same { (seat.new.table_id ≡ seat.old.table_id) × (seat.new.id ≡ seat.old.id) }
+        ensures same { HasSameNumber seat.old seat.new }
         ensures machine { machine.new ≡ done machine.old 0 }
         ensures gone { GoesOn (unlatch number) machine.old seat.old.me seat.new.me }
     {
@@ -282,7 +314,7 @@ impl Live {
         requires seat { IsPassSeat self.now seat.old.table_id seat.old.me }
         requires row { IsFirst row seat.old.me.0.call.rows × IsRowNumber self.now.counts row }
         requires place { (place < ROW_WORDS) × (1 ≤ self.now.counts.numbers) }
-        ensures same { (seat.new.table_id ≡ seat.old.table_id) × (seat.new.id ≡ seat.old.id) }
+        ensures same { HasSameNumber seat.old seat.new }
         ensures stored { seat.new.me ≡ (stage_word seat.old.me.0 place word, seat.old.me.1) }
     {
         // Called for the proof: a place in the table is a `usize`.
@@ -303,7 +335,7 @@ impl Live {
         requires row { IsFirst row seat.old.me.0.call.rows }
         requires staged { IsRowOf seat.old.me.0.call.staged (page_words (page_out machine.old 0)) }
         requires among { Contains seat.old.me.0.share.keys (key_of machine.old.op) }
-        ensures same { (seat.new.table_id ≡ seat.old.table_id) × (seat.new.id ≡ seat.old.id) }
+        ensures same { HasSameNumber seat.old seat.new }
         ensures machine { machine.new ≡ done machine.old 0 }
         ensures published { PublishesPage number machine.old seat.old.me seat.new.me }
     {
@@ -324,7 +356,7 @@ impl Live {
         requires row { IsFirst row seat.old.me.0.call.rows }
         requires staged { IsRowOf seat.old.me.0.call.staged (page_words (page_out machine.old number)) }
         requires among { Contains seat.old.me.0.share.keys (key_of machine.old.op) }
-        ensures same { (seat.new.table_id ≡ seat.old.table_id) × (seat.new.id ≡ seat.old.id) }
+        ensures same { HasSameNumber seat.old seat.new }
         ensures machine { machine.new ≡ done machine.old number }
         ensures published { PublishesNew machine.old seat.old.me seat.new.me }
     {
@@ -344,7 +376,7 @@ impl Live {
         requires staged { (prime : List ℕ) × PrimeOut machine.old prime
             × IsRowOf seat.old.me.0.call.staged (prime_words prime) }
         requires among { Contains seat.old.me.0.share.keys (key_of machine.old.op) }
-        ensures same { (seat.new.table_id ≡ seat.old.table_id) × (seat.new.id ≡ seat.old.id) }
+        ensures same { HasSameNumber seat.old seat.new }
         ensures machine { machine.new ≡ done machine.old 0 }
         ensures published { PublishesPrime machine.old seat.old.me seat.new.me }
     {

@@ -14,7 +14,7 @@ use std::process::Abort;
 const ONE_MORE: [Step; 1] = [Call(Op::Insert(5, 50), Ok(Answer::Inserted))];
 
 // The keys 1 to 4 in one leaf, which is full, split by key 5.
-const SPLIT: &str = "\
+pub(crate) const SPLIT: &str = "\
 1 3 - 18446744073709551615 - 3:1 18446744073709551615:2
 0 1 - 3 2 1:10 2:20 3:30
 0 2 3 18446744073709551615 - 4:40 5:50

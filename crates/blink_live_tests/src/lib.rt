@@ -28,6 +28,8 @@ mod replacing;
 #[cfg(test)]
 mod shared;
 #[cfg(test)]
+mod stepping;
+#[cfg(test)]
 mod steps;
 #[cfg(test)]
 mod watching;

@@ -15,7 +15,7 @@ use std::thread::{self, Threads};
 // A table with its keeper and the passes that were dealt, in the order of the deals.
 #[derive(Drop)]
 pub(crate) struct Shared {
-    alloc: Global,
+    pub(crate) alloc: Global,
     pub(crate) live: Live,
     keeper: Keeper,
     pub(crate) passes: Vec<Pass>,
@@ -202,7 +202,7 @@ pub(crate) fn refuse_open<R: Abort>(
 
 // ---- passes that tell each other, a step a function: the facts of all passes are then carried by its clauses
 
-fn without_last<R: Abort>(rt: &R, live: &Live, passes: &mut Vec<Pass>) -> Pass
+pub(crate) fn without_last<R: Abort>(rt: &R, live: &Live, passes: &mut Vec<Pass>) -> Pass
     requires { All (IsPassOf live.now) passes.old.items }
     ensures last { IsPassOf live.now result }
     ensures others { All (IsPassOf live.now) passes.new.items }
@@ -210,7 +210,7 @@ fn without_last<R: Abort>(rt: &R, live: &Live, passes: &mut Vec<Pass>) -> Pass
     passes.pop().expect(rt, "no pass")
 }
 
-fn with_last<R: Abort>(rt: &R, live: &Live, passes: &mut Vec<Pass>, last: Pass)
+pub(crate) fn with_last<R: Abort>(rt: &R, live: &Live, passes: &mut Vec<Pass>, last: Pass)
     requires last { IsPassOf live.now last }
     requires others { All (IsPassOf live.now) passes.old.items }
     ensures { All (IsPassOf live.now) passes.new.items }

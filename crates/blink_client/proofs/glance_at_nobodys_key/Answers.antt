@@ -10,10 +10,10 @@ of_none : (first : Option ℕ) (states : List (Option ℕ)) → IsPrefix states 
 of_none first [] is = refl
 of_none first (x ∷ rest) is = absurd (let e = is.1 in cc)
 
-pub returns : goal.returns
-returns c =
+pub returns-clause-opening : goal.returns-clause-opening
+returns-clause-opening c =
     let key : ℕ = c.args.key in
     let kept = pointer_of (opening_of c.args.live.now) in
     let none : IsPrefix (seen_changes_of c.glance-shown.new.pass key) [] =
     subst (IsPrefix (seen_changes_of c.glance-shown.new.pass key)) c.in_ok-owner.ensures.new.none_made (c.tell.ensures.own_before.0 key c.in_ok-owner.ensures.new.own_key) in
-    record { opening = c.glance-shown.ensures.state ∙ (after-last_state kept (seen_of c.glance-shown.new.pass) key ∙ of_none (kept key) (seen_changes_of c.glance-shown.new.pass key) none) }
+    c.glance-shown.ensures.state ∙ (after-last_state kept (seen_of c.glance-shown.new.pass) key ∙ of_none (kept key) (seen_changes_of c.glance-shown.new.pass key) none)

@@ -2,7 +2,7 @@
 use Rattle.std.proofs.Common.{◌≡◌, ◌≢◌, ℕ, suc, ◌<◌, ◌≤◌, Option, Some, None, List, [], ◌++◌, set, refl, sym, ap, ◌∙◌, subst, append_assoc, arith}
 use Rattle.std.specs.Prelude.{Contains, IsSome}
 use mathlib.Core.Option.{some, none}
-use mathlib.Core.List.{append-nil}
+use mathlib.Core.List.{IsPrefix, append-nil}
 use lib.ListN.{get_elem?}
 use Rattle.atomic_table.specs.Table.{State, step, keeps, Allows}
 use Rattle.blink_batch.proofs.Offered.{IsAscending-map_after}
@@ -23,7 +23,7 @@ use Rattle.blink_live.specs.declared.view.Role.TheVariants.{Pass}
 use Rattle.blink_live.specs.declared.view.Share.{Share}
 use Rattle.blink_live.specs.declared.view.View.{View}
 use Rattle.blink_live.specs.Changes.{put, after, states_of, changes_made, Learns}
-use Rattle.blink_live.specs.AtomicSteps.{Decided, CanGoOn, PublishesPage, PublishesNew, PublishesPrime, publishes_page, publishes_new, publishes_prime}
+use Rattle.blink_live.specs.AtomicSteps.{Decided, CanGoOn, EndsWithOwn, PublishesPage, PublishesNew, PublishesPrime, publishes_page, publishes_new, publishes_prime}
 use Rattle.blink_live.specs.Rule.{IsOwnKey, IsShare, HasNumbers, IsTableAt, IsTable}
 use Rattle.blink_live.specs.Views.{SeatState, KnowsItsOwn, span, changed_by, publishes}
 use Rattle.blink_live.proofs.changed.ChangesAreTheMaps.{states_of-append, none_of_other, other_stays, map_is_changed}
@@ -31,9 +31,15 @@ use Rattle.blink_live.proofs.changed.RowsArePublished.{gives_row, IsStepOfTree, 
 use Rattle.blink_live.proofs.found.OperationBegins.{goes_on_as}
 use Rattle.blink_live.proofs.table.MapsWithOneChange.{put_here, put_else}
 use Rattle.blink_live.proofs.table.NextPageIsThere.{EndsAt, next_page_is_there}
+use Rattle.blink_live.proofs.table.SeatsThatStay.{views_stay}
 use Rattle.blink_live.proofs.table.SharesAreKnown.{share_is_known}
 
--- what the table becomes, and what the seat is told
+-- no seat has seen a change that isn't in this list
+abbrev pub IsLongest : List View → List Change → Type 0
+IsLongest views seen = (seat : ℕ) (v : View) → get_elem? views seat ≡ some v → IsPrefix v.seen seen
+
+-- what the table becomes, and what the seat is told: where the step changes something, the seat's list is the longest now, and ends
+-- with this change
 pub record BecomesPublished (plan : Plan) (s : State ℕ View) (id number : ℕ) (kind : Kind) (pages : Span) (me : SeatState) (m after_it : PlainMachine) : Type 0 where
   pub way : ℕ
   pub share : Share
@@ -45,6 +51,8 @@ pub record BecomesPublished (plan : Plan) (s : State ℕ View) (id number : ℕ)
   pub uses : UsesUp m (Moved kind) after_it
   pub answers_at_end : after_it.state ≡ Ended → IsSome after_it.answer
   pub knows_own : KnowsItsOwn (publishes me.0 after_it way pages share seen)
+  pub ends_with_own : EndsWithOwn me.0 share seen
+  pub longest : IsLongest (set s.views id (publishes me.0 after_it way pages share seen)) seen
 
 module _ (plan : Plan) (s : State ℕ View) (tree_state then : TreeState) (h : IsTableAt plan s tree_state) (id number : ℕ) (kind : Kind) (pages : Span) (me : SeatState) (m after_it : PlainMachine) (content : List ℕ)
     (at : get_elem? s.views id ≡ some me.0) (role : me.0.role ≡ Pass) (its : IsItsOperation tree_state id m) (fits : FitsWords m.op) (stepped : Steps tree_state id m (Moved kind) after_it then)
@@ -100,6 +108,11 @@ module _ (plan : Plan) (s : State ℕ View) (tree_state then : TreeState) (h : I
   own_known : (made : List Change) (share : Share) → IsShare plan (gives_row h.owners me.0.call.rows.next) (h.log ++ made) (suc id) share → KnowsItsOwn (publishes me.0 after_it (descent_bound then.pages after_it) pages share (h.log ++ made))
   own_known made share is = share_is_known plan (gives_row h.owners me.0.call.rows.next) (suc id) (publishes me.0 after_it (descent_bound then.pages after_it) pages share (h.log ++ made)) (h.views id me.0 at).same_plan is
 
+  -- no seat has seen more
+  is_longest : (made : List Change) (share : Share) → IsLongest (set s.views id (publishes me.0 after_it (descent_bound then.pages after_it) pages share (h.log ++ made))) (h.log ++ made)
+  is_longest made share = views_stay (λ seat v. IsPrefix v.seen (h.log ++ made)) s.views id (publishes me.0 after_it (descent_bound then.pages after_it) pages share (h.log ++ made)) ([], append-nil (h.log ++ made))
+      (λ j u other there. let saw = (h.views j u there).saw in (saw.0 ++ made, sym (append_assoc u.seen saw.0 made) ∙ ap (λ (l : List Change). l ++ made) saw.1))
+
   pub becomes_published : BecomesPublished plan s id number kind pages me m after_it
   becomes_published =
       let known = h.views id me.0 at in
@@ -109,6 +122,7 @@ module _ (plan : Plan) (s : State ℕ View) (tree_state then : TreeState) (h : I
       let uses = step_law.allowance_is_used_up.by_step tree_state then id m after_it (Moved kind) h.invariant fits its stepped in
       let answers_at_end : after_it.state ≡ Ended → IsSome after_it.answer = λ at_end. has_answer_at_end tree_state h.invariant id m after_it its at_end (Moved kind) then stepped in
       let bounded : (k : PlainMachine) → goes_on after_it after_it.state ≡ Some k → descent_bound then.pages k ≡ way = λ k is. ap (descent_bound then.pages) (sym (goes_on_as after_it after_it.state k is)) in
+      let learns_before : Learns me.0 h.log = record { saw = known.saw; heard = known.heard } in
       let learns : (made : List Change) → Learns me.0 (h.log ++ made) = λ made. record {
         saw = (known.saw.0 ++ made, sym (append_assoc me.0.seen known.saw.0 made) ∙ ap (λ (l : List Change). l ++ made) known.saw.1);
         heard = (known.heard.0 ++ made, sym (append_assoc me.0.told known.heard.0 made) ∙ ap (λ (l : List Change). l ++ made) known.heard.1);
@@ -125,6 +139,8 @@ module _ (plan : Plan) (s : State ℕ View) (tree_state then : TreeState) (h : I
           uses = uses;
           answers_at_end = answers_at_end;
           knows_own = own_known its_changes (changed_by m.op me.0.share) (decides_here has_entries).own_share;
+          ends_with_own = record { before = h.log; made = its_changes; learns = learns_before; own = refl; last = refl };
+          longest = is_longest its_changes (changed_by m.op me.0.share);
         }
         | other same_answer has_entries ↦ record {
           way = way;
@@ -137,6 +153,8 @@ module _ (plan : Plan) (s : State ℕ View) (tree_state then : TreeState) (h : I
           uses = uses;
           answers_at_end = answers_at_end;
           knows_own = own_known [] me.0.share (decides_nothing has_entries).own_share;
+          ends_with_own = record { before = h.log; made = []; learns = learns_before; own = sym (append-nil me.0.share.changes); last = refl };
+          longest = is_longest [] me.0.share;
         }
       ]
 
@@ -221,7 +239,7 @@ page_is_published plan slots id number me m role at_m fits needs some_number in_
       λ k at_k needs_k.
           let same : m ≡ k = cc in
           subst (λ (j : PlainMachine). PublishesPage number j me then) same
-          record { way = to.way; share = to.share; seen = to.seen; is = refl; learns = to.learns; decided = to.decided; next = to.next; uses = to.uses; answers_at_end = to.answers_at_end; knows_own = to.knows_own },
+          record { way = to.way; share = to.share; seen = to.seen; is = refl; learns = to.learns; decided = to.decided; next = to.next; uses = to.uses; answers_at_end = to.answers_at_end; knows_own = to.knows_own; ends_with_own = to.ends_with_own },
     )
 
 -- ---- a new page
@@ -273,7 +291,7 @@ new_is_published plan slots id me m role at_m fits needs number_left room is_row
       λ k at_k needs_k.
           let same : m ≡ k = cc in
           subst (λ (j : PlainMachine). PublishesNew j me then) same
-          record { way = to.way; share = to.share; seen = to.seen; is = refl; learns = to.learns; decided = to.decided; next = to.next; uses = to.uses; answers_at_end = to.answers_at_end; knows_own = to.knows_own },
+          record { way = to.way; share = to.share; seen = to.seen; is = refl; learns = to.learns; decided = to.decided; next = to.next; uses = to.uses; answers_at_end = to.answers_at_end; knows_own = to.knows_own; ends_with_own = to.ends_with_own },
     )
 
 -- ---- the prime block
@@ -330,5 +348,5 @@ prime_is_published plan slots id me m prime role at_m fits needs out some_number
       λ k at_k needs_k.
           let same : m ≡ k = cc in
           subst (λ (j : PlainMachine). PublishesPrime j me then) same
-          record { way = to.way; share = to.share; seen = to.seen; is = refl; learns = to.learns; decided = to.decided; next = to.next; uses = to.uses; answers_at_end = to.answers_at_end; knows_own = to.knows_own },
+          record { way = to.way; share = to.share; seen = to.seen; is = refl; learns = to.learns; decided = to.decided; next = to.next; uses = to.uses; answers_at_end = to.answers_at_end; knows_own = to.knows_own; ends_with_own = to.ends_with_own },
     )

@@ -1,5 +1,5 @@
 -- An update begins where its way down ends, with all that it may need left.
-use Rattle.std.proofs.Common.{◌≡◌, ℕ, Option, ◌+◌, ◌-◌, ◌≤◌, ap, sym, ◌∙◌, subst, refl, arith}
+use Rattle.std.proofs.Common.{◌≡◌, ℕ, Option, ◌+◌, ◌≤◌, ap, sym, ◌∙◌, subst, refl, arith}
 use Rattle.std.specs.Prelude.{Contains}
 use Rattle.atomic_table.specs.declared.Seat.{Seat}
 use Rattle.blink_batch.specs.{FitsWords, key_of}
@@ -12,9 +12,9 @@ use Rattle.blink_live.specs.declared.live.Live.{Live}
 use Rattle.blink_live.specs.declared.room.Room.{Room}
 use Rattle.blink_live.specs.declared.view.Call.{Call}
 use Rattle.blink_live.specs.declared.view.View.{View}
-use Rattle.blink_live.specs.Seats.{HasRead, IsAtLeaf, IsPassSeat, found, wants as wants_leaf}
-use Rattle.blink_live.specs.Updating.{SameBesideCall, not_yet, HasLeft, IsUpdating, IsPastDescent, CanUpdate, IsUnderWay}
-use Rattle.blink_live.specs.Views.{SeatState, CanBegin, SameBesideReads, rows_of, pages_of, for_call, known_of, span}
+use Rattle.blink_live.specs.Seats.{HasRead, HasSameNumber, IsAtLeaf, IsPassSeat, found, wants as wants_leaf}
+use Rattle.blink_live.specs.Updating.{SameBesideCall, not_yet, HasLeft, IsUpdating, IsPastDescent, CanUpdate, IsUnderWay, room_for}
+use Rattle.blink_live.specs.Views.{SeatState, CanBegin, SameBesideReads, rows_of, pages_of, for_call, known_of}
 use Rattle.blink_live.specs.Words.{AreNumbersIn, AreRowsIn}
 
 within_call : (v w : View) → SameBesideReads v w → SameBesideCall v w
@@ -67,28 +67,29 @@ takes_a_row : (op : Op) → IsUpdate op → 1 ≤ rows_of op
 takes_a_row (Find key) updates = absurd updates
 takes_a_row op updates = omega arith
 
-pub can_update : (live : Live) (op : Op) (own : ℕ) (first : Seat ℕ View) → IsPassSeat live first.table_id first.me → IsUpdate op → FitsWords op → own ≡ first.me.0.rows.stop - 1 → Contains first.me.0.share.keys (key_of op) → CanBegin first.me.0 op
-    → AreRowsIn live.counts first.me.0.rows → AreNumbersIn live.counts first.me.0.pages → CanUpdate live op own first
-can_update live op own first seat updates fits own_is own_key can rows pages =
+pub can_update : (live : Live) (op : Op) (first : Seat ℕ View) → IsPassSeat live first.table_id first.me → IsUpdate op → FitsWords op → Contains first.me.0.share.keys (key_of op) → CanBegin first.me.0 op
+    → AreRowsIn live.counts first.me.0.rows → AreNumbersIn live.counts first.me.0.pages → CanUpdate live op first
+can_update live op first seat updates fits own_key can rows pages =
     let enough = can.rows in
     let some = takes_a_row op updates in record {
       seat = seat;
       updates = updates;
       fits = fits;
-      own_is = (own_is, omega (arith, own_is, enough, some, rows));
+      some_row = omega (arith, enough, some, rows);
       own_key = own_key;
       can_begin = can;
       rows = rows;
       pages = pages;
     }
 
-pub is_under_way : (live : Live) (op : Op) (own : ℕ) (first seat : Seat ℕ View) (m : PlainMachine) (room : Room) → CanUpdate live op own first → (seat.table_id ≡ first.table_id) × (seat.id ≡ first.id)
+pub is_under_way : (live : Live) (op : Op) (first seat : Seat ℕ View) (m : PlainMachine) (room : Room) → CanUpdate live op first → HasSameNumber first seat
     → HasRead op (for_call first.me.0 op, first.me.1) seat.me m → IsAtLeaf op (known_of seat.me.0 (key_of op)) m
-    → (room.rows ≡ span first.me.0.rows.next (first.me.0.rows.next + rows_of op)) × (room.pages ≡ span first.me.0.pages.next (first.me.0.pages.next + pages_of op)) → IsUnderWay live op own first seat m room
-is_under_way live op own first seat m room can same read at_leaf takes =
+    → room ≡ room_for op first.me.0.rows first.me.0.pages → IsUnderWay live op first seat m room
+is_under_way live op first seat m room can same read at_leaf takes =
     let call : seat.me.0.call ≡ (for_call first.me.0 op).call = ap (λ (v : View). v.call) read.same.0 in record {
       can = can;
-      same_table = same;
+      same_number = same;
       updating = update_begins op first.me.0 (for_call first.me.0 op, first.me.1) seat.me m (known_of seat.me.0 (key_of op)) can.updates refl read at_leaf;
-      room_is = (takes.0 ∙ sym (ap (λ (c : Call). c.rows) call), takes.1 ∙ sym (ap (λ (c : Call). c.pages) call));
+      room_is = (ap (λ (r : Room). r.rows) takes ∙ sym (ap (λ (c : Call). c.rows) call), ap (λ (r : Room). r.pages) takes ∙ sym (ap (λ (c : Call). c.pages) call));
+      latch_number = ap (λ (r : Room). r.latch_number) takes;
     }

@@ -21,8 +21,8 @@ use Rattle.blink_live.specs.declared.view.Plan.{Plan}
 use Rattle.blink_live.specs.declared.view.Share.{Share}
 use Rattle.blink_live.specs.declared.view.View.{View}
 use Rattle.blink_live.specs.AtomicSteps.{CanGoOn, Decided, deciding, other, GoesOn, LoadsPage, LoadsPrime, Publishes, PublishesNew, PublishesPage, PublishesPrime}
-use Rattle.blink_live.specs.Seats.{IsFirst, IsPassSeat}
-use Rattle.blink_live.specs.Updating.{SameBesideCall, HasDecided, not_yet, decided, HasLeft, IsUpdating, IsUnderWay}
+use Rattle.blink_live.specs.Seats.{HasSameNumber, IsFirst, IsPassSeat}
+use Rattle.blink_live.specs.Updating.{SameBesideCall, HasDecided, not_yet, decided, HasLeft, IsUpdating, HasEnded, IsUnderWay}
 use Rattle.blink_live.specs.Views.{SeatState, changed_by, for_call, no_words, pages_of, rows_of, span}
 use Rattle.blink_live.specs.Words.{IsRowNumber}
 use Rattle.blink_live.proofs.told.PrefixesOfOneList.{prefix_of_prefix}
@@ -98,10 +98,10 @@ new_uses_number m after kind needs uses =
 
 -- the room without its first row, and without its first page number
 abbrev pub without_row : Room → Room
-without_row room = record { rows = span (room.rows.next + 1) room.rows.stop; pages = room.pages }
+without_row room = record { rows = span (room.rows.next + 1) room.rows.stop; pages = room.pages; latch_number = room.latch_number }
 
 abbrev pub without_number : Room → Room
-without_number room = record { rows = room.rows; pages = span (room.pages.next + 1) room.pages.stop }
+without_number room = record { rows = room.rows; pages = span (room.pages.next + 1) room.pages.stop; latch_number = room.latch_number }
 
 one_less : (numbers others : Span) → numbers ≡ others → span (numbers.next + 1) numbers.stop ≡ span (suc others.next) others.stop
 one_less numbers others same =
@@ -110,7 +110,7 @@ one_less numbers others same =
 
 -- ---- a turn
 
-module _ {live : Live} {op : Op} {own : ℕ} {first seat : Seat ℕ View} {m : PlainMachine} {room : Room} (is : IsUnderWay live op own first seat m room) where
+module _ {live : Live} {op : Op} {first seat : Seat ℕ View} {m : PlainMachine} {room : Room} (is : IsUnderWay live op first seat m room) where
   abbrev begun : SeatState
   begun = (for_call first.me.0 op, first.me.1)
 
@@ -119,7 +119,7 @@ module _ {live : Live} {op : Op} {own : ℕ} {first seat : Seat ℕ View} {m : P
 
   pub is_its_seat : IsPassSeat live seat.table_id seat.me
   is_its_seat = record {
-    same_table = is.same_table.0 ∙ is.can.seat.same_table;
+    same_table = is.same_number.0 ∙ is.can.seat.same_table;
     same_plan = ap (λ (v : View). v.plan) is.updating.same.0 ∙ is.can.seat.same_plan;
     role = ap (λ (v : View). v.role) is.updating.same.0 ∙ is.can.seat.role;
   }
@@ -141,8 +141,8 @@ module _ {live : Live} {op : Op} {own : ℕ} {first seat : Seat ℕ View} {m : P
       same_keys (not_yet none same) = ap (λ (s : Share). s.keys) same
       same_keys (decided given same) = ap (λ (s : Share). s.keys) same
 
-  pub is_its_number : (own ≡ seat.me.0.rows.stop - 1) × (1 ≤ own)
-  is_its_number = (is.can.own_is.0 ∙ ap (λ (v : View). v.rows.stop - 1) (sym is.updating.same.0), is.can.own_is.1)
+  pub is_its_number : (room.latch_number ≡ seat.me.0.rows.stop - 1) × (1 ≤ room.latch_number)
+  is_its_number = (is.latch_number ∙ ap (λ (v : View). v.rows.stop - 1) (sym is.updating.same.0), subst (λ (n : ℕ). 1 ≤ n) (sym is.latch_number) is.can.some_row)
 
   in_range : (number : ℕ) → (1 ≤ number) × (number < first.me.0.plan.counts.numbers) → (1 ≤ number) × (number < live.counts.numbers)
   in_range number there = (there.0, subst (λ (counts : PlainCounts). number < counts.numbers) same_counts there.1)
@@ -202,32 +202,33 @@ module _ {live : Live} {op : Op} {own : ℕ} {first seat : Seat ℕ View} {m : P
       omega (arith, stop, inside)
 
   -- after a turn
-  module _ {after : PlainMachine} {next : Seat ℕ View} (same : (next.table_id ≡ seat.table_id) × (next.id ≡ seat.id)) where
-    turned : (then : Room) → Takes m after seat.me next.me → HasLeft begun.0.call next.me.0.call after → (then.rows ≡ next.me.0.call.rows) × (then.pages ≡ next.me.0.call.pages) → IsUnderWay live op own first next after then
-    turned then takes left same_room = record {
+  module _ {after : PlainMachine} {next : Seat ℕ View} (same : HasSameNumber seat next) where
+    turned : (then : Room) → Takes m after seat.me next.me → HasLeft begun.0.call next.me.0.call after → (then.rows ≡ next.me.0.call.rows) × (then.pages ≡ next.me.0.call.pages) → then.latch_number ≡ room.latch_number → IsUnderWay live op first next after then
+    turned then takes left same_room same_latch = record {
       can = is.can;
-      same_table = (same.0 ∙ is.same_table.0, same.1 ∙ is.same_table.1);
+      same_number = (same.0 ∙ is.same_number.0, same.1 ∙ is.same_number.1);
       updating = updating_on op begun seat.me next.me m after is.updating takes left;
       room_is = same_room;
+      latch_number = same_latch ∙ is.latch_number;
     }
 
     -- which uses nothing of its room
-    in_its_room : Takes m after seat.me next.me → next.me.0.call ≡ seat.me.0.call → writes_left after ≤ writes_left m → primes_left after ≤ primes_left m → numbers_left after ≤ numbers_left m → IsUnderWay live op own first next after room
+    in_its_room : Takes m after seat.me next.me → next.me.0.call ≡ seat.me.0.call → writes_left after ≤ writes_left m → primes_left after ≤ primes_left m → numbers_left after ≤ numbers_left m → IsUnderWay live op first next after room
     in_its_room takes same_call writes primes numbers = turned room takes (still_left begun.0.call seat.me.0.call next.me.0.call m after is.updating.left same_call writes primes numbers)
-        (is.room_is.0 ∙ ap (λ (c : Call). c.rows) (sym same_call), is.room_is.1 ∙ ap (λ (c : Call). c.pages) (sym same_call))
+        (is.room_is.0 ∙ ap (λ (c : Call). c.rows) (sym same_call), is.room_is.1 ∙ ap (λ (c : Call). c.pages) (sym same_call)) refl
 
-    pub after_page : (number row : ℕ) → LoadsPage m number seat.me row after next.me → IsUnderWay live op own first next after room
+    pub after_page : (number row : ℕ) → LoadsPage m number seat.me row after next.me → IsUnderWay live op first next after room
     after_page number row loads =
         let pages = loads.uses.numbers in
         let writes = loads.uses.page_writes in
         let primes = loads.uses.prime_writes in
         in_its_room (page_takes m after number row seat.me next.me is.updating.past_descent is_its_key loads) (ap (λ (x : SeatState). x.0.call) loads.is) (omega (arith, writes)) (omega (arith, primes)) (omega (arith, pages))
 
-    pub after_prime : (row : ℕ) → LoadsPrime m seat.me row after next.me → IsUnderWay live op own first next after room
+    pub after_prime : (row : ℕ) → LoadsPrime m seat.me row after next.me → IsUnderWay live op first next after room
     after_prime row loads =
         in_its_room (prime_takes m after row seat.me next.me is.updating.past_descent loads) (ap (λ (x : SeatState). x.0.call) loads.is) loads.uses.page_writes loads.uses.prime_writes loads.uses.numbers
 
-    after_done : (kind : Kind) → after ≡ done m 0 → (done m 0).answer ≡ m.answer → GoesOn kind m seat.me next.me → IsUnderWay live op own first next after room
+    after_done : (kind : Kind) → after ≡ done m 0 → (done m 0).answer ≡ m.answer → GoesOn kind m seat.me next.me → IsUnderWay live op first next after room
     after_done kind is_done answers goes =
         let pages = goes.uses.numbers in
         let writes = goes.uses.page_writes in
@@ -238,49 +239,50 @@ module _ {live : Live} {op : Op} {own : ℕ} {first seat : Seat ℕ View} {m : P
         (subst (λ (k : PlainMachine). primes_left k ≤ primes_left m) (sym is_done) (omega (arith, primes)))
         (subst (λ (k : PlainMachine). numbers_left k ≤ numbers_left m) (sym is_done) (omega (arith, pages)))
 
-    pub after_unlatch : (number : ℕ) → NeedsUnlatch m number → after ≡ done m 0 → GoesOn (unlatch number) m seat.me next.me → IsUnderWay live op own first next after room
+    pub after_unlatch : (number : ℕ) → NeedsUnlatch m number → after ≡ done m 0 → GoesOn (unlatch number) m seat.me next.me → IsUnderWay live op first next after room
     after_unlatch number needs is_done goes = after_done (unlatch number) is_done (unlatch_answers m m.state number needs) goes
 
     -- or it lost the latch
-    pub after_try : (got : Bool) (number : ℕ) → NeedsLatch m number → (IsTrue got → after ≡ done m 0) → (IsTrue got → GoesOn (latch number) m seat.me next.me) → (¬ IsTrue got → (after ≡ m) × (next.me ≡ seat.me)) → IsUnderWay live op own first next after room
+    pub after_try : (got : Bool) (number : ℕ) → NeedsLatch m number → (IsTrue got → after ≡ done m 0) → (IsTrue got → GoesOn (latch number) m seat.me next.me) → (¬ IsTrue got → (after ≡ m) × (next.me ≡ seat.me)) → IsUnderWay live op first next after room
     after_try true number needs is_done goes lost = after_done (latch number) (is_done refl) (latch_answers m m.state number needs) (goes refl)
     after_try false number needs is_done goes lost =
         let same_machine = (lost (λ e. absurd (cc))).0 in
         let same_view = (lost (λ e. absurd (cc))).1 in record {
           can = is.can;
-          same_table = (same.0 ∙ is.same_table.0, same.1 ∙ is.same_table.1);
+          same_number = (same.0 ∙ is.same_number.0, same.1 ∙ is.same_number.1);
           updating = subst (λ (x : SeatState × PlainMachine). IsUpdating op begun x.0 x.1) (λ i. (sym same_view i, sym same_machine i)) is.updating;
           room_is = subst (λ (x : SeatState). (room.rows ≡ x.0.call.rows) × (room.pages ≡ x.0.call.pages)) (sym same_view) is.room_is;
+          latch_number = is.latch_number;
         }
 
     -- which uses a row
     after_write : (kind : Kind) (pages : Span) (new : ℕ) (then : Room) → after ≡ done m new → Publishes kind pages m (done m new) seat.me next.me
         → suc (writes_left (done m new) + primes_left (done m new)) ≤ writes_left m + primes_left m → (pages.stop ≡ seat.me.0.call.pages.stop) × (seat.me.0.call.pages.next ≤ pages.next)
-        → pages.next + numbers_left (done m new) ≤ pages.stop → (then.rows ≡ span (suc seat.me.0.call.rows.next) seat.me.0.call.rows.stop) × (then.pages ≡ pages) → IsUnderWay live op own first next after then
-    after_write kind pages new then is_done does writes later numbers same_room =
+        → pages.next + numbers_left (done m new) ≤ pages.stop → (then.rows ≡ span (suc seat.me.0.call.rows.next) seat.me.0.call.rows.stop) × (then.pages ≡ pages) → then.latch_number ≡ room.latch_number → IsUnderWay live op first next after then
+    after_write kind pages new then is_done does writes later numbers same_room same_latch =
         let call : next.me.0.call ≡ record { rows = span (suc seat.me.0.call.rows.next) seat.me.0.call.rows.stop; pages = pages; staged = no_words } = ap (λ (x : SeatState). x.0.call) does.is in
         turned then
         (subst (λ (k : PlainMachine). Takes m k seat.me next.me) (sym is_done) (publish_takes kind pages m new seat.me next.me is.updating.past_descent does))
         (subst (λ (k : PlainMachine). HasLeft begun.0.call next.me.0.call k) (sym is_done) (row_is_used begun.0.call seat.me.0.call next.me.0.call pages m (done m new) is.updating.left call writes later numbers))
-        (same_room.0 ∙ sym (ap (λ (c : Call). c.rows) call), same_room.1 ∙ sym (ap (λ (c : Call). c.pages) call))
+        (same_room.0 ∙ sym (ap (λ (c : Call). c.rows) call), same_room.1 ∙ sym (ap (λ (c : Call). c.pages) call)) same_latch
 
-    pub after_write_page : (number : ℕ) → after ≡ done m 0 → PublishesPage number m seat.me next.me → IsUnderWay live op own first next after (without_row room)
+    pub after_write_page : (number : ℕ) → after ≡ done m 0 → PublishesPage number m seat.me next.me → IsUnderWay live op first next after (without_row room)
     after_write_page number is_done does =
         let pages = does.uses.numbers in
         let writes = does.uses.page_writes in
         let primes = does.uses.prime_writes in
         let left = is.updating.left.pages in
-        after_write (write_page number) seat.me.0.call.pages 0 (without_row room) is_done does (omega (arith, writes, primes)) (refl, omega arith) (omega (arith, pages, left)) (one_less room.rows seat.me.0.call.rows is.room_is.0, is.room_is.1)
+        after_write (write_page number) seat.me.0.call.pages 0 (without_row room) is_done does (omega (arith, writes, primes)) (refl, omega arith) (omega (arith, pages, left)) (one_less room.rows seat.me.0.call.rows is.room_is.0, is.room_is.1) refl
 
-    pub after_write_prime : after ≡ done m 0 → PublishesPrime m seat.me next.me → IsUnderWay live op own first next after (without_row room)
+    pub after_write_prime : after ≡ done m 0 → PublishesPrime m seat.me next.me → IsUnderWay live op first next after (without_row room)
     after_write_prime is_done does =
         let pages = does.uses.numbers in
         let writes = does.uses.page_writes in
         let primes = does.uses.prime_writes in
         let left = is.updating.left.pages in
-        after_write write_prime seat.me.0.call.pages 0 (without_row room) is_done does (omega (arith, writes, primes)) (refl, omega arith) (omega (arith, pages, left)) (one_less room.rows seat.me.0.call.rows is.room_is.0, is.room_is.1)
+        after_write write_prime seat.me.0.call.pages 0 (without_row room) is_done does (omega (arith, writes, primes)) (refl, omega arith) (omega (arith, pages, left)) (one_less room.rows seat.me.0.call.rows is.room_is.0, is.room_is.1) refl
 
-    pub after_write_new : NeedsNew m → after ≡ done m room.pages.next → PublishesNew m seat.me next.me → IsUnderWay live op own first next after (without_number (without_row room))
+    pub after_write_new : NeedsNew m → after ≡ done m room.pages.next → PublishesNew m seat.me next.me → IsUnderWay live op first next after (without_number (without_row room))
     after_write_new needs is_done does =
         let at : room.pages.next ≡ seat.me.0.call.pages.next = ap (λ (s : Span). s.next) is.room_is.1 in
         let writes = does.uses.page_writes in
@@ -288,13 +290,26 @@ module _ {live : Live} {op : Op} {own : ℕ} {first seat : Seat ℕ View} {m : P
         let left = is.updating.left.pages in
         let numbers = new_uses_number m (done m seat.me.0.call.pages.next) (write_page seat.me.0.call.pages.next) needs does.uses in
         after_write (write_page seat.me.0.call.pages.next) (span (suc seat.me.0.call.pages.next) seat.me.0.call.pages.stop) seat.me.0.call.pages.next (without_number (without_row room)) (is_done ∙ ap (done m) at) does
-        (omega (arith, writes, primes)) (refl, omega arith) (omega (arith, numbers, left)) (one_less room.rows seat.me.0.call.rows is.room_is.0, one_less room.pages seat.me.0.call.pages is.room_is.1)
+        (omega (arith, writes, primes)) (refl, omega arith) (omega (arith, numbers, left)) (one_less room.rows seat.me.0.call.rows is.room_is.0, one_less room.pages seat.me.0.call.pages is.room_is.1) refl
 
 -- ---- its end
 
 pub as_decided : (op : Op) (before share : Share) (m : PlainMachine) (answer : Answer) → HasDecided op before share m → m.answer ≡ Some answer → (answer ≡ answer_of before.entries op) × (share ≡ changed_by op before)
 as_decided op before share m answer (not_yet none is) some = absurd (cc)
 as_decided op before share m answer (decided given is) some = (cc, is)
+
+pub at_end : (live : Live) (op : Op) (first seat : Seat ℕ View) (m : PlainMachine) (room : Room) (answer : Answer) → IsUnderWay live op first seat m room → m.state ≡ Ended → m.answer ≡ Some answer → HasEnded op first seat answer
+at_end live op first seat m room answer is ends given =
+    let told = as_decided op first.me.0.share seat.me.0.share m answer is.updating.has_decided given in record {
+      answers = told.0;
+      idle = is.updating.operation ∙ ap (goes_on m) ends;
+      same_number = is.same_number;
+      share = told.1;
+      knows_own = is.updating.knows_own;
+      saw = is.updating.saw;
+      same = is.updating.same.0;
+      same_slots = is.updating.same.1;
+    }
 
 -- the seat has used what the operation takes
 pub record IsAfterCall (op : Op) (v w : View) : Type 0 where

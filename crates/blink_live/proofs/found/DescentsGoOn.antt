@@ -13,9 +13,9 @@ use Rattle.blink_page.specs.declared.search.Way.TheVariants.{Right, Down, Here}
 use Rattle.blink_machine.specs.declared.machine.Job.{Job}
 use Rattle.blink_machine.specs.declared.machine.State.{State}
 use Rattle.blink_machine.specs.declared.machine.State.TheVariants.{Going, Ended}
-use Rattle.blink_machine.specs.{IsReadable, IsTopLeftmost, PlainMachine, SeesOnItsWay, SeesPage, SeesPrime, TellsWay, at_state, fresh, key_of_job, level_read, target}
+use Rattle.blink_machine.specs.{IsReadable, IsTopLeftmost, PlainMachine, SeesOnItsWay, SeesPage, SeesPrime, TellsWay, at_state, fresh, goes_on, key_of_job, level_read, target}
 use Rattle.blink_live.specs.declared.view.Change.{Change}
-use Rattle.blink_live.specs.Seats.{BeginsAt, HasComeTo, HasRead, IsAtPage, IsDescending, IsGoing, ReadsWay, TellsWayFor, at_leaf, found, going, wants}
+use Rattle.blink_live.specs.Seats.{BeginsAt, HasRead, IsAtPage, IsDescending, IsGoing, ReadsWay, TellsWayFor, at_leaf, found, going, wants}
 use Rattle.blink_live.specs.Views.{SeatState, for_call, known_of}
 use Rattle.blink_live.proofs.found.OperationsOnTheirWay.{goes_down, same_reading}
 
@@ -61,13 +61,12 @@ module _ (op : Op) (number level : ℕ) (me then : SeatState) (begun : BeginsAt 
   pub none_at_root : begun.machine.answer ≡ None
   none_at_root = ap (λ (m : PlainMachine). m.answer) is_at_root
 
-  pub comes_to_root : HasComeTo op (for_call me.0 op, me.1) then number level
-  comes_to_root = record { machine = begun.machine; read = read_at_root; state = state_at_root; none_yet = none_at_root }
-
 -- ---- any operation at a page
 
-pub at_page : (op : Op) (key number level : ℕ) (first me : SeatState) (m : PlainMachine) → HasRead op first me m → FitsWords op → key_of op ≡ key → m.state ≡ Going number level → IsAtPage m key number level
+abbrev pub at_page : (op : Op) (key number level : ℕ) (first me : SeatState) (m : PlainMachine) → HasRead op first me m → FitsWords op → key_of op ≡ key → m.state ≡ Going number level → IsAtPage me key number level
 at_page op key number level first me m read fits same_key state = record {
+  machine = m;
+  operation = read.operation ∙ ap (goes_on m) state;
   state = state;
   same_job = read.same_job;
   same_key = ap key_of read.same_op ∙ same_key;
@@ -75,87 +74,97 @@ at_page op key number level first me m read fits same_key state = record {
 }
 
 -- what an operation in its descent learns from the row
-pub tells_way : (m : PlainMachine) (key number level : ℕ) (page : PlainPage) (way : Way) (kept : Option ℕ) → IsAtPage m key number level → IsReadable m page → TellsWayFor key page way kept → TellsWay m page way kept
-tells_way m key number level page way kept at readable tells =
-    let its_key : key ≡ target m = sym (ap (λ (job : Job). key_of_job m.op job) at.same_job ∙ at.same_key) in record {
+pub tells_way : (me : SeatState) (key number level : ℕ) (page : PlainPage) (way : Way) (kept : Option ℕ) → (at : IsAtPage me key number level) → IsReadable at.machine page → TellsWayFor key page way kept → TellsWay at.machine page way kept
+tells_way me key number level page way kept at readable tells =
+    let its_key : key ≡ target at.machine = sym (ap (λ (job : Job). key_of_job at.machine.op job) at.same_job ∙ at.same_key) in record {
       has_level = readable.has_level;
       leads = subst (λ (k : ℕ). Leads page k way) its_key tells.leads;
       maps = λ found_key op here. subst (λ (k : ℕ). value_at k page.entries ≡ kept) (sym at.same_key ∙ ap key_of op) (tells.maps here);
     }
 
-pub goes_on_down : (op : Op) (key number level : ℕ) (first me new : SeatState) (m after : PlainMachine) (way : Way) (kept : Option ℕ) → HasRead op first me m → m.answer ≡ None → IsAtPage m key number level → (reads : ReadsWay m key number me way kept new)
-    → SeesOnItsWay m number reads.loads.page after → HasRead op first new after × IsDescending op (known_of new.0 (key_of op)) after
-goes_on_down op key number level first me new m after way kept read none_yet at reads sees =
+pub goes_on_down : (op : Op) (key number level : ℕ) (first me new : SeatState) (after : PlainMachine) (way : Way) (kept : Option ℕ) → (at : IsAtPage me key number level) → HasRead op first me at.machine → at.machine.answer ≡ None
+    → (reads : ReadsWay at.machine key number me way kept new) → SeesOnItsWay at.machine number reads.loads.page after → HasRead op first new after × IsDescending op (known_of new.0 (key_of op)) after
+goes_on_down op key number level first me new after way kept at read none_yet reads sees =
     let same : after ≡ reads.machine = reads.loads.only after (SeesPage.on_its_way sees) in
     subst (λ (x : PlainMachine). HasRead op first new x × IsDescending op (known_of new.0 (key_of op)) x) (sym same)
-    (goes_down op number reads.row first me m reads.machine new read (record { same_job = at.same_job; on_its_way = (number, level, at.state) }) none_yet reads.loads)
+    (goes_down op number reads.row first me at.machine reads.machine new read (record { same_job = at.same_job; on_its_way = (number, level, at.state) }) none_yet reads.loads)
 
 -- ---- a find from page to page
 
-module _ (op : Op) (key number level : ℕ) (first me new : SeatState) (way : Way) (kept : Option ℕ) (has : HasComeTo op first me number level) (same_key : key_of op ≡ key)
-    (reads : ReadsWay has.machine key number me way kept new) where
-  its_key : target has.machine ≡ key
-  its_key = ap (λ (job : Job). key_of_job has.machine.op job) has.read.same_job ∙ (ap key_of has.read.same_op ∙ same_key)
+-- the operation needs the page of this number and level next, and hasn't answered yet
+pub record HasComeTo (op : Op) (first me : SeatState) (number level : ℕ) : Type 0 where
+  pub at : IsAtPage me (key_of op) number level
+  pub read : HasRead op first me at.machine
+  pub none_yet : at.machine.answer ≡ None
 
-  leads : Leads reads.loads.page (target has.machine) way
+come_to : (op : Op) (number level : ℕ) (first me : SeatState) (m : PlainMachine) → HasRead op first me m → FitsWords op → m.state ≡ Going number level → m.answer ≡ None → HasComeTo op first me number level
+come_to op number level first me m read fits state none_yet = record { at = at_page op (key_of op) number level first me m read fits refl state; read = read; none_yet = none_yet }
+
+pub comes_to_root : (op : Op) (number level : ℕ) (me then : SeatState) → FitsWords op → BeginsAt op me number level then → HasComeTo op (for_call me.0 op, me.1) then number level
+comes_to_root op number level me then fits begun =
+    come_to op number level (for_call me.0 op, me.1) then begun.machine (read_at_root op number level me then begun) fits (state_at_root op number level me then begun) (none_at_root op number level me then begun)
+
+module _ (op : Op) (number level : ℕ) (first me new : SeatState) (way : Way) (kept : Option ℕ) (has : HasComeTo op first me number level) (reads : ReadsWay has.at.machine (key_of op) number me way kept new) where
+  its_key : target has.at.machine ≡ key_of op
+  its_key = ap (λ (job : Job). key_of_job has.at.machine.op job) has.at.same_job ∙ has.at.same_key
+
+  its_words_fit : FitsWords op
+  its_words_fit = subst FitsWords has.read.same_op has.at.fits
+
+  leads : Leads reads.loads.page (target has.at.machine) way
   leads = subst (λ (k : ℕ). Leads reads.loads.page k way) (sym its_key) reads.tells.leads
 
   its_level : reads.loads.page.level ≡ level
-  its_level = reads.loads.readable.has_level ∙ ap (λ (state : State). level_read (at_state has.machine state)) has.state
+  its_level = reads.loads.readable.has_level ∙ ap (λ (state : State). level_read (at_state has.at.machine state)) has.at.state
 
-  goes : IsGoing has.machine
-  goes = record { same_job = has.read.same_job; on_its_way = (number, level, has.state) }
+  goes : IsGoing has.at.machine
+  goes = record { same_job = has.read.same_job; on_its_way = (number, level, has.at.state) }
 
   now : HasRead op first new reads.machine × IsDescending op (known_of new.0 (key_of op)) reads.machine
-  now = goes_down op number reads.row first me has.machine reads.machine new has.read goes has.none_yet reads.loads
+  now = goes_down op number reads.row first me has.at.machine reads.machine new has.read goes has.none_yet reads.loads
 
-  is_machine : (other : PlainMachine) → SeesOnItsWay has.machine number reads.loads.page other → reads.machine ≡ other
+  is_machine : (other : PlainMachine) → SeesOnItsWay has.at.machine number reads.loads.page other → reads.machine ≡ other
   is_machine other sees = sym (reads.loads.only other (SeesPage.on_its_way sees))
 
   pub comes_right : (next : ℕ) → way ≡ Right next → HasComeTo op first new next level
   comes_right next right =
-      let is : reads.machine ≡ at_state has.machine (Going next level) =
-      is_machine (at_state has.machine (Going next level)) (SeesOnItsWay.goes_right level next has.state (subst (Leads reads.loads.page (target has.machine)) right leads) refl) in record {
-        machine = reads.machine;
-        read = now.0;
-        state = ap (λ (x : PlainMachine). x.state) is;
-        none_yet = ap (λ (x : PlainMachine). x.answer) is ∙ has.none_yet;
-      }
+      let is : reads.machine ≡ at_state has.at.machine (Going next level) =
+      is_machine (at_state has.at.machine (Going next level)) (SeesOnItsWay.goes_right level next has.at.state (subst (Leads reads.loads.page (target has.at.machine)) right leads) refl) in
+      come_to op next level first new reads.machine now.0 its_words_fit (ap (λ (x : PlainMachine). x.state) is) (ap (λ (x : PlainMachine). x.answer) is ∙ has.none_yet)
 
   pub is_above_child : (child : ℕ) → way ≡ Down child → 1 ≤ level
   is_above_child child down =
-      let above = (subst (Leads reads.loads.page (target has.machine)) down leads).1 in
+      let above = (subst (Leads reads.loads.page (target has.at.machine)) down leads).1 in
       let same = its_level in
       omega (arith, above, same)
 
   pub comes_down : (child : ℕ) → way ≡ Down child → HasComeTo op first new child (level - 1)
   comes_down child down =
       let some = is_above_child child down in
-      let at : has.machine.state ≡ Going number (level - 1 + 1) = has.state ∙ ap (Going number) (let e : level ≡ level - 1 + 1 = omega (arith, some) in e) in
-      let is : reads.machine ≡ record has.machine { remembered = number ∷ has.machine.remembered; state = Going child (level - 1) } =
-      is_machine (record has.machine { remembered = number ∷ has.machine.remembered; state = Going child (level - 1) })
-      (SeesOnItsWay.goes_down (level - 1) child at (subst (Leads reads.loads.page (target has.machine)) down leads) refl) in record {
-        machine = reads.machine;
-        read = now.0;
-        state = ap (λ (x : PlainMachine). x.state) is;
-        none_yet = ap (λ (x : PlainMachine). x.answer) is ∙ has.none_yet;
-      }
+      let at : has.at.machine.state ≡ Going number (level - 1 + 1) = has.at.state ∙ ap (Going number) (let e : level ≡ level - 1 + 1 = omega (arith, some) in e) in
+      let is : reads.machine ≡ record has.at.machine { remembered = number ∷ has.at.machine.remembered; state = Going child (level - 1) } =
+      is_machine (record has.at.machine { remembered = number ∷ has.at.machine.remembered; state = Going child (level - 1) })
+      (SeesOnItsWay.goes_down (level - 1) child at (subst (Leads reads.loads.page (target has.at.machine)) down leads) refl) in
+      come_to op child (level - 1) first new reads.machine now.0 its_words_fit (ap (λ (x : PlainMachine). x.state) is) (ap (λ (x : PlainMachine). x.answer) is ∙ has.none_yet)
 
   pub comes_nearer_by_way : new.0.descent_bound < me.0.descent_bound
-  comes_nearer_by_way = subst (λ (x : SeatState). x.0.descent_bound < me.0.descent_bound) (sym reads.loads.is) (reads.loads.nearer level has.state)
+  comes_nearer_by_way = subst (λ (x : SeatState). x.0.descent_bound < me.0.descent_bound) (sym reads.loads.is) (reads.loads.nearer level has.at.state)
 
   some_same : (a b : Answer) → Some a ≡ Some b → a ≡ b
   some_same a b is = cc
 
   abbrev answered : Answer → PlainMachine
-  answered answer = record has.machine { state = Ended; answer = Some answer }
+  answered answer = record has.at.machine { state = Ended; answer = Some answer }
 
-  module _ (is_find : op ≡ Find key) (here : way ≡ Here) where
+  module _ (key : ℕ) (is_find : op ≡ Find key) (here : way ≡ Here) where
+    as_kept : value_at key reads.loads.page.entries ≡ kept
+    as_kept = subst (λ (o : Op). value_at (key_of o) reads.loads.page.entries ≡ kept) is_find (reads.tells.maps here)
+
     ended_as : reads.machine ≡ answered (answer_at (Find key) kept)
     ended_as =
         is_machine (answered (answer_at (Find key) kept))
-        (SeesOnItsWay.find_answers level key has.state (subst (Leads reads.loads.page (target has.machine)) here leads) (has.read.same_op ∙ is_find)
-        (ap (λ (o : Option ℕ). answered (answer_at (Find key) o)) (sym (reads.tells.maps here))))
+        (SeesOnItsWay.find_answers level key has.at.state (subst (Leads reads.loads.page (target has.at.machine)) here leads) (has.read.same_op ∙ is_find)
+        (ap (λ (o : Option ℕ). answered (answer_at (Find key) o)) (sym as_kept)))
 
     pub find_ends : HasRead op first new reads.machine × (reads.machine.state ≡ Ended)
     find_ends = (now.0, ap (λ (x : PlainMachine). x.state) ended_as)

@@ -8,7 +8,7 @@ use Rattle.blink_live.specs.declared.view.Plan.{Plan}
 use Rattle.blink_live.specs.Seats.{HasRead, IsDescending, going}
 use Rattle.blink_live.specs.Views.{SeatState, for_call, known_of}
 use Rattle.blink_live.proofs.found.DescentsGoOn.{at_page, goes_on_down, none_at_root, read_at_root, state_at_root, tells_way}
-use Rattle.blink_live.proofs.found.OperationsOnTheirWay.{comes_nearer, else_at_leaf, is_its_operation, is_its_seat, needs_on_its_way, page_in_range}
+use Rattle.blink_live.proofs.found.OperationsOnTheirWay.{comes_nearer, else_at_leaf, is_its_seat, needs_on_its_way, page_in_range}
 use Rattle.blink_live.proofs.live.Live.descend.Goals as goal
 
 pub saw_top-requires-clause-few_levels : goal.saw_top-requires-clause-few_levels
@@ -42,11 +42,7 @@ read_page-way-requires c =
     let needs = ap need_at state in
     let same_counts : c.args.seat.now.me.0.plan.counts ≡ c.args.self.now.counts = ap (λ (p : Plan). p.counts) c.requires.seat.same_plan ∙ sym c.args.self.now.counts_are in record {
       seat = is_its_seat read c.args.self.now c.args.seat.now.table_id c.loop-number.seat.table_id c.loop-number.invariant.same_table.0 record { same_table = c.requires.seat.same_table; same_plan = c.requires.seat.same_plan; role = c.requires.seat.role };
-      at = (
-        c.loop-number.machine,
-        at_page c.args.op c.key.result c.in-Going.number c.in-Going.level _ c.loop-number.seat.me c.loop-number.machine read c.requires.fits (sym c.key.ensures) state,
-        is_its_operation read c.in-Going.number needs,
-      );
+      at = at_page c.args.op c.key.result c.in-Going.number c.in-Going.level _ c.loop-number.seat.me c.loop-number.machine read c.requires.fits (sym c.key.ensures) state;
       in_range = page_in_range read c.args.self.now.counts c.in-Going.number needs same_counts;
     }
 
@@ -55,8 +51,8 @@ saw_way-requires-clause-read c =
     let read = c.loop-number.invariant.read in
     let state : c.loop-number.machine.state ≡ Going c.in-Going.number c.in-Going.level = sym c.state.ensures ∙ c.in-Going.is in
     let at = at_page c.args.op c.key.result c.in-Going.number c.in-Going.level _ c.loop-number.seat.me c.loop-number.machine read c.requires.fits (sym c.key.ensures) state in
-    let reads = c.read_page-way.ensures.way c.loop-number.machine at (is_its_operation read c.in-Going.number (ap need_at state)) in
-    (reads.loads.page, tells_way c.loop-number.machine c.key.result c.in-Going.number c.in-Going.level reads.loads.page c.read_page-way.result.0 c.read_page-way.result.1 at reads.loads.readable reads.tells)
+    let reads = c.read_page-way.ensures.way at in
+    (reads.loads.page, tells_way c.loop-number.seat.me c.key.result c.in-Going.number c.in-Going.level reads.loads.page c.read_page-way.result.0 c.read_page-way.result.1 at reads.loads.readable reads.tells)
 
 pub loop-number-preserved : goal.loop-number-preserved
 loop-number-preserved c =
@@ -64,11 +60,11 @@ loop-number-preserved c =
     let state : c.loop-number.machine.state ≡ Going c.in-Going.number c.in-Going.level = sym c.state.ensures ∙ c.in-Going.is in
     let needs = ap need_at state in
     let at = at_page c.args.op c.key.result c.in-Going.number c.in-Going.level _ c.loop-number.seat.me c.loop-number.machine read c.requires.fits (sym c.key.ensures) state in
-    let reads = c.read_page-way.ensures.way c.loop-number.machine at (is_its_operation read c.in-Going.number needs) in
-    let tells = tells_way c.loop-number.machine c.key.result c.in-Going.number c.in-Going.level reads.loads.page c.read_page-way.result.0 c.read_page-way.result.1 at reads.loads.readable reads.tells in
+    let reads = c.read_page-way.ensures.way at in
+    let tells = tells_way c.loop-number.seat.me c.key.result c.in-Going.number c.in-Going.level reads.loads.page c.read_page-way.result.0 c.read_page-way.result.1 at reads.loads.readable reads.tells in
     let on_its_way = needs_on_its_way c.args.op (known_of c.loop-number.seat.me.0 (key_of c.args.op)) c.loop-number.machine c.in-Going.number c.loop-number.invariant.descends needs in
-    let now = goes_on_down c.args.op c.key.result c.in-Going.number c.in-Going.level (for_call c.args.seat.now.me.0 c.args.op, c.args.seat.now.me.1) c.loop-number.seat.me c.read_page-way.new.seat.me c.loop-number.machine c.saw_way.new.self
-    c.read_page-way.result.0 c.read_page-way.result.1 read on_its_way.1 at reads (c.saw_way.ensures c.in-Going.number reads.loads.page needs tells) in
+    let now = goes_on_down c.args.op c.key.result c.in-Going.number c.in-Going.level (for_call c.args.seat.now.me.0 c.args.op, c.args.seat.now.me.1) c.loop-number.seat.me c.read_page-way.new.seat.me c.saw_way.new.self
+    c.read_page-way.result.0 c.read_page-way.result.1 at read on_its_way.1 reads (c.saw_way.ensures c.in-Going.number reads.loads.page needs tells) in
     record {
       same_table = (c.read_page-way.ensures.same.0 ∙ c.loop-number.invariant.same_table.0, c.read_page-way.ensures.same.1 ∙ c.loop-number.invariant.same_table.1);
       read = now.0;
@@ -81,7 +77,7 @@ loop-number-smaller c =
     let state : c.loop-number.machine.state ≡ Going c.in-Going.number c.in-Going.level = sym c.state.ensures ∙ c.in-Going.is in
     let needs = ap need_at state in
     let at = at_page c.args.op c.key.result c.in-Going.number c.in-Going.level _ c.loop-number.seat.me c.loop-number.machine read c.requires.fits (sym c.key.ensures) state in
-    let reads = c.read_page-way.ensures.way c.loop-number.machine at (is_its_operation read c.in-Going.number needs) in
+    let reads = c.read_page-way.ensures.way at in
     comes_nearer c.loop-number.machine reads.machine c.in-Going.number reads.row c.loop-number.seat.me c.read_page-way.new.seat.me (record { same_job = read.same_job; on_its_way = (c.in-Going.number, c.in-Going.level, state) }) needs reads.loads
 
 pub returns : goal.returns

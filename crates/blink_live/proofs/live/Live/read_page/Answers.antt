@@ -13,22 +13,21 @@ use Rattle.blink_live.proofs.live.Live.read_page.Goals as goal
 pub load-row-requires : goal.load-row-requires
 load-row-requires c =
     let in_range = c.requires.in_range in
-    let m : PlainMachine = c.requires.at.0 in
-    let at : IsAtPage m c.args.key c.args.number c.args.level = c.requires.at.1 in (
+    let at = c.requires.at in (
       c.requires.seat.same_table,
       omega (arith, c.args.self.now.width, in_range),
-      reads_page_word _ _ _ _ _ m c.requires.seat.role c.requires.at.2 at.fits (ap need_at at.state) in_range.0
+      reads_page_word _ _ _ _ _ at.machine c.requires.seat.role at.operation at.fits (ap need_at at.state) in_range.0
           (subst (λ (counts : PlainCounts). c.args.number < counts.numbers) c.args.self.now.counts_are in_range.1),
     )
 
-reads_page : {m machine : PlainMachine} {key number level row : ℕ} {me then : SeatState} → IsAtPage m key number level → (loads : LoadsPage m number me row machine then) → ReadsPage then row loads.page × (loads.page.level ≡ level)
-reads_page {m} at loads =
-    (record { reads = ap (λ (x : SeatState). x.0.reads) loads.is; lawful = loads.lawful }, loads.readable.has_level ∙ ap (λ (state : State). level_read (at_state m state)) at.state)
+reads_page : {machine : PlainMachine} {key number level row : ℕ} {me then : SeatState} (at : IsAtPage me key number level) → (loads : LoadsPage at.machine number me row machine then) → ReadsPage then row loads.page × (loads.page.level ≡ level)
+reads_page at loads =
+    (record { reads = ap (λ (x : SeatState). x.0.reads) loads.is; lawful = loads.lawful }, loads.readable.has_level ∙ ap (λ (state : State). level_read (at_state at.machine state)) at.state)
 
 pub way_from-requires-clause-seat : goal.way_from-requires-clause-seat
 way_from-requires-clause-seat c =
-    let at : IsAtPage c.requires.at.0 c.args.key c.args.number c.args.level = c.requires.at.1 in
-    let loads = (c.load-row.ensures.2 c.requires.at.0 c.requires.at.2 (ap need_at at.state)).1 in
+    let at = c.requires.at in
+    let loads = (c.load-row.ensures.2 at.machine at.operation (ap need_at at.state)).1 in
     let same = ap (λ (x : SeatState). x.0) loads.is in record {
       same_table = c.load-row.ensures.0 ∙ c.requires.seat.same_table;
       same_plan = ap (λ (v : View). v.plan) same ∙ c.requires.seat.same_plan;
@@ -37,20 +36,20 @@ way_from-requires-clause-seat c =
 
 pub way_from-requires-clause-row : goal.way_from-requires-clause-row
 way_from-requires-clause-row c =
-    let at : IsAtPage c.requires.at.0 c.args.key c.args.number c.args.level = c.requires.at.1 in
-    let loads = (c.load-row.ensures.2 c.requires.at.0 c.requires.at.2 (ap need_at at.state)).1 in
+    let at = c.requires.at in
+    let loads = (c.load-row.ensures.2 at.machine at.operation (ap need_at at.state)).1 in
     subst (λ (counts : PlainCounts). (1 ≤ c.load-row.result) × (c.load-row.result ≤ counts.rows)) (ap (λ (p : Plan). p.counts) c.requires.seat.same_plan ∙ sym c.args.self.now.counts_are) loads.row_in_range
 
 pub way_from-requires-clause-page : goal.way_from-requires-clause-page
 way_from-requires-clause-page c =
-    let at : IsAtPage c.requires.at.0 c.args.key c.args.number c.args.level = c.requires.at.1 in
-    let loads = (c.load-row.ensures.2 c.requires.at.0 c.requires.at.2 (ap need_at at.state)).1 in
+    let at = c.requires.at in
+    let loads = (c.load-row.ensures.2 at.machine at.operation (ap need_at at.state)).1 in
     let reads = reads_page at loads in
     (loads.page, reads.0, reads.1)
 
 pub returns-clause-way : goal.returns-clause-way
-returns-clause-way c m at is =
-    let loads = c.load-row.ensures.2 m is (ap need_at at.state) in
+returns-clause-way c at =
+    let loads = c.load-row.ensures.2 at.machine at.operation (ap need_at at.state) in
     let reads = reads_page at loads.1 in
-    subst (ReadsWay m c.args.key c.args.number c.args.seat.now.me c.way_from.result.0 c.way_from.result.1) (sym c.way_from.ensures.same.2)
+    subst (ReadsWay at.machine c.args.key c.args.number c.args.seat.now.me c.way_from.result.0 c.way_from.result.1) (sym c.way_from.ensures.same.2)
     (record { row = c.load-row.result; machine = loads.0; loads = loads.1; tells = c.way_from.ensures.way loads.1.page reads.0 reads.1 })

@@ -1,12 +1,12 @@
-use Rattle.std.proofs.Common.{◌≡◌}
 use Rattle.blink_batch.specs.declared.Op.TheVariants.{Find}
-use Rattle.blink_live.specs.Seats.{HasComeTo}
+use Rattle.blink_live.specs.Seats.{HasSameNumber}
 use Rattle.blink_live.specs.Views.{for_call}
+use Rattle.blink_live.proofs.found.DescentsGoOn.{HasComeTo}
 use Rattle.blink_live.proofs.live.Live.search.Given as goal
 
 abbrev pub invariant-loop-next : goal.invariant-loop-next
 invariant-loop-next l = record {
-  same_table : (l.seat.table_id ≡ l.fn.seat.table_id) × (l.seat.id ≡ l.fn.seat.id);
+  same_table : HasSameNumber l.fn.seat l.seat;
   come : HasComeTo (Find l.key) (for_call l.fn.seat.me.0 (Find l.key), l.fn.seat.me.1) l.seat.me l.number l.level;
 }
 

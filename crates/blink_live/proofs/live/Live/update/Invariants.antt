@@ -4,5 +4,5 @@ use Rattle.blink_live.proofs.live.Live.update.Given as goal
 abbrev pub invariant-loop : goal.invariant-loop
 invariant-loop g l = record {
   turns : (goal.iterator-loop g).can_next l.iterator' × (goal.iterator-loop g).is_finite l.iterator';
-  under_way : IsUnderWay l.self l.fn.op l.own l.fn.seat l.seat l.machine l.room;
+  under_way : IsUnderWay l.self l.fn.op l.fn.seat l.seat l.machine l.room;
 }

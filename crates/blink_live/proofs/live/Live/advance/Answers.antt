@@ -1,0 +1,61 @@
+use Rattle.std.proofs.Common.{ℕ, List, sym, subst, refl}
+use Rattle.std.specs.Prelude.{IsSorted}
+use Rattle.std.specs.Ordering.{nat_cmp}
+use Rattle.blink_batch.specs.declared.Op.{Op}
+use Rattle.blink_live.specs.Pendings.{HasRest, op_of, pass_of}
+use Rattle.blink_live.specs.Updating.{IsUnderWay}
+use Rattle.blink_live.proofs.changed.PassesComeBack.{is_changed, is_whole, knows_its_keys}
+use Rattle.blink_live.proofs.changed.UpdatesGoOn.{at_end}
+use Rattle.blink_live.proofs.live.Live.advance.Goals as goal
+
+pub invariant_of-pass : goal.invariant_of-pass
+invariant_of-pass c =
+    let pending = c.args.pending in
+    let its_own = c.requires.its_own in
+    let rest = its_own.rest in
+    let ends = c.in-Some.ensures.ended in
+    let ended = at_end c.args.self.now (op_of pending) (pass_of pending).seat c.take_steps.new.seat c.take_steps.new.machine c.take_steps.new.room c.in-Some.answer (c.take_steps.ensures.under_way (op_of pending) (pass_of pending).seat its_own.under_way) ends.0 ends.1 in
+    let whole = is_whole (op_of pending) (pass_of pending) c.take_steps.new.seat c.in-Some.answer pending.now.keys.items pending.now.rows pending.now.pages its_own.under_way.can.updates rest.some_left ended rest.same_keys rest.rows_are rest.pages_are in record {
+      keys_are = whole.keys_are;
+      ascending = subst (λ (keys : List ℕ). IsSorted nat_cmp keys) (sym rest.same_keys) (pass_of pending).ascending;
+      rows_are = whole.rows_are;
+      pages_are = whole.pages_are;
+      in_order = whole.in_order;
+      for_changes = whole.for_changes;
+      role_is = whole.role_is;
+      own_seen = ended.knows_own.changes;
+      none_told = whole.none_told;
+      idle = ended.idle;
+      no_slot = whole.no_slot;
+    }
+
+pub returns-in-Some-clause-changed : goal.returns-in-Some-clause-changed
+returns-in-Some-clause-changed c =
+    let pending = c.args.pending in
+    let its_own = c.requires.its_own in
+    let ends = c.in-Some.ensures.ended in
+    let ended = at_end c.args.self.now (op_of pending) (pass_of pending).seat c.take_steps.new.seat c.take_steps.new.machine c.take_steps.new.room c.in-Some.answer (c.take_steps.ensures.under_way (op_of pending) (pass_of pending).seat its_own.under_way) ends.0 ends.1 in
+    is_changed (op_of pending) (pass_of pending) _ c.in-Some.answer ended its_own.rest.same_keys its_own.rest.rows_are its_own.rest.pages_are
+
+pub returns-in-Some-clause-knows : goal.returns-in-Some-clause-knows
+returns-in-Some-clause-knows c =
+    let pending = c.args.pending in
+    let its_own = c.requires.its_own in
+    let ends = c.in-Some.ensures.ended in
+    let ended = at_end c.args.self.now (op_of pending) (pass_of pending).seat c.take_steps.new.seat c.take_steps.new.machine c.take_steps.new.room c.in-Some.answer (c.take_steps.ensures.under_way (op_of pending) (pass_of pending).seat its_own.under_way) ends.0 ends.1 in
+    knows_its_keys (op_of pending) (pass_of pending) _ c.in-Some.answer ended c.args.self.now its_own.its_own
+
+pub returns-in-None-clause-goes_on : goal.returns-in-None-clause-goes_on
+returns-in-None-clause-goes_on c =
+    let pending = c.args.pending in
+    let its_own = c.requires.its_own in
+    let now = c.take_steps.ensures.under_way (op_of pending) (pass_of pending).seat its_own.under_way in
+    let same_op = now.updating.same_op in record {
+      its_own = record {
+        its_own = its_own.its_own;
+        under_way = subst (λ (op : Op). IsUnderWay c.args.self.now op (pass_of pending).seat c.take_steps.new.seat c.take_steps.new.machine c.take_steps.new.room) (sym same_op) now;
+        rest = subst (λ (op : Op). HasRest op (pass_of pending) pending.now.keys.items pending.now.rows pending.now.pages) (sym same_op) its_own.rest;
+      };
+      same_op = same_op;
+      same_pass = refl;
+    }
