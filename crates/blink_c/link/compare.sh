@@ -1,0 +1,138 @@
+#!/bin/sh
+# Compares include/blink.h with the exports of src/: their names, the number, order and widths of their parameters, what they return,
+# the structs of numbers, and the numbers of kinds and codes. It prints a line for each finding and exits 1, or prints nothing and
+# exits 0. The C compiler does the comparison: what src/ says is declared once more beside the header. Without a compiler only the
+# names are compared.
+#
+#     compare.sh [LIBRARY ..]    also looks whether each library exports exactly these names, and those of the allocator
+LC_ALL=C
+export LC_ALL
+here=$(cd "$(dirname "$0")/.." && pwd) || exit 1
+header=$here/../../include
+work=$(mktemp -d) || exit 1
+trap 'rm -rf "$work"' EXIT
+
+# Each export as a line `NAME|RESULT|PARAMETER, PARAMETER ..`, in the words of src/.
+cat "$here"/src/*.rt | awk '
+    /^pub extern "C" fn / { text = ""; on = 1 }
+    on { text = text " " $0 }
+    on && /\)/ {
+        on = 0
+        sub(/^ *pub extern "C" fn /, "", text)
+        name = text; sub(/\(.*/, "", name)
+        result = text; if (!sub(/.*\) -> /, "", result)) result = "()"
+        sub(/ *\{.*/, "", result)
+        params = text; sub(/^[^(]*\(/, "", params); sub(/\)[^)]*$/, "", params); sub(/, *$/, "", params)
+        print name "|" result "|" params
+    }' | sort >"$work/exports"
+
+# The same as C declares it.
+sed 's/|/ | /g' "$work/exports" | awk -F ' [|] ' '
+    BEGIN {
+        c["u8"] = "uint8_t"; c["u32"] = "uint32_t"; c["u64"] = "uint64_t"; c["usize"] = "size_t"; c["bool"] = "bool"
+        c["()"] = "void"; c["RawEntry"] = "blink_entry"; c["RawOperation"] = "blink_operation"; c["RawAnswer"] = "blink_answer"
+        c["IndexHandle"] = c["IndexSlot"] = "blink_index"; c["TableHandle"] = c["TableSlot"] = "blink_table"
+        c["PassHandle"] = c["PassSlot"] = "blink_pass"
+    }
+    {
+        n = split($3, parts, /, */)
+        line = c[$2] " " $1 "("
+        comma = ""
+        for (i = 1; i <= n; i++) {
+            type = parts[i]; sub(/^ *[a-z_]+: /, "", type); sub(/ *$/, "", type)
+            if (type == "Global" || type == "") continue
+            if (type ~ /^&mut \[/) { gsub(/^&mut \[|\]$/, "", type); said = c[type] " *, size_t" }
+            else if (type ~ /^&\[/) { gsub(/^&\[|\]$/, "", type); said = "const " c[type] " *, size_t" }
+            else if (type ~ /^&mut /) { sub(/^&mut /, "", type); said = c[type] " *" }
+            else said = c[type]
+            line = line comma said
+            comma = ", "
+        }
+        print line (comma == "" ? "void" : "") ");"
+    }' >"$work/prototypes"
+
+# The names in the header.
+grep -oE '\bblink_(index|table|pass)_[a-z_]+\(' "$header/blink.h" | tr -d '(' | sort -u >"$work/declared"
+cut -d"|" -f1 "$work/exports" | sort >"$work/names"
+diff "$work/names" "$work/declared" | sed -n 's/^< \(.*\)/include\/blink.h: lacks \1/p; s/^> \(.*\)/include\/blink.h: no export \1/p' >>"$work/found"
+
+# A number of src/ or of a definition, and the name that the header gives it.
+number() {
+    if [ -z "$2" ]; then
+        echo "crates/blink_c/link/compare.sh: no number for $1" >>"$work/found"
+    else
+        echo "_Static_assert($1 == $2, \"$1 is $2\");"
+    fi
+}
+constant() { sed -n "s/.*const $2: [a-z0-9]* = \([0-9]*\);.*/\1/p" "$here/$1"; }
+code() { sed -n "s/^code_of[a-z_]* (*$2[ a-z)]* *= \([0-9]*\)$/\1/p" "$here/$1"; }
+
+{
+    echo '#include "blink.h"'
+    cat "$work/prototypes"
+    for it in FIND INSERT DELETE REPLACE ABSENT FOUND INSERTED EXISTS REMOVED REPLACED; do
+        number "BLINK_$it" "$(constant src/raw.rt $it)"
+    done
+    number BLINK_DONE "$(constant src/refusal.rt DONE)"
+    number BLINK_BATCH_LIMIT "$(constant ../blink_batch/src/batch.rt BATCH_LIMIT)"
+    while read -r name file word; do
+        number "BLINK_$name" "$(code "$file" "$word")"
+    done <<'WORDS'
+TOO_MANY specs/Codes.antt TooMany
+WRONG_LENGTH specs/Codes.antt WrongLength
+UNKNOWN_OPERATION specs/Codes.antt UnknownOperation
+INDEX_TOO_LARGE specs/Codes.antt TooLarge
+BAD_FAN specs/Codes.antt BadFan
+INDEX_NO_MEMORY specs/Codes.antt OutOfMemory
+NO_MEMORY ../blink_live/specs/Codes.antt OutOfMemory
+TAKEN ../blink_live/specs/Codes.antt Taken
+NO_ALLOWANCE ../blink_live/specs/Codes.antt NoAllowance
+DEAL_NO_MEMORY ../blink_live/specs/Codes.antt DealOutOfMemory
+NOT_YOURS ../blink_live/specs/Codes.antt NotYours
+SPENT ../blink_live/specs/Codes.antt Spent
+MISSING ../blink_live/specs/Codes.antt Missing
+TABLE_TOO_LARGE ../blink_live/specs/Codes.antt TooLarge
+FOREIGN specs/TableCodes.antt Foreign
+PENDING specs/TableCodes.antt UnderWay
+IDLE specs/TableCodes.antt Idle
+RETURNED specs/TableCodes.antt Returned
+WORDS
+    # The structs of numbers, field by field.
+    awk '/^pub struct Raw/ { name = $3; on = 1; print "struct " name " {"; next }
+        on && /^}/ { on = 0; print "};" }
+        on { sub(/^ *pub /, ""); sub(/,$/, ""); split($0, f, ": "); print "uint" substr(f[2], 2) "_t " f[1] ";" }' "$here/src/raw.rt"
+    for it in "RawEntry blink_entry key pointer" "RawOperation blink_operation kind key pointer" "RawAnswer blink_answer kind pointer"; do
+        # shellcheck disable=SC2086
+        set -- $it "" "$@"
+        raw=$1
+        said=$2
+        shift 2
+        echo "_Static_assert(sizeof(struct $raw) == sizeof($said), \"$said is as large as $raw\");"
+        while [ -n "$1" ]; do
+            echo "_Static_assert(offsetof(struct $raw, $1) == offsetof($said, $1), \"$said.$1\");"
+            shift
+        done
+        shift
+    done
+} >"$work/compare.c"
+
+cc=${CC:-cc}
+if command -v "$cc" >/dev/null; then
+    "$cc" -std=c11 -Wall -Wextra -Werror -I "$header" -fsyntax-only "$work/compare.c" >>"$work/found" 2>&1
+    if echo 'int main() { return 0; }' >"$work/c.cpp" && "$cc" -x c++ -fsyntax-only "$work/c.cpp" 2>/dev/null; then
+        echo '#include "blink.h"' >"$work/cpp.cpp"
+        "$cc" -x c++ -Wall -Wextra -Werror -I "$header" -fsyntax-only "$work/cpp.cpp" >>"$work/found" 2>&1
+    fi
+fi
+
+for library in "$@"; do
+    case $library in
+        *.so) nm -D --defined-only "$library" ;;
+        *) nm -g --defined-only "$library" ;;
+    esac | awk '$2 == "T" { print $3 }' | grep -v '^rattle_\(alloc\|dealloc\|realloc\)$\|^_init$\|^_fini$' | sort >"$work/there"
+    diff "$work/names" "$work/there" | sed -n "s|^< \(.*\)|$library: lacks \1|p; s|^> \(.*\)|$library: \1 is no export|p" >>"$work/found"
+done
+
+[ ! -s "$work/found" ] && exit 0
+cat "$work/found"
+exit 1

@@ -1,0 +1,266 @@
+// Calls every export: what it gives, each refusal by its code, two threads at one table, and memory that is refused at each request
+// in turn. Link with -Wl,--wrap=malloc,--wrap=realloc.
+#include "blink.h"
+#include <pthread.h>
+#include <sched.h>
+#include <stdio.h>
+#include <stdlib.h>
+#include <string.h>
+
+#define CHECK(holds) ((holds) ? (void)0 : fail(#holds, __LINE__))
+
+static void fail(const char *what, int line) {
+    fprintf(stderr, "test.c:%d: not so: %s\n", line, what);
+    exit(1);
+}
+
+// The request for memory that is refused, counted down to 0; negative for none.
+static long refused_at = -1;
+
+void *__real_malloc(size_t size);
+void *__real_realloc(void *at, size_t size);
+void *__wrap_malloc(size_t size) { return refused_at >= 0 && refused_at-- == 0 ? NULL : __real_malloc(size); }
+void *__wrap_realloc(void *at, size_t size) { return refused_at >= 0 && refused_at-- == 0 ? NULL : __real_realloc(at, size); }
+
+static blink_index index_of(uint8_t fan, const blink_entry *entries, size_t count) {
+    blink_index index = {NULL};
+    CHECK(blink_index_from_entries(fan, entries, count, &index) == BLINK_DONE);
+    return index;
+}
+
+static const blink_entry five[] = {{5, 50}, {1, 10}, {3, 30}, {2, 20}, {4, 40}, {3, 99}};
+
+static void makes_an_index(void) {
+    blink_index index = {NULL};
+    for (unsigned fan = 0; fan < 256; fan++) {
+        uint8_t code = blink_index_new((uint8_t)fan, &index);
+        CHECK(code == (fan < 4 || fan > 32 ? BLINK_BAD_FAN : BLINK_DONE));
+        if (code == BLINK_DONE) {
+            CHECK(blink_index_fan(&index) == fan && blink_index_pages(&index) == 1 && blink_index_len(&index) == 0);
+            blink_index_free(index);
+        }
+    }
+    CHECK(blink_index_from_entries(33, five, 6, &index) == BLINK_BAD_FAN);
+    // unsorted, and a key twice: the first entry stays
+    index = index_of(4, five, 6);
+    CHECK(blink_index_len(&index) == 5 && blink_index_pages(&index) == 3);
+    const char *text = "1 3 - 18446744073709551615 - 3:1 18446744073709551615:2\n0 1 - 3 2 1:10 2:20 3:30\n"
+                       "0 2 3 18446744073709551615 - 4:40 5:50\n";
+    uint8_t dump[200];
+    size_t bytes = 0;
+    memset(dump, '.', sizeof dump);
+    CHECK(blink_index_dump(&index, dump, strlen(text) - 1, &bytes) == BLINK_DONE);
+    CHECK(bytes == strlen(text) && dump[0] == '.');
+    CHECK(blink_index_dump(&index, dump, bytes, &bytes) == BLINK_DONE && memcmp(dump, text, bytes) == 0 && dump[bytes] == '.');
+    blink_index copy = {NULL};
+    CHECK(blink_index_copy(&index, &copy) == BLINK_DONE);
+    blink_index_free(index);
+    CHECK(blink_index_len(&copy) == 5);
+    blink_index_free(copy);
+}
+
+static void looks_up(void) {
+    blink_index index = index_of(4, five, 6);
+    uint64_t pointer = 7;
+    CHECK(!blink_index_find(&index, 6, &pointer) && pointer == 7);
+    CHECK(blink_index_find(&index, 3, &pointer) && pointer == 30);
+    uint64_t keys[] = {9, 5, 1};
+    blink_answer answers[3] = {{8, 8}, {8, 8}, {8, 8}};
+    CHECK(blink_index_find_many(&index, keys, 3, answers, 2) == BLINK_WRONG_LENGTH && answers[0].kind == 8);
+    CHECK(blink_index_find_many(&index, keys, 3, answers, 3) == BLINK_DONE);
+    CHECK(answers[0].kind == BLINK_ABSENT && answers[0].pointer == 0);
+    CHECK(answers[1].kind == BLINK_FOUND && answers[1].pointer == 50 && answers[2].pointer == 10);
+    blink_entry entries[8];
+    size_t fitted = 9;
+    memset(entries, 0, sizeof entries);
+    CHECK(blink_index_scan(&index, 2, 4, entries, 2, &fitted) == 3 && fitted == 2);
+    CHECK(entries[0].key == 2 && entries[1].key == 3 && entries[1].pointer == 30 && entries[2].key == 0);
+    CHECK(blink_index_scan(&index, 0, UINT64_MAX, entries, 8, &fitted) == 5 && fitted == 5 && entries[4].pointer == 50);
+    CHECK(blink_index_scan(&index, 4, 2, entries, 8, &fitted) == 0 && fitted == 0);
+    CHECK(blink_index_page(&index, 3, 2, entries, 8, &fitted) == 2 && fitted == 2 && entries[1].key == 4);
+    CHECK(blink_index_page(&index, 3, 9, entries, 1, &fitted) == 3 && fitted == 1 && entries[0].key == 3);
+    blink_index_free(index);
+}
+
+static void runs_batches(void) {
+    blink_index index = index_of(4, five, 6);
+    blink_operation all[] = {{BLINK_INSERT, 7, 70}, {BLINK_INSERT, 7, 71}, {BLINK_FIND, 7, 0},     {BLINK_REPLACE, 7, 72},
+                             {BLINK_DELETE, 7, 0},  {BLINK_DELETE, 7, 0},  {BLINK_REPLACE, 7, 73}, {BLINK_FIND, 5, 0}};
+    blink_answer given[8] = {{9, 9}};
+    CHECK(blink_index_run(&index, all, 8, given, 7) == BLINK_WRONG_LENGTH);
+    all[7].kind = 4;
+    CHECK(blink_index_run(&index, all, 8, given, 8) == BLINK_UNKNOWN_OPERATION && given[0].kind == 9);
+    all[7].kind = BLINK_FIND;
+    static blink_operation many[BLINK_BATCH_LIMIT + 1];
+    static blink_answer places[BLINK_BATCH_LIMIT + 1];
+    CHECK(blink_index_run(&index, many, BLINK_BATCH_LIMIT + 1, places, BLINK_BATCH_LIMIT + 1) == BLINK_TOO_MANY);
+    CHECK(blink_index_run(&index, many, BLINK_BATCH_LIMIT, places, BLINK_BATCH_LIMIT) == BLINK_DONE);
+    CHECK(blink_index_run(&index, all, 8, given, 8) == BLINK_DONE);
+    blink_answer expected[] = {{BLINK_INSERTED, 0}, {BLINK_EXISTS, 70}, {BLINK_FOUND, 70}, {BLINK_REPLACED, 70},
+                               {BLINK_REMOVED, 72}, {BLINK_ABSENT, 0},  {BLINK_ABSENT, 0}, {BLINK_FOUND, 50}};
+    CHECK(memcmp(given, expected, sizeof given) == 0);
+    CHECK(blink_index_len(&index) == 5);
+    blink_index_free(index);
+}
+
+// Ends the operation under way, yielding between the calls.
+static blink_answer ended(blink_pass *pass) {
+    blink_answer answer;
+    uint8_t code;
+    while ((code = blink_pass_advance(pass, 100, &answer)) == BLINK_PENDING) sched_yield();
+    CHECK(code == BLINK_DONE);
+    return answer;
+}
+
+static void refuses_at_a_table(void) {
+    blink_index index = index_of(4, five, 6), closed = {NULL};
+    blink_table table = {NULL}, other = {NULL};
+    blink_pass pass = {NULL}, more = {NULL}, foreign = {NULL};
+    uint64_t keys[] = {1, 6, 1}, taken = 8;
+    blink_answer answer = {9, 9};
+    CHECK(blink_table_open(&index, 47663, 0, 1, &table) == BLINK_TABLE_TOO_LARGE);
+    CHECK(blink_table_open(&index, 2, 2, 1, &table) == BLINK_DONE && blink_table_open(&index, 0, 0, 2, &other) == BLINK_DONE);
+    CHECK(blink_table_deal(&table, keys, 3, 1, 1, &pass, &taken) == BLINK_TAKEN && taken == 1);
+    CHECK(blink_table_deal(&table, keys, 2, 3, 0, &pass, &taken) == BLINK_NO_ALLOWANCE);
+    CHECK(blink_table_deal(&table, keys, 2, 1, 1, &pass, &taken) == BLINK_DONE);
+    CHECK(blink_table_deal(&table, keys + 1, 1, 1, 1, &more, &taken) == BLINK_TAKEN && taken == 6);
+    CHECK(blink_table_deal(&table, keys, 0, 1, 1, &more, &taken) == BLINK_DONE);
+    CHECK(blink_table_deal(&other, keys, 2, 0, 0, &foreign, &taken) == BLINK_DONE);
+    CHECK(blink_pass_find(&pass, 2, &answer) == BLINK_NOT_YOURS && answer.kind == 9);
+    CHECK(blink_pass_find(&pass, 1, &answer) == BLINK_DONE && answer.kind == BLINK_FOUND && answer.pointer == 10);
+    CHECK(blink_pass_glance(&pass, 2, &answer) == BLINK_DONE && answer.pointer == 20);
+    CHECK(blink_pass_tell(&pass, &foreign) == BLINK_FOREIGN && blink_table_return(&other, &pass) == BLINK_FOREIGN);
+    CHECK(blink_pass_advance(&pass, 1, &answer) == BLINK_IDLE);
+    CHECK(blink_pass_begin_insert(&pass, 2, 0) == BLINK_NOT_YOURS && blink_pass_begin_replace(&pass, 3, 0) == BLINK_NOT_YOURS);
+    CHECK(blink_pass_begin_insert(&pass, 6, 60) == BLINK_DONE);
+    CHECK(blink_pass_find(&pass, 1, &answer) == BLINK_PENDING && blink_pass_glance(&pass, 1, &answer) == BLINK_PENDING);
+    CHECK(blink_pass_tell(&pass, &more) == BLINK_PENDING && blink_pass_tell(&more, &pass) == BLINK_PENDING);
+    CHECK(blink_pass_begin_delete(&pass, 1) == BLINK_PENDING && blink_table_return(&table, &pass) == BLINK_PENDING);
+    answer = ended(&pass);
+    CHECK(answer.kind == BLINK_INSERTED);
+    CHECK(blink_pass_begin_insert(&pass, 6, 60) == BLINK_SPENT);
+    CHECK(blink_pass_begin_delete(&pass, 1) == BLINK_DONE);
+    answer = ended(&pass);
+    CHECK(answer.kind == BLINK_REMOVED && answer.pointer == 10);
+    CHECK(blink_pass_begin_replace(&pass, 6, 61) == BLINK_SPENT);
+    CHECK(blink_pass_tell(&pass, &more) == BLINK_DONE);
+    CHECK(blink_pass_glance(&more, 6, &answer) == BLINK_DONE && answer.kind == BLINK_FOUND && answer.pointer == 60);
+    CHECK(blink_table_return(&table, &pass) == BLINK_DONE && blink_table_return(&table, &pass) == BLINK_RETURNED);
+    CHECK(blink_pass_find(&pass, 1, &answer) == BLINK_RETURNED && blink_pass_advance(&pass, 1, &answer) == BLINK_RETURNED);
+    CHECK(blink_pass_begin_insert(&pass, 6, 60) == BLINK_RETURNED && blink_pass_tell(&more, &pass) == BLINK_RETURNED);
+    blink_pass_free(pass);
+    CHECK(blink_table_return(&table, &more) == BLINK_DONE);
+    blink_pass_free(more);
+    CHECK(blink_table_close(table, &closed) == BLINK_DONE);
+    CHECK(blink_index_len(&closed) == 5 && blink_index_len(&index) == 5);
+    uint64_t pointer;
+    CHECK(blink_index_find(&closed, 6, &pointer) && pointer == 60 && !blink_index_find(&closed, 1, &pointer));
+    blink_index_free(closed);
+    // a pass that isn't given back, and a table that is freed before its pass
+    CHECK(blink_table_close(other, &closed) == BLINK_MISSING);
+    CHECK(blink_pass_glance(&foreign, 1, &answer) == BLINK_DONE && answer.pointer == 10);
+    blink_pass_free(foreign);
+    CHECK(blink_table_open(&index, 1, 1, 3, &table) == BLINK_DONE);
+    blink_table_free(table);
+    blink_index_free(index);
+}
+
+enum { THREADS = 2, KEYS = 2000 };
+
+// Inserts, replaces and deletes the thread's own keys by its own pass, and looks at them all.
+static void *changes_its_keys(void *at) {
+    blink_pass *pass = at;
+    blink_answer answer;
+    uint64_t first = 0;
+    while (blink_pass_find(pass, first, &answer) == BLINK_NOT_YOURS) first++;
+    for (uint64_t key = first; key < THREADS * KEYS; key += THREADS) {
+        CHECK(blink_pass_begin_insert(pass, key, key) == BLINK_DONE && ended(pass).kind == BLINK_INSERTED);
+        CHECK(blink_pass_begin_replace(pass, key, key + 1) == BLINK_DONE);
+        answer = ended(pass);
+        CHECK(answer.kind == BLINK_REPLACED && answer.pointer == key);
+        if (key % 3 == 0) CHECK(blink_pass_begin_delete(pass, key) == BLINK_DONE && ended(pass).kind == BLINK_REMOVED);
+        CHECK(blink_pass_find(pass, key, &answer) == BLINK_DONE && answer.kind == (key % 3 ? BLINK_FOUND : BLINK_ABSENT));
+    }
+    return NULL;
+}
+
+static void shares_a_table(void) {
+    blink_index index = {NULL}, closed = {NULL};
+    blink_table table = {NULL};
+    blink_pass passes[THREADS] = {{NULL}};
+    pthread_t threads[THREADS];
+    uint64_t taken, keys[KEYS];
+    CHECK(blink_index_new(4, &index) == BLINK_DONE);
+    CHECK(blink_table_open(&index, THREADS * KEYS, THREADS * KEYS * 2, 1, &table) == BLINK_DONE);
+    for (uint64_t i = 0; i < THREADS; i++) {
+        for (uint64_t k = 0; k < KEYS; k++) keys[k] = k * THREADS + i;
+        CHECK(blink_table_deal(&table, keys, KEYS, KEYS, KEYS * 2, &passes[i], &taken) == BLINK_DONE);
+    }
+    for (int i = 0; i < THREADS; i++) CHECK(pthread_create(&threads[i], NULL, changes_its_keys, &passes[i]) == 0);
+    for (int i = 0; i < THREADS; i++) {
+        CHECK(pthread_join(threads[i], NULL) == 0);
+        CHECK(blink_table_return(&table, &passes[i]) == BLINK_DONE);
+        blink_pass_free(passes[i]);
+    }
+    CHECK(blink_table_close(table, &closed) == BLINK_DONE);
+    CHECK(blink_index_len(&closed) == THREADS * KEYS - (THREADS * KEYS + 2) / 3);
+    uint64_t pointer;
+    for (uint64_t key = 0; key < THREADS * KEYS; key++)
+        CHECK(blink_index_find(&closed, key, &pointer) == (key % 3 != 0) && (key % 3 == 0 || pointer == key + 1));
+    blink_index_free(closed);
+    blink_index_free(index);
+}
+
+// One use of everything that takes memory, up to the first refusal: whether nothing was refused.
+static bool uses_memory(void) {
+    blink_index index = {NULL}, copy = {NULL}, closed = {NULL};
+    blink_table table = {NULL};
+    blink_pass pass = {NULL};
+    blink_operation operation = {BLINK_INSERT, 6, 60};
+    blink_answer answer = {9, 9};
+    uint64_t key = 7, taken = 8;
+    uint8_t text[300], code;
+    size_t bytes;
+    if ((code = blink_index_from_entries(4, five, 6, &index)) != BLINK_DONE) return CHECK(code == BLINK_INDEX_NO_MEMORY), false;
+    bool all = false;
+    if ((code = blink_index_run(&index, &operation, 1, &answer, 1)) != BLINK_DONE)
+        CHECK(code == BLINK_INDEX_NO_MEMORY && answer.kind == 9 && blink_index_len(&index) == 5);
+    else if ((code = blink_index_copy(&index, &copy)) != BLINK_DONE)
+        CHECK(code == BLINK_INDEX_NO_MEMORY);
+    else if ((code = blink_index_dump(&copy, text, sizeof text, &bytes)) != BLINK_DONE)
+        CHECK(code == BLINK_INDEX_NO_MEMORY);
+    else if ((code = blink_table_open(&copy, 1, 1, 1, &table)) != BLINK_DONE)
+        CHECK(code == BLINK_NO_MEMORY);
+    else {
+        if ((code = blink_table_deal(&table, &key, 1, 1, 1, &pass, &taken)) != BLINK_DONE)
+            CHECK(code == BLINK_DEAL_NO_MEMORY && taken == 8);
+        else {
+            if ((code = blink_table_return(&table, &pass)) != BLINK_DONE)
+                CHECK(code == BLINK_NO_MEMORY && blink_pass_find(&pass, key, &answer) == BLINK_DONE);
+            all = code == BLINK_DONE;
+            blink_pass_free(pass);
+        }
+        code = blink_table_close(table, &closed);
+        CHECK(code == BLINK_DONE || code == BLINK_NO_MEMORY || (!all && code == BLINK_MISSING));
+        all = all && code == BLINK_DONE;
+        if (code == BLINK_DONE) blink_index_free(closed);
+    }
+    if (copy.at) blink_index_free(copy);
+    blink_index_free(index);
+    return all;
+}
+
+int main(void) {
+    makes_an_index();
+    looks_up();
+    runs_batches();
+    refuses_at_a_table();
+    shares_a_table();
+    long requests = 0;
+    do refused_at = requests++;
+    while (!uses_memory());
+    CHECK(requests > 30);
+    refused_at = -1;
+    puts("all as expected");
+    return 0;
+}

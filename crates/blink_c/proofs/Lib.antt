@@ -1,0 +1,13 @@
+pub mod IndexAsBox
+pub mod FanStays
+pub mod RunOfBatch
+pub mod Found
+pub mod EntriesAreFew
+pub mod Overlays
+pub mod RunsInParts
+pub mod PassAsBox
+pub mod PassesCross
+pub mod KeysOfPasses
+pub mod TableAsBox
+pub mod CodesOfTables
+pub mod DealFaults

@@ -1,0 +1,30 @@
+use Rattle.std.proofs.Common.{◌≡◌, ◌∙◌, Option, List, length, map, ap, sym, subst}
+use Rattle.blink_batch.specs.declared.Answer.{Answer}
+use Rattle.blink_index.specs.{map_of}
+use Rattle.blink_store.specs.{PlainStore}
+use Rattle.blink_c.specs.Raw.{raw_given}
+use Rattle.blink_c.specs.Runs.{HasRunToEnd}
+use Rattle.blink_batch.specs.{answers}
+use Rattle.blink_c.proofs.RunOfBatch.{as_many, each_given}
+use Rattle.blink_c.proofs.batch.run.Goals as goal
+
+-- there is a place for each answer
+pub give_answers-requires : goal.give_answers-requires
+give_answers-requires c =
+    let places : length c.args.answers.now ≡ length c.args.operations.now = c.if-answers-operations.false in
+    places ∙ as_many c.args.operations.now c.in_ok-batch.batch c.in_ok-batch.ensures.batch ∙ sym c.in_ok-world.ensures.ran.one_each
+    ∙ ap (λ (given : List (Option Answer)). length given) (sym c.answers.ensures.answers)
+
+pub returns-clause-ran : goal.returns-clause-ran
+returns-clause-ran c =
+    let ran : HasRunToEnd c.args.index.now c.in_ok-batch.batch c.in_ok-world.world =
+    subst (λ (store : PlainStore). HasRunToEnd store c.in_ok-batch.batch c.in_ok-world.world) c.in-Ok.ensures.index c.in_ok-world.ensures.ran in
+    record {
+      ops = c.in_ok-batch.batch;
+      are_operations = c.in_ok-batch.ensures.batch;
+      within_limit = c.in_ok-batch.ensures.limit;
+      same_answers = c.give_answers.ensures ∙ ap (λ (given : List (Option Answer)). map raw_given given) (c.answers.ensures.answers ∙ ran.same_answers)
+          ∙ each_given (answers (map_of c.args.index.now) c.in_ok-batch.batch);
+      same_fan = ap (λ (store : PlainStore). store.fan) (c.from_rest.ensures ∙ c.into_rest.ensures.tree) ∙ ran.same_fan;
+      same_map = ap (λ (store : PlainStore). map_of store) (c.from_rest.ensures ∙ c.into_rest.ensures.tree) ∙ ran.same_map;
+    }

@@ -1,0 +1,11 @@
+use Rattle.std.proofs.Common.{subst}
+use Rattle.blink_batch.specs.declared.Op.TheVariants.{Insert}
+use Rattle.blink_c.specs.declared.pass_owner.PassOwner.{PassOwner}
+use Rattle.blink_c.specs.Passes.{Begins}
+use Rattle.blink_c.proofs.CodesOfTables.{on_done}
+use Rattle.blink_c.proofs.pass.blink_pass_begin_insert.Goals as goal
+
+pub returns-clause-begun : goal.returns-clause-begun
+returns-clause-begun c zero =
+    subst (λ (owner : PassOwner). Begins (Insert c.args.key c.args.pointer) owner c.begin_insert.new.self) c.get.ensures.value
+    (on_done c.begin_insert.result c.code_of.result c.code_of.ensures c.begin_insert.ensures.begun zero)

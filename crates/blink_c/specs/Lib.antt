@@ -1,0 +1,14 @@
+pub mod Codes
+pub mod Raw
+pub mod Found
+pub mod Filled
+pub mod Runs
+pub mod IndexOwned
+pub mod IndexLending
+pub mod TableCodes
+pub mod Passes
+pub mod PassOwned
+pub mod PassLending
+pub mod Tables
+pub mod TableOwned
+pub mod TableLending

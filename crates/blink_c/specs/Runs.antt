@@ -1,0 +1,68 @@
+-- A batch that one thread runs over an index, and why a run is refused.
+use Rattle.std.specs.Prelude.{◌≡◌, ◌≢◌, ℕ, ◌<◌, ◌≤◌, Some, IsSome, List, [], length, map, All, ⊤}
+use Rattle.blink_batch.specs.declared.Op.{Op}
+use Rattle.blink_batch.specs.declared.batch.TheConstants.{BATCH_LIMIT}
+use Rattle.blink_batch.specs.{answers, map_after_all}
+use Rattle.blink_index.specs.{IsBadFan, map_of}
+use Rattle.blink_store.specs.{PlainStore}
+use Rattle.blink_steps.specs.{HasEnded, IsTooLarge, PlainWorld}
+use Rattle.blink_c.specs.declared.raw.RawAnswer.{RawAnswer}
+use Rattle.blink_c.specs.declared.raw.RawEntry.{RawEntry}
+use Rattle.blink_c.specs.declared.raw.RawOperation.{RawOperation}
+use Rattle.blink_c.specs.declared.refusal.Refusal.{Refusal}
+use Rattle.blink_c.specs.declared.refusal.Refusal.TheVariants.{TooMany, WrongLength, UnknownOperation, TooLarge, BadFan, OutOfMemory}
+use Rattle.blink_c.specs.Raw.{AreOperations, insertion_of, op_of, raw_answer}
+
+-- a world at its end: its answers, and its tree's entries, are those of one thread that runs the operations in their order
+pub record HasRunToEnd (before : PlainStore) (ops : List Op) (world : PlainWorld) : Type 0 where
+  pub ended : HasEnded world.run
+  pub one_each : length world.run.outcome.answers ≡ length ops
+  pub same_answers : world.run.outcome.answers ≡ map Some (answers (map_of before) ops)
+  pub same_map : map_of world.run.shared.store ≡ map_after_all (map_of before) ops
+  pub same_fan : world.run.shared.store.fan ≡ before.fan
+
+-- the caller's operations have run: each answer stands at its operation's place, and the index has the map that they leave
+pub record HasRun (before : PlainStore) (raws : List RawOperation) (given : List RawAnswer) (after : PlainStore) : Type 0 where
+  pub ops : List Op
+  pub are_operations : AreOperations raws ops
+  pub within_limit : length raws ≤ BATCH_LIMIT
+  pub same_answers : given ≡ map raw_answer (answers (map_of before) ops)
+  pub same_map : map_of after ≡ map_after_all (map_of before) ops
+  pub same_fan : after.fan ≡ before.fan
+
+-- all kinds are known
+abbrev pub AreKnown : List RawOperation → Type 0
+AreKnown raws = All (λ raw. IsSome (op_of raw)) raws
+
+-- the refusals of a run; they are looked for in this order, and lack of memory at any time
+abbrev pub IsRunRefusal : PlainStore → List RawOperation → ℕ → Refusal → Type 0
+IsRunRefusal before raws places WrongLength = places ≢ length raws
+IsRunRefusal before raws places TooMany = BATCH_LIMIT < length raws
+IsRunRefusal before raws places UnknownOperation = ¬ AreKnown raws
+IsRunRefusal before raws places TooLarge = (ops : List Op) × AreOperations raws ops × IsTooLarge before ops
+IsRunRefusal before raws places BadFan = ⊥
+IsRunRefusal before raws places OutOfMemory = ⊤
+
+-- the refusals of the caller's operations by themselves
+abbrev pub IsBatchRefusal : List RawOperation → Refusal → Type 0
+IsBatchRefusal raws TooMany = BATCH_LIMIT < length raws
+IsBatchRefusal raws UnknownOperation = ¬ AreKnown raws
+IsBatchRefusal raws OutOfMemory = ⊤
+IsBatchRefusal raws refusal = ⊥
+
+-- the refusals of a batch over an index
+abbrev pub IsStartRefusal : PlainStore → List Op → Refusal → Type 0
+IsStartRefusal before ops TooLarge = IsTooLarge before ops
+IsStartRefusal before ops OutOfMemory = ⊤
+IsStartRefusal before ops refusal = ⊥
+
+-- the index of some entries, each inserted in its turn: of two with one key the first stays
+abbrev pub HasEntriesOf : List RawEntry → PlainStore → Type 0
+HasEntriesOf raws store = map_of store ≡ map_after_all [] (map insertion_of raws)
+
+-- the refusals of making it
+abbrev pub IsMakeRefusal : ℕ → Refusal → Type 0
+IsMakeRefusal fan BadFan = IsBadFan fan
+IsMakeRefusal fan TooLarge = ⊤
+IsMakeRefusal fan OutOfMemory = ⊤
+IsMakeRefusal fan refusal = ⊥

@@ -1,0 +1,42 @@
+//! The export that gives the tree as text.
+ghost use Rattle.std.specs.Prelude.{◌≡◌, ◌≢◌, length};
+ghost use Rattle.blink_index.specs.{text_of_store};
+ghost use Rattle.blink_c.specs.Codes.{code_of};
+ghost use Rattle.blink_c.specs.Filled.{put_if_fits};
+
+use crate::index_handle::IndexHandle;
+use crate::refusal::{DONE, Refusal};
+use std::alloc::Global;
+
+/// Gives the tree as text, if all of it fits, and stores how many bytes it has.
+#[unsafe(no_mangle)]
+pub extern "C" fn blink_index_dump(
+    alloc: Global,
+    index: &mut IndexHandle,
+    text: &mut [u8],
+    bytes: &mut usize,
+) -> u8
+    ensures bytes { result ≡ 0 → bytes.new ≡ length (text_of_store index.old.value) }
+    ensures text { result ≡ 0 → text.new ≡ put_if_fits (text_of_store index.old.value) text.old }
+    ensures refused { result ≢ 0 → result ≡ code_of Refusal.OutOfMemory }
+    ensures unchanged { result ≢ 0 → (text.new ≡ text.old) × (bytes.new ≡ bytes.old) }
+    ensures same { index.new.value ≡ index.old.value }
+{
+    match index.get().dump(alloc) {
+        Ok(dump) => {
+            *bytes = dump.len();
+            put(dump.as_bytes(), text);
+            DONE
+        }
+        Err(_) => Refusal::OutOfMemory.code(),
+    }
+}
+
+// Puts a text into the places, if all of it fits.
+fn put(text: &[u8], places: &mut [u8])
+    ensures { places.new ≡ put_if_fits text.now places.old }
+{
+    if text.len() <= places.len() {
+        places[..text.len()].copy_from_slice(text);
+    }
+}

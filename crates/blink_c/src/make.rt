@@ -1,0 +1,82 @@
+//! The export that makes an index of entries.
+ghost use Rattle.std.specs.Prelude.{◌≡◌, ◌≢◌, ◌≤◌, ◌⊎◌, None, IsSome, IfOk, IfErr, IfSome, length, map};
+ghost use Rattle.blink_batch.specs.{map_after_all};
+ghost use Rattle.blink_batch.specs.declared.batch.TheConstants.{BATCH_LIMIT};
+ghost use Rattle.blink_index.specs.{map_of};
+ghost use Rattle.blink_c.specs.Codes.{code_of};
+ghost use Rattle.blink_c.specs.Raw.{insertion_of};
+ghost use Rattle.blink_c.specs.Runs.{HasEntriesOf, IsMakeRefusal};
+
+use crate::batch::run_to_end;
+use crate::index::{fill, new_index};
+use crate::index_slot::IndexSlot;
+use crate::raw::RawEntry;
+use crate::refusal::Refusal;
+use blink_batch::{BATCH_LIMIT, Batch, Op};
+use blink_index::Index;
+use std::alloc::{AllocError, Global};
+
+/// Makes an index of entries in any order. Of two with one key the first stays.
+#[unsafe(no_mangle)]
+pub extern "C" fn blink_index_from_entries(
+    alloc: Global,
+    fan: u8,
+    entries: &[RawEntry],
+    out: &mut IndexSlot,
+) -> u8
+    requires { out.old.value ≡ None }
+    ensures made { result ≡ 0 → IsSome out.new.value × IfSome out.new.value (HasEntriesOf entries.now) }
+    ensures fan { IfSome out.new.value (λ index. index.fan ≡ fan) }
+    ensures refused { (refusal : _) → result ≡ code_of refusal → IsMakeRefusal fan refusal }
+    ensures unchanged { result ≢ 0 → out.new.value ≡ None }
+{
+    match index_of(alloc, fan, entries) {
+        Ok(index) => fill(alloc, index, out),
+        Err(refusal) => refusal.code(),
+    }
+}
+
+// The index of the entries, which are inserted a batch at a time.
+fn index_of(alloc: Global, fan: u8, entries: &[RawEntry]) -> Result<Index, Refusal>
+    ensures index { IfOk result (HasEntriesOf entries.now) }
+    ensures fan { IfOk result (λ index. index.fan ≡ fan) }
+    ensures refused { IfErr result (IsMakeRefusal fan) }
+{
+    let mut index = new_index(alloc, fan)?;
+    let mut left = entries;
+    while !left.is_empty() {
+        let (part, rest) = left.split_at(left.len().min(BATCH_LIMIT));
+        index = with_entries(alloc, index, part)?;
+        left = rest;
+    }
+    Ok(index)
+}
+
+// The index with a batch of entries more.
+fn with_entries(alloc: Global, index: Index, entries: &[RawEntry]) -> Result<Index, Refusal>
+    requires { length entries.now ≤ BATCH_LIMIT }
+    ensures map { IfOk result
+        (λ after. map_of after ≡ map_after_all (map_of index) (map insertion_of entries.now)) }
+    ensures fan { IfOk result (λ after. after.fan ≡ index.fan) }
+    ensures refused { IfErr result (λ refusal. (refusal ≡ Refusal.TooLarge) ⊎ (refusal ≡ Refusal.OutOfMemory)) }
+{
+    let Ok(ops) = insertions(alloc, entries) else {
+        return Err(Refusal::OutOfMemory);
+    };
+    let Ok(batch) = Batch::new(ops) else {
+        unreachable!()
+    };
+    let world = run_to_end(alloc, index, batch)?;
+    Ok(Index::from_rest(world.into_rest()))
+}
+
+// The insertions of the entries, in their order.
+fn insertions(alloc: Global, entries: &[RawEntry]) -> Result<Vec<Op>, AllocError>
+    ensures { IfOk result (λ ops. ops.items ≡ map insertion_of entries.now) }
+{
+    let mut ops = Vec::with_capacity(alloc, entries.len())?;
+    for entry in entries {
+        ops.push_reserved(Op::Insert(entry.key, entry.pointer));
+    }
+    Ok(ops)
+}

@@ -1,0 +1,115 @@
+//! The exports of a pass.
+ghost use Rattle.std.specs.Prelude.{◌≡◌, ◌≢◌};
+ghost use Rattle.blink_batch.specs.declared.Op.TheVariants.{Delete, Insert, Replace};
+ghost use Rattle.blink_c.specs.Passes.{Begins, Ends, Finds, Glances, IsAdvanceRefusal, IsBeginRefusal, IsFindRefusal, IsNotFree, IsOwn, IsTellRefusal, TellsOn, table_of};
+ghost use Rattle.blink_c.specs.TableCodes.{code_of, code_of_outcome};
+
+use crate::pass_handle::PassHandle;
+use crate::raw::RawAnswer;
+use crate::table_refusal::code_of;
+
+/// Looks a key of the pass up.
+#[unsafe(no_mangle)]
+pub extern "C" fn blink_pass_find(pass: &mut PassHandle, key: u64, answer: &mut RawAnswer) -> u8
+    requires its_own { IsOwn pass.old.value }
+    ensures its_own { IsOwn pass.new.value }
+    ensures found { result ≡ 0 → Finds key pass.old.value pass.new.value answer.new }
+    ensures refused { (refusal : _) → result ≡ code_of refusal
+        → IsFindRefusal key pass.old.value.held refusal }
+    ensures unchanged { result ≢ 0 → (pass.new.value ≡ pass.old.value) × (answer.new ≡ answer.old) }
+{
+    code_of(&pass.get().find(key, answer))
+}
+
+/// Looks any key up, as the pass has seen it by the end of the call.
+#[unsafe(no_mangle)]
+pub extern "C" fn blink_pass_glance(pass: &mut PassHandle, key: u64, answer: &mut RawAnswer) -> u8
+    requires its_own { IsOwn pass.old.value }
+    ensures its_own { IsOwn pass.new.value }
+    ensures glanced { result ≡ 0 → Glances key pass.old.value pass.new.value answer.new }
+    ensures refused { (refusal : _) → result ≡ code_of refusal → IsNotFree pass.old.value.held refusal }
+    ensures unchanged { result ≢ 0 → (pass.new.value ≡ pass.old.value) × (answer.new ≡ answer.old) }
+{
+    code_of(&pass.get().glance(key, answer))
+}
+
+/// Tells pass `to` what pass `from` has seen. Passes of two tables are told apart by the numbers that the caller gave these.
+#[unsafe(no_mangle)]
+pub extern "C" fn blink_pass_tell(from: &mut PassHandle, to: &mut PassHandle) -> u8
+    requires its_own { IsOwn from.old.value }
+    requires others_own { IsOwn to.old.value }
+    requires numbered { from.old.value.number ≡ to.old.value.number
+        → table_of from.old.value ≡ table_of to.old.value }
+    ensures its_own { IsOwn from.new.value }
+    ensures others_own { IsOwn to.new.value }
+    ensures told { result ≡ 0 → TellsOn from.old.value from.new.value to.old.value to.new.value }
+    ensures refused { (refusal : _) → result ≡ code_of refusal
+        → IsTellRefusal from.old.value to.old.value refusal }
+    ensures unchanged { result ≢ 0
+        → (from.new.value ≡ from.old.value) × (to.new.value ≡ to.old.value) }
+{
+    code_of(&from.get().tell(to.get()))
+}
+
+/// Begins an insertion of a key of the pass.
+#[unsafe(no_mangle)]
+pub extern "C" fn blink_pass_begin_insert(pass: &mut PassHandle, key: u64, pointer: u64) -> u8
+    requires its_own { IsOwn pass.old.value }
+    ensures its_own { IsOwn pass.new.value }
+    ensures begun { result ≡ 0 → Begins (Insert key pointer) pass.old.value pass.new.value }
+    ensures refused { (refusal : _) → result ≡ code_of refusal
+        → IsBeginRefusal (Insert key pointer) pass.old.value.held refusal }
+    ensures unchanged { result ≢ 0 → pass.new.value ≡ pass.old.value }
+{
+    code_of(&pass.get().begin_insert(key, pointer))
+}
+
+/// Begins a deletion of a key of the pass.
+#[unsafe(no_mangle)]
+pub extern "C" fn blink_pass_begin_delete(pass: &mut PassHandle, key: u64) -> u8
+    requires its_own { IsOwn pass.old.value }
+    ensures its_own { IsOwn pass.new.value }
+    ensures begun { result ≡ 0 → Begins (Delete key) pass.old.value pass.new.value }
+    ensures refused { (refusal : _) → result ≡ code_of refusal
+        → IsBeginRefusal (Delete key) pass.old.value.held refusal }
+    ensures unchanged { result ≢ 0 → pass.new.value ≡ pass.old.value }
+{
+    code_of(&pass.get().begin_delete(key))
+}
+
+/// Begins a replacement of a key of the pass.
+#[unsafe(no_mangle)]
+pub extern "C" fn blink_pass_begin_replace(pass: &mut PassHandle, key: u64, pointer: u64) -> u8
+    requires its_own { IsOwn pass.old.value }
+    ensures its_own { IsOwn pass.new.value }
+    ensures begun { result ≡ 0 → Begins (Replace key pointer) pass.old.value pass.new.value }
+    ensures refused { (refusal : _) → result ≡ code_of refusal
+        → IsBeginRefusal (Replace key pointer) pass.old.value.held refusal }
+    ensures unchanged { result ≢ 0 → pass.new.value ≡ pass.old.value }
+{
+    code_of(&pass.get().begin_replace(key, pointer))
+}
+
+/// Takes the next steps of the operation under way. It is refused with `UnderWay` after so many steps in vain; the next call goes
+/// on.
+#[unsafe(no_mangle)]
+pub extern "C" fn blink_pass_advance(
+    pass: &mut PassHandle,
+    tries: u32,
+    answer: &mut RawAnswer,
+) -> u8
+    requires its_own { IsOwn pass.old.value }
+    ensures its_own { IsOwn pass.new.value }
+    ensures ended { result ≡ 0 → Ends pass.old.value pass.new.value answer.new }
+    ensures refused { (refusal : _) → result ≡ code_of refusal
+        → IsAdvanceRefusal pass.old.value pass.new.value refusal }
+    ensures unchanged { result ≢ 0 → answer.new ≡ answer.old }
+{
+    code_of(&pass.get().advance(tries, answer))
+}
+
+/// Frees the handle. A pass that wasn't given back to its table never comes back.
+#[unsafe(no_mangle)]
+pub extern "C" fn blink_pass_free(pass: PassHandle) {
+    drop(pass.into_box());
+}

@@ -1,0 +1,226 @@
+//! What the box of a pass's handle holds: an owner of the table, and the pass or its operation.
+ghost use Rattle.std.specs.Prelude.{◌≡◌, ◌≢◌, IfErr, IfOk, OnErr, OnOk};
+ghost use Rattle.blink_batch.specs.declared.Op.TheVariants.{Delete, Insert, Replace};
+ghost use Rattle.blink_live.specs.{IsPassOf, IsPendingOf};
+ghost use Rattle.blink_c.specs.Passes.{Begins, Ends, Finds, Glances, IsAdvanceRefusal, IsBeginRefusal, IsFindRefusal, IsNotBusy, IsNotFree, IsOwn, IsTellRefusal, TellsOn, table_of};
+
+use crate::raw::RawAnswer;
+use crate::table_refusal::TableRefusal;
+use blink_live::{Live, Pass, Pending};
+use std::mem;
+use std::sync::Arc;
+
+/// A pass, free or with an operation under way, or nothing once the pass was given back.
+#[derive(Drop)]
+pub enum Held {
+    Free(Pass),
+    Busy(Pending),
+    Gone,
+}
+
+/// A pass with an owner of its table, so that its thread needs nothing else.
+#[derive(Drop)]
+pub struct PassOwner {
+    pub(crate) live: Arc<Live>,
+    // The number that the caller gave the table.
+    pub(crate) number: u64,
+    pub(crate) held: Held,
+}
+
+impl Held {
+    // Why there is no free pass.
+    pub(crate) fn why_not_free(&self) -> TableRefusal
+        requires { (pass : _) → self.now ≢ Held.Free pass }
+        ensures { IsNotFree self.now result }
+    {
+        match self {
+            Held::Busy(_) => TableRefusal::UnderWay,
+            _ => TableRefusal::Returned,
+        }
+    }
+}
+
+impl PassOwner {
+    /// Looks a key of the pass up.
+    pub(crate) fn find(&mut self, key: u64, answer: &mut RawAnswer) -> Result<(), TableRefusal>
+        requires its_own { IsOwn self.old }
+        ensures its_own { IsOwn self.new }
+        ensures found { OnOk result (Finds key self.old self.new answer.new) }
+        ensures refused { IfErr result (IsFindRefusal key self.old.held) }
+        ensures unchanged { OnErr result ((self.new ≡ self.old) × (answer.new ≡ answer.old)) }
+    {
+        let Held::Free(pass) = &mut self.held else {
+            return Err(self.held.why_not_free());
+        };
+        match self.live.find(pass, key) {
+            Ok(found) => {
+                *answer = RawAnswer::of(found);
+                Ok(())
+            }
+            Err(refusal) => Err(TableRefusal::Pass(refusal)),
+        }
+    }
+
+    /// Looks any key up.
+    pub(crate) fn glance(&mut self, key: u64, answer: &mut RawAnswer) -> Result<(), TableRefusal>
+        requires its_own { IsOwn self.old }
+        ensures its_own { IsOwn self.new }
+        ensures glanced { OnOk result (Glances key self.old self.new answer.new) }
+        ensures refused { IfErr result (IsNotFree self.old.held) }
+        ensures unchanged { OnErr result ((self.new ≡ self.old) × (answer.new ≡ answer.old)) }
+    {
+        let Held::Free(pass) = &mut self.held else {
+            return Err(self.held.why_not_free());
+        };
+        let shown = self.live.glance(pass, key);
+        *answer = RawAnswer::shown(shown);
+        Ok(())
+    }
+
+    /// Tells the other pass what this one has seen.
+    pub(crate) fn tell(&mut self, to: &mut PassOwner) -> Result<(), TableRefusal>
+        requires its_own { IsOwn self.old }
+        requires others_own { IsOwn to.old }
+        requires numbered { self.old.number ≡ to.old.number → table_of self.old ≡ table_of to.old }
+        ensures its_own { IsOwn self.new }
+        ensures others_own { IsOwn to.new }
+        ensures told { OnOk result (TellsOn self.old self.new to.old to.new) }
+        ensures refused { IfErr result (IsTellRefusal self.old to.old) }
+        ensures unchanged { OnErr result ((self.new ≡ self.old) × (to.new ≡ to.old)) }
+    {
+        if self.number != to.number {
+            return Err(TableRefusal::Foreign);
+        }
+        let Held::Free(from) = &mut self.held else {
+            return Err(self.held.why_not_free());
+        };
+        let Held::Free(pass) = &mut to.held else {
+            return Err(to.held.why_not_free());
+        };
+        self.live.tell(from, pass);
+        Ok(())
+    }
+
+    /// Begins an insertion of a key of the pass.
+    pub(crate) fn begin_insert(&mut self, key: u64, pointer: u64) -> Result<(), TableRefusal>
+        requires its_own { IsOwn self.old }
+        ensures its_own { IsOwn self.new }
+        ensures begun { OnOk result (Begins (Insert key pointer) self.old self.new) }
+        ensures refused { IfErr result (IsBeginRefusal (Insert key pointer) self.old.held) }
+        ensures unchanged { OnErr result (self.new ≡ self.old) }
+    {
+        let pass = self.take_free()?;
+        match self.live.begin_insert(pass, key, pointer) {
+            Ok(pending) => {
+                self.held = Held::Busy(pending);
+                Ok(())
+            }
+            Err((pass, refusal)) => {
+                self.held = Held::Free(pass);
+                Err(TableRefusal::Pass(refusal))
+            }
+        }
+    }
+
+    /// Begins a deletion of a key of the pass.
+    pub(crate) fn begin_delete(&mut self, key: u64) -> Result<(), TableRefusal>
+        requires its_own { IsOwn self.old }
+        ensures its_own { IsOwn self.new }
+        ensures begun { OnOk result (Begins (Delete key) self.old self.new) }
+        ensures refused { IfErr result (IsBeginRefusal (Delete key) self.old.held) }
+        ensures unchanged { OnErr result (self.new ≡ self.old) }
+    {
+        let pass = self.take_free()?;
+        match self.live.begin_delete(pass, key) {
+            Ok(pending) => {
+                self.held = Held::Busy(pending);
+                Ok(())
+            }
+            Err((pass, refusal)) => {
+                self.held = Held::Free(pass);
+                Err(TableRefusal::Pass(refusal))
+            }
+        }
+    }
+
+    /// Begins a replacement of a key of the pass.
+    pub(crate) fn begin_replace(&mut self, key: u64, pointer: u64) -> Result<(), TableRefusal>
+        requires its_own { IsOwn self.old }
+        ensures its_own { IsOwn self.new }
+        ensures begun { OnOk result (Begins (Replace key pointer) self.old self.new) }
+        ensures refused { IfErr result (IsBeginRefusal (Replace key pointer) self.old.held) }
+        ensures unchanged { OnErr result (self.new ≡ self.old) }
+    {
+        let pass = self.take_free()?;
+        match self.live.begin_replace(pass, key, pointer) {
+            Ok(pending) => {
+                self.held = Held::Busy(pending);
+                Ok(())
+            }
+            Err((pass, refusal)) => {
+                self.held = Held::Free(pass);
+                Err(TableRefusal::Pass(refusal))
+            }
+        }
+    }
+
+    /// Takes the next steps of the operation under way.
+    pub(crate) fn advance(&mut self, tries: u32, answer: &mut RawAnswer) -> Result<(), TableRefusal>
+        requires its_own { IsOwn self.old }
+        ensures its_own { IsOwn self.new }
+        ensures ended { OnOk result (Ends self.old self.new answer.new) }
+        ensures refused { IfErr result (IsAdvanceRefusal self.old self.new) }
+        ensures unchanged { OnErr result (answer.new ≡ answer.old) }
+    {
+        let pending = self.take_busy()?;
+        match self.live.advance(pending, tries) {
+            Ok((pass, given)) => {
+                self.held = Held::Free(pass);
+                *answer = RawAnswer::of(given);
+                Ok(())
+            }
+            Err(pending) => {
+                self.held = Held::Busy(pending);
+                Err(TableRefusal::UnderWay)
+            }
+        }
+    }
+
+    // Takes the free pass out.
+    pub(crate) fn take_free(&mut self) -> Result<Pass, TableRefusal>
+        requires its_own { IsOwn self.old }
+        ensures free { IfOk result (λ pass. self.old.held ≡ Held.Free pass) }
+        ensures its_own { IfOk result (IsPassOf (table_of self.old)) }
+        ensures gone { OnOk result (self.new ≡ record self.old { held = Held.Gone }) }
+        ensures refused { IfErr result (IsNotFree self.old.held) }
+        ensures unchanged { OnErr result (self.new ≡ self.old) }
+    {
+        match mem::replace(&mut self.held, Held::Gone) {
+            Held::Free(pass) => Ok(pass),
+            held => {
+                let refusal = held.why_not_free();
+                self.held = held;
+                Err(refusal)
+            }
+        }
+    }
+
+    // Takes the operation under way out.
+    fn take_busy(&mut self) -> Result<Pending, TableRefusal>
+        requires its_own { IsOwn self.old }
+        ensures busy { IfOk result (λ pending. self.old.held ≡ Held.Busy pending) }
+        ensures its_own { IfOk result (IsPendingOf (table_of self.old)) }
+        ensures gone { OnOk result (self.new ≡ record self.old { held = Held.Gone }) }
+        ensures refused { IfErr result (IsNotBusy self.old.held) }
+        ensures unchanged { OnErr result (self.new ≡ self.old) }
+    {
+        match mem::replace(&mut self.held, Held::Gone) {
+            Held::Busy(pending) => Ok(pending),
+            Held::Free(pass) => {
+                self.held = Held::Free(pass);
+                Err(TableRefusal::Idle)
+            }
+            Held::Gone => Err(TableRefusal::Returned),
+        }
+    }
+}

@@ -1,0 +1,124 @@
+//! Entries, operations and answers as the caller passes them: structs of numbers.
+ghost use Rattle.std.specs.Prelude.{◌≡◌, ◌↔◌, IsSome, IsTrue};
+ghost use Rattle.blink_c.specs.Raw.{op_of, raw_answer, raw_entry, raw_given, raw_shown};
+
+use blink_batch::{Answer, Entry, Op};
+
+/// A key with its record pointer.
+#[repr(C)]
+#[derive(Clone, Copy)]
+pub struct RawEntry {
+    pub key: u64,
+    pub pointer: u64,
+}
+
+/// An operation: its kind, its key, and the pointer that it stores, which a find and a deletion don't read.
+#[repr(C)]
+#[derive(Clone, Copy)]
+pub struct RawOperation {
+    pub kind: u64,
+    pub key: u64,
+    pub pointer: u64,
+}
+
+/// An answer: its kind, and the pointer that it tells, or 0 if it tells none.
+#[repr(C)]
+#[derive(Clone, Copy)]
+pub struct RawAnswer {
+    pub kind: u64,
+    pub pointer: u64,
+}
+
+// The kinds of operations.
+pub(crate) const FIND: u64 = 0;
+
+pub(crate) const INSERT: u64 = 1;
+
+pub(crate) const DELETE: u64 = 2;
+
+pub(crate) const REPLACE: u64 = 3;
+
+// The kinds of answers.
+pub(crate) const ABSENT: u64 = 0;
+
+pub(crate) const FOUND: u64 = 1;
+
+pub(crate) const INSERTED: u64 = 2;
+
+pub(crate) const EXISTS: u64 = 3;
+
+pub(crate) const REMOVED: u64 = 4;
+
+pub(crate) const REPLACED: u64 = 5;
+
+impl RawOperation {
+    /// The operation, or `None` if the kind is none of the four.
+    pub(crate) fn op(&self) -> Option<Op>
+        ensures { result ≡ op_of self.now }
+    {
+        if self.kind == FIND {
+            Some(Op::Find(self.key))
+        } else if self.kind == INSERT {
+            Some(Op::Insert(self.key, self.pointer))
+        } else if self.kind == DELETE {
+            Some(Op::Delete(self.key))
+        } else if self.kind == REPLACE {
+            Some(Op::Replace(self.key, self.pointer))
+        } else {
+            None
+        }
+    }
+
+    /// Whether the kind is one of the four.
+    pub(crate) fn is_known(&self) -> bool
+        ensures { IsTrue result ↔ IsSome (op_of self.now) }
+    {
+        self.kind <= REPLACE
+    }
+}
+
+impl RawEntry {
+    /// The entry as the caller gets it.
+    pub(crate) fn of(entry: Entry) -> RawEntry
+        ensures { result ≡ raw_entry entry }
+    {
+        RawEntry {
+            key: entry.key,
+            pointer: entry.pointer,
+        }
+    }
+}
+
+impl RawAnswer {
+    /// The answer as the caller gets it.
+    pub(crate) fn of(answer: Answer) -> RawAnswer
+        ensures { result ≡ raw_answer answer }
+    {
+        let (kind, pointer) = match answer {
+            Answer::Absent => (ABSENT, 0),
+            Answer::Found(pointer) => (FOUND, pointer),
+            Answer::Inserted => (INSERTED, 0),
+            Answer::Exists(pointer) => (EXISTS, pointer),
+            Answer::Removed(pointer) => (REMOVED, pointer),
+            Answer::Replaced(pointer) => (REPLACED, pointer),
+        };
+        RawAnswer { kind, pointer }
+    }
+
+    /// An answer that may be missing: then it is that of an absent key.
+    pub(crate) fn given(answer: Option<Answer>) -> RawAnswer
+        ensures { result ≡ raw_given answer }
+    {
+        RawAnswer::of(answer.unwrap_or(Answer::Absent))
+    }
+
+    /// What a glance has shown, as a find answers it.
+    pub(crate) fn shown(pointer: Option<u64>) -> RawAnswer
+        ensures { result ≡ raw_shown pointer }
+    {
+        match pointer {
+            Some(pointer) => RawAnswer::of(Answer::Found(pointer)),
+            None => RawAnswer::of(Answer::Absent),
+        }
+    }
+}

@@ -1,0 +1,147 @@
+//! The exports of a table.
+ghost use Rattle.std.specs.Prelude.{◌≡◌, ◌≢◌, ◌⊎◌, ◌<◌, None, Some, IfSome, IsSome, length};
+ghost use Rattle.blink_index.specs.{map_of};
+ghost use Rattle.blink_live.specs.{IsMerge, IsNumberedInOrder, fan_of, passes_dealt};
+ghost use Rattle.blink_c.specs.Passes.{IsOwn, table_of};
+ghost use Rattle.blink_c.specs.TableCodes.{code_of};
+ghost use Rattle.blink_c.specs.Tables.{DealsTo, IsNewTable, IsOwnTable, IsReturnRefusal, IsSameTable, TakesBack, TellsDealFault, TellsOpenFault, table_in};
+
+use crate::index_handle::IndexHandle;
+use crate::index_slot::IndexSlot;
+use crate::pass_handle::PassHandle;
+use crate::pass_slot::PassSlot;
+use crate::refusal::DONE;
+use crate::table_handle::TableHandle;
+use crate::table_owner::TableOwner;
+use crate::table_refusal::code_of;
+use crate::table_slot::TableSlot;
+use blink_index::Index;
+use blink_live::LiveError;
+use blink_rows::Allowance;
+use std::alloc::Global;
+
+/// Opens a table over the index, with room for so many insertions and deletions; a replacement uses a deletion. The caller gives
+/// the table a number that no other open table has, by which passes of two tables are told apart.
+#[unsafe(no_mangle)]
+pub extern "C" fn blink_table_open(
+    alloc: Global,
+    index: &mut IndexHandle,
+    inserts: u32,
+    deletes: u32,
+    number: u64,
+    out: &mut TableSlot,
+) -> u8
+    requires { out.old.value ≡ None }
+    ensures opened { result ≡ 0 → IsSome out.new.value × IfSome out.new.value
+        (IsNewTable index.old.value (record { inserts = inserts; deletes = deletes }) number) }
+    ensures refused { result ≢ 0
+        → TellsOpenFault index.old.value (record { inserts = inserts; deletes = deletes }) result }
+    ensures unchanged { result ≢ 0 → out.new.value ≡ None }
+    ensures same { index.new.value ≡ index.old.value }
+{
+    match TableOwner::open(alloc, index.get(), Allowance { inserts, deletes }, number) {
+        Ok(table) => {
+            *out = TableSlot::of(table);
+            DONE
+        }
+        Err(refusal) => refusal.code(),
+    }
+}
+
+/// Deals a pass with these keys and room for so many changes. If a key was dealt before or stands earlier in the list, the call
+/// tells the first such key.
+#[unsafe(no_mangle)]
+pub extern "C" fn blink_table_deal(
+    alloc: Global,
+    table: &mut TableHandle,
+    keys: &[u64],
+    inserts: u32,
+    deletes: u32,
+    out: &mut PassSlot,
+    taken: &mut u64,
+) -> u8
+    requires its_own { IsOwnTable table.old.value }
+    requires empty { out.old.value ≡ None }
+    ensures its_own { IsOwnTable table.new.value }
+    ensures dealt { result ≡ 0 → IsSome out.new.value × IfSome out.new.value
+        (λ pass. IsOwn pass × DealsTo keys.now inserts deletes table.old.value table.new.value pass) }
+    ensures refused { result ≢ 0
+        → TellsDealFault table.old.value keys.now inserts deletes result taken.new }
+    ensures unchanged { result ≢ 0
+        → (table.new.value ≡ table.old.value) × (out.new.value ≡ None) }
+{
+    match table.get().deal(alloc, keys, inserts, deletes) {
+        Ok(pass) => {
+            *out = PassSlot::of(pass);
+            DONE
+        }
+        Err(refusal) => {
+            if let LiveError::Taken(key) = refusal {
+                *taken = key;
+            }
+            refusal.code()
+        }
+    }
+}
+
+/// Gives a pass back to its table. Its handle then holds nothing, and is still to be freed.
+#[unsafe(no_mangle)]
+pub extern "C" fn blink_table_return(table: &mut TableHandle, pass: &mut PassHandle) -> u8
+    requires its_own { IsOwnTable table.old.value }
+    requires its_pass { IsOwn pass.old.value }
+    requires numbered { table.old.value.number ≡ pass.old.value.number
+        → table_in table.old.value ≡ table_of pass.old.value }
+    ensures its_own { IsOwnTable table.new.value }
+    ensures its_pass { IsOwn pass.new.value }
+    ensures back { result ≡ 0
+        → TakesBack table.old.value table.new.value pass.old.value pass.new.value }
+    ensures refused { (refusal : _) → result ≡ code_of refusal
+        → IsReturnRefusal table.old.value pass.old.value refusal }
+    ensures unchanged { result ≢ 0
+        → IsSameTable table.old.value table.new.value × (pass.new.value ≡ pass.old.value) }
+{
+    code_of(&table.get().take_back(pass.get()))
+}
+
+/// Closes the table, and gives the index of its tree. The table is given up either way. The call is refused with `Missing` if a
+/// pass wasn't given back, or the handle of a pass isn't freed.
+#[unsafe(no_mangle)]
+pub extern "C" fn blink_table_close(alloc: Global, table: TableHandle, out: &mut IndexSlot) -> u8
+    requires its_own { IsOwnTable table.value }
+    requires empty { out.old.value ≡ None }
+    ensures closed { result ≡ 0 → IsSome out.new.value × IfSome out.new.value
+        (λ index. IsMerge (table_in table.value) table.value.keeper table.value.back.items (map_of index)) }
+    ensures fan { IfSome out.new.value (λ index. index.fan ≡ fan_of (table_in table.value)) }
+    ensures numbered { IfSome out.new.value IsNumberedInOrder }
+    ensures missing { length table.value.back.items < passes_dealt table.value.keeper → result ≡ 56 }
+    ensures refused { result ≢ 0 → (result ≡ 50) ⊎ (result ≡ 56) }
+    ensures unchanged { result ≢ 0 → out.new.value ≡ None }
+{
+    let owner = Box::into_inner(table.into_box());
+    match owner.close(alloc) {
+        Ok(index) => give_index(alloc, index, out),
+        Err(refusal) => refusal.code(),
+    }
+}
+
+// Puts the index into a box, and its handle into the empty slot.
+fn give_index(alloc: Global, index: Index, out: &mut IndexSlot) -> u8
+    requires { out.old.value ≡ None }
+    ensures given { result ≡ 0 → out.new.value ≡ Some index }
+    ensures refused { result ≢ 0 → result ≡ 50 }
+    ensures unchanged { result ≢ 0 → out.new.value ≡ None }
+{
+    match Box::new(alloc, index) {
+        Ok(index) => {
+            *out = IndexSlot::of(index);
+            DONE
+        }
+        Err(_) => LiveError::OutOfMemory.code(),
+    }
+}
+
+/// Frees the handle, without an index. The passes' handles are still to be freed.
+#[unsafe(no_mangle)]
+pub extern "C" fn blink_table_free(table: TableHandle) {
+    drop(table.into_box());
+}

@@ -1,0 +1,204 @@
+/*
+ * blink.h: a proved B-link tree index, and a table that threads share without a lock, for C and C++.
+ *
+ * Link with libblink.a or libblink.so, which ./libblink builds. Every function is proved to keep what its comment says, in
+ * crates/blink_c; what follows is what the caller keeps.
+ *
+ * Handles. blink_index, blink_table and blink_pass are handles. A handle begins as {NULL}, and is then empty. A function with a
+ * parameter `out` takes the place of an empty handle, and fills it if it returns BLINK_DONE. All other functions take a full one.
+ * A handle is freed once: by its free function, or, of a table, by blink_table_close. Nothing looks whether a handle is empty,
+ * full or freed: an empty or freed handle passed where a full one is asked for, or a full one as `out`, is undefined, as a wild
+ * pointer is.
+ *
+ * Threads. One call at a time uses a handle. Any thread may use it; one gives it to another by a lock, a start or join of a
+ * thread, or a sequentially consistent atomic. Different handles may be used by different threads at the same time, also passes
+ * of one table, and the table itself. No call waits for another thread. None may be called from a signal handler, or in a forked
+ * child of a process with threads.
+ *
+ * Arrays. A pointer and the number of its elements follow one another. The pointer isn't NULL, also where that number is 0, and
+ * no two arrays or results of one call overlap.
+ *
+ * Memory comes from malloc, realloc and free. A call that is refused for want of it leaves what was there as it was.
+ */
+#ifndef BLINK_H
+#define BLINK_H
+
+#include <stdbool.h>
+#include <stddef.h>
+#include <stdint.h>
+
+#ifdef __cplusplus
+extern "C" {
+#endif
+
+typedef struct { void *at; } blink_index;
+typedef struct { void *at; } blink_table;
+typedef struct { void *at; } blink_pass;
+
+/* A key with its record pointer. */
+typedef struct { uint64_t key, pointer; } blink_entry;
+
+/* An operation. A find and a deletion don't read the pointer. */
+typedef struct { uint64_t kind, key, pointer; } blink_operation;
+
+/* An answer. The pointer is 0 where the answer tells none. */
+typedef struct { uint64_t kind, pointer; } blink_answer;
+
+/* The kinds of operations. */
+enum {
+    BLINK_FIND = 0,    /* looks the key up */
+    BLINK_INSERT = 1,  /* maps the key to the pointer, unless the key is there */
+    BLINK_DELETE = 2,  /* takes the key away, if it is there */
+    BLINK_REPLACE = 3  /* maps the key to the pointer, if the key is there */
+};
+
+/* The kinds of answers. */
+enum {
+    BLINK_ABSENT = 0,   /* a find, a deletion or a replacement: the key isn't there, and nothing changed */
+    BLINK_FOUND = 1,    /* a find: the key maps to the pointer */
+    BLINK_INSERTED = 2, /* an insertion: the key wasn't there, and maps to the pointer now */
+    BLINK_EXISTS = 3,   /* an insertion: the key maps to this pointer, and nothing changed */
+    BLINK_REMOVED = 4,  /* a deletion: the key mapped to this pointer, and is no longer there */
+    BLINK_REPLACED = 5  /* a replacement: the key mapped to this pointer, and maps to the new one now */
+};
+
+/* What a call returns: BLINK_DONE, or why it is refused. A refused call changes nothing but where its comment says so. */
+enum {
+    BLINK_DONE = 0,
+    BLINK_TOO_MANY = 1,            /* more than BLINK_BATCH_LIMIT operations */
+    BLINK_WRONG_LENGTH = 3,        /* two arrays that have to be equally long aren't */
+    BLINK_UNKNOWN_OPERATION = 11,  /* the kind of an operation is none of the four */
+    BLINK_INDEX_TOO_LARGE = 32,    /* 1 + pages + 22 for each insertion is above 1,048,576 */
+    BLINK_BAD_FAN = 40,            /* the fan isn't from 4 to 32 */
+    BLINK_INDEX_NO_MEMORY = 41,    /* memory was refused, of an index */
+    BLINK_NO_MEMORY = 50,          /* memory was refused, of a table */
+    BLINK_TAKEN = 51,              /* a key was dealt before, or stands twice in the list */
+    BLINK_NO_ALLOWANCE = 52,       /* the table has fewer insertions or deletions left to deal */
+    BLINK_DEAL_NO_MEMORY = 53,     /* memory was refused, of a deal */
+    BLINK_NOT_YOURS = 54,          /* the key isn't one of the pass's */
+    BLINK_SPENT = 55,              /* the pass has no insertion, or no deletion, left */
+    BLINK_MISSING = 56,            /* a pass wasn't given back, or its handle isn't freed */
+    BLINK_TABLE_TOO_LARGE = 57,    /* as 32, by the insertions that the table is to have room for */
+    BLINK_FOREIGN = 63,            /* the pass is of another table: the two tables' numbers differ */
+    BLINK_PENDING = 90,            /* the pass has an operation under way */
+    BLINK_IDLE = 91,               /* the pass has no operation under way */
+    BLINK_RETURNED = 92            /* the pass was given back to its table */
+};
+
+/* The greatest number of operations that run at once. */
+#define BLINK_BATCH_LIMIT 8192
+
+/* ---- The index: a map from keys to record pointers. ---- */
+
+/* Makes an index without an entry, whose pages have at most `fan` entries, 4 to 32. Refused: BLINK_BAD_FAN, for every other fan;
+ * BLINK_INDEX_NO_MEMORY. */
+uint8_t blink_index_new(uint8_t fan, blink_index *out);
+
+/* Makes an index of entries in any order, sorted or not. Of two with one key the first stays. Refused: BLINK_BAD_FAN,
+ * BLINK_INDEX_TOO_LARGE, BLINK_INDEX_NO_MEMORY. */
+uint8_t blink_index_from_entries(uint8_t fan, const blink_entry *entries, size_t count, blink_index *out);
+
+/* Makes a copy, page by page. Refused: BLINK_INDEX_NO_MEMORY. */
+uint8_t blink_index_copy(blink_index *index, blink_index *out);
+
+/* Runs operations one after another, and gives the answer of each at its place. It works on a copy of the index, which then takes
+ * its place: so run many at once. Refused, looked for in this order: BLINK_WRONG_LENGTH, if there aren't as many places for
+ * answers as operations; BLINK_TOO_MANY; BLINK_UNKNOWN_OPERATION; BLINK_INDEX_TOO_LARGE; and BLINK_INDEX_NO_MEMORY at any time.
+ * Then the index and the answers are as they were. */
+uint8_t blink_index_run(blink_index *index, const blink_operation *operations, size_t count, blink_answer *answers,
+                        size_t places);
+
+/* Looks a key up: true, and its record pointer; or false, and `pointer` stays as it was. */
+bool blink_index_find(blink_index *index, uint64_t key, uint64_t *pointer);
+
+/* Looks keys up, and gives the answer of each at its place, BLINK_FOUND or BLINK_ABSENT. Refused: BLINK_WRONG_LENGTH, exactly if
+ * there aren't as many places as keys. */
+uint8_t blink_index_find_many(blink_index *index, const uint64_t *keys, size_t count, blink_answer *answers, size_t places);
+
+/* Gives the entries with keys from `lo` to `hi`, both included, in ascending order, as many as there are places. It returns how
+ * many there are, and stores how many fitted. The other places stay as they were. */
+size_t blink_index_scan(blink_index *index, uint64_t lo, uint64_t hi, blink_entry *entries, size_t places, size_t *fitted);
+
+/* The same for the first `n` entries with keys from `lo` on, or all of these if they are fewer. It returns at most `n`. */
+size_t blink_index_page(blink_index *index, uint64_t lo, uint64_t n, blink_entry *entries, size_t places, size_t *fitted);
+
+/* The number of entries. It walks all leaves. */
+size_t blink_index_len(blink_index *index);
+
+/* The number of pages, at least 1. */
+uint32_t blink_index_pages(blink_index *index);
+
+/* The greatest number of entries in a page. */
+uint8_t blink_index_fan(blink_index *index);
+
+/* Gives the tree as text, a line a page, if all of it fits, and stores how many bytes it has; it ends without a zero byte.
+ * docs/FORMATS.md has the format. Refused: BLINK_INDEX_NO_MEMORY; then `text` and `bytes` are as they were. */
+uint8_t blink_index_dump(blink_index *index, uint8_t *text, size_t places, size_t *bytes);
+
+/* Frees the index. */
+void blink_index_free(blink_index index);
+
+/* ---- The table: the index's entries, which threads change together. ----
+ *
+ * A table deals passes. A pass has some keys, which no other pass has, and room for some changes. Its thread finds, inserts,
+ * deletes and replaces its own keys, with the answers of its own plain map, and glances at all keys. In the end every pass goes
+ * back, every handle of a pass is freed, and the table is closed to an index.
+ */
+
+/* Opens a table over the index, which stays as it is, with room for so many insertions and deletions; a replacement uses a
+ * deletion. `number` is one that no other table of the process has while it or a pass of it lives: by it passes of two tables are
+ * told apart. Refused: BLINK_TABLE_TOO_LARGE, BLINK_NO_MEMORY. */
+uint8_t blink_table_open(blink_index *index, uint32_t inserts, uint32_t deletes, uint64_t number, blink_table *out);
+
+/* Deals a pass with these keys, in any order, and room for so many changes. Refused: BLINK_TAKEN, and `taken` is the first key of
+ * the list that was dealt before or stands earlier in it; BLINK_NO_ALLOWANCE; BLINK_DEAL_NO_MEMORY, at any time. Without
+ * BLINK_TAKEN, `taken` stays as it was. */
+uint8_t blink_table_deal(blink_table *table, const uint64_t *keys, size_t count, uint32_t inserts, uint32_t deletes,
+                         blink_pass *out, uint64_t *taken);
+
+/* Gives a pass back to its table. Its handle then holds nothing, is BLINK_RETURNED to all calls, and is still to be freed.
+ * Refused: BLINK_FOREIGN, BLINK_PENDING, BLINK_RETURNED, BLINK_NO_MEMORY. */
+uint8_t blink_table_return(blink_table *table, blink_pass *pass);
+
+/* Closes the table, and gives the index of its tree: the entries that it was opened with, except that each key that was dealt has
+ * the state that its pass left. The table is given up either way. Refused: BLINK_MISSING, if a pass wasn't given back or its
+ * handle isn't freed; BLINK_NO_MEMORY. */
+uint8_t blink_table_close(blink_table table, blink_index *out);
+
+/* Frees the table, without an index. The handles of its passes may still be used, and are still to be freed. */
+void blink_table_free(blink_table table);
+
+/* Looks a key of the pass up: BLINK_FOUND or BLINK_ABSENT. Refused: BLINK_NOT_YOURS, for every key that isn't the pass's;
+ * BLINK_PENDING; BLINK_RETURNED. */
+uint8_t blink_pass_find(blink_pass *pass, uint64_t key, blink_answer *answer);
+
+/* Looks any key up: BLINK_FOUND or BLINK_ABSENT, after the changes that the pass has seen by the end of the call. A pass never
+ * un-sees a change that it has seen, for all keys at once. How much new it sees isn't promised. Refused: BLINK_PENDING;
+ * BLINK_RETURNED. */
+uint8_t blink_pass_glance(blink_pass *pass, uint64_t key, blink_answer *answer);
+
+/* Tells pass `to` what pass `from` has seen: then `to` has seen all that `from` has seen. The two handles are different. Refused:
+ * BLINK_FOREIGN, if the passes are of two tables; BLINK_PENDING and BLINK_RETURNED, if one of them isn't free. */
+uint8_t blink_pass_tell(blink_pass *from, blink_pass *to);
+
+/* Begin an insertion, a deletion or a replacement of a key of the pass. It goes on by blink_pass_advance, and until it has ended
+ * the pass can do nothing else. Each uses one insertion, or one deletion, of the pass, whatever it answers. Refused:
+ * BLINK_NOT_YOURS, for every key that isn't the pass's; then BLINK_SPENT; BLINK_PENDING; BLINK_RETURNED. */
+uint8_t blink_pass_begin_insert(blink_pass *pass, uint64_t key, uint64_t pointer);
+uint8_t blink_pass_begin_delete(blink_pass *pass, uint64_t key);
+uint8_t blink_pass_begin_replace(blink_pass *pass, uint64_t key, uint64_t pointer);
+
+/* Takes the next steps of the operation under way. It returns BLINK_DONE and the answer once the operation has ended, and
+ * BLINK_PENDING after `tries` steps in vain, since another pass has the page that it wants: then the thread may do something else,
+ * yield or wait as it likes, and calls again. It never waits itself. Refused: BLINK_IDLE, if nothing is under way;
+ * BLINK_RETURNED. */
+uint8_t blink_pass_advance(blink_pass *pass, uint32_t tries, blink_answer *answer);
+
+/* Frees the handle. A pass that wasn't given back before is lost: blink_table_close is then refused with BLINK_MISSING. */
+void blink_pass_free(blink_pass pass);
+
+#ifdef __cplusplus
+}
+#endif
+
+#endif

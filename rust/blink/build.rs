@@ -1,0 +1,19 @@
+//! Links `libblink.a`, which `./libblink` at the top of the repository builds into `out/`. `BLINK_LIB_DIR` names another folder.
+
+use std::env;
+use std::path::{Path, PathBuf};
+
+fn main() {
+    println!("cargo:rerun-if-env-changed=BLINK_LIB_DIR");
+    let folder = match env::var_os("BLINK_LIB_DIR") {
+        Some(folder) => PathBuf::from(folder),
+        None => Path::new(&env::var_os("CARGO_MANIFEST_DIR").expect("cargo sets CARGO_MANIFEST_DIR")).join("../../out"),
+    };
+    let archive = folder.join("libblink.a");
+    println!("cargo:rerun-if-changed={}", archive.display());
+    if !archive.exists() {
+        panic!("no {}: run ./libblink at the top of the repository first", archive.display());
+    }
+    println!("cargo:rustc-link-search=native={}", folder.display());
+    println!("cargo:rustc-link-lib=static=blink");
+}

@@ -1,0 +1,69 @@
+//! Why a call is refused.
+
+use std::fmt;
+
+/// Why a call is refused. A refused call changes nothing but where its documentation says so.
+#[derive(Clone, Copy, Debug, PartialEq, Eq, Hash)]
+#[non_exhaustive]
+pub enum Error {
+    /// The fan isn't from 4 to 32.
+    BadFan,
+    /// The insertions might need more page numbers than exist: 1 + pages + 22 for each insertion is above 1,048,576.
+    TooLarge,
+    /// Memory was refused.
+    OutOfMemory,
+    /// This key was dealt before, or stands twice in the list.
+    Taken(u64),
+    /// The table has fewer insertions or deletions left to deal.
+    NoAllowance,
+    /// The key isn't one of the pass's.
+    NotYours,
+    /// The pass has no insertion, or no deletion, left.
+    Spent,
+    /// A pass of the table is still held somewhere, or was dropped.
+    Missing,
+    /// The pass is of another table.
+    Foreign,
+}
+
+impl Error {
+    // Codes that the types of this crate exclude don't come here.
+    pub(crate) fn of(code: u8) -> Error {
+        match code {
+            32 | 57 => Error::TooLarge,
+            40 => Error::BadFan,
+            41 | 50 | 53 => Error::OutOfMemory,
+            52 => Error::NoAllowance,
+            54 => Error::NotYours,
+            55 => Error::Spent,
+            56 => Error::Missing,
+            63 => Error::Foreign,
+            _ => unreachable!("libblink returned code {code}"),
+        }
+    }
+
+    pub(crate) fn check(code: u8) -> Result<(), Error> {
+        match code {
+            0 => Ok(()),
+            code => Err(Error::of(code)),
+        }
+    }
+}
+
+impl fmt::Display for Error {
+    fn fmt(&self, f: &mut fmt::Formatter<'_>) -> fmt::Result {
+        match self {
+            Error::BadFan => f.write_str("bad fan"),
+            Error::TooLarge => f.write_str("too large"),
+            Error::OutOfMemory => f.write_str("out of memory"),
+            Error::Taken(key) => write!(f, "key {key} is taken"),
+            Error::NoAllowance => f.write_str("no allowance"),
+            Error::NotYours => f.write_str("not yours"),
+            Error::Spent => f.write_str("spent"),
+            Error::Missing => f.write_str("missing pass"),
+            Error::Foreign => f.write_str("a pass of another table"),
+        }
+    }
+}
+
+impl std::error::Error for Error {}

@@ -1,0 +1,288 @@
+//! The index.
+
+use crate::sys::{self, Handle, RawAnswer};
+use crate::{Answer, Entry, Error, Op};
+use std::cell::UnsafeCell;
+use std::fmt;
+use std::ops::{Bound, RangeBounds};
+
+/// A map from 64-bit keys to 64-bit record pointers, in a proved B-link tree.
+///
+/// ```
+/// use blink::{Answer, Index, Op};
+///
+/// let mut index = Index::new(16)?;
+/// let answers = index.run(&[Op::Insert(5, 50), Op::Insert(7, 70), Op::Find(5), Op::Delete(6)])?;
+/// assert_eq!(answers, [Answer::Inserted, Answer::Inserted, Answer::Found(50), Answer::Absent]);
+/// assert_eq!(index.find(7), Some(70));
+/// assert_eq!(index.scan(..).map(|entry| entry.key).collect::<Vec<_>>(), [5, 7]);
+/// # Ok::<(), blink::Error>(())
+/// ```
+///
+/// An index may move to another thread, and one thread at a time uses it:
+///
+/// ```
+/// fn may_move<T: Send>() {}
+/// may_move::<blink::Index>();
+/// ```
+///
+/// ```compile_fail
+/// fn may_be_shared<T: Sync>() {}
+/// may_be_shared::<blink::Index>();
+/// ```
+pub struct Index {
+    // A call takes the handle by a pointer for writing, also where it changes nothing.
+    handle: UnsafeCell<Handle>,
+}
+
+// SAFETY: an index is plain data, and `IndexHandle` of crates/blink_c is proved to be `Send`. It isn't `Sync`, by its cell.
+unsafe impl Send for Index {}
+
+impl Index {
+    /// Makes an index without an entry, whose pages have at most `fan` entries, 4 to 32.
+    ///
+    /// ```
+    /// use blink::{Error, Index};
+    ///
+    /// assert!(Index::new(16)?.is_empty());
+    /// assert_eq!(Index::new(3).unwrap_err(), Error::BadFan);
+    /// # Ok::<(), Error>(())
+    /// ```
+    pub fn new(fan: u8) -> Result<Index, Error> {
+        Index::filled(|out| {
+            // SAFETY: `out` is an empty handle.
+            unsafe { sys::blink_index_new(fan, out) }
+        })
+    }
+
+    /// Makes an index of entries in any order. Of two with one key the first stays.
+    ///
+    /// ```
+    /// use blink::{Entry, Index};
+    ///
+    /// let entries = [(3, 30), (1, 10), (3, 99)].map(Entry::from);
+    /// let index = Index::from_entries(8, &entries)?;
+    /// assert_eq!(index.scan(..).collect::<Vec<_>>(), [(1, 10), (3, 30)].map(Entry::from));
+    /// # Ok::<(), blink::Error>(())
+    /// ```
+    pub fn from_entries(fan: u8, entries: &[Entry]) -> Result<Index, Error> {
+        Index::filled(|out| {
+            // SAFETY: `entries` is a slice of numbers, and `out` an empty handle.
+            unsafe { sys::blink_index_from_entries(fan, entries.as_ptr(), entries.len(), out) }
+        })
+    }
+
+    /// Makes a copy.
+    pub fn try_clone(&self) -> Result<Index, Error> {
+        Index::filled(|out| {
+            // SAFETY: the handle is full, this thread alone uses it, and `out` is an empty one.
+            unsafe { sys::blink_index_copy(self.handle.get(), out) }
+        })
+    }
+
+    // The index that a call gives.
+    pub(crate) fn filled(call: impl FnOnce(*mut Handle) -> u8) -> Result<Index, Error> {
+        let mut handle = Handle::EMPTY;
+        Error::check(call(&mut handle))?;
+        Ok(Index {
+            handle: UnsafeCell::new(handle),
+        })
+    }
+
+    /// Runs operations one after another, and returns their answers. Each 8,192 of them run on a copy of the index, which then
+    /// takes its place; so run many at once. After an error the operations before that part have run.
+    pub fn run(&mut self, operations: &[Op]) -> Result<Vec<Answer>, Error> {
+        let mut answers = Vec::with_capacity(operations.len());
+        for part in operations.chunks(sys::BATCH_LIMIT) {
+            let raw: Vec<_> = part.iter().map(|op| op.raw()).collect();
+            let mut given = vec![RawAnswer::NONE; raw.len()];
+            // SAFETY: the handle is full and borrowed for writing; both arrays have that many elements.
+            Error::check(unsafe {
+                sys::blink_index_run(self.handle.get(), raw.as_ptr(), raw.len(), given.as_mut_ptr(), given.len())
+            })?;
+            answers.extend(given.into_iter().map(Answer::of));
+        }
+        Ok(answers)
+    }
+
+    /// Returns the record pointer of a key.
+    pub fn find(&self, key: u64) -> Option<u64> {
+        let mut pointer = 0;
+        // SAFETY: the handle is full, and this thread alone uses it, since an `Index` isn't `Sync`.
+        unsafe { sys::blink_index_find(self.handle.get(), key, &mut pointer) }.then_some(pointer)
+    }
+
+    /// Returns the record pointer of each key.
+    ///
+    /// ```
+    /// # use blink::{Entry, Index};
+    /// let index = Index::from_entries(8, &[(1, 10), (3, 30)].map(Entry::from))?;
+    /// assert_eq!(index.find_many(&[3, 2, 1]), [Some(30), None, Some(10)]);
+    /// # Ok::<(), blink::Error>(())
+    /// ```
+    pub fn find_many(&self, keys: &[u64]) -> Vec<Option<u64>> {
+        let mut given = vec![RawAnswer::NONE; keys.len()];
+        // SAFETY: as in `find`; both arrays have that many elements.
+        let code = unsafe {
+            sys::blink_index_find_many(self.handle.get(), keys.as_ptr(), keys.len(), given.as_mut_ptr(), given.len())
+        };
+        // The arrays are equally long, and nothing else is refused.
+        assert_eq!(code, 0);
+        given.into_iter().map(|raw| Answer::of(raw).pointer()).collect()
+    }
+
+    /// Returns the entries whose keys are in the range, in ascending order.
+    ///
+    /// ```
+    /// # use blink::{Entry, Index};
+    /// let index = Index::from_entries(8, &[(1, 10), (3, 30), (5, 50)].map(Entry::from))?;
+    /// assert_eq!(index.scan(2..5).collect::<Vec<_>>(), [Entry { key: 3, pointer: 30 }]);
+    /// assert_eq!(index.scan(2..=5).count(), 2);
+    /// # Ok::<(), blink::Error>(())
+    /// ```
+    pub fn scan(&self, range: impl RangeBounds<u64>) -> Scan<'_> {
+        let lo = match range.start_bound() {
+            Bound::Included(&key) => Some(key),
+            Bound::Excluded(&key) => key.checked_add(1),
+            Bound::Unbounded => Some(0),
+        };
+        let hi = match range.end_bound() {
+            Bound::Included(&key) => Some(key),
+            Bound::Excluded(&key) => key.checked_sub(1),
+            Bound::Unbounded => Some(u64::MAX),
+        };
+        Scan {
+            index: self,
+            range: lo.zip(hi).filter(|(lo, hi)| lo <= hi),
+            entries: Vec::new().into_iter(),
+        }
+    }
+
+    /// Returns the number of entries whose keys are in the range from `lo` to `hi`, both included.
+    pub fn count(&self, lo: u64, hi: u64) -> usize {
+        let mut fitted = 0;
+        let mut none = [];
+        // SAFETY: as in `find`; the array has no element.
+        unsafe { sys::blink_index_scan(self.handle.get(), lo, hi, none.as_mut_ptr(), 0, &mut fitted) }
+    }
+
+    // The first entries from a key on, at most so many.
+    fn page(&self, lo: u64, most: usize) -> Vec<Entry> {
+        let mut entries = vec![Entry { key: 0, pointer: 0 }; most];
+        let mut fitted = 0;
+        // SAFETY: as in `find`; the array has that many elements.
+        unsafe { sys::blink_index_page(self.handle.get(), lo, most as u64, entries.as_mut_ptr(), most, &mut fitted) };
+        entries.truncate(fitted);
+        entries
+    }
+
+    /// Returns the number of entries. It walks all leaves.
+    pub fn len(&self) -> usize {
+        // SAFETY: as in `find`.
+        unsafe { sys::blink_index_len(self.handle.get()) }
+    }
+
+    /// Returns whether the index has no entry.
+    pub fn is_empty(&self) -> bool {
+        self.page(0, 1).is_empty()
+    }
+
+    /// Returns the number of pages, at least 1.
+    pub fn pages(&self) -> u32 {
+        // SAFETY: as in `find`.
+        unsafe { sys::blink_index_pages(self.handle.get()) }
+    }
+
+    /// Returns the greatest number of entries in a page.
+    pub fn fan(&self) -> u8 {
+        // SAFETY: as in `find`.
+        unsafe { sys::blink_index_fan(self.handle.get()) }
+    }
+
+    /// Returns the tree as text, a line a page, the top level first.
+    ///
+    /// ```
+    /// # use blink::{Entry, Index};
+    /// let index = Index::from_entries(8, &[(1, 10), (3, 30)].map(Entry::from))?;
+    /// assert_eq!(index.dump()?, "0 1 - 18446744073709551615 - 1:10 3:30\n");
+    /// # Ok::<(), blink::Error>(())
+    /// ```
+    pub fn dump(&self) -> Result<String, Error> {
+        let mut text = Vec::new();
+        loop {
+            let mut bytes = 0;
+            // SAFETY: as in `find`; the array has that many elements.
+            Error::check(unsafe {
+                sys::blink_index_dump(self.handle.get(), text.as_mut_ptr(), text.len(), &mut bytes)
+            })?;
+            if bytes <= text.len() {
+                return Ok(String::from_utf8(text).expect("a dump is ASCII"));
+            }
+            text.resize(bytes, 0);
+        }
+    }
+
+    pub(crate) fn handle(&self) -> *mut Handle {
+        self.handle.get()
+    }
+}
+
+impl Drop for Index {
+    fn drop(&mut self) {
+        // SAFETY: the handle is full, and is taken out, so it is freed once.
+        unsafe { sys::blink_index_free(self.handle.get_mut().take()) }
+    }
+}
+
+impl fmt::Debug for Index {
+    fn fmt(&self, f: &mut fmt::Formatter<'_>) -> fmt::Result {
+        f.debug_map().entries(self.scan(..).map(|entry| (entry.key, entry.pointer))).finish()
+    }
+}
+
+impl<'a> IntoIterator for &'a Index {
+    type Item = Entry;
+    type IntoIter = Scan<'a>;
+
+    fn into_iter(self) -> Scan<'a> {
+        self.scan(..)
+    }
+}
+
+/// The entries of an index whose keys are in a range, in ascending order. It takes 256 at a time out of the index.
+#[derive(Clone, Debug)]
+pub struct Scan<'a> {
+    index: &'a Index,
+    // The keys that are still to be asked for.
+    range: Option<(u64, u64)>,
+    entries: std::vec::IntoIter<Entry>,
+}
+
+impl Scan<'_> {
+    const PART: usize = 256;
+
+    // Takes the next entries out of the index.
+    fn refill(&mut self) {
+        let Some((lo, hi)) = self.range else { return };
+        let mut entries = self.index.page(lo, Self::PART);
+        let within = entries.partition_point(|entry| entry.key <= hi);
+        let whole = entries.len() == Self::PART && within == Self::PART;
+        entries.truncate(within);
+        let next = entries.last().and_then(|last| last.key.checked_add(1));
+        self.range = next.filter(|next| whole && *next <= hi).map(|next| (next, hi));
+        self.entries = entries.into_iter();
+    }
+}
+
+impl Iterator for Scan<'_> {
+    type Item = Entry;
+
+    fn next(&mut self) -> Option<Entry> {
+        if self.entries.as_slice().is_empty() {
+            self.refill();
+        }
+        self.entries.next()
+    }
+}
+
+impl std::iter::FusedIterator for Scan<'_> {}

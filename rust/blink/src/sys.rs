@@ -1,0 +1,110 @@
+//! The exports of `libblink`, as `include/blink.h` declares them.
+
+use std::ffi::c_void;
+use std::ptr;
+
+/// A handle: a pointer alone. It is not `Copy`, since a handle is freed once.
+#[repr(C)]
+pub(crate) struct Handle {
+    at: *mut c_void,
+}
+
+impl Handle {
+    /// An empty handle, for a call to fill.
+    pub(crate) const EMPTY: Handle = Handle { at: ptr::null_mut() };
+
+    /// Takes the handle out, and leaves an empty one.
+    pub(crate) fn take(&mut self) -> Handle {
+        std::mem::replace(self, Handle::EMPTY)
+    }
+
+    pub(crate) fn is_empty(&self) -> bool {
+        self.at.is_null()
+    }
+}
+
+#[repr(C)]
+#[derive(Clone, Copy)]
+pub(crate) struct RawOperation {
+    pub(crate) kind: u64,
+    pub(crate) key: u64,
+    pub(crate) pointer: u64,
+}
+
+#[repr(C)]
+#[derive(Clone, Copy)]
+pub(crate) struct RawAnswer {
+    pub(crate) kind: u64,
+    pub(crate) pointer: u64,
+}
+
+impl RawAnswer {
+    pub(crate) const NONE: RawAnswer = RawAnswer { kind: 0, pointer: 0 };
+}
+
+pub(crate) const BATCH_LIMIT: usize = 8192;
+
+extern "C" {
+    pub(crate) fn blink_index_new(fan: u8, out: *mut Handle) -> u8;
+    pub(crate) fn blink_index_from_entries(fan: u8, entries: *const crate::Entry, count: usize, out: *mut Handle) -> u8;
+    pub(crate) fn blink_index_copy(index: *mut Handle, out: *mut Handle) -> u8;
+    pub(crate) fn blink_index_run(
+        index: *mut Handle,
+        operations: *const RawOperation,
+        count: usize,
+        answers: *mut RawAnswer,
+        places: usize,
+    ) -> u8;
+    pub(crate) fn blink_index_find(index: *mut Handle, key: u64, pointer: *mut u64) -> bool;
+    pub(crate) fn blink_index_find_many(
+        index: *mut Handle,
+        keys: *const u64,
+        count: usize,
+        answers: *mut RawAnswer,
+        places: usize,
+    ) -> u8;
+    pub(crate) fn blink_index_page(
+        index: *mut Handle,
+        lo: u64,
+        n: u64,
+        entries: *mut crate::Entry,
+        places: usize,
+        fitted: *mut usize,
+    ) -> usize;
+    pub(crate) fn blink_index_scan(
+        index: *mut Handle,
+        lo: u64,
+        hi: u64,
+        entries: *mut crate::Entry,
+        places: usize,
+        fitted: *mut usize,
+    ) -> usize;
+    pub(crate) fn blink_index_len(index: *mut Handle) -> usize;
+    pub(crate) fn blink_index_pages(index: *mut Handle) -> u32;
+    pub(crate) fn blink_index_fan(index: *mut Handle) -> u8;
+    pub(crate) fn blink_index_dump(index: *mut Handle, text: *mut u8, places: usize, bytes: *mut usize) -> u8;
+    pub(crate) fn blink_index_free(index: Handle);
+
+    pub(crate) fn blink_table_open(index: *mut Handle, inserts: u32, deletes: u32, number: u64, out: *mut Handle) -> u8;
+    pub(crate) fn blink_table_deal(
+        table: *mut Handle,
+        keys: *const u64,
+        count: usize,
+        inserts: u32,
+        deletes: u32,
+        out: *mut Handle,
+        taken: *mut u64,
+    ) -> u8;
+    pub(crate) fn blink_table_return(table: *mut Handle, pass: *mut Handle) -> u8;
+    pub(crate) fn blink_table_close(table: Handle, out: *mut Handle) -> u8;
+    pub(crate) fn blink_table_free(table: Handle);
+
+    pub(crate) fn blink_pass_find(pass: *mut Handle, key: u64, answer: *mut RawAnswer) -> u8;
+    pub(crate) fn blink_pass_glance(pass: *mut Handle, key: u64, answer: *mut RawAnswer) -> u8;
+    pub(crate) fn blink_pass_tell(from: *mut Handle, to: *mut Handle) -> u8;
+    pub(crate) fn blink_pass_begin_insert(pass: *mut Handle, key: u64, pointer: u64) -> u8;
+    pub(crate) fn blink_pass_begin_delete(pass: *mut Handle, key: u64) -> u8;
+    pub(crate) fn blink_pass_begin_replace(pass: *mut Handle, key: u64, pointer: u64) -> u8;
+    pub(crate) fn blink_pass_advance(pass: *mut Handle, tries: u32, answer: *mut RawAnswer) -> u8;
+    pub(crate) fn blink_pass_free(pass: Handle);
+}

@@ -1,0 +1,91 @@
+//! The index beside `BTreeMap`, on 1,000,000 random operations.
+
+use blink::{Answer, Entry, Index, Op};
+use std::collections::btree_map::{BTreeMap, Entry as Slot};
+
+// SplitMix64.
+fn next(state: &mut u64) -> u64 {
+    *state = state.wrapping_add(0x9e37_79b9_7f4a_7c15);
+    let mut z = *state;
+    z = (z ^ (z >> 30)).wrapping_mul(0xbf58_476d_1ce4_e5b9);
+    z = (z ^ (z >> 27)).wrapping_mul(0x94d0_49bb_1331_11eb);
+    z ^ (z >> 31)
+}
+
+fn answer(map: &mut BTreeMap<u64, u64>, op: Op) -> Answer {
+    match op {
+        Op::Find(key) => map.get(&key).map_or(Answer::Absent, |pointer| Answer::Found(*pointer)),
+        Op::Insert(key, pointer) => match map.entry(key) {
+            Slot::Occupied(slot) => Answer::Exists(*slot.get()),
+            Slot::Vacant(slot) => {
+                slot.insert(pointer);
+                Answer::Inserted
+            }
+        },
+        Op::Delete(key) => map.remove(&key).map_or(Answer::Absent, Answer::Removed),
+        Op::Replace(key, pointer) => match map.get_mut(&key) {
+            Some(slot) => Answer::Replaced(std::mem::replace(slot, pointer)),
+            None => Answer::Absent,
+        },
+    }
+}
+
+fn operation(state: &mut u64, keys: u64) -> Op {
+    let key = match next(state) % 50 {
+        // the ends of the range of keys
+        0 => u64::MAX,
+        1 => 0,
+        _ => next(state) % keys,
+    };
+    match next(state) % 8 {
+        0..=2 => Op::Insert(key, next(state)),
+        3 | 4 => Op::Find(key),
+        5 | 6 => Op::Delete(key),
+        _ => Op::Replace(key, next(state)),
+    }
+}
+
+fn same_entries(index: &Index, map: &BTreeMap<u64, u64>) {
+    assert!(index.scan(..).eq(map.iter().map(|(&key, &pointer)| Entry { key, pointer })));
+    assert_eq!(index.len(), map.len());
+}
+
+#[test]
+fn a_million_operations_are_those_of_a_btree_map() {
+    let mut state = 1;
+    for (fan, keys, parts) in [(4, 300, 20), (16, 40_000, 30), (32, u64::MAX, 50)] {
+        let mut index = Index::new(fan).unwrap();
+        let mut map = BTreeMap::new();
+        for _ in 0..parts {
+            let ops: Vec<Op> = (0..10_000).map(|_| operation(&mut state, keys)).collect();
+            let expected: Vec<Answer> = ops.iter().map(|&op| answer(&mut map, op)).collect();
+            assert_eq!(index.run(&ops).unwrap(), expected);
+            let (a, b) = (next(&mut state) % keys, next(&mut state) % keys);
+            let (lo, hi) = (a.min(b), a.max(b));
+            assert!(index.scan(lo..hi).map(|e| e.key).eq(map.range(lo..hi).map(|(key, _)| *key)));
+            assert_eq!(index.count(lo, hi), map.range(lo..=hi).count());
+            assert_eq!(index.find(a), map.get(&a).copied());
+        }
+        same_entries(&index, &map);
+        let entries: Vec<Entry> = index.scan(..).collect();
+        let shuffled: Vec<Entry> = entries.iter().rev().copied().collect();
+        same_entries(&Index::from_entries(fan, &entries).unwrap(), &map);
+        same_entries(&Index::from_entries(fan, &shuffled).unwrap(), &map);
+        same_entries(&index.try_clone().unwrap(), &map);
+    }
+}
+
+#[test]
+fn scans_at_the_ends_of_the_keys() {
+    let index = Index::from_entries(4, &[(0, 1), (u64::MAX, 2)].map(Entry::from)).unwrap();
+    assert_eq!(index.scan(..).count(), 2);
+    assert_eq!(index.scan(1..).count(), 1);
+    assert_eq!(index.scan(..u64::MAX).count(), 1);
+    assert_eq!(index.scan(..=u64::MAX).count(), 2);
+    assert_eq!(index.scan(0..0).count(), 0);
+    assert_eq!(index.scan((std::ops::Bound::Excluded(u64::MAX), std::ops::Bound::Unbounded)).count(), 0);
+    #[allow(clippy::reversed_empty_ranges)]
+    let backwards = 5..2;
+    assert_eq!(index.scan(backwards).count(), 0);
+    assert_eq!(format!("{index:?}"), "{0: 1, 18446744073709551615: 2}");
+}
