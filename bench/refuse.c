@@ -2,7 +2,8 @@
 // in the environment's REFUSED, among those of the call whose name stands in REFUSED_CALL. The program tells on standard
 // output where a call begins, by the line "call NAME", and where it has ended, by the line "back". What it asks for in
 // between is counted, by all its threads: a block of memory, also where the C library asks for it, as for a new thread, and
-// the start of a thread, which takes a stack. Of calls with one name the numbers go on.
+// the start of a thread, which takes a stack. Of calls with one name the numbers go on. Where REFUSED_CALL is "all", everything
+// that the program asks for is one call of that name.
 //
 // As the program ends, it tells on standard error how many requests the calls of each name have made, a line "NUMBER NAME"
 // each, and by a last line "refused" that one was refused.
@@ -39,11 +40,28 @@ static long refused;
 static atomic_int was_refused;
 static start_thread *next_start;
 
+// The call of this name, where there is room for one more.
+static struct call *call_of(const char *name, size_t length) {
+    for (int i = 0; i < known; i++) {
+        if (strlen(calls[i].name) == length && memcmp(calls[i].name, name, length) == 0) {
+            return &calls[i];
+        }
+    }
+    if (known == NAMES || length >= LENGTH) {
+        abort();
+    }
+    memcpy(calls[known].name, name, length);
+    return &calls[known++];
+}
+
 __attribute__((constructor)) static void begin(void) {
     const char *number = getenv("REFUSED");
     refused = number == NULL ? 0 : atol(number);
     refused_call = getenv("REFUSED_CALL");
     next_start = (start_thread *)dlsym(RTLD_NEXT, "pthread_create");
+    if (refused_call != NULL && strcmp(refused_call, "all") == 0) {
+        atomic_store(&under_way, call_of("all", 3));
+    }
 }
 
 // Whether this request is the one.
@@ -82,20 +100,6 @@ void *realloc(void *block, size_t size) {
 
 int pthread_create(pthread_t *thread, const pthread_attr_t *attributes, void *(*run)(void *), void *with) {
     return is_refused() ? EAGAIN : next_start(thread, attributes, run, with);
-}
-
-// The call of this name, where there is room for one more.
-static struct call *call_of(const char *name, size_t length) {
-    for (int i = 0; i < known; i++) {
-        if (strlen(calls[i].name) == length && memcmp(calls[i].name, name, length) == 0) {
-            return &calls[i];
-        }
-    }
-    if (known == NAMES || length >= LENGTH) {
-        abort();
-    }
-    memcpy(calls[known].name, name, length);
-    return &calls[known++];
 }
 
 // What the program writes, read for the lines that tell of a call. A line is written at once.

@@ -25,11 +25,7 @@ trap 'exit 1' HUP INT TERM
 cd "$work"
 cc -shared -fPIC -O2 -o refuse.so "$here/refuse.c"
 cp -R "$repository/HANDLES" "$repository/crates.txt" "$repository/crates" .
-echo 'refusals: anyhow blink_batch blink_index blink_live blink_rest blink_rows blink_run blink_steps' >>crates.txt
-mkdir -p crates/refusals/src
-for file in "$here"/refuse/*.rt.txt; do
-    cp "$file" "crates/refusals/src/$(basename "$file" .txt)"
-done
+sh "$here/refuse/crate.sh" "$here/refuse" .
 tests=crates/refusals/out/refusals_tests
 if ! (cd crates/refusals && rt test >tests.log 2>&1); then
     cat crates/refusals/tests.log >&2

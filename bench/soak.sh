@@ -32,7 +32,7 @@ trap 'exit 1' HUP INT TERM
 cd "$work"
 mkdir -p crates/soak/src crates/soak/proofs/tables/carried_out
 cp "$repository/HANDLES" .
-for name in blink_batch blink_page blink_store blink_rest blink_machine blink_steps blink_rows blink_index blink_live blink_settings blink_locked blink_run; do
+for name in blink_batch blink_page blink_store blink_rest blink_machine blink_steps blink_rows blink_index blink_live blink_settings blink_locked blink_replay blink_run; do
     cp -R "$repository/crates/$name" crates
     grep "^$name[ :]" "$repository/crates.txt" >>crates.txt
 done
