@@ -1,14 +1,31 @@
-pub mod Codes
+-- What a reader of `blink_c`'s exports reads, in this order; then the files themselves. No crate stands on it: its callers are C and
+-- Rust programs.
+
+-- entries, operations and answers as structs of numbers
+pub use Rattle.blink_c.specs.Raw.{AreOperations, insertion_of, op_of, raw_answer, raw_entry, raw_given, raw_shown}
+-- a batch that one thread runs over an index, an index made of entries, and why they are refused
+pub use Rattle.blink_c.specs.Runs.{HasEntriesOf, HasRun, IsMakeRefusal, IsRunRefusal}
+-- what the look-ups give, and the caller's arrays after a scan, a page or a dump
+pub use Rattle.blink_c.specs.Found.{found_answer, pointer_or}
+pub use Rattle.blink_c.specs.Filled.{overlaid, put_if_fits}
+-- a table behind a handle: what the calls make of it, and why they are refused
+pub use Rattle.blink_c.specs.Tables.{DealsTo, IsNewTable, IsOwnTable, IsReturnRefusal, TakesBack, TellsDealFault, TellsOpenFault}
+-- a pass behind a handle likewise
+pub use Rattle.blink_c.specs.Passes.{Begins, Ends, Finds, Glances, IsAdvanceRefusal, IsBeginRefusal, IsFindRefusal, IsOwn, IsTellRefusal, TellsOn}
+-- ---- the files
 pub mod Raw
+pub mod Runs
 pub mod Found
 pub mod Filled
-pub mod Runs
+pub mod Tables
+pub mod Passes
+-- the codes of refusals
+pub mod Codes
+pub mod TableCodes
+-- what each handle owns, and what it is once what it lent comes back
 pub mod IndexOwned
 pub mod IndexLending
-pub mod TableCodes
-pub mod Passes
-pub mod PassOwned
-pub mod PassLending
-pub mod Tables
 pub mod TableOwned
 pub mod TableLending
+pub mod PassOwned
+pub mod PassLending
