@@ -104,7 +104,8 @@ impl Live {
         pages: u64,
     ) -> Seat<u8, View>
         requires same_table { seat.old.table_id ≡ self.now.table.shared.table_id }
-        requires picked { (keys.now ≡ B.keys) × (taken.now ≡ B.taken) × (rows ≡ B.rows) × (pages ≡ B.pages) }
+        requires picked { (keys.now ≡ B.keys) × (taken.now ≡ B.taken)
+            × (rows ≡ B.rows) × (pages ≡ B.pages) }
         requires can { CanDeal seat.old.me.0 rows pages keys.now taken.now }
         ensures left { HasSameNumber seat.old seat.new
             × (seat.new.me ≡ (keeps_rest seat.old.me.0 rows pages taken.now, seat.old.me.1)) }

@@ -65,6 +65,14 @@ KeptAt m (Leave page next) = KeptForNext m next
 KeptAt m Posting = IsParent m.job
 KeptAt m Ended = Unit {0}
 
+-- the next step is the first write of a split of this page
+abbrev pub IsToHalve : PlainMachine → ℕ → Type 0
+IsToHalve m page = (before : PlainPage) × (m.state ≡ SplitNew page before)
+
+-- the next step is the write of a root over this page
+abbrev pub IsToRoot : PlainMachine → ℕ → Type 0
+IsToRoot m page = (debt : Debt) × (prime : List ℕ) × (m.state ≡ Root page debt prime)
+
 pub record IsMachine (m : PlainMachine) : Type 0 where
   pub fan_in_range : IsFan m.fan
   pub at_its_job : KeptJob m.job

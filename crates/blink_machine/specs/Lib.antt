@@ -3,7 +3,7 @@
 -- one operation on a tree: what it remembers, the state that it is in, and the step that it needs next
 pub use Rattle.blink_machine.specs.Machine.{NeedsLatch, NeedsNew, NeedsPage, NeedsPrime, NeedsPrimeWrite, NeedsUnlatch, NeedsWrite, PlainMachine, at_state, fresh, level_read, need_at, target}
 -- the table of states: what an operation makes of what it reads, what it writes, and its state afterwards
-pub use Rattle.blink_machine.specs.Table.{IsTopLeftmost, IsUpdate, PrimeOut, SeesOnItsWay, SeesPage, SeesPrime, WaitsForLevel, done, page_out}
+pub use Rattle.blink_machine.specs.Table.{IsTopLeftmost, IsUpdate, PrimeOut, SeesOnItsWay, SeesPage, SeesPrime, SeesTop, WaitsForLevel, done, page_out}
 -- the kinds of a step, under names that no other enum has
 pub use Rattle.blink_machine.specs.Kinds.{has_moved, is_page_read, is_page_write, is_prime_write, latch, moved_by, read_page, read_prime, unlatch, write_page, write_prime, writes_new_page}
 -- a state of a tree that workers change, and one atomic step of a worker

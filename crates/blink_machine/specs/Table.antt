@@ -32,6 +32,10 @@ pub data SeesPrime (m : PlainMachine) (prime : List ℕ) (after : PlainMachine) 
   finds_leftmost : (debt : Debt) (leftmost : ℕ) → m.state ≡ Posting → m.job ≡ Parent debt → slice_get prime (debt.level + 1) ≡ Some leftmost
       → after ≡ at_state m (Want leftmost) → SeesPrime m prime after
 
+-- the top level and its leftmost page are all that a beginning needs of the prime block
+abbrev pub SeesTop : PlainMachine → ℕ → ℕ → PlainMachine → Type 0
+SeesTop m level page after = (prime : List ℕ) → IsTopLeftmost prime level page → SeesPrime m prime after
+
 -- the level that the operation posts to isn't there yet
 pub record WaitsForLevel (m : PlainMachine) (prime : List ℕ) : Type 0 where
   pub debt : Debt

@@ -11,7 +11,7 @@ pub use Rattle.blink_replay.specs.Trace.{turn_line}
 -- the lines of a scan or a page
 pub use Rattle.blink_replay.specs.Text.{scan_text}
 -- the calls of a writer: a text is written piece by piece, and the first call that fails is the last
-pub use Rattle.blink_replay.specs.TrackedWriter.{Writes, WritesAll, WritesPrefix, nothing}
+pub use Rattle.blink_replay.specs.TrackedWriter.{OutputFails, Writes, WritesAll, WritesPrefix, nothing, replay_text}
 -- ---- for contracts and proofs above
 pub use Rattle.blink_replay.specs.Served.{FlushedOutputAfterError, IsBatchFault, IsPartFault, IsTextBeforeBatch, IsTextOfPrefix, PartOutputAfterError, PrefixOutputAfterError, part_after, part_text, script_text}
 -- ---- the files

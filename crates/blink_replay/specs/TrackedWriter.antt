@@ -1,6 +1,8 @@
 -- The calls of a writer: a text is written piece by piece, and the first call that fails is the last.
 use Rattle.std.specs.Prelude.{ℕ, ◌≡◌, ◌<◌, Bool, true, false, List, [], ◌++◌, Option, Some, None, length, take}
 use Rattle.std.specs.Io.KnownBytes.{Appends, Keeps}
+use Rattle.blink_settings.specs.declared.error.ServeError.{ServeError}
+use Rattle.blink_settings.specs.declared.error.ServeError.TheVariants as serve
 
 -- bytes are offered to a writer: if its bytes are known, they grow by those that it takes, and stay as they are if it fails
 abbrev pub TakesOffered : {W : Type 0} → (W → Option (List ℕ)) → W → List ℕ → Option ℕ → W → Type 0
@@ -31,6 +33,14 @@ pub record WritesPrefix {O : Type 0} (offered : O → List ℕ → Option ℕ �
   pub between : O
   pub all_written : WritesAll offered before prefix between
   pub failed : Fails offered settled between after
+
+-- the error is that of the output, and a prefix of the text was written
+abbrev pub OutputFails : {O : Type 0} → (O → List ℕ → Option ℕ → O → Type 0) → (O → Bool → O → Type 0) → O → List ℕ → ServeError → O → Type 0
+OutputFails offered settled before text error after = (error ≡ serve.Output) × WritesPrefix offered settled before text after
+
+-- what a replay writes: its trace, the text of its parts, and its pages
+abbrev pub replay_text : List ℕ → List ℕ → List ℕ → List ℕ
+replay_text trace text pages = trace ++ (text ++ pages)
 
 -- the whole text is written, and flushed
 pub record Writes {O : Type 0} (offered : O → List ℕ → Option ℕ → O → Type 0) (settled : O → Bool → O → Type 0) (before : O) (text : List ℕ) (after : O) : Type 0 where

@@ -4,7 +4,7 @@ ghost use Rattle.blink_batch.specs.{IsLawfulCut, MayWork, answers, map_after_all
 ghost use Rattle.blink_index.specs.{map_of};
 ghost use Rattle.blink_steps.specs.{IsFirstNoWorker, IsStart};
 ghost use Rattle.blink_store.specs.{new_store};
-ghost use Rattle.blink_replay.specs.TrackedWriter.{WritesPrefix, Writes, WritesAll};
+ghost use Rattle.blink_replay.specs.TrackedWriter.{OutputFails, Writes, WritesAll, replay_text};
 ghost use Rattle.blink_replay.specs.Replay.{IsRefusedMemory, IsReplayFault, TellsBatch, TellsRun, by_residue};
 ghost use Rattle.blink_replay.specs.Served.{is_batch, part_after, part_text, script_text};
 ghost use Rattle.blink_settings.specs.{lanes_by_residue};
@@ -95,7 +95,7 @@ fn replay_read<R: Read>(
     requires none_yet { (string_bytes texts.old.trace ≡ []) × (string_bytes texts.old.text ≡ []) }
     ensures texts { IfOk result (λ pages. AreToWrite settings.now.workers settings.now.fan schedule.now
         (R.remaining reader.old)
-        (string_bytes texts.new.trace ++ (string_bytes texts.new.text ++ string_bytes pages))) }
+        (replay_text (string_bytes texts.new.trace) (string_bytes texts.new.text) (string_bytes pages))) }
     ensures fault { IfErr result (TellsWorkersFault (R.remaining reader.old)) }
     ensures too_large { IfErr result
         (TellsReplayOf settings.now.workers settings.now.fan (R.remaining reader.old)) }
@@ -137,10 +137,10 @@ pub fn write_replay<O: TrackedWriter>(
     text: &str,
     pages: &str,
 ) -> Result<(), ServeError>
-    ensures written { OnOk result
-        (Writes O.offered O.settled tracked_writer.old (trace.now ++ (text.now ++ pages.now)) tracked_writer.new) }
-    ensures broken_off { IfErr result (λ error. (error ≡ ServeError.Output) × WritesPrefix O.offered O.settled
-        tracked_writer.old (trace.now ++ (text.now ++ pages.now)) tracked_writer.new) }
+    ensures written { OnOk result (Writes O.offered O.settled tracked_writer.old
+        (replay_text trace.now text.now pages.now) tracked_writer.new) }
+    ensures broken_off { IfErr result (λ error. OutputFails O.offered O.settled tracked_writer.old
+        (replay_text trace.now text.now pages.now) error tracked_writer.new) }
 {
     write_out(tracked_writer, trace)?;
     write_out(tracked_writer, text)?;

@@ -1,6 +1,6 @@
 //! What texts are written to, call by call.
 ghost use Rattle.std.specs.Prelude.{◌≡◌, ℕ, ◌≤◌, Bool, true, false, List, Option, length, IfErr, IfSome, OnOk};
-ghost use Rattle.blink_replay.specs.TrackedWriter.{WritesPrefix, WritesAll};
+ghost use Rattle.blink_replay.specs.TrackedWriter.{OutputFails, WritesAll};
 
 use blink_settings::ServeError;
 use std::io::Write;
@@ -43,8 +43,8 @@ impl<W: Write> TrackedWriter for W {
 /// Writes the whole text. The first call of the writer that fails, or takes nothing, is the last.
 pub fn write_out<O: TrackedWriter>(tracked_writer: &mut O, text: &str) -> Result<(), ServeError>
     ensures written { OnOk result (WritesAll O.offered tracked_writer.old text.now tracked_writer.new) }
-    ensures broken_off { IfErr result (λ error. (error ≡ ServeError.Output)
-        × WritesPrefix O.offered O.settled tracked_writer.old text.now tracked_writer.new) }
+    ensures broken_off { IfErr result (λ error.
+        OutputFails O.offered O.settled tracked_writer.old text.now error tracked_writer.new) }
 {
     let mut rest = text.as_bytes();
     while !rest.is_empty() {

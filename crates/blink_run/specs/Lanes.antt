@@ -4,7 +4,7 @@ use Rattle.blink_batch.specs.declared.Answer.{Answer}
 use Rattle.blink_batch.specs.declared.Entry.{Entry}
 use Rattle.blink_batch.specs.declared.Op.{Op}
 use Rattle.blink_batch.specs.declared.Op.TheVariants.{Find, Insert}
-use Rattle.blink_batch.specs.{is_insert, answers, key_of, map_after, map_after_all, lane_of, operations_at, part_of, places_from, pointer_of}
+use Rattle.blink_batch.specs.{Assignment, is_insert, answers, key_of, map_after, map_after_all, lane_of, operations_at, part_of, places_from, pointer_of}
 use Rattle.blink_live.specs.declared.Keeper.{Keeper}
 use Rattle.blink_live.specs.declared.Live.{Live}
 use Rattle.blink_live.specs.declared.Pass.{Pass}
@@ -114,6 +114,10 @@ pub record MayRunAll (live : Live) (ops : List Op) (workers : ℕ) (lanes : List
 pub record HaveRun (live : Live) (ops : List Op) (workers : ℕ) (lanes : List ℕ) (runs : List LaneRun) : Type 0 where
   pub as_many : length runs ≡ workers
   pub each : (worker : ℕ) (run : LaneRun) → slice_get runs worker ≡ Some run → HasRun live (lane_ops ops lanes worker) run
+
+-- the runs of an assignment's workers on its lanes have ended
+abbrev pub HaveRunBy : Live → List Op → Assignment → List LaneRun → Type 0
+HaveRunBy live ops cut runs = HaveRun live ops cut.workers cut.lanes runs
 
 -- each place has the answer that its lane's run has for it
 pub record AreGathered (lanes : List ℕ) (runs : List LaneRun) (given : List Answer) : Type 0 where

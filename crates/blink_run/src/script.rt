@@ -58,11 +58,13 @@ fn serve_script<T: Threads + Wait + Sync, O: TrackedWriter, G: Gate + Sync>(
     gate: &G,
 ) -> Result<(), ServeError>
     ensures served { OnOk result
-        (Writes O.offered O.settled tracked_writer.old (script_text (map_of index.old) parts.now) tracked_writer.new) }
+        (Writes O.offered O.settled tracked_writer.old
+        (script_text (map_of index.old) parts.now) tracked_writer.new) }
     ensures by_settings { OnOk result (RunsPartsBy settings.now index.old parts.now index.new) }
     ensures not_run { IfErr result (TellsRun settings.now index.old parts.now) }
     ensures left { IfErr result (λ error.
-        FlushedOutputAfterError O.offered O.settled (map_of index.old) parts.now error tracked_writer.old tracked_writer.new) }
+        FlushedOutputAfterError O.offered O.settled (map_of index.old) parts.now error
+        tracked_writer.old tracked_writer.new) }
 {
     let outcome = serve_parts(rt, alloc, parts, index, tracked_writer, settings, gate);
     if outcome == Err(ServeError::Output) {
@@ -83,11 +85,13 @@ fn serve_parts<T: Threads + Wait + Sync, O: TrackedWriter, G: Gate + Sync>(
     gate: &G,
 ) -> Result<(), ServeError>
     ensures served { OnOk result
-        (WritesAll O.offered tracked_writer.old (script_text (map_of index.old) parts.now) tracked_writer.new) }
+        (WritesAll O.offered tracked_writer.old
+        (script_text (map_of index.old) parts.now) tracked_writer.new) }
     ensures by_settings { OnOk result (RunsPartsBy settings.now index.old parts.now index.new) }
     ensures not_run { IfErr result (TellsRun settings.now index.old parts.now) }
     ensures left { IfErr result (λ error.
-        PrefixOutputAfterError O.offered O.settled (map_of index.old) parts.now error tracked_writer.old tracked_writer.new) }
+        PrefixOutputAfterError O.offered O.settled (map_of index.old) parts.now error
+        tracked_writer.old tracked_writer.new) }
 {
     let mut batches = 0u64;
     for part in parts {

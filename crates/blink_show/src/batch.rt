@@ -29,7 +29,8 @@ pub(crate) fn show_batch(
     requires allowed { MayWork workers }
     requires workers { AreOfWorkers workers turns }
     ensures shown { OnOk result
-        (AddsBatch workers (ShowsAsked turns.entry) index batch (string_bytes text.old) (string_bytes text.new)) }
+        (AddsBatch workers (ShowsAsked turns.entry) index batch
+        (string_bytes text.old) (string_bytes text.new)) }
     ensures refused { IfErr result IsPartsFault }
 {
     push_ops(text, batch.ops(), workers)?;

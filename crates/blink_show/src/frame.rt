@@ -69,7 +69,8 @@ fn push_unless_same(
     line: &String,
 ) -> Result<(), AllocError>
     ensures { OnOk result (string_bytes text.new ≡ string_bytes text.old
-        ++ unless_same (option_map (λ before. string_bytes before.now) before.entry) (Some (string_bytes line.now))) }
+        ++ unless_same (option_map (λ before. string_bytes before.now) before.entry)
+        (Some (string_bytes line.now))) }
 {
     match before {
         Some(before) if before.as_str() == line.as_str() => Ok(()),

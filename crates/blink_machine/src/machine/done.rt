@@ -1,9 +1,9 @@
 //! The state of an operation after a step that gives it no more than that the step is done.
-ghost use Rattle.std.specs.Prelude.{◌≡◌, ℕ, List};
-ghost use Rattle.blink_page.specs.{IsPageNumber, PlainPage};
+ghost use Rattle.std.specs.Prelude.{◌≡◌};
+ghost use Rattle.blink_page.specs.{IsPageNumber};
 ghost use Rattle.blink_machine.specs.Machine.{NeedsNew, at_state};
 ghost use Rattle.blink_machine.specs.Table.{done, decided_with, leaves_for, sets_out};
-ghost use Rattle.blink_machine.specs.Kept.{KeptForNext, IsPostable};
+ghost use Rattle.blink_machine.specs.Kept.{KeptForNext, IsPostable, IsToHalve, IsToRoot};
 ghost use Rattle.blink_machine.specs.Needs.{NeedsNoRead};
 
 use super::{Debt, Job, Machine, Next, State};
@@ -59,7 +59,7 @@ impl Machine {
     // debt to the level above. The function is out of line, so that only a split clears room for two pages.
     #[inline(never)]
     fn halve(&mut self, page: u32, new: u32)
-        requires state { (before : PlainPage) × (self.old.state ≡ State.SplitNew page before) }
+        requires state { IsToHalve self.old page }
         requires new_number { IsPageNumber new }
         ensures { self.new ≡ done self.old new }
     {
@@ -87,7 +87,7 @@ impl Machine {
     // Goes on after the write of the new root as page `new`. The function is out of line, as `halve` is.
     #[inline(never)]
     fn name_root(&mut self, page: u32, new: u32)
-        requires state { (debt : Debt) × (prime : List ℕ) × (self.old.state ≡ State.Root page debt prime) }
+        requires state { IsToRoot self.old page }
         requires new_number { IsPageNumber new }
         ensures { self.new ≡ done self.old new }
     {

@@ -7,7 +7,7 @@ ghost use Rattle.blink_machine.specs.Machine.{NeedsPrime, NeedsPage, level_of, l
 ghost use Rattle.blink_batch.specs.declared.Op.TheVariants.{Find};
 ghost use Rattle.blink_page.specs.declared.search.Way.TheVariants.{Here};
 ghost use Rattle.blink_machine.specs.OnTheWay.{IsOnItsWay, TellsWay};
-ghost use Rattle.blink_machine.specs.Table.{SeesPrime, WaitsForLevel, SeesPage, SeesOnItsWay, SeesUnderLatch, IsTopLeftmost};
+ghost use Rattle.blink_machine.specs.Table.{SeesPrime, SeesTop, WaitsForLevel, SeesPage, SeesOnItsWay, SeesUnderLatch};
 ghost use Rattle.blink_machine.specs.Needs.{NeedsSomePage};
 
 use super::{Debt, Job, Machine, Next, State};
@@ -48,7 +48,7 @@ impl Machine {
     pub fn saw_top(&mut self, level: u8, page: u32)
         requires state { self.old.state ≡ State.Start }
         requires few_levels { level + 1 < LEVELS }
-        ensures { (prime : List ℕ) → IsTopLeftmost prime level page → SeesPrime self.old prime self.new }
+        ensures { SeesTop self.old level page self.new }
     {
         self.remembered = Remembered::new();
         self.state = State::Going(page, level);

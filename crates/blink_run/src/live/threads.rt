@@ -1,7 +1,7 @@
 //! The threads of the lanes, one for each.
 ghost use Rattle.std.specs.Prelude.{◌≡◌, ◌≤◌, [], length, vec_capacity, vec_len, IfErr, IfOk, OnOk};
 ghost use Rattle.std.specs.List.{AllZip};
-ghost use Rattle.blink_run.specs.Lanes.{HasRun, HaveRun, MayRun, MayRunAll, lane_ops, with_worker};
+ghost use Rattle.blink_run.specs.Lanes.{HasRun, HaveRun, HaveRunBy, MayRun, MayRunAll, lane_ops, with_worker};
 ghost use Rattle.blink_locked.specs.{AtEach, IsStartRefusal, TellsNext};
 
 use crate::live::lane::LaneRun;
@@ -41,7 +41,7 @@ pub(crate) fn run_all<R: Threads + Wait + Sync, G: Gate + Sync>(
 ) -> Result<Vec<LaneRun>, RunError>
     requires a_lane_each { length cut.now.lanes ≡ length batch.now }
     requires may { MayRunAll live.now batch.now cut.now.workers cut.now.lanes runs.items }
-    ensures ended { IfOk result (λ ended. HaveRun live.now batch.now cut.now.workers cut.now.lanes ended.items) }
+    ensures ended { IfOk result (λ ended. HaveRunBy live.now batch.now cut.now ended.items) }
     ensures refused { IfErr result (IsStartRefusal cut.now.workers) }
 {
     let lanes = cut.lanes();
@@ -52,7 +52,8 @@ pub(crate) fn run_all<R: Threads + Wait + Sync, G: Gate + Sync>(
         move |scope| -> Result<Vec<LaneRun>, RunError>
             requires a_lane_each { length lanes.now ≡ length batch.now }
             requires may { MayRunAll live.now batch.now workers lanes.now runs.items }
-            ensures ended { IfOk result (λ ended. HaveRun live.entry.now batch.entry.now workers lanes.entry.now ended.items) }
+            ensures ended { IfOk result (λ ended.
+                HaveRun live.entry.now batch.entry.now workers lanes.entry.now ended.items) }
             ensures refused { IfErr result (IsStartRefusal workers) }
         {
             let Ok(mut handles) = Vec::with_capacity(alloc, usize::from(workers)) else {
