@@ -1,7 +1,7 @@
 #!/bin/sh
 # Looks whether the documents say what is there: links and their anchors, paths, must-fail edits and names in backticks; that CHANGING.md
-# lists each edit; that no old word stands in them; and that they have fewer words than an engineer reads in an evening. It prints a line
-# for each finding and exits 1, or prints nothing and exits 0. A new old word goes to `old`.
+# lists each edit, and BELIEVE.md quotes the sources; that no old word stands in them; and that they have fewer words than an engineer reads
+# in an evening. It prints a line for each finding and exits 1, or prints nothing and exits 0. A new old word goes to `old`.
 LC_ALL=C
 export LC_ALL
 cd "$(dirname "$0")/.." || exit 1
@@ -113,6 +113,14 @@ while IFS=: read -r page line text; do
             ;;
     esac
 done <"$work/quoted" >>"$work/found"
+
+# Quotes: each line of a text block stands in some specs/ or src/, but for blanks at its ends.
+grep -E '^crates/[^/]*/(specs|src)/' "$work/files" | tr '\n' '\0' | xargs -0 cat >"$work/sources"
+awk -v sources="$work/sources" '
+    function bare(line) { sub(/^[ \t]+/, "", line); sub(/[ \t]+$/, "", line); return line }
+    BEGIN { while ((getline line < sources) > 0) known[bare(line)] = 1 }
+    /^```/ { quotes = $0 == "```text"; next }
+    quotes && NF && !(bare($0) in known) { print FILENAME ":" FNR ": not in the sources: " bare($0) }' docs/BELIEVE.md >>"$work/found"
 
 for edit in crates/*/must-fail/*.edit; do
     name=${edit##*/}
