@@ -1,13 +1,13 @@
--- What the code of a call tells.
-use Rattle.std.proofs.Common.{◌≡◌, ℕ, Result, Ok, Err, OnOk, sym, ◌∙◌, arith}
+-- The codes of the refusals of a table or a pass.
+use Rattle.std.proofs.Common.{◌≡◌, arith}
 use Rattle.blink_live.specs.declared.error.LiveError.TheVariants as live
 use Rattle.blink_live.specs.declared.error.PassError.TheVariants as pass
 use Rattle.blink_c.specs.declared.table_refusal.TableRefusal.{TableRefusal}
 use Rattle.blink_c.specs.declared.table_refusal.TableRefusal.TheVariants.{Live, Pass, Foreign, UnderWay, Idle, Returned}
-use Rattle.blink_c.specs.TableCodes.{code_of, code_of_outcome}
+use Rattle.blink_c.specs.TableCodes.{code_of}
 
 -- no refusal has the code of a call that isn't refused
-not_done : (refusal : TableRefusal) → code_of refusal ≡ 0 → ⊥
+pub not_done : (refusal : TableRefusal) → code_of refusal ≡ 0 → ⊥
 not_done (Live live.OutOfMemory) is = omega (arith, is)
 not_done (Live (live.Taken key)) is = omega (arith, is)
 not_done (Live live.NoAllowance) is = omega (arith, is)
@@ -20,8 +20,3 @@ not_done Foreign is = omega (arith, is)
 not_done UnderWay is = omega (arith, is)
 not_done Idle is = omega (arith, is)
 not_done Returned is = omega (arith, is)
-
--- so code 0 tells what holds of a call that isn't refused
-pub on_done : {P : Type 0} (outcome : Result (Unit {0}) TableRefusal) (code : ℕ) → code ≡ code_of_outcome outcome → OnOk outcome P → code ≡ 0 → P
-on_done (Ok done) code is holds zero = holds
-on_done (Err refusal) code is holds zero = absurd (not_done refusal (sym is ∙ zero))

@@ -1,6 +1,7 @@
 pub mod IndexAsBox
 pub mod FanStays
 pub mod RunOfBatch
+pub mod RunRefusals
 pub mod Found
 pub mod EntriesAreFew
 pub mod Overlays
@@ -9,5 +10,6 @@ pub mod PassAsBox
 pub mod PassesCross
 pub mod KeysOfPasses
 pub mod TableAsBox
+pub mod Codes
 pub mod CodesOfTables
 pub mod DealFaults

@@ -34,21 +34,20 @@ pub record HasRun (before : PlainStore) (raws : List RawOperation) (given : List
 abbrev pub AreKnown : List RawOperation → Type 0
 AreKnown raws = All (λ raw. IsSome (op_of raw)) raws
 
--- the refusals of a run; they are looked for in this order, and lack of memory at any time
-abbrev pub IsRunRefusal : PlainStore → List RawOperation → ℕ → Refusal → Type 0
-IsRunRefusal before raws places WrongLength = places ≢ length raws
-IsRunRefusal before raws places TooMany = BATCH_LIMIT < length raws
-IsRunRefusal before raws places UnknownOperation = ¬ AreKnown raws
-IsRunRefusal before raws places TooLarge = (ops : List Op) × AreOperations raws ops × IsTooLarge before ops
-IsRunRefusal before raws places BadFan = ⊥
-IsRunRefusal before raws places OutOfMemory = ⊤
-
--- the refusals of the caller's operations by themselves
+-- the refusals of the caller's operations by themselves. They are looked for in this order, and each case repeats that the earlier
+-- checks passed
 abbrev pub IsBatchRefusal : List RawOperation → Refusal → Type 0
 IsBatchRefusal raws TooMany = BATCH_LIMIT < length raws
-IsBatchRefusal raws UnknownOperation = ¬ AreKnown raws
-IsBatchRefusal raws OutOfMemory = ⊤
+IsBatchRefusal raws UnknownOperation = (length raws ≤ BATCH_LIMIT) × ¬ AreKnown raws
+IsBatchRefusal raws OutOfMemory = (length raws ≤ BATCH_LIMIT) × AreKnown raws
 IsBatchRefusal raws refusal = ⊥
+
+-- the refusals of a run: first the number of places is looked at, then the operations by themselves, and then the index's size
+abbrev pub IsRunRefusal : PlainStore → List RawOperation → ℕ → Refusal → Type 0
+IsRunRefusal before raws places WrongLength = places ≢ length raws
+IsRunRefusal before raws places TooLarge =
+    (places ≡ length raws) × (length raws ≤ BATCH_LIMIT) × ((ops : List Op) × AreOperations raws ops × IsTooLarge before ops)
+IsRunRefusal before raws places refusal = (places ≡ length raws) × IsBatchRefusal raws refusal
 
 -- the refusals of a batch over an index
 abbrev pub IsStartRefusal : PlainStore → List Op → Refusal → Type 0

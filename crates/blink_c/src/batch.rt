@@ -4,7 +4,7 @@ ghost use Rattle.blink_batch.specs.{answers, map_after_all};
 ghost use Rattle.blink_batch.specs.declared.batch.TheConstants.{BATCH_LIMIT};
 ghost use Rattle.blink_index.specs.{map_of};
 ghost use Rattle.blink_steps.specs.{IsTooLarge};
-ghost use Rattle.blink_c.specs.Codes.{code_of, code_of_outcome};
+ghost use Rattle.blink_c.specs.Codes.{TellsWhy, code_of, code_of_outcome};
 ghost use Rattle.blink_c.specs.Raw.{AreOperations, raw_given};
 ghost use Rattle.blink_c.specs.Runs.{AreKnown, HasRun, HasRunToEnd, IsBatchRefusal, IsRunRefusal, IsStartRefusal};
 
@@ -27,8 +27,8 @@ pub extern "C" fn blink_index_run(
     answers: &mut [RawAnswer],
 ) -> u8
     ensures ran { result ≡ 0 → HasRun index.old.value operations.now answers.new index.new.value }
-    ensures refused { (refusal : _) → result ≡ code_of refusal
-        → IsRunRefusal index.old.value operations.now (length answers.old) refusal }
+    ensures refused { TellsWhy code_of
+        (IsRunRefusal index.old.value operations.now (length answers.old)) result }
     ensures unchanged { result ≢ 0
         → (index.new.value ≡ index.old.value) × (answers.new ≡ answers.old) }
 {

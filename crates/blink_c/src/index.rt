@@ -1,10 +1,10 @@
 //! The exports that make an index, look keys up in it, count it, and free it.
-ghost use Rattle.std.specs.Prelude.{◌≡◌, ◌≢◌, ◌↔◌, ◌⊎◌, [], None, Some, IsSome, IsTrue, IfOk, IfErr, IsErrOf, length, map};
+ghost use Rattle.std.specs.Prelude.{◌≡◌, ◌≢◌, ◌↔◌, [], None, Some, IsSome, IsTrue, IfOk, IfErr, IsErrOf, length, map};
 ghost use Rattle.blink_batch.specs.{pointer_of};
 ghost use Rattle.blink_index.specs.{IsBadFan, map_of};
 ghost use Rattle.blink_page.specs.{IsPageNumber};
 ghost use Rattle.blink_store.specs.{new_store};
-ghost use Rattle.blink_c.specs.Codes.{code_of};
+ghost use Rattle.blink_c.specs.Codes.{IsNewFault, TellsNewFault, code_of};
 ghost use Rattle.blink_c.specs.Found.{found_answer, pointer_or};
 
 use crate::index_handle::IndexHandle;
@@ -20,7 +20,7 @@ pub extern "C" fn blink_index_new(alloc: Global, fan: u8, out: &mut IndexSlot) -
     requires { out.old.value ≡ None }
     ensures made { result ≡ 0 → out.new.value ≡ Some (new_store fan) }
     ensures bad_fan { result ≡ code_of Refusal.BadFan ↔ IsBadFan fan }
-    ensures refused { result ≢ 0 → result ≢ code_of Refusal.BadFan → result ≡ code_of Refusal.OutOfMemory }
+    ensures refused { TellsNewFault result }
     ensures unchanged { result ≢ 0 → out.new.value ≡ None }
 {
     match new_index(alloc, fan) {
@@ -34,7 +34,7 @@ pub(crate) fn new_index(alloc: Global, fan: u8) -> Result<Index, Refusal>
     ensures index { IfOk result (λ index. index ≡ new_store fan) }
     ensures empty { IfOk result (λ index. map_of index ≡ []) }
     ensures bad_fan { IsErrOf result Refusal.BadFan ↔ IsBadFan fan }
-    ensures refused { IfErr result (λ refusal. (refusal ≡ Refusal.BadFan) ⊎ (refusal ≡ Refusal.OutOfMemory)) }
+    ensures refused { IfErr result IsNewFault }
 {
     match Index::new(alloc, fan) {
         Ok(index) => Ok(index),
@@ -86,6 +86,7 @@ pub extern "C" fn blink_index_find_many(
 ) -> u8
     ensures found { result ≡ 0 → answers.new ≡ map (found_answer (map_of index.old.value)) keys.now }
     ensures wrong_length { result ≡ code_of Refusal.WrongLength ↔ length answers.old ≢ length keys.now }
+    ensures refused { result ≢ 0 → result ≡ code_of Refusal.WrongLength }
     ensures unchanged { result ≢ 0 → answers.new ≡ answers.old }
     ensures same { index.new.value ≡ index.old.value }
 {

@@ -1,9 +1,9 @@
 //! The export that makes an index of entries.
-ghost use Rattle.std.specs.Prelude.{◌≡◌, ◌≢◌, ◌≤◌, ◌⊎◌, None, IsSome, IfOk, IfErr, IfSome, length, map};
+ghost use Rattle.std.specs.Prelude.{◌≡◌, ◌≢◌, ◌≤◌, None, IsSome, IfOk, IfErr, IfSome, length, map};
 ghost use Rattle.blink_batch.specs.{map_after_all};
 ghost use Rattle.blink_batch.specs.declared.batch.TheConstants.{BATCH_LIMIT};
 ghost use Rattle.blink_index.specs.{map_of};
-ghost use Rattle.blink_c.specs.Codes.{code_of};
+ghost use Rattle.blink_c.specs.Codes.{IsGrowthFault, TellsWhy, code_of};
 ghost use Rattle.blink_c.specs.Raw.{insertion_of};
 ghost use Rattle.blink_c.specs.Runs.{HasEntriesOf, IsMakeRefusal};
 
@@ -27,7 +27,7 @@ pub extern "C" fn blink_index_from_entries(
     requires { out.old.value ≡ None }
     ensures made { result ≡ 0 → IsSome out.new.value × IfSome out.new.value (HasEntriesOf entries.now) }
     ensures fan { IfSome out.new.value (λ index. index.fan ≡ fan) }
-    ensures refused { (refusal : _) → result ≡ code_of refusal → IsMakeRefusal fan refusal }
+    ensures refused { TellsWhy code_of (IsMakeRefusal fan) result }
     ensures unchanged { result ≢ 0 → out.new.value ≡ None }
 {
     match index_of(alloc, fan, entries) {
@@ -58,7 +58,7 @@ fn with_entries(alloc: Global, index: Index, entries: &[RawEntry]) -> Result<Ind
     ensures map { IfOk result
         (λ after. map_of after ≡ map_after_all (map_of index) (map insertion_of entries.now)) }
     ensures fan { IfOk result (λ after. after.fan ≡ index.fan) }
-    ensures refused { IfErr result (λ refusal. (refusal ≡ Refusal.TooLarge) ⊎ (refusal ≡ Refusal.OutOfMemory)) }
+    ensures refused { IfErr result IsGrowthFault }
 {
     let Ok(ops) = insertions(alloc, entries) else {
         return Err(Refusal::OutOfMemory);

@@ -1,8 +1,9 @@
 //! The exports of a pass.
 ghost use Rattle.std.specs.Prelude.{◌≡◌, ◌≢◌};
 ghost use Rattle.blink_batch.specs.declared.Op.TheVariants.{Delete, Insert, Replace};
+ghost use Rattle.blink_c.specs.Codes.{TellsWhy};
 ghost use Rattle.blink_c.specs.Passes.{Begins, Ends, Finds, Glances, IsAdvanceRefusal, IsBeginRefusal, IsFindRefusal, IsNotFree, IsOwn, IsTellRefusal, TellsOn, table_of};
-ghost use Rattle.blink_c.specs.TableCodes.{code_of, code_of_outcome};
+ghost use Rattle.blink_c.specs.TableCodes.{code_of};
 
 use crate::pass_handle::PassHandle;
 use crate::raw::RawAnswer;
@@ -14,8 +15,7 @@ pub extern "C" fn blink_pass_find(pass: &mut PassHandle, key: u64, answer: &mut 
     requires its_own { IsOwn pass.old.value }
     ensures its_own { IsOwn pass.new.value }
     ensures found { result ≡ 0 → Finds key pass.old.value pass.new.value answer.new }
-    ensures refused { (refusal : _) → result ≡ code_of refusal
-        → IsFindRefusal key pass.old.value.held refusal }
+    ensures refused { TellsWhy code_of (IsFindRefusal key pass.old.value.held) result }
     ensures unchanged { result ≢ 0 → (pass.new.value ≡ pass.old.value) × (answer.new ≡ answer.old) }
 {
     code_of(&pass.get().find(key, answer))
@@ -27,7 +27,7 @@ pub extern "C" fn blink_pass_glance(pass: &mut PassHandle, key: u64, answer: &mu
     requires its_own { IsOwn pass.old.value }
     ensures its_own { IsOwn pass.new.value }
     ensures glanced { result ≡ 0 → Glances key pass.old.value pass.new.value answer.new }
-    ensures refused { (refusal : _) → result ≡ code_of refusal → IsNotFree pass.old.value.held refusal }
+    ensures refused { TellsWhy code_of (IsNotFree pass.old.value.held) result }
     ensures unchanged { result ≢ 0 → (pass.new.value ≡ pass.old.value) × (answer.new ≡ answer.old) }
 {
     code_of(&pass.get().glance(key, answer))
@@ -43,8 +43,7 @@ pub extern "C" fn blink_pass_tell(from: &mut PassHandle, to: &mut PassHandle) ->
     ensures its_own { IsOwn from.new.value }
     ensures others_own { IsOwn to.new.value }
     ensures told { result ≡ 0 → TellsOn from.old.value from.new.value to.old.value to.new.value }
-    ensures refused { (refusal : _) → result ≡ code_of refusal
-        → IsTellRefusal from.old.value to.old.value refusal }
+    ensures refused { TellsWhy code_of (IsTellRefusal from.old.value to.old.value) result }
     ensures unchanged { result ≢ 0
         → (from.new.value ≡ from.old.value) × (to.new.value ≡ to.old.value) }
 {
@@ -57,8 +56,7 @@ pub extern "C" fn blink_pass_begin_insert(pass: &mut PassHandle, key: u64, point
     requires its_own { IsOwn pass.old.value }
     ensures its_own { IsOwn pass.new.value }
     ensures begun { result ≡ 0 → Begins (Insert key pointer) pass.old.value pass.new.value }
-    ensures refused { (refusal : _) → result ≡ code_of refusal
-        → IsBeginRefusal (Insert key pointer) pass.old.value.held refusal }
+    ensures refused { TellsWhy code_of (IsBeginRefusal (Insert key pointer) pass.old.value.held) result }
     ensures unchanged { result ≢ 0 → pass.new.value ≡ pass.old.value }
 {
     code_of(&pass.get().begin_insert(key, pointer))
@@ -70,8 +68,7 @@ pub extern "C" fn blink_pass_begin_delete(pass: &mut PassHandle, key: u64) -> u8
     requires its_own { IsOwn pass.old.value }
     ensures its_own { IsOwn pass.new.value }
     ensures begun { result ≡ 0 → Begins (Delete key) pass.old.value pass.new.value }
-    ensures refused { (refusal : _) → result ≡ code_of refusal
-        → IsBeginRefusal (Delete key) pass.old.value.held refusal }
+    ensures refused { TellsWhy code_of (IsBeginRefusal (Delete key) pass.old.value.held) result }
     ensures unchanged { result ≢ 0 → pass.new.value ≡ pass.old.value }
 {
     code_of(&pass.get().begin_delete(key))
@@ -83,8 +80,7 @@ pub extern "C" fn blink_pass_begin_replace(pass: &mut PassHandle, key: u64, poin
     requires its_own { IsOwn pass.old.value }
     ensures its_own { IsOwn pass.new.value }
     ensures begun { result ≡ 0 → Begins (Replace key pointer) pass.old.value pass.new.value }
-    ensures refused { (refusal : _) → result ≡ code_of refusal
-        → IsBeginRefusal (Replace key pointer) pass.old.value.held refusal }
+    ensures refused { TellsWhy code_of (IsBeginRefusal (Replace key pointer) pass.old.value.held) result }
     ensures unchanged { result ≢ 0 → pass.new.value ≡ pass.old.value }
 {
     code_of(&pass.get().begin_replace(key, pointer))
@@ -101,8 +97,7 @@ pub extern "C" fn blink_pass_advance(
     requires its_own { IsOwn pass.old.value }
     ensures its_own { IsOwn pass.new.value }
     ensures ended { result ≡ 0 → Ends pass.old.value pass.new.value answer.new }
-    ensures refused { (refusal : _) → result ≡ code_of refusal
-        → IsAdvanceRefusal pass.old.value pass.new.value refusal }
+    ensures refused { TellsWhy code_of (IsAdvanceRefusal pass.old.value pass.new.value) result }
     ensures unchanged { result ≢ 0 → answer.new ≡ answer.old }
 {
     code_of(&pass.get().advance(tries, answer))

@@ -44,7 +44,7 @@ impl Refusal {
 
 /// The code that an export returns.
 pub(crate) fn code_of(outcome: &Result<(), Refusal>) -> u8
-    ensures { result ≡ code_of_outcome outcome.now }
+    ensures { result ≡ code_of_outcome code_of outcome.now }
 {
     match outcome {
         Ok(()) => DONE,

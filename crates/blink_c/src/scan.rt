@@ -18,7 +18,8 @@ pub extern "C" fn blink_index_scan(
     fitted: &mut usize,
 ) -> usize
     ensures there { result ≡ length (filter (is_within lo hi) (map_of index.old.value)) }
-    ensures entries { entries.new ≡ overlaid (filter (is_within lo hi) (map_of index.old.value)) entries.old }
+    ensures entries { entries.new
+        ≡ overlaid (filter (is_within lo hi) (map_of index.old.value)) entries.old }
     ensures fitted { fitted.new ≡ min result (length entries.old) }
     ensures same { index.new.value ≡ index.old.value }
 {

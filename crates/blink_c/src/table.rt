@@ -2,6 +2,7 @@
 ghost use Rattle.std.specs.Prelude.{◌≡◌, ◌≢◌, ◌⊎◌, ◌<◌, None, Some, IfSome, IsSome, length};
 ghost use Rattle.blink_index.specs.{map_of};
 ghost use Rattle.blink_live.specs.{IsMerge, IsNumberedInOrder, fan_of, passes_dealt};
+ghost use Rattle.blink_c.specs.Codes.{TellsWhy};
 ghost use Rattle.blink_c.specs.Passes.{IsOwn, table_of};
 ghost use Rattle.blink_c.specs.TableCodes.{code_of};
 ghost use Rattle.blink_c.specs.Tables.{DealsTo, IsNewTable, IsOwnTable, IsReturnRefusal, IsSameTable, TakesBack, TellsDealFault, TellsOpenFault, table_in};
@@ -95,8 +96,7 @@ pub extern "C" fn blink_table_return(table: &mut TableHandle, pass: &mut PassHan
     ensures its_pass { IsOwn pass.new.value }
     ensures back { result ≡ 0
         → TakesBack table.old.value table.new.value pass.old.value pass.new.value }
-    ensures refused { (refusal : _) → result ≡ code_of refusal
-        → IsReturnRefusal table.old.value pass.old.value refusal }
+    ensures refused { TellsWhy code_of (IsReturnRefusal table.old.value pass.old.value) result }
     ensures unchanged { result ≢ 0
         → IsSameTable table.old.value table.new.value × (pass.new.value ≡ pass.old.value) }
 {

@@ -1,6 +1,7 @@
 //! The refusals of the exports of tables and passes.
 ghost use Rattle.std.specs.Prelude.{◌≡◌};
-ghost use Rattle.blink_c.specs.TableCodes.{code_of, code_of_outcome};
+ghost use Rattle.blink_c.specs.Codes.{code_of_outcome};
+ghost use Rattle.blink_c.specs.TableCodes.{code_of};
 
 use crate::refusal::DONE;
 use blink_live::{LiveError, PassError};
@@ -40,7 +41,7 @@ impl TableRefusal {
 
 /// The code that an export returns.
 pub(crate) fn code_of(outcome: &Result<(), TableRefusal>) -> u8
-    ensures { result ≡ code_of_outcome outcome.now }
+    ensures { result ≡ code_of_outcome code_of outcome.now }
 {
     match outcome {
         Ok(()) => DONE,
