@@ -59,9 +59,9 @@ IsStartRefusal before ops refusal = ⊥
 abbrev pub HasEntriesOf : List RawEntry → PlainStore → Type 0
 HasEntriesOf raws store = map_of store ≡ map_after_all [] (map insertion_of raws)
 
--- the refusals of making it
+-- the refusals of making it, the fan's first
 abbrev pub IsMakeRefusal : ℕ → Refusal → Type 0
 IsMakeRefusal fan BadFan = IsBadFan fan
-IsMakeRefusal fan TooLarge = ⊤
-IsMakeRefusal fan OutOfMemory = ⊤
+IsMakeRefusal fan TooLarge = ¬ IsBadFan fan
+IsMakeRefusal fan OutOfMemory = ¬ IsBadFan fan
 IsMakeRefusal fan refusal = ⊥
