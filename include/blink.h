@@ -94,8 +94,8 @@ enum {
  * BLINK_INDEX_NO_MEMORY. */
 uint8_t blink_index_new(uint8_t fan, blink_index *out);
 
-/* Makes an index of entries in any order, sorted or not. Of two with one key the first stays. Refused: BLINK_BAD_FAN,
- * BLINK_INDEX_TOO_LARGE, BLINK_INDEX_NO_MEMORY. */
+/* Makes an index of entries in any order, sorted or not. Of two with one key the first stays. Refused: BLINK_BAD_FAN;
+ * then BLINK_INDEX_TOO_LARGE or BLINK_INDEX_NO_MEMORY. */
 uint8_t blink_index_from_entries(uint8_t fan, const blink_entry *entries, size_t count, blink_index *out);
 
 /* Makes a copy, page by page. Refused: BLINK_INDEX_NO_MEMORY. */
@@ -103,8 +103,8 @@ uint8_t blink_index_copy(blink_index *index, blink_index *out);
 
 /* Runs operations one after another, and gives the answer of each at its place. It works on a copy of the index, which then takes
  * its place: so run many at once. Refused, looked for in this order: BLINK_WRONG_LENGTH, if there aren't as many places for
- * answers as operations; BLINK_TOO_MANY; BLINK_UNKNOWN_OPERATION; BLINK_INDEX_TOO_LARGE; and BLINK_INDEX_NO_MEMORY at any time.
- * Then the index and the answers are as they were. */
+ * answers as operations; BLINK_TOO_MANY; BLINK_UNKNOWN_OPERATION; then BLINK_INDEX_TOO_LARGE or BLINK_INDEX_NO_MEMORY. Then the
+ * index and the answers are as they were. */
 uint8_t blink_index_run(blink_index *index, const blink_operation *operations, size_t count, blink_answer *answers,
                         size_t places);
 
