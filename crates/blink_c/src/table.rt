@@ -1,7 +1,7 @@
 //! The exports of a table.
 ghost use Rattle.std.specs.Prelude.{◌≡◌, ◌≢◌, ◌⊎◌, ◌<◌, None, Some, IfSome, IsSome, length};
 ghost use Rattle.blink_index.specs.{map_of};
-ghost use Rattle.blink_live.specs.{IsMerge, IsNumberedInOrder, fan_of, passes_dealt};
+ghost use Rattle.blink_live.specs.{IsMerge, IsNumberedInOrder, fan_of, passes_out};
 ghost use Rattle.blink_c.specs.Codes.{TellsWhy};
 ghost use Rattle.blink_c.specs.Passes.{IsOwn, table_of};
 ghost use Rattle.blink_c.specs.TableCodes.{code_of};
@@ -113,7 +113,7 @@ pub extern "C" fn blink_table_close(alloc: Global, table: TableHandle, out: &mut
         (λ index. IsMerge (table_in table.value) table.value.keeper table.value.back.items (map_of index)) }
     ensures fan { IfSome out.new.value (λ index. index.fan ≡ fan_of (table_in table.value)) }
     ensures numbered { IfSome out.new.value IsNumberedInOrder }
-    ensures missing { length table.value.back.items < passes_dealt table.value.keeper → result ≡ 56 }
+    ensures missing { length table.value.back.items < passes_out table.value.keeper → result ≡ 56 }
     ensures refused { result ≢ 0 → (result ≡ 50) ⊎ (result ≡ 56) }
     ensures unchanged { result ≢ 0 → out.new.value ≡ None }
 {

@@ -1,7 +1,7 @@
 //! What the box of a table's handle holds: an owner of the table, its keeper, and the passes that came back.
 ghost use Rattle.std.specs.Prelude.{◌≡◌, ◌⊎◌, ◌<◌, ◌↔◌, IfOk, IfErr, IsErrOf, OnErr, OnOk, [], length};
 ghost use Rattle.blink_index.specs.{map_of};
-ghost use Rattle.blink_live.specs.{IsMerge, IsNumberedInOrder, IsTooLarge, fan_of, passes_dealt};
+ghost use Rattle.blink_live.specs.{IsMerge, IsNumberedInOrder, IsTooLarge, fan_of, passes_out};
 ghost use Rattle.blink_c.specs.Passes.{IsOwn, table_of};
 ghost use Rattle.blink_c.specs.Tables.{DealsTo, IsDealFault, IsNewTable, IsOwnTable, IsReturnRefusal, IsSameTable, TakesBack, table_in};
 
@@ -154,7 +154,7 @@ impl TableOwner {
         ensures entries { IfOk result
             (λ index. IsMerge (table_in self) self.keeper self.back.items (map_of index)) }
         ensures numbered { IfOk result IsNumberedInOrder }
-        ensures missing { length self.back.items < passes_dealt self.keeper
+        ensures missing { length self.back.items < passes_out self.keeper
             → IsErrOf result LiveError.Missing }
         ensures refused { IfErr result
             (λ refusal. (refusal ≡ LiveError.Missing) ⊎ (refusal ≡ LiveError.OutOfMemory)) }

@@ -4,8 +4,8 @@
 ghost use Rattle.std.specs.Prelude.{◌≡◌, ◌≢◌, ℕ, Some, None, [], Contains, IfOk, OnErr, OnOk};
 ghost use Rattle.blink_batch.specs.{pointer_of};
 ghost use Rattle.blink_batch.specs.declared.Op.TheVariants.{Insert};
-ghost use Rattle.blink_live.specs.{after, IsChangedBy, IsKeeperOf, IsPassOf, IsSameBesideSeen, keys_of, opening_of, own_changes_of, seen_of, share_of};
-ghost use Rattle.blink_client.specs.Shown.{IsNewWith, IsShown, IsShownTwice};
+ghost use Rattle.blink_live.specs.{after, IsChangedBy, IsKeeperOf, IsPassOf, IsSameBesideSeen, keys_of, opening_of, own_changes_of, seen_by, seen_of, share_of};
+ghost use Rattle.blink_client.specs.Shown.{IsFound, IsNewWith, IsShown, IsShownTwice};
 
 use blink_batch::Answer;
 use blink_index::Index;
@@ -100,8 +100,10 @@ pub fn deal_key(
     inserts: u32,
 ) -> Result<Pass, LiveError>
     requires its_own { IsKeeperOf live.now keeper.old }
+    requires none_back { seen_by keeper.old ≡ [] }
     ensures new { IfOk result (IsNewWith live.now key) }
     ensures its_keeper { IsKeeperOf live.now keeper.new }
+    ensures none_back { seen_by keeper.new ≡ [] }
 {
     let mut keys = Vec::new(alloc);
     if keys.push(key).is_err() {
@@ -120,15 +122,50 @@ pub fn glance_at_nobodys_key(
     key: u64,
 ) -> Result<Option<u64>, LiveError>
     requires its_keeper { IsKeeperOf live.now keeper.old }
+    requires none_back { seen_by keeper.old ≡ [] }
     requires its_pass { IsPassOf live.now pass.old }
     ensures opening { IfOk result (λ shown. shown ≡ pointer_of (opening_of live.now) key) }
     ensures its_keeper { IsKeeperOf live.now keeper.new }
+    ensures none_back { seen_by keeper.new ≡ [] }
     ensures its_pass { IsPassOf live.now pass.new }
 {
     let shown = live.glance(pass, key);
     let mut owner = deal_key(alloc, live, keeper, key, 0)?;
     live.tell(&mut owner, pass);
     Ok(shown)
+}
+
+/// Two passes, one after the other, on the same new key. The first inserts an entry and comes back; then the key is dealt again,
+/// and the second pass looks it up. It returns what the second found: the entry, or nothing, if the insertion was refused. The
+/// two may be in two threads. The call refuses where `Live::deal` does, and for want of memory for the list of the one key.
+pub fn find_what_was_left<R: Wait>(
+    rt: &R,
+    alloc: Global,
+    live: &Live,
+    keeper: &mut Keeper,
+    mut one: Pass,
+    key: u64,
+    pointer: u64,
+) -> Result<Option<Answer>, LiveError>
+    requires its_keeper { IsKeeperOf live.now keeper.old }
+    requires ones { IsPassOf live.now one }
+    requires own_key { Contains (keys_of one) key }
+    requires new_key { pointer_of (share_of one) key ≡ None }
+    ensures found { IfOk result (IsFound pointer) }
+{
+    if live.insert(rt, &mut one, key, pointer).is_err() {
+        return Ok(None);
+    }
+    live.retire(keeper, one);
+    let mut keys = Vec::new(alloc);
+    if keys.push(key).is_err() {
+        return Err(LiveError::DealOutOfMemory);
+    }
+    let mut other = live.deal(keeper, keys, 0, 0)?;
+    match live.find(&mut other, key) {
+        Ok(answer) => Ok(Some(answer)),
+        Err(_) => Ok(None),
+    }
 }
 
 /// What two glances at a key returned: one while another thread inserted the key, and one after its pass had told.

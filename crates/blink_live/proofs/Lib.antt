@@ -4,6 +4,7 @@ pub mod dealt
 pub mod found
 pub mod changed
 pub mod told
+pub mod retired
 pub mod closed
 pub mod gathered
 pub mod Offered

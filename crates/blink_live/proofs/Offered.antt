@@ -2,6 +2,8 @@
 
 -- the entries of some keys map these as all entries do
 pub use Rattle.blink_live.proofs.dealt.KeysOfShare.{among_from_contains, entries_of_keep}
+-- where the keeper has seen nothing, it deals the opening entries, and no change
+pub use Rattle.blink_live.proofs.dealt.NothingSeen.{known_entries-opening, no_changes-new}
 -- what an operation adds to its pass's own changes, key by key; and these are what the pass has seen of its own keys
 pub use Rattle.blink_live.proofs.changed.OwnChangesByKey.{own_changes-own_key, own_changes-other_key, own_changes-are_seen}
 -- of a longer list a key has more states, it maps to the last of them, and where there are no more than before, it maps to the same

@@ -7,4 +7,5 @@ pub mod DealsKeepTable
 pub mod KeeperCanDeal
 pub mod RefusalsOfDeal
 pub mod LatchNumbers
+pub mod NothingSeen
 pub mod KeyIsFound

@@ -6,6 +6,8 @@ pub mod NextPageIsThere
 pub mod OwnersInRange
 pub mod OwnersChange
 pub mod PassesOut
+pub mod KeepersCount
+pub mod PassesComeIn
 pub mod OthersKnowTheSame
 pub mod StoresKeepTable
 pub mod SharesAreKnown

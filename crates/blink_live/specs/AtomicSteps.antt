@@ -1,5 +1,6 @@
 -- The knowledge that each kind of atomic step gives whoever takes it.
-use Rattle.std.specs.Prelude.{◌≡◌, ◌≢◌, ◌⊎◌, ℕ, suc, ◌+◌, ◌++◌, ◌<◌, ◌≤◌, Option, Some, None, IsSome, List, length, All, slice_index}
+use Rattle.std.specs.Prelude.{◌≡◌, ◌≢◌, ◌⊎◌, ℕ, suc, ◌+◌, ◌++◌, ◌<◌, ◌≤◌, Option, Some, None, IsSome, List, length, All, Contains, slice_index}
+use mathlib.Core.List.{IsPrefix}
 use Rattle.atomic_table.specs.Table.{Step}
 use Rattle.blink_batch.specs.declared.Op.{Op}
 use Rattle.blink_batch.specs.{answer_at, answer_of, key_of, pointer_of}
@@ -14,9 +15,10 @@ use Rattle.blink_machine.specs.declared.step.Step.TheVariants.{Moved}
 use Rattle.blink_machine.specs.{HasEnough, UsesUp, numbers_left, writes_left, primes_left, read_page, latch, unlatch, write_page, write_prime, IsReadable, PlainMachine, NeedsPrime, NeedsPage, NeedsLatch, NeedsNew, NeedsWrite, NeedsPrimeWrite, NeedsUnlatch, fresh, SeesPrime, WaitsForLevel, SeesPage, done}
 use Rattle.blink_live.specs.declared.view.Change.{Change}
 use Rattle.blink_live.specs.declared.view.Plan.{Plan}
+use Rattle.blink_live.specs.declared.view.Role.TheVariants.{Keeper}
 use Rattle.blink_live.specs.declared.view.Share.{Share}
 use Rattle.blink_live.specs.declared.view.View.{View}
-use Rattle.blink_live.specs.Changes.{after, Learns}
+use Rattle.blink_live.specs.Changes.{after, states_of, Learns}
 use Rattle.blink_live.specs.Views.{SeatState, KnowsItsOwn, ShowsNoMore, for_call, going_on, stage_word, changed_by, publishes, reading, forgets_told, learns_of_others, span}
 use Rattle.blink_live.specs.Words.{AreNumbersIn, AreRowsIn, IsRowNumber, row_start}
 
@@ -136,6 +138,16 @@ pub record LooksBack (me then : SeatState) : Type 0 where
 
 abbrev pub looks_back : Step ℕ → SeatState → ℕ → SeatState → Type 0
 looks_back st me row then = LooksBack me then
+
+-- the same of the keeper: of the keys that it can deal the note shows no more than it has seen; and no more passes are back than
+-- were dealt
+pub record LooksAround (me then : SeatState) : Type 0 where
+  pub is : then ≡ (forgets_told me.0, me.1)
+  pub no_more : (key : ℕ) → ¬ Contains me.0.taken key → IsPrefix (states_of key me.0.told) (states_of key me.0.seen)
+  pub counted : (dealt back : ℕ) → me.0.role ≡ Keeper dealt back → back ≤ dealt
+
+abbrev pub looks_around : Step ℕ → SeatState → ℕ → SeatState → Type 0
+looks_around st me row then = LooksAround me then
 
 -- ---- the load of a row's word
 

@@ -1,10 +1,12 @@
 -- The changes of all keys, in the order in which they happened, and the state that they leave of the opening entries.
-use Rattle.std.specs.Prelude.{ℕ, List, [], ◌∷◌, ◌==◌, if◌then◌else◌, Option, Bool, true, false}
+use Rattle.std.specs.Prelude.{ℕ, List, [], ◌∷◌, ◌==◌, if◌then◌else◌, Option, Some, None, Bool, true, false}
 use mathlib.Core.List.{IsPrefix}
 use Rattle.blink_batch.specs.declared.Answer.{Answer}
 use Rattle.blink_batch.specs.declared.Answer.TheVariants.{Inserted, Removed, Replaced}
+use Rattle.blink_batch.specs.declared.Entry.{Entry}
 use Rattle.blink_batch.specs.declared.Op.{Op}
-use Rattle.blink_batch.specs.{answer_at, cell_after, key_of}
+use Rattle.blink_batch.specs.declared.Op.TheVariants.{Delete, Insert}
+use Rattle.blink_batch.specs.{answer_at, cell_after, key_of, map_after}
 use Rattle.blink_live.specs.declared.view.Change.{Change}
 use Rattle.blink_live.specs.declared.view.View.{View}
 
@@ -16,6 +18,16 @@ put f at x n = if n == at then x else f n
 abbrev pub after : (ℕ → Option ℕ) → List Change → ℕ → Option ℕ
 after f [] = f
 after f (change ∷ rest) = after (put f change.key change.pointer) rest
+
+-- the entries where the key maps to this pointer, or is absent
+abbrev pub with_pointer : List Entry → ℕ → Option ℕ → List Entry
+with_pointer entries key None = map_after entries (Delete key)
+with_pointer entries key (Some pointer) = map_after (map_after entries (Delete key)) (Insert key pointer)
+
+-- the entries after these changes
+abbrev pub entries_after : List Entry → List Change → List Entry
+entries_after entries [] = entries
+entries_after entries (change ∷ rest) = entries_after (with_pointer entries change.key change.pointer) rest
 
 -- the states that these changes gave one key, in their order: a pointer, or None if the key lost its pointer
 abbrev pub states_of : ℕ → List Change → List (Option ℕ)

@@ -14,7 +14,7 @@ use Rattle.blink_live.specs.declared.live.Keeper.{Keeper}
 use Rattle.blink_live.specs.declared.live.Live.{Live}
 use Rattle.blink_live.specs.declared.live.Pass.{Pass}
 use Rattle.blink_live.specs.declared.view.Change.{Change}
-use Rattle.blink_live.specs.Changes.{after, states_of, changes_made}
+use Rattle.blink_live.specs.Changes.{after, entries_after, states_of, changes_made}
 use Rattle.blink_live.specs.Views.{plan_of, span, rows_of, pages_of}
 
 -- ---- a table
@@ -49,11 +49,12 @@ share_of pass = pass.seat.me.0.share.entries
 abbrev pub seen_of : Pass → List Change
 seen_of pass = pass.seat.me.0.seen
 
--- the changes that the pass's own operations made, in their order
+-- the changes that the pass's own operations made, in their order. Before them stand the changes of its keys by the passes that
+-- had them earlier. All of these are counted as its own
 abbrev pub changes_by : Pass → List Change
 changes_by pass = pass.seat.me.0.share.changes
 
--- the states that the pass's own operations gave a key, in their order
+-- the states that these changes gave a key, in their order
 abbrev pub own_changes_of : Pass → ℕ → List (Option ℕ)
 own_changes_of pass key = states_of key (changes_by pass)
 
@@ -81,12 +82,12 @@ pub record IsSameBesideSeen (old new : Pass) : Type 0 where
   pub same_rows : new.rows ≡ old.rows
   pub same_pages : new.pages ≡ old.pages
 
--- of each of its keys the pass has seen the state that its share has, and exactly the changes that its own operations made
+-- of each of its keys the pass has seen the state that its share has, and exactly the changes that are counted as its own
 pub record KnowsItsKeys (live : Live) (pass : Pass) : Type 0 where
   pub state : (key : ℕ) → Contains (keys_of pass) key → after (pointer_of (opening_of live)) (seen_of pass) key ≡ pointer_of (share_of pass) key
   pub changes : (key : ℕ) → Contains (keys_of pass) key → seen_changes_of pass key ≡ own_changes_of pass key
 
--- of the owner's keys the pass has seen only changes that the owner's own operations made, from the first on
+-- of the owner's keys the pass has seen only changes that are counted as the owner's, from the first on
 abbrev pub SawPrefixOf : Pass → Pass → Type 0
 SawPrefixOf owner pass = (key : ℕ) → Contains (keys_of owner) key → IsPrefix (seen_changes_of pass key) (own_changes_of owner key)
 
@@ -123,13 +124,24 @@ pub record IsChangedBy (op : Op) (old new : Pass) : Type 0 where
 abbrev pub IsKeeperOf : Live → Keeper → Type 0
 IsKeeperOf live keeper = (keeper.seat.table_id ≡ live.table.shared.table_id) × (keeper.seat.me.0.plan ≡ plan_of live.table.shared.key)
 
--- the keys that the keeper has dealt
+-- the keys that the keeper has dealt, without those of passes that came back
 abbrev pub taken_of : Keeper → List ℕ
 taken_of keeper = keeper.taken.items
 
--- the number of passes that the keeper has dealt
+-- the number of passes that the keeper has dealt, and of those that are out
 abbrev pub passes_dealt : Keeper → ℕ
 passes_dealt keeper = keeper.dealt
+
+abbrev pub passes_out : Keeper → ℕ
+passes_out keeper = keeper.dealt - keeper.back
+
+-- the changes of all keys that the keeper has seen: those that the passes had seen that came back
+abbrev pub seen_by : Keeper → List Change
+seen_by keeper = keeper.seat.me.0.seen
+
+-- the opening entries after these changes; a key that the keeper can deal has its state there
+abbrev pub known_entries : Live → Keeper → List Entry
+known_entries live keeper = entries_after (opening_of live) (seen_by keeper)
 
 -- ---- a new table
 
@@ -142,5 +154,7 @@ pub record IsOpened (store : PlainStore) (allowance : Allowance) (live : Live) (
   pub its : IsKeeperOf live keeper
   pub none_taken : taken_of keeper ≡ []
   pub none_dealt : passes_dealt keeper ≡ 0
+  pub none_out : passes_out keeper ≡ 0
+  pub none_seen : seen_by keeper ≡ []
   pub free_rows : keeper.rows ≡ span (length store.pages + 2) ((counts_of live).rows + 1)
   pub free_pages : keeper.pages ≡ span (length store.pages + 1) (counts_of live).numbers

@@ -1,13 +1,13 @@
 -- What a caller of `blink_live` reads, in this order; then what proofs above it need; then the files themselves.
 
 -- a table, its keeper and its passes, as contracts see them
-pub use Rattle.blink_live.specs.Handles.{IsChangedBy, IsKeeperOf, IsOpened, IsPassOf, IsSameBesideSeen, IsSamePass, KnowsItsKeys, OneIsPrefix, SawAllOf, SawPrefixOf, counts_of, fan_of, keys_of, opening_of, own_changes_of, passes_dealt, seen_of, share_of, taken_of}
+pub use Rattle.blink_live.specs.Handles.{IsChangedBy, IsKeeperOf, IsOpened, IsPassOf, IsSameBesideSeen, IsSamePass, KnowsItsKeys, OneIsPrefix, SawAllOf, SawPrefixOf, counts_of, fan_of, keys_of, opening_of, own_changes_of, known_entries, passes_dealt, passes_out, seen_by, seen_of, share_of, taken_of}
 -- the changes of all keys, in the order in which they happened, and the state that they leave of the opening entries
 pub use Rattle.blink_live.specs.Changes.{after}
 -- the number of changes that some rows and page numbers are enough for
 pub use Rattle.blink_live.specs.Allowed.{AreForChanges, IsTooLarge, deletes_left, inserts_left}
--- what a deal gives, and the refusals of a deal
-pub use Rattle.blink_live.specs.Deals.{HasDealt, IsDealRefusal, IsDealt, IsFirstTaken, LacksAllowance, NoneIsTaken}
+-- what a deal gives and a pass leaves that comes back, and the refusals of a deal
+pub use Rattle.blink_live.specs.Deals.{HasDealt, HasRetired, IsDealRefusal, IsDealt, IsFirstTaken, LacksAllowance, NoneIsTaken}
 -- an operation under way: the pass before it, and which one it is
 pub use Rattle.blink_live.specs.Pendings.{HasBegun, IsPendingOf, op_of, pass_of}
 -- the entries of a table when all its passes are back: the merge of their shares
@@ -39,6 +39,7 @@ pub mod Seats
 pub mod Updating
 pub mod Pendings
 pub mod Dealing
+pub mod Retiring
 pub mod KeyTest
 pub mod Words
 pub mod Laid

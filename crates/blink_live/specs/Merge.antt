@@ -9,16 +9,17 @@ use Rattle.blink_live.specs.declared.live.Keeper.{Keeper}
 use Rattle.blink_live.specs.declared.live.Live.{Live}
 use Rattle.blink_live.specs.declared.live.Pass.{Pass}
 use Rattle.blink_live.specs.declared.view.Share.{Share}
-use Rattle.blink_live.specs.Handles.{opening_of, keys_of, share_of, taken_of}
+use Rattle.blink_live.specs.Handles.{known_entries, keys_of, share_of, taken_of}
 use Rattle.blink_live.specs.Words.{IsRowNumber, RowIs, KeepsPages}
 
 -- ---- the merge
 
--- the opening entries, except that each key that was dealt has the state of its pass's share
+-- the opening entries, except that each key that was dealt has the state of its last pass's share: of this one if the pass is one
+-- of these, and else the state that the keeper knows
 pub record IsMerge (live : Live) (keeper : Keeper) (passes : List Pass) (entries : List Entry) : Type 0 where
   pub dealt : (place key : ℕ) (pass : Pass) → slice_get passes place ≡ Some pass → Contains (keys_of pass) key
       → pointer_of entries key ≡ pointer_of (share_of pass) key
-  pub others : (key : ℕ) → ¬ Contains (taken_of keeper) key → pointer_of entries key ≡ pointer_of (opening_of live) key
+  pub others : (key : ℕ) → ¬ Contains (taken_of keeper) key → pointer_of entries key ≡ pointer_of (known_entries live keeper) key
 
 -- the passes' shares
 abbrev pub shares_of : List Pass → List Share

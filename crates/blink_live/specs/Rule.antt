@@ -32,7 +32,7 @@ pub record Owners : Type 0 where
   pub row : ℕ → ℕ
   -- of page numbers that no page has
   pub page : ℕ → ℕ
-  -- of keys; those that came back are the keeper's
+  -- of keys: nobody owns those that can be dealt, and the keeper owns those whose pass came back when the table closes
   pub key : ℕ → ℕ
   -- the number that a seat puts into a latch word
   pub latch_number : ℕ → ℕ
@@ -92,11 +92,16 @@ pub record IsOwnKey (plan : Plan) (owners : Owners) (log : List Change) (owner :
 abbrev pub IsShare : Plan → Owners → List Change → ℕ → Share → Type 0
 IsShare plan owners log owner share = (key : ℕ) → Contains share.keys key → IsOwnKey plan owners log owner share key
 
--- a seat by its role: the keeper's seat is the first, nobody owns the keys that it hasn't dealt, and the shares that it took back
--- are its own; only a pass has an operation
+-- nobody owns the key, and the keeper has seen all its changes
+pub record IsFree (owners : Owners) (log : List Change) (v : View) (key : ℕ) : Type 0 where
+  pub own : owners.key key ≡ 0
+  pub saw_all : states_of key v.seen ≡ states_of key log
+
+-- a seat by its role: the keeper's seat is the first, the keys that it hasn't dealt to a pass that is out are free, and the shares
+-- that it took back when the table closes are its own; only a pass has an operation
 abbrev pub IsInRole : Plan → Owners → List Change → ℕ → View → Role → Type 0
 IsInRole plan owners log seat v (Keeper dealt back) =
-    (seat ≡ 0) × (v.operation ≡ None) × ((key : ℕ) → ¬ Contains v.taken key → owners.key key ≡ 0)
+    (seat ≡ 0) × (v.operation ≡ None) × ((key : ℕ) → ¬ Contains v.taken key → IsFree owners log v key)
     × ((share : Share) → Contains v.back share → IsShare plan owners log 1 share)
 IsInRole plan owners log seat v Pass = (1 ≤ seat) × (owners.latch_number seat ≡ v.rows.stop - 1)
 IsInRole plan owners log seat v Spent = v.operation ≡ None
@@ -160,7 +165,6 @@ pub record IsTableAt (plan : Plan) (s : State ℕ View) (tree_state : TreeState)
   -- the entries: the opening ones after the changes
   pub is_map : IsMapAt tree_state now
   pub kept : (key : ℕ) → pointer_of now key ≡ after (pointer_of plan.opening) log key
-  pub untouched : (key : ℕ) → owners.key key ≡ 0 → states_of key log ≡ []
   -- the seats
   pub views : (seat : ℕ) (v : View) → get_elem? s.views seat ≡ some v → Knows plan owners s.words tree_state log seat v
   pub others_idle : (seat : ℕ) → length s.views ≤ seat → tree_state.machines seat ≡ None

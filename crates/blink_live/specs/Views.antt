@@ -19,7 +19,7 @@ use Rattle.blink_live.specs.declared.view.Role.{Role}
 use Rattle.blink_live.specs.declared.view.Role.TheVariants.{Keeper, Pass, Spent}
 use Rattle.blink_live.specs.declared.view.Share.{Share}
 use Rattle.blink_live.specs.declared.view.View.{View}
-use Rattle.blink_live.specs.Changes.{after, states_of, changes_made}
+use Rattle.blink_live.specs.Changes.{after, entries_after, states_of, changes_made}
 
 -- a seat's view, with the slots that it has taken; this table has no slots
 abbrev pub SeatState : Type 0
@@ -78,11 +78,11 @@ spent plan = seat_for plan Spent (span 1 1) (span 1 1) no_share
 abbrev pub known_of : View → ℕ → Option ℕ
 known_of v key = after (pointer_of v.plan.opening) v.seen key
 
--- of its own keys the seat has seen exactly the changes that its own operations made
+-- of its own keys the seat has seen exactly the changes of its share
 abbrev pub SawItsOwn : View → Type 0
 SawItsOwn v = (key : ℕ) → Contains v.share.keys key → states_of key v.seen ≡ states_of key v.share.changes
 
--- of the share's keys these changes show only those that its own operations made, from the first on
+-- of the share's keys these changes show only the share's, from the first on
 abbrev pub ShowsNoMore : List Change → Share → Type 0
 ShowsNoMore seen share = (key : ℕ) → Contains share.keys key → IsPrefix (states_of key seen) (states_of key share.changes)
 
@@ -167,8 +167,13 @@ is_among (first ∷ rest) key = (first == key) || is_among rest key
 abbrev pub entries_of : List ℕ → List Entry → List Entry
 entries_of keys entries = filter (λ (e : Entry). is_among keys e.key) entries
 
-abbrev pub share_of_keys : List ℕ → List Entry → Share
-share_of_keys keys opening = record { keys = keys; entries = entries_of keys opening; changes = [] }
+-- the changes of these keys
+abbrev pub changes_of : List ℕ → List Change → List Change
+changes_of keys changes = filter (λ (change : Change). is_among keys change.key) changes
+
+-- the share of these keys after these changes
+abbrev pub share_of_keys : List ℕ → List Entry → List Change → Share
+share_of_keys keys opening seen = record { keys = keys; entries = entries_of keys (entries_after opening seen); changes = changes_of keys seen }
 
 -- the keeper has dealt one more pass, or has taken one back
 abbrev pub deals_one : Role → Role
@@ -188,12 +193,16 @@ keeps_rest v rows pages taken = record v {
   taken = taken;
 }
 
--- a pass with these rows and page numbers, and with these keys
+-- a pass with these rows and page numbers, and with these keys; it has seen what the keeper has seen
 abbrev pub gets_first : View → ℕ → ℕ → List ℕ → View
 gets_first v rows pages keys =
-    seat_for v.plan Pass (span v.rows.next (v.rows.next + rows)) (span v.pages.next (v.pages.next + pages)) (share_of_keys keys v.plan.opening)
+    record (seat_for v.plan Pass (span v.rows.next (v.rows.next + rows)) (span v.pages.next (v.pages.next + pages)) (share_of_keys keys v.plan.opening v.seen)) { seen = v.seen }
 
--- the keeper after a pass's share has come back
+-- the keeper after a pass has come back while the table lives: these keys are still taken, and it has seen what the pass had seen
+abbrev pub retires : View → List ℕ → View → View
+retires v taken w = record v { role = takes_one v.role; taken = taken; seen = w.seen }
+
+-- the keeper after a pass's share has come back, when the table closes
 abbrev pub takes_back : View → View → View
 takes_back v w = record v { role = takes_one v.role; back = w.share ∷ v.back }
 

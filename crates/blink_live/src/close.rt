@@ -7,7 +7,7 @@ ghost use Rattle.blink_index.specs.{map_of};
 ghost use Rattle.blink_page.specs.{IsFan, IsPageNumber};
 ghost use Rattle.blink_machine.specs.{IsMapOf};
 ghost use Rattle.blink_live.specs.Gathered.{IsNumberedInOrder, KeepsTreeAtRest, HasTheEntries};
-ghost use Rattle.blink_live.specs.Handles.{IsKeeperOf, IsPassOf, fan_of, passes_dealt};
+ghost use Rattle.blink_live.specs.Handles.{IsKeeperOf, IsPassOf, fan_of, passes_out};
 ghost use Rattle.blink_live.specs.declared.view.Role.TheVariants.{Keeper as KeeperRole, Pass as PassRole};
 ghost use Rattle.blink_live.specs.Merge.{IsMerge, shares_of, KeepsPrime, KeepsSomeTree, KeepsTree};
 ghost use Rattle.blink_live.specs.Views.{TakesAllBack, plan_of, takes_back};
@@ -31,10 +31,10 @@ use std::marker::Brand;
 
 impl Live {
     /// Closes the table once all passes are back, and returns the index of its tree. The index's entries are those that the
-    /// table was opened with, except that each key that was dealt has the state of its pass's share. Its pages are numbered anew
-    /// from 1, level 0 first, and each level from the left.
+    /// table was opened with, except that each key that was ever dealt has the state of its last pass's share. Its pages are
+    /// numbered anew from 1, level 0 first, and each level from the left.
     ///
-    /// The call refuses with `Missing` exactly if fewer passes come back than were dealt; then with `OutOfMemory`, if memory was
+    /// The call refuses with `Missing` exactly if fewer passes come back than are out; then with `OutOfMemory`, if memory was
     /// refused. The table is given up either way. The index that was opened stays as it was.
     pub fn close(self, alloc: Global, keeper: Keeper, passes: Vec<Pass>) -> Result<Index, LiveError>
         requires its_keeper { IsKeeperOf self keeper }
@@ -42,11 +42,11 @@ impl Live {
         ensures fan { IfOk result (λ index. index.fan ≡ fan_of self) }
         ensures entries { IfOk result (λ index. IsMerge self keeper passes.items (map_of index)) }
         ensures numbered { IfOk result IsNumberedInOrder }
-        ensures missing { IsErrOf result LiveError.Missing ↔ length passes.items < passes_dealt keeper }
+        ensures missing { IsErrOf result LiveError.Missing ↔ length passes.items < passes_out keeper }
         ensures refused { IfErr result
             (λ refusal. (refusal ≡ LiveError.Missing) ⊎ (refusal ≡ LiveError.OutOfMemory)) }
     {
-        if passes.len() < keeper.dealt as usize {
+        if passes.len() < keeper.out() as usize {
             return Err(LiveError::Missing);
         }
         let Keeper {
@@ -55,6 +55,7 @@ impl Live {
             rows: _,
             pages: _,
             dealt: _,
+            back: _,
         } = keeper;
         self.take_back(&mut seat, passes);
         let Live { table, counts, fan } = self;

@@ -6,7 +6,7 @@ ghost use Rattle.std.specs.Ordering.{nat_cmp};
 ghost use Rattle.blink_page.specs.declared.limits.TheConstants.{MAX_NEW_PAGES_PER_INSERT};
 ghost use Rattle.blink_live.specs.Dealing.{CanDeal, HasMet};
 ghost use Rattle.blink_live.specs.Deals.{IsFirstTaken, NoneIsTaken, LacksAllowance, IsDealt, HasDealt, IsDealRefusal, rows_for};
-ghost use Rattle.blink_live.specs.Handles.{IsKeeperOf, taken_of, keys_of};
+ghost use Rattle.blink_live.specs.Handles.{IsKeeperOf, taken_of, keys_of, passes_out};
 ghost use Rattle.blink_live.specs.KeyTest.{HasReached, IsWindow};
 ghost use Rattle.blink_live.specs.Seats.{HasSameNumber};
 ghost use Rattle.blink_live.specs.Views.{span, keeps_rest, gets_first};
@@ -24,13 +24,15 @@ use std::marker::Brand;
 
 impl Live {
     /// Deals a pass with these keys, which no other pass has. The pass has room for `inserts` insertions and `deletes`
-    /// deletions. Its share begins with the entries that the table was opened with. The call's work grows nearly linearly with
-    /// the keys and those dealt before. If it refuses and memory is refused to it, it grows with the square of the keys.
+    /// deletions. A key that was never dealt begins with the entry that the table was opened with; a key that came back
+    /// begins with what its last pass left. The pass has seen all that the keeper has seen. The call's work grows nearly
+    /// linearly with the keys and those that are taken. If it refuses and memory is refused to it, it grows with the square
+    /// of the keys.
     ///
-    /// The call refuses first with `Taken`, which names the first key of the list that was dealt before or stands earlier in the
-    /// list. Then it refuses with `NoAllowance` exactly if the keeper has fewer insertions or deletions left, or has dealt
-    /// 4,294,967,295 passes. Then it refuses with `DealOutOfMemory`, if memory was refused. A refusal leaves the keeper as it
-    /// was; the list is given up.
+    /// The call refuses first with `Taken`, which names the first key of the list that a pass has which is out, or that stands
+    /// earlier in the list. Then it refuses with `NoAllowance` exactly if the keeper has fewer insertions or deletions left, or
+    /// has dealt 4,294,967,295 passes. Then it refuses with `DealOutOfMemory`, if memory was refused. A refusal leaves the
+    /// keeper as it was; the list is given up.
     pub fn deal(
         &self,
         keeper: &mut Keeper,
@@ -78,6 +80,7 @@ impl Live {
             rows,
             pages,
             dealt,
+            back: _,
         } = keeper;
         keys.sort_unstable();
         let row_count = MAX_ROWS_PER_INSERT * u64::from(inserts) + u64::from(deletes);
@@ -117,7 +120,7 @@ impl Live {
 }
 
 impl Keeper {
-    /// Returns the keys that were dealt, in ascending order.
+    /// Returns the keys that were dealt and haven't come back, in ascending order.
     pub fn taken(&self) -> &[u64]
         ensures { result.now ≡ taken_of self.now }
     {
@@ -129,6 +132,13 @@ impl Keeper {
         ensures { result ≡ self.now.dealt }
     {
         self.dealt
+    }
+
+    /// Returns the number of passes that are out: those that were dealt and haven't come back.
+    pub fn out(&self) -> u32
+        ensures { result ≡ passes_out self.now }
+    {
+        self.dealt - self.back
     }
 
     /// Returns the rows that weren't dealt.

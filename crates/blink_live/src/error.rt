@@ -10,7 +10,7 @@ pub enum LiveError {
     /// Memory was refused when a table was to be opened or closed.
     #[error("out of memory")]
     OutOfMemory,
-    /// This key was dealt before, or stands twice in the list that was to be dealt.
+    /// A pass has this key which is out, or the key stands twice in the list that was to be dealt.
     #[error("key {0} is taken")]
     Taken(u64),
     /// The keeper has fewer insertions or deletions left than were asked for, or has dealt as many passes as it may.
@@ -19,7 +19,7 @@ pub enum LiveError {
     /// Memory was refused when a pass was to be dealt.
     #[error("out of memory")]
     DealOutOfMemory,
-    /// A pass that was dealt isn't among those that came back.
+    /// A pass is out that isn't among those that came back.
     #[error("missing pass")]
     Missing,
     /// The allowed insertions might need more page numbers than there are.

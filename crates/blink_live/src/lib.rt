@@ -9,6 +9,7 @@ mod live;
 mod open;
 mod operations;
 mod read;
+mod retire;
 mod room;
 mod rule;
 mod tell;

@@ -35,8 +35,9 @@ pub struct Live {
     ghost width: { table.shared.table_id.words ≡ word_count counts },
 }
 
-/// The right to deal a table's passes, and to close the table when they are back. It holds the keys that were dealt, the rows
-/// and the page numbers that were not, and the number of passes dealt.
+/// The right to deal a table's passes, to take them back, and to close the table when all are back. It holds the keys of the
+/// passes that are out, the rows and the page numbers that weren't dealt, and the numbers of passes dealt and of passes taken
+/// back.
 #[derive(Drop)]
 pub struct Keeper {
     pub(crate) seat: Seat<u8, View>,
@@ -44,13 +45,15 @@ pub struct Keeper {
     pub(crate) rows: Span,
     pub(crate) pages: Span,
     pub(crate) dealt: u32,
+    pub(crate) back: u32,
     ghost taken_are: { taken.items ≡ seat.me.0.taken },
     ghost rows_are: { rows ≡ seat.me.0.rows },
     ghost pages_are: { pages ≡ seat.me.0.pages },
     ghost in_order: { (rows.next ≤ rows.stop) × (pages.next ≤ pages.stop) },
     ghost for_changes: { AreForChanges pages rows },
     ghost ascending: { IsSorted nat_cmp taken.items },
-    ghost role_is: { seat.me.0.role ≡ Keeper dealt 0 },
+    ghost role_is: { seat.me.0.role ≡ Keeper dealt back },
+    ghost counted: { back ≤ dealt },
     ghost no_slot: { seat.me.1 ≡ [] },
 }
 

@@ -65,6 +65,7 @@ impl Live {
                 stop: counts.numbers,
             },
             dealt: 0,
+            back: 0,
         };
         let fan = store.fan();
         Ok((Live { table, counts, fan }, keeper))

@@ -155,7 +155,8 @@ impl Live {
         ensures knows { OnOk result (KnowsItsKeys self.now pass.new) }
         ensures not_yours { IsErrOf result PassError.NotYours ↔ ¬ Contains (keys_of pass.old) (key_of op) }
         ensures spent { IsErrOf result PassError.Spent
-            ↔ (Contains (keys_of pass.old) (key_of op) × (changes_left op pass.old.pages pass.old.rows ≡ 0)) }
+            ↔ (Contains (keys_of pass.old) (key_of op)
+            × (changes_left op pass.old.pages pass.old.rows ≡ 0)) }
         ensures unchanged { OnErr result (pass.new ≡ pass.old) }
     {
         pass.accepts(op)?;
@@ -177,7 +178,8 @@ impl Pass {
         ensures some_left { OnOk result (changes_left op self.now.pages self.now.rows ≢ 0) }
         ensures not_yours { IsErrOf result PassError.NotYours ↔ ¬ Contains (keys_of self.now) (key_of op) }
         ensures spent { IsErrOf result PassError.Spent
-            ↔ (Contains (keys_of self.now) (key_of op) × (changes_left op self.now.pages self.now.rows ≡ 0)) }
+            ↔ (Contains (keys_of self.now) (key_of op)
+            × (changes_left op self.now.pages self.now.rows ≡ 0)) }
     {
         if !self.has(op.key()) {
             return Err(PassError::NotYours);

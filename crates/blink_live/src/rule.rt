@@ -77,6 +77,16 @@ impl Play<u8, View> for LookBack {
     ghost then = { looks_back };
 }
 
+/// The load of the prime block's page word by the keeper, which may hold a note. After it the keeper has seen no more than
+/// before.
+pub(crate) struct LookAround;
+
+impl Play<u8, View> for LookAround {
+    ghost use Rattle.blink_live.specs.AtomicSteps.{looks_around};
+
+    ghost then = { looks_around };
+}
+
 /// The load of a word of the row that a page word named.
 pub(crate) struct LoadWord;
 
@@ -191,7 +201,7 @@ impl Planned for Brand {
     ghost plan = { no_plan };
 }
 
-/// The keeper takes back a pass, whose seat is spent by that.
+/// The keeper takes back a pass when the table closes. Its seat is spent.
 pub(crate) struct TakeBack<B> {
     of: PhantomData<B>,
 }
@@ -204,7 +214,39 @@ impl<B: Planned> Join<View> for TakeBack<B> {
     ghost spent = { spent B.plan };
 }
 
-/// A note: what a pass has seen becomes a seat of its own, for another pass to take.
+/// The keys that are taken once a pass has come back, and the plan of the table. Each call picks them.
+pub(crate) trait Retired {
+    ghost use Rattle.std.specs.Prelude.{ℕ, List};
+    ghost use Rattle.blink_live.specs.declared.view.Plan.{Plan};
+
+    ghost taken: { List ℕ };
+
+    ghost plan: { Plan };
+}
+
+impl Retired for Brand {
+    ghost use Rattle.std.specs.Prelude.{[]};
+    ghost use Rattle.blink_live.specs.Views.{no_plan};
+
+    ghost taken = { [] };
+
+    ghost plan = { no_plan };
+}
+
+/// The keeper takes back a pass while the table lives. Its keys are free, and its seat is spent.
+pub(crate) struct Retire<B> {
+    of: PhantomData<B>,
+}
+
+impl<B: Retired> Join<View> for Retire<B> {
+    ghost use Rattle.blink_live.specs.Views.{retires, spent};
+
+    ghost both = { λ v w. retires v B.taken w };
+
+    ghost spent = { spent B.plan };
+}
+
+/// A note: what a pass or the keeper has seen becomes a seat of its own, for another to take.
 pub(crate) struct Note;
 
 impl Split<View> for Note {
@@ -215,7 +257,7 @@ impl Split<View> for Note {
     ghost right = { note_of };
 }
 
-/// A pass takes a note, whose seat is spent by that.
+/// A pass or the keeper takes a note, whose seat is spent by that.
 pub(crate) struct Hear<B> {
     of: PhantomData<B>,
 }

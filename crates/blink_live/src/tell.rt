@@ -70,10 +70,10 @@ impl Live {
         self.look_back(teller);
     }
 
-    // Hands the seat of `to` a note of what the seat of `from` has seen.
-    fn pass_on(&self, from: &mut Seat<u8, View>, to: &mut Seat<u8, View>)
-        requires from { IsPassSeat self.now from.old.table_id from.old.me }
-        requires to { IsPassSeat self.now to.old.table_id to.old.me }
+    // Hands the seat `to` a note of what the seat `from` has seen.
+    pub(crate) fn pass_on(&self, from: &mut Seat<u8, View>, to: &mut Seat<u8, View>)
+        requires tables { (from.old.table_id ≡ self.now.table.shared.table_id)
+            × (to.old.table_id ≡ self.now.table.shared.table_id) }
         ensures from { IsSameSeat from.old from.new }
         ensures to { HasSameNumber to.old to.new }
         ensures told { to.new.me ≡ (hears to.old.me.0 (note_of from.old.me.0), to.old.me.1) }
@@ -83,7 +83,7 @@ impl Live {
     }
 
     // The seat sees all changes so far.
-    fn look_up(&self, seat: &mut Seat<u8, View>)
+    pub(crate) fn look_up(&self, seat: &mut Seat<u8, View>)
         requires seat { IsPassSeat self.now seat.old.table_id seat.old.me }
         ensures same { HasSameNumber seat.old seat.new }
         ensures up { LooksUp seat.old.me seat.new.me }
@@ -101,10 +101,10 @@ impl Live {
         self.table.shared.load::<LookBack>(seat, 0);
     }
 
-    // A pass's seat takes the note.
+    // The seat takes the note.
     fn hear<B: Planned>(&self, seat: &mut Seat<u8, View>, note: Seat<u8, View>)
-        requires seat { IsPassSeat self.now seat.old.table_id seat.old.me }
-        requires table { note.table_id ≡ self.now.table.shared.table_id }
+        requires tables { (seat.old.table_id ≡ self.now.table.shared.table_id)
+            × (note.table_id ≡ self.now.table.shared.table_id) }
         requires picked { B.plan ≡ plan_of self.now.table.shared.key }
         requires note { IsIdleIn Spent note.me }
         ensures same { HasSameNumber seat.old seat.new }

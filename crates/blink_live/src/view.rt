@@ -28,6 +28,7 @@ pub(crate) struct Change {
 }
 
 /// A pass's part of the map: its keys, their entries as its own operations leave them, and the changes of these operations.
+/// Before them stand the changes of its keys by the passes that had them earlier.
 pub(crate) struct Share {
     pub keys: LinkedList<u64>,
     pub entries: LinkedList<Entry>,

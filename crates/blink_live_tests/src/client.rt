@@ -1,11 +1,13 @@
 //! Runs the table's tutorial. The first glance of its two threads may come before or after the insertion.
-ghost use Rattle.std.specs.Prelude.{◌≡◌};
+ghost use Rattle.std.specs.Prelude.{◌≡◌, []};
 ghost use Rattle.blink_index.specs.{map_of};
-ghost use Rattle.blink_live.specs.{IsKeeperOf, opening_of};
+ghost use Rattle.blink_live.specs.{IsKeeperOf, opening_of, seen_by};
 
 use crate::indexes::filled;
+use blink_batch::Answer;
 use blink_client::{
-    deal_key, glance_at_nobodys_key, insert_and_show, insert_and_show_on, two_threads,
+    deal_key, find_what_was_left, glance_at_nobodys_key, insert_and_show, insert_and_show_on,
+    two_threads,
 };
 use blink_index::Index;
 use blink_live::{Keeper, Live, LiveError};
@@ -28,6 +30,7 @@ fn two_threads_show_an_entry(rt: HostRuntime) {
 fn opened<R: AllocGlobal + Abort>(rt: &R, index: &Index) -> (Live, Keeper)
     ensures its_own { IsKeeperOf result.0 result.1 }
     ensures opening { opening_of result.0 ≡ map_of index.now }
+    ensures none_back { seen_by result.1 ≡ [] }
 {
     let allowance = Allowance {
         inserts: 1,
@@ -91,4 +94,17 @@ fn glance_at_nobodys_key_returns_the_opening_state(rt: HostRuntime) {
         glance_at_nobodys_key(alloc, &live, &mut keeper, &mut pass, 3),
         Err(LiveError::Taken(3))
     );
+}
+
+#[test]
+fn find_what_was_left_finds_the_entry(rt: HostRuntime) {
+    let alloc = rt.alloc();
+    let index = filled(&rt, alloc, 4);
+    if index.find(5).is_some() {
+        panic!(rt; "the key is there");
+    }
+    let (live, mut keeper) = opened(&rt, &index);
+    let one = deal_key(alloc, &live, &mut keeper, 5, 1).expect(&rt, "no pass");
+    let found = find_what_was_left(&rt, alloc, &live, &mut keeper, one, 5, 50);
+    assert_eq!(rt; found, Ok(Some(Answer::Found(50))));
 }

@@ -26,6 +26,8 @@ mod opening;
 #[cfg(test)]
 mod replacing;
 #[cfg(test)]
+mod retiring;
+#[cfg(test)]
 mod shared;
 #[cfg(test)]
 mod stepping;

@@ -157,6 +157,26 @@ impl Shared {
         with_last(rt, live, passes, last);
     }
 
+    // The last pass comes back.
+    pub(crate) fn retire_last<R: Abort>(&mut self, rt: &R) {
+        let (live, keeper, passes) = (&self.live, &mut self.keeper, &mut self.passes);
+        let last = without_last(rt, live, passes);
+        live.retire(keeper, last);
+    }
+
+    // All passes come back, and their threads have no work.
+    pub(crate) fn retire_all<R: Abort>(&mut self, rt: &R) {
+        self.works.clear();
+        for _ in 0..self.passes.len() {
+            self.retire_last(rt);
+        }
+    }
+
+    // The keeper has dealt so many passes, and so many are out.
+    pub(crate) fn assert_counts<R: Abort>(&self, rt: &R, dealt: u32, out: u32) {
+        assert_eq!(rt; (self.keeper.dealt(), self.keeper.out()), (dealt, out));
+    }
+
     // The first pass is dropped.
     pub(crate) fn lose_first<R: Abort>(&mut self, rt: &R) {
         assert!(rt; !self.passes.is_empty(), "no pass");

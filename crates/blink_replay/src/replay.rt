@@ -284,7 +284,8 @@ fn replay_batch(
     requires allowed { MayWork workers }
     requires workers { All (λ worker. worker < workers) schedule.now }
     ensures told { IfOk result
-        (TellsBatch workers schedule.now index batch (string_bytes texts.old.trace) (string_bytes texts.new.trace)) }
+        (TellsBatch workers schedule.now index batch
+        (string_bytes texts.old.trace) (string_bytes texts.new.trace)) }
     ensures text { IfOk result (λ _. string_bytes texts.new.text
         ≡ string_bytes texts.old.text ++ text_of (answers (map_of index) batch)) }
     ensures map { IfOk result (λ after. map_of after ≡ map_after_all (map_of index) batch) }

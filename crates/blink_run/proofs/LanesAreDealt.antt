@@ -9,8 +9,8 @@ use Rattle.blink_batch.specs.{is_insert, IsLawfulCut, pointer_of}
 use Rattle.blink_rows.specs.declared.span.Span.{Span}
 use Rattle.blink_live.specs.declared.Keeper.{Keeper}
 use Rattle.blink_live.specs.declared.Live.{Live}
-use Rattle.blink_live.specs.{inserts_left, deletes_left, HasDealt, IsDealt, LacksAllowance, NoneIsTaken, IsKeeperOf, keys_of, opening_of, passes_dealt, taken_of}
-use Rattle.blink_live.proofs.Offered.{among_from_contains, entries_of_keep}
+use Rattle.blink_live.specs.{inserts_left, deletes_left, HasDealt, IsDealt, LacksAllowance, NoneIsTaken, IsKeeperOf, keys_of, known_entries, passes_dealt, passes_out, seen_by, taken_of}
+use Rattle.blink_live.proofs.Offered.{among_from_contains, entries_of_keep, known_entries-opening}
 use Rattle.blink_run.specs.declared.live.lane.LaneRun.{LaneRun}
 use Rattle.blink_run.specs.declared.live.needs.Needs.{Needs}
 use Rattle.blink_run.specs.Lanes.{HasDealtAll, IsKeyOfOne, IsNeeded, IsNewKeeper, MayRun, uses_deletion, lane_ops}
@@ -20,15 +20,16 @@ use Rattle.blink_run.proofs.KeysOfLanes.{key_of_batch, one_lane_a_key}
 -- ---- a lane's pass
 
 -- a pass that was dealt for what some operations need may run them
-pub may_run : (live : Live) (old : Keeper) (ops : List Op) (needs : Needs) (run : LaneRun) → IsNeeded ops needs → IsDealt live old needs.keys.items needs.inserts needs.deletes run.pass
+pub may_run : (live : Live) (old : Keeper) → seen_by old ≡ [] → (ops : List Op) (needs : Needs) (run : LaneRun) → IsNeeded ops needs → IsDealt live old needs.keys.items needs.inserts needs.deletes run.pass
     → run.answers.items ≡ [] → needs.operations ≤ vec_capacity run.answers → MayRun live ops run
-may_run live old ops needs run needed dealt none_yet room = record {
+may_run live old none_seen ops needs run needed dealt none_yet room = record {
   its_own = dealt.its_own;
   keys = λ key. (
     λ there. (needed.keys key).0 (back key there),
     λ one. Contains-permutation needs.keys.items (keys_of run.pass) key dealt.same_keys ((needed.keys key).1 one),
   );
-  share = λ key there. ap (λ share. pointer_of share key) dealt.share ∙ entries_of_keep needs.keys.items (opening_of live) key (among_from_contains needs.keys.items key (back key there));
+  share = λ key there. ap (λ share. pointer_of share key) dealt.share
+      ∙ (entries_of_keep needs.keys.items (known_entries live old) key (among_from_contains needs.keys.items key (back key there)) ∙ ap (λ entries. pointer_of entries key) (known_entries-opening live old none_seen));
   inserts = let left = ap inserts_left dealt.pages ∙ inserts_dealt old.pages.next needs.inserts in let asked = needed.inserts in omega (arith, asked, left);
   deletes =
       let left = ap (λ (s : Span × Span). deletes_left s.0 s.1) (λ i. (dealt.pages i, dealt.rows i)) ∙ deletes_dealt old.pages.next old.rows.next needs.inserts needs.deletes in
@@ -49,6 +50,8 @@ pub record HasDealtBefore (live : Live) (ops : List Op) (lanes : List ℕ) (work
   pub its_own : IsKeeperOf live keeper
   pub taken : (key : ℕ) → Contains (taken_of keeper) key → (lane : ℕ) × (lane < worker) × IsKeyOfOne (lane_ops ops lanes lane) key
   pub dealt : passes_dealt keeper ≡ worker
+  pub out : passes_out keeper ≡ worker
+  pub none_seen : seen_by keeper ≡ []
   pub inserts : count_from is_insert ops lanes worker ≤ inserts_left keeper.pages
   pub deletes : count_from uses_deletion ops lanes worker ≤ deletes_left keeper.pages keeper.rows
 
@@ -58,6 +61,8 @@ dealt_none live ops lanes keeper long new = record {
   its_own = new.its_own;
   taken = λ key there. absurd (let inside = (subst (λ (keys : List ℕ). Contains keys key) new.none_taken there).1 in omega (arith, inside));
   dealt = new.none_dealt;
+  out = new.none_out;
+  none_seen = new.none_seen;
   inserts = let all = count_from-first is_insert ops lanes long in let enough = new.inserts in omega (arith, all, enough);
   deletes = let all = count_from-first uses_deletion ops lanes long in let enough = new.deletes in omega (arith, all, enough);
 }
@@ -67,7 +72,8 @@ pub dealt_all : (live : Live) (ops : List Op) (lanes : List ℕ) (workers : ℕ)
 dealt_all live ops lanes workers keeper has = record {
   its_own = has.its_own;
   taken = λ key there. let found = has.taken key there in key_of_batch ops lanes found.0 key found.2;
-  dealt = has.dealt;
+  dealt = has.out;
+  none_seen = has.none_seen;
 }
 
 module _ (live : Live) (ops : List Op) (lanes : List ℕ) (worker : ℕ) (keeper : Keeper) (needs : Needs) (has : HasDealtBefore live ops lanes worker keeper) (needed : IsNeeded (lane_ops ops lanes worker) needs) where
@@ -116,6 +122,8 @@ module _ (live : Live) (ops : List Op) (lanes : List ℕ) (worker : ℕ) (keeper
         (λ (own : Contains needs.keys.items key). (worker, omega arith, (needed.keys key).0 own))
         ((dealt.taken key).0 there);
     dealt = let one_more = dealt.one_more in let before = has.dealt in omega (arith, one_more, before);
+    out = let one_more = dealt.one_more_out in let before = has.out in omega (arith, one_more, before);
+    none_seen = dealt.same_seen ∙ has.none_seen;
     inserts =
         let left = ap inserts_left dealt.pages in
         let rest = inserts_rest keeper.pages keeper.rows needs.inserts needs.deletes (enough_inserts long) in

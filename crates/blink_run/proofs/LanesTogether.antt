@@ -14,7 +14,8 @@ use Rattle.blink_batch.proofs.Offered.{IsAscending-map_after_all, IsKeyOfLane, I
 use Rattle.blink_live.specs.declared.Keeper.{Keeper}
 use Rattle.blink_live.specs.declared.Live.{Live}
 use Rattle.blink_live.specs.declared.Pass.{Pass}
-use Rattle.blink_live.specs.{IsPassOf, opening_of, passes_dealt, IsMerge}
+use Rattle.blink_live.specs.{IsPassOf, opening_of, passes_out, IsMerge}
+use Rattle.blink_live.proofs.Offered.{known_entries-opening}
 use Rattle.blink_store.proofs.Offered.{same_at_each}
 use Rattle.blink_run.specs.declared.live.lane.LaneRun.{LaneRun}
 use Rattle.blink_run.specs.Lanes.{AreGathered, HasDealtAll, HasRun, HaveRun, HaveRunLanes, IsKeyOfOne, lane_ops, rank_in_lane}
@@ -63,7 +64,7 @@ module _ (live : Live) (ops : List Op) (workers : ℕ) (lanes : List ℕ) (runs 
       rw (get_or_from_slice_get (map f runs) k (found.0).pass other here) (have.each k found.0 found.1).its_own
 
   -- none is missing
-  pub none_missing : (keeper : Keeper) → HasDealtAll live ops workers keeper → ¬ (length (map (λ (run : LaneRun). run.pass) runs) < passes_dealt keeper)
+  pub none_missing : (keeper : Keeper) → HasDealtAll live ops workers keeper → ¬ (length (map (λ (run : LaneRun). run.pass) runs) < passes_out keeper)
   none_missing keeper dealt less =
       let long = length-map runs (λ (run : LaneRun). run.pass) in
       let as_many = have.as_many in
@@ -125,7 +126,7 @@ module _ (live : Live) (ops : List Op) (workers : ℕ) (lanes : List ℕ) (runs 
         let found = dealt.taken key taken in
         let (place, within, at) = found.1 in
         none place found.0 (slice_get-get_or ops place found.0 within ∙ ap Some at) found.2)
-        ∙ (ap (λ (kept : List Entry). pointer_of kept key) opening ∙ sym (untouched_by_batch m ops key none))
+        ∙ (ap (λ (kept : List Entry). pointer_of kept key) (known_entries-opening live keeper dealt.none_seen ∙ opening) ∙ sym (untouched_by_batch m ops key none))
   ])
 
 -- ---- passes and answers that are given together
@@ -136,9 +137,9 @@ module _ (live : Live) (ops : List Op) (workers : ℕ) (lanes : List ℕ) (passe
   passes_are_its = subst (λ (all : List Pass). All (IsPassOf live) all) (sym ran.its_passes) (its_passes live ops workers lanes ran.runs lawful ran.have_run)
 
   -- none is missing
-  pub no_pass_missing : (keeper : Keeper) → HasDealtAll live ops workers keeper → ¬ (length passes < passes_dealt keeper)
+  pub no_pass_missing : (keeper : Keeper) → HasDealtAll live ops workers keeper → ¬ (length passes < passes_out keeper)
   no_pass_missing keeper dealt =
-      subst (λ (all : List Pass). ¬ (length all < passes_dealt keeper)) (sym ran.its_passes) (none_missing live ops workers lanes ran.runs lawful ran.have_run keeper dealt)
+      subst (λ (all : List Pass). ¬ (length all < passes_out keeper)) (sym ran.its_passes) (none_missing live ops workers lanes ran.runs lawful ran.have_run keeper dealt)
 
   -- the answers are one thread's
   pub given_answers : (m : List Entry) → opening_of live ≡ m → given ≡ answers m ops

@@ -8,7 +8,7 @@ use Rattle.blink_batch.specs.{Assignment, is_insert, answers, key_of, map_after,
 use Rattle.blink_live.specs.declared.Keeper.{Keeper}
 use Rattle.blink_live.specs.declared.Live.{Live}
 use Rattle.blink_live.specs.declared.Pass.{Pass}
-use Rattle.blink_live.specs.{inserts_left, deletes_left, NoneIsTaken, IsKeeperOf, IsPassOf, keys_of, opening_of, passes_dealt, share_of, taken_of}
+use Rattle.blink_live.specs.{inserts_left, deletes_left, NoneIsTaken, IsKeeperOf, IsPassOf, keys_of, opening_of, passes_dealt, passes_out, seen_by, share_of, taken_of}
 use Rattle.blink_run.specs.declared.live.lane.LaneRun.{LaneRun}
 use Rattle.blink_run.specs.declared.live.needs.Needs.{Needs}
 use Rattle.blink_run.specs.declared.live.threads.RunsLane.{RunsLane}
@@ -44,19 +44,22 @@ pub record IsNeeded (ops : List Op) (needs : Needs) : Type 0 where
   pub inserts : needs.inserts ≡ count_by is_insert ops
   pub deletes : needs.deletes ≡ count_by uses_deletion ops
 
--- the keeper has dealt nothing, and has the insertions and deletions that these operations use
+-- the keeper has dealt nothing, and seen nothing, and has the insertions and deletions that these operations use
 pub record IsNewKeeper (live : Live) (ops : List Op) (keeper : Keeper) : Type 0 where
   pub its_own : IsKeeperOf live keeper
   pub none_taken : taken_of keeper ≡ []
   pub none_dealt : passes_dealt keeper ≡ 0
+  pub none_out : passes_out keeper ≡ 0
+  pub none_seen : seen_by keeper ≡ []
   pub inserts : count_by is_insert ops ≤ inserts_left keeper.pages
   pub deletes : count_by uses_deletion ops ≤ deletes_left keeper.pages keeper.rows
 
--- the keeper has dealt a pass to each of this many workers, and no key but those of the operations
+-- a pass is out for each of this many workers, with no key but those of the operations, and none came back
 pub record HasDealtAll (live : Live) (ops : List Op) (workers : ℕ) (keeper : Keeper) : Type 0 where
   pub its_own : IsKeeperOf live keeper
   pub taken : (key : ℕ) → Contains (taken_of keeper) key → IsKeyOfOne ops key
-  pub dealt : passes_dealt keeper ≡ workers
+  pub dealt : passes_out keeper ≡ workers
+  pub none_seen : seen_by keeper ≡ []
 
 -- ---- a lane's run
 

@@ -107,7 +107,6 @@ module _ (plan : Plan) (s : State ℕ View) (tree_state : TreeState) (h : IsTabl
             (λ differ. h.holders n seat (sym (put_else tree_state.holder number n holder differ) ∙ has));
         is_map = record { ascending = h.is_map.ascending; kept = h.is_map.kept };
         kept = h.kept;
-        untouched = h.untouched;
       }
 
   -- and the page that it needs next

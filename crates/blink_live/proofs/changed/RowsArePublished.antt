@@ -206,9 +206,6 @@ module _ (plan : Plan) (s : State ℕ View) (tree_state then : TreeState) (h : I
         holders = λ n seat holds. h.holders n seat (sym (step.same_holder n) ∙ holds);
         is_map = own.is_map;
         kept = own.kept_now;
-        untouched = λ key nobody.
-            states_of-append key h.log made
-            ∙ (ap (λ (l : List (Option ℕ)). l ++ states_of key made) (h.untouched key nobody) ∙ own.other_changes key (λ e. let zero_is : 0 ≡ suc id = sym nobody ∙ e in absurd (omega (arith, zero_is))));
       }
 
       pub publish_keeps : IsTable plan record { words = words; homes = s.homes; views = set s.views id w }

@@ -17,18 +17,19 @@ use Rattle.blink_live.specs.declared.view.Role.{Role}
 use Rattle.blink_live.specs.declared.view.Role.TheVariants.{Keeper}
 use Rattle.blink_live.specs.declared.view.Share.{Share}
 use Rattle.blink_live.specs.declared.view.View.{View}
+use Rattle.blink_live.specs.Changes.{after}
 use Rattle.blink_live.specs.Merge.{KeepsTree}
 use Rattle.blink_live.specs.Rule.{PageWordIs, IsInRole, IsTableAt, IsTable}
 use Rattle.blink_live.specs.Words.{KeepsPage}
 use Rattle.blink_live.proofs.closed.AllBack.{all_back}
-use Rattle.blink_live.proofs.dealt.KeysOfShare.{after_untouched}
+use Rattle.blink_live.proofs.told.EntriesAfterChanges.{after-same_states}
 
--- what a table at the end says: its tree has these entries, which are those of the shares that came back, and else the opening ones
+-- what a table at the end says: its tree has these entries, which are those of the shares that came back, and else those that the keeper knows
 pub record IsAtEnd (plan : Plan) (words : List ℕ) (v : View) : Type 0 where
   pub now : List Entry
   pub tree : KeepsTree plan.counts words plan.fan now
   pub shares : (share : Share) (key : ℕ) → Contains v.back share → Contains share.keys key → pointer_of now key ≡ pointer_of share.entries key
-  pub others : (key : ℕ) → ¬ Contains v.taken key → pointer_of now key ≡ pointer_of plan.opening key
+  pub others : (key : ℕ) → ¬ Contains v.taken key → pointer_of now key ≡ after (pointer_of plan.opening) v.seen key
 
 module _ (plan : Plan) (s : State ℕ View) (tree_state : TreeState) (h : IsTableAt plan s tree_state) (idle : (worker : ℕ) → tree_state.machines worker ≡ None) where
   kept_page : (number : ℕ) (page : PlainPage) → tree_state.pages number ≡ Some page → KeepsPage plan.counts s.words number page
@@ -64,7 +65,7 @@ module _ (plan : Plan) (s : State ℕ View) (tree_state : TreeState) (h : IsTabl
         now = h.now;
         tree = keeps_tree;
         shares = λ share key came its. h.kept key ∙ sym ((kept.3 share came key its).kept);
-        others = λ key free. h.kept key ∙ after_untouched (pointer_of plan.opening) h.log key (h.untouched key (kept.2 key free));
+        others = λ key free. h.kept key ∙ sym (after-same_states (pointer_of plan.opening) v.seen h.log key (kept.2 key free).saw_all);
       }
 
 back_of : Role → ℕ

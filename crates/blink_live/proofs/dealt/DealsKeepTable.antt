@@ -10,11 +10,12 @@ use Rattle.blink_machine.specs.TreeState.{TreeState}
 use Rattle.blink_live.specs.declared.view.Plan.{Plan}
 use Rattle.blink_live.specs.declared.view.Role.TheVariants.{Keeper}
 use Rattle.blink_live.specs.declared.view.View.{View}
-use Rattle.blink_live.specs.Changes.{put, states_of}
+use Rattle.blink_live.specs.Changes.{put, after, entries_after, states_of}
 use Rattle.blink_live.specs.Dealing.{CanDeal}
-use Rattle.blink_live.specs.Rule.{Owners, IsShare, IsInRole, Knows, pass_count, passes_in, AreCounted, IsTableAt, IsTable}
+use Rattle.blink_live.specs.Rule.{Owners, IsFree, IsShare, IsInRole, Knows, pass_count, passes_in, AreCounted, IsTableAt, IsTable}
 use Rattle.blink_live.specs.Views.{is_among, share_of_keys, deals_one, keeps_rest, gets_first}
-use Rattle.blink_live.proofs.dealt.KeysOfShare.{among_from_contains, contains_from_among, entries_of_keep, after_untouched}
+use Rattle.blink_live.proofs.dealt.KeysOfShare.{among_from_contains, contains_from_among, entries_of_keep, changes_of_keep}
+use Rattle.blink_live.proofs.told.EntriesAfterChanges.{after-same_states, entries_after-state}
 use Rattle.blink_live.proofs.table.MapsWithOneChange.{put_here, put_else}
 use Rattle.blink_live.proofs.table.OwnersChange.{StaysPublished, StillOwns, reads_still, share_still, knows_still, owners_change}
 use Rattle.blink_live.proofs.table.OwnersInRange.{ranged, ranged_in, ranged_out}
@@ -65,7 +66,7 @@ module _ (plan : Plan) (s : State ℕ View) (tree_state : TreeState) (h : IsTabl
       (λ low high. other (sym is ∙ known.numbers.own number low (let enough = can.enough_pages in omega (arith, enough, high)))) ∙ is
 
   dealt_key : (key : ℕ) → Contains keys key → old.key key ≡ 0
-  dealt_key key has = in_role.2 key (can.free_keys key has)
+  dealt_key key has = (in_role.2 key (can.free_keys key has)).own
 
   key_else : (key owner : ℕ) → old.key key ≡ owner → owner ≢ 0 → new.key key ≡ owner
   key_else key owner is some_owner = go (is_among keys key) refl
@@ -73,13 +74,6 @@ module _ (plan : Plan) (s : State ℕ View) (tree_state : TreeState) (h : IsTabl
       go : (b : Bool) → is_among keys key ≡ b → (if b then suc new_seat else old.key key) ≡ owner
       go true has = absurd (some_owner (sym is ∙ dealt_key key (contains_from_among keys key has)))
       go false has = is
-
-  untouched_still : (key : ℕ) → new.key key ≡ 0 → old.key key ≡ 0
-  untouched_still key = go (is_among keys key)
-    where
-      go : (b : Bool) → (if b then suc new_seat else old.key key) ≡ 0 → old.key key ≡ 0
-      go true is = absurd (omega (arith, is))
-      go false is = is
 
   published : StaysPublished old new
   published row is = row_else row 0 is (λ e. absurd (omega (arith, e)))
@@ -105,12 +99,15 @@ module _ (plan : Plan) (s : State ℕ View) (tree_state : TreeState) (h : IsTabl
 
   -- ---- the keeper
 
-  untaken : (key : ℕ) → ¬ Contains taken key → new.key key ≡ 0
-  untaken key none = go (is_among keys key) refl
+  untaken : (key : ℕ) → ¬ Contains taken key → IsFree new h.log left key
+  untaken key none = record { own = go (is_among keys key) refl; saw_all = was_free.saw_all }
     where
+      was_free : IsFree old h.log v key
+      was_free = in_role.2 key (λ was. none ((can.taken_now key).1 (inl was)))
+
       go : (b : Bool) → is_among keys key ≡ b → (if b then suc new_seat else old.key key) ≡ 0
       go true has = absurd (none ((can.taken_now key).1 (inr (contains_from_among keys key has))))
-      go false has = in_role.2 key (λ was. none ((can.taken_now key).1 (inl was)))
+      go false has = was_free.own
 
   left_role : left.role ≡ Keeper (suc can.dealt) can.back
   left_role = ap deals_one can.role
@@ -153,14 +150,16 @@ module _ (plan : Plan) (s : State ℕ View) (tree_state : TreeState) (h : IsTabl
   new_key : (key : ℕ) → Contains keys key → new.key key ≡ suc new_seat
   new_key key has = ap (λ (b : Bool). if b then suc new_seat else old.key key) (among_from_contains keys key has)
 
-  new_share : IsShare plan new h.log (suc new_seat) (share_of_keys keys v.plan.opening)
+  new_share : IsShare plan new h.log (suc new_seat) (share_of_keys keys v.plan.opening v.seen)
   new_share key has =
-      let none : states_of key h.log ≡ [] = h.untouched key (dealt_key key has) in
+      let saw_all : states_of key v.seen ≡ states_of key h.log = (in_role.2 key (can.free_keys key has)).saw_all in
+      let among : is_among keys key ≡ true = among_from_contains keys key has in
       record {
         own = new_key key has;
-        kept = entries_of_keep keys v.plan.opening key (among_from_contains keys key has)
-            ∙ (ap (λ (p : Plan). pointer_of p.opening key) known.same_plan ∙ sym (after_untouched (pointer_of plan.opening) h.log key none));
-        changes = none;
+        kept = entries_of_keep keys (entries_after v.plan.opening v.seen) key among
+            ∙ (entries_after-state v.plan.opening v.seen key
+            ∙ (ap (λ (p : Plan). after (pointer_of p.opening) v.seen key) known.same_plan ∙ after-same_states (pointer_of plan.opening) v.seen h.log key saw_all));
+        changes = sym (changes_of_keep keys v.seen key among ∙ saw_all);
       }
 
   right_knows : Knows plan new s.words tree_state h.log new_seat right
@@ -181,7 +180,7 @@ module _ (plan : Plan) (s : State ℕ View) (tree_state : TreeState) (h : IsTabl
     };
     for_call = nothing_for_call plan new s.words tree_state (suc new_seat) v.rows.next v.pages.next known.rows.in_range.0 known.numbers.in_range.0 (let low = known.numbers.in_range in let enough = can.enough_pages in omega (arith, low, enough));
     share = new_share;
-    saw = (h.log, refl);
+    saw = known.saw;
     heard = (h.log, refl);
     in_role = (let inside : id < new_seat = at_inside s.views id v at in omega (arith, inside), put_here old.latch_number new_seat (v.rows.next + rows - 1));
   }
@@ -225,7 +224,7 @@ module _ (plan : Plan) (s : State ℕ View) (tree_state : TreeState) (h : IsTabl
       }
 
   deals_at : IsTableAt plan record { words = s.words; homes = s.homes; views = views_then } tree_state
-  deals_at = owners_change plan s tree_state h new views_then published holder_else untouched_still all_know
+  deals_at = owners_change plan s tree_state h new views_then published holder_else all_know
       (let same : length (set s.views id left) ≡ length s.views = length-set s.views id left in
       let longer : length views_then ≡ length (set s.views id left) + 1 = length-append (set s.views id left) (right ∷ []) in
       omega (arith, same, longer)) counted_then

@@ -49,7 +49,7 @@ module _ (keeper : Keeper) (keys others taken_now : List ℕ) (inserts deletes :
       let pages = enough_pages keeper.pages keeper.rows inserts deletes keeper.for_changes few_inserts few_deletes keeper.in_order.1 in
       record {
         dealt = keeper.dealt;
-        back = 0;
+        back = keeper.back;
         role = keeper.role_is;
         enough_rows = subst (λ (s : Span). s.next + rows_for inserts deletes ≤ s.stop) keeper.rows_are rows;
         enough_pages = subst (λ (s : Span). s.next + MAX_NEW_PAGES_PER_INSERT * inserts ≤ s.stop) keeper.pages_are pages;

@@ -1,5 +1,5 @@
--- The entries of some keys, and keys that no change has touched.
-use Rattle.std.proofs.Common.{◌≡◌, ◌≢◌, ℕ, zero, suc, Bool, true, false, Option, Some, List, [], ◌∷◌, length, refl, sym, ap, ◌∙◌, eq-eqb, ne_eqb, true≢false, arith}
+-- The entries of some keys, and their changes.
+use Rattle.std.proofs.Common.{◌≡◌, ◌≢◌, ℕ, zero, suc, Bool, true, false, Option, Some, List, [], ◌∷◌, refl, sym, ap, ◌∙◌, eq-eqb, ne_eqb, true≢false, arith}
 use Rattle.std.specs.Prelude.{if◌then◌else◌, ◌||◌, Contains}
 use Rattle.std.specs.List.Sorted.{IsPermutation}
 use Rattle.std.proofs.lemmas.List.Sorted.{Contains-permutation, IsPermutation-sym}
@@ -8,9 +8,9 @@ use native.Mathlib.Decide.{ℕ_discrete}
 use Rattle.blink_batch.specs.declared.Entry.{Entry}
 use Rattle.blink_batch.specs.{pointer_of}
 use Rattle.blink_live.specs.declared.view.Change.{Change}
-use Rattle.blink_live.specs.Changes.{put, after, states_of}
-use Rattle.blink_live.specs.Views.{is_among, entries_of}
-use Rattle.blink_live.proofs.table.MapsWithOneChange.{put_else}
+use Rattle.blink_live.specs.declared.view.View.{View}
+use Rattle.blink_live.specs.Changes.{states_of}
+use Rattle.blink_live.specs.Views.{SawItsOwn, is_among, entries_of, changes_of, gets_first}
 
 -- ---- one of some keys
 
@@ -52,7 +52,32 @@ entries_of_keep keys (e ∷ rest) key is = dite (ℕ_discrete e.key key)
     kept true ne = ap (λ (b : Bool). if b then Some e.pointer else pointer_of (entries_of keys rest) key) (ne_eqb e.key key ne)
     kept false ne = refl
 
--- the same keys in another order have the same entries
+-- ---- the changes of some keys
+
+pub changes_of_keep : (keys : List ℕ) (changes : List Change) (key : ℕ) → is_among keys key ≡ true → states_of key (changes_of keys changes) ≡ states_of key changes
+changes_of_keep keys [] key is = refl
+changes_of_keep keys (change ∷ rest) key is = dite (ℕ_discrete change.key key)
+    (λ same.
+    let has : is_among keys change.key ≡ true = ap (is_among keys) same ∙ is in
+    ap (λ (b : Bool). states_of key (if b then change ∷ changes_of keys rest else changes_of keys rest)) has
+    ∙ (ap (λ (b : Bool). if b then change.pointer ∷ states_of key (changes_of keys rest) else states_of key (changes_of keys rest)) (eq-eqb change.key key same)
+    ∙ (ap (λ (states : List (Option ℕ)). change.pointer ∷ states) (changes_of_keep keys rest key is)
+    ∙ sym (ap (λ (b : Bool). if b then change.pointer ∷ states_of key rest else states_of key rest) (eq-eqb change.key key same)))))
+    (λ ne.
+    kept (is_among keys change.key) ne
+    ∙ (changes_of_keep keys rest key is
+    ∙ sym (ap (λ (b : Bool). if b then change.pointer ∷ states_of key rest else states_of key rest) (ne_eqb change.key key ne))))
+  where
+    kept : (b : Bool) → change.key ≢ key → states_of key (if b then change ∷ changes_of keys rest else changes_of keys rest) ≡ states_of key (changes_of keys rest)
+    kept true ne = ap (λ (b : Bool). if b then change.pointer ∷ states_of key (changes_of keys rest) else states_of key (changes_of keys rest)) (ne_eqb change.key key ne)
+    kept false ne = refl
+
+-- so a new pass has seen of its keys exactly the changes of its share
+pub new_saw_its_own : (v : View) (rows pages : ℕ) (keys : List ℕ) → SawItsOwn (gets_first v rows pages keys)
+new_saw_its_own v rows pages keys key has = sym (changes_of_keep keys v.seen key (among_from_contains keys key has))
+
+-- ---- the same keys in another order have the same entries, and the same changes
+
 same_among : (keys others : List ℕ) → IsPermutation keys others → (key : ℕ) → is_among others key ≡ is_among keys key
 same_among keys others moved key = go (is_among others key) refl (is_among keys key) refl
   where
@@ -66,15 +91,6 @@ pub same_entries : (keys others : List ℕ) → IsPermutation keys others → (e
 same_entries keys others moved [] = refl
 same_entries keys others moved (e ∷ rest) = λ i. if same_among keys others moved e.key i then e ∷ same_entries keys others moved rest i else same_entries keys others moved rest i
 
--- ---- untouched keys
-
-some_state : (state : Option ℕ) (rest : List (Option ℕ)) → (state ∷ rest) ≢ []
-some_state state rest e = let longer : suc (length rest) ≡ 0 = ap length e in omega (arith, longer)
-
-pub after_untouched : (f : ℕ → Option ℕ) (log : List Change) (key : ℕ) → states_of key log ≡ [] → after f log key ≡ f key
-after_untouched f [] key none = refl
-after_untouched f (change ∷ rest) key none = dite (ℕ_discrete change.key key)
-    (λ e. absurd (some_state change.pointer (states_of key rest) (sym (ap (λ (b : Bool). if b then change.pointer ∷ states_of key rest else states_of key rest) (eq-eqb change.key key e)) ∙ none)))
-    (λ ne.
-    after_untouched (put f change.key change.pointer) rest key (sym (ap (λ (b : Bool). if b then change.pointer ∷ states_of key rest else states_of key rest) (ne_eqb change.key key ne)) ∙ none)
-    ∙ put_else f change.key key change.pointer (λ e. ne (sym e)))
+pub same_changes : (keys others : List ℕ) → IsPermutation keys others → (changes : List Change) → changes_of others changes ≡ changes_of keys changes
+same_changes keys others moved [] = refl
+same_changes keys others moved (c ∷ rest) = λ i. if same_among keys others moved c.key i then c ∷ same_changes keys others moved rest i else same_changes keys others moved rest i

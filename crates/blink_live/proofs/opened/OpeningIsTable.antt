@@ -123,7 +123,7 @@ module _ (store : PlainStore) (counts : PlainCounts) (words : List ℕ) (numbers
     share = λ key among. absurd (omega (arith, among.1));
     saw = ([], refl);
     heard = ([], refl);
-    in_role = (refl, refl, (λ key not. refl), (λ share among. absurd (omega (arith, among.1))));
+    in_role = (refl, refl, (λ key not. record { own = refl; saw_all = refl }), (λ share among. absurd (omega (arith, among.1))));
   }
 
   -- the table of a tree at rest, as it opens
@@ -152,7 +152,6 @@ module _ (store : PlainStore) (counts : PlainCounts) (words : List ℕ) (numbers
           holders = λ number seat is. absurd (cc);
           is_map = record { ascending = is_map.ascending; kept = is_map.kept };
           kept = λ key. refl;
-          untouched = λ key free. refl;
           views = one_view (Knows plan owners words (tree_state_over store) []) (first_view (length store.pages) plan) keeper_knows;
           others_idle = λ seat late. refl;
           counted = record { keeper = first_view (length store.pages) plan; dealt = 0; back = 0; first = refl; role = refl; counted = refl };

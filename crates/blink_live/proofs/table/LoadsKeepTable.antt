@@ -22,14 +22,16 @@ use Rattle.blink_live.proofs.table.CallsOfSeats.{call_still}
 abbrev pub moved : TreeState → ℕ → Option PlainMachine → TreeState
 moved tree_state worker operation = record tree_state { machines = put tree_state.machines worker operation }
 
-module _ (plan : Plan) (s : State ℕ View) (tree_state : TreeState) (h : IsTableAt plan s tree_state) (id word : ℕ) (v w : View) (at : get_elem? s.views id ≡ some v) (role : v.role ≡ Pass) where
+module _ (plan : Plan) (s : State ℕ View) (tree_state : TreeState) (h : IsTableAt plan s tree_state) (id word : ℕ) (v w : View) (at : get_elem? s.views id ≡ some v) where
+  abbrev pub loaded : View
+  loaded = record v { operation = w.operation; descent_bound = w.descent_bound; reads = w.reads; seen = w.seen }
+
   -- the seat knows what it knew, but for its operation, what it reads and what it has seen
-  pub load_knows : SameBesideReads v w → IsBoundedWay tree_state w → ReadsRow plan h.owners s.words w.reads → IsPrefix w.seen h.log
+  pub load_knows_in : IsInRole plan h.owners h.log id loaded v.role → SameBesideReads v w → IsBoundedWay tree_state w → ReadsRow plan h.owners s.words w.reads → IsPrefix w.seen h.log
       → Knows plan h.owners s.words (moved tree_state id w.operation) h.log id w
-  load_knows same bounded reads saw =
+  load_knows_in in_role same bounded reads saw =
       let known = h.views id v at in
-      let kept = subst (IsInRole plan h.owners h.log id v) role known.in_role in
-      let knows : Knows plan h.owners s.words (moved tree_state id w.operation) h.log id (record v { operation = w.operation; descent_bound = w.descent_bound; reads = w.reads; seen = w.seen }) = record {
+      let knows : Knows plan h.owners s.words (moved tree_state id w.operation) h.log id loaded = record {
         same_plan = known.same_plan;
         operation = put_here tree_state.machines id w.operation;
         bounded = bounded;
@@ -41,7 +43,7 @@ module _ (plan : Plan) (s : State ℕ View) (tree_state : TreeState) (h : IsTabl
         share = known.share;
         saw = saw;
         heard = known.heard;
-        in_role = subst (IsInRole plan h.owners h.log id (record v { operation = w.operation; descent_bound = w.descent_bound; reads = w.reads; seen = w.seen })) (sym role) kept;
+        in_role = in_role;
       } in
       subst (Knows plan h.owners s.words (moved tree_state id w.operation) h.log id) (sym same) knows
 
@@ -66,7 +68,6 @@ module _ (plan : Plan) (s : State ℕ View) (tree_state : TreeState) (h : IsTabl
       holders = h.holders;
       is_map = record { ascending = h.is_map.ascending; kept = h.is_map.kept };
       kept = h.kept;
-      untouched = h.untouched;
       views = views_stay (Knows plan h.owners s.words (moved tree_state id w.operation) h.log) s.views id w knows
           (λ j u other there. let known = h.views j u there in record {
             same_plan = known.same_plan;
@@ -90,6 +91,13 @@ module _ (plan : Plan) (s : State ℕ View) (tree_state : TreeState) (h : IsTabl
     },
   )
 
+module _ (plan : Plan) (s : State ℕ View) (tree_state : TreeState) (h : IsTableAt plan s tree_state) (id word : ℕ) (v w : View) (at : get_elem? s.views id ≡ some v) (role : v.role ≡ Pass) where
+  pub load_knows : SameBesideReads v w → IsBoundedWay tree_state w → ReadsRow plan h.owners s.words w.reads → IsPrefix w.seen h.log
+      → Knows plan h.owners s.words (moved tree_state id w.operation) h.log id w
+  load_knows =
+      let kept = subst (IsInRole plan h.owners h.log id v) role (h.views id v at).in_role in
+      load_knows_in plan s tree_state h id word v w at (subst (IsInRole plan h.owners h.log id (loaded plan s tree_state h id word v w at)) (sym role) kept)
+
   pub load_keeps : Invariant (moved tree_state id w.operation) → SameBesideReads v w → IsBoundedWay tree_state w → ReadsRow plan h.owners s.words w.reads → IsPrefix w.seen h.log
       → IsTable plan record { words = set s.words word (get_or s.words word 0); homes = s.homes; views = set s.views id w }
-  load_keeps invariant same bounded reads saw = load_keeps_with invariant (ap (λ (x : View). x.role) same) (load_knows same bounded reads saw)
+  load_keeps invariant same bounded reads saw = load_keeps_with plan s tree_state h id word v w at invariant (ap (λ (x : View). x.role) same) (load_knows same bounded reads saw)

@@ -98,7 +98,10 @@ module _ (plan : Plan) (s : State ℕ View) (tree_state then : TreeState) (h : I
   role_still seat v (Keeper dealt back) is = (
     is.0,
     is.1,
-    λ key untaken. (leaves.keys key (λ e. let zero_is : 0 ≡ suc id = sym (is.2 key untaken) ∙ e in absurd (omega (arith, zero_is)))).0 ∙ is.2 key untaken,
+    λ key untaken.
+        let free = is.2 key untaken in
+        let t = leaves.keys key (λ e. let zero_is : 0 ≡ suc id = sym free.own ∙ e in absurd (omega (arith, zero_is))) in
+        record { own = t.0 ∙ free.own; saw_all = free.saw_all ∙ sym t.1 },
     λ share came. share_still 1 share (λ e. omega (arith, e, some_pass)) (is.3 share came),
   )
   role_still seat v Pass is = (is.0, leaves.latch_numbers seat ∙ is.1)

@@ -68,11 +68,10 @@ latch_still old new (Some seat) same = sym (same seat refl)
 pub owners_change : (plan : Plan) (s : State ℕ View) (tree_state : TreeState) (h : IsTableAt plan s tree_state) (new : Owners) (views : List View)
     → StaysPublished h.owners new
     → ((number seat : ℕ) → tree_state.holder number ≡ Some seat → new.latch_number seat ≡ h.owners.latch_number seat)
-    → ((key : ℕ) → new.key key ≡ 0 → h.owners.key key ≡ 0)
     → ((seat : ℕ) (v : View) → get_elem? views seat ≡ some v → Knows plan new s.words tree_state h.log seat v)
     → length s.views ≤ length views → AreCounted views
     → IsTableAt plan record { words = s.words; homes = s.homes; views = views } tree_state
-owners_change plan s tree_state h new views published same_latch untouched knows longer counted = record {
+owners_change plan s tree_state h new views published same_latch knows longer counted = record {
   owners = new;
   log = h.log;
   now = h.now;
@@ -89,7 +88,6 @@ owners_change plan s tree_state h new views published same_latch untouched knows
   holders = λ number seat holds. let same = same_latch number seat holds in let some_number = h.holders number seat holds in omega (arith, same, some_number);
   is_map = record { ascending = h.is_map.ascending; kept = h.is_map.kept };
   kept = h.kept;
-  untouched = λ key nobodys. h.untouched key (untouched key nobodys);
   views = knows;
   others_idle = λ seat beyond. h.others_idle seat (omega (arith, longer, beyond));
   counted = counted;

@@ -15,7 +15,7 @@ use Rattle.blink_live.specs.declared.view.Call.{Call}
 use Rattle.blink_live.specs.declared.view.Change.{Change}
 use Rattle.blink_live.specs.declared.view.Plan.{Plan}
 use Rattle.blink_live.specs.declared.view.View.{View}
-use Rattle.blink_live.specs.Changes.{after, states_of}
+use Rattle.blink_live.specs.Changes.{after}
 use Rattle.blink_live.specs.Rule.{Owners, IsPublished, PageWordIs, latch_word, HasRows, HasForCall, Knows, IsTableAt, IsTable}
 use Rattle.blink_live.specs.Views.{span}
 use Rattle.blink_live.specs.Words.{RowIs}
@@ -56,7 +56,6 @@ pub record IsStored (plan : Plan) (s : State ℕ View) (tree_state then : TreeSt
   pub holders : (number seat : ℕ) → then.holder number ≡ Some seat → 1 ≤ new.latch_number seat
   pub is_map : IsMapAt then now
   pub kept : (key : ℕ) → pointer_of now key ≡ after (pointer_of plan.opening) log key
-  pub untouched : (key : ℕ) → new.key key ≡ 0 → states_of key log ≡ []
 
 -- a prime block that no step of the seat changes
 pub prime_still : (plan : Plan) (s : State ℕ View) (tree_state then : TreeState) (h : IsTableAt plan s tree_state) (id : ℕ) → 1 ≤ id → (words : List ℕ) (new : Owners) (log : List Change) → LeavesOthers plan s tree_state then h id words new log
@@ -90,7 +89,6 @@ module _ (plan : Plan) (s : State ℕ View) (tree_state then : TreeState) (h : I
           holders = stored.holders;
           is_map = stored.is_map;
           kept = stored.kept;
-          untouched = stored.untouched;
           views = views_stay (Knows plan new words then log) s.views id w knows (λ j u other there. other_knows plan s tree_state then h id some_pass words new log leaves j u other there);
           others_idle = λ seat beyond.
               let inside = at_inside s.views id v at in

@@ -6,16 +6,23 @@ use Rattle.atomic_table.specs.Table.{State, Splits, Joins}
 use Rattle.atomic_table.proofs.Lists.{at_set, at_longer, set_else, set_again}
 use Rattle.blink_machine.specs.TreeState.{TreeState}
 use Rattle.blink_live.specs.declared.view.Plan.{Plan}
-use Rattle.blink_live.specs.declared.view.Role.TheVariants.{Pass, Spent}
+use Rattle.blink_live.specs.declared.view.Role.{Role}
+use Rattle.blink_live.specs.declared.view.Role.TheVariants.{Keeper, Pass, Spent}
 use Rattle.blink_live.specs.declared.view.View.{View}
 use Rattle.blink_live.specs.declared.view.Change.{Change}
 use mathlib.Core.List.{IsPrefix}
-use Rattle.blink_live.specs.Rule.{IsInRole, Knows, passes_in, AreCounted, IsTableAt, IsTable}
+use Rattle.blink_live.specs.Rule.{Owners, IsInRole, Knows, passes_in, AreCounted, IsTableAt, IsTable}
 use Rattle.blink_live.specs.Views.{hears, note_of, spent}
 use Rattle.blink_live.proofs.table.OwnersChange.{owners_change}
 use Rattle.blink_live.proofs.table.PassesOut.{at_end, passes_more}
 use Rattle.blink_live.proofs.table.SeatsThatStay.{views_stay, counted_stays}
 use Rattle.blink_live.proofs.table.CallsOfSeats.{nothing_for_call}
+
+-- a seat's role says nothing of the note that it holds
+pub told_in_role : (plan : Plan) (owners : Owners) (log : List Change) (seat : ℕ) (v : View) (told : List Change) (role : Role) → IsInRole plan owners log seat v role → IsInRole plan owners log seat (record v { told = told }) role
+told_in_role plan owners log seat v told (Keeper dealt back) is = (is.0, is.1, (λ key untaken. let free = is.2 key untaken in record { own = free.own; saw_all = free.saw_all }), is.3)
+told_in_role plan owners log seat v told Pass is = is
+told_in_role plan owners log seat v told Spent is = is
 
 module _ (plan : Plan) (some_number : 1 ≤ plan.counts.numbers) (s : State ℕ View) (tree_state : TreeState) (h : IsTableAt plan s tree_state) where
   -- a seat that has nothing knows what it was told
@@ -75,13 +82,13 @@ module _ (plan : Plan) (some_number : 1 ≤ plan.counts.numbers) (s : State ℕ 
         }
 
     recorded : IsTableAt plan record { words = s.words; homes = s.homes; views = views_then } tree_state
-    recorded = owners_change plan s tree_state h h.owners views_then (λ row is. is) (λ number seat holds. refl) (λ key is. is) all_know
+    recorded = owners_change plan s tree_state h h.owners views_then (λ row is. is) (λ number seat holds. refl) all_know
         (let longer : length views_then ≡ length s.views + 1 = length-append s.views (note_of v ∷ []) in omega (arith, longer)) counted_then
 
   -- ---- it is taken
 
   module _ (id other : ℕ) (v w : View) (at : get_elem? s.views id ≡ some v) (apart : ¬ (other ≡ id)) (there : get_elem? (set s.views id (hears v w)) other ≡ some w)
-      (role : v.role ≡ Pass) (its_role : w.role ≡ Spent) (idle : w.operation ≡ None) where
+      (its_role : w.role ≡ Spent) (idle : w.operation ≡ None) where
     abbrev both : View
     both = hears v w
 
@@ -91,7 +98,7 @@ module _ (plan : Plan) (some_number : 1 ≤ plan.counts.numbers) (s : State ℕ 
     both_knows : Knows plan h.owners s.words tree_state h.log id both
     both_knows =
         let was = h.views id v at in
-        let kept = subst (IsInRole plan h.owners h.log id v) role was.in_role in record {
+        record {
           same_plan = was.same_plan;
           operation = was.operation;
           bounded = was.bounded;
@@ -102,7 +109,7 @@ module _ (plan : Plan) (some_number : 1 ≤ plan.counts.numbers) (s : State ℕ 
           share = was.share;
           saw = was.saw;
           heard = its.heard;
-          in_role = subst (IsInRole plan h.owners h.log id both) (sym role) kept;
+          in_role = told_in_role plan h.owners h.log id v w.told v.role was.in_role;
         }
 
     abbrev taken : List View
@@ -116,7 +123,7 @@ module _ (plan : Plan) (some_number : 1 ≤ plan.counts.numbers) (s : State ℕ 
         (at_set s.views id seat both u at_seat))
 
     heard : IsTableAt plan record { words = s.words; homes = s.homes; views = taken } tree_state
-    heard = owners_change plan s tree_state h h.owners taken (λ row is. is) (λ number seat holds. refl) (λ key is. is) taken_know
+    heard = owners_change plan s tree_state h h.owners taken (λ row is. is) (λ number seat holds. refl) taken_know
         (let one : length (set s.views id both) ≡ length s.views = length-set s.views id both in
         let two : length taken ≡ length (set s.views id both) = length-set (set s.views id both) other (spent plan) in
         omega (arith, one, two))
@@ -126,5 +133,5 @@ pub note_keeps_table : (plan : Plan) (id : ℕ) (v : View) → 1 ≤ plan.counts
 note_keeps_table plan id v some_number s table at = subst (λ (views : List View). IsTable plan record { words = s.words; homes = s.homes; views = views ++ note_of v ∷ [] }) (sym (set_again s.views id v at))
     (table.0, recorded plan some_number s table.0 table.1 id v at)
 
-pub hearing_keeps_table : (plan : Plan) (id other : ℕ) (v w : View) → 1 ≤ plan.counts.numbers → v.role ≡ Pass → w.role ≡ Spent → w.operation ≡ None → Joins (IsTable plan) id v other w (hears v w) (spent plan)
-hearing_keeps_table plan id other v w some_number role its_role idle s table at apart there = (table.0, heard plan some_number s table.0 table.1 id other v w at apart there role its_role idle)
+pub hearing_keeps_table : (plan : Plan) (id other : ℕ) (v w : View) → 1 ≤ plan.counts.numbers → w.role ≡ Spent → w.operation ≡ None → Joins (IsTable plan) id v other w (hears v w) (spent plan)
+hearing_keeps_table plan id other v w some_number its_role idle s table at apart there = (table.0, heard plan some_number s table.0 table.1 id other v w at apart there its_role idle)

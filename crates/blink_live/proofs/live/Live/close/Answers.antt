@@ -1,4 +1,4 @@
-use Rattle.std.proofs.Common.{◌≡◌, ℕ, zero, suc, ◌+◌, ◌<◌, ◌≤◌, Some, List, [], ◌∷◌, ◌++◌, length, sym, ap, ◌∙◌, subst, arith}
+use Rattle.std.proofs.Common.{◌≡◌, ℕ, zero, suc, ◌+◌, ◌-◌, ◌<◌, ◌≤◌, Some, List, [], ◌∷◌, ◌++◌, length, sym, ap, ◌∙◌, subst, arith}
 use Rattle.std.specs.Prelude.{Contains, slice_get}
 use Rattle.std.specs.Mem.Slots.{slots_items}
 use Rattle.blink_batch.specs.declared.Entry.{Entry}
@@ -19,9 +19,11 @@ use Rattle.blink_live.specs.Rule.{IsTable}
 use Rattle.std.proofs.lemmas.List.{length-map}
 use Rattle.blink_live.specs.declared.view.Share.{Share}
 use Rattle.blink_live.specs.declared.view.View.{View}
+use Rattle.blink_live.specs.Handles.{opening_of, passes_out, seen_by}
 use Rattle.blink_live.specs.Merge.{KeepsTree, IsMerge, shares_of}
 use Rattle.blink_live.specs.Views.{SeatState, plan_of, takes_more, takes_all_back}
 use Rattle.blink_live.proofs.closed.TableAtTheEnd.{IsAtEnd, at_end}
+use Rattle.blink_live.proofs.told.EntriesAfterChanges.{entries_after-state}
 use Rattle.blink_live.proofs.live.Live.close.Goals as goal
 
 -- the map of a store with these entries
@@ -35,11 +37,11 @@ some count = omega arith
 one_more : (place count : ℕ) → place < count → suc place < suc count
 one_more place count inside = omega (arith, inside)
 
-enough : (dealt count passes : ℕ) → count ≡ passes → dealt ≤ count → dealt ≤ passes
-enough dealt count passes is all = omega (arith, is, all)
+enough : (out were count passes : ℕ) → out ≡ were → count ≡ passes → out ≤ count → were ≤ passes
+enough out were count passes same is all = omega (arith, same, is, all)
 
-enough_back : (dealt passes shares : ℕ) → dealt ≤ passes → shares ≡ passes → dealt ≤ 0 + shares
-enough_back dealt passes shares all long = omega (arith, all, long)
+enough_back : (dealt back passes shares : ℕ) → dealt - back ≤ passes → shares ≡ passes → dealt ≤ back + shares
+enough_back dealt back passes shares all long = omega (arith, all, long)
 
 share_came : (passes : List Pass) (rest : List Share) (place : ℕ) (pass : Pass) → slice_get passes place ≡ Some pass → Contains (shares_of passes ++ rest) pass.seat.me.0.share
 share_came [] rest place pass at = absurd (cc)
@@ -50,13 +52,13 @@ share_came (first ∷ passes) rest (suc place) pass at = let t = share_came pass
 abbrev view_at_end : (keeper : Keeper) (passes : List Pass) → View
 view_at_end keeper passes = takes_all_back keeper.seat.me.0 (shares_of passes)
 
-its_end : (live : Live) (keeper : Keeper) (passes : List Pass) (id : ℕ) (me : SeatState) (words slots : List ℕ) → me ≡ (view_at_end keeper passes, keeper.seat.me.1) → keeper.dealt ≤ length passes
+its_end : (live : Live) (keeper : Keeper) (passes : List Pass) (id : ℕ) (me : SeatState) (words slots : List ℕ) → me ≡ (view_at_end keeper passes, keeper.seat.me.1) → passes_out keeper ≤ length passes
     → Final (Seen (IsTable (plan_of live.table.shared.key)) id me.0) words slots → IsAtEnd (plan_of live.table.shared.key) words (view_at_end keeper passes)
 its_end live keeper passes id me words slots is all final =
     let same : me.0 ≡ view_at_end keeper passes = ap (λ (x : SeatState). x.0) is in
     let long : length (shares_of passes) ≡ length passes = length-map passes (λ (pass : Pass). pass.seat.me.0.share) in
-    let role : (view_at_end keeper passes).role ≡ KeeperRole keeper.dealt (0 + length (shares_of passes)) = ap (λ (r : Role). takes_more r (length (shares_of passes))) keeper.role_is in
-    at_end (plan_of live.table.shared.key) id (view_at_end keeper passes) keeper.dealt (0 + length (shares_of passes)) words slots role (enough_back keeper.dealt (length passes) (length (shares_of passes)) all long)
+    let role : (view_at_end keeper passes).role ≡ KeeperRole keeper.dealt (keeper.back + length (shares_of passes)) = ap (λ (r : Role). takes_more r (length (shares_of passes))) keeper.role_is in
+    at_end (plan_of live.table.shared.key) id (view_at_end keeper passes) keeper.dealt (keeper.back + length (shares_of passes)) words slots role (enough_back keeper.dealt keeper.back (length passes) (length (shares_of passes)) all long)
     (subst (λ (v : View). Final (Seen (IsTable (plan_of live.table.shared.key)) id v) words slots) same final)
 
 -- in the words of the table's own counts and fan
@@ -72,20 +74,20 @@ merges live keeper passes words store end taken_is is =
           ∙ end.shares pass.seat.me.0.share key (share_came passes keeper.seat.me.0.back place pass at) (subst (λ (keys : List ℕ). Contains keys key) pass.keys_are its);
       others = λ key free.
           ap (λ (entries : List Entry). pointer_of entries key) same
-          ∙ end.others key (subst (λ (taken : List ℕ). ¬ Contains taken key) (sym taken_is) free);
+          ∙ (end.others key (subst (λ (taken : List ℕ). ¬ Contains taken key) (sym taken_is) free) ∙ sym (entries_after-state (opening_of live) (seen_by keeper) key));
     }
 
 pub tree_at_end-tree-requires-clause-tree : goal.tree_at_end-tree-requires-clause-tree
 tree_at_end-tree-requires-clause-tree c =
     let end = its_end c.args.self c.args.keeper c.args.passes.items c.take_back.new.seat.id c.take_back.new.seat.me (slots_items c.close_with-closed.result.words) (slots_items c.close_with-closed.result.slots)
-    c.take_back.ensures.back (enough c.args.keeper.dealt c.len.result (length c.args.passes.items) (c.len.ensures ∙ c.args.passes.ok.0) c.if-len-keeper.false) c.close_with-closed.ensures.values.2 in
+    c.take_back.ensures.back (enough c.out.result (passes_out c.args.keeper) c.len.result (length c.args.passes.items) c.out.ensures (c.len.ensures ∙ c.args.passes.ok.0) c.if-len-out.false) c.close_with-closed.ensures.values.2 in
     (end.now, its_tree c.args.self (view_at_end c.args.keeper c.args.passes.items) (slots_items c.close_with-closed.result.words) end)
 
 pub returns-in-Ok-clause-entries : goal.returns-in-Ok-clause-entries
 returns-in-Ok-clause-entries c =
     let words = slots_items c.close_with-closed.result.words in
     let end = its_end c.args.self c.args.keeper c.args.passes.items c.take_back.new.seat.id c.take_back.new.seat.me words (slots_items c.close_with-closed.result.slots)
-    c.take_back.ensures.back (enough c.args.keeper.dealt c.len.result (length c.args.passes.items) (c.len.ensures ∙ c.args.passes.ok.0) c.if-len-keeper.false) c.close_with-closed.ensures.values.2 in
+    c.take_back.ensures.back (enough c.out.result (passes_out c.args.keeper) c.len.result (length c.args.passes.items) c.out.ensures (c.len.ensures ∙ c.args.passes.ok.0) c.if-len-out.false) c.close_with-closed.ensures.values.2 in
     let tree = its_tree c.args.self (view_at_end c.args.keeper c.args.passes.items) words end in
     merges c.args.self c.args.keeper c.args.passes.items words c.from_rest.result end (sym c.args.keeper.taken_are)
     (subst (λ (store : PlainStore). IsMapOf store end.now) (sym c.from_rest.ensures) (c.in-Ok.ensures.entries end.now tree))

@@ -12,10 +12,10 @@ join_seat-requires g c =
     let key = c.args.self.now.table.shared.key in
     let note = c.requires.note in
     let some_number : 1 ≤ (plan_of key).counts.numbers = subst (λ (counts : PlainCounts). 1 ≤ counts.numbers) c.args.self.now.counts_are c.args.self.now.some_number in (
-      c.requires.seat.same_table,
-      c.requires.table,
+      c.requires.tables.0,
+      c.requires.tables.1,
       note.2,
       omega (arith, c.args.self.now.width, c.args.self.now.some_number),
       subst (λ (p : Plan). Joins (IsTable (plan_of key)) c.args.seat.now.id c.args.seat.now.me.0 c.args.note.id c.args.note.me.0 (hears c.args.seat.now.me.0 c.args.note.me.0) (spent p)) (sym c.requires.picked)
-          (hearing_keeps_table (plan_of key) c.args.seat.now.id c.args.note.id c.args.seat.now.me.0 c.args.note.me.0 some_number c.requires.seat.role note.0 note.1),
+          (hearing_keeps_table (plan_of key) c.args.seat.now.id c.args.note.id c.args.seat.now.me.0 c.args.note.me.0 some_number note.0 note.1),
     )

@@ -61,5 +61,6 @@ invariant_of-keeper c =
       for_changes = first.for_changes;
       ascending = none_in_order c.new.result.items c.new.ensures.items;
       role_is = ap (λ (x : SeatState). x.0.role) made.4;
+      counted = omega arith;
       no_slot = ap (λ (x : SeatState). x.1) made.4;
     }

@@ -41,7 +41,7 @@ loop-worker-preserved c =
     let dealt = c.in_ok-deal.ensures in
     let MayRunLane : ℕ → LaneRun → Type 0 = λ worker run. MayRun c.args.live.now (lane_ops ops lanes worker) run in
     let next : c.loop-worker.worker ≡ length c.loop-worker.runs.items = omega arith in
-    let may : MayRunLane c.loop-worker.worker run = may_run c.args.live.now c.loop-worker.keeper (lane_ops ops lanes c.loop-worker.worker) needs run needed dealt.pass dealt.none_yet dealt.room in
+    let may : MayRunLane c.loop-worker.worker run = may_run c.args.live.now c.loop-worker.keeper so_far.dealt.none_seen (lane_ops ops lanes c.loop-worker.worker) needs run needed dealt.pass dealt.none_yet dealt.room in
     record {
       dealt = dealt_one_more c.args.live.now ops lanes c.loop-worker.worker c.loop-worker.keeper needs so_far.dealt needed c.requires.cut.a_lane_each c.deal.new.keeper c.in_ok-deal.ensures.rest;
       as_many = omega arith;

@@ -1,0 +1,3 @@
+pub mod KeysWithout
+pub mod KeeperKnowsThen
+pub mod RetiringKeepsTable
