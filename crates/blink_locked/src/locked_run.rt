@@ -12,6 +12,9 @@ const LOOKS: usize = 16;
 /// How often a worker tries the lock, and yields, before it sleeps until it has the lock.
 const TRIES: usize = 20;
 
+/// How many turns a worker takes at most before it releases the lock. Few operations take more.
+const TURNS: usize = 32;
+
 /// A book that one worker at a time writes: each step is taken under its lock.
 #[derive(Drop)]
 pub struct LockedRun {
@@ -47,7 +50,7 @@ impl LockedRun {
     // Takes the operation's turns until it has ended, and returns `true`; or until the run is stopped, and returns `false`.
     fn run_operation<R: Wait>(&self, rt: &R, worker: u8, op: u32) -> bool {
         for _ in rt.forever() {
-            match self.turn(rt, worker, op) {
+            match self.turns(rt, worker, op) {
                 Turn::Took(_, false) | Turn::Waits => {}
                 Turn::Took(_, true) | Turn::Over => return true,
                 Turn::Stopped => return false,
@@ -56,17 +59,24 @@ impl LockedRun {
         unreachable!()
     }
 
-    // Takes the worker's next turn that is no wait. After some looks the worker sleeps until the book has changed.
-    fn turn<R: Wait>(&self, rt: &R, worker: u8, op: u32) -> Turn {
+    // Takes the worker's next turns, the first of which is no wait, and returns the last. After some looks the worker sleeps
+    // until the book has changed.
+    fn turns<R: Wait>(&self, rt: &R, worker: u8, op: u32) -> Turn {
         for _ in 0..LOOKS {
-            let turn = self.enter(rt).turn(worker, op);
+            let (turn, wakes) = turns_at(&mut self.enter(rt), worker, op);
+            if wakes {
+                self.changed.notify_all();
+            }
             if !matches!(turn, Turn::Waits) {
-                return self.told(turn);
+                return turn;
             }
             thread::yield_now();
         }
         let turn = self.turn_after_sleep(rt, worker, op);
-        self.told(turn)
+        if wakes_others(turn) {
+            self.changed.notify_all();
+        }
+        turn
     }
 
     // Takes the turn of a worker that sleeps until the book has changed.
@@ -82,7 +92,7 @@ impl LockedRun {
         unreachable!()
     }
 
-    // Locks the book. The worker tries before it sleeps: steps are short, and a worker that sleeps for each step's lock is
+    // Locks the book. The worker tries before it sleeps: operations are short, and a worker that sleeps for each one's lock is
     // mostly asleep.
     fn enter<R: Wait>(&self, rt: &R) -> MutexGuard<'_, Book> {
         for _ in 0..TRIES {
@@ -92,14 +102,6 @@ impl LockedRun {
             thread::yield_now();
         }
         self.book.lock(rt)
-    }
-
-    // Wakes the workers that may have waited for what this turn has done.
-    fn told(&self, turn: Turn) -> Turn {
-        if let Turn::Took(Kind::Unlatch(_) | Kind::WritePrime, _) | Turn::Stopped = turn {
-            self.changed.notify_all();
-        }
-        turn
     }
 
     /// Stops the run.
@@ -112,4 +114,27 @@ impl LockedRun {
     pub fn into_book(self) -> Book {
         self.book.into_inner()
     }
+}
+
+// Takes turns of the operation at the book until one ends the operation, would be a wait or finds the run stopped, or until there
+// were many. It returns the last, and whether any of them wakes other workers.
+fn turns_at(book: &mut Book, worker: u8, op: u32) -> (Turn, bool) {
+    let mut turn = book.turn(worker, op);
+    let mut wakes = wakes_others(turn);
+    for _ in 1..TURNS {
+        if !matches!(turn, Turn::Took(_, false)) {
+            break;
+        }
+        turn = book.turn(worker, op);
+        wakes = wakes || wakes_others(turn);
+    }
+    (turn, wakes)
+}
+
+// Whether other workers may have waited for what this turn has done.
+fn wakes_others(turn: Turn) -> bool {
+    matches!(
+        turn,
+        Turn::Took(Kind::Unlatch(_) | Kind::WritePrime, _) | Turn::Stopped
+    )
 }
