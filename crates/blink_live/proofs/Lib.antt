@@ -5,6 +5,7 @@ pub mod found
 pub mod changed
 pub mod told
 pub mod retired
+pub mod handed
 pub mod closed
 pub mod gathered
 pub mod Offered

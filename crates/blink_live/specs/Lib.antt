@@ -8,12 +8,14 @@ pub use Rattle.blink_live.specs.Changes.{after}
 pub use Rattle.blink_live.specs.Allowed.{AreForChanges, IsTooLarge, deletes_left, inserts_left}
 -- what a deal gives and a pass leaves that comes back, and the refusals of a deal
 pub use Rattle.blink_live.specs.Deals.{HasDealt, HasRetired, IsDealRefusal, IsDealt, IsFirstTaken, LacksAllowance, NoneIsTaken}
+-- what becomes of two passes between which keys change hands, and the refusals of that
+pub use Rattle.blink_live.specs.Handing.{AllAreYours, HasGiven, HasReceived, IsFirstForeign, IsHandRefusal, IsHanded}
 -- an operation under way: the pass before it, and which one it is
 pub use Rattle.blink_live.specs.Pendings.{HasBegun, IsPendingOf, op_of, pass_of}
 -- the entries of a table when all its passes are back: the merge of their shares
 pub use Rattle.blink_live.specs.Merge.{IsMerge}
 -- the code of each refusal
-pub use Rattle.blink_live.specs.Codes.{code_of, code_of_pass}
+pub use Rattle.blink_live.specs.Codes.{code_of, code_of_hand, code_of_pass}
 -- the views of seats: how they begin, and what each kind of step makes of them
 pub use Rattle.blink_live.specs.Views.{SawItsOwn, spent}
 -- the layout of a table's words: where its rows stand, and which rows hold pages
@@ -40,6 +42,8 @@ pub mod Updating
 pub mod Pendings
 pub mod Dealing
 pub mod Retiring
+pub mod Parcels
+pub mod Handing
 pub mod KeyTest
 pub mod Words
 pub mod Laid

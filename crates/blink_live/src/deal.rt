@@ -235,14 +235,14 @@ impl Pass {
 
 // The keys of a list met so far. Once memory is refused, the set gets no further key.
 #[derive(Drop)]
-struct Met {
-    keys: BTreeSet<u64, Global>,
-    refused: bool,
+pub(crate) struct Met {
+    pub keys: BTreeSet<u64, Global>,
+    pub refused: bool,
 }
 
 impl Met {
     // Meets the key at `place` of the list, and returns whether it stands earlier in the list.
-    fn meets_again(&mut self, keys: &[u64], place: usize) -> bool
+    pub fn meets_again(&mut self, keys: &[u64], place: usize) -> bool
         requires inside { place < length keys.now }
         requires met { HasMet self.old.refused self.old.keys (take place keys.now) }
         ensures again { IsTrue result ↔ Contains (take place keys.now) (slice_index keys.now place) }
@@ -279,7 +279,7 @@ fn first_taken(alloc: Global, taken: &[u64], keys: &[u64]) -> Option<u64>
 }
 
 // Whether each key is below the next.
-fn ascends(keys: &[u64]) -> bool
+pub(crate) fn ascends(keys: &[u64]) -> bool
     ensures strictly { IsTrue result → IsStrictlyIncreasing keys.now }
     ensures sorted { IsTrue result → IsSorted nat_cmp keys.now }
 {
@@ -292,7 +292,7 @@ fn ascends(keys: &[u64]) -> bool
 }
 
 // Whether the key is one of these.
-fn is_among(keys: &[u64], key: u64) -> bool
+pub(crate) fn is_among(keys: &[u64], key: u64) -> bool
     requires ascending { IsSorted nat_cmp keys.now }
     ensures { IsTrue result ↔ Contains keys.now key }
 {
@@ -352,7 +352,7 @@ fn joined(alloc: Global, keys: &[u64], more: &[u64]) -> Result<Vec<u64>, AllocEr
 }
 
 // The keys of both lists in a new list, of the next keys of the two always the lesser.
-fn merged(alloc: Global, keys: &[u64], others: &[u64]) -> Result<Vec<u64>, AllocError>
+pub(crate) fn merged(alloc: Global, keys: &[u64], others: &[u64]) -> Result<Vec<u64>, AllocError>
     ensures of_both { IfOk result (λ all. IsPermutation (keys.now ++ others.now) all.items) }
 {
     let mut all = Vec::with_capacity(alloc, keys.len() + others.len())?;

@@ -1,6 +1,6 @@
 //! The refusals of the calls on a table.
 ghost use Rattle.std.specs.Prelude.{◌≡◌};
-ghost use Rattle.blink_live.specs.Codes.{code_of, code_of_pass};
+ghost use Rattle.blink_live.specs.Codes.{code_of, code_of_hand, code_of_pass};
 
 use thiserror::Error;
 
@@ -62,6 +62,29 @@ impl PassError {
         match self {
             PassError::NotYours => 54,
             PassError::Spent => 55,
+        }
+    }
+}
+
+/// Why keys can't change hands between two passes.
+#[derive(Clone, Copy, Debug, PartialEq, Eq, Error)]
+pub enum HandError {
+    /// The key isn't one of the pass's that hands keys over, or it stands twice in the list.
+    #[error("key {0} is not yours")]
+    NotYours(u64),
+    /// Memory was refused when keys were to change hands.
+    #[error("out of memory")]
+    OutOfMemory,
+}
+
+impl HandError {
+    /// Returns the refusal's code, the same in every release.
+    pub fn code(&self) -> u8
+        ensures { result ≡ code_of_hand self.now }
+    {
+        match self {
+            HandError::NotYours(_) => 58,
+            HandError::OutOfMemory => 59,
         }
     }
 }

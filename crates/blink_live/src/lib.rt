@@ -5,6 +5,7 @@ mod advance;
 mod close;
 mod deal;
 mod error;
+mod hand;
 mod live;
 mod open;
 mod operations;
@@ -16,5 +17,5 @@ mod tell;
 mod update;
 mod view;
 
-pub use error::{LiveError, PassError};
+pub use error::{HandError, LiveError, PassError};
 pub use live::{Keeper, Live, Pass, Pending};

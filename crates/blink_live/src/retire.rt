@@ -90,7 +90,7 @@ impl Live {
 }
 
 // Removes these keys from others, in one pass over both lists.
-fn remove_all(from: &mut Vec<u64>, keys: &[u64])
+pub(crate) fn remove_all(from: &mut Vec<u64>, keys: &[u64])
     requires ascending { IsSorted nat_cmp from.old.items × IsSorted nat_cmp keys.now }
     ensures ascending { IsSorted nat_cmp from.new.items }
     ensures rest { from.new.items ≡ without keys.now from.old.items }
@@ -127,14 +127,14 @@ fn keep_others(from: &mut [u64], keys: &[u64]) -> usize
 }
 
 // Whether the key stands at this place.
-fn stands_at(keys: &[u64], place: usize, key: u64) -> bool
+pub(crate) fn stands_at(keys: &[u64], place: usize, key: u64) -> bool
     ensures { IsTrue result ↔ (place < length keys.now × (slice_index keys.now place ≡ key)) }
 {
     place < keys.len() && keys[place] == key
 }
 
 // The place of the first key from `next` on that is at least `key`; the length, if there is none.
-fn reach(keys: &[u64], next: usize, key: u64) -> usize
+pub(crate) fn reach(keys: &[u64], next: usize, key: u64) -> usize
     requires inside { next ≤ length keys.now }
     ensures { IsReached keys.now next key result }
 {

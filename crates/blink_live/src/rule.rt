@@ -269,3 +269,62 @@ impl<B: Planned> Join<View> for Hear<B> {
 
     ghost spent = { spent B.plan };
 }
+
+/// The keys that a pass hands over. Each call picks them.
+pub(crate) trait Handed {
+    ghost use Rattle.std.specs.Prelude.{ℕ, List};
+
+    ghost keys: { List ℕ };
+}
+
+impl Handed for Brand {
+    ghost use Rattle.std.specs.Prelude.{[]};
+
+    ghost keys = { [] };
+}
+
+/// A pass parts with some of its keys: they become a seat of their own, for another pass to take.
+pub(crate) struct Part<B> {
+    of: PhantomData<B>,
+}
+
+impl<B: Handed> Split<View> for Part<B> {
+    ghost use Rattle.blink_live.specs.Parcels.{parcel_of, parts_with};
+
+    ghost left = { λ v. parts_with v B.keys };
+
+    ghost right = { λ v. parcel_of v B.keys };
+}
+
+/// All keys of a pass once it has taken some more, and the plan of the table. Each call picks them.
+pub(crate) trait Received {
+    ghost use Rattle.std.specs.Prelude.{ℕ, List};
+    ghost use Rattle.blink_live.specs.declared.view.Plan.{Plan};
+
+    ghost keys: { List ℕ };
+
+    ghost plan: { Plan };
+}
+
+impl Received for Brand {
+    ghost use Rattle.std.specs.Prelude.{[]};
+    ghost use Rattle.blink_live.specs.Views.{no_plan};
+
+    ghost keys = { [] };
+
+    ghost plan = { no_plan };
+}
+
+/// A pass takes the keys that another has parted with. The seat that they were is spent.
+pub(crate) struct Receive<B> {
+    of: PhantomData<B>,
+}
+
+impl<B: Received> Join<View> for Receive<B> {
+    ghost use Rattle.blink_live.specs.Parcels.{receives};
+    ghost use Rattle.blink_live.specs.Views.{spent};
+
+    ghost both = { λ v w. receives v B.keys w };
+
+    ghost spent = { spent B.plan };
+}

@@ -93,7 +93,7 @@ impl Live {
 
     // The seat sees no more changes. After the load it knows that its note shows of its own keys only changes that its own
     // operations made.
-    fn look_back(&self, seat: &mut Seat<u8, View>)
+    pub(crate) fn look_back(&self, seat: &mut Seat<u8, View>)
         requires seat { IsPassSeat self.now seat.old.table_id seat.old.me }
         ensures same { HasSameNumber seat.old seat.new }
         ensures back { LooksBack seat.old.me seat.new.me }

@@ -41,7 +41,7 @@ pub(crate) enum Role {
     Keeper(u64, u64),
     /// A pass's seat.
     Pass,
-    /// A seat whose view another seat has taken.
+    /// A seat whose view another seat has taken or is to take: a note, or keys on their way.
     Spent,
 }
 

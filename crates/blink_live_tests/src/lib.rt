@@ -16,6 +16,8 @@ mod finding;
 #[cfg(test)]
 mod glancing;
 #[cfg(test)]
+mod handing;
+#[cfg(test)]
 mod indexes;
 #[cfg(test)]
 mod inserting;

@@ -1,7 +1,7 @@
 //! Passes that come back while the table lives, and whose keys are dealt again.
 use crate::indexes::assert_finds;
 use crate::shared::Shared;
-use crate::steps::Step::{self, Call, Glance};
+use crate::steps::Step::{self, Call, Glance, GlanceBetween};
 use blink_batch::{Answer, Op};
 use blink_live::{LiveError, PassError};
 use std::process::Abort;
@@ -92,11 +92,15 @@ fn the_next_owner_has_seen_what_the_last_one_had(rt: HostRuntime) {
 const THREADS: u64 = 8;
 
 // In this round the thread replaces the pointer of its key, which is that of the round before. Its key in each round is the next
-// one, so each key goes round. All glance at key 9, which nobody changes.
-fn turn(key: u64, round: u64) -> [Step; 4] {
+// one, so each key goes round. All glance at key 9, which nobody changes, and at the key above, whose pointer another thread may
+// have replaced meanwhile.
+fn turn(key: u64, round: u64) -> [Step; 5] {
     let before = key.wrapping_mul(10).wrapping_add(round);
     let now = before.wrapping_add(1);
+    let above = key % THREADS + 1;
+    let left = above.wrapping_mul(10).wrapping_add(round);
     [
+        GlanceBetween(above, left, left.wrapping_add(1)),
         Call(Op::Find(key), Ok(Answer::Found(before))),
         Call(Op::Replace(key, now), Ok(Answer::Replaced(before))),
         Glance(9, Some(90)),

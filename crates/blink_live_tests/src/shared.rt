@@ -5,7 +5,7 @@ ghost use Rattle.blink_live.specs.{IsKeeperOf, IsPassOf};
 use crate::indexes::{after, filled};
 use crate::steps::{Step, take_all};
 use blink_index::Index;
-use blink_live::{Keeper, Live, LiveError, Pass};
+use blink_live::{HandError, Keeper, Live, LiveError, Pass};
 use blink_rows::Allowance;
 use std::alloc::{AllocError, Global};
 use std::process::Abort;
@@ -123,6 +123,16 @@ impl Shared {
         self.try_plan(steps).expect(rt, "not planned");
     }
 
+    // No thread has work.
+    pub(crate) fn forget_works(&mut self) {
+        self.works.clear();
+    }
+
+    // The next thread is to take these steps.
+    pub(crate) fn plan<R: Abort>(&mut self, rt: &R, steps: &[Step]) {
+        self.try_plan(steps).expect(rt, "not planned");
+    }
+
     // Each pass takes the steps that it was dealt for, in a thread of its own.
     pub(crate) fn run<R: Threads + Wait + Abort + Sync>(&mut self, rt: &R) {
         let threads = self.passes.len();
@@ -154,6 +164,38 @@ impl Shared {
         let mut last = without_last(rt, live, passes);
         assert!(rt; place < passes.len(), "no pass {place} before the last");
         tell_to(live, &mut last, passes, place);
+        with_last(rt, live, passes, last);
+    }
+
+    // The pass at this place hands these keys to the last one.
+    pub(crate) fn hand_last<R: Abort>(
+        &mut self,
+        rt: &R,
+        place: usize,
+        keys: &[u64],
+        expected: Result<(), HandError>,
+    ) {
+        let (live, passes) = (&self.live, &mut self.passes);
+        let mut last = without_last(rt, live, passes);
+        assert!(rt; place < passes.len(), "no pass {place} before the last");
+        let given = hand_from(live, passes, place, &mut last, keys);
+        assert!(rt; given == expected, "{given:?}");
+        with_last(rt, live, passes, last);
+    }
+
+    // The last pass hands these keys to the one at this place.
+    pub(crate) fn get_from_last<R: Abort>(
+        &mut self,
+        rt: &R,
+        place: usize,
+        keys: &[u64],
+        expected: Result<(), HandError>,
+    ) {
+        let (live, passes) = (&self.live, &mut self.passes);
+        let mut last = without_last(rt, live, passes);
+        assert!(rt; place < passes.len(), "no pass {place} before the last");
+        let given = hand_to(live, &mut last, passes, place, keys);
+        assert!(rt; given == expected, "{given:?}");
         with_last(rt, live, passes, last);
     }
 
@@ -257,4 +299,36 @@ fn tell_to(live: &Live, from: &mut Pass, passes: &mut Vec<Pass>, place: usize)
     ensures from { IsPassOf live.now from.new }
 {
     live.tell(from, &mut passes[place]);
+}
+
+fn hand_from(
+    live: &Live,
+    passes: &mut Vec<Pass>,
+    place: usize,
+    to: &mut Pass,
+    keys: &[u64],
+) -> Result<(), HandError>
+    requires place { place < vec_len passes.old }
+    requires all { All (IsPassOf live.now) passes.old.items }
+    requires to { IsPassOf live.now to.old }
+    ensures all { All (IsPassOf live.now) passes.new.items }
+    ensures to { IsPassOf live.now to.new }
+{
+    live.hand(&mut passes[place], to, keys)
+}
+
+fn hand_to(
+    live: &Live,
+    from: &mut Pass,
+    passes: &mut Vec<Pass>,
+    place: usize,
+    keys: &[u64],
+) -> Result<(), HandError>
+    requires place { place < vec_len passes.old }
+    requires all { All (IsPassOf live.now) passes.old.items }
+    requires from { IsPassOf live.now from.old }
+    ensures all { All (IsPassOf live.now) passes.new.items }
+    ensures from { IsPassOf live.now from.new }
+{
+    live.hand(from, &mut passes[place], keys)
 }

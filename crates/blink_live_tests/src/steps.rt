@@ -12,6 +12,8 @@ use std::sync::Wait;
 pub(crate) enum Step {
     Call(Op, Result<Answer, PassError>),
     Glance(u64, Option<u64>),
+    // A glance at the first number gives a pointer from the second to the third.
+    GlanceBetween(u64, u64, u64),
 }
 
 fn call<R: Wait>(rt: &R, live: &Live, pass: &mut Pass, op: Op) -> Result<Answer, PassError>
@@ -38,6 +40,11 @@ fn take<R: Wait + Abort>(rt: &R, live: &Live, pass: &mut Pass, step: Step)
         Step::Glance(key, expected) => {
             let given = live.glance(pass, key);
             assert!(rt; given == expected, "a glance at {key} gave {given:?}");
+        }
+        Step::GlanceBetween(key, least, greatest) => {
+            let given = live.glance(pass, key);
+            let fits = matches!(given, Some(pointer) if least <= pointer && pointer <= greatest);
+            assert!(rt; fits, "a glance at {key} gave {given:?}");
         }
     }
 }

@@ -26,7 +26,7 @@ flips : (x y : ℕ) → (x == y) ≡ (y == x)
 flips x y = grind (arith, nat_tests)
 
 -- the element at a place of a list
-some_at : (keys : List ℕ) (n key : ℕ) → slice_get keys n ≡ Some key → (n < length keys) × (get_or keys n 0 ≡ key)
+pub some_at : (keys : List ℕ) (n key : ℕ) → slice_get keys n ≡ Some key → (n < length keys) × (get_or keys n 0 ≡ key)
 some_at [] n key at = absurd (cc)
 some_at (first ∷ rest) zero key at = (omega arith, cc)
 some_at (first ∷ rest) (suc n) key at = let t = some_at rest n key at in (let inside = t.0 in omega (arith, inside), t.1)

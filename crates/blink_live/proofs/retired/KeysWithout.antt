@@ -40,7 +40,7 @@ in_without keys (first ∷ rest) key has apart = contains_case first rest key ha
     go true there = there
     go false there = later first (without keys rest) key there
 
-not_among : (keys : List ℕ) (key : ℕ) → ¬ Contains keys key → is_among keys key ≡ false
+pub not_among : (keys : List ℕ) (key : ℕ) → ¬ Contains keys key → is_among keys key ≡ false
 not_among keys key none = go (is_among keys key) refl
   where
     go : (b : Bool) → is_among keys key ≡ b → b ≡ false

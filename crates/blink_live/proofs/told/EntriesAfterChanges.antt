@@ -19,12 +19,12 @@ after-same_first : (f g : ℕ → Option ℕ) (changes : List Change) (key : ℕ
 after-same_first f g changes key same =
     after-last_state f changes key ∙ (ap (λ (first : Option ℕ). last_state first (states_of key changes)) same ∙ sym (after-last_state g changes key))
 
-with_pointer-own : (entries : List Entry) (key : ℕ) (pointer : Option ℕ) → pointer_of (with_pointer entries key pointer) key ≡ pointer
+pub with_pointer-own : (entries : List Entry) (key : ℕ) (pointer : Option ℕ) → pointer_of (with_pointer entries key pointer) key ≡ pointer
 with_pointer-own entries key None = pointer_of-map_after_own entries (Delete key) key refl
 with_pointer-own entries key (Some pointer) =
     pointer_of-map_after_own (map_after entries (Delete key)) (Insert key pointer) key refl ∙ ap (cell_after (Insert key pointer)) (pointer_of-map_after_own entries (Delete key) key refl)
 
-with_pointer-other : (entries : List Entry) (at : ℕ) (pointer : Option ℕ) (key : ℕ) → at ≢ key → pointer_of (with_pointer entries at pointer) key ≡ pointer_of entries key
+pub with_pointer-other : (entries : List Entry) (at : ℕ) (pointer : Option ℕ) (key : ℕ) → at ≢ key → pointer_of (with_pointer entries at pointer) key ≡ pointer_of entries key
 with_pointer-other entries at None key differ = pointer_of-map_after_other entries (Delete at) key differ
 with_pointer-other entries at (Some pointer) key differ =
     pointer_of-map_after_other (map_after entries (Delete at)) (Insert at pointer) key differ ∙ pointer_of-map_after_other entries (Delete at) key differ

@@ -26,7 +26,7 @@ told_in_role plan owners log seat v told Spent is = is
 
 module _ (plan : Plan) (some_number : 1 ≤ plan.counts.numbers) (s : State ℕ View) (tree_state : TreeState) (h : IsTableAt plan s tree_state) where
   -- a seat that has nothing knows what it was told
-  told_knows : (seat : ℕ) (told : List Change) → tree_state.machines seat ≡ None → IsPrefix told h.log → Knows plan h.owners s.words tree_state h.log seat (record (spent plan) { told = told })
+  pub told_knows : (seat : ℕ) (told : List Change) → tree_state.machines seat ≡ None → IsPrefix told h.log → Knows plan h.owners s.words tree_state h.log seat (record (spent plan) { told = told })
   told_knows seat told idle heard = record {
     same_plan = refl;
     operation = idle;
