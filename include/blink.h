@@ -72,13 +72,15 @@ enum {
     BLINK_BAD_FAN = 40,            /* the fan isn't from 4 to 32 */
     BLINK_INDEX_NO_MEMORY = 41,    /* memory was refused, of an index */
     BLINK_NO_MEMORY = 50,          /* memory was refused, of a table */
-    BLINK_TAKEN = 51,              /* a key was dealt before, or stands twice in the list */
-    BLINK_NO_ALLOWANCE = 52,       /* the table has fewer insertions or deletions left to deal */
+    BLINK_TAKEN = 51,              /* a pass has the key that wasn't given back, or it stands twice in the list */
+    BLINK_NO_ALLOWANCE = 52,       /* the table has fewer insertions or deletions left, or has dealt 2^32 - 1 passes */
     BLINK_DEAL_NO_MEMORY = 53,     /* memory was refused, of a deal */
     BLINK_NOT_YOURS = 54,          /* the key isn't one of the pass's */
     BLINK_SPENT = 55,              /* the pass has no insertion, or no deletion, left */
     BLINK_MISSING = 56,            /* a pass wasn't given back, or its handle isn't freed */
     BLINK_TABLE_TOO_LARGE = 57,    /* as 32, by the insertions that the table is to have room for */
+    BLINK_HAND_NOT_YOURS = 58,     /* a key isn't one of the pass's that is to hand it over, or stands twice in the list */
+    BLINK_HAND_NO_MEMORY = 59,     /* memory was refused, of a hand */
     BLINK_FOREIGN = 63,            /* the pass is of another table: the two tables' numbers differ */
     BLINK_PENDING = 90,            /* the pass has an operation under way */
     BLINK_IDLE = 91,               /* the pass has no operation under way */
@@ -141,8 +143,9 @@ void blink_index_free(blink_index index);
 /* ---- The table: the index's entries, which threads change together. ----
  *
  * A table deals passes. A pass has some keys, which no other pass has, and room for some changes. Its thread finds, inserts,
- * deletes and replaces its own keys, with the answers of its own plain map, and glances at all keys. In the end every pass goes
- * back, every handle of a pass is freed, and the table is closed to an index.
+ * deletes and replaces its own keys, with the answers of its own plain map, and glances at all keys. A pass hands keys to another,
+ * or goes back, and then its keys can be dealt again. In the end every pass goes back, every handle of a pass is freed, and the
+ * table is closed to an index.
  */
 
 /* Opens a table over the index, which stays as it is, with room for so many insertions and deletions; a replacement uses a
@@ -150,18 +153,18 @@ void blink_index_free(blink_index index);
  * told apart. Refused: BLINK_TABLE_TOO_LARGE, BLINK_NO_MEMORY. */
 uint8_t blink_table_open(blink_index *index, uint32_t inserts, uint32_t deletes, uint64_t number, blink_table *out);
 
-/* Deals a pass with these keys, in any order, and room for so many changes. Refused: BLINK_TAKEN, and `taken` is the first key of
- * the list that was dealt before or stands earlier in it; BLINK_NO_ALLOWANCE; BLINK_DEAL_NO_MEMORY, at any time. Without
- * BLINK_TAKEN, `taken` stays as it was. */
+/* Deals a pass with these keys, in any order, and room for so many changes. A key that was dealt before has the state that its last
+ * pass left. Refused: BLINK_TAKEN, and `taken` is the first key of the list that a pass has which wasn't given back, or that stands
+ * earlier in the list; BLINK_NO_ALLOWANCE; BLINK_DEAL_NO_MEMORY, at any time. Without BLINK_TAKEN, `taken` stays as it was. */
 uint8_t blink_table_deal(blink_table *table, const uint64_t *keys, size_t count, uint32_t inserts, uint32_t deletes,
                          blink_pass *out, uint64_t *taken);
 
-/* Gives a pass back to its table. Its handle then holds nothing, is BLINK_RETURNED to all calls, and is still to be freed.
- * Refused: BLINK_FOREIGN, BLINK_PENDING, BLINK_RETURNED, BLINK_NO_MEMORY. */
+/* Gives a pass back to its table: its keys can be dealt again. Its handle then holds nothing, is BLINK_RETURNED to all calls, and
+ * is still to be freed. It takes no memory. Refused, looked for in this order: BLINK_FOREIGN; BLINK_PENDING or BLINK_RETURNED. */
 uint8_t blink_table_return(blink_table *table, blink_pass *pass);
 
 /* Closes the table, and gives the index of its tree: the entries that it was opened with, except that each key that was dealt has
- * the state that its pass left. The table is given up either way. Refused: BLINK_MISSING, if a pass wasn't given back or its
+ * the state that its last pass left. The table is given up either way. Refused: BLINK_MISSING, if a pass wasn't given back or its
  * handle isn't freed; BLINK_NO_MEMORY. */
 uint8_t blink_table_close(blink_table table, blink_index *out);
 
@@ -177,9 +180,17 @@ uint8_t blink_pass_find(blink_pass *pass, uint64_t key, blink_answer *answer);
  * BLINK_RETURNED. */
 uint8_t blink_pass_glance(blink_pass *pass, uint64_t key, blink_answer *answer);
 
-/* Tells pass `to` what pass `from` has seen: then `to` has seen all that `from` has seen. The two handles are different. Refused:
- * BLINK_FOREIGN, if the passes are of two tables; BLINK_PENDING and BLINK_RETURNED, if one of them isn't free. */
+/* Tells pass `to` what pass `from` has seen: then `to` has seen all that `from` has seen. The two handles are different. Refused,
+ * looked for in this order: BLINK_FOREIGN, if the passes are of two tables; BLINK_PENDING or BLINK_RETURNED, if `from` isn't free;
+ * the same, if `to` isn't. */
 uint8_t blink_pass_tell(blink_pass *from, blink_pass *to);
+
+/* Hands these keys, in any order, from pass `from` to pass `to`, which can change them then as `from` could; `from` still glances
+ * at them. Each pass keeps the changes that it has left, and `to` has then seen all that `from` has seen. The two handles are
+ * different. Refused, looked for in this order: as blink_pass_tell; BLINK_HAND_NOT_YOURS, and `bad_key` is the first key of the
+ * list that isn't one of `from`'s, or that stands earlier in the list; BLINK_HAND_NO_MEMORY. Without BLINK_HAND_NOT_YOURS,
+ * `bad_key` stays as it was. A refusal leaves both passes as they were. */
+uint8_t blink_pass_hand(blink_pass *from, blink_pass *to, const uint64_t *keys, size_t count, uint64_t *bad_key);
 
 /* Begin an insertion, a deletion or a replacement of a key of the pass. It goes on by blink_pass_advance, and until it has ended
  * the pass can do nothing else. Each uses one insertion, or one deletion, of the pass, whatever it answers. Refused:

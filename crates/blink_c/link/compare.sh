@@ -92,6 +92,8 @@ NOT_YOURS ../blink_live/specs/Codes.antt NotYours
 SPENT ../blink_live/specs/Codes.antt Spent
 MISSING ../blink_live/specs/Codes.antt Missing
 TABLE_TOO_LARGE ../blink_live/specs/Codes.antt TooLarge
+HAND_NOT_YOURS ../blink_live/specs/Codes.antt KeyNotYours
+HAND_NO_MEMORY ../blink_live/specs/Codes.antt NoMemory
 FOREIGN specs/TableCodes.antt Foreign
 PENDING specs/TableCodes.antt UnderWay
 IDLE specs/TableCodes.antt Idle

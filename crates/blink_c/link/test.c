@@ -165,6 +165,79 @@ static void refuses_at_a_table(void) {
     blink_index_free(index);
 }
 
+// Whether two calls with these two passes are refused so, before any key is looked at.
+static bool both_refuse(blink_pass *from, blink_pass *to, uint8_t code) {
+    uint64_t absent = 9, bad_key = 8;
+    return blink_pass_tell(from, to) == code && blink_pass_hand(from, to, &absent, 1, &bad_key) == code && bad_key == 8;
+}
+
+static void refuses_in_order(void) {
+    blink_index index = index_of(4, five, 6);
+    blink_table table = {NULL}, other = {NULL};
+    blink_pass free_one = {NULL}, busy = {NULL}, gone = {NULL}, foreign = {NULL};
+    uint64_t keys[] = {1, 2, 3, 4}, taken;
+    CHECK(blink_table_open(&index, 0, 1, 1, &table) == BLINK_DONE && blink_table_open(&index, 0, 0, 2, &other) == BLINK_DONE);
+    CHECK(blink_table_deal(&table, keys, 1, 0, 0, &free_one, &taken) == BLINK_DONE);
+    CHECK(blink_table_deal(&table, keys + 1, 1, 0, 1, &busy, &taken) == BLINK_DONE);
+    CHECK(blink_table_deal(&table, keys + 2, 1, 0, 0, &gone, &taken) == BLINK_DONE);
+    CHECK(blink_table_deal(&other, keys + 3, 1, 0, 0, &foreign, &taken) == BLINK_DONE);
+    CHECK(blink_pass_begin_delete(&busy, 2) == BLINK_DONE && blink_table_return(&table, &gone) == BLINK_DONE);
+    // the tables first, then the first pass, then the second
+    CHECK(both_refuse(&busy, &foreign, BLINK_FOREIGN) && both_refuse(&foreign, &gone, BLINK_FOREIGN));
+    CHECK(both_refuse(&busy, &gone, BLINK_PENDING) && both_refuse(&gone, &busy, BLINK_RETURNED));
+    CHECK(both_refuse(&free_one, &busy, BLINK_PENDING) && both_refuse(&free_one, &gone, BLINK_RETURNED));
+    CHECK(blink_table_return(&other, &busy) == BLINK_FOREIGN && blink_table_return(&other, &gone) == BLINK_FOREIGN);
+    CHECK(blink_table_return(&table, &busy) == BLINK_PENDING && blink_table_return(&table, &gone) == BLINK_RETURNED);
+    blink_pass_free(free_one), blink_pass_free(busy), blink_pass_free(gone), blink_pass_free(foreign);
+    blink_table_free(table), blink_table_free(other);
+    blink_index_free(index);
+}
+
+static bool finds(blink_pass *pass, uint64_t key, uint64_t kind, uint64_t pointer) {
+    blink_answer answer;
+    return blink_pass_find(pass, key, &answer) == BLINK_DONE && answer.kind == kind && answer.pointer == pointer;
+}
+
+// Keys 1 to 5 map to 10 to 50. The first pass inserts key 6; the second gets keys 6 and 1, and deletes 6; both come back, and their
+// keys are dealt again.
+static void hands_keys_over(void) {
+    blink_index index = index_of(4, five, 6), closed = {NULL};
+    blink_table table = {NULL};
+    blink_pass from = {NULL}, to = {NULL}, again = {NULL};
+    uint64_t keys[] = {1, 6, 2}, third[] = {3}, more[] = {6, 1, 9, 6}, twice[] = {6, 1, 6}, taken = 8, bad_key = 8;
+    blink_answer answer;
+    CHECK(blink_table_open(&index, 1, 1, 1, &table) == BLINK_DONE);
+    CHECK(blink_table_deal(&table, keys, 3, 1, 0, &from, &taken) == BLINK_DONE);
+    CHECK(blink_table_deal(&table, third, 1, 0, 1, &to, &taken) == BLINK_DONE);
+    CHECK(blink_pass_begin_insert(&from, 6, 60) == BLINK_DONE && ended(&from).kind == BLINK_INSERTED);
+    CHECK(blink_pass_hand(&from, &to, third, 1, &bad_key) == BLINK_HAND_NOT_YOURS && bad_key == 3);
+    CHECK(blink_pass_hand(&from, &to, more, 4, &bad_key) == BLINK_HAND_NOT_YOURS && bad_key == 9);
+    CHECK(blink_pass_hand(&from, &to, twice, 3, &bad_key) == BLINK_HAND_NOT_YOURS && bad_key == 6);
+    CHECK(finds(&from, 6, BLINK_FOUND, 60) && blink_pass_find(&to, 6, &answer) == BLINK_NOT_YOURS);
+    bad_key = 8;
+    CHECK(blink_pass_hand(&from, &to, twice, 2, &bad_key) == BLINK_DONE && bad_key == 8);
+    CHECK(blink_pass_find(&from, 6, &answer) == BLINK_NOT_YOURS && finds(&from, 2, BLINK_FOUND, 20));
+    CHECK(finds(&to, 6, BLINK_FOUND, 60) && finds(&to, 1, BLINK_FOUND, 10) && finds(&to, 3, BLINK_FOUND, 30));
+    CHECK(blink_pass_begin_insert(&to, 1, 11) == BLINK_SPENT && blink_pass_begin_delete(&from, 2) == BLINK_SPENT);
+    CHECK(blink_pass_begin_delete(&to, 6) == BLINK_DONE && ended(&to).pointer == 60);
+    // with no key at all the first still sees what the second has seen
+    CHECK(blink_pass_hand(&to, &from, twice, 0, &bad_key) == BLINK_DONE);
+    CHECK(blink_pass_glance(&from, 6, &answer) == BLINK_DONE && answer.kind == BLINK_ABSENT);
+    CHECK(blink_table_return(&table, &from) == BLINK_DONE);
+    CHECK(blink_table_deal(&table, keys, 3, 0, 0, &again, &taken) == BLINK_TAKEN && taken == 1);
+    CHECK(blink_table_return(&table, &to) == BLINK_DONE);
+    CHECK(blink_table_deal(&table, keys, 3, 0, 0, &again, &taken) == BLINK_DONE);
+    CHECK(finds(&again, 6, BLINK_ABSENT, 0) && finds(&again, 1, BLINK_FOUND, 10) && finds(&again, 2, BLINK_FOUND, 20));
+    blink_pass_free(from), blink_pass_free(to);
+    CHECK(blink_table_return(&table, &again) == BLINK_DONE);
+    blink_pass_free(again);
+    CHECK(blink_table_close(table, &closed) == BLINK_DONE && blink_index_len(&closed) == 5);
+    uint64_t pointer;
+    CHECK(blink_index_find(&closed, 3, &pointer) && pointer == 30 && !blink_index_find(&closed, 6, &pointer));
+    blink_index_free(closed);
+    blink_index_free(index);
+}
+
 enum { THREADS = 2, KEYS = 2000 };
 
 // Inserts, replaces and deletes the thread's own keys by its own pass, and looks at them all.
@@ -211,6 +284,22 @@ static void shares_a_table(void) {
     blink_index_free(index);
 }
 
+// Hands the pass's key to a new pass, which takes memory: whether none was refused. A refusal leaves both passes as they were.
+static bool gives_up_its_key(blink_table *table, blink_pass *pass, uint64_t key) {
+    blink_pass to = {NULL};
+    blink_answer answer;
+    uint64_t bad_key = 8;
+    uint8_t code = blink_table_deal(table, &key, 0, 0, 0, &to, &bad_key);
+    if (code != BLINK_DONE) return CHECK(code == BLINK_DEAL_NO_MEMORY), false;
+    code = blink_pass_hand(pass, &to, &key, 1, &bad_key);
+    CHECK((code == BLINK_DONE || code == BLINK_HAND_NO_MEMORY) && bad_key == 8);
+    CHECK(blink_pass_find(pass, key, &answer) == (code == BLINK_DONE ? BLINK_NOT_YOURS : BLINK_DONE));
+    CHECK(blink_pass_find(&to, key, &answer) == (code == BLINK_DONE ? BLINK_DONE : BLINK_NOT_YOURS));
+    CHECK(blink_table_return(table, &to) == BLINK_DONE);
+    blink_pass_free(to);
+    return code == BLINK_DONE;
+}
+
 // One use of everything that takes memory, up to the first refusal: whether nothing was refused.
 static bool uses_memory(void) {
     blink_index index = {NULL}, copy = {NULL}, closed = {NULL};
@@ -235,13 +324,12 @@ static bool uses_memory(void) {
         if ((code = blink_table_deal(&table, &key, 1, 1, 1, &pass, &taken)) != BLINK_DONE)
             CHECK(code == BLINK_DEAL_NO_MEMORY && taken == 8);
         else {
-            if ((code = blink_table_return(&table, &pass)) != BLINK_DONE)
-                CHECK(code == BLINK_NO_MEMORY && blink_pass_find(&pass, key, &answer) == BLINK_DONE);
-            all = code == BLINK_DONE;
+            all = gives_up_its_key(&table, &pass, key);
+            CHECK(blink_table_return(&table, &pass) == BLINK_DONE);
             blink_pass_free(pass);
         }
         code = blink_table_close(table, &closed);
-        CHECK(code == BLINK_DONE || code == BLINK_NO_MEMORY || (!all && code == BLINK_MISSING));
+        CHECK(code == BLINK_DONE || code == BLINK_NO_MEMORY);
         all = all && code == BLINK_DONE;
         if (code == BLINK_DONE) blink_index_free(closed);
     }
@@ -255,6 +343,8 @@ int main(void) {
     looks_up();
     runs_batches();
     refuses_at_a_table();
+    refuses_in_order();
+    hands_keys_over();
     shares_a_table();
     long requests = 0;
     do refused_at = requests++;

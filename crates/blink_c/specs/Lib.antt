@@ -13,7 +13,7 @@ pub use Rattle.blink_c.specs.Filled.{overlaid, put_if_fits}
 -- a table behind a handle: what the calls make of it, and why they are refused
 pub use Rattle.blink_c.specs.Tables.{DealsTo, IsNewTable, IsOwnTable, IsReturnRefusal, TakesBack, TellsDealFault, TellsOpenFault}
 -- a pass behind a handle likewise
-pub use Rattle.blink_c.specs.Passes.{Begins, Ends, Finds, Glances, IsAdvanceRefusal, IsBeginRefusal, IsFindRefusal, IsOwn, IsTellRefusal, TellsOn}
+pub use Rattle.blink_c.specs.Passes.{Begins, Ends, Finds, Glances, Hands, IsAdvanceRefusal, IsBeginRefusal, IsFindRefusal, IsHandRefusal, IsOwn, IsTellRefusal, TellsHandFault, TellsOn}
 -- ---- the files
 pub mod Raw
 pub mod Runs

@@ -1,5 +1,5 @@
 -- A pass behind a handle: what the calls make of it, and why they are refused.
-use Rattle.std.specs.Prelude.{◌≡◌, ◌≢◌, ◌⊎◌, ℕ, Contains, ⊤}
+use Rattle.std.specs.Prelude.{◌≡◌, ◌≢◌, ◌⊎◌, ℕ, List, Contains, ⊤}
 use Rattle.std.specs.Arc.{arc_value}
 use mathlib.Core.List.{IsPrefix}
 use Rattle.blink_batch.specs.declared.Op.{Op}
@@ -8,8 +8,10 @@ use Rattle.blink_batch.specs.{answer_of, key_of, pointer_of}
 use Rattle.blink_live.specs.declared.live.Live.{Live}
 use Rattle.blink_live.specs.declared.live.Pass.{Pass}
 use Rattle.blink_live.specs.declared.live.Pending.{Pending}
+use Rattle.blink_live.specs.declared.error.HandError.{HandError}
+use Rattle.blink_live.specs.declared.error.HandError.TheVariants as hand
 use Rattle.blink_live.specs.declared.error.PassError.TheVariants.{NotYours, Spent}
-use Rattle.blink_live.specs.{HasBegun, IsChangedBy, IsPassOf, IsPendingOf, IsSameBesideSeen, IsSamePass, KnowsItsKeys, SawAllOf, after, keys_of, op_of, opening_of, pass_of, seen_of, share_of}
+use Rattle.blink_live.specs.{HasBegun, IsChangedBy, IsHandRefusal as IsRefusalOfKeys, IsHanded, IsPassOf, IsPendingOf, IsSameBesideSeen, IsSamePass, KnowsItsKeys, SawAllOf, after, keys_of, op_of, opening_of, pass_of, seen_of, share_of}
 use Rattle.blink_live.specs.Allowed.{changes_left}
 use Rattle.blink_c.specs.declared.raw.RawAnswer.{RawAnswer}
 use Rattle.blink_c.specs.declared.pass_owner.Held.{Held}
@@ -18,6 +20,7 @@ use Rattle.blink_c.specs.declared.pass_owner.PassOwner.{PassOwner}
 use Rattle.blink_c.specs.declared.table_refusal.TableRefusal.{TableRefusal}
 use Rattle.blink_c.specs.declared.table_refusal.TableRefusal.TheVariants as refused
 use Rattle.blink_c.specs.Raw.{raw_answer, raw_shown}
+use Rattle.blink_c.specs.TableCodes.{code_of}
 
 -- the table
 abbrev pub table_of : PassOwner → Live
@@ -32,6 +35,10 @@ IsHeldOf live Gone = ⊤
 -- a handle that a call has filled holds what is of its table
 abbrev pub IsOwn : PassOwner → Type 0
 IsOwn owner = IsHeldOf (table_of owner) owner.held
+
+abbrev pub IsFree : Held → Type 0
+IsFree (Free pass) = ⊤
+IsFree held = ⊥
 
 -- why no pass is free
 abbrev pub IsNotFree : Held → TableRefusal → Type 0
@@ -87,10 +94,45 @@ pub record TellsOn (from from_new to to_new : PassOwner) : Type 0 where
   pub same_hearer : IsSameBesideSeen hearer hearer_now
   pub same_teller : IsSamePass teller teller_now
 
--- the passes are of two tables, or one of them isn't free
+-- the passes are of two tables; or the first isn't free; or the second isn't. They are looked for in this order, and each case
+-- repeats that the earlier checks passed
 abbrev pub IsTellRefusal : PassOwner → PassOwner → TableRefusal → Type 0
 IsTellRefusal from to refused.Foreign = from.number ≢ to.number
-IsTellRefusal from to refusal = IsNotFree from.held refusal ⊎ IsNotFree to.held refusal
+IsTellRefusal from to refusal =
+    (from.number ≡ to.number) × (IsNotFree from.held refusal ⊎ (IsFree from.held × IsNotFree to.held refusal))
+
+-- ---- keys that change hands
+
+pub record Hands (keys : List ℕ) (from from_new to to_new : PassOwner) : Type 0 where
+  pub giver : Pass
+  pub giver_now : Pass
+  pub taker : Pass
+  pub taker_now : Pass
+  pub from_free : StaysFree from from_new giver giver_now
+  pub to_free : StaysFree to to_new taker taker_now
+  pub one_table : from.number ≡ to.number
+  pub handed : IsHanded (table_of from) giver taker keys giver_now taker_now
+
+-- both passes are free and of one table, but a key isn't the first pass's to hand over, or memory was refused
+pub record CantHand (from to : PassOwner) (keys : List ℕ) (refusal : HandError) : Type 0 where
+  pub giver : Pass
+  pub taker : Pass
+  pub from_free : from.held ≡ Free giver
+  pub to_free : to.held ≡ Free taker
+  pub one_table : from.number ≡ to.number
+  pub why : IsRefusalOfKeys (keys_of giver) keys refusal
+
+-- first the refusals of a tell are looked for, in their order
+abbrev pub IsHandRefusal : PassOwner → PassOwner → List ℕ → TableRefusal → Type 0
+IsHandRefusal from to keys (refused.Hand refusal) = CantHand from to keys refusal
+IsHandRefusal from to keys refusal = IsTellRefusal from to refusal
+
+-- the code of a hand's refusal, and the key that isn't the first pass's to hand over
+pub record TellsHandFault (from to : PassOwner) (keys : List ℕ) (code key : ℕ) : Type 0 where
+  pub refusal : TableRefusal
+  pub its_code : code ≡ code_of refusal
+  pub fault : IsHandRefusal from to keys refusal
+  pub its_key : (other : ℕ) → refusal ≡ refused.Hand (hand.NotYours other) → key ≡ other
 
 -- ---- operations that change the tree
 

@@ -1,11 +1,11 @@
 -- A table behind a handle: what the calls make of it, and why they are refused.
-use Rattle.std.specs.Prelude.{◌≡◌, ◌≢◌, ◌⊎◌, ◌++◌, ℕ, List, [], ◌∷◌, All, length, ⊤}
+use Rattle.std.specs.Prelude.{◌≡◌, ◌≢◌, ◌⊎◌, ℕ, List, length, ⊤}
 use Rattle.std.specs.Arc.{arc_value}
 use Rattle.blink_live.specs.declared.live.Live.{Live}
 use Rattle.blink_live.specs.declared.live.Pass.{Pass}
 use Rattle.blink_live.specs.declared.error.LiveError.{LiveError}
 use Rattle.blink_live.specs.declared.error.LiveError.TheVariants as live
-use Rattle.blink_live.specs.{HasDealt, IsDealt, IsFirstTaken, IsKeeperOf, IsOpened, IsPassOf, IsTooLarge, LacksAllowance, NoneIsTaken, code_of, taken_of}
+use Rattle.blink_live.specs.{HasDealt, HasRetired, IsDealt, IsFirstTaken, IsKeeperOf, IsOpened, IsTooLarge, LacksAllowance, NoneIsTaken, code_of, taken_of}
 use Rattle.blink_rows.specs.declared.allowance.Allowance.{Allowance}
 use Rattle.blink_store.specs.{PlainStore}
 use Rattle.blink_c.specs.declared.pass_owner.Held.TheVariants.{Free, Gone}
@@ -19,16 +19,14 @@ use Rattle.blink_c.specs.Passes.{IsNotFree, table_of}
 abbrev pub table_in : TableOwner → Live
 table_in owner = arc_value owner.live
 
--- the keeper and the passes that came back are of the table
-pub record IsOwnTable (owner : TableOwner) : Type 0 where
-  pub its_keeper : IsKeeperOf (table_in owner) owner.keeper
-  pub its_passes : All (IsPassOf (table_in owner)) owner.back.items
+-- the keeper is the table's
+abbrev pub IsOwnTable : TableOwner → Type 0
+IsOwnTable owner = IsKeeperOf (table_in owner) owner.keeper
 
 -- a table that was opened over this tree, with room for these changes
 pub record IsNewTable (store : PlainStore) (allowance : Allowance) (number : ℕ) (owner : TableOwner) : Type 0 where
   pub opened : IsOpened store allowance (table_in owner) owner.keeper
   pub same_number : owner.number ≡ number
-  pub none_back : owner.back.items ≡ []
   pub its_own : IsOwnTable owner
 
 -- the code of the refusal to open one
@@ -47,7 +45,6 @@ pub record DealsTo (keys : List ℕ) (inserts deletes : ℕ) (old new : TableOwn
   pub rest : HasDealt (table_in old) old.keeper new.keeper keys inserts deletes
   pub same_table : new.live ≡ old.live
   pub same_number : new.number ≡ old.number
-  pub same_back : new.back ≡ old.back
 
 -- the refusals of a deal; memory may be refused before the others are looked for
 abbrev pub IsDealFault : TableOwner → List ℕ → ℕ → ℕ → LiveError → Type 0
@@ -65,24 +62,16 @@ pub record TellsDealFault (old : TableOwner) (keys : List ℕ) (inserts deletes 
 
 -- ---- passes that come back
 
+-- the keeper has taken the pass back, so that its keys are free, and the handle has nothing left
 pub record TakesBack (old new : TableOwner) (pass_old pass_new : PassOwner) : Type 0 where
   pub pass : Pass
   pub was : pass_old.held ≡ Free pass
   pub gone : pass_new.held ≡ Gone
-  pub back : new.back.items ≡ old.back.items ++ pass ∷ []
-  pub same_keeper : new.keeper ≡ old.keeper
+  pub retired : HasRetired (table_in old) old.keeper pass new.keeper
   pub same_table : new.live ≡ old.live
   pub same_number : new.number ≡ old.number
 
--- the table and its keeper are as they were, and so are the passes that came back
-pub record IsSameTable (old new : TableOwner) : Type 0 where
-  pub same_back : new.back.items ≡ old.back.items
-  pub same_keeper : new.keeper ≡ old.keeper
-  pub same_table : new.live ≡ old.live
-  pub same_number : new.number ≡ old.number
-
--- the pass is of another table, or isn't free, or memory was refused
+-- the pass is of another table; or it is of this one, and isn't free. The tables are looked at first
 abbrev pub IsReturnRefusal : TableOwner → PassOwner → TableRefusal → Type 0
 IsReturnRefusal table pass refused.Foreign = table.number ≢ pass.number
-IsReturnRefusal table pass (refused.Live live.OutOfMemory) = ⊤
-IsReturnRefusal table pass refusal = IsNotFree pass.held refusal
+IsReturnRefusal table pass refusal = (table.number ≡ pass.number) × IsNotFree pass.held refusal

@@ -2,12 +2,14 @@
 ghost use Rattle.std.specs.Prelude.{◌≡◌, ◌≢◌};
 ghost use Rattle.blink_batch.specs.declared.Op.TheVariants.{Delete, Insert, Replace};
 ghost use Rattle.blink_c.specs.Codes.{TellsWhy};
-ghost use Rattle.blink_c.specs.Passes.{Begins, Ends, Finds, Glances, IsAdvanceRefusal, IsBeginRefusal, IsFindRefusal, IsNotFree, IsOwn, IsTellRefusal, TellsOn, table_of};
+ghost use Rattle.blink_c.specs.Passes.{Begins, Ends, Finds, Glances, Hands, IsAdvanceRefusal, IsBeginRefusal, IsFindRefusal, IsNotFree, IsOwn, IsTellRefusal, TellsHandFault, TellsOn, table_of};
 ghost use Rattle.blink_c.specs.TableCodes.{code_of};
 
 use crate::pass_handle::PassHandle;
 use crate::raw::RawAnswer;
-use crate::table_refusal::code_of;
+use crate::refusal::DONE;
+use crate::table_refusal::{TableRefusal, code_of};
+use blink_live::HandError;
 
 /// Looks a key of the pass up.
 #[unsafe(no_mangle)]
@@ -33,7 +35,8 @@ pub extern "C" fn blink_pass_glance(pass: &mut PassHandle, key: u64, answer: &mu
     code_of(&pass.get().glance(key, answer))
 }
 
-/// Tells pass `to` what pass `from` has seen. Passes of two tables are told apart by the numbers that the caller gave these.
+/// Tells pass `to` what pass `from` has seen. Passes of two tables are told apart by the numbers that the caller gave these. The
+/// call is refused for two tables first, then for a `from` that isn't free, and then for a `to` that isn't.
 #[unsafe(no_mangle)]
 pub extern "C" fn blink_pass_tell(from: &mut PassHandle, to: &mut PassHandle) -> u8
     requires its_own { IsOwn from.old.value }
@@ -48,6 +51,40 @@ pub extern "C" fn blink_pass_tell(from: &mut PassHandle, to: &mut PassHandle) ->
         → (from.new.value ≡ from.old.value) × (to.new.value ≡ to.old.value) }
 {
     code_of(&from.get().tell(to.get()))
+}
+
+/// Hands these keys from pass `from` to pass `to`, which has then seen all that `from` has seen. It is refused as a tell is, and
+/// then for a key: `bad_key` is the first key of the list that isn't one of `from`'s, or that stands earlier in the list.
+#[unsafe(no_mangle)]
+pub extern "C" fn blink_pass_hand(
+    from: &mut PassHandle,
+    to: &mut PassHandle,
+    keys: &[u64],
+    bad_key: &mut u64,
+) -> u8
+    requires its_own { IsOwn from.old.value }
+    requires others_own { IsOwn to.old.value }
+    requires numbered { from.old.value.number ≡ to.old.value.number
+        → table_of from.old.value ≡ table_of to.old.value }
+    ensures its_own { IsOwn from.new.value }
+    ensures others_own { IsOwn to.new.value }
+    ensures handed { result ≡ 0
+        → Hands keys.now from.old.value from.new.value to.old.value to.new.value }
+    ensures refused { result ≢ 0
+        → TellsHandFault from.old.value to.old.value keys.now result bad_key.new }
+    ensures unchanged { result ≢ 0
+        → (from.new.value ≡ from.old.value) × (to.new.value ≡ to.old.value) }
+    ensures no_key { result ≢ 58 → bad_key.new ≡ bad_key.old }
+{
+    match from.get().hand(to.get(), keys) {
+        Ok(()) => DONE,
+        Err(refusal) => {
+            if let TableRefusal::Hand(HandError::NotYours(key)) = refusal {
+                *bad_key = key;
+            }
+            refusal.code()
+        }
+    }
 }
 
 /// Begins an insertion of a key of the pass.

@@ -2,7 +2,7 @@
 ghost use Rattle.std.specs.Prelude.{◌≡◌, ◌≢◌, IfErr, IfOk, OnErr, OnOk};
 ghost use Rattle.blink_batch.specs.declared.Op.TheVariants.{Delete, Insert, Replace};
 ghost use Rattle.blink_live.specs.{IsPassOf, IsPendingOf};
-ghost use Rattle.blink_c.specs.Passes.{Begins, Ends, Finds, Glances, IsAdvanceRefusal, IsBeginRefusal, IsFindRefusal, IsNotBusy, IsNotFree, IsOwn, IsTellRefusal, TellsOn, table_of};
+ghost use Rattle.blink_c.specs.Passes.{Begins, Ends, Finds, Glances, Hands, IsAdvanceRefusal, IsBeginRefusal, IsFindRefusal, IsHandRefusal, IsNotBusy, IsNotFree, IsOwn, IsTellRefusal, TellsOn, table_of};
 
 use crate::raw::RawAnswer;
 use crate::table_refusal::TableRefusal;
@@ -99,6 +99,33 @@ impl PassOwner {
         };
         self.live.tell(from, pass);
         Ok(())
+    }
+
+    /// Hands these keys to the other pass.
+    pub(crate) fn hand(&mut self, taker: &mut PassOwner, keys: &[u64]) -> Result<(), TableRefusal>
+        requires its_own { IsOwn self.old }
+        requires others_own { IsOwn taker.old }
+        requires numbered { self.old.number ≡ taker.old.number
+            → table_of self.old ≡ table_of taker.old }
+        ensures its_own { IsOwn self.new }
+        ensures others_own { IsOwn taker.new }
+        ensures handed { OnOk result (Hands keys.now self.old self.new taker.old taker.new) }
+        ensures refused { IfErr result (IsHandRefusal self.old taker.old keys.now) }
+        ensures unchanged { OnErr result ((self.new ≡ self.old) × (taker.new ≡ taker.old)) }
+    {
+        if self.number != taker.number {
+            return Err(TableRefusal::Foreign);
+        }
+        let Held::Free(from) = &mut self.held else {
+            return Err(self.held.why_not_free());
+        };
+        let Held::Free(to) = &mut taker.held else {
+            return Err(taker.held.why_not_free());
+        };
+        match self.live.hand(from, to, keys) {
+            Ok(()) => Ok(()),
+            Err(refusal) => Err(TableRefusal::Hand(refusal)),
+        }
     }
 
     /// Begins an insertion of a key of the pass.

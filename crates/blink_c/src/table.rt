@@ -1,11 +1,11 @@
 //! The exports of a table.
-ghost use Rattle.std.specs.Prelude.{◌≡◌, ◌≢◌, ◌⊎◌, ◌<◌, None, Some, IfSome, IsSome, length};
+ghost use Rattle.std.specs.Prelude.{◌≡◌, ◌≢◌, ◌⊎◌, ◌<◌, None, Some, IfSome, IsSome, []};
 ghost use Rattle.blink_index.specs.{map_of};
 ghost use Rattle.blink_live.specs.{IsMerge, IsNumberedInOrder, fan_of, passes_out};
 ghost use Rattle.blink_c.specs.Codes.{TellsWhy};
 ghost use Rattle.blink_c.specs.Passes.{IsOwn, table_of};
 ghost use Rattle.blink_c.specs.TableCodes.{code_of};
-ghost use Rattle.blink_c.specs.Tables.{DealsTo, IsNewTable, IsOwnTable, IsReturnRefusal, IsSameTable, TakesBack, TellsDealFault, TellsOpenFault, table_in};
+ghost use Rattle.blink_c.specs.Tables.{DealsTo, IsNewTable, IsOwnTable, IsReturnRefusal, TakesBack, TellsDealFault, TellsOpenFault, table_in};
 
 use crate::index_handle::IndexHandle;
 use crate::index_slot::IndexSlot;
@@ -49,8 +49,8 @@ pub extern "C" fn blink_table_open(
     }
 }
 
-/// Deals a pass with these keys and room for so many changes. If a key was dealt before or stands earlier in the list, the call
-/// tells the first such key.
+/// Deals a pass with these keys and room for so many changes. If a pass that is out has a key, or a key stands earlier in the list,
+/// the call tells the first such key.
 #[unsafe(no_mangle)]
 pub extern "C" fn blink_table_deal(
     alloc: Global,
@@ -68,6 +68,7 @@ pub extern "C" fn blink_table_deal(
         (λ pass. IsOwn pass × DealsTo keys.now inserts deletes table.old.value table.new.value pass) }
     ensures refused { result ≢ 0
         → TellsDealFault table.old.value keys.now inserts deletes result taken.new }
+    ensures no_key { result ≢ 51 → taken.new ≡ taken.old }
     ensures unchanged { result ≢ 0
         → (table.new.value ≡ table.old.value) × (out.new.value ≡ None) }
 {
@@ -85,7 +86,8 @@ pub extern "C" fn blink_table_deal(
     }
 }
 
-/// Gives a pass back to its table. Its handle then holds nothing, and is still to be freed.
+/// Gives a pass back to its table, so that its keys can be dealt again. Its handle then holds nothing, and is still to be freed. The
+/// call takes no memory. It is refused for a pass of another table first, and then for one that isn't free.
 #[unsafe(no_mangle)]
 pub extern "C" fn blink_table_return(table: &mut TableHandle, pass: &mut PassHandle) -> u8
     requires its_own { IsOwnTable table.old.value }
@@ -98,7 +100,7 @@ pub extern "C" fn blink_table_return(table: &mut TableHandle, pass: &mut PassHan
         → TakesBack table.old.value table.new.value pass.old.value pass.new.value }
     ensures refused { TellsWhy code_of (IsReturnRefusal table.old.value pass.old.value) result }
     ensures unchanged { result ≢ 0
-        → IsSameTable table.old.value table.new.value × (pass.new.value ≡ pass.old.value) }
+        → (table.new.value ≡ table.old.value) × (pass.new.value ≡ pass.old.value) }
 {
     code_of(&table.get().take_back(pass.get()))
 }
@@ -110,10 +112,10 @@ pub extern "C" fn blink_table_close(alloc: Global, table: TableHandle, out: &mut
     requires its_own { IsOwnTable table.value }
     requires empty { out.old.value ≡ None }
     ensures closed { result ≡ 0 → IsSome out.new.value × IfSome out.new.value
-        (λ index. IsMerge (table_in table.value) table.value.keeper table.value.back.items (map_of index)) }
+        (λ index. IsMerge (table_in table.value) table.value.keeper [] (map_of index)) }
     ensures fan { IfSome out.new.value (λ index. index.fan ≡ fan_of (table_in table.value)) }
     ensures numbered { IfSome out.new.value IsNumberedInOrder }
-    ensures missing { length table.value.back.items < passes_out table.value.keeper → result ≡ 56 }
+    ensures missing { 0 < passes_out table.value.keeper → result ≡ 56 }
     ensures refused { result ≢ 0 → (result ≡ 50) ⊎ (result ≡ 56) }
     ensures unchanged { result ≢ 0 → out.new.value ≡ None }
 {

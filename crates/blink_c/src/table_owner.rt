@@ -1,14 +1,14 @@
-//! What the box of a table's handle holds: an owner of the table, its keeper, and the passes that came back.
+//! What the box of a table's handle holds: an owner of the table, and its keeper.
 ghost use Rattle.std.specs.Prelude.{◌≡◌, ◌⊎◌, ◌<◌, ◌↔◌, IfOk, IfErr, IsErrOf, OnErr, OnOk, [], length};
 ghost use Rattle.blink_index.specs.{map_of};
 ghost use Rattle.blink_live.specs.{IsMerge, IsNumberedInOrder, IsTooLarge, fan_of, passes_out};
 ghost use Rattle.blink_c.specs.Passes.{IsOwn, table_of};
-ghost use Rattle.blink_c.specs.Tables.{DealsTo, IsDealFault, IsNewTable, IsOwnTable, IsReturnRefusal, IsSameTable, TakesBack, table_in};
+ghost use Rattle.blink_c.specs.Tables.{DealsTo, IsDealFault, IsNewTable, IsOwnTable, IsReturnRefusal, TakesBack, table_in};
 
 use crate::pass_owner::{Held, PassOwner};
 use crate::table_refusal::TableRefusal;
 use blink_index::Index;
-use blink_live::{Keeper, Live, LiveError, Pass};
+use blink_live::{Keeper, Live, LiveError};
 use blink_rows::Allowance;
 use std::alloc::{AllocError, Global};
 use std::mem;
@@ -21,8 +21,6 @@ pub struct TableOwner {
     // The number that the caller gave the table.
     pub(crate) number: u64,
     pub(crate) keeper: Keeper,
-    // The passes that came back.
-    pub(crate) back: Vec<Pass>,
 }
 
 impl TableOwner {
@@ -58,7 +56,6 @@ impl TableOwner {
         ensures live { IfOk result (λ table. table_in table.value ≡ live) }
         ensures keeper { IfOk result (λ table. table.value.keeper ≡ keeper) }
         ensures number { IfOk result (λ table. table.value.number ≡ number) }
-        ensures back { IfOk result (λ table. table.value.back.items ≡ []) }
     {
         let Ok(live) = Arc::new(alloc, live) else {
             return Err(AllocError);
@@ -67,7 +64,6 @@ impl TableOwner {
             live,
             number,
             keeper,
-            back: Vec::new(alloc),
         };
         match Box::new(alloc, owner) {
             Ok(table) => Ok(table),
@@ -123,7 +119,7 @@ impl TableOwner {
         }
     }
 
-    /// Takes a pass back, for the table's end.
+    /// Takes a pass back. Its keys can be dealt again.
     pub(crate) fn take_back(&mut self, pass: &mut PassOwner) -> Result<(), TableRefusal>
         requires its_own { IsOwnTable self.old }
         requires its_pass { IsOwn pass.old }
@@ -132,19 +128,14 @@ impl TableOwner {
         ensures its_pass { IsOwn pass.new }
         ensures back { OnOk result (TakesBack self.old self.new pass.old pass.new) }
         ensures refused { IfErr result (IsReturnRefusal self.old pass.old) }
-        ensures unchanged { OnErr result (IsSameTable self.old self.new × (pass.new ≡ pass.old)) }
+        ensures unchanged { OnErr result ((self.new ≡ self.old) × (pass.new ≡ pass.old)) }
     {
         if self.number != pass.number {
             return Err(TableRefusal::Foreign);
         }
         let taken = pass.take_free()?;
-        match self.back.push(taken) {
-            Ok(()) => Ok(()),
-            Err(failed) => {
-                pass.held = Held::Free(failed.value);
-                Err(TableRefusal::Live(LiveError::OutOfMemory))
-            }
-        }
+        self.live.retire(&mut self.keeper, taken);
+        Ok(())
     }
 
     /// Closes the table, and returns the index of its tree. The table is given up either way.
@@ -152,10 +143,9 @@ impl TableOwner {
         requires its_own { IsOwnTable self }
         ensures fan { IfOk result (λ index. index.fan ≡ fan_of (table_in self)) }
         ensures entries { IfOk result
-            (λ index. IsMerge (table_in self) self.keeper self.back.items (map_of index)) }
+            (λ index. IsMerge (table_in self) self.keeper [] (map_of index)) }
         ensures numbered { IfOk result IsNumberedInOrder }
-        ensures missing { length self.back.items < passes_out self.keeper
-            → IsErrOf result LiveError.Missing }
+        ensures missing { 0 < passes_out self.keeper → IsErrOf result LiveError.Missing }
         ensures refused { IfErr result
             (λ refusal. (refusal ≡ LiveError.Missing) ⊎ (refusal ≡ LiveError.OutOfMemory)) }
     {
@@ -163,10 +153,9 @@ impl TableOwner {
             live,
             number: _,
             keeper,
-            back,
         } = self;
         match Arc::into_inner(live) {
-            Some(live) => live.close(alloc, keeper, back),
+            Some(live) => live.close(alloc, keeper, Vec::new(alloc)),
             None => Err(LiveError::Missing),
         }
     }

@@ -4,7 +4,7 @@ ghost use Rattle.blink_c.specs.Codes.{code_of_outcome};
 ghost use Rattle.blink_c.specs.TableCodes.{code_of};
 
 use crate::refusal::DONE;
-use blink_live::{LiveError, PassError};
+use blink_live::{HandError, LiveError, PassError};
 
 /// Why a call on a table or a pass is refused.
 #[derive(Clone, Copy, Debug, PartialEq, Eq)]
@@ -13,6 +13,8 @@ pub(crate) enum TableRefusal {
     Live(LiveError),
     /// A pass can't make an operation.
     Pass(PassError),
+    /// Keys can't change hands between two passes.
+    Hand(HandError),
     /// The pass is of another table.
     Foreign,
     /// The pass has an operation under way.
@@ -31,6 +33,7 @@ impl TableRefusal {
         match self {
             TableRefusal::Live(refusal) => refusal.code(),
             TableRefusal::Pass(refusal) => refusal.code(),
+            TableRefusal::Hand(refusal) => refusal.code(),
             TableRefusal::Foreign => 63,
             TableRefusal::UnderWay => 90,
             TableRefusal::Idle => 91,

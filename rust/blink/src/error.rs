@@ -12,12 +12,14 @@ pub enum Error {
     TooLarge,
     /// Memory was refused.
     OutOfMemory,
-    /// This key was dealt before, or stands twice in the list.
+    /// A pass has this key that wasn't given back, or it stands twice in the list.
     Taken(u64),
     /// The table has fewer insertions or deletions left to deal.
     NoAllowance,
     /// The key isn't one of the pass's.
     NotYours,
+    /// This key isn't one of the pass's that is to hand it over, or stands twice in the list.
+    KeyNotYours(u64),
     /// The pass has no insertion, or no deletion, left.
     Spent,
     /// A pass of the table is still held somewhere, or was dropped.
@@ -32,7 +34,7 @@ impl Error {
         match code {
             32 | 57 => Error::TooLarge,
             40 => Error::BadFan,
-            41 | 50 | 53 => Error::OutOfMemory,
+            41 | 50 | 53 | 59 => Error::OutOfMemory,
             52 => Error::NoAllowance,
             54 => Error::NotYours,
             55 => Error::Spent,
@@ -59,6 +61,7 @@ impl fmt::Display for Error {
             Error::Taken(key) => write!(f, "key {key} is taken"),
             Error::NoAllowance => f.write_str("no allowance"),
             Error::NotYours => f.write_str("not yours"),
+            Error::KeyNotYours(key) => write!(f, "key {key} is not yours"),
             Error::Spent => f.write_str("spent"),
             Error::Missing => f.write_str("missing pass"),
             Error::Foreign => f.write_str("a pass of another table"),

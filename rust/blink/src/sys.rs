@@ -102,6 +102,13 @@ extern "C" {
     pub(crate) fn blink_pass_find(pass: *mut Handle, key: u64, answer: *mut RawAnswer) -> u8;
     pub(crate) fn blink_pass_glance(pass: *mut Handle, key: u64, answer: *mut RawAnswer) -> u8;
     pub(crate) fn blink_pass_tell(from: *mut Handle, to: *mut Handle) -> u8;
+    pub(crate) fn blink_pass_hand(
+        from: *mut Handle,
+        to: *mut Handle,
+        keys: *const u64,
+        count: usize,
+        bad_key: *mut u64,
+    ) -> u8;
     pub(crate) fn blink_pass_begin_insert(pass: *mut Handle, key: u64, pointer: u64) -> u8;
     pub(crate) fn blink_pass_begin_delete(pass: *mut Handle, key: u64) -> u8;
     pub(crate) fn blink_pass_begin_replace(pass: *mut Handle, key: u64, pointer: u64) -> u8;

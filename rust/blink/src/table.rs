@@ -52,7 +52,8 @@ impl Table {
         Ok(Table { handle })
     }
 
-    /// Deals a pass with these keys, in any order, which no other pass has, and room for so many changes.
+    /// Deals a pass with these keys, in any order, which no other pass has, and room for so many changes. A key that was dealt before
+    /// has the state that its last pass left.
     ///
     /// ```
     /// use blink::{Error, Index, Table};
@@ -81,7 +82,7 @@ impl Table {
         }
     }
 
-    /// Gives a pass back. A pass of another table is handed back with the error, and so is one for which memory was refused.
+    /// Gives a pass back, so that its keys can be dealt again. A pass of another table is handed back with the error.
     ///
     /// ```
     /// use blink::{Error, Index, Table};
@@ -92,7 +93,8 @@ impl Table {
     /// let (pass, error) = other.give_back(pass).unwrap_err();
     /// assert_eq!(error, Error::Foreign);
     /// one.give_back(pass).unwrap();
-    /// one.close([])?;
+    /// let again = one.deal(&[1], 0, 0)?;
+    /// one.close([again])?;
     /// # Ok::<(), Error>(())
     /// ```
     pub fn give_back(&mut self, mut pass: Pass) -> Result<(), (Pass, Error)> {
@@ -104,7 +106,7 @@ impl Table {
     }
 
     /// Takes these passes back and closes the table. The index that it returns has the entries that the table was opened with,
-    /// except that each key that was dealt has the state that its pass left. The table is given up also where the call is refused:
+    /// except that each key that was dealt has the state that its last pass left. The table is given up also where the call is refused:
     /// with [`Error::Missing`] if a pass wasn't given back, with [`Error::Foreign`] if one is of another table.
     pub fn close(mut self, passes: impl IntoIterator<Item = Pass>) -> Result<Index, Error> {
         for pass in passes {
@@ -197,6 +199,35 @@ impl Pass {
     pub fn tell(&mut self, other: &mut Pass) -> Result<(), Error> {
         // SAFETY: both handles are full, and borrowed for writing, so they are two.
         Error::check(unsafe { sys::blink_pass_tell(self.handle.get_mut(), other.handle.get_mut()) })
+    }
+
+    /// Hands these keys, in any order, to the other pass, which can change them then, where this one can't. Each pass keeps the
+    /// changes that it has left, and the other has then seen all that this one has. A refusal leaves both as they were.
+    ///
+    /// ```
+    /// use blink::{Answer, Error, Index, Table};
+    ///
+    /// let mut table = Table::open(&Index::new(16)?, 1, 1)?;
+    /// let mut first = table.deal(&[4, 5], 1, 0)?;
+    /// let mut second = table.deal(&[6], 0, 1)?;
+    /// first.insert(5, 50)?;
+    /// assert_eq!(first.hand(&mut second, &[5, 6]), Err(Error::KeyNotYours(6)));
+    /// first.hand(&mut second, &[5])?;
+    /// assert_eq!(first.find(5), Err(Error::NotYours));
+    /// assert_eq!(second.delete(5), Ok(Answer::Removed(50)));
+    /// # Ok::<(), Error>(())
+    /// ```
+    pub fn hand(&mut self, other: &mut Pass, keys: &[u64]) -> Result<(), Error> {
+        let mut bad_key = 0;
+        // SAFETY: both handles are full, and borrowed for writing, so they are two; `keys` is a slice.
+        let code = unsafe {
+            let (from, to) = (self.handle.get_mut(), other.handle.get_mut());
+            sys::blink_pass_hand(from, to, keys.as_ptr(), keys.len(), &mut bad_key)
+        };
+        match code {
+            58 => Err(Error::KeyNotYours(bad_key)),
+            code => Error::check(code),
+        }
     }
 
     /// Maps a key of the pass to a pointer, unless the key is there: [`Answer::Inserted`] or [`Answer::Exists`].

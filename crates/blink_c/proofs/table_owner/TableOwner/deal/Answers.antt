@@ -21,7 +21,6 @@ returns-in-Ok-deal-clause-dealt c =
           (subst (λ (keys : List ℕ). HasDealt c.deref.result.now c.args.self.now.keeper c.deal.new.keeper keys c.args.inserts c.args.deletes) same_keys c.in-Ok-deal.ensures.rest);
       same_table = refl;
       same_number = refl;
-      same_back = refl;
     }
 
 pub returns-in-Err-clause-refused : goal.returns-in-Err-clause-refused
