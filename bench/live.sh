@@ -5,10 +5,10 @@
 #     bench/live.sh [FAN ..]
 #
 # First finds, by 1 and by 4 threads also on an index of 1,000,000 entries: against the map under a RwLock that each find
-# takes for reading, and without a lock. Then finds with insertions and deletions, 80 + 10 + 10 and 90 + 5 + 5 of a hundred:
-# against the map under a Mutex, and under a RwLock that finds take for reading and the others for writing. Last the same
-# 80 + 10 + 10 on 1,000 entries whose keys follow one another, each thread with every so manyth of them, so that all threads
-# meet in the same leaves.
+# takes for reading, and without a lock. Then finds by find_all, 64 keys by a call, against finds one by one. Then finds with
+# insertions and deletions, 80 + 10 + 10 and 90 + 5 + 5 of a hundred: against the map under a Mutex, and under a RwLock that
+# finds take for reading and the others for writing. Last the same 80 + 10 + 10 on 1,000 entries whose keys follow one
+# another, each thread with every so manyth of them, so that all threads meet in the same leaves.
 #
 # No lock and no thread crosses to Rust in a static library, so two programs make the same operations: live.rt.txt with
 # live_mixed.rt.txt, and live.rs with live_mixed.rs. They are run in turn, nine times, and what they answered is compared,
@@ -123,12 +123,39 @@ tell_mixed() {
         }'
 }
 
+# The medians of rounds of finds one by one and by find_all. A line has what the table's program prints of each.
+tell_at_once() {
+    awk -v threads="$1" -v entries="$2" "$common"'
+        NF != 6 || $1 "" != $4 "" || $2 "" != $5 "" {
+            refuse()
+        }
+        {
+            single[NR] = $3 * threads / $1
+            at_once[NR] = $6 * threads / $1
+            to_single[NR] = $6 / $3
+        }
+        END {
+            if (!differ) {
+                printf "%s, a find among %d: ", count_of_threads(), entries
+                printf "find_all %.1f ns, find %.1f ns, ", median(at_once), median(single)
+                printf "ratio %.2f (checksums agree)\n", median(to_single)
+            }
+        }'
+}
+
 # Rounds of finds by so many threads among so many entries.
 time_finds() {
     for _ in $(seq 1 $rounds); do
         table=$(out/live_bench finds "$2" "$1" "$3")
         echo "$table $(./live finds lock "$2" "$3") $(./live finds plain "$2" "$3")"
     done | tell_finds "$2" "$3"
+}
+
+# Rounds of the same finds one by one and by find_all.
+time_at_once() {
+    for _ in $(seq 1 $rounds); do
+        echo "$(out/live_bench finds "$2" "$1" "$3") $(out/live_bench at_once "$2" "$1" "$3")"
+    done | tell_at_once "$2" "$3"
 }
 
 # Rounds of mixed work on these keys, with so many finds in a hundred operations, by so many threads.
@@ -146,6 +173,11 @@ for fan in "${@:-16}"; do
     done
     for threads in 1 4; do
         time_finds "$fan" $threads 1000000
+    done
+    for entries in 40000 1000000; do
+        for threads in 1 4; do
+            time_at_once "$fan" $threads $entries
+        done
     done
     for finds in 80 90; do
         for threads in 1 4 8; do

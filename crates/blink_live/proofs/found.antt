@@ -7,3 +7,4 @@ pub mod RootInRow
 pub mod WaysFromRow
 pub mod OperationsOnTheirWay
 pub mod DescentsGoOn
+pub mod FindsOfSeveral

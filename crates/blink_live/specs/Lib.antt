@@ -10,6 +10,8 @@ pub use Rattle.blink_live.specs.Allowed.{AreForChanges, IsTooLarge, deletes_left
 pub use Rattle.blink_live.specs.Deals.{HasDealt, HasRetired, IsDealRefusal, IsDealt, IsFirstTaken, LacksAllowance, NoneIsTaken}
 -- what becomes of two passes between which keys change hands, and the refusals of that
 pub use Rattle.blink_live.specs.Handing.{AllAreYours, HasGiven, HasReceived, IsFirstForeign, IsHandRefusal, IsHanded}
+-- the keys of a call that finds several: one of them isn't the pass's
+pub use Rattle.blink_live.specs.Finding.{HasForeign}
 -- an operation under way: the pass before it, and which one it is
 pub use Rattle.blink_live.specs.Pendings.{HasBegun, IsPendingOf, op_of, pass_of}
 -- the entries of a table when all its passes are back: the merge of their shares
@@ -44,6 +46,7 @@ pub mod Dealing
 pub mod Retiring
 pub mod Parcels
 pub mod Handing
+pub mod Finding
 pub mod KeyTest
 pub mod Words
 pub mod Laid

@@ -5,6 +5,7 @@ mod advance;
 mod close;
 mod deal;
 mod error;
+mod find_all;
 mod hand;
 mod live;
 mod open;

@@ -10,6 +10,7 @@ ghost use Rattle.blink_live.specs.Views.{CanBegin, SameBesideReads, for_call, Kn
 ghost use Rattle.blink_live.specs.Allowed.{changes_left, deletes_left, inserts_left};
 
 use crate::error::PassError;
+use crate::find_all::{Trail, hint_at};
 use crate::live::{Live, Pass};
 use crate::room::{changes_left, next_of};
 use crate::view::View;
@@ -41,7 +42,7 @@ impl Live {
             rows: _,
             pages: _,
         } = pass;
-        Ok(self.search(seat, key))
+        Ok(self.search(seat, key, None))
     }
 
     /// Adds an entry for a key of the pass. It answers `Inserted`, or `Exists` with the record pointer that the key has, which
@@ -118,8 +119,14 @@ impl Live {
     }
 
     // Answers a find of the key by the state of the key after the changes that the seat has seen by the end of the call. Of the
-    // operation it has only the page that comes next; its machine is in the seat's view, for the proofs.
-    pub(crate) fn search(&self, seat: &mut Seat<u8, View>, key: u64) -> Answer
+    // operation it has only the page that comes next; its machine is in the seat's view, for the proofs. With a trail the search
+    // in each page begins where the trail says, if that is right.
+    pub(crate) fn search(
+        &self,
+        seat: &mut Seat<u8, View>,
+        key: u64,
+        trail: Option<&Trail>,
+    ) -> Answer
         requires seat { IsPassSeat self.now seat.old.table_id seat.old.me }
         requires idle { seat.old.me.0.operation ≡ None }
         requires can_begin { CanBegin seat.old.me.0 (Find key) }
@@ -133,7 +140,8 @@ impl Live {
     {
         let (mut number, mut level) = self.root(seat, Op::Find(key));
         loop {
-            match self.read_page(seat, key, number, level) {
+            let hint = hint_at(trail, level);
+            match self.read_page(seat, key, number, level, hint) {
                 (Way::Right(next), _) => number = next,
                 (Way::Down(child), _) => {
                     number = child;

@@ -58,7 +58,7 @@ impl Live {
         let (root, level) = self.root(seat, op);
         machine.saw_top(level, root);
         while let &State::Going(number, level) = machine.state() {
-            let (way, kept) = self.read_page(seat, op.key(), number, level);
+            let (way, kept) = self.read_page(seat, op.key(), number, level, 0);
             machine.saw_way(way, kept);
         }
     }
@@ -93,13 +93,15 @@ impl Live {
     }
 
     // Reads the page that a descending operation needs next, of this number and level, and returns where the key leads from
-    // there. If the page is the key's leaf, it also returns the pointer stored for the key.
+    // there. If the page is the key's leaf, it also returns the pointer stored for the key. `hint` is where the search in the
+    // page may begin; any hint gives the same answer.
     pub(crate) fn read_page(
         &self,
         seat: &mut Seat<u8, View>,
         key: u64,
         number: u32,
         level: u8,
+        hint: usize,
     ) -> (Way, Option<u64>)
         requires seat { IsPassSeat self.now seat.old.table_id seat.old.me }
         requires at { IsAtPage seat.old.me key number level }
@@ -109,7 +111,7 @@ impl Live {
             → ReadsWay at.machine key number seat.old.me result.0 result.1 seat.new.me }
     {
         let row = self.table.shared.load::<LoadPage>(seat, number as usize);
-        self.way_from(seat, row, level, key)
+        self.way_from(seat, row, level, key, hint)
     }
 
     // Where the key leads from the page of this level whose row the seat reads. If that page is the key's leaf, also the pointer
@@ -120,6 +122,7 @@ impl Live {
         row: u64,
         level: u8,
         key: u64,
+        hint: usize,
     ) -> (Way, Option<u64>)
         requires seat { IsPassSeat self.now seat.old.table_id seat.old.me }
         requires row { IsRowNumber self.now.counts row }
@@ -129,7 +132,7 @@ impl Live {
             → TellsWayFor key page result.0 result.1 }
     {
         let start = self.row_place(row);
-        if let Some((found, value)) = self.entry_from(seat, start, key) {
+        if let Some((found, value)) = self.entry_from(seat, start, key, hint) {
             if level > 0 {
                 return (Way::Down(value as u32), None);
             }
@@ -143,7 +146,13 @@ impl Live {
     }
 
     // The first entry whose key is at least `key`, in the page whose row the seat reads.
-    fn entry_from(&self, seat: &mut Seat<u8, View>, start: usize, key: u64) -> Option<(u64, u64)>
+    fn entry_from(
+        &self,
+        seat: &mut Seat<u8, View>,
+        start: usize,
+        key: u64,
+        hint: usize,
+    ) -> Option<(u64, u64)>
         requires seat { IsPassSeat self.now seat.old.table_id seat.old.me }
         requires inside { start + ROW_WORDS ≤ word_count self.now.counts }
         requires page { (row : ℕ) × (page : PlainPage) × (start ≡ row_start self.now.counts row)
@@ -154,7 +163,8 @@ impl Live {
             → result ≡ slice_get page.entries (place_of key page.entries) }
     {
         let count = self.load_word(seat, start, COUNT) as usize;
-        for place in 0..count {
+        let first = self.first_place(seat, start, count, key, hint);
+        for place in first..count {
             let at = HEAD_WORDS + 2 * place;
             let found = self.load_word(seat, start, at);
             if key <= found {
@@ -162,6 +172,35 @@ impl Live {
             }
         }
         None
+    }
+
+    // The place of the entry at which a search of the page may begin: the hint, if the entry before it has a lesser key; else the
+    // page's first.
+    fn first_place(
+        &self,
+        seat: &mut Seat<u8, View>,
+        start: usize,
+        count: usize,
+        key: u64,
+        hint: usize,
+    ) -> usize
+        requires seat { IsPassSeat self.now seat.old.table_id seat.old.me }
+        requires inside { start + ROW_WORDS ≤ word_count self.now.counts }
+        requires page { (row : ℕ) × (page : PlainPage) × (start ≡ row_start self.now.counts row)
+            × ReadsPage seat.old.me row page × (count ≡ length page.entries) }
+        ensures same { IsSameSeat seat.old seat.new }
+        ensures place { (row : ℕ) (page : PlainPage) → start ≡ row_start self.now.counts row
+            → ReadsPage seat.old.me row page
+            → count ≡ length page.entries
+            → result ≤ place_of key page.entries }
+    {
+        if hint == 0 || hint > count {
+            return 0;
+        }
+        if self.load_word(seat, start, HEAD_WORDS + 2 * (hint - 1)) < key {
+            return hint;
+        }
+        0
     }
 
     // The place in the table where the row begins. The loads of its words share it, since each is a load that the compiler can't

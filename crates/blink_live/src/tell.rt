@@ -32,7 +32,7 @@ impl Live {
             rows: _,
             pages: _,
         } = pass;
-        match self.search(seat, key) {
+        match self.search(seat, key, None) {
             Answer::Found(pointer) => Some(pointer),
             _ => None,
         }

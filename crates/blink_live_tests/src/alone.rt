@@ -42,4 +42,13 @@ impl Alone {
             Op::Replace(key, pointer) => live.replace(rt, pass, key, pointer),
         }
     }
+
+    pub(crate) fn find_all<const N: usize>(
+        &mut self,
+        keys: &[u64; N],
+        answers: &mut [Option<u64>; N],
+    ) -> Result<(), PassError> {
+        let Alone { live, pass, .. } = self;
+        live.find_all(pass, keys, answers)
+    }
 }

@@ -14,6 +14,8 @@ mod deleting;
 #[cfg(test)]
 mod finding;
 #[cfg(test)]
+mod finding_all;
+#[cfg(test)]
 mod glancing;
 #[cfg(test)]
 mod handing;

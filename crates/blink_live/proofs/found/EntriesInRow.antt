@@ -2,7 +2,7 @@
 use Rattle.std.proofs.Common.{◌≡◌, ℕ, zero, suc, ◌+◌, ◌*◌, ◌<◌, ◌≤◌, List, [], ◌∷◌, length, get_or, refl, ap, ◌∙◌, arith}
 use Rattle.std.proofs.lemmas.Bool.Decides.{nat_tests}
 use Rattle.std.specs.Prelude.{slice_index}
-use Rattle.blink_page.specs.{PlainPage, place_of}
+use Rattle.blink_page.specs.{PlainPage, IsRising, place_of}
 use Rattle.blink_rows.specs.{flat, page_words}
 use Rattle.blink_rows.specs.declared.limits.TheConstants.{HEAD_WORDS}
 
@@ -42,3 +42,21 @@ ends_at key ((k, v) ∷ rest) zero reached inside no_less = grind (arith, nat_te
 ends_at key ((k, v) ∷ rest) (suc j) reached inside no_less =
     let further : j ≤ place_of key rest → place_of key rest ≡ j = λ r. ends_at key rest j r (omega (arith, inside)) no_less in
     grind (arith, nat_tests, further)
+
+at_least_from : (entries : List (ℕ × ℕ)) (j from to : ℕ) → IsRising from entries to → j < length entries → from ≤ (get_or entries j (0, 0)).0
+at_least_from [] j from to rises inside = absurd (omega (arith, inside))
+at_least_from ((k, v) ∷ rest) zero from to rises inside = rises.0
+at_least_from ((k, v) ∷ rest) (suc j) from to rises inside =
+    let here = rises.0 in
+    let further = at_least_from rest j (k + 1) to rises.1 (omega (arith, inside)) in
+    omega (arith, here, further)
+
+-- the first entry of no lesser key stands behind each entry of a lesser one
+pub stands_behind : (key : ℕ) (entries : List (ℕ × ℕ)) (j from to : ℕ) → IsRising from entries to → j < length entries → (get_or entries j (0, 0)).0 < key → suc j ≤ place_of key entries
+stands_behind key [] j from to rises inside less = absurd (omega (arith, inside))
+stands_behind key ((k, v) ∷ rest) zero from to rises inside less = grind (arith, nat_tests)
+stands_behind key ((k, v) ∷ rest) (suc j) from to rises inside less =
+    let above = at_least_from rest j (k + 1) to rises.1 (omega (arith, inside)) in
+    let first_less : k < key = omega (arith, above, less) in
+    let further : suc j ≤ place_of key rest = stands_behind key rest j (k + 1) to rises.1 (omega (arith, inside)) less in
+    grind (arith, nat_tests, first_less, further)

@@ -13,12 +13,22 @@ none_past [] n past = refl
 none_past (e ∷ rest) zero past = absurd (omega (arith, past))
 none_past (e ∷ rest) (suc n) past = none_past rest n (omega (arith, past))
 
+pub first_place-first-requires-clause-page : goal.first_place-first-requires-clause-page
+first_place-first-requires-clause-page c =
+    let row = c.requires.page.0 in
+    let page = c.requires.page.1 in
+    let begins = c.requires.page.2 in
+    let reads : ReadsPage c.args.seat.now.me row page = c.requires.page.3 in
+    (row, page, begins, subst (λ (x : SeatState). ReadsPage x row page) (sym c.load_word-count.ensures.same.2) reads, c.load_word-count.ensures.word row (page_words page) begins reads.reads)
+
 pub loop-place-init : goal.loop-place-init
 loop-place-init c = record {
   same = (refl, refl, refl);
   before = λ row page begins reads.
-      let first : ReadsPage c.args.seat.now.me row page = subst (λ (x : SeatState). ReadsPage x row page) c.load_word-count.ensures.same.2 reads in
-      (c.load_word-count.ensures.word row (page_words page) begins first.reads, omega arith);
+      let counted : ReadsPage c.load_word-count.new.seat.me row page = subst (λ (x : SeatState). ReadsPage x row page) c.first_place-first.ensures.same.2 reads in
+      let first : ReadsPage c.args.seat.now.me row page = subst (λ (x : SeatState). ReadsPage x row page) c.load_word-count.ensures.same.2 counted in
+      let many : c.load_word-count.result ≡ length page.entries = c.load_word-count.ensures.word row (page_words page) begins first.reads in
+      (many, c.first_place-first.ensures.place row page begins counted many);
 }
 
 pub loop-place-preserved : goal.loop-place-preserved
@@ -37,7 +47,7 @@ loop-place-preserved c =
 pub returns-then-key-found-clause-entry : goal.returns-then-key-found-clause-entry
 returns-then-key-found-clause-entry c row page begins reads =
     let same = c.loop-place.invariant.same in
-    let first : ReadsPage c.load_word-count.new.seat.me row page = subst (λ (x : SeatState). ReadsPage x row page) (sym c.load_word-count.ensures.same.2) reads in
+    let first : ReadsPage c.first_place-first.new.seat.me row page = subst (λ (x : SeatState). ReadsPage x row page) (sym (c.first_place-first.ensures.same.2 ∙ c.load_word-count.ensures.same.2)) reads in
     let before = c.loop-place.invariant.before row page begins first in
     let place = c.loop-place.place in
     let at_loop = ap (λ (x : SeatState). x.0.reads) same.2 ∙ first.reads in
@@ -50,6 +60,6 @@ returns-then-key-found-clause-entry c row page begins reads =
 
 pub returns-clause-entry : goal.returns-clause-entry
 returns-clause-entry c row page begins reads =
-    let first : ReadsPage c.load_word-count.new.seat.me row page = subst (λ (x : SeatState). ReadsPage x row page) (sym c.load_word-count.ensures.same.2) reads in
+    let first : ReadsPage c.first_place-first.new.seat.me row page = subst (λ (x : SeatState). ReadsPage x row page) (sym (c.first_place-first.ensures.same.2 ∙ c.load_word-count.ensures.same.2)) reads in
     let before = c.loop-place.invariant.before row page begins first in
     sym (none_past page.entries (place_of c.args.key page.entries) (omega (arith, before.0, before.1, c.loop-place-test.false)))

@@ -1,0 +1,92 @@
+-- Several finds by one call: what the seat knows between them.
+use Rattle.std.proofs.Common.{◌≡◌, ◌≢◌, ◌+◌, ◌<◌, ◌≤◌, ℕ, List, [], Option, Some, None, length, get_or, map, refl, sym, ap, ◌∙◌, subst, arith, append-nil}
+use Rattle.std.proofs.lemmas.List.{ext_get_or, get_or-map, length-map}
+use mathlib.Core.List.{IsPrefix}
+use Rattle.atomic_table.specs.Seated.{TableId}
+use Rattle.blink_batch.specs.declared.Answer.{Answer}
+use Rattle.blink_batch.specs.declared.Answer.TheVariants.{Found}
+use Rattle.blink_batch.specs.declared.Op.TheVariants.{Find}
+use Rattle.blink_batch.specs.{answer_at}
+use Rattle.blink_rows.specs.declared.span.Span.{Span}
+use Rattle.blink_live.specs.declared.live.Live.{Live}
+use Rattle.blink_live.specs.declared.view.View.{View}
+use Rattle.blink_live.specs.Finding.{HasSearched, IsIdle}
+use Rattle.blink_live.specs.Seats.{IsPassSeat}
+use Rattle.blink_live.specs.Views.{CanBegin, KnowsItsOwn, SameBesideReads, SeatState, for_call, span}
+use Rattle.blink_live.proofs.told.PrefixesOfOneList.{prefix_of_prefix}
+
+pub can_find : (key : ℕ) (v : View) → IsIdle v → CanBegin v (Find key)
+can_find key v idle = let rows = idle.rows in let pages = idle.pages in record { rows = omega (arith, rows); pages = omega (arith, pages) }
+
+pub searched_none : (me : SeatState) → IsIdle me.0 → HasSearched me me
+searched_none me idle = record {
+  saw = ([], append-nil me.0.seen);
+  idle = idle;
+  same_plan = refl;
+  same_role = refl;
+  same_rows = refl;
+  same_pages = refl;
+  same_share = refl;
+  same_told = refl;
+  same_slots = refl;
+}
+
+pub searched_more : (u v w : SeatState) → HasSearched u v → HasSearched v w → HasSearched u w
+searched_more u v w first second = record {
+  saw = prefix_of_prefix u.0.seen v.0.seen w.0.seen first.saw second.saw;
+  idle = second.idle;
+  same_plan = second.same_plan ∙ first.same_plan;
+  same_role = second.same_role ∙ first.same_role;
+  same_rows = second.same_rows ∙ first.same_rows;
+  same_pages = second.same_pages ∙ first.same_pages;
+  same_share = second.same_share ∙ first.same_share;
+  same_told = second.same_told ∙ first.same_told;
+  same_slots = second.same_slots ∙ first.same_slots;
+}
+
+-- a find takes no row and no page number
+takes_none : (s : Span) → span (s.next + 0) s.stop ≡ s
+takes_none s = let same : s.next + 0 ≡ s.next = omega arith in λ i. span (same i) s.stop
+
+pub searched_once : (key : ℕ) (me new : SeatState) → IsIdle me.0 → IsPrefix me.0.seen new.0.seen → KnowsItsOwn new.0 → new.0.operation ≡ None → SameBesideReads (for_call me.0 (Find key)) new.0 → new.1 ≡ me.1 → HasSearched me new
+searched_once key me new was saw own ended same slots =
+    let rows : new.0.rows ≡ me.0.rows = ap (λ (v : View). v.rows) same ∙ takes_none me.0.rows in
+    let pages : new.0.pages ≡ me.0.pages = ap (λ (v : View). v.pages) same ∙ takes_none me.0.pages in record {
+      saw = saw;
+      idle = record {
+        idle = ended;
+        rows = subst (λ (s : Span). s.next ≤ s.stop) (sym rows) was.rows;
+        pages = subst (λ (s : Span). s.next ≤ s.stop) (sym pages) was.pages;
+        knows_own = own;
+      };
+      same_plan = ap (λ (v : View). v.plan) same;
+      same_role = ap (λ (v : View). v.role) same;
+      same_rows = rows;
+      same_pages = pages;
+      same_share = ap (λ (v : View). v.share) same;
+      same_told = ap (λ (v : View). v.told) same;
+      same_slots = slots;
+    }
+
+-- the seat is still the pass's
+pub searched_seat : (live : Live) (before table : TableId) (first me : SeatState) → table ≡ before → HasSearched first me → IsPassSeat live before first → IsPassSeat live table me
+searched_seat live before table first me same searched seat = record {
+  same_table = same ∙ seat.same_table;
+  same_plan = searched.same_plan ∙ seat.same_plan;
+  role = searched.same_role ∙ seat.role;
+}
+
+-- the answer of a find as a pointer
+pub pointer_found : (key pointer : ℕ) (kept : Option ℕ) → Found pointer ≡ answer_at (Find key) kept → Some pointer ≡ kept
+pointer_found key pointer None is = absurd (cc)
+pointer_found key pointer (Some other) is = cc
+
+pub none_found : (key : ℕ) (answer : Answer) (kept : Option ℕ) → ((pointer : ℕ) → answer ≢ Found pointer) → answer ≡ answer_at (Find key) kept → None ≡ kept
+none_found key answer None other is = refl
+none_found key answer (Some pointer) other is = absurd (other pointer is)
+
+-- answers in their places are the answers
+pub answered_all : (f : ℕ → Option ℕ) (keys : List ℕ) (answers : List (Option ℕ)) → length answers ≡ length keys → ((n : ℕ) → n < length keys → get_or answers n None ≡ f (get_or keys n 0)) → answers ≡ map f keys
+answered_all f keys answers many each = ext_get_or None answers (map f keys) (many ∙ sym (length-map keys f)) (λ n inside.
+    let within : n < length keys = omega (arith, many, inside) in
+    each n within ∙ sym (get_or-map f keys n 0 None within))
