@@ -1,5 +1,5 @@
 -- How a book begins and goes on, and what it shows at its end.
-use Rattle.std.proofs.Common.{◌≡◌, ℕ, ◌<◌, Bool, true, false, Option, Some, None, is_some, List, [], length, map, get_or, refl, ap, sym, ◌∙◌, subst, arith}
+use Rattle.std.proofs.Common.{◌≡◌, ℕ, ◌<◌, Bool, true, false, Option, Some, None, is_some, List, [], Result, Ok, Err, IfOk, OnErr, length, map, get_or, refl, ap, sym, ◌∙◌, subst, arith}
 use Rattle.std.specs.Prelude.{slice_get}
 use Rattle.std.proofs.lemmas.List.Elements.{All-cons}
 use Rattle.std.proofs.lemmas.Option.{get_or_from_slice_get, slice_get-get_or, slice_get_within}
@@ -8,9 +8,10 @@ use Rattle.blink_batch.specs.declared.Op.{Op}
 use Rattle.blink_batch.specs.{Assignment, IsLawfulCut}
 use Rattle.blink_store.specs.{PlainStore}
 use Rattle.blink_machine.specs.declared.step.Step.{Step}
+use Rattle.blink_steps.specs.declared.error.StepError.{StepError}
 use Rattle.blink_settings.proofs.Offered.{IsDone, no_turn_yet}
 use Rattle.blink_steps.specs.{HasMoved, IsIdleWorker, HasAnswerAt, IsPromised, KeepsItsPromises, PlainRun, Event, PlainWorld, GoesOnBy, HasEnded, IsAtLanesEnd, IsStart, IsWorldOf, SameBatch}
-use Rattle.blink_locked.specs.Book.{PlainBook, AllMoved, HasEndedOp, IsBook, IsRunOf}
+use Rattle.blink_locked.specs.Book.{AllMoved, HasEndedOp, IsBook}
 use Rattle.blink_locked.specs.Run.{IsSettled}
 
 -- ---- the book's beginning
@@ -19,10 +20,9 @@ use Rattle.blink_locked.specs.Run.{IsSettled}
 none_moved : (start : PlainStore) (world : PlainWorld) (is_world : IsWorldOf start world) → world.schedule ≡ [] → AllMoved is_world.history
 none_moved start world is_world none = subst AllMoved (sym (no_turn_yet start world is_world none)) (λ k default within. absurd (omega arith))
 
--- a world that begins is a book's, of copies of what it began with
+-- a world that begins is a book's, whatever names what it began with
 pub begins_book : (start : PlainStore) (ops : List Op) (assignment : Assignment) (world : PlainWorld) → IsStart start ops assignment world
-    → (tree : PlainStore) (batch : List Op) (lanes : Assignment) → tree ≡ start → batch ≡ ops → lanes ≡ assignment
-    → IsBook (record { start = tree; ops = batch; assignment = lanes; world = world; stopped = false })
+    → (tree : PlainStore) (batch : List Op) (lanes : Assignment) → tree ≡ start → batch ≡ ops → lanes ≡ assignment → IsBook tree batch lanes world
 begins_book start ops assignment world is tree batch lanes same_tree same_batch same_lanes = record {
   is_world = subst (λ (s : PlainStore). IsWorldOf s world) (sym same_tree) is.is_world;
   same_ops = is.same_ops ∙ sym same_batch;
@@ -33,10 +33,10 @@ begins_book start ops assignment world is tree batch lanes same_tree same_batch 
 -- ---- a turn
 
 -- a book goes on by a turn that moved
-pub moves_book : (book : PlainBook) (new : PlainWorld) (worker : ℕ) (step : Step) → IsBook book → GoesOnBy book.world worker step new → SameBatch book.world.run new.run → HasMoved step
-    → (stopped : Bool) → IsBook (record book { world = new; stopped = stopped })
-moves_book book new worker step is goes same moved stopped =
-    let more = goes book.start is.is_world in
+pub moves_book : (start : PlainStore) (ops : List Op) (assignment : Assignment) (old new : PlainWorld) (worker : ℕ) (step : Step) → IsBook start ops assignment old
+    → GoesOnBy old worker step new → SameBatch old.run new.run → HasMoved step → IsBook start ops assignment new
+moves_book start ops assignment old new worker step is goes same moved =
+    let more = goes start is.is_world in
     let moved_too : HasMoved more.taken.step = subst HasMoved (sym more.same_step) moved in
     record {
       is_world = more.now;
@@ -46,10 +46,15 @@ moves_book book new worker step is goes same moved stopped =
     }
 
 -- where nothing of the world changed it stays one
-pub stays_book : (book : PlainBook) (new : PlainWorld) → IsBook book → new ≡ book.world → (stopped : Bool) → IsBook (record book { world = new; stopped = stopped })
-stays_book book new is same stopped =
-    subst (λ (world : PlainWorld). IsBook (record book { world = world; stopped = stopped })) (sym same)
-    (record { is_world = is.is_world; same_ops = is.same_ops; same_assignment = is.same_assignment; all_moved = is.all_moved })
+pub stays_book : (start : PlainStore) (ops : List Op) (assignment : Assignment) (old new : PlainWorld) → IsBook start ops assignment old → new ≡ old → IsBook start ops assignment new
+stays_book start ops assignment old new is same = subst (λ (world : PlainWorld). IsBook start ops assignment world) (sym same) is
+
+-- a step of the first mover moved, if it isn't refused
+pub advances_book : (start : PlainStore) (ops : List Op) (assignment : Assignment) (old new : PlainWorld) (worker : ℕ) → IsBook start ops assignment old
+    → (result : Result Step StepError) → IfOk result (λ (step : Step). GoesOnBy old worker step new) → IfOk result HasMoved → SameBatch old.run new.run
+    → OnErr result (new ≡ old) → IsBook start ops assignment new
+advances_book start ops assignment old new worker is (Ok step) goes moved same unchanged = moves_book start ops assignment old new worker step is goes same moved
+advances_book start ops assignment old new worker is (Err refusal) goes moved same unchanged = stays_book start ops assignment old new is unchanged
 
 -- an answer that is found
 answer_there : (given : List (Option Answer)) (op : ℕ) → op < length given → is_some (get_or given op None) ≡ true → HasAnswerAt given op
@@ -71,12 +76,9 @@ pub ended_where_idle : (run : PlainRun) (worker op : ℕ) (idle : Bool) → op <
     → (idle ≡ true → IsIdleWorker run worker) × (IsIdleWorker run worker → idle ≡ true) → (idle ≡ true → HasEndedOp run worker op) × (HasEndedOp run worker op → idle ≡ true)
 ended_where_idle run worker op idle within some exact = (λ yes. (answer_there run.outcome.answers op within some, exact.0 yes), λ ended. exact.1 ended.1)
 
--- an operation of the worker's is one of the world's
-pub own_in_world : (book : PlainBook) → IsBook book → (worker op : ℕ) → slice_get book.assignment.lanes op ≡ Some worker
-    → (slice_get book.world.run.assignment.lanes op ≡ Some worker) × (op < length book.world.run.ops)
-own_in_world book is worker op own =
-    let here : slice_get book.world.run.assignment.lanes op ≡ Some worker = ap (λ (a : Assignment). slice_get a.lanes op) is.same_assignment ∙ own in
-    (here, omega (arith, slice_get_within book.world.run.assignment.lanes op worker here, is.is_world.may_begin.a_lane_each))
+-- an operation of the worker's is one of the batch
+pub own_within : (start : PlainStore) (world : PlainWorld) → IsWorldOf start world → (worker op : ℕ) → slice_get world.run.assignment.lanes op ≡ Some worker → op < length world.run.ops
+own_within start world is_world worker op own = omega (arith, slice_get_within world.run.assignment.lanes op worker own, is_world.may_begin.a_lane_each)
 
 -- a worker whose operation hasn't ended isn't at its lane's end
 pub has_more : (start : PlainStore) (world : PlainWorld) (is_world : IsWorldOf start world) (worker op : ℕ) → KeepsItsPromises start world is_world → length world.run.outcome.answers ≡ length world.run.ops
@@ -89,38 +91,29 @@ has_more start world is_world worker op kept one_each own within goes_on at_end 
 
 -- ---- the end
 
-module _ (book : PlainBook) (is : IsBook book) (promised : IsPromised book.world) (start : PlainStore) (ops : List Op) (assignment : Assignment) (run_of : IsRunOf book start ops assignment)
-    (lawful : IsLawfulCut ops assignment.workers assignment.lanes) (ended : HasEnded book.world.run) (given : List Answer) (all_given : book.world.run.outcome.answers ≡ map Some given) where
-  -- the assignment is the given one
-  same_assignment : book.assignment ≡ assignment
-  same_assignment = λ i. record { workers = run_of.same_workers i; lanes = run_of.same_lanes i }
-
-  -- a book at its end is settled over its own start
-  settled_here : IsSettled book.start ops assignment book.world.run.shared.store given
-  settled_here =
-      let kept = promised book.start is.is_world in
-      let cut : IsLawfulCut book.world.run.ops book.world.run.assignment.workers book.world.run.assignment.lanes =
-      subst (λ (xs : List Op). IsLawfulCut xs book.world.run.assignment.workers book.world.run.assignment.lanes) (sym (is.same_ops ∙ run_of.same_ops))
-      (subst (λ (a : Assignment). IsLawfulCut ops a.workers a.lanes) (sym (is.same_assignment ∙ same_assignment)) lawful) in
-      record {
-        replayed = record {
-          world = book.world;
-          replay = record { is_world = is.is_world; same_ops = is.same_ops ∙ run_of.same_ops; same_assignment = is.same_assignment ∙ same_assignment; same_schedule = refl };
-          all_moved = is.all_moved;
-          all_ended = ended;
-          same_tree = refl;
-          reached = kept.reached_throughout;
-        };
-        same_answers = all_given;
-        one_thread = kept.one_thread cut ended;
-        at_rest = (kept.ended ended).at_rest;
-      }
-
-  -- and over the given one
-  pub settled : (tree : PlainStore) → tree ≡ book.world.run.shared.store → IsSettled start ops assignment tree given
-  settled tree same =
-      subst (λ (s : PlainStore). IsSettled s ops assignment tree given) run_of.same_start
-      (subst (λ (t : PlainStore). IsSettled book.start ops assignment t given) (sym same) settled_here)
+-- a book at its end is settled
+pub settled : (start : PlainStore) (ops : List Op) (assignment : Assignment) (world : PlainWorld) → IsBook start ops assignment world → IsPromised world
+    → IsLawfulCut ops assignment.workers assignment.lanes → HasEnded world.run → (given : List Answer) → world.run.outcome.answers ≡ map Some given
+    → (tree : PlainStore) → tree ≡ world.run.shared.store → IsSettled start ops assignment tree given
+settled start ops assignment world is promised lawful ended given all_given tree same =
+    let kept = promised start is.is_world in
+    let cut : IsLawfulCut world.run.ops world.run.assignment.workers world.run.assignment.lanes =
+    subst (λ (xs : List Op). IsLawfulCut xs world.run.assignment.workers world.run.assignment.lanes) (sym is.same_ops)
+    (subst (λ (a : Assignment). IsLawfulCut ops a.workers a.lanes) (sym is.same_assignment) lawful) in
+    subst (λ (t : PlainStore). IsSettled start ops assignment t given) (sym same)
+    (record {
+      replayed = record {
+        world = world;
+        replay = record { is_world = is.is_world; same_ops = is.same_ops; same_assignment = is.same_assignment; same_schedule = refl };
+        all_moved = is.all_moved;
+        all_ended = ended;
+        same_tree = refl;
+        reached = kept.reached_throughout;
+      };
+      same_answers = all_given;
+      one_thread = kept.one_thread cut ended;
+      at_rest = (kept.ended ended).at_rest;
+    })
 
 -- a settled run is done
 pub settled_done : (before after : PlainStore) (ops : List Op) (assignment : Assignment) (given : List Answer) → IsSettled before ops assignment after given → IsDone before after ops given

@@ -1,3 +1,4 @@
+pub mod BookTurns
 pub mod BooksGoOn
 pub mod EachPlace
 pub mod Offered

@@ -1,21 +1,18 @@
--- The book of a run: what the run began with, and the world that its workers' steps have led to.
-use Rattle.std.specs.Prelude.{◌≡◌, ◌↔◌, ℕ, ◌⊎◌, Bool, true, false, Some, List, [], All, map, slice_get}
+-- The book of a run: the world that its workers' steps have led to from what the run began with.
+use Rattle.std.specs.Prelude.{◌≡◌, ◌↔◌, ℕ, ◌⊎◌, Bool, true, false, Some, List, All, map, slice_get}
 use Rattle.blink_batch.specs.declared.Answer.{Answer}
 use Rattle.blink_batch.specs.declared.Op.{Op}
 use Rattle.blink_batch.specs.{Assignment}
 use Rattle.blink_store.specs.{PlainStore}
 use Rattle.blink_machine.specs.declared.step.Step.TheVariants.{Moved}
-use Rattle.blink_steps.specs.{HasMoved, IsIdleWorker, WouldMove, WouldWait, HasAnswerAt, PlainRun, Event, PlainWorld, HasEnded, IsWorldOf, TakesStep}
+use Rattle.blink_steps.specs.{HasMoved, IsIdleWorker, WouldMove, WouldWait, HasAnswerAt, PlainRun, Event, PlainWorld, HasEnded, IsStart, IsWorldOf, TakesStep}
 use Rattle.blink_settings.specs.declared.error.RunError.{RunError}
-use Rattle.blink_settings.specs.declared.error.RunError.TheVariants.{TooLarge, OutOfMemory, Foreign}
+use Rattle.blink_settings.specs.declared.error.RunError.TheVariants.{TooLarge, OutOfMemory}
 use Rattle.blink_locked.specs.declared.book.Turn.{Turn}
 use Rattle.blink_locked.specs.declared.book.Turn.TheVariants.{Took, Over, Waits, Stopped}
 
--- the tree, the batch and the lanes that the run began with, its world, and whether it is stopped
+-- the run's world, and whether the run is stopped
 pub record PlainBook : Type 0 where
-  pub start : PlainStore
-  pub ops : List Op
-  pub assignment : Assignment
   pub world : PlainWorld
   pub stopped : Bool
 
@@ -23,11 +20,11 @@ pub record PlainBook : Type 0 where
 abbrev pub AllMoved : List Event → Type 0
 AllMoved history = All (λ (taken : Event). HasMoved taken.step) history
 
--- the book's world is that of its schedule, over its tree, its batch and its lanes, and each turn of the schedule moved
-pub record IsBook (book : PlainBook) : Type 0 where
-  pub is_world : IsWorldOf book.start book.world
-  pub same_ops : book.world.run.ops ≡ book.ops
-  pub same_assignment : book.world.run.assignment ≡ book.assignment
+-- the world is that of its schedule, over this tree, this batch and these lanes, and each turn of the schedule moved
+pub record IsBook (start : PlainStore) (ops : List Op) (assignment : Assignment) (world : PlainWorld) : Type 0 where
+  pub is_world : IsWorldOf start world
+  pub same_ops : world.run.ops ≡ ops
+  pub same_assignment : world.run.assignment ≡ assignment
   pub all_moved : AllMoved is_world.history
 
 -- the book of the same run at another world
@@ -45,7 +42,7 @@ HasEndedOp run worker op = HasAnswerAt run.outcome.answers op × IsIdleWorker ru
 -- the worker may take a turn for the operation: the book isn't stopped, and the operation is one of the worker's
 pub record MayTurn (book : PlainBook) (worker op : ℕ) : Type 0 where
   pub not_stopped : book.stopped ≡ false
-  pub its_own : slice_get book.assignment.lanes op ≡ Some worker
+  pub its_own : slice_get book.world.run.assignment.lanes op ≡ Some worker
 
 -- a worker's due step: it is taken, and returned with whether the operation has ended by it; or it is refused memory, and the
 -- book is stopped with nothing else changed
@@ -67,25 +64,12 @@ Turns old worker op turn new = (¬ HasEndedOp old.world.run worker op) × WouldM
 abbrev pub IsBookRefusal : RunError → Type 0
 IsBookRefusal refusal = (refusal ≡ TooLarge) ⊎ (refusal ≡ OutOfMemory)
 
--- the book began with this tree, this batch and these lanes
-pub record IsRunOf (book : PlainBook) (start : PlainStore) (ops : List Op) (assignment : Assignment) : Type 0 where
-  pub same_start : book.start ≡ start
-  pub same_ops : book.ops ≡ ops
-  pub same_workers : book.assignment.workers ≡ assignment.workers
-  pub same_lanes : book.assignment.lanes ≡ assignment.lanes
-
 -- the book of this run before its first step
 pub record IsNewBook (start : PlainStore) (ops : List Op) (assignment : Assignment) (book : PlainBook) : Type 0 where
-  pub run_of : IsRunOf book start ops assignment
-  pub no_turn : book.world.schedule ≡ []
+  pub is_start : IsStart start ops assignment book.world
   pub not_stopped : book.stopped ≡ false
 
--- why a book isn't settled
-abbrev pub IsSettleRefusal : RunError → Type 0
-IsSettleRefusal refusal = (refusal ≡ Foreign) ⊎ (refusal ≡ OutOfMemory)
-
--- the book is that of this run, and all operations have ended, with these answers
-pub record IsAtItsEnd (book : PlainBook) (start : PlainStore) (ops : List Op) (assignment : Assignment) (given : List Answer) : Type 0 where
-  pub run_of : IsRunOf book start ops assignment
+-- all operations of the book's run have ended, with these answers
+pub record IsAtItsEnd (book : PlainBook) (given : List Answer) : Type 0 where
   pub ended : HasEnded book.world.run
   pub all_given : book.world.run.outcome.answers ≡ map Some given

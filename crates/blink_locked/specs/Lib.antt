@@ -2,8 +2,8 @@
 
 -- what a run of a batch leaves, whose answers they are, and of which replay the tree is; and why a batch isn't run
 pub use Rattle.blink_locked.specs.Run.{IsReplayed, IsSettled, MayRefuse}
--- the book of a run: what the run began with, and the world that its workers' steps have led to
-pub use Rattle.blink_locked.specs.Book.{IsBookRefusal, IsNewBook, IsSettleRefusal, MayTurn, Turns, book_stopped}
+-- the book of a run: the world that its workers' steps have led to from what the run began with
+pub use Rattle.blink_locked.specs.Book.{IsBookRefusal, IsNewBook, MayTurn, Turns, book_stopped}
 -- the workers whose threads are started: the first ones, one after another, up to the first that can't be started
 pub use Rattle.blink_locked.specs.Starts.{AtEach, IsStartRefusal, TellsNext}
 -- ---- the files

@@ -9,8 +9,6 @@ use Rattle.blink_steps.specs.{IsOneThread, IsReachedThroughout, PlainWorld, IsRe
 use Rattle.blink_locked.specs.Book.{AllMoved}
 use Rattle.blink_settings.specs.declared.error.RunError.{RunError}
 use Rattle.blink_settings.specs.declared.error.RunError.TheVariants.{TooLarge, OutOfMemory, Worker, Foreign}
-use Rattle.blink_settings.specs.declared.settings.Driver.{Driver}
-use Rattle.blink_settings.specs.declared.settings.Driver.TheVariants.{Locked}
 
 -- a replay of the batch and its lanes leads from the tree before to the tree after; in its schedule every turn moved, and all
 -- operations end
@@ -30,10 +28,10 @@ pub record IsSettled (before : PlainStore) (ops : List Op) (assignment : Assignm
   pub one_thread : IsOneThread before replayed.world.run
   pub at_rest : IsStoreAtRest after
 
--- why a batch isn't run on this tree: it is too large for the tree; or it isn't, and memory was refused, or the thread of one of
--- the workers couldn't be started, or, if the steps are taken under a lock, another book came out of it
-abbrev pub MayRefuse : Driver → ℕ → PlainStore → List Op → RunError → Type 0
-MayRefuse driver workers before ops TooLarge = IsTooLarge before ops
-MayRefuse driver workers before ops OutOfMemory = ¬ IsTooLarge before ops
-MayRefuse driver workers before ops (Worker worker) = (¬ IsTooLarge before ops) × worker < workers
-MayRefuse driver workers before ops Foreign = (¬ IsTooLarge before ops) × (driver ≡ Locked)
+-- why a batch isn't run on this tree by so many workers: it is too large for the tree; or it isn't, and memory was refused, or the
+-- thread of one of the workers couldn't be started
+abbrev pub MayRefuse : ℕ → PlainStore → List Op → RunError → Type 0
+MayRefuse workers before ops TooLarge = IsTooLarge before ops
+MayRefuse workers before ops OutOfMemory = ¬ IsTooLarge before ops
+MayRefuse workers before ops (Worker worker) = (¬ IsTooLarge before ops) × worker < workers
+MayRefuse workers before ops Foreign = ⊥

@@ -1,18 +1,19 @@
 //! The book of a run. Its workers take turns to write it.
-ghost use Rattle.std.specs.Prelude.{◌≡◌, ◌↔◌, IfOk, IfErr, IsTrue, IsErrOf, Some, map, slice_get};
+ghost use Rattle.std.specs.Prelude.{◌≡◌, ◌↔◌, ◌<◌, IfOk, IfErr, IsOkUnless, IsTrue, IsErrOf, OnOk, Some, map, slice_get};
 ghost use Rattle.blink_batch.specs.{IsLawfulCut};
 ghost use Rattle.std.specs.Bool.{OnFalse};
-ghost use Rattle.blink_steps.specs.{WouldMove, IsPromised, HasEnded, IsAtLanesEnd, IsStart, IsTooLarge};
-ghost use Rattle.blink_locked.specs.Book.{HasEndedOp, IsAtItsEnd, IsBookRefusal, IsNewBook, IsRunOf, IsSettleRefusal, MayTurn, BookStepsPage, Turns, book_stopped};
+ghost use Rattle.blink_steps.specs.{WouldMove, IsFirstMover, HasEnded, IsAtLanesEnd, IsStart, IsTooLarge, steps_left};
+ghost use Rattle.blink_locked.specs.Book.{HasEndedOp, IsBookRefusal, IsNewBook, MayTurn, BookStepsPage, Turns, book_stopped};
 ghost use Rattle.blink_locked.specs.Run.{IsSettled};
 
+use crate::origin::Origin;
 use blink_batch::{Answer, Batch, Cut, Lanes};
 use blink_page::exceeds_page_limit;
 use blink_rest::Rest;
 use blink_settings::{RunError, all_of};
 use blink_steps::{Kind, Step, StepError, World};
 use std::alloc::{AllocError, Global};
-use std::marker::Model;
+use std::marker::{Model, PhantomData};
 
 /// The result of a worker's turn at the book.
 #[derive(Clone, Copy, Debug, PartialEq, Eq)]
@@ -27,47 +28,38 @@ pub enum Turn {
     Stopped,
 }
 
-/// A run's start, its batch and lanes, and the world of its schedule so far.
+/// The world of a run so far, and the lanes of its workers.
 ///
-/// The type guarantees that the schedule leads to this world from that start, and that each turn of it moved. So waiting takes
-/// no memory, and the schedule is no longer than a run's steps.
+/// The type guarantees that a schedule leads to this world from the tree, the batch and the lanes of the run's origin, and that
+/// each turn of it moved. So waiting takes no memory, and the schedule is no longer than a run's steps.
 #[derive(Drop)]
-pub struct Book {
-    start: Rest,
-    batch: Batch,
-    lanes: Lanes,
+pub struct Book<B: Origin> {
+    lanes: Vec<u8>,
     world: World,
     stopped: bool,
+    of: PhantomData<B>,
 }
 
-impl Model for Book {
+impl<B: Origin> Model for Book<B> {
+    ghost use Rattle.std.specs.Prelude.{◌≡◌};
     ghost use Rattle.blink_locked.specs.Book.{PlainBook, IsBook};
 
     ghost Value = { PlainBook };
 
-    ghost view = { λ book. record {
-      start = book.start;
-      ops = book.batch;
-      assignment = book.lanes;
-      world = book.world;
-      stopped = book.stopped;
-    } };
+    ghost view = { λ book. record { world = book.world; stopped = book.stopped } };
 
-    ghost invariant = { λ book. IsBook (record {
-      start = book.start;
-      ops = book.batch;
-      assignment = book.lanes;
-      world = book.world;
-      stopped = book.stopped;
-    }) };
+    ghost invariant = { λ book. IsBook B.start B.ops B.assignment book.world
+        × (book.lanes.items ≡ B.assignment.lanes) };
 }
 
-impl Book {
-    /// Makes the book of a run of a batch over a tree, before its first step. It copies tree, batch and lanes.
+impl<B: Origin> Book<B> {
+    /// Makes the book of a run of a batch over a tree, before its first step. It copies the tree and the batch, and the lanes
+    /// twice.
     ///
     /// The call refuses with `TooLarge` before it asks for memory, and with `OutOfMemory`, if memory was refused.
-    pub fn new(alloc: Global, start: &Rest, batch: &Batch, cut: &Cut) -> Result<Book, RunError>
-        requires { IsLawfulCut batch.now cut.now.workers cut.now.lanes }
+    pub fn new(alloc: Global, start: &Rest, batch: &Batch, cut: &Cut) -> Result<Book<B>, RunError>
+        requires cut { IsLawfulCut batch.now cut.now.workers cut.now.lanes }
+        requires picked { (B.start ≡ start.now) × (B.ops ≡ batch.now) × (B.assignment ≡ cut.now) }
         ensures new { IfOk result (IsNewBook start.now batch.now cut.now) }
         ensures too_large { IsErrOf result RunError.TooLarge ↔ IsTooLarge start.now batch.now }
         ensures refused { IfErr result IsBookRefusal }
@@ -83,18 +75,20 @@ impl Book {
     }
 
     // Makes the book of copies of what is given.
-    fn copied(alloc: Global, start: &Rest, batch: &Batch, cut: &Cut) -> Result<Book, StepError>
-        requires { IsLawfulCut batch.now cut.now.workers cut.now.lanes }
+    fn copied(alloc: Global, start: &Rest, batch: &Batch, cut: &Cut) -> Result<Book<B>, StepError>
+        requires cut { IsLawfulCut batch.now cut.now.workers cut.now.lanes }
+        requires picked { (B.start ≡ start.now) × (B.ops ≡ batch.now) × (B.assignment ≡ cut.now) }
         ensures { IfOk result (IsNewBook start.now batch.now cut.now) }
     {
-        let (tree, ops, lanes) = copies(alloc, start, batch, cut)?;
+        let Ok(lanes) = cut.lanes().to_vec(alloc) else {
+            return Err(StepError::OutOfMemory);
+        };
         match first_world(alloc, start, batch, cut) {
             Ok(world) => Ok(Book {
-                start: tree,
-                batch: ops,
                 lanes,
                 world,
                 stopped: false,
+                of: PhantomData,
             }),
             Err(refusal) => Err(refusal),
         }
@@ -116,7 +110,7 @@ impl Book {
 
     // The turn of a run that isn't stopped, for an operation of the worker's.
     fn turn_of_own(&mut self, worker: u8, op: u32) -> Turn
-        requires own { slice_get self.old.assignment.lanes op ≡ Some worker }
+        requires own { slice_get self.old.world.run.assignment.lanes op ≡ Some worker }
         ensures { Turns self.old worker op result self.new }
     {
         if self.has_ended(worker, op) {
@@ -145,14 +139,14 @@ impl Book {
 
     // Whether the operation is one of the worker's.
     fn is_of(&self, worker: u8, op: u32) -> bool
-        ensures { IsTrue result ↔ slice_get self.now.assignment.lanes op ≡ Some worker }
+        ensures { IsTrue result ↔ slice_get self.now.world.run.assignment.lanes op ≡ Some worker }
     {
-        self.lanes.lanes().get(op as usize) == Some(&worker)
+        is_lane_of(&self.lanes, worker, op)
     }
 
     // Whether the worker's operation has ended: it has its answer, and the worker has no operation under way.
     fn has_ended(&self, worker: u8, op: u32) -> bool
-        requires { slice_get self.now.assignment.lanes op ≡ Some worker }
+        requires { slice_get self.now.world.run.assignment.lanes op ≡ Some worker }
         ensures ended { IsTrue result ↔ HasEndedOp self.now.world.run worker op }
         ensures has_more { OnFalse result (¬ IsAtLanesEnd self.now.world.run worker) }
     {
@@ -166,67 +160,71 @@ impl Book {
         self.stopped = true;
     }
 
-    /// Returns the result of the run: its tree and its answers, place by place. The book must be that of this run, at its end.
-    pub fn settle(
-        self,
-        alloc: Global,
-        start: &Rest,
-        batch: &Batch,
-        cut: &Cut,
-    ) -> Result<(Rest, Vec<Answer>), RunError>
-        requires { IsLawfulCut batch.now cut.now.workers cut.now.lanes }
+    /// Returns the result of the run: its tree and its answers, place by place. If operations are left, it takes their steps. So
+    /// workers whose threads have left their lanes early leave no other result.
+    ///
+    /// The call refuses with `OutOfMemory`, if the run is stopped, or memory was refused.
+    pub fn settle(mut self, alloc: Global) -> Result<(Rest, Vec<Answer>), RunError>
+        requires { IsLawfulCut B.ops B.assignment.workers B.assignment.lanes }
         ensures settled { IfOk result
-            (λ done. IsSettled start.now batch.now cut.now done.0 done.1.items) }
-        ensures refused { IfErr result IsSettleRefusal }
-    {
-        match self.all_answers(alloc, start, batch, cut) {
-            Ok(given) => Ok((self.into_tree(), given)),
-            Err(refusal) => Err(refusal),
-        }
-    }
-
-    // The tree of a book at its end.
-    fn into_tree(self) -> Rest
-        requires { HasEnded self.world.run }
-        ensures tree { result ≡ self.world.run.shared.store }
-        ensures promised { IsPromised self.world }
-    {
-        self.world.into_rest()
-    }
-
-    // The answers, if the book is that of this run, at its end.
-    fn all_answers(
-        &self,
-        alloc: Global,
-        start: &Rest,
-        batch: &Batch,
-        cut: &Cut,
-    ) -> Result<Vec<Answer>, RunError>
-        ensures at_end { IfOk result
-            (λ answers. IsAtItsEnd self.now start.now batch.now cut.now answers.items) }
-        ensures refused { IfErr result IsSettleRefusal }
+            (λ done. IsSettled B.start B.ops B.assignment done.0 done.1.items) }
+        ensures refused { IsOkUnless result RunError.OutOfMemory }
     {
         if self.stopped {
             return Err(RunError::OutOfMemory);
         }
-        if !self.is_run_of(start, batch, cut) || !self.world.ended() {
-            return Err(RunError::Foreign);
-        }
-        match all_of(alloc, self.world.answers()) {
-            Ok(given) => Ok(given),
+        let Ok(()) = self.finish() else {
+            return Err(RunError::OutOfMemory);
+        };
+        match self.all_answers(alloc) {
+            Ok(given) => Ok(self.into_result(given)),
             Err(_) => Err(RunError::OutOfMemory),
         }
     }
 
-    // Whether the run began with this tree, this batch and these lanes.
-    fn is_run_of(&self, start: &Rest, batch: &Batch, cut: &Cut) -> bool
-        ensures { IsTrue result ↔ IsRunOf self.now start.now batch.now cut.now }
+    // Takes the steps that are left. None is, where each worker has run its lane to the end.
+    fn finish(&mut self) -> Result<(), StepError>
+        ensures { IfOk result (λ _. HasEnded self.new.world.run) }
     {
-        self.start.is_same(start)
-            && self.batch == *batch
-            && self.lanes.workers() == cut.workers()
-            && self.lanes.lanes() == cut.lanes()
+        while let Some(worker) = self.world.pick() {
+            self.advance(worker)?;
+        }
+        Ok(())
     }
+
+    // Takes a step of the first worker that would move. Fewer are left then.
+    fn advance(&mut self, worker: u8) -> Result<Step, StepError>
+        requires { IsFirstMover self.old.world.run worker }
+        ensures { OnOk result (steps_left self.new.world.run < steps_left self.old.world.run) }
+    {
+        self.world.advance(worker)
+    }
+
+    // The result of a book at its end, whose answers are given.
+    fn into_result(self, given: Vec<Answer>) -> (Rest, Vec<Answer>)
+        requires lawful { IsLawfulCut B.ops B.assignment.workers B.assignment.lanes }
+        requires ended { HasEnded self.world.run }
+        requires all_given { self.world.run.outcome.answers ≡ map Some given.items }
+        ensures { IsSettled B.start B.ops B.assignment result.0 result.1.items }
+    {
+        (self.world.into_rest(), given)
+    }
+
+    // The answers of a book at its end.
+    fn all_answers(&self, alloc: Global) -> Result<Vec<Answer>, AllocError>
+        requires { HasEnded self.now.world.run }
+        ensures { IfOk result
+            (λ answers. self.now.world.run.outcome.answers ≡ map Some answers.items) }
+    {
+        all_of(alloc, self.world.answers())
+    }
+}
+
+// Whether the operation at this place is in the worker's lane.
+fn is_lane_of(lanes: &[u8], worker: u8, op: u32) -> bool
+    ensures { IsTrue result ↔ slice_get lanes.now op ≡ Some worker }
+{
+    lanes.get(op as usize) == Some(&worker)
 }
 
 // The world of the run before its first step.

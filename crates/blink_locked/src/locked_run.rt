@@ -2,6 +2,7 @@
 
 use crate::book::{Book, Turn};
 use crate::gate::Gate;
+use crate::origin::Origin;
 use blink_steps::Kind;
 use std::sync::{Condvar, Mutex, MutexGuard, Wait};
 use std::thread;
@@ -17,16 +18,16 @@ const TURNS: usize = 32;
 
 /// A book that one worker at a time writes: each step is taken under its lock.
 #[derive(Drop)]
-pub struct LockedRun {
-    book: Mutex<Book>,
+pub struct LockedRun<B: Origin> {
+    book: Mutex<Book<B>>,
     // Notified when a worker has released a latch, has written the prime block, or has found the run stopped. Workers wait for
     // nothing else.
     changed: Condvar,
 }
 
-impl LockedRun {
+impl<B: Origin> LockedRun<B> {
     /// Makes a locked run for this book.
-    pub fn new(book: Book) -> LockedRun {
+    pub fn new(book: Book<B>) -> LockedRun<B> {
         LockedRun {
             book: Mutex::new(book),
             changed: Condvar::new(),
@@ -94,7 +95,7 @@ impl LockedRun {
 
     // Locks the book. The worker tries before it sleeps: operations are short, and a worker that sleeps for each one's lock is
     // mostly asleep.
-    fn enter<R: Wait>(&self, rt: &R) -> MutexGuard<'_, Book> {
+    fn enter<R: Wait>(&self, rt: &R) -> MutexGuard<'_, Book<B>> {
         for _ in 0..TRIES {
             if let Some(book) = self.book.try_lock() {
                 return book;
@@ -111,14 +112,14 @@ impl LockedRun {
     }
 
     /// Returns the book, when all workers have left.
-    pub fn into_book(self) -> Book {
+    pub fn into_book(self) -> Book<B> {
         self.book.into_inner()
     }
 }
 
 // Takes turns of the operation at the book until one ends the operation, would be a wait or finds the run stopped, or until there
 // were many. It returns the last, and whether any of them wakes other workers.
-fn turns_at(book: &mut Book, worker: u8, op: u32) -> (Turn, bool) {
+fn turns_at<B: Origin>(book: &mut Book<B>, worker: u8, op: u32) -> (Turn, bool) {
     let mut turn = book.turn(worker, op);
     let mut wakes = wakes_others(turn);
     for _ in 1..TURNS {

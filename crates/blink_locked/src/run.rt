@@ -9,12 +9,14 @@ ghost use Rattle.blink_locked.specs.Starts.{AtEach, IsStartRefusal, TellsNext};
 use crate::book::Book;
 use crate::gate::Gate;
 use crate::locked_run::LockedRun;
+use crate::origin::Origin;
 use blink_batch::{Answer, Batch, Cut};
 use blink_index::Index;
 use blink_index::laws::no_other_map_is_kept;
 use blink_rest::Rest;
-use blink_settings::{Driver, RunError};
+use blink_settings::RunError;
 use std::alloc::Global;
+use std::marker::Brand;
 use std::sync::Wait;
 use std::thread::{self, Promise, PromisedHandle, Scope, Threads};
 
@@ -35,17 +37,17 @@ pub fn run_locked<R: Threads + Wait + Sync, G: Gate + Sync>(
     ensures replayed { IfOk result (λ given. IsReplayed index.old batch.now cut.now index.new) }
     ensures too_large { IsErrOf result RunError.TooLarge ↔ IsTooLarge index.old batch.now }
     ensures refused { IfErr result
-        (MayRefuse Driver.Locked cut.now.workers index.old batch.now) }
+        (MayRefuse cut.now.workers index.old batch.now) }
     ensures unchanged { OnErr result (index.new ≡ index.old) }
 {
-    let (tree, answers) = run_book(rt, alloc, index.rest(), batch, cut, gate)?;
+    let (tree, answers) = run_book::<Brand, R, G>(rt, alloc, index.rest(), batch, cut, gate)?;
     no_other_map_is_kept();
     *index = Index::from_rest(tree);
     Ok(answers)
 }
 
 // Runs the batch at a book over this tree, and returns the tree that it leaves, and its answers.
-fn run_book<R: Threads + Wait + Sync, G: Gate + Sync>(
+fn run_book<B: Origin + Send + Sync, R: Threads + Wait + Sync, G: Gate + Sync>(
     rt: &R,
     alloc: Global,
     start: &Rest,
@@ -53,17 +55,18 @@ fn run_book<R: Threads + Wait + Sync, G: Gate + Sync>(
     cut: &Cut,
     gate: &G,
 ) -> Result<(Rest, Vec<Answer>), RunError>
-    requires { IsLawfulCut batch.now cut.now.workers cut.now.lanes }
+    requires cut { IsLawfulCut batch.now cut.now.workers cut.now.lanes }
+    requires picked { (B.start ≡ start.now) × (B.ops ≡ batch.now) × (B.assignment ≡ cut.now) }
     ensures settled { IfOk result
         (λ done. IsSettled start.now batch.now cut.now done.0 done.1.items) }
     ensures fits { IsOk result → ¬ IsTooLarge start.now batch.now }
     ensures refused { IfErr result
-        (MayRefuse Driver.Locked cut.now.workers start.now batch.now) }
+        (MayRefuse cut.now.workers start.now batch.now) }
 {
-    let book = Book::new(alloc, start, batch, cut)?;
+    let book = Book::<B>::new(alloc, start, batch, cut)?;
     let locked_run = LockedRun::new(book);
     run_workers(rt, alloc, &locked_run, cut, gate)?;
-    locked_run.into_book().settle(alloc, start, batch, cut)
+    locked_run.into_book().settle(alloc)
 }
 
 /// The promise of a worker's thread at a locked run: only which worker's thread it is.
@@ -79,10 +82,10 @@ impl Promise<()> for IsOf {
 }
 
 // Starts a thread for each worker, and returns when all have left the locked run. If one can't be started, the run is stopped.
-fn run_workers<R: Threads + Wait + Sync, G: Gate + Sync>(
+fn run_workers<B: Origin + Send + Sync, R: Threads + Wait + Sync, G: Gate + Sync>(
     rt: &R,
     alloc: Global,
-    locked_run: &LockedRun,
+    locked_run: &LockedRun<B>,
     cut: &Cut,
     gate: &G,
 ) -> Result<(), RunError>
@@ -109,11 +112,11 @@ fn run_workers<R: Threads + Wait + Sync, G: Gate + Sync>(
 }
 
 // Starts the workers' threads, one after another, up to the first that can't be started.
-fn start_all<'s, E, R: Threads + Wait + Sync, G: Gate + Sync>(
+fn start_all<'s, E, B: Origin + Send + Sync, R: Threads + Wait + Sync, G: Gate + Sync>(
     scope: &Scope<'s, E>,
     rt: &'s R,
     gate: &'s G,
-    locked_run: &'s LockedRun,
+    locked_run: &'s LockedRun<B>,
     lanes: &'s [u8],
     workers: u8,
     handles: &mut Vec<PromisedHandle<(), IsOf>>,

@@ -44,7 +44,7 @@ ServesBy settings to_read = (read : List ℕ) → to_read ≡ Some read
 
 -- a batch that isn't run is refused as its run by these settings may be, on the tree before it
 abbrev pub RefusesPart : PlainSettings → PlainStore → Part → ServeError → Type 0
-RefusesPart settings before (Batch ops) (serve.Run number error) = MayRefuse settings.driver settings.workers before ops error
+RefusesPart settings before (Batch ops) (serve.Run number error) = MayRefuse settings.workers before ops error
 RefusesPart settings before part (serve.Run number error) = ⊥
 RefusesPart settings before part error = ⊤
 
@@ -57,7 +57,7 @@ pub record StopsAt (settings : PlainSettings) (before : PlainStore) (parts : Lis
   pub its_number : number ≡ count_by is_batch prefix + 1
   pub between : PlainStore
   pub ran : RunsPartsBy settings before prefix between
-  pub refused : MayRefuse settings.driver settings.workers between ops error
+  pub refused : MayRefuse settings.workers between ops error
 
 -- each refusal of a run comes so
 abbrev pub TellsRun : PlainSettings → PlainStore → List Part → ServeError → Type 0

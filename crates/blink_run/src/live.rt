@@ -18,7 +18,7 @@ use blink_index::Index;
 use blink_live::{Keeper, Live, LiveError, Pass};
 use blink_locked::Gate;
 use blink_rows::Allowance;
-use blink_settings::{Driver, RunError};
+use blink_settings::RunError;
 use dealing::deal_all;
 use gathering::{gathered, passes_of};
 use std::alloc::Global;
@@ -41,7 +41,7 @@ pub(crate) fn run_live<R: Threads + Wait + Sync, G: Gate + Sync>(
         (λ given. map_of index.new ≡ map_after_all (map_of index.old) batch.now) }
     ensures numbered { IfOk result (λ given. IsNumberedInOrder index.new) }
     ensures too_large { IsErrOf result RunError.TooLarge ↔ IsTooLarge index.old batch.now }
-    ensures refused { IfErr result (MayRefuse Driver.Live cut.now.workers index.old batch.now) }
+    ensures refused { IfErr result (MayRefuse cut.now.workers index.old batch.now) }
     ensures unchanged { OnErr result (index.new ≡ index.old) }
 {
     let (live, mut keeper) = match Live::open(alloc, index, allowance_of(batch)) {

@@ -35,7 +35,7 @@ pub fn run_batch<R: Threads + Wait + Sync, G: Gate + Sync>(
     ensures map { IfOk result
         (λ given. map_of index.new ≡ map_after_all (map_of index.old) batch.now) }
     ensures too_large { IsErrOf result RunError.TooLarge ↔ IsTooLarge index.old batch.now }
-    ensures refused { IfErr result (MayRefuse driver cut.now.workers index.old batch.now) }
+    ensures refused { IfErr result (MayRefuse cut.now.workers index.old batch.now) }
     ensures unchanged { OnErr result (index.new ≡ index.old) }
 
     // What the driver `Locked` alone guarantees, and what `Live` alone does.

@@ -1,0 +1,12 @@
+use Rattle.std.proofs.Common.{◌≡◌, true, subst}
+use Rattle.blink_steps.specs.{WouldWait}
+use Rattle.blink_locked.specs.Book.{PlainBook}
+use Rattle.blink_locked.proofs.BookTurns.{takes_turn}
+use Rattle.blink_locked.proofs.book.Book.turn_of_own.Goals as goal
+
+pub returns : goal.returns
+returns g c =
+    takes_turn c.args.self.now c.args.worker c.args.op c.has_ended.result c.waits.result c.step.result c.step.new.self c.if-has_ended.false c.has_ended.ensures.ended
+    c.has_ended.ensures.has_more c.if-waits.false
+    (subst (λ (book : PlainBook). (c.waits.result ≡ true → WouldWait book.world.run c.args.worker) × (WouldWait book.world.run c.args.worker → c.waits.result ≡ true)) c.self.view_is c.waits.ensures)
+    c.step.ensures
