@@ -6,8 +6,8 @@ mod command_lines;
 #[cfg(test)]
 mod ends;
 #[cfg(test)]
-mod runs;
+mod fixtures;
 #[cfg(test)]
-mod sets;
+mod runs;
 #[cfg(test)]
 mod shows;

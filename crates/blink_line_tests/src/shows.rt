@@ -1,12 +1,11 @@
 //! Texts of replays that are to be looked at, worked by hand from the machine's table of states.
-use crate::sets::locked;
+use crate::fixtures::{same_for, settings};
 use blink_batch::{RecordError, ScriptError};
-use blink_run::{CutKind, ServeError};
+use blink_run::{CutKind, Driver, ServeError};
 use blink_show::{serve_seed, serve_show};
 use blink_steps::StepError;
 use std::alloc::Global;
 use std::process::Abort;
-use std::test::Fail;
 
 // What is written of a replay, how it ended, and how many bytes of the script it left unread.
 #[derive(Drop)]
@@ -17,22 +16,23 @@ struct Shown {
 }
 
 impl Shown {
-    // All was shown, in this text.
-    fn expect_text<R: Abort>(&self, rt: &R, expected: &str) {
-        assert_eq!(rt; self.end, Ok(()));
-        assert!(rt; self.output.as_slice() == expected.as_bytes(), "{expected}");
+    // All of the script was read and shown, in this text.
+    fn is_text(&self, rt: &impl Abort, expected: &str) {
+        same_for(rt, &self.end, &Ok(()), &expected);
+        same_for(rt, &self.output.as_slice(), &expected.as_bytes(), &expected);
+        same_for(rt, &self.unread, &0, &expected);
     }
 
     // Nothing is shown, for this reason.
-    fn expect_refusal<R: Abort>(&self, rt: &R, error: ServeError) {
-        assert_eq!(rt; self.end, Err(error));
-        assert!(rt; self.output.is_empty(), "{error}");
+    fn is_refusal(&self, rt: &impl Abort, error: ServeError) {
+        same_for(rt, &self.end, &Err(error), &error);
+        same_for(rt, &self.output.len(), &0, &error);
     }
 }
 
 // What is written of a script's replay between `<` and `>`.
-fn replayed(alloc: Global, script: &str, workers: u8, schedule: &[u8]) -> Result<Shown, Fail> {
-    let settings = locked(workers, 4, CutKind::Residue)?;
+fn replayed(rt: &impl Abort, alloc: Global, script: &str, workers: u8, schedule: &[u8]) -> Shown {
+    let settings = settings(rt, (workers, 4), CutKind::Residue, Driver::Locked);
     let mut text = script.as_bytes();
     let mut output = Vec::new(alloc);
     let end = serve_show(
@@ -44,26 +44,27 @@ fn replayed(alloc: Global, script: &str, workers: u8, schedule: &[u8]) -> Result
         "<\n",
         ">\n",
     );
-    Ok(Shown {
+    Shown {
         output,
         end,
         unread: text.len(),
-    })
+    }
 }
 
 // What is written of a script's replay by turns that are drawn, between `<` and `>`.
-fn drawn(alloc: Global, script: &str, workers: u8, seed: u64) -> Result<Shown, Fail> {
-    let settings = locked(workers, 4, CutKind::Residue)?;
+fn drawn(rt: &impl Abort, alloc: Global, script: &str, workers: u8, seed: u64) -> Shown {
+    let settings = settings(rt, (workers, 4), CutKind::Residue, Driver::Locked);
     let mut text = script.as_bytes();
     let mut output = Vec::new(alloc);
     let end = serve_seed(alloc, &mut text, &mut output, &settings, seed, "<\n", ">\n");
-    Ok(Shown {
+    Shown {
         output,
         end,
         unread: text.len(),
-    })
+    }
 }
 
+// A worker finds a key that a split, half finished by the other, has moved to a new page: all tree states, byte for byte.
 const HALF_A_SPLIT: &str = "<
 workers 2
 fan 4
@@ -111,18 +112,7 @@ page 1 - 0 - 3 2 1:10 2:20 3:30
 >
 ";
 
-// A worker finds a key that a split, half finished by the other, has moved to a new page: all tree states, byte for byte.
-#[test]
-fn half_a_split(rt: HostRuntime) -> Result<(), Fail> {
-    let script =
-        "insert,1,10\ninsert,2,20\ninsert,3,30\ninsert,5,50\nscan,1,0\ninsert,6,60\nfind,5,\nscan,0,9\n";
-    let schedule = [1, 0, 0, 0, 0, 0, 0, 1, 1];
-    let outcome = replayed(rt.alloc(), script, 2, &schedule)?;
-    outcome.expect_text(&rt, HALF_A_SPLIT);
-    assert_eq!(rt; outcome.unread, 0);
-    Ok(())
-}
-
+// A split is posted to the page that was remembered; a wait and an idle turn change nothing; the answers of each kind.
 const A_POSTING: &str = "<
 workers 3
 fan 4
@@ -220,41 +210,52 @@ page 1 - 0 - 3 2 1:5 2:2 3:3
 >
 ";
 
-// A split is posted to the page that was remembered; a wait and an idle turn change nothing; the answers of each kind.
-#[test]
-fn a_posting(rt: HostRuntime) -> Result<(), Fail> {
-    let script =
-        "insert,1,1\ninsert,2,2\ninsert,3,3\ninsert,4,4\nscan,1,0\ninsert,5,5\ninsert,6,6\ninsert,7,7\npage,0,1\ninsert,9,9\ndelete,7,\nreplace,1,5\n";
-    let schedule = [0, 0, 0, 0, 1, 1, 1, 1, 2, 0, 0, 0, 0, 0, 0, 0, 0, 0];
-    replayed(rt.alloc(), script, 3, &schedule)?.expect_text(&rt, A_POSTING);
-    Ok(())
-}
+// Scripts, the workers and the schedule of their replay, and what is shown. Without operations there is no frame.
+const REPLAYS: [(&str, u8, &[u8], &str); 5] = [
+    (
+        "insert,1,10\ninsert,2,20\ninsert,3,30\ninsert,5,50\nscan,1,0\ninsert,6,60\nfind,5,\nscan,0,9\n",
+        2,
+        &[1, 0, 0, 0, 0, 0, 0, 1, 1],
+        HALF_A_SPLIT,
+    ),
+    (
+        "insert,1,1\ninsert,2,2\ninsert,3,3\ninsert,4,4\nscan,1,0\ninsert,5,5\ninsert,6,6\ninsert,7,7\npage,0,1\n\
+insert,9,9\ndelete,7,\nreplace,1,5\n",
+        3,
+        &[0, 0, 0, 0, 1, 1, 1, 1, 2, 0, 0, 0, 0, 0, 0, 0, 0, 0],
+        A_POSTING,
+    ),
+    ("", 3, &[2, 0], "<\nworkers 3\nfan 4\n>\n"),
+    ("scan,0,9\n", 3, &[2, 0], "<\nworkers 3\nfan 4\n>\n"),
+    (
+        "page,0,1\nscan,1,0\n",
+        3,
+        &[2, 0],
+        "<\nworkers 3\nfan 4\n>\n",
+    ),
+];
 
 #[test]
-fn scripts_without_operations_have_no_frame(rt: HostRuntime) -> Result<(), Fail> {
-    for script in ["", "scan,0,9\n", "page,0,1\nscan,1,0\n"] {
-        let outcome = replayed(rt.alloc(), script, 3, &[2, 0])?;
-        outcome.expect_text(&rt, "<\nworkers 3\nfan 4\n>\n");
+fn replays_by_a_schedule(rt: HostRuntime) {
+    for &(script, workers, schedule, text) in &REPLAYS {
+        replayed(&rt, rt.alloc(), script, workers, schedule).is_text(&rt, text);
     }
-    Ok(())
 }
 
+// A number that is no worker's is refused before anything is read.
 #[test]
-fn a_number_that_is_no_worker_is_refused_before_reading(rt: HostRuntime) -> Result<(), Fail> {
-    let outcome = replayed(rt.alloc(), "find,1,\n", 3, &[2, 3, 4])?;
-    outcome.expect_refusal(&rt, ServeError::Step(StepError::NoWorker(3)));
-    assert_eq!(rt; outcome.unread, 8);
-    Ok(())
-}
-
-#[test]
-fn refused_scripts_are_not_shown(rt: HostRuntime) -> Result<(), Fail> {
+fn replays_that_are_refused(rt: HostRuntime) {
+    let outcome = replayed(&rt, rt.alloc(), "find,1,\n", 3, &[2, 3, 4]);
+    outcome.is_refusal(&rt, ServeError::Step(StepError::NoWorker(3)));
+    same_for(&rt, &outcome.unread, &8, &"unread");
     let row = ScriptError::Row(2, RecordError::BadNumber);
-    let outcome = replayed(rt.alloc(), "find,1,\nfind,x,\n", 3, &[2])?;
-    outcome.expect_refusal(&rt, ServeError::Script(row));
-    Ok(())
+    let outcome = replayed(&rt, rt.alloc(), "find,1,\nfind,x,\n", 3, &[2]);
+    outcome.is_refusal(&rt, ServeError::Script(row));
 }
 
+// The first words of SplitMix64 from 1234567, as they are published: 6457827717110365317, 3203168211198807973, 9817491932198370423,
+// 4593380528125082431 and 16408922859458223821. Three workers would move for the first three, which leave 0, 1 and 0. Then worker 0 is
+// at its lane's end, and the next two leave 1 of two, worker 2. For the sixth only worker 1 is left.
 const THREE_FINDS: &str = "<
 workers 3
 fan 4
@@ -285,17 +286,8 @@ decided 1 absent
 >
 ";
 
-// The first words of SplitMix64 from 1234567, as they are published: 6457827717110365317, 3203168211198807973, 9817491932198370423,
-// 4593380528125082431 and 16408922859458223821. Three workers would move for the first three, which leave 0, 1 and 0. Then worker 0 is
-// at its lane's end, and the next two leave 1 of two, worker 2. For the sixth only worker 1 is left.
-#[test]
-fn turns_by_a_seed(rt: HostRuntime) -> Result<(), Fail> {
-    let outcome = drawn(rt.alloc(), "find,3,\nfind,4,\nfind,5,\n", 3, 1234567)?;
-    outcome.expect_text(&rt, THREE_FINDS);
-    assert_eq!(rt; outcome.unread, 0);
-    Ok(())
-}
-
+// The first words from 0 are odd, even, odd, even, odd: 16294208416658607535, 7960286522194355700, 487617019471545679,
+// 17909611376780542444 and 1961750202426094747. Then worker 0 waits for the latch, and isn't drawn until worker 1 has let it go.
 const A_WAITING_WORKER: &str = "<
 workers 2
 fan 4
@@ -341,18 +333,16 @@ page 1 - 0 - 18446744073709551615 - 5:50 6:60
 >
 ";
 
-// The first words from 0 are odd, even, odd, even, odd: 16294208416658607535, 7960286522194355700, 487617019471545679,
-// 17909611376780542444 and 1961750202426094747. Then worker 0 waits for the latch, and isn't drawn until worker 1 has let it go.
-#[test]
-fn a_waiting_worker_is_not_drawn(rt: HostRuntime) -> Result<(), Fail> {
-    let outcome = drawn(rt.alloc(), "insert,5,50\ninsert,6,60\n", 2, 0)?;
-    outcome.expect_text(&rt, A_WAITING_WORKER);
-    Ok(())
-}
+// Scripts, the workers and the seed of their replay, and what is shown.
+const DRAWS: [(&str, u8, u64, &str); 3] = [
+    ("find,3,\nfind,4,\nfind,5,\n", 3, 1234567, THREE_FINDS),
+    ("insert,5,50\ninsert,6,60\n", 2, 0, A_WAITING_WORKER),
+    ("scan,0,9\n", 3, 7, "<\nworkers 3\nfan 4\n>\n"),
+];
 
 #[test]
-fn seeds_of_scripts_without_operations(rt: HostRuntime) -> Result<(), Fail> {
-    let outcome = drawn(rt.alloc(), "scan,0,9\n", 3, 7)?;
-    outcome.expect_text(&rt, "<\nworkers 3\nfan 4\n>\n");
-    Ok(())
+fn replays_by_a_seed(rt: HostRuntime) {
+    for &(script, workers, seed, text) in &DRAWS {
+        drawn(&rt, rt.alloc(), script, workers, seed).is_text(&rt, text);
+    }
 }

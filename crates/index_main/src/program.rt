@@ -10,9 +10,6 @@ use std::io::{BufWriter, Read, Write};
 use std::sync::Wait;
 use std::thread::Threads;
 
-#[cfg(test)]
-mod tests;
-
 /// Does what a command line asks for: reads the script and writes its answers, or the texts of its replay.
 ///
 /// After the call the buffer is empty, unless the writer failed. Then the call refuses with `Output`, and nothing more is

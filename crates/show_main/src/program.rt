@@ -11,9 +11,6 @@ use blink_show::{serve_seed, serve_show};
 use std::alloc::Global;
 use std::io::{Read, Write};
 
-#[cfg(test)]
-mod tests;
-
 /// Does what the words of a command line ask for, the program's name first. It reads the script and writes the page of its
 /// replay, with the frames between `head` and `tail`. If the words ask for nothing, nothing is read. After a refusal nothing was
 /// written, unless the writer failed: then a prefix of the page was.
