@@ -1,6 +1,6 @@
 //! Batches.
 use crate::fixtures::worlds::batch_of;
-use crate::fixtures::{given, same};
+use crate::fixtures::{given, same, same_for};
 use blink_batch::{Batch, BatchError, Op};
 use std::alloc::Global;
 use std::process::Abort;
@@ -12,12 +12,6 @@ fn has(rt: &impl Abort, batch: &Batch, ops: &[Op], inserts: usize) {
     same(rt, &batch.inserts(), &inserts);
 }
 
-// The batch of these operations has them, and so many insertions.
-fn has_inserts(rt: &impl Abort, alloc: Global, ops: &[Op], inserts: usize) {
-    let batch = batch_of(rt, alloc, ops);
-    has(rt, &batch, ops, inserts);
-}
-
 // So many finds are a batch, or too many for one.
 fn is_taken(rt: &impl Abort, alloc: Global, count: usize, expected: bool) {
     let batch = Batch::new(given(rt, vec![in alloc; Op::Find(1); count]));
@@ -27,11 +21,16 @@ fn is_taken(rt: &impl Abort, alloc: Global, count: usize, expected: bool) {
     }
 }
 
+const PAIRS: [[Op; 2]; 2] = [
+    [Op::Insert(5, 50), Op::Find(5)],
+    [Op::Insert(5, 50), Op::Replace(5, 51)],
+];
+
 #[test]
 fn batches_have_their_operations(rt: HostRuntime) {
-    let alloc = rt.alloc();
-    has_inserts(&rt, alloc, &[Op::Insert(5, 50), Op::Find(5)], 1);
-    has_inserts(&rt, alloc, &[Op::Insert(5, 50), Op::Replace(5, 51)], 1)
+    for ops in &PAIRS {
+        has(&rt, &batch_of(&rt, rt.alloc(), ops), ops, 1);
+    }
 }
 
 #[test]
@@ -43,39 +42,31 @@ fn batches_have_a_limit(rt: HostRuntime) {
     same(&rt, &BatchError::TooMany.code(), &1);
 }
 
-// Whether the two batches are equal.
-fn are_equal(rt: &impl Abort, batch: &Batch, other: &Batch, expected: bool) {
-    let equal = *batch == *other;
-    same(rt, &equal, &expected);
-}
+// Operations, and whether their batch is equal to that of the first ones.
+const COMPARED: [(&[Op], bool); 7] = [
+    (&[Op::Insert(5, 50), Op::Find(6)], true),
+    (&[Op::Insert(5, 50), Op::Find(7)], false),
+    (&[Op::Insert(5, 51), Op::Find(6)], false),
+    (&[Op::Insert(5, 50), Op::Delete(6)], false),
+    (&[Op::Replace(5, 50), Op::Find(6)], false),
+    (&[Op::Find(6), Op::Insert(5, 50)], false),
+    (&[Op::Insert(5, 50)], false),
+];
 
 // Whether the batch is equal to the one of these operations.
 fn is_equal(rt: &impl Abort, alloc: Global, batch: &Batch, ops: &[Op], expected: bool) {
-    let other = batch_of(rt, alloc, ops);
-    are_equal(rt, batch, &other, expected);
+    let equal = *batch == batch_of(rt, alloc, ops);
+    same_for(rt, &equal, &expected, &ops);
+}
+
+fn are_compared(rt: &impl Abort, alloc: Global, batch: &Batch) {
+    for &(ops, expected) in &COMPARED {
+        is_equal(rt, alloc, batch, ops, expected);
+    }
 }
 
 #[test]
 fn batches_are_equal_by_their_operations(rt: HostRuntime) {
-    let alloc = rt.alloc();
-    let batch = batch_of(&rt, alloc, &[Op::Insert(5, 50), Op::Find(6)]);
-    is_equal(&rt, alloc, &batch, &[Op::Insert(5, 50), Op::Find(6)], true);
-    is_equal(&rt, alloc, &batch, &[Op::Insert(5, 50), Op::Find(7)], false);
-    is_equal(&rt, alloc, &batch, &[Op::Insert(5, 51), Op::Find(6)], false);
-    is_equal(
-        &rt,
-        alloc,
-        &batch,
-        &[Op::Insert(5, 50), Op::Delete(6)],
-        false,
-    );
-    is_equal(
-        &rt,
-        alloc,
-        &batch,
-        &[Op::Replace(5, 50), Op::Find(6)],
-        false,
-    );
-    is_equal(&rt, alloc, &batch, &[Op::Find(6), Op::Insert(5, 50)], false);
-    is_equal(&rt, alloc, &batch, &[Op::Insert(5, 50)], false)
+    let batch = batch_of(&rt, rt.alloc(), &[Op::Insert(5, 50), Op::Find(6)]);
+    are_compared(&rt, rt.alloc(), &batch);
 }

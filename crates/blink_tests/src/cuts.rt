@@ -1,9 +1,40 @@
 //! Lanes, and cuts of batches.
 use crate::fixtures::worlds::batch_of;
-use crate::fixtures::{given, is_shown, same, same_for};
+use crate::fixtures::{given, is_told, same, same_for};
 use blink_batch::{Batch, Cut, CutError, Lanes, Op};
 use std::alloc::Global;
 use std::process::Abort;
+
+// The lanes, if they are some of the batch.
+fn lanes_of(
+    rt: &impl Abort,
+    alloc: Global,
+    batch: &Batch,
+    workers: u8,
+    lanes: &[u8],
+) -> Result<Lanes, CutError> {
+    Lanes::new(batch, workers, given(rt, lanes.to_vec(alloc)))
+}
+
+// The cut of these lanes, if they are one of the batch.
+fn cut_of(
+    rt: &impl Abort,
+    alloc: Global,
+    batch: &Batch,
+    workers: u8,
+    lanes: &[u8],
+) -> Result<Cut, CutError> {
+    Cut::from_lanes(batch, workers, given(rt, lanes.to_vec(alloc)))
+}
+
+const TWO_KEYS: [Op; 2] = [Op::Insert(5, 50), Op::Find(6)];
+
+// Whether the lanes 0 and 1 of two workers are equal to these.
+const COMPARED: [(u8, &[u8], bool); 3] = [
+    (2, &[0, 1], true),
+    (3, &[0, 1], false),
+    (2, &[1, 1], false),
+];
 
 // Whether the lanes are equal to these.
 fn is_equal(
@@ -11,49 +42,50 @@ fn is_equal(
     alloc: Global,
     batch: &Batch,
     lanes: &Lanes,
-    (workers, others): (u8, &[u8]),
-    expected: bool,
+    (workers, others, expected): (u8, &[u8], bool),
 ) {
-    let other = given(
-        rt,
-        Lanes::new(batch, workers, given(rt, others.to_vec(alloc))),
-    );
+    let other = given(rt, lanes_of(rt, alloc, batch, workers, others));
     let equal = *lanes == other;
     same_for(rt, &equal, &expected, &(workers, others));
+}
+
+fn are_compared(rt: &impl Abort, alloc: Global, batch: &Batch, lanes: &Lanes) {
+    for &compared in &COMPARED {
+        is_equal(rt, alloc, batch, lanes, compared);
+    }
 }
 
 #[test]
 fn lanes_are_equal_with_their_workers(rt: HostRuntime) {
     let alloc = rt.alloc();
-    let batch = batch_of(&rt, alloc, &[Op::Insert(5, 50), Op::Find(6)]);
-    let lanes = given(&rt, Lanes::new(&batch, 2, given(&rt, [0, 1].to_vec(alloc))));
-    is_equal(&rt, alloc, &batch, &lanes, (2, &[0, 1]), true);
-    is_equal(&rt, alloc, &batch, &lanes, (3, &[0, 1]), false);
-    is_equal(&rt, alloc, &batch, &lanes, (2, &[1, 1]), false)
-}
-
-// The batch has these lanes under the cut, and so many workers.
-fn is_cut(rt: &impl Abort, cut: &Cut, lanes: &[u8], workers: u8) {
-    same(rt, &cut.lanes(), &lanes);
-    same(rt, &cut.workers(), &workers);
+    let batch = batch_of(&rt, alloc, &TWO_KEYS);
+    let lanes = given(&rt, lanes_of(&rt, alloc, &batch, 2, &[0, 1]));
+    are_compared(&rt, alloc, &batch, &lanes);
 }
 
 // The batch is cut among so many workers, by the remainder of each key, into these lanes.
 fn cuts_by_residue(rt: &impl Abort, alloc: Global, batch: &Batch, workers: u8, lanes: &[u8]) {
     let cut = given(rt, Cut::by_residue(alloc, batch, workers));
-    is_cut(rt, &cut, lanes, workers);
+    same_for(rt, &cut.lanes(), &lanes, &workers);
+    same(rt, &cut.workers(), &workers);
+}
+
+const KEYS_5_AND_8: [Op; 3] = [Op::Insert(5, 6), Op::Find(8), Op::Find(5)];
+
+// So many workers are refused.
+fn refuses_workers(rt: &impl Abort, alloc: Global, batch: &Batch, workers: u8) {
+    let refused = Cut::by_residue(alloc, batch, workers).err();
+    same_for(rt, &refused, &Some(CutError::BadWorkers), &workers);
 }
 
 #[test]
 fn cuts_by_the_remainder_of_the_key(rt: HostRuntime) {
     let alloc = rt.alloc();
-    let batch = batch_of(&rt, alloc, &[Op::Insert(5, 6), Op::Find(8), Op::Find(5)]);
+    let batch = batch_of(&rt, alloc, &KEYS_5_AND_8);
     cuts_by_residue(&rt, alloc, &batch, 3, &[2, 2, 2]);
     cuts_by_residue(&rt, alloc, &batch, 64, &[5, 8, 5]);
-    for workers in [0, 65] {
-        let refused = Cut::by_residue(alloc, &batch, workers).err();
-        same(&rt, &refused, &Some(CutError::BadWorkers));
-    }
+    refuses_workers(&rt, alloc, &batch, 0);
+    refuses_workers(&rt, alloc, &batch, 65);
     same(&rt, &CutError::BadWorkers.code(), &2);
     same(&rt, &CutError::OutOfMemory.code(), &7);
 }
@@ -62,11 +94,8 @@ fn cuts_by_the_remainder_of_the_key(rt: HostRuntime) {
 fn cuts_by_ranges(rt: &impl Abort, alloc: Global, batch: &Batch, bounds: &[u64], lanes: &[u8]) {
     let cut = given(rt, Cut::by_ranges(alloc, batch, bounds));
     same_for(rt, &cut.lanes(), &lanes, &bounds);
-    same(
-        rt,
-        &usize::from(cut.workers()),
-        &bounds.len().wrapping_add(1),
-    );
+    let workers = bounds.len().wrapping_add(1);
+    same(rt, &usize::from(cut.workers()), &workers);
 }
 
 // The bounds are refused for this batch.
@@ -81,17 +110,29 @@ fn refuses_ranges(
     same_for(rt, &refused, &Some(refusal), &bounds);
 }
 
+const FOUR_KEYS: [Op; 4] = [Op::Find(0), Op::Delete(3), Op::Find(4), Op::Find(u64::MAX)];
+
+// Bounds, and the lanes of the four keys.
+const RANGES: [(&[u64], &[u8]); 4] = [
+    (&[], &[0, 0, 0, 0]),
+    (&[3], &[0, 0, 1, 1]),
+    (&[0, 3, 7], &[0, 1, 2, 3]),
+    (&[1, 2, u64::MAX], &[0, 2, 2, 2]),
+];
+
+fn cuts_four_keys(rt: &impl Abort, alloc: Global, batch: &Batch) {
+    for &(bounds, lanes) in &RANGES {
+        cuts_by_ranges(rt, alloc, batch, bounds, lanes);
+    }
+}
+
 #[test]
 fn cuts_by_ranges_of_keys(rt: HostRuntime) {
     let alloc = rt.alloc();
     let batch = batch_of(&rt, alloc, &[Op::Insert(9, 1), Op::Insert(10, 1)]);
     cuts_by_ranges(&rt, alloc, &batch, &[9], &[0, 1]);
-    let ops = [Op::Find(0), Op::Delete(3), Op::Find(4), Op::Find(u64::MAX)];
-    let batch = batch_of(&rt, alloc, &ops);
-    cuts_by_ranges(&rt, alloc, &batch, &[], &[0, 0, 0, 0]);
-    cuts_by_ranges(&rt, alloc, &batch, &[3], &[0, 0, 1, 1]);
-    cuts_by_ranges(&rt, alloc, &batch, &[0, 3, 7], &[0, 1, 2, 3]);
-    cuts_by_ranges(&rt, alloc, &batch, &[1, 2, u64::MAX], &[0, 2, 2, 2]);
+    let batch = batch_of(&rt, alloc, &FOUR_KEYS);
+    cuts_four_keys(&rt, alloc, &batch);
     refuses_ranges(&rt, alloc, &batch, &[9, 9], CutError::BadBounds);
     refuses_ranges(&rt, alloc, &batch, &[2, 4, 3], CutError::BadBounds);
 }
@@ -100,8 +141,7 @@ fn cuts_by_ranges_of_keys(rt: HostRuntime) {
 #[test]
 fn cuts_by_ranges_have_64_workers_at_most(rt: HostRuntime) {
     let alloc = rt.alloc();
-    let ops = [Op::Find(0), Op::Delete(3), Op::Find(4), Op::Find(u64::MAX)];
-    let batch = batch_of(&rt, alloc, &ops);
+    let batch = batch_of(&rt, alloc, &FOUR_KEYS);
     let mut most = Vec::new(alloc);
     for bound in 0..63 {
         given(&rt, most.push(bound));
@@ -111,26 +151,40 @@ fn cuts_by_ranges_have_64_workers_at_most(rt: HostRuntime) {
     refuses_ranges(&rt, alloc, &batch, &most, CutError::BadWorkers);
 }
 
-// The lanes are taken, split keys or not.
-fn takes_lanes(rt: &impl Abort, alloc: Global, batch: &Batch, workers: u8, expected: &[u8]) {
-    let lanes = given(
-        rt,
-        Lanes::new(batch, workers, given(rt, expected.to_vec(alloc))),
-    );
+// The lanes have so many workers and these numbers.
+fn are(rt: &impl Abort, lanes: &Lanes, workers: u8, expected: &[u8]) {
     same(rt, &lanes.lanes(), &expected);
     same(rt, &lanes.workers(), &workers);
 }
 
+// The lanes are taken, split keys or not.
+fn takes_lanes(rt: &impl Abort, alloc: Global, batch: &Batch, workers: u8, expected: &[u8]) {
+    let lanes = given(rt, lanes_of(rt, alloc, batch, workers, expected));
+    are(rt, &lanes, workers, expected);
+}
+
+// So many workers and lanes, and why they are refused.
+type Refused<'a> = (u8, &'a [u8], CutError);
+
 // The lanes are refused, as lanes of any assignment.
-fn refuses_lanes(
-    rt: &impl Abort,
-    alloc: Global,
-    batch: &Batch,
-    (workers, lanes): (u8, &[u8]),
-    refusal: CutError,
-) {
-    let refused = Lanes::new(batch, workers, given(rt, lanes.to_vec(alloc))).err();
-    same_for(rt, &refused, &Some(refusal), &(workers, lanes));
+const REFUSED_LANES: [Refused; 6] = [
+    (2, &[0, 2], CutError::BadLane(1)),
+    (2, &[2, 2], CutError::BadLane(0)),
+    (2, &[2], CutError::WrongLength),
+    (2, &[0, 0, 0], CutError::WrongLength),
+    (0, &[2], CutError::BadWorkers),
+    (65, &[0, 0], CutError::BadWorkers),
+];
+
+fn refuses_lanes(rt: &impl Abort, alloc: Global, batch: &Batch, case: &Refused) {
+    let refused = lanes_of(rt, alloc, batch, case.0, case.1).err();
+    same_for(rt, &refused, &Some(case.2), case);
+}
+
+fn refuses_all_lanes(rt: &impl Abort, alloc: Global, batch: &Batch) {
+    for case in &REFUSED_LANES {
+        refuses_lanes(rt, alloc, batch, case);
+    }
 }
 
 #[test]
@@ -139,101 +193,84 @@ fn lanes_may_split_a_key(rt: HostRuntime) {
     let batch = batch_of(&rt, alloc, &[Op::Insert(5, 6), Op::Delete(5)]);
     takes_lanes(&rt, alloc, &batch, 2, &[1, 0]);
     takes_lanes(&rt, alloc, &batch, 64, &[63, 63]);
-    refuses_lanes(&rt, alloc, &batch, (2, &[0, 2]), CutError::BadLane(1));
-    refuses_lanes(&rt, alloc, &batch, (2, &[2, 2]), CutError::BadLane(0));
-    refuses_lanes(&rt, alloc, &batch, (2, &[2]), CutError::WrongLength);
-    refuses_lanes(&rt, alloc, &batch, (2, &[0, 0, 0]), CutError::WrongLength);
-    refuses_lanes(&rt, alloc, &batch, (0, &[2]), CutError::BadWorkers);
-    refuses_lanes(&rt, alloc, &batch, (65, &[0, 0]), CutError::BadWorkers)
+    refuses_all_lanes(&rt, alloc, &batch);
 }
 
-// The code and the text of a refusal.
-fn is_told(rt: &impl Abort, alloc: Global, error: CutError, code: u8, text: &str) {
-    same(rt, &error.code(), &code);
-    is_shown(rt, alloc, &error, text)
-}
+const REFUSALS: [(CutError, u8, &str); 5] = [
+    (CutError::BadWorkers, 2, "bad number of workers"),
+    (CutError::WrongLength, 3, "wrong number of lanes"),
+    (CutError::BadLane(1), 4, "operation 1: bad lane"),
+    (CutError::SplitKey(1), 5, "operation 1: split key"),
+    (CutError::BadBounds, 6, "bad bounds"),
+];
 
 #[test]
 fn refusals_have_numbers_and_texts(rt: HostRuntime) {
-    let alloc = rt.alloc();
-    is_told(&rt, alloc, CutError::BadWorkers, 2, "bad number of workers");
-    is_told(
-        &rt,
-        alloc,
-        CutError::WrongLength,
-        3,
-        "wrong number of lanes",
-    );
-    is_told(&rt, alloc, CutError::BadLane(1), 4, "operation 1: bad lane");
-    is_told(
-        &rt,
-        alloc,
-        CutError::SplitKey(1),
-        5,
-        "operation 1: split key",
-    );
-    is_told(&rt, alloc, CutError::BadBounds, 6, "bad bounds")
+    for &(refusal, code, text) in &REFUSALS {
+        is_told(&rt, rt.alloc(), &refusal, (refusal.code(), code), text);
+    }
 }
 
 // The lanes are refused as a cut.
-fn refuses_cut(
-    rt: &impl Abort,
-    alloc: Global,
-    batch: &Batch,
-    (workers, lanes): (u8, &[u8]),
-    refusal: CutError,
-) {
-    let refused = Cut::from_lanes(batch, workers, given(rt, lanes.to_vec(alloc))).err();
-    same_for(rt, &refused, &Some(refusal), &(workers, lanes));
+fn refuses_cut(rt: &impl Abort, alloc: Global, batch: &Batch, case: &Refused) {
+    let refused = cut_of(rt, alloc, batch, case.0, case.1).err();
+    same_for(rt, &refused, &Some(case.2), case);
+}
+
+// Each of them is.
+fn refuses_cuts(rt: &impl Abort, alloc: Global, batch: &Batch, cases: &[Refused]) {
+    for case in cases {
+        refuses_cut(rt, alloc, batch, case);
+    }
 }
 
 // The lanes are a cut of the batch, and the cut gives them back.
 fn is_cut_from(rt: &impl Abort, alloc: Global, batch: &Batch, workers: u8, expected: &[u8]) {
-    let cut = given(
-        rt,
-        Cut::from_lanes(batch, workers, given(rt, expected.to_vec(alloc))),
-    );
-    same(rt, &(cut.workers(), cut.is_for(batch)), &(workers, true));
-    let lanes = cut.into_lanes();
-    same(rt, &lanes.lanes(), &expected);
-    same(rt, &lanes.workers(), &workers);
+    let cut = given(rt, cut_of(rt, alloc, batch, workers, expected));
+    same(rt, &cut.workers(), &workers);
+    same(rt, &cut.is_for(batch), &true);
+    are(rt, &cut.into_lanes(), workers, expected);
 }
+
+const REFUSED_CUTS: [Refused; 6] = [
+    (2, &[0, 1], CutError::SplitKey(1)),
+    (2, &[0, 2], CutError::BadLane(1)),
+    (2, &[0], CutError::WrongLength),
+    (2, &[0, 0, 0], CutError::WrongLength),
+    (0, &[0], CutError::BadWorkers),
+    (65, &[0, 1], CutError::BadWorkers),
+];
 
 #[test]
 fn cuts_from_lanes_split_no_key(rt: HostRuntime) {
     let alloc = rt.alloc();
     let batch = batch_of(&rt, alloc, &[Op::Insert(5, 50), Op::Find(5)]);
-    refuses_cut(&rt, alloc, &batch, (2, &[0, 1]), CutError::SplitKey(1));
+    refuses_cuts(&rt, alloc, &batch, &REFUSED_CUTS);
     takes_lanes(&rt, alloc, &batch, 2, &[0, 1]);
-    refuses_cut(&rt, alloc, &batch, (2, &[0, 2]), CutError::BadLane(1));
-    refuses_cut(&rt, alloc, &batch, (2, &[0]), CutError::WrongLength);
-    refuses_cut(&rt, alloc, &batch, (2, &[0, 0, 0]), CutError::WrongLength);
-    refuses_cut(&rt, alloc, &batch, (0, &[0]), CutError::BadWorkers);
-    refuses_cut(&rt, alloc, &batch, (65, &[0, 1]), CutError::BadWorkers);
     is_cut_from(&rt, alloc, &batch, 2, &[0, 0])
 }
 
+const THREE_TIMES_7: [Op; 6] = [
+    Op::Find(7),
+    Op::Insert(5, 1),
+    Op::Delete(7),
+    Op::Delete(5),
+    Op::Find(7),
+    Op::Insert(7, 2),
+];
+
 // The lanes of 64 workers split a key, which is seen at this place.
-fn splits_at(rt: &impl Abort, alloc: Global, batch: &Batch, lanes: &[u8], place: u32) {
-    refuses_cut(rt, alloc, batch, (64, lanes), CutError::SplitKey(place))
-}
+const FIRST_SPLITS: [Refused; 4] = [
+    (64, &[0, 1, 0, 2, 1, 0], CutError::SplitKey(3)),
+    (64, &[0, 1, 0, 1, 1, 2], CutError::SplitKey(4)),
+    (64, &[0, 1, 0, 1, 0, 63], CutError::SplitKey(5)),
+    (64, &[0, 0, 1, 1, 0, 0], CutError::SplitKey(2)),
+];
 
 #[test]
 fn the_first_split_key_is_reported(rt: HostRuntime) {
-    let ops = [
-        Op::Find(7),
-        Op::Insert(5, 1),
-        Op::Delete(7),
-        Op::Delete(5),
-        Op::Find(7),
-        Op::Insert(7, 2),
-    ];
-    let alloc = rt.alloc();
-    let batch = batch_of(&rt, alloc, &ops);
-    splits_at(&rt, alloc, &batch, &[0, 1, 0, 2, 1, 0], 3);
-    splits_at(&rt, alloc, &batch, &[0, 1, 0, 1, 1, 2], 4);
-    splits_at(&rt, alloc, &batch, &[0, 1, 0, 1, 0, 63], 5);
-    splits_at(&rt, alloc, &batch, &[0, 0, 1, 1, 0, 0], 2)
+    let batch = batch_of(&rt, rt.alloc(), &THREE_TIMES_7);
+    refuses_cuts(&rt, rt.alloc(), &batch, &FIRST_SPLITS);
 }
 
 // How many keys the full batch has.
@@ -268,35 +305,36 @@ fn lanes_with(rt: &impl Abort, alloc: Global, last: u8) -> Vec<u8> {
 fn split_keys_are_reported_in_a_full_batch(rt: HostRuntime) {
     let alloc = rt.alloc();
     let batch = full_batch(&rt, alloc);
-    let lanes = lanes_with(&rt, alloc, 0);
-    is_cut_from(&rt, alloc, &batch, 2, &lanes);
+    is_cut_from(&rt, alloc, &batch, 2, &lanes_with(&rt, alloc, 0));
     let lanes = lanes_with(&rt, alloc, 1);
-    refuses_cut(&rt, alloc, &batch, (2, &lanes), CutError::SplitKey(8191))
+    let refused = cut_of(&rt, alloc, &batch, 2, &lanes).err();
+    same(&rt, &refused, &Some(CutError::SplitKey(8191)));
 }
 
-// Whether a cut is one for the batch of these operations, too.
-fn is_for(rt: &impl Abort, alloc: Global, cut: &Cut, ops: &[Op], expected: bool) {
+// Whether the cut of the two keys is one for the batch of these operations, too.
+const OTHERS: [(&[Op], bool); 5] = [
+    (&TWO_KEYS, true),
+    (&[Op::Delete(6), Op::Find(5)], true),
+    (&[Op::Insert(5, 50), Op::Find(5)], false),
+    (&[Op::Insert(5, 50)], false),
+    (&[Op::Find(5), Op::Find(6), Op::Find(7)], false),
+];
+
+fn is_for(rt: &impl Abort, alloc: Global, cut: &Cut, (ops, expected): (&[Op], bool)) {
     let batch = batch_of(rt, alloc, ops);
     same_for(rt, &cut.is_for(&batch), &expected, &ops);
+}
+
+fn is_for_others(rt: &impl Abort, alloc: Global, cut: &Cut) {
+    for &other in &OTHERS {
+        is_for(rt, alloc, cut, other);
+    }
 }
 
 #[test]
 fn cuts_are_for_batches(rt: HostRuntime) {
     let alloc = rt.alloc();
-    let batch = batch_of(&rt, alloc, &[Op::Insert(5, 50), Op::Find(6)]);
-    let cut = given(
-        &rt,
-        Cut::from_lanes(&batch, 2, given(&rt, [0, 1].to_vec(alloc))),
-    );
-    is_for(&rt, alloc, &cut, &[Op::Insert(5, 50), Op::Find(6)], true);
-    is_for(&rt, alloc, &cut, &[Op::Delete(6), Op::Find(5)], true);
-    is_for(&rt, alloc, &cut, &[Op::Insert(5, 50), Op::Find(5)], false);
-    is_for(&rt, alloc, &cut, &[Op::Insert(5, 50)], false);
-    is_for(
-        &rt,
-        alloc,
-        &cut,
-        &[Op::Find(5), Op::Find(6), Op::Find(7)],
-        false,
-    )
+    let batch = batch_of(&rt, alloc, &TWO_KEYS);
+    let cut = given(&rt, cut_of(&rt, alloc, &batch, 2, &[0, 1]));
+    is_for_others(&rt, alloc, &cut);
 }

@@ -1,11 +1,11 @@
 //! The index at rest.
 mod schedules;
 
-use crate::fixtures::stores::{has_leftmost, has_pages, page_at};
+use crate::fixtures::stores::{Sight, is_seen, page_at};
 use crate::fixtures::worlds::{after, full_leaf, two_leaves};
-use crate::fixtures::{are_entries, given, is_shown, same, same_for};
+use crate::fixtures::{are_entries, given, is_told, same, same_for};
 use blink_batch::{Entry, Op};
-use blink_index::{Index, IndexError, OrDash, push_entries};
+use blink_index::{Index, IndexError, OrDash, Scan, push_entries};
 use blink_rest::Rest;
 use blink_store::Store;
 use std::alloc::Global;
@@ -27,10 +27,11 @@ fn five(rt: &impl Abort, alloc: Global) -> Index {
     Index::from_rest(two_leaves(rt, alloc))
 }
 
+const THREE_DELETIONS: [Op; 3] = [Op::Delete(1), Op::Delete(2), Op::Delete(3)];
+
 // The tree of those whose first three are deleted.
 fn tree_of_two(rt: &impl Abort, alloc: Global) -> Rest {
-    let ops = [Op::Delete(1), Op::Delete(2), Op::Delete(3)];
-    after(rt, alloc, two_leaves(rt, alloc), &ops)
+    after(rt, alloc, two_leaves(rt, alloc), &THREE_DELETIONS)
 }
 
 // The index of that tree.
@@ -70,140 +71,142 @@ fn an_empty_leaf_has_its_line(rt: HostRuntime) {
     is_text(&rt, rt.alloc(), &Index::from_rest(rest), THREE)
 }
 
-// The pointers of these keys.
-fn finds(rt: &impl Abort, index: &Index, pointers: &[(u64, Option<u64>)]) {
-    for &(key, pointer) in pointers {
+const POINTERS: [(u64, Option<u64>); 5] = [
+    (1, Some(10)),
+    (3, Some(30)),
+    (5, Some(50)),
+    (0, None),
+    (6, None),
+];
+
+fn finds(rt: &impl Abort, index: &Index) {
+    for &(key, pointer) in &POINTERS {
         same_for(rt, &index.find(key), &pointer, &key);
     }
 }
 
 #[test]
 fn keys_are_found(rt: HostRuntime) {
-    let index = five(&rt, rt.alloc());
-    let pointers = [
-        (1, Some(10)),
-        (3, Some(30)),
-        (5, Some(50)),
-        (0, None),
-        (6, None),
-    ];
-    finds(&rt, &index, &pointers);
+    finds(&rt, &five(&rt, rt.alloc()));
 }
 
 // What a scan brings, one after another.
-fn scanned(rt: &impl Abort, alloc: Global, index: &Index, lo: u64, hi: u64) -> Vec<Entry> {
+fn brought(rt: &impl Abort, alloc: Global, scan: Scan<'_>) -> Vec<Entry> {
     let mut entries = Vec::new(alloc);
-    for entry in index.scan(lo, hi) {
+    for entry in scan {
         given(rt, entries.push(entry));
     }
     entries
 }
 
-// A scan brings these entries.
-fn scans(
-    rt: &impl Abort,
-    alloc: Global,
-    index: &Index,
-    (lo, hi): (u64, u64),
-    expected: &[(u64, u64)],
-) {
-    let entries = scanned(rt, alloc, index, lo, hi);
+// It brings these.
+fn brings(rt: &impl Abort, alloc: Global, scan: Scan<'_>, expected: &[(u64, u64)]) {
+    let entries = brought(rt, alloc, scan);
     are_entries(rt, &entries, expected);
+}
+
+// A scan from the first key to the second, or a page of so many entries at most from a key on, and what it brings.
+type Example<'a> = (u64, u64, &'a [(u64, u64)]);
+
+const SCANS: [Example; 5] = [
+    (0, u64::MAX, &[(4, 40), (5, 50)]),
+    (2, 4, &[(4, 40)]),
+    (4, 4, &[(4, 40)]),
+    (9, 1, &[]),
+    (6, 9, &[]),
+];
+
+fn scans(rt: &impl Abort, alloc: Global, index: &Index) {
+    for &(lo, hi, expected) in &SCANS {
+        brings(rt, alloc, index.scan(lo, hi), expected);
+    }
 }
 
 #[test]
 fn scans_cross_empty_leaves(rt: HostRuntime) {
-    let alloc = rt.alloc();
-    let index = two(&rt, alloc);
-    scans(&rt, alloc, &index, (0, u64::MAX), &[(4, 40), (5, 50)]);
-    scans(&rt, alloc, &index, (2, 4), &[(4, 40)]);
-    scans(&rt, alloc, &index, (4, 4), &[(4, 40)]);
-    scans(&rt, alloc, &index, (9, 1), &[]);
-    scans(&rt, alloc, &index, (6, 9), &[])
+    scans(&rt, rt.alloc(), &two(&rt, rt.alloc()));
 }
 
-// What a page brings, one after another.
-fn paged(rt: &impl Abort, alloc: Global, index: &Index, lo: u64, n: u64) -> Vec<Entry> {
-    let mut entries = Vec::new(alloc);
-    for entry in index.page(lo, n) {
-        given(rt, entries.push(entry));
+fn pages(rt: &impl Abort, alloc: Global, index: &Index, examples: &[Example]) {
+    for &(lo, n, expected) in examples {
+        brings(rt, alloc, index.page(lo, n), expected);
     }
-    entries
 }
 
-// A page of so many entries from a key on brings these.
-fn pages(
-    rt: &impl Abort,
-    alloc: Global,
-    index: &Index,
-    (lo, n): (u64, u64),
-    expected: &[(u64, u64)],
-) {
-    let entries = paged(rt, alloc, index, lo, n);
-    are_entries(rt, &entries, expected);
-}
+const PAGES: [Example; 7] = [
+    (0, 1, &[(4, 40)]),
+    (0, 2, &[(4, 40), (5, 50)]),
+    (2, 3, &[(4, 40), (5, 50)]),
+    (4, 1, &[(4, 40)]),
+    (4, u64::MAX, &[(4, 40), (5, 50)]),
+    (0, 0, &[]),
+    (6, 1, &[]),
+];
 
 #[test]
 fn pages_cross_empty_leaves(rt: HostRuntime) {
-    let alloc = rt.alloc();
-    let index = two(&rt, alloc);
-    pages(&rt, alloc, &index, (0, 1), &[(4, 40)]);
-    pages(&rt, alloc, &index, (0, 2), &[(4, 40), (5, 50)]);
-    pages(&rt, alloc, &index, (2, 3), &[(4, 40), (5, 50)]);
-    pages(&rt, alloc, &index, (4, 1), &[(4, 40)]);
-    pages(&rt, alloc, &index, (4, u64::MAX), &[(4, 40), (5, 50)]);
-    pages(&rt, alloc, &index, (0, 0), &[]);
-    pages(&rt, alloc, &index, (6, 1), &[])
+    pages(&rt, rt.alloc(), &two(&rt, rt.alloc()), &PAGES);
 }
 
 // A page of so many entries from a key on brings so many, which are the first that a scan from there brings.
 fn pages_first(rt: &impl Abort, alloc: Global, index: &Index, (lo, n): (u64, u64), count: usize) {
-    let entries = paged(rt, alloc, index, lo, n);
-    let all = scanned(rt, alloc, index, lo, u64::MAX);
-    same_for(rt, &entries.len(), &count, &(lo, n));
-    let are_first = all.as_slice().starts_with(&entries);
-    same_for(rt, &are_first, &true, &(lo, n));
+    let entries = brought(rt, alloc, index.page(lo, n));
+    let all = brought(rt, alloc, index.scan(lo, u64::MAX));
+    assert!(rt; count <= all.len());
+    same_for(rt, &entries.as_slice(), &&all[..count], &(lo, n));
+}
+
+// Pages from a key on, of so many entries at most, and how many they bring.
+const FIRST_ENTRIES: [(u64, u64, usize); 7] = [
+    (2, 2, 2),
+    (3, 2, 2),
+    (1, 5, 5),
+    (1, 4, 4),
+    (5, 3, 1),
+    (1, 0, 0),
+    (9, 3, 0),
+];
+
+fn all_pages_first(rt: &impl Abort, alloc: Global, index: &Index) {
+    for &(lo, n, count) in &FIRST_ENTRIES {
+        pages_first(rt, alloc, index, (lo, n), count);
+    }
 }
 
 #[test]
 fn pages_are_the_first_entries(rt: HostRuntime) {
-    let alloc = rt.alloc();
-    let index = five(&rt, alloc);
-    pages_first(&rt, alloc, &index, (2, 2), 2);
-    pages_first(&rt, alloc, &index, (3, 2), 2);
-    pages_first(&rt, alloc, &index, (1, 5), 5);
-    pages_first(&rt, alloc, &index, (1, 4), 4);
-    pages_first(&rt, alloc, &index, (5, 3), 1);
-    pages_first(&rt, alloc, &index, (1, 0), 0);
-    pages_first(&rt, alloc, &index, (9, 3), 0)
+    all_pages_first(&rt, rt.alloc(), &five(&rt, rt.alloc()));
 }
+
+const WITH_GREATEST: [Example; 2] = [
+    (0, u64::MAX, &[(u64::MAX, 2)]),
+    (u64::MAX, u64::MAX, &[(u64::MAX, 2)]),
+];
 
 #[test]
 fn a_page_has_the_greatest_key(rt: HostRuntime) {
     let alloc = rt.alloc();
     let index = given(&rt, Index::new(alloc, 4));
     let rest = after(&rt, alloc, index.into_rest(), &[Op::Insert(u64::MAX, 2)]);
-    let index = Index::from_rest(rest);
-    pages(&rt, alloc, &index, (0, u64::MAX), &[(u64::MAX, 2)]);
-    pages(&rt, alloc, &index, (u64::MAX, u64::MAX), &[(u64::MAX, 2)])
+    pages(&rt, alloc, &Index::from_rest(rest), &WITH_GREATEST);
 }
 
 #[test]
 fn all_entries_are_given(rt: HostRuntime) {
     let index = five(&rt, rt.alloc());
     let entries = given(&rt, index.entries(rt.alloc()));
-    let scanned = scanned(&rt, rt.alloc(), &index, 0, u64::MAX);
     same(&rt, &entries.len(), &5);
+    let scanned = brought(&rt, rt.alloc(), index.scan(0, u64::MAX));
     same(&rt, &entries, &scanned);
 }
 
+const THREE_PAGES: [Sight; 3] = [Sight::Fan(4), Sight::Leftmost(&[1, 3]), Sight::Pages(3)];
+
 // Compares two trees of fan 4 with three pages, of which the last is the root: the prime blocks and the pages.
 fn compare(rt: &impl Abort, store: &Store, other: &Store) {
-    same(rt, &(store.fan(), other.fan()), &(4, 4));
+    is_seen(rt, store, &THREE_PAGES);
+    is_seen(rt, other, &THREE_PAGES);
     same(rt, store.prime(), other.prime());
-    has_leftmost(rt, store, &[1, 3]);
-    has_pages(rt, store, 3);
-    has_pages(rt, other, 3);
     for number in 1..4 {
         same(rt, page_at(rt, store, number), page_at(rt, other, number));
     }
@@ -228,29 +231,35 @@ fn a_copy_is_the_same(rt: HostRuntime) {
     copies_are_the_same(&rt, rt.alloc(), &two(&rt, rt.alloc()), TWO)
 }
 
-#[test]
-fn a_fan_is_from_4_to_32(rt: HostRuntime) {
-    for fan in [0, 3, 33, 255] {
-        let refused = Index::new(rt.alloc(), fan);
-        assert!(rt; matches!(refused, Err(IndexError::BadFan)), "at {fan}");
-    }
-    for fan in [4, 32] {
-        let index = given(&rt, Index::new(rt.alloc(), fan));
-        same(&rt, &index.rest().store().fan(), &fan);
-    }
+fn refuses_fan(rt: &impl Abort, alloc: Global, fan: u8) {
+    let refused = Index::new(alloc, fan).err();
+    same_for(rt, &refused, &Some(IndexError::BadFan), &fan);
 }
 
-// The code and the text of a refusal.
-fn is_told(rt: &impl Abort, alloc: Global, error: IndexError, code: u8, text: &str) {
-    same(rt, &error.code(), &code);
-    is_shown(rt, alloc, &error, text)
+fn takes_fan(rt: &impl Abort, alloc: Global, fan: u8) {
+    let index = given(rt, Index::new(alloc, fan));
+    same(rt, &index.rest().store().fan(), &fan);
 }
+
+#[test]
+fn a_fan_is_from_4_to_32(rt: HostRuntime) {
+    for &fan in &[0, 3, 33, 255] {
+        refuses_fan(&rt, rt.alloc(), fan);
+    }
+    takes_fan(&rt, rt.alloc(), 4);
+    takes_fan(&rt, rt.alloc(), 32);
+}
+
+const REFUSALS: [(IndexError, u8, &str); 2] = [
+    (IndexError::BadFan, 40, "bad fan"),
+    (IndexError::OutOfMemory, 41, "out of memory"),
+];
 
 #[test]
 fn refusals_have_numbers_and_texts(rt: HostRuntime) {
-    let alloc = rt.alloc();
-    is_told(&rt, alloc, IndexError::BadFan, 40, "bad fan");
-    is_told(&rt, alloc, IndexError::OutOfMemory, 41, "out of memory")
+    for &(refusal, code, text) in &REFUSALS {
+        is_told(&rt, rt.alloc(), &refusal, (refusal.code(), code), text);
+    }
 }
 
 #[test]

@@ -3,27 +3,12 @@ ghost use Rattle.std.specs.Prelude.{◌≡◌, ◌≤◌, None, [], ◌∷◌, l
 ghost use Rattle.blink_page.specs.declared.limits.TheConstants.{GREATEST_KEY};
 ghost use Rattle.blink_machine.specs.{fresh, at_state};
 
-use crate::fixtures::pages::{Bounds, has_bounds, has_entries, leaf_of};
+use crate::fixtures::pages::{Bounds, has_bounds, has_entries, is_alone, is_number, leaf_of};
 use crate::fixtures::same;
 use blink_batch::{Answer, Op};
-use blink_page::{GREATEST_KEY, MAX_PAGE, Page, Prime, Way};
+use blink_page::{GREATEST_KEY, Page, Prime, Way};
 use blink_steps::{Machine, Need, State};
 use std::process::Abort;
-
-// The only leaf of a tree of fan 4 with the keys 1 to 4, each with ten times the key: it is full.
-fn full_leaf(rt: &impl Abort) -> Page
-    ensures level { result.level ≡ 0 }
-    ensures floor { result.floor ≡ None }
-    ensures high { result.high ≡ GREATEST_KEY }
-    ensures at_most_fan { length result.entries ≤ 4 }
-{
-    let leaf = leaf_of(rt, &[1, 2, 3, 4]);
-    assert!(rt; leaf.level == 0);
-    assert!(rt; leaf.floor.is_none());
-    assert!(rt; leaf.high == GREATEST_KEY);
-    assert!(rt; leaf.items.len() <= 4);
-    leaf
-}
 
 // The insertion of 5 on its way, until it has the leaf's latch. The state is told whole, since which page may be shown to it
 // next is told by its state alone.
@@ -49,7 +34,8 @@ fn holds_leaf(rt: &impl Abort, prime: &Prime, leaf: &Page) -> Machine
 fn has_read_full_leaf(rt: &impl Abort, prime: &Prime) -> Machine
     requires { prime.now ≡ 1 ∷ [] }
 {
-    let leaf = full_leaf(rt);
+    let leaf = leaf_of(rt, &[1, 2, 3, 4]);
+    is_alone(rt, &leaf, 0, 4);
     let mut machine = holds_leaf(rt, prime, &leaf);
     same(rt, &machine.need(), &Need::ReadPage(1));
     machine.saw_page(&leaf);
@@ -66,7 +52,7 @@ fn reads_prime(rt: &impl Abort, machine: &mut Machine, prime: &Prime) {
 // Writes the new page that it wants to be written, at this number.
 fn writes_new(rt: &impl Abort, machine: &mut Machine, number: u32) -> Page {
     assert!(rt; matches!(machine.need(), Need::WriteNew));
-    assert!(rt; 1 <= number && number <= MAX_PAGE);
+    is_number(rt, number);
     let page = machine.page_out(number);
     machine.done(number);
     page
@@ -137,7 +123,8 @@ fn a_find_begins_at_the_root(rt: HostRuntime) {
 
 #[test]
 fn a_find_learns_where_to_go(rt: HostRuntime) {
-    let leaf = full_leaf(&rt);
+    let leaf = leaf_of(&rt, &[1, 2, 3, 4]);
+    is_alone(&rt, &leaf, 0, 4);
     let mut machine = Machine::new(Op::Find(3), 4);
     assert!(rt; machine.saw_prime(&Prime::new()));
     same(&rt, &machine.need(), &Need::ReadPage(1));

@@ -1,120 +1,193 @@
 //! Numbers and scripts.
-use crate::fixtures::{given, is_shown, same, same_for};
+use crate::fixtures::{given, is_told, same, same_for};
 use blink_batch::{Op, Part, RecordError, ScriptError, read_number, read_script};
 use std::alloc::Global;
 use std::io;
 use std::io::Read;
 use std::process::Abort;
 
-// The texts are the spellings of these numbers, or of none.
-fn spell(rt: &impl Abort, number: Option<u64>, texts: &[&[u8]]) {
-    for text in texts {
-        same_for(rt, &read_number(text), &number, text);
-    }
+// The texts are the spellings of this number, or of none.
+struct Spellings<'a> {
+    number: Option<u64>,
+    texts: &'a [&'a [u8]],
 }
+
+const SPELLINGS: [Spellings; 5] = [
+    Spellings {
+        number: Some(0),
+        texts: &[b"0"],
+    },
+    Spellings {
+        number: Some(7),
+        texts: &[b"7"],
+    },
+    Spellings {
+        number: Some(10),
+        texts: &[b"10"],
+    },
+    Spellings {
+        number: Some(u64::MAX),
+        texts: &[b"18446744073709551615"],
+    },
+    Spellings {
+        number: None,
+        texts: &[
+            b"18446744073709551616",
+            b"",
+            b"05",
+            b"00",
+            b"+5",
+            b" 5",
+            b"5x",
+            b"\xff",
+        ],
+    },
+];
 
 #[test]
 fn numbers_are_spelled_in_one_way(rt: HostRuntime) {
-    spell(&rt, Some(0), &[b"0"]);
-    spell(&rt, Some(7), &[b"7"]);
-    spell(&rt, Some(10), &[b"10"]);
-    spell(&rt, Some(u64::MAX), &[b"18446744073709551615"]);
-    spell(&rt, None, &[b"18446744073709551616", b"", b"05", b"00"]);
-    spell(&rt, None, &[b"+5", b" 5", b"5x", b"\xff"]);
+    for of in &SPELLINGS {
+        for &text in of.texts {
+            same_for(&rt, &read_number(text), &of.number, &text);
+        }
+    }
 }
 
 // What a part of a script is to be.
-#[derive(Debug, Drop)]
+#[derive(Clone, Copy, Debug, PartialEq)]
 enum Wanted<'a> {
     Batch(&'a [Op]),
     Scan(u64, u64),
     Page(u64, u64),
 }
 
-// Whether the part is as wanted.
-fn is_wanted(part: &Part, wanted: &Wanted) -> bool {
-    match (part, wanted) {
-        (Part::Batch(batch), Wanted::Batch(ops)) => batch.ops() == *ops,
-        (Part::Scan(lo, hi), Wanted::Scan(from, to)) => lo == from && hi == to,
-        (Part::Page(lo, n), Wanted::Page(from, count)) => lo == from && n == count,
-        _ => false,
+// What the part is.
+fn seen(part: &Part) -> Wanted<'_> {
+    match part {
+        Part::Batch(batch) => Wanted::Batch(batch.ops()),
+        Part::Scan(lo, hi) => Wanted::Scan(*lo, *hi),
+        Part::Page(lo, n) => Wanted::Page(*lo, *n),
     }
 }
 
 // The text is a script of these parts.
 fn reads_as(rt: &impl Abort, alloc: Global, text: &[u8], expected: &[Wanted]) {
     let script = given(rt, read_script(alloc, text));
-    same_for(rt, &script.parts.len(), &expected.len(), &text);
-    for (part, wanted) in script.parts.iter().zip(expected.iter()) {
-        same_for(rt, &is_wanted(part, wanted), &true, wanted);
+    are_parts(rt, &script.parts, expected);
+}
+
+// The parts are these.
+fn are_parts(rt: &impl Abort, parts: &[Part], expected: &[Wanted]) {
+    same(rt, &parts.len(), &expected.len());
+    for (part, wanted) in parts.iter().zip(expected.iter()) {
+        same(rt, &seen(part), wanted);
     }
 }
 
-// The texts are scripts of one batch, of these operations.
-fn read_alike(rt: &impl Abort, alloc: Global, texts: &[&str], ops: &[Op]) {
-    for text in texts {
-        reads_as(rt, alloc, text.as_bytes(), &[Wanted::Batch(ops)]);
+// A text and the parts that it has.
+struct Example<'a> {
+    text: &'a [u8],
+    parts: &'a [Wanted<'a>],
+}
+
+// Each text is a script of its parts.
+fn read_so(rt: &impl Abort, alloc: Global, examples: &[Example]) {
+    for example in examples {
+        reads_as(rt, alloc, example.text, example.parts);
     }
 }
+
+const INSERTED_AND_FOUND: &[Wanted] = &[Wanted::Batch(&[Op::Insert(5, 50), Op::Find(5)])];
+
+const RECORDS: [Example; 8] = [
+    Example {
+        text: b"insert,5,50\nfind,5,\n",
+        parts: INSERTED_AND_FOUND,
+    },
+    Example {
+        text: b"insert,5,50\nfind,5,",
+        parts: INSERTED_AND_FOUND,
+    },
+    Example {
+        text: b"insert,5,50\r\nfind,5,\r\n",
+        parts: INSERTED_AND_FOUND,
+    },
+    Example {
+        text: b"\"insert\",\"5\",\"50\"\n\n\"find\",\"5\",\"\"\n",
+        parts: INSERTED_AND_FOUND,
+    },
+    Example {
+        text: b"insert,18446744073709551615,0\n",
+        parts: &[Wanted::Batch(&[Op::Insert(u64::MAX, 0)])],
+    },
+    Example {
+        text: b"insert,7,1\ndelete,7,\n",
+        parts: &[Wanted::Batch(&[Op::Insert(7, 1), Op::Delete(7)])],
+    },
+    Example {
+        text: b"replace,7,2\nreplace,8,18446744073709551615",
+        parts: &[Wanted::Batch(&[Op::Replace(7, 2), Op::Replace(8, u64::MAX)])],
+    },
+    Example {
+        text: b"",
+        parts: &[],
+    },
+];
 
 #[test]
 fn scripts_are_read_record_by_record(rt: HostRuntime) {
-    let alloc = rt.alloc();
-    let texts = [
-        "insert,5,50\nfind,5,\n",
-        "insert,5,50\nfind,5,",
-        "insert,5,50\r\nfind,5,\r\n",
-        "\"insert\",\"5\",\"50\"\n\n\"find\",\"5\",\"\"\n",
-    ];
-    read_alike(&rt, alloc, &texts, &[Op::Insert(5, 50), Op::Find(5)]);
-    let greatest = "insert,18446744073709551615,0\n";
-    read_alike(&rt, alloc, &[greatest], &[Op::Insert(u64::MAX, 0)]);
-    let deleted = "insert,7,1\ndelete,7,\n";
-    read_alike(&rt, alloc, &[deleted], &[Op::Insert(7, 1), Op::Delete(7)]);
-    let replaced = "replace,7,2\nreplace,8,18446744073709551615";
-    let ops = [Op::Replace(7, 2), Op::Replace(8, u64::MAX)];
-    read_alike(&rt, alloc, &[replaced], &ops);
-    reads_as(&rt, alloc, b"", &[])
+    read_so(&rt, rt.alloc(), &RECORDS);
 }
+
+const SCANS: [Example; 2] = [
+    Example {
+        text: b"insert,5,50\nscan,9,1\nscan,0,9\ninsert,6,60\n",
+        parts: &[
+            Wanted::Batch(&[Op::Insert(5, 50)]),
+            Wanted::Scan(9, 1),
+            Wanted::Scan(0, 9),
+            Wanted::Batch(&[Op::Insert(6, 60)]),
+        ],
+    },
+    Example {
+        text: b"scan,0,18446744073709551615\nfind,7,\nfind,8,\nscan,5,5",
+        parts: &[
+            Wanted::Scan(0, u64::MAX),
+            Wanted::Batch(&[Op::Find(7), Op::Find(8)]),
+            Wanted::Scan(5, 5),
+        ],
+    },
+];
 
 #[test]
 fn scans_stand_between_batches(rt: HostRuntime) {
-    let text = b"insert,5,50\nscan,9,1\nscan,0,9\ninsert,6,60\n".as_slice();
-    let parts = [
-        Wanted::Batch(&[Op::Insert(5, 50)]),
-        Wanted::Scan(9, 1),
-        Wanted::Scan(0, 9),
-        Wanted::Batch(&[Op::Insert(6, 60)]),
-    ];
-    reads_as(&rt, rt.alloc(), text, &parts);
-    let text = b"scan,0,18446744073709551615\nfind,7,\nfind,8,\nscan,5,5".as_slice();
-    let parts = [
-        Wanted::Scan(0, u64::MAX),
-        Wanted::Batch(&[Op::Find(7), Op::Find(8)]),
-        Wanted::Scan(5, 5),
-    ];
-    reads_as(&rt, rt.alloc(), text, &parts)
+    read_so(&rt, rt.alloc(), &SCANS);
 }
+
+const PAGES: [Example; 2] = [
+    Example {
+        text: b"insert,5,50\npage,9,1\nscan,0,9\npage,0,0\ninsert,6,60\n",
+        parts: &[
+            Wanted::Batch(&[Op::Insert(5, 50)]),
+            Wanted::Page(9, 1),
+            Wanted::Scan(0, 9),
+            Wanted::Page(0, 0),
+            Wanted::Batch(&[Op::Insert(6, 60)]),
+        ],
+    },
+    Example {
+        text: b"page,18446744073709551615,18446744073709551615\nfind,7,\nfind,8,\n\"page\",5,5",
+        parts: &[
+            Wanted::Page(u64::MAX, u64::MAX),
+            Wanted::Batch(&[Op::Find(7), Op::Find(8)]),
+            Wanted::Page(5, 5),
+        ],
+    },
+];
 
 #[test]
 fn pages_stand_between_batches(rt: HostRuntime) {
-    let text = b"insert,5,50\npage,9,1\nscan,0,9\npage,0,0\ninsert,6,60\n".as_slice();
-    let parts = [
-        Wanted::Batch(&[Op::Insert(5, 50)]),
-        Wanted::Page(9, 1),
-        Wanted::Scan(0, 9),
-        Wanted::Page(0, 0),
-        Wanted::Batch(&[Op::Insert(6, 60)]),
-    ];
-    reads_as(&rt, rt.alloc(), text, &parts);
-    let text =
-        b"page,18446744073709551615,18446744073709551615\nfind,7,\nfind,8,\n\"page\",5,5".as_slice();
-    let parts = [
-        Wanted::Page(u64::MAX, u64::MAX),
-        Wanted::Batch(&[Op::Find(7), Op::Find(8)]),
-        Wanted::Page(5, 5),
-    ];
-    reads_as(&rt, rt.alloc(), text, &parts)
+    read_so(&rt, rt.alloc(), &PAGES);
 }
 
 // The text is refused.
@@ -125,80 +198,74 @@ fn refuses(rt: &impl Abort, alloc: Global, text: &[u8], refusal: ScriptError) {
 
 // Each text is refused for its first record.
 fn refuse_first_record(rt: &impl Abort, alloc: Global, error: RecordError, texts: &[&[u8]]) {
-    for text in texts {
+    for &text in texts {
         refuses(rt, alloc, text, ScriptError::Row(1, error));
     }
 }
 
+const BAD_SHAPES: [&[u8]; 13] = [
+    b"find,5,1",
+    b"find,x,1",
+    b"find,1,,",
+    b"delete,1,2",
+    b"delete,x,2",
+    b"delete,1",
+    b"replace,7",
+    b"replace,7,1,2",
+    b"put,1",
+    b"scan,1",
+    b"scan,1,2,3",
+    b"page,1",
+    b"page,1,2,3",
+];
+
 #[test]
 fn records_of_bad_shape_are_refused(rt: HostRuntime) {
-    let texts = [
-        b"find,5,1".as_slice(),
-        b"find,x,1",
-        b"find,1,,",
-        b"delete,1,2",
-        b"delete,x,2",
-        b"delete,1",
-        b"replace,7",
-        b"replace,7,1,2",
-        b"put,1",
-        b"scan,1",
-        b"scan,1,2,3",
-        b"page,1",
-        b"page,1,2,3",
-    ];
-    refuse_first_record(&rt, rt.alloc(), RecordError::BadShape, &texts);
+    refuse_first_record(&rt, rt.alloc(), RecordError::BadShape, &BAD_SHAPES);
 }
+
+const UNKNOWN: [&[u8]; 4] = [b"put,1,1", b"scans,1,2", b"replaced,7,1", b"pages,1,2"];
 
 #[test]
 fn unknown_operations_are_refused(rt: HostRuntime) {
-    let texts = [
-        b"put,1,1".as_slice(),
-        b"scans,1,2",
-        b"replaced,7,1",
-        b"pages,1,2",
-    ];
-    refuse_first_record(&rt, rt.alloc(), RecordError::UnknownOperation, &texts);
+    refuse_first_record(&rt, rt.alloc(), RecordError::UnknownOperation, &UNKNOWN);
 }
+
+const BAD_NUMBERS: [&[u8]; 15] = [
+    b"insert,05,1",
+    b"insert,18446744073709551616,1",
+    b"insert,1,x",
+    b"find,\xff,",
+    b"delete,x,",
+    b"replace,07,1",
+    b"replace,7,18446744073709551616",
+    b"replace,7,",
+    b"replace,x,y",
+    b"scan,05,1",
+    b"scan,1,",
+    b"scan,x,y",
+    b"page,1,01",
+    b"page,05,1",
+    b"page,1,",
+];
 
 #[test]
 fn bad_numbers_are_refused(rt: HostRuntime) {
-    let texts = [
-        b"insert,05,1".as_slice(),
-        b"insert,18446744073709551616,1",
-        b"insert,1,x",
-        b"find,\xff,",
-        b"delete,x,",
-        b"replace,07,1",
-        b"replace,7,18446744073709551616",
-        b"replace,7,",
-        b"replace,x,y",
-    ];
-    refuse_first_record(&rt, rt.alloc(), RecordError::BadNumber, &texts);
-    let texts = [
-        b"scan,05,1".as_slice(),
-        b"scan,1,",
-        b"scan,x,y",
-        b"page,1,01",
-        b"page,05,1",
-        b"page,1,",
-    ];
-    refuse_first_record(&rt, rt.alloc(), RecordError::BadNumber, &texts);
+    refuse_first_record(&rt, rt.alloc(), RecordError::BadNumber, &BAD_NUMBERS);
 }
+
+const SECOND_UNKNOWN: &[u8] = b"find,1,\nput,1,1\nfind,5";
+
+const TENTH_BAD: &[u8] =
+    b"find,1,\nscan,0,9\nfind,2,\nfind,3,\nscan,4,4\nscan,5,5\nfind,6,\nfind,7,\nfind,8,\nscan,9,x";
 
 #[test]
 fn the_first_refusal_is_the_answer(rt: HostRuntime) {
     let alloc = rt.alloc();
     let unknown = ScriptError::Row(2, RecordError::UnknownOperation);
-    refuses(&rt, alloc, b"find,1,\nput,1,1\nfind,5", unknown);
-    let text =
-        b"find,1,\nscan,0,9\nfind,2,\nfind,3,\nscan,4,4\nscan,5,5\nfind,6,\nfind,7,\nfind,8,\nscan,9,x";
-    refuses(
-        &rt,
-        alloc,
-        text,
-        ScriptError::Row(10, RecordError::BadNumber),
-    );
+    refuses(&rt, alloc, SECOND_UNKNOWN, unknown);
+    let bad_number = ScriptError::Row(10, RecordError::BadNumber);
+    refuses(&rt, alloc, TENTH_BAD, bad_number);
 }
 
 // So many records of one find, and then a last one.
@@ -219,8 +286,7 @@ fn push_finds(rt: &impl Abort, text: &mut String, finds: usize, find: &str) {
 // So many finds and then a last record are refused.
 fn refuses_long(rt: &impl Abort, alloc: Global, finds: usize, last: &str, refusal: ScriptError) {
     let text = long_script(rt, alloc, finds, last);
-    let refused = read_script(alloc, text.as_bytes()).err();
-    same_for(rt, &refused, &Some(refusal), &last);
+    refuses(rt, alloc, text.as_bytes(), refusal);
 }
 
 #[test]
@@ -267,32 +333,37 @@ fn a_page_makes_room_for_another_batch(rt: HostRuntime) {
     reads_as(&rt, alloc, text.as_bytes(), &parts)
 }
 
-// The code and the text of a refusal.
-fn is_told(rt: &impl Abort, alloc: Global, error: ScriptError, code: u8, text: &str) {
-    same(rt, &error.code(), &code);
-    is_shown(rt, alloc, &error, text)
-}
+const REFUSALS: [(ScriptError, u8, &str); 7] = [
+    (
+        ScriptError::Row(5, RecordError::BadShape),
+        10,
+        "row 5: bad shape",
+    ),
+    (
+        ScriptError::Row(5, RecordError::UnknownOperation),
+        11,
+        "row 5: unknown operation",
+    ),
+    (
+        ScriptError::Row(5, RecordError::BadNumber),
+        12,
+        "row 5: bad number",
+    ),
+    (ScriptError::Csv(5), 13, "row 5: unreadable record"),
+    (
+        ScriptError::TooMany(8193),
+        14,
+        "row 8193: too many operations",
+    ),
+    (ScriptError::Read, 15, "read failed"),
+    (ScriptError::OutOfMemory, 16, "out of memory"),
+];
 
 #[test]
 fn refusals_have_their_codes_and_texts(rt: HostRuntime) {
-    let alloc = rt.alloc();
-    let shape = ScriptError::Row(5, RecordError::BadShape);
-    let unknown = ScriptError::Row(5, RecordError::UnknownOperation);
-    let number = ScriptError::Row(5, RecordError::BadNumber);
-    let many = ScriptError::TooMany(8193);
-    is_told(&rt, alloc, shape, 10, "row 5: bad shape");
-    is_told(&rt, alloc, unknown, 11, "row 5: unknown operation");
-    is_told(&rt, alloc, number, 12, "row 5: bad number");
-    is_told(
-        &rt,
-        alloc,
-        ScriptError::Csv(5),
-        13,
-        "row 5: unreadable record",
-    );
-    is_told(&rt, alloc, many, 14, "row 8193: too many operations");
-    is_told(&rt, alloc, ScriptError::Read, 15, "read failed");
-    is_told(&rt, alloc, ScriptError::OutOfMemory, 16, "out of memory");
+    for &(refusal, code, text) in &REFUSALS {
+        is_told(&rt, rt.alloc(), &refusal, (refusal.code(), code), text);
+    }
     same(&rt, &RecordError::BadNumber.code(), &12);
 }
 

@@ -1,81 +1,90 @@
 //! Stores and latches.
-use crate::fixtures::pages::{halves, leaf_of};
 use crate::fixtures::stores::{
-    add_as, empty_store, has_leftmost, has_pages, name_root, page_at, page_has_entries, write_over,
-    write_over_from,
+    Change, Sample, Sight, Stage, empty_store, is_seen, page_at, store_of,
 };
-use crate::fixtures::{given, is_shown, same};
+use crate::fixtures::{given, is_told, same};
 use blink_page::{MAX_PAGE, Page};
 use blink_store::{Latches, Store, StoreError};
 use std::alloc::Global;
 use std::process::Abort;
 
-// Page `number` of the store is this one.
-fn is_page(rt: &impl Abort, store: &Store, number: u32, page: &Page) {
-    same(rt, page_at(rt, store, number), page);
-}
+const NEW: [Sight; 4] = [
+    Sight::Fan(4),
+    Sight::Pages(1),
+    Sight::Leftmost(&[1]),
+    Sight::Page(1, Sample::Leaf(&[])),
+];
 
 #[test]
 fn a_new_store_has_an_empty_leaf(rt: HostRuntime) {
-    let store = empty_store(&rt, rt.alloc(), 4);
-    same(&rt, &store.fan(), &4);
-    has_pages(&rt, &store, 1);
-    has_leftmost(&rt, &store, &[1]);
-    is_page(&rt, &store, 1, &Page::leaf());
+    is_seen(&rt, &empty_store(&rt, rt.alloc(), 4), &NEW);
 }
+
+const WRITTEN_IN_TWO: [Stage; 3] = [
+    Stage {
+        changes: &[Change::Add(Sample::Upper, 2)],
+        sights: &[
+            Sight::Page(2, Sample::Upper),
+            Sight::Page(1, Sample::Leaf(&[])),
+        ],
+    },
+    Stage {
+        changes: &[Change::Write(1, Sample::Lower)],
+        sights: &[Sight::Page(1, Sample::Lower), Sight::Page(2, Sample::Upper)],
+    },
+    Stage {
+        changes: &[Change::Add(Sample::Root(1, 2), 3), Change::NameRoot(3)],
+        sights: &[Sight::Leftmost(&[1, 3]), Sight::Pages(3)],
+    },
+];
 
 #[test]
 fn a_split_page_is_written_in_two(rt: HostRuntime) {
-    let mut store = empty_store(&rt, rt.alloc(), 4);
-    let page = leaf_of(&rt, &[1, 2, 3, 4]);
-    let (lower, upper, _separator) = halves(&rt, &page, 4, (5, 50), 2);
-    add_as(&rt, &mut store, upper.copy(), 2);
-    is_page(&rt, &store, 2, &upper);
-    is_page(&rt, &store, 1, &Page::leaf());
-
-    write_over(&rt, &mut store, 1, lower.copy());
-    is_page(&rt, &store, 1, &lower);
-    is_page(&rt, &store, 2, &upper);
-
-    add_as(&rt, &mut store, Page::root(1, 3, 1, 2), 3);
-    name_root(&rt, &mut store, 3);
-    has_leftmost(&rt, &store, &[1, 3]);
-    has_pages(&rt, &store, 3);
+    store_of(&rt, rt.alloc(), 4, &WRITTEN_IN_TWO);
 }
+
+const WRITTEN_FROM_ANOTHER: [Stage; 1] = [Stage {
+    changes: &[
+        Change::Add(Sample::Upper, 2),
+        Change::Write(1, Sample::Leaf(&[1, 2, 3, 4])),
+        Change::WriteFrom(1, Sample::Lower),
+    ],
+    sights: &[
+        Sight::Page(1, Sample::Lower),
+        Sight::Page(2, Sample::Upper),
+        Sight::Entries(1, &[(1, 10), (2, 20), (3, 30)]),
+        Sight::Pages(2),
+    ],
+}];
 
 #[test]
 fn a_page_is_written_from_another(rt: HostRuntime) {
-    let mut store = empty_store(&rt, rt.alloc(), 4);
-    let page = leaf_of(&rt, &[1, 2, 3, 4]);
-    let (lower, upper, _separator) = halves(&rt, &page, 4, (5, 50), 2);
-    add_as(&rt, &mut store, upper.copy(), 2);
-    write_over(&rt, &mut store, 1, page);
-    write_over_from(&rt, &mut store, 1, &lower);
-    is_page(&rt, &store, 1, &lower);
-    is_page(&rt, &store, 2, &upper);
-    page_has_entries(&rt, &store, 1, &[(1, 10), (2, 20), (3, 30)]);
-    has_pages(&rt, &store, 2);
+    store_of(&rt, rt.alloc(), 4, &WRITTEN_FROM_ANOTHER);
 }
 
-// A store of fan 5 with three pages.
-fn three_pages(rt: &impl Abort, alloc: Global) -> Store {
-    let mut store = empty_store(rt, alloc, 5);
-    add_as(rt, &mut store, Page::leaf(), 2);
-    add_as(rt, &mut store, Page::root(1, 3, 1, 2), 3);
-    name_root(rt, &mut store, 3);
-    store
+const THREE_PAGES: [Stage; 1] = [Stage {
+    changes: &[
+        Change::Add(Sample::Leaf(&[]), 2),
+        Change::Add(Sample::Root(1, 2), 3),
+        Change::NameRoot(3),
+    ],
+    sights: &[],
+}];
+
+// The two are the same store of fan 5 with three pages.
+fn have_three_pages(rt: &impl Abort, copy: &Store, store: &Store) {
+    is_same(rt, copy, store, true);
+    is_seen(rt, copy, &[Sight::Fan(5), Sight::Pages(3)]);
+    same(rt, copy.prime(), store.prime());
+    for number in 1..4 {
+        same(rt, page_at(rt, copy, number), page_at(rt, store, number));
+    }
 }
 
 #[test]
 fn a_copy_has_the_same_pages(rt: HostRuntime) {
-    let store = three_pages(&rt, rt.alloc());
-    let copy = given(&rt, store.copy(rt.alloc()));
-    assert!(rt; copy.is_same(&store));
-    same(&rt, &(copy.fan(), copy.pages()), &(5, 3));
-    same(&rt, copy.prime(), store.prime());
-    for number in 1..4 {
-        is_page(&rt, &copy, number, page_at(&rt, &store, number));
-    }
+    let store = store_of(&rt, rt.alloc(), 5, &THREE_PAGES);
+    have_three_pages(&rt, &given(&rt, store.copy(rt.alloc())), &store);
 }
 
 // Whether the two are the same store.
@@ -83,22 +92,45 @@ fn is_same(rt: &impl Abort, store: &Store, other: &Store, expected: bool) {
     same(rt, &store.is_same(other), &expected);
 }
 
+const WITH_ROOT: [Stage; 1] = [Stage {
+    changes: &[Change::NameRoot(1)],
+    sights: &[],
+}];
+
+const WITHOUT_ROOT: [Stage; 1] = [Stage {
+    changes: &[Change::NameRoot(1), Change::ResetPrime],
+    sights: &[],
+}];
+
+const LEAF_ADDED: [Stage; 1] = [Stage {
+    changes: &[Change::Add(Sample::Leaf(&[]), 2)],
+    sights: &[],
+}];
+
+const INNER_PAGE_ADDED: [Stage; 1] = [Stage {
+    changes: &[Change::Add(Sample::Root(1, 2), 2)],
+    sights: &[],
+}];
+
+// Whether a store that goes through these stages is the same as this one.
+fn is_one_of(rt: &impl Abort, alloc: Global, store: &Store, stages: &[Stage], expected: bool) {
+    let other = store_of(rt, alloc, 4, stages);
+    is_same(rt, store, &other, expected);
+}
+
 #[test]
 fn stores_that_differ_are_told_apart(rt: HostRuntime) {
-    let mut store = empty_store(&rt, rt.alloc(), 4);
-    is_same(&rt, &store, &empty_store(&rt, rt.alloc(), 5), false);
-
-    let mut other = given(&rt, store.copy(rt.alloc()));
-    name_root(&rt, &mut other, 1);
-    is_same(&rt, &store, &other, false);
-    other.set_prime(store.prime().copy());
-    is_same(&rt, &store, &other, true);
-
-    add_as(&rt, &mut store, Page::leaf(), 2);
-    is_same(&rt, &store, &other, false);
-    add_as(&rt, &mut other, Page::root(1, 3, 1, 2), 2);
-    is_same(&rt, &store, &other, false);
+    let alloc = rt.alloc();
+    let store = empty_store(&rt, alloc, 4);
+    is_same(&rt, &store, &empty_store(&rt, alloc, 5), false);
+    is_one_of(&rt, alloc, &store, &WITH_ROOT, false);
+    is_one_of(&rt, alloc, &store, &WITHOUT_ROOT, true);
+    let larger = store_of(&rt, alloc, 4, &LEAF_ADDED);
+    is_same(&rt, &larger, &store, false);
+    is_one_of(&rt, alloc, &larger, &INNER_PAGE_ADDED, false);
 }
+
+const ALL_PAGES: [Sight; 1] = [Sight::Pages(MAX_PAGE)];
 
 #[test]
 fn the_numbers_run_out(rt: HostRuntime) {
@@ -107,9 +139,9 @@ fn the_numbers_run_out(rt: HostRuntime) {
         let page = store.add(Page::leaf());
         assert!(rt; page.is_ok());
     }
-    has_pages(&rt, &store, MAX_PAGE);
+    is_seen(&rt, &store, &ALL_PAGES);
     same(&rt, &store.add(Page::leaf()), &Err(StoreError::OutOfPages));
-    has_pages(&rt, &store, MAX_PAGE);
+    is_seen(&rt, &store, &ALL_PAGES);
 }
 
 #[test]
@@ -128,15 +160,14 @@ fn a_latch_has_one_holder(rt: HostRuntime) {
     same(&rt, &latches.holder(1_048_575), &Some(63));
 }
 
-// The code and the text of a refusal.
-fn is_told(rt: &impl Abort, alloc: Global, error: StoreError, code: u8, text: &str) {
-    same(rt, &error.code(), &code);
-    is_shown(rt, alloc, &error, text)
-}
+const REFUSALS: [(StoreError, u8, &str); 2] = [
+    (StoreError::OutOfMemory, 20, "out of memory"),
+    (StoreError::OutOfPages, 21, "out of pages"),
+];
 
 #[test]
 fn refusals_have_numbers_and_texts(rt: HostRuntime) {
-    let alloc = rt.alloc();
-    is_told(&rt, alloc, StoreError::OutOfMemory, 20, "out of memory");
-    is_told(&rt, alloc, StoreError::OutOfPages, 21, "out of pages")
+    for &(refusal, code, text) in &REFUSALS {
+        is_told(&rt, rt.alloc(), &refusal, (refusal.code(), code), text);
+    }
 }

@@ -1,4 +1,5 @@
 //! Worlds and their steps. Their trees have at most 4 entries a page, where no other number is told.
+mod examples;
 mod one_leaf;
 mod picks;
 mod schedules;

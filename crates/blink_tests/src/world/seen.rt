@@ -1,38 +1,39 @@
 //! What is to be seen of a world between two turns.
-use crate::fixtures::stores::has_pages;
-use crate::fixtures::worlds::{full_leaf, world_of};
-use crate::fixtures::{given, same};
+use crate::fixtures::worlds::Work;
+use crate::fixtures::{given, same, stores};
+use crate::world::examples::{Act, Example, Sight, Tree, goes, work_of, world_after};
 use blink_batch::Op;
 use blink_steps::{Debt, Job, Kind, State, Step, Working, World};
-use std::alloc::Global;
 use std::process::Abort;
 
-// The world of three workers of which worker 0 has written the new page of a split of page 1: the keys 1 to 3 are to stay, and 4
-// and 5 are there.
-fn half_split(rt: &impl Abort, alloc: Global) -> World {
-    let ops = [Op::Insert(5, 50), Op::Find(1)];
-    let leaf = full_leaf(rt, alloc);
-    world_of(rt, alloc, leaf, &ops, 3, &[0, 1], &[0, 0, 0, 0, 0])
-}
+// Of three workers worker 0 has written the new page of a split of page 1: the keys 1 to 3 are to stay, and 4 and 5 are there.
+const HALF_SPLIT: Example = Example {
+    tree: Tree::FullLeaf,
+    work: Work {
+        ops: &[Op::Insert(5, 50), Op::Find(1)],
+        workers: 3,
+        lanes: &[0, 1],
+    },
+    schedule: &[0, 0, 0, 0, 0],
+    acts: &[
+        Act::See(Sight::Workers(3)),
+        Act::Store(&[stores::Sight::Pages(2)]),
+        Act::See(Sight::Holder(1, Some(0))),
+        Act::See(Sight::Holder(2, None)),
+    ],
+};
 
 #[test]
 fn the_latch_of_a_split_page_is_seen(rt: HostRuntime) {
-    let world = half_split(&rt, rt.alloc());
-    has_pages(&rt, world.store(), 2);
-    same(&rt, &world.latches().holder(1), &Some(0));
-    same(&rt, &world.latches().holder(2), &None);
+    goes(&rt, rt.alloc(), &HALF_SPLIT);
 }
 
 // The worker has no operation under way.
 fn is_without_work(rt: &impl Abort, world: &World, worker: u8) {
     assert!(rt; worker < world.workers());
-    assert!(rt; world.working(worker).is_none());
-}
-
-// What the worker has under way.
-fn work_of<'a>(rt: &impl Abort, world: &'a World, worker: u8) -> &'a Working {
-    assert!(rt; worker < world.workers());
-    world.working(worker).expect(rt, "the worker is idle")
+    if let Some(_working) = world.working(worker) {
+        panic!(rt; "the worker has an operation under way");
+    }
 }
 
 // Whether page 1 is to be written next, by an operation that owes this.
@@ -55,22 +56,18 @@ fn is_half_split(rt: &impl Abort, working: &Working) {
 
 #[test]
 fn a_split_is_seen_half_finished(rt: HostRuntime) {
-    let world = half_split(&rt, rt.alloc());
-    same(&rt, &world.workers(), &3);
+    let world = world_after(&rt, rt.alloc(), &HALF_SPLIT);
     is_without_work(&rt, &world, 1);
     is_half_split(&rt, work_of(&rt, &world, 0));
 }
 
 #[test]
 fn a_split_goes_on(rt: HostRuntime) {
-    let mut world = half_split(&rt, rt.alloc());
+    let mut world = world_after(&rt, rt.alloc(), &HALF_SPLIT);
     let Some(worker) = world.pick() else {
         panic!(rt; "nobody is picked");
     };
     same(&rt, &worker, &0);
-    same(
-        &rt,
-        &given(&rt, world.advance(worker)),
-        &Step::Moved(Kind::WritePage(1)),
-    );
+    let step = given(&rt, world.advance(worker));
+    same(&rt, &step, &Step::Moved(Kind::WritePage(1)));
 }

@@ -1,231 +1,259 @@
 //! Examples in which pages split and roots grow.
-use crate::fixtures::pages::{Bounds, has_bounds};
-use crate::fixtures::stores::{has_leftmost, has_pages, page_at, page_has_entries};
-use crate::fixtures::worlds::{
-    full_leaf, has_answers, has_moved, has_order, has_schedule, is_at_end, keys_to, takes,
-    tree_after, turns_to, world_of,
-};
-use crate::fixtures::{same, same_for};
+use crate::fixtures::same_for;
+use crate::fixtures::stores::{Sight, is_seen, page_at};
+use crate::fixtures::worlds::{Work, keys_to};
+use crate::world::examples::{Act, Example, Sight as Seen, Tree, goes, leaves};
 use blink_batch::{Answer, Op};
 use blink_page::GREATEST_KEY;
-use blink_rest::Rest;
 use blink_steps::Kind::{Latch, ReadPage, ReadPrime, Unlatch, WritePage, WritePrime};
-use blink_steps::{Step, World};
+use blink_steps::{Kind, Step};
 use blink_store::Store;
 use std::alloc::Global;
 use std::process::Abort;
 
+const ONE_INSERTION: Example = Example {
+    tree: Tree::FullLeaf,
+    work: Work {
+        ops: &[Op::Insert(5, 50)],
+        workers: 1,
+        lanes: &[0],
+    },
+    schedule: &[],
+    acts: &[
+        Act::Store(&[Sight::Pages(1)]),
+        Act::Take(
+            0,
+            &[
+                ReadPrime,
+                ReadPage(1),
+                Latch(1),
+                ReadPage(1),
+                WritePage(2),
+                WritePage(1),
+                ReadPrime,
+                WritePage(3),
+                WritePrime,
+                Unlatch(1),
+            ],
+        ),
+    ],
+};
+
 // The full leaf with 5 inserted: its halves are pages 1 and 2, and their root is page 3.
-fn has_halves(rt: &impl Abort, rest: &Rest) {
-    let store = rest.store();
-    has_pages(rt, store, 3);
-    has_leftmost(rt, store, &[1, 3]);
-    page_has_entries(rt, store, 1, &[(1, 10), (2, 20), (3, 30)]);
-    let left: Bounds = (None, 3, Some(2));
-    has_bounds(rt, page_at(rt, store, 1), 0, left);
-    page_has_entries(rt, store, 2, &[(4, 40), (5, 50)]);
-    let right: Bounds = (Some(3), GREATEST_KEY, None);
-    has_bounds(rt, page_at(rt, store, 2), 0, right);
-    page_has_entries(rt, store, 3, &[(3, 1), (GREATEST_KEY, 2)]);
-}
+const HALVES: [Sight; 7] = [
+    Sight::Pages(3),
+    Sight::Leftmost(&[1, 3]),
+    Sight::Entries(1, &[(1, 10), (2, 20), (3, 30)]),
+    Sight::Bounds(1, 0, (None, 3, Some(2))),
+    Sight::Entries(2, &[(4, 40), (5, 50)]),
+    Sight::Bounds(2, 0, (Some(3), GREATEST_KEY, None)),
+    Sight::Entries(3, &[(3, 1), (GREATEST_KEY, 2)]),
+];
 
 #[test]
 fn a_full_leaf_splits_and_the_root_grows(rt: HostRuntime) {
-    let rest = full_leaf(&rt, rt.alloc());
-    has_pages(&rt, rest.store(), 1);
-    let mut world = world_of(&rt, rt.alloc(), rest, &[Op::Insert(5, 50)], 1, &[0], &[]);
-    let steps = [
-        ReadPrime,
-        ReadPage(1),
-        Latch(1),
-        ReadPage(1),
-        WritePage(2),
-        WritePage(1),
-        ReadPrime,
-        WritePage(3),
-        WritePrime,
-        Unlatch(1),
-    ];
-    takes(&rt, &mut world, 0, &steps);
-    has_halves(&rt, &tree_after(&rt, world));
+    leaves(&rt, rt.alloc(), &ONE_INSERTION, &HALVES);
 }
 
+// Worker 0 has an insertion that splits the full leaf, and worker 1 a find.
+const PASSING: Work = Work {
+    ops: &[Op::Insert(5, 50), Op::Find(4)],
+    workers: 2,
+    lanes: &[0, 1],
+};
+
+// Worker 0 splits the full leaf, and writes both halves.
+const SPLIT_OF_LEAF: [Kind; 6] = [
+    ReadPrime,
+    ReadPage(1),
+    Latch(1),
+    ReadPage(1),
+    WritePage(2),
+    WritePage(1),
+];
+
+// The turns up to the find's answer.
+const HALF_SPLIT: [u8; 9] = [1, 0, 0, 0, 0, 0, 0, 1, 1];
+
 // The find of 4 has answered by page 2, and the insertion of 5 has decided and not ended.
-fn has_passed_the_split(rt: &impl Abort, world: &World) {
-    let answers = [Some(Answer::Inserted), Some(Answer::Found(40))];
-    has_answers(rt, world, &answers);
-    has_order(rt, world, &[0, 1]);
-    assert!(rt; world.answers().len() == 2);
-    same(rt, &world.reads_of(1), &2);
-    assert!(rt; world.workers() == 2);
-    same(rt, &(world.is_idle(0), world.is_idle(1)), &(false, true));
-    is_at_end(rt, world, false);
-}
+const ANSWERS: [Option<Answer>; 2] = [Some(Answer::Inserted), Some(Answer::Found(40))];
+
+const PASSED_STEP_BY_STEP: Example = Example {
+    tree: Tree::FullLeaf,
+    work: PASSING,
+    schedule: &[],
+    acts: &[
+        Act::Take(1, &[ReadPrime]),
+        Act::Take(0, &SPLIT_OF_LEAF),
+        Act::Store(&[Sight::High(1, 3)]),
+        Act::Take(1, &[ReadPage(1), ReadPage(2)]),
+        Act::See(Seen::Schedule(&HALF_SPLIT)),
+        Act::See(Seen::Answers(&ANSWERS)),
+        Act::See(Seen::Order(&[0, 1])),
+        Act::See(Seen::Read(1, 2)),
+        Act::See(Seen::Workers(2)),
+        Act::See(Seen::Worker(0, false, false)),
+        Act::See(Seen::Worker(1, false, true)),
+        Act::See(Seen::Ended(false)),
+    ],
+};
 
 #[test]
 fn a_find_passes_a_half_finished_split(rt: HostRuntime) {
-    let ops = [Op::Insert(5, 50), Op::Find(4)];
-    let rest = full_leaf(&rt, rt.alloc());
-    let mut world = world_of(&rt, rt.alloc(), rest, &ops, 2, &[0, 1], &[]);
-    takes(&rt, &mut world, 1, &[ReadPrime]);
-    splits_leaf(&rt, &mut world);
-    same(&rt, &page_at(&rt, world.store(), 1).high, &3);
-    takes(&rt, &mut world, 1, &[ReadPage(1), ReadPage(2)]);
-    has_schedule(&rt, &world, &HALF_SPLIT);
-    has_passed_the_split(&rt, &world);
+    goes(&rt, rt.alloc(), &PASSED_STEP_BY_STEP);
 }
 
-// The same turns as a schedule.
-const HALF_SPLIT: [u8; 9] = [1, 0, 0, 0, 0, 0, 0, 1, 1];
+const PASSED_BY_SCHEDULE: Example = Example {
+    tree: Tree::FullLeaf,
+    work: PASSING,
+    schedule: &HALF_SPLIT,
+    acts: &[
+        Act::See(Seen::Schedule(&HALF_SPLIT)),
+        Act::See(Seen::Answers(&ANSWERS)),
+        Act::See(Seen::Order(&[0, 1])),
+        Act::See(Seen::Read(1, 2)),
+        Act::See(Seen::Workers(2)),
+        Act::See(Seen::Worker(0, false, false)),
+        Act::See(Seen::Worker(1, false, true)),
+        Act::See(Seen::Ended(false)),
+    ],
+};
 
 #[test]
 fn a_schedule_passes_a_half_finished_split(rt: HostRuntime) {
-    let ops = [Op::Insert(5, 50), Op::Find(4)];
-    let rest = full_leaf(&rt, rt.alloc());
-    let world = world_of(&rt, rt.alloc(), rest, &ops, 2, &[0, 1], &HALF_SPLIT);
-    has_schedule(&rt, &world, &HALF_SPLIT);
-    has_passed_the_split(&rt, &world);
-}
-
-// Two workers over the full leaf: worker 0 has the insertion of 5, worker 1 those of 6, 7 and 8.
-fn four_insertions(rt: &impl Abort, alloc: Global) -> World {
-    let ops = [
-        Op::Insert(5, 50),
-        Op::Insert(6, 60),
-        Op::Insert(7, 70),
-        Op::Insert(8, 80),
-    ];
-    world_of(rt, alloc, full_leaf(rt, alloc), &ops, 2, &[0, 1, 1, 1], &[])
-}
-
-// Worker 0 splits the full leaf, and writes both halves.
-fn splits_leaf(rt: &impl Abort, world: &mut World) {
-    let to_old_page = [
-        ReadPrime,
-        ReadPage(1),
-        Latch(1),
-        ReadPage(1),
-        WritePage(2),
-        WritePage(1),
-    ];
-    takes(rt, world, 0, &to_old_page);
+    goes(&rt, rt.alloc(), &PASSED_BY_SCHEDULE);
 }
 
 // Worker 1 inserts into the right half.
-fn inserts_into_second(rt: &impl Abort, world: &mut World) {
-    let into_second = [
-        ReadPrime,
-        ReadPage(1),
-        ReadPage(2),
-        Latch(2),
-        ReadPage(2),
-        WritePage(2),
-        Unlatch(2),
-    ];
-    takes(rt, world, 1, &into_second);
-}
+const INTO_SECOND: [Kind; 7] = [
+    ReadPrime,
+    ReadPage(1),
+    ReadPage(2),
+    Latch(2),
+    ReadPage(2),
+    WritePage(2),
+    Unlatch(2),
+];
 
 // Worker 1 splits the right half.
-fn splits_second(rt: &impl Abort, world: &mut World) {
-    let split_of_second = [
-        ReadPrime,
-        ReadPage(1),
-        ReadPage(2),
-        Latch(2),
-        ReadPage(2),
-        WritePage(3),
-        WritePage(2),
-        ReadPrime,
-        Unlatch(2),
-    ];
-    takes(rt, world, 1, &split_of_second);
-}
-
-// Worker 0 makes a root over the halves of its split. The later split isn't posted to it yet.
-fn grows_a_root(rt: &impl Abort, world: &mut World) {
-    let growth = [ReadPrime, WritePage(4), WritePrime, Unlatch(1)];
-    takes(rt, world, 0, &growth);
-    page_has_entries(rt, world.store(), 4, &[(3, 1), (GREATEST_KEY, 2)]);
-}
-
-// The tree in which both splits are posted.
-fn has_both_postings(rt: &impl Abort, rest: &Rest) {
-    let store = rest.store();
-    has_pages(rt, store, 4);
-    page_has_entries(rt, store, 2, &[(4, 40), (5, 50), (6, 60)]);
-    page_has_entries(rt, store, 3, &[(7, 70), (8, 80)]);
-    let root = [(3, 1), (6, 2), (GREATEST_KEY, 3)];
-    page_has_entries(rt, store, 4, &root);
-}
+const SPLIT_OF_SECOND: [Kind; 9] = [
+    ReadPrime,
+    ReadPage(1),
+    ReadPage(2),
+    Latch(2),
+    ReadPage(2),
+    WritePage(3),
+    WritePage(2),
+    ReadPrime,
+    Unlatch(2),
+];
 
 // Worker 0 splits the full leaf; worker 1 splits its right half, and is ready to post it before there is a root.
+const OVERTAKING: Example = Example {
+    tree: Tree::FullLeaf,
+    work: Work {
+        ops: &[
+            Op::Insert(5, 50),
+            Op::Insert(6, 60),
+            Op::Insert(7, 70),
+            Op::Insert(8, 80),
+        ],
+        workers: 2,
+        lanes: &[0, 1, 1, 1],
+    },
+    schedule: &[],
+    acts: &[
+        Act::Take(0, &SPLIT_OF_LEAF),
+        Act::Take(1, &INTO_SECOND),
+        Act::Take(1, &INTO_SECOND),
+        Act::Take(1, &SPLIT_OF_SECOND),
+        Act::Store(&[
+            Sight::Entries(2, &[(4, 40), (5, 50), (6, 60)]),
+            Sight::Entries(3, &[(7, 70), (8, 80)]),
+        ]),
+        Act::Turn(1, Ok(Step::Waited)),
+        Act::See(Seen::Picked(Some(0))),
+        // Worker 0 makes a root over the halves of its split. The later split isn't posted to it yet.
+        Act::Take(0, &[ReadPrime, WritePage(4), WritePrime, Unlatch(1)]),
+        Act::Store(&[Sight::Entries(4, &[(3, 1), (GREATEST_KEY, 2)])]),
+        Act::Take(
+            1,
+            &[ReadPrime, Latch(4), ReadPage(4), WritePage(4), Unlatch(4)],
+        ),
+        Act::See(Seen::Schedule(&[
+            0, 0, 0, 0, 0, 0, 1, 1, 1, 1, 1, 1, 1, 1, 1, 1, 1, 1, 1, 1, 1, 1, 1, 1, 1, 1, 1, 1, 1,
+            1, 0, 0, 0, 0, 1, 1, 1, 1, 1,
+        ])),
+        Act::See(Seen::Picked(None)),
+        Act::See(Seen::Order(&[0, 1, 2, 3])),
+        Act::See(Seen::MovedAt(3, 14)),
+    ],
+};
+
+// The tree in which both splits are posted.
+const BOTH_POSTED: [Sight; 4] = [
+    Sight::Pages(4),
+    Sight::Entries(2, &[(4, 40), (5, 50), (6, 60)]),
+    Sight::Entries(3, &[(7, 70), (8, 80)]),
+    Sight::Entries(4, &[(3, 1), (6, 2), (GREATEST_KEY, 3)]),
+];
+
 #[test]
 fn postings_overtake_each_other(rt: HostRuntime) {
-    let mut world = four_insertions(&rt, rt.alloc());
-    splits_leaf(&rt, &mut world);
-    inserts_into_second(&rt, &mut world);
-    inserts_into_second(&rt, &mut world);
-    splits_second(&rt, &mut world);
-    page_has_entries(&rt, world.store(), 2, &[(4, 40), (5, 50), (6, 60)]);
-    page_has_entries(&rt, world.store(), 3, &[(7, 70), (8, 80)]);
-    turns_to(&rt, &mut world, 1, Step::Waited);
-    same(&rt, &world.pick(), &Some(0));
-    grows_a_root(&rt, &mut world);
-    let posting = [ReadPrime, Latch(4), ReadPage(4), WritePage(4), Unlatch(4)];
-    takes(&rt, &mut world, 1, &posting);
-    same(&rt, &world.schedule().len(), &39);
-    same(&rt, &world.pick(), &None);
-    has_order(&rt, &world, &[0, 1, 2, 3]);
-    has_moved(&rt, &world, 3, 14);
-    has_both_postings(&rt, &tree_after(&rt, world));
+    leaves(&rt, rt.alloc(), &OVERTAKING, &BOTH_POSTED);
 }
 
-// The tree of the keys 1 to 13, whose root, page 3, is full.
-fn full_root(rt: &impl Abort, alloc: Global) -> Rest {
-    let rest = keys_to(rt, alloc, 4, 13);
-    has_pages(rt, rest.store(), 5);
-    let root = [(3, 1), (6, 2), (9, 4), (GREATEST_KEY, 5)];
-    page_has_entries(rt, rest.store(), 3, &root);
-    rest
-}
+// The root of the tree, page 3, is full, and splits.
+const SPLIT_OF_ROOT: Example = Example {
+    tree: Tree::KeysTo(13),
+    work: Work {
+        ops: &[Op::Insert(14, 14)],
+        workers: 1,
+        lanes: &[0],
+    },
+    schedule: &[],
+    acts: &[
+        Act::Store(&[
+            Sight::Pages(5),
+            Sight::Entries(3, &[(3, 1), (6, 2), (9, 4), (GREATEST_KEY, 5)]),
+        ]),
+        Act::Take(
+            0,
+            &[
+                ReadPrime,
+                ReadPage(3),
+                ReadPage(5),
+                Latch(5),
+                ReadPage(5),
+                WritePage(6),
+                WritePage(5),
+                ReadPrime,
+                Unlatch(5),
+                Latch(3),
+                ReadPage(3),
+                WritePage(7),
+                WritePage(3),
+                ReadPrime,
+                WritePage(8),
+                WritePrime,
+                Unlatch(3),
+            ],
+        ),
+    ],
+};
 
-// The tree with 14 inserted, by which the root split.
-fn has_split_root(rt: &impl Abort, rest: &Rest) {
-    let store = rest.store();
-    has_pages(rt, store, 8);
-    page_has_entries(rt, store, 3, &[(3, 1), (6, 2), (9, 4)]);
-    let left: Bounds = (None, 9, Some(7));
-    has_bounds(rt, page_at(rt, store, 3), 1, left);
-    page_has_entries(rt, store, 7, &[(12, 5), (GREATEST_KEY, 6)]);
-    page_has_entries(rt, store, 8, &[(9, 3), (GREATEST_KEY, 7)]);
-    has_leftmost(rt, store, &[1, 3, 8]);
-}
+const ROOT_IN_HALVES: [Sight; 6] = [
+    Sight::Pages(8),
+    Sight::Entries(3, &[(3, 1), (6, 2), (9, 4)]),
+    Sight::Bounds(3, 1, (None, 9, Some(7))),
+    Sight::Entries(7, &[(12, 5), (GREATEST_KEY, 6)]),
+    Sight::Entries(8, &[(9, 3), (GREATEST_KEY, 7)]),
+    Sight::Leftmost(&[1, 3, 8]),
+];
 
 #[test]
 fn an_inner_page_splits(rt: HostRuntime) {
-    let rest = full_root(&rt, rt.alloc());
-    let mut world = world_of(&rt, rt.alloc(), rest, &[Op::Insert(14, 14)], 1, &[0], &[]);
-    let steps = [
-        ReadPrime,
-        ReadPage(3),
-        ReadPage(5),
-        Latch(5),
-        ReadPage(5),
-        WritePage(6),
-        WritePage(5),
-        ReadPrime,
-        Unlatch(5),
-        Latch(3),
-        ReadPage(3),
-        WritePage(7),
-        WritePage(3),
-        ReadPrime,
-        WritePage(8),
-        WritePrime,
-        Unlatch(3),
-    ];
-    takes(&rt, &mut world, 0, &steps);
-    has_split_root(&rt, &tree_after(&rt, world));
+    leaves(&rt, rt.alloc(), &SPLIT_OF_ROOT, &ROOT_IN_HALVES);
 }
 
 // Page `number` has the keys from `first` to `last`.
@@ -238,27 +266,55 @@ fn has_keys(rt: &impl Abort, store: &Store, number: u32, (first, last): (u64, u6
     same_for(rt, &key, &last.saturating_add(1), &number);
 }
 
-// A tree of this fan with one key more than fit a leaf: the keys up to the separator are in its left leaf, and the others in its
-// right one.
-fn splits_at(rt: &impl Abort, alloc: Global, fan: u8, separator: u64) {
-    let greatest = u64::from(fan) + 1;
-    let rest = keys_to(rt, alloc, fan, greatest);
-    let store = rest.store();
-    has_pages(rt, store, 3);
-    has_leftmost(rt, store, &[1, 3]);
-    has_keys(rt, store, 1, (1, separator));
-    has_keys(rt, store, 2, (separator.saturating_add(1), greatest));
-    let (left, right) = (page_at(rt, store, 1), page_at(rt, store, 2));
-    same(rt, &(left.high, right.floor), &(separator, Some(separator)));
-    page_has_entries(rt, store, 3, &[(separator, 1), (GREATEST_KEY, 2)]);
+// A fan, the keys of a tree with one key more than fit a leaf, and what is to be seen of its pages.
+struct Parts<'a> {
+    fan: u8,
+    greatest: u64,
+    separator: u64,
+    sights: &'a [Sight<'a>],
 }
+
+// The keys up to the separator are in the left leaf, and the others in the right one.
+fn splits_at(rt: &impl Abort, alloc: Global, parts: &Parts) {
+    let rest = keys_to(rt, alloc, parts.fan, parts.greatest);
+    is_seen(rt, rest.store(), parts.sights);
+    has_keys(rt, rest.store(), 1, (1, parts.separator));
+    let second = (parts.separator.saturating_add(1), parts.greatest);
+    has_keys(rt, rest.store(), 2, second);
+}
+
+const OF_GREATEST_FAN: Parts = Parts {
+    fan: 32,
+    greatest: 33,
+    separator: 17,
+    sights: &[
+        Sight::Pages(3),
+        Sight::Leftmost(&[1, 3]),
+        Sight::High(1, 17),
+        Sight::Floor(2, Some(17)),
+        Sight::Entries(3, &[(17, 1), (GREATEST_KEY, 2)]),
+    ],
+};
 
 #[test]
 fn the_greatest_fan_splits_into_seventeen_and_sixteen(rt: HostRuntime) {
-    splits_at(&rt, rt.alloc(), 32, 17)
+    splits_at(&rt, rt.alloc(), &OF_GREATEST_FAN)
 }
+
+const OF_SIXTEEN: Parts = Parts {
+    fan: 16,
+    greatest: 17,
+    separator: 9,
+    sights: &[
+        Sight::Pages(3),
+        Sight::Leftmost(&[1, 3]),
+        Sight::High(1, 9),
+        Sight::Floor(2, Some(9)),
+        Sight::Entries(3, &[(9, 1), (GREATEST_KEY, 2)]),
+    ],
+};
 
 #[test]
 fn a_fan_of_sixteen_splits_into_nine_and_eight(rt: HostRuntime) {
-    splits_at(&rt, rt.alloc(), 16, 9)
+    splits_at(&rt, rt.alloc(), &OF_SIXTEEN)
 }
