@@ -1,110 +1,137 @@
 //! Runs the table's tutorial. The first glance of its two threads may come before or after the insertion.
-ghost use Rattle.std.specs.Prelude.{◌≡◌, []};
-ghost use Rattle.blink_index.specs.{map_of};
-ghost use Rattle.blink_live.specs.{IsKeeperOf, opening_of, seen_by};
+ghost use Rattle.std.specs.Prelude.{◌≡◌, [], Contains, None};
+ghost use Rattle.blink_batch.specs.{pointer_of};
+ghost use Rattle.blink_live.specs.{IsKeeperOf, IsPassOf, keys_of, seen_by, share_of};
 
 use crate::indexes::filled;
+use crate::same::{given, same};
+use crate::shared::opened;
 use blink_batch::Answer;
 use blink_client::{
     deal_key, find_what_was_left, glance_at_nobodys_key, insert_and_show, insert_and_show_on,
     two_threads,
 };
 use blink_index::Index;
-use blink_live::{Keeper, Live, LiveError};
-use blink_rows::Allowance;
+use blink_live::{Keeper, Live, LiveError, Pass};
+use std::alloc::Global;
 use std::process::Abort;
+use std::sync::Wait;
+use std::thread::Threads;
+
+fn run_two<R: Threads + Wait + Abort + Sync>(rt: &R, alloc: Global, index: &Index) {
+    let shown = given(rt, two_threads(rt, alloc, index, 5, 51));
+    let glances = shown.expect(rt, "not inserted");
+    same(rt, &glances.told, &Some(51));
+    assert!(rt; matches!(glances.meanwhile, None | Some(51)), "{glances:?}");
+}
 
 #[test]
 fn two_threads_show_an_entry(rt: HostRuntime) {
-    let index = filled(&rt, rt.alloc(), 4);
+    let index = filled(&rt, rt.alloc(), 0, 4);
     for _ in 0..8 {
-        let shown = two_threads(&rt, rt.alloc(), &index, 5, 51).expect(&rt, "not run");
-        let glances = shown.expect(&rt, "not inserted");
-        assert_eq!(rt; glances.told, Some(51));
-        assert!(rt; matches!(glances.meanwhile, None | Some(51)), "{glances:?}");
+        run_two(&rt, rt.alloc(), &index);
     }
-    assert_eq!(rt; two_threads(&rt, rt.alloc(), &index, 4, 51), Ok(None));
+    same(&rt, &two_threads(&rt, rt.alloc(), &index, 4, 51), &Ok(None));
 }
 
-// A table over the index, with an allowance of one insertion.
-fn opened<R: AllocGlobal + Abort>(rt: &R, index: &Index) -> (Live, Keeper)
-    ensures its_own { IsKeeperOf result.0 result.1 }
-    ensures opening { opening_of result.0 ≡ map_of index.now }
-    ensures none_back { seen_by result.1 ≡ [] }
+// A table of the keys 1 to 4, and a pass with key 5 and an insertion.
+#[derive(Drop)]
+struct NewKey {
+    live: Live,
+    keeper: Keeper,
+    one: Pass,
+}
+
+fn with_new_key(rt: &impl Abort, alloc: Global) -> NewKey
+    ensures its_keeper { IsKeeperOf result.live result.keeper }
+    ensures none_back { seen_by result.keeper ≡ [] }
+    ensures its_own { IsPassOf result.live result.one }
+    ensures own_key { Contains (keys_of result.one) 5 }
+    ensures new_key { pointer_of (share_of result.one) 5 ≡ None }
 {
-    let allowance = Allowance {
-        inserts: 1,
-        deletes: 0,
-    };
-    Live::open(rt.alloc(), index, allowance).expect(rt, "no table")
+    let index = filled(rt, alloc, 0, 4);
+    assert!(rt; index.find(5).is_none(), "the key is there");
+    let (live, mut keeper) = opened(rt, alloc, &index, (1, 0));
+    let one = deal_key(alloc, &live, &mut keeper, 5, 1).expect(rt, "no pass");
+    NewKey { live, keeper, one }
+}
+
+// A pass without keys.
+fn without_keys(rt: &impl Abort, alloc: Global, live: &Live, keeper: &mut Keeper) -> Pass
+    requires its_keeper { IsKeeperOf live.now keeper.old }
+    requires none_back { seen_by keeper.old ≡ [] }
+    ensures pass { IsPassOf live.now result }
+    ensures its_keeper { IsKeeperOf live.now keeper.new }
+    ensures none_back { seen_by keeper.new ≡ [] }
+{
+    live.deal(keeper, Vec::new(alloc), 0, 0)
+        .expect(rt, "no pass")
 }
 
 #[test]
 fn insert_and_show_returns_the_entry(rt: HostRuntime) {
-    let alloc = rt.alloc();
-    let index = filled(&rt, alloc, 4);
-    if index.find(5).is_some() {
-        panic!(rt; "the key is there");
-    }
-    let (live, mut keeper) = opened(&rt, &index);
-    let mut one = deal_key(alloc, &live, &mut keeper, 5, 1).expect(&rt, "no pass");
-    let mut other = live
-        .deal(&mut keeper, Vec::new(alloc), 0, 0)
-        .expect(&rt, "no pass");
+    let NewKey {
+        live,
+        mut keeper,
+        mut one,
+    } = with_new_key(&rt, rt.alloc());
+    let mut other = without_keys(&rt, rt.alloc(), &live, &mut keeper);
     let shown = insert_and_show(&rt, &live, &mut one, &mut other, 5, 50);
-    assert_eq!(rt; shown, Some(Some(50)));
+    same(&rt, &shown, &Some(Some(50)));
 }
 
 #[test]
 fn insert_and_show_on_returns_the_entry(rt: HostRuntime) {
-    let alloc = rt.alloc();
-    let index = filled(&rt, alloc, 4);
-    if index.find(5).is_some() {
-        panic!(rt; "the key is there");
-    }
-    let (live, mut keeper) = opened(&rt, &index);
-    let mut one = deal_key(alloc, &live, &mut keeper, 5, 1).expect(&rt, "no pass");
-    let mut other = live
-        .deal(&mut keeper, Vec::new(alloc), 0, 0)
-        .expect(&rt, "no pass");
-    let mut third = live
-        .deal(&mut keeper, Vec::new(alloc), 0, 0)
-        .expect(&rt, "no pass");
+    let NewKey {
+        live,
+        mut keeper,
+        mut one,
+    } = with_new_key(&rt, rt.alloc());
+    let mut other = without_keys(&rt, rt.alloc(), &live, &mut keeper);
+    let mut third = without_keys(&rt, rt.alloc(), &live, &mut keeper);
     let shown = insert_and_show_on(&rt, &live, &mut one, &mut other, &mut third, 5, 50);
-    assert_eq!(rt; shown, Some(Some(50)));
+    same(&rt, &shown, &Some(Some(50)));
+}
+
+fn glance(
+    rt: &impl Abort,
+    alloc: Global,
+    live: &Live,
+    keeper: &mut Keeper,
+    pass: &mut Pass,
+    key: u64,
+    expected: Result<Option<u64>, LiveError>,
+)
+    requires its_keeper { IsKeeperOf live.now keeper.old }
+    requires none_back { seen_by keeper.old ≡ [] }
+    requires its_pass { IsPassOf live.now pass.old }
+    ensures its_keeper { IsKeeperOf live.now keeper.new }
+    ensures none_back { seen_by keeper.new ≡ [] }
+    ensures its_pass { IsPassOf live.now pass.new }
+{
+    let given = glance_at_nobodys_key(alloc, live, keeper, pass, key);
+    same(rt, &given, &expected);
 }
 
 // Key 3 has its opening entry, and key 6 has none. A key that is dealt already is refused.
 #[test]
 fn glance_at_nobodys_key_returns_the_opening_state(rt: HostRuntime) {
     let alloc = rt.alloc();
-    let (live, mut keeper) = opened(&rt, &filled(&rt, alloc, 4));
-    let mut pass = live
-        .deal(&mut keeper, Vec::new(alloc), 0, 0)
-        .expect(&rt, "no pass");
-    assert_eq!(rt;
-        glance_at_nobodys_key(alloc, &live, &mut keeper, &mut pass, 3),
-        Ok(Some(30))
-    );
-    assert_eq!(rt;
-        glance_at_nobodys_key(alloc, &live, &mut keeper, &mut pass, 6),
-        Ok(None)
-    );
-    assert_eq!(rt;
-        glance_at_nobodys_key(alloc, &live, &mut keeper, &mut pass, 3),
-        Err(LiveError::Taken(3))
-    );
+    let (live, mut keeper) = opened(&rt, alloc, &filled(&rt, alloc, 0, 4), (1, 0));
+    let mut pass = without_keys(&rt, alloc, &live, &mut keeper);
+    glance(&rt, alloc, &live, &mut keeper, &mut pass, 3, Ok(Some(30)));
+    glance(&rt, alloc, &live, &mut keeper, &mut pass, 6, Ok(None));
+    let taken = Err(LiveError::Taken(3));
+    glance(&rt, alloc, &live, &mut keeper, &mut pass, 3, taken);
 }
 
 #[test]
 fn find_what_was_left_finds_the_entry(rt: HostRuntime) {
-    let alloc = rt.alloc();
-    let index = filled(&rt, alloc, 4);
-    if index.find(5).is_some() {
-        panic!(rt; "the key is there");
-    }
-    let (live, mut keeper) = opened(&rt, &index);
-    let one = deal_key(alloc, &live, &mut keeper, 5, 1).expect(&rt, "no pass");
-    let found = find_what_was_left(&rt, alloc, &live, &mut keeper, one, 5, 50);
-    assert_eq!(rt; found, Ok(Some(Answer::Found(50))));
+    let NewKey {
+        live,
+        mut keeper,
+        one,
+    } = with_new_key(&rt, rt.alloc());
+    let found = find_what_was_left(&rt, rt.alloc(), &live, &mut keeper, one, 5, 50);
+    same(&rt, &found, &Ok(Some(Answer::Found(50))));
 }

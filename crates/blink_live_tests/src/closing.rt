@@ -1,6 +1,6 @@
 //! Tables that close.
-use crate::indexes::assert_dump;
-use crate::shared::Shared;
+use crate::indexes::Look::Dump;
+use crate::story::{End, Story, play};
 
 // The tree of fourteen keys with its pages numbered level by level.
 pub(crate) const FOURTEEN: &str = "\
@@ -14,9 +14,14 @@ pub(crate) const FOURTEEN: &str = "\
 0 5 12 18446744073709551615 - 13:130 14:140
 ";
 
+const UNCHANGED: Story = Story {
+    over: (0, 14),
+    room: (0, 0),
+    acts: &[],
+    end: End::Closes(&[Dump(FOURTEEN)]),
+};
+
 #[test]
 fn pages_are_numbered_anew(rt: HostRuntime) {
-    let table = Shared::filled(&rt, rt.alloc(), 14, 0, 0);
-    let closed = table.close(&rt);
-    assert_dump(&rt, rt.alloc(), &closed, FOURTEEN);
+    play(&rt, rt.alloc(), &UNCHANGED);
 }

@@ -1,122 +1,116 @@
 //! Looks at any key, and what passes tell each other.
 ghost use Rattle.blink_live.specs.{IsPassOf};
 
-use crate::indexes::after;
+use crate::same::same_for;
+use crate::shared::Meeting::{Hears, Tells};
 use crate::shared::Shared;
 use crate::steps::Step::{self, Call, Glance};
-use crate::steps::every;
+use crate::steps::look;
+use crate::story::Act::{Deal, LoseFirst, Meet, RefuseDeal, Take};
+use crate::story::{End, Story, play};
+use crate::walks::every;
+use crate::works::Work;
 use blink_batch::{Answer, Op};
 use blink_live::{Live, LiveError, Pass, PassError};
 use std::process::Abort;
-use std::sync::Wait;
-use std::thread::{self, Threads};
 
-const NOT_ITS_OWN: [Step; 1] = [Call(Op::Find(5), Err(PassError::NotYours))];
-
-const FIVE_INSERTED: [Step; 1] = [Call(Op::Insert(5, 50), Ok(Answer::Inserted))];
+const TOLD: Story = Story {
+    over: (0, 0),
+    room: (2, 0),
+    acts: &[
+        Deal(&[5], 1, 0),
+        Deal(&[6], 1, 0),
+        RefuseDeal(&[7, 5], 0, 0, LiveError::Taken(5)),
+        Take(1, &[Call(Op::Find(5), Err(PassError::NotYours))]),
+        Take(0, &[Call(Op::Insert(5, 50), Ok(Answer::Inserted))]),
+        Meet(0, Tells),
+        Take(1, &[Glance(5, Some(50))]),
+        LoseFirst,
+    ],
+    end: End::Refused(LiveError::Missing),
+};
 
 #[test]
 fn tell_hands_over_what_was_seen(rt: HostRuntime) {
-    let mut table = Shared::new(&rt, rt.alloc(), 2, 0);
-    table.deal(&rt, &[5], 1, 0);
-    table.deal(&rt, &[6], 1, 0);
-    table.refuse_deal(&rt, &[7, 5], 0, 0, LiveError::Taken(5));
-    table.take(&rt, 1, &NOT_ITS_OWN);
-    table.take(&rt, 0, &FIVE_INSERTED);
-    table.tell_last(&rt, 0);
-    table.take(&rt, 1, &[Glance(5, Some(50))]);
-    table.lose_first(&rt);
-    table.refuse_close(&rt, LiveError::Missing);
+    play(&rt, rt.alloc(), &TOLD);
 }
-
-// Key 5 is inserted, deleted, and inserted with another pointer.
-const FIVE_CHANGED: [Step; 4] = [
-    Call(Op::Insert(5, 50), Ok(Answer::Inserted)),
-    Call(Op::Delete(5), Ok(Answer::Removed(50))),
-    Glance(5, None),
-    Call(Op::Insert(5, 51), Ok(Answer::Inserted)),
-];
 
 // Nobody has the keys 7 and 8.
 const WHAT_IS_KEPT: [Step; 3] = [Glance(5, Some(51)), Glance(7, Some(70)), Glance(8, None)];
 
+const TOLD_ON: Story = Story {
+    over: (6, 7),
+    room: (2, 1),
+    acts: &[
+        // Of the passes the second is told last, and tells the third.
+        Deal(&[5], 2, 1),
+        Deal(&[], 0, 0),
+        Deal(&[6], 0, 0),
+        // Key 5 is inserted, deleted, and inserted with another pointer.
+        Take(
+            0,
+            &[
+                Call(Op::Insert(5, 50), Ok(Answer::Inserted)),
+                Call(Op::Delete(5), Ok(Answer::Removed(50))),
+                Glance(5, None),
+                Call(Op::Insert(5, 51), Ok(Answer::Inserted)),
+            ],
+        ),
+        Meet(0, Tells),
+        Take(2, &WHAT_IS_KEPT),
+        Meet(1, Hears),
+        Take(1, &WHAT_IS_KEPT),
+        Take(0, &WHAT_IS_KEPT),
+    ],
+    end: End::StaysOpen,
+};
+
 #[test]
 fn tell_is_transitive(rt: HostRuntime) {
-    let index = after(&rt, rt.alloc(), &[Op::Insert(7, 70)]);
-    let mut table = Shared::open(&rt, rt.alloc(), &index, 2, 1);
-    let (first, third, second) = (0, 1, 2);
-    table.deal(&rt, &[5], 2, 1);
-    table.deal(&rt, &[], 0, 0);
-    table.deal(&rt, &[6], 0, 0);
-    table.take(&rt, first, &FIVE_CHANGED);
-    table.tell_last(&rt, first);
-    table.take(&rt, second, &WHAT_IS_KEPT);
-    table.hear_last(&rt, third);
-    table.take(&rt, third, &WHAT_IS_KEPT);
-    table.take(&rt, first, &WHAT_IS_KEPT);
+    play(&rt, rt.alloc(), &TOLD_ON);
 }
+
+const NOT_TOLD: Story = Story {
+    over: (0, 0),
+    room: (1, 0),
+    acts: &[
+        Deal(&[5], 1, 0),
+        Deal(&[], 0, 0),
+        Take(1, &[Glance(5, None)]),
+        Take(0, &[Call(Op::Insert(5, 50), Ok(Answer::Inserted))]),
+        Take(1, &[Glance(5, Some(50))]),
+    ],
+    end: End::StaysOpen,
+};
 
 #[test]
 fn a_glance_sees_without_being_told(rt: HostRuntime) {
-    let mut table = Shared::new(&rt, rt.alloc(), 1, 0);
-    table.deal(&rt, &[5], 1, 0);
-    table.deal(&rt, &[], 0, 0);
-    table.take(&rt, 1, &[Glance(5, None)]);
-    table.take(&rt, 0, &FIVE_INSERTED);
-    table.take(&rt, 1, &[Glance(5, Some(50))]);
-}
-
-// Inserts the keys 0 to 255 upwards, each with itself.
-fn insert_upwards<R: Wait + Abort>(rt: &R, live: &Live, pass: &mut Pass)
-    requires { IsPassOf live.now pass.old }
-    ensures { IsPassOf live.now pass.new }
-{
-    for key in 0..256 {
-        assert!(rt; live.insert(rt, pass, key, key) == Ok(Answer::Inserted));
-    }
+    play(&rt, rt.alloc(), &NOT_TOLD);
 }
 
 // Glances the keys 255 to 0 downwards, four times: once a key was there, all below it are, and so each time.
-fn glance_downwards<R: Abort>(rt: &R, live: &Live, pass: &mut Pass)
+pub(crate) fn glance_downwards(rt: &impl Abort, live: &Live, pass: &mut Pass)
     requires { IsPassOf live.now pass.old }
     ensures { IsPassOf live.now pass.new }
 {
-    let mut greatest = None;
+    // The keys below this one are there.
+    let mut there = 0;
     for _ in 0..4 {
         for key in (0..256).rev() {
-            let seen = live.glance(pass, key);
-            if seen.is_some() && greatest < Some(key) {
-                greatest = Some(key);
+            let seen = look(live, pass, key);
+            if seen.is_some() && there <= key {
+                there = key.wrapping_add(1);
             }
-            let there = Some(key) <= greatest;
-            assert!(rt; seen == if there { Some(key) } else { None }, "key {key}");
+            let expected = if key < there { Some(key) } else { None };
+            same_for(rt, &seen, &expected, &key);
         }
-    }
-}
-
-impl Shared {
-    // The first pass inserts, in a thread of its own, and each other one glances.
-    fn insert_and_glance<R: Threads + Wait + Abort + Sync>(&mut self, rt: &R) {
-        let live = &self.live;
-        let one = |place: usize, pass: &mut Pass|
-            requires { IsPassOf live.now pass.now }
-            ensures { IsPassOf live.entry.now pass.exit.now }
-        {
-            if place == 0 {
-                insert_upwards(rt, live, pass);
-            } else {
-                glance_downwards(rt, live, pass);
-            }
-        };
-        thread::for_each_mut(rt, &mut self.passes, 2, &one);
     }
 }
 
 #[test]
 fn a_reader_never_unsees(rt: HostRuntime) {
-    let mut table = Shared::new(&rt, rt.alloc(), 256, 0);
-    let keys = every(rt.alloc(), 1, 0, 256).expect(&rt, "no keys");
-    table.deal(&rt, &keys, 256, 0);
-    table.deal(&rt, &[], 0, 0);
-    table.insert_and_glance(&rt);
+    let mut table = Shared::open(&rt, rt.alloc(), (0, 0), (256, 0));
+    table.deal_walk(&rt, &every(1, 0, 256), 256, 0);
+    table.deal(&rt, &[], 0, 0, Ok(()));
+    table.run(&rt, Work::InsertOrGlance);
 }

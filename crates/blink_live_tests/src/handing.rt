@@ -1,42 +1,60 @@
 //! Keys that change hands between passes.
-use crate::indexes::assert_finds;
+ghost use Rattle.blink_live.specs.{IsPassOf};
+
+use crate::indexes::Look::Finds;
+use crate::same::same;
+use crate::shared::Meeting::{Gets, Hands};
 use crate::shared::Shared;
 use crate::steps::Step::{self, Call, Glance, GlanceBetween};
+use crate::steps::take;
+use crate::story::Act::{Deal, Meet, Take};
+use crate::story::{End, Story, play};
+use crate::walks::key_at;
+use crate::works::{Work, call};
 use blink_batch::{Answer, Op};
-use blink_live::{HandError, PassError};
+use blink_live::{HandError, Live, Pass, PassError};
 use std::process::Abort;
+use std::sync::Wait;
 
 // The table begins with the keys 1 to 3, each with ten times the key.
-const FIRST: [Step; 2] = [
-    Call(Op::Insert(4, 44), Ok(Answer::Inserted)),
-    Call(Op::Delete(2), Ok(Answer::Removed(20))),
-];
-
-const LEFT: [Step; 3] = [
-    Call(Op::Replace(4, 45), Err(PassError::NotYours)),
-    Call(Op::Find(3), Ok(Answer::Found(30))),
-    Glance(4, Some(44)),
-];
-
-const TAKEN: [Step; 4] = [
-    Call(Op::Find(2), Ok(Answer::Absent)),
-    Call(Op::Replace(4, 46), Ok(Answer::Replaced(44))),
-    Call(Op::Find(1), Ok(Answer::Found(10))),
-    Call(Op::Find(3), Err(PassError::NotYours)),
-];
+const HANDED: Story = Story {
+    over: (0, 3),
+    room: (2, 3),
+    acts: &[
+        Deal(&[4, 2, 3], 1, 1),
+        Deal(&[1], 0, 1),
+        Take(
+            0,
+            &[
+                Call(Op::Insert(4, 44), Ok(Answer::Inserted)),
+                Call(Op::Delete(2), Ok(Answer::Removed(20))),
+            ],
+        ),
+        Meet(0, Hands(&[4, 2], Ok(()))),
+        Take(
+            0,
+            &[
+                Call(Op::Replace(4, 45), Err(PassError::NotYours)),
+                Call(Op::Find(3), Ok(Answer::Found(30))),
+                Glance(4, Some(44)),
+            ],
+        ),
+        Take(
+            1,
+            &[
+                Call(Op::Find(2), Ok(Answer::Absent)),
+                Call(Op::Replace(4, 46), Ok(Answer::Replaced(44))),
+                Call(Op::Find(1), Ok(Answer::Found(10))),
+                Call(Op::Find(3), Err(PassError::NotYours)),
+            ],
+        ),
+    ],
+    end: End::Closes(&[Finds(&[(1, Some(10)), (2, None), (3, Some(30)), (4, Some(46))])]),
+};
 
 #[test]
 fn keys_change_hands_with_what_they_map_to(rt: HostRuntime) {
-    let mut table = Shared::filled(&rt, rt.alloc(), 3, 2, 3);
-    table.deal(&rt, &[4, 2, 3], 1, 1);
-    table.deal(&rt, &[1], 0, 1);
-    table.take(&rt, 0, &FIRST);
-    table.hand_last(&rt, 0, &[4, 2], Ok(()));
-    table.take(&rt, 0, &LEFT);
-    table.take(&rt, 1, &TAKEN);
-    let closed = table.close(&rt);
-    let left = [(1, Some(10)), (2, None), (3, Some(30)), (4, Some(46))];
-    assert_finds(&rt, &closed, &left);
+    play(&rt, rt.alloc(), &HANDED);
 }
 
 const STILL_ITS_OWN: [Step; 2] = [
@@ -44,22 +62,30 @@ const STILL_ITS_OWN: [Step; 2] = [
     Call(Op::Find(2), Ok(Answer::Found(20))),
 ];
 
+const REFUSED: Story = Story {
+    over: (0, 3),
+    room: (0, 0),
+    acts: &[
+        Deal(&[1, 2], 0, 0),
+        Deal(&[3], 0, 0),
+        Meet(0, Hands(&[1, 3, 9], Err(HandError::NotYours(3)))),
+        Meet(0, Hands(&[2, 1, 2], Err(HandError::NotYours(2)))),
+        Take(0, &STILL_ITS_OWN),
+        Meet(0, Hands(&[], Ok(()))),
+        Take(0, &STILL_ITS_OWN),
+    ],
+    end: End::StaysOpen,
+};
+
 #[test]
 fn a_refused_list_moves_no_key(rt: HostRuntime) {
-    let mut table = Shared::filled(&rt, rt.alloc(), 3, 0, 0);
-    table.deal(&rt, &[1, 2], 0, 0);
-    table.deal(&rt, &[3], 0, 0);
-    table.hand_last(&rt, 0, &[1, 3, 9], Err(HandError::NotYours(3)));
-    table.hand_last(&rt, 0, &[2, 1, 2], Err(HandError::NotYours(2)));
-    table.take(&rt, 0, &STILL_ITS_OWN);
-    table.hand_last(&rt, 0, &[], Ok(()));
-    table.take(&rt, 0, &STILL_ITS_OWN);
+    play(&rt, rt.alloc(), &REFUSED);
 }
 
 #[test]
 fn codes_of_refused_hands(rt: HostRuntime) {
-    assert_eq!(&rt; HandError::NotYours(7).code(), 58);
-    assert_eq!(&rt; HandError::OutOfMemory.code(), 59);
+    same(&rt, &HandError::NotYours(7).code(), &58);
+    same(&rt, &HandError::OutOfMemory.code(), &59);
 }
 
 // ---- threads that hand keys round
@@ -68,53 +94,55 @@ const THREADS: usize = 8;
 
 // In this round the thread replaces the pointer of its key, which is that of the round before, and glances at the key below, which
 // was its own then. The next thread may have replaced that one's pointer meanwhile.
-fn turn(key: u64, round: u64) -> [Step; 4] {
+pub(crate) fn turn<R: Wait + Abort>(rt: &R, live: &Live, pass: &mut Pass, thread: usize, round: u64)
+    requires { IsPassOf live.now pass.old }
+    ensures { IsPassOf live.now pass.new }
+{
+    let key = key_at(thread, round);
     let before = key.wrapping_mul(10).wrapping_add(round);
     let now = before.wrapping_add(1);
     let below = if key == 1 { 8 } else { key.wrapping_sub(1) };
     let left = below.wrapping_mul(10).wrapping_add(round);
-    [
-        Call(Op::Find(key), Ok(Answer::Found(before))),
-        Call(Op::Replace(key, now), Ok(Answer::Replaced(before))),
+    call(rt, live, pass, Op::Find(key), Answer::Found(before));
+    call(
+        rt,
+        live,
+        pass,
+        Op::Replace(key, now),
+        Answer::Replaced(before),
+    );
+    take(
+        rt,
+        live,
+        pass,
         GlanceBetween(below, left, left.wrapping_add(1)),
-        Glance(9, Some(90)),
-    ]
-}
-
-// The key of the thread at this place, in this round.
-fn key_at(place: usize, round: u64) -> u64 {
-    u64::try_from(place).unwrap_or(0).wrapping_add(round) % 8 + 1
+    );
+    take(rt, live, pass, Glance(9, Some(90)));
 }
 
 // Each pass hands its key to the one before it, through the last pass.
-fn pass_round<R: Abort>(rt: &R, table: &mut Shared, round: u64) {
-    table.hand_last(rt, 0, &[key_at(0, round)], Ok(()));
+fn pass_round(rt: &impl Abort, table: &mut Shared, round: u64) {
+    table.meet(rt, 0, Hands(&[key_at(0, round)], Ok(())));
     for place in 1..THREADS - 1 {
         let key = key_at(place, round);
-        table.hand_last(rt, place, &[key], Ok(()));
-        table.get_from_last(rt, place - 1, &[key], Ok(()));
+        table.meet(rt, place, Hands(&[key], Ok(())));
+        table.meet(rt, place - 1, Gets(&[key], Ok(())));
     }
-    let key = key_at(THREADS - 1, round);
-    table.get_from_last(rt, THREADS - 2, &[key], Ok(()));
+    table.meet(rt, THREADS - 2, Gets(&[key_at(THREADS - 1, round)], Ok(())));
 }
+
+const HANDED_ROUND: End = End::Closes(&[Finds(&[(1, Some(26)), (8, Some(96)), (9, Some(90))])]);
 
 #[test]
 fn keys_are_handed_round_a_ring_of_threads(rt: HostRuntime) {
-    let mut table = Shared::filled(&rt, rt.alloc(), 9, 0, 128);
+    let mut table = Shared::open(&rt, rt.alloc(), (0, 9), (0, 128));
     for place in 0..THREADS {
-        let key = key_at(place, 0);
-        table.deal_for(&rt, &[key], 0, 16, &turn(key, 0));
+        table.deal(&rt, &[key_at(place, 0)], 0, 16, Ok(()));
     }
-    table.run(&rt);
+    table.run(&rt, Work::HandRound(0));
     for round in 1..16 {
         pass_round(&rt, &mut table, round - 1);
-        table.forget_works();
-        for place in 0..THREADS {
-            table.plan(&rt, &turn(key_at(place, round), round));
-        }
-        table.run(&rt);
+        table.run(&rt, Work::HandRound(round));
     }
-    let closed = table.close(&rt);
-    let left = [(1, Some(26)), (8, Some(96)), (9, Some(90))];
-    assert_finds(&rt, &closed, &left);
+    table.end(&rt, HANDED_ROUND);
 }

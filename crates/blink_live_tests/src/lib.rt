@@ -2,8 +2,6 @@
 #![tactic(auto)]
 
 #[cfg(test)]
-mod alone;
-#[cfg(test)]
 mod client;
 #[cfg(test)]
 mod closing;
@@ -32,10 +30,20 @@ mod replacing;
 #[cfg(test)]
 mod retiring;
 #[cfg(test)]
+mod same;
+#[cfg(test)]
 mod shared;
+#[cfg(test)]
+mod sights;
 #[cfg(test)]
 mod stepping;
 #[cfg(test)]
 mod steps;
 #[cfg(test)]
+mod story;
+#[cfg(test)]
+mod walks;
+#[cfg(test)]
 mod watching;
+#[cfg(test)]
+mod works;

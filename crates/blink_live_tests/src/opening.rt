@@ -1,11 +1,18 @@
 //! Tables that open.
-use crate::indexes::after;
-use crate::shared::refuse_open;
-use blink_live::LiveError;
+use crate::indexes::filled;
+use crate::same::same;
+use blink_live::{Live, LiveError};
+use blink_rows::Allowance;
 
 // Over a new index 47,662 insertions would fit.
+const ONE_TOO_MANY: Allowance = Allowance {
+    inserts: 47_663,
+    deletes: 0,
+};
+
 #[test]
 fn too_many_insertions_are_refused(rt: HostRuntime) {
-    let index = after(&rt, rt.alloc(), &[]);
-    refuse_open(&rt, rt.alloc(), &index, 47_663, 0, LiveError::TooLarge);
+    let index = filled(&rt, rt.alloc(), 0, 0);
+    let opened = Live::open(rt.alloc(), &index, ONE_TOO_MANY);
+    same(&rt, &opened.err(), &Some(LiveError::TooLarge));
 }

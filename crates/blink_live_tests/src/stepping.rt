@@ -2,11 +2,15 @@
 ghost use Rattle.std.specs.Prelude.{All, IfErr, IfOk};
 ghost use Rattle.blink_live.specs.{IsPassOf, IsPendingOf};
 
-use crate::indexes::{assert_dump, assert_finds, assert_keys};
+use crate::indexes::Look::{Dump, Every, Finds, Scan};
 use crate::inserting::SPLIT;
+use crate::same::{push, same, same_for};
 use crate::shared::{Shared, with_last, without_last};
 use crate::steps::Step::{self, Call, Glance};
-use crate::steps::{every, take_all};
+use crate::steps::take_all;
+use crate::story::Act::{Deal, InSteps, LoseLast, Take};
+use crate::story::{End, Story, play};
+use crate::walks::every;
 use blink_batch::{Answer, Op};
 use blink_live::{Live, LiveError, Pass, PassError, Pending};
 use std::process::Abort;
@@ -47,75 +51,14 @@ fn end<R: Wait>(rt: &R, live: &Live, begun: Pending) -> (Pass, Answer)
     unreachable!()
 }
 
-// The operation, a step after the other, and what it has to give.
-fn step<R: Wait + Abort>(
-    rt: &R,
-    live: &Live,
-    pass: Pass,
-    op: Op,
-    expected: Result<Answer, PassError>,
-) -> Pass
-    requires { IsPassOf live.now pass }
+// Takes the operation's steps to its end, and it gives this.
+fn end_with<R: Wait + Abort>(rt: &R, live: &Live, begun: Pending, answer: Answer) -> Pass
+    requires { IsPendingOf live.now begun }
     ensures { IsPassOf live.now result }
 {
-    match begin(live, pass, op) {
-        Ok(pending) => {
-            let (pass, answer) = end(rt, live, pending);
-            assert!(rt; expected == Ok(answer), "{op:?} gave {answer:?}");
-            pass
-        }
-        Err((pass, refusal)) => {
-            assert!(rt;
-                expected.err() == refusal,
-                "{op:?} was refused: {refusal:?}"
-            );
-            pass
-        }
-    }
-}
-
-impl Shared {
-    // The last pass makes this call in steps.
-    fn step_last<R: Wait + Abort>(&mut self, rt: &R, op: Op, expected: Result<Answer, PassError>) {
-        let (live, passes) = (&self.live, &mut self.passes);
-        let last = without_last(rt, live, passes);
-        let last = step(rt, live, last, op, expected);
-        with_last(rt, live, passes, last);
-    }
-}
-
-// ---- one thread
-
-#[test]
-fn an_insertion_ends_in_steps(rt: HostRuntime) {
-    let mut table = Shared::filled(&rt, rt.alloc(), 4, 1, 0);
-    table.deal(&rt, &[5], 1, 0);
-    table.step_last(&rt, Op::Insert(5, 50), Ok(Answer::Inserted));
-    table.take(&rt, 0, &[Call(Op::Find(5), Ok(Answer::Found(50)))]);
-    let closed = table.close(&rt);
-    assert_dump(&rt, rt.alloc(), &closed, SPLIT);
-}
-
-const CHANGES: [(Op, Result<Answer, PassError>); 8] = [
-    (Op::Insert(3, 1), Ok(Answer::Exists(30))),
-    (Op::Replace(3, 33), Ok(Answer::Replaced(30))),
-    (Op::Delete(3), Ok(Answer::Removed(33))),
-    (Op::Delete(4), Err(PassError::NotYours)),
-    (Op::Replace(3, 34), Ok(Answer::Absent)),
-    (Op::Delete(3), Err(PassError::Spent)),
-    (Op::Insert(3, 35), Err(PassError::Spent)),
-    (Op::Insert(4, 1), Err(PassError::NotYours)),
-];
-
-#[test]
-fn steps_answer_and_refuse_as_calls_do(rt: HostRuntime) {
-    let mut table = Shared::filled(&rt, rt.alloc(), 4, 1, 3);
-    table.deal(&rt, &[3], 1, 3);
-    for &(op, expected) in &CHANGES {
-        table.step_last(&rt, op, expected);
-    }
-    let closed = table.close(&rt);
-    assert_finds(&rt, &closed, &[(3, None), (4, Some(40))]);
+    let (pass, given) = end(rt, live, begun);
+    same(rt, &given, &answer);
+    pass
 }
 
 fn first_takes<R: Wait + Abort>(rt: &R, live: &Live, passes: &mut Vec<Pass>, steps: &[Step])
@@ -127,16 +70,78 @@ fn first_takes<R: Wait + Abort>(rt: &R, live: &Live, passes: &mut Vec<Pass>, ste
 }
 
 impl Shared {
-    // The last pass begins the operation, the first takes its steps, and then the last goes on to the end.
-    fn step_last_after<R: Wait + Abort>(&mut self, rt: &R, op: Op, steps: &[Step], answer: Answer) {
+    // The last pass makes this call in steps; once it has begun, the first pass takes its own, if it has some.
+    pub(crate) fn call_in_steps<R: Wait + Abort>(
+        &mut self,
+        rt: &R,
+        op: Op,
+        steps: &[Step],
+        expected: Result<Answer, PassError>,
+    ) {
         let (live, passes) = (&self.live, &mut self.passes);
         let last = without_last(rt, live, passes);
-        let pending = begin(live, last, op).ok().expect(rt, "refused");
-        first_takes(rt, live, passes, steps);
-        let (last, given) = end(rt, live, pending);
-        assert_eq!(rt; given, answer);
+        let last = match begin(live, last, op) {
+            Ok(pending) => {
+                let answer = expected.expect(rt, "begun");
+                if !steps.is_empty() {
+                    first_takes(rt, live, passes, steps);
+                }
+                end_with(rt, live, pending, answer)
+            }
+            Err((pass, refusal)) => {
+                same_for(rt, &refusal, &expected.err(), &op);
+                pass
+            }
+        };
         with_last(rt, live, passes, last);
     }
+
+    // The last pass begins the operation, and is dropped with it.
+    pub(crate) fn lose_last(&mut self, rt: &impl Abort, op: Op) {
+        let (live, passes) = (&self.live, &mut self.passes);
+        let last = without_last(rt, live, passes);
+        let _lost = begin(live, last, op).ok().expect(rt, "refused");
+    }
+}
+
+// ---- one thread
+
+const FIVE_INSERTED: Story = Story {
+    over: (0, 4),
+    room: (1, 0),
+    acts: &[
+        Deal(&[5], 1, 0),
+        InSteps(Op::Insert(5, 50), &[], Ok(Answer::Inserted)),
+        Take(0, &[Call(Op::Find(5), Ok(Answer::Found(50)))]),
+    ],
+    end: End::Closes(&[Dump(SPLIT)]),
+};
+
+#[test]
+fn an_insertion_ends_in_steps(rt: HostRuntime) {
+    play(&rt, rt.alloc(), &FIVE_INSERTED);
+}
+
+const CHANGES: Story = Story {
+    over: (0, 4),
+    room: (1, 3),
+    acts: &[
+        Deal(&[3], 1, 3),
+        InSteps(Op::Insert(3, 1), &[], Ok(Answer::Exists(30))),
+        InSteps(Op::Replace(3, 33), &[], Ok(Answer::Replaced(30))),
+        InSteps(Op::Delete(3), &[], Ok(Answer::Removed(33))),
+        InSteps(Op::Delete(4), &[], Err(PassError::NotYours)),
+        InSteps(Op::Replace(3, 34), &[], Ok(Answer::Absent)),
+        InSteps(Op::Delete(3), &[], Err(PassError::Spent)),
+        InSteps(Op::Insert(3, 35), &[], Err(PassError::Spent)),
+        InSteps(Op::Insert(4, 1), &[], Err(PassError::NotYours)),
+    ],
+    end: End::Closes(&[Finds(&[(3, None), (4, Some(40))])]),
+};
+
+#[test]
+fn steps_answer_and_refuse_as_calls_do(rt: HostRuntime) {
+    play(&rt, rt.alloc(), &CHANGES);
 }
 
 const SIX_AND_SEVEN: [Step; 3] = [
@@ -146,52 +151,54 @@ const SIX_AND_SEVEN: [Step; 3] = [
 ];
 
 // The first insertion splits the leaf that the pending one has come to.
+const SPLIT_MEANWHILE: Story = Story {
+    over: (0, 4),
+    room: (3, 0),
+    acts: &[
+        Deal(&[6, 7], 2, 0),
+        Deal(&[5], 1, 0),
+        InSteps(Op::Insert(5, 50), &SIX_AND_SEVEN, Ok(Answer::Inserted)),
+    ],
+    end: End::Closes(&[Scan(0, u64::MAX, &[1, 2, 3, 4, 5, 6, 7])]),
+};
+
 #[test]
 fn a_pending_insertion_lets_another_pass_split_its_leaf(rt: HostRuntime) {
-    let mut table = Shared::filled(&rt, rt.alloc(), 4, 3, 0);
-    table.deal(&rt, &[6, 7], 2, 0);
-    table.deal(&rt, &[5], 1, 0);
-    table.step_last_after(&rt, Op::Insert(5, 50), &SIX_AND_SEVEN, Answer::Inserted);
-    let closed = table.close(&rt);
-    assert_keys(
-        &rt,
-        rt.alloc(),
-        &closed,
-        (0, u64::MAX),
-        &[1, 2, 3, 4, 5, 6, 7],
-    );
+    play(&rt, rt.alloc(), &SPLIT_MEANWHILE);
 }
 
-impl Shared {
-    // The last pass begins the operation, and is dropped with it.
-    fn lose_last<R: Abort>(&mut self, rt: &R, op: Op) {
-        let (live, passes) = (&self.live, &mut self.passes);
-        let last = without_last(rt, live, passes);
-        let _lost = begin(live, last, op).ok().expect(rt, "refused");
-    }
-}
+const LOST: Story = Story {
+    over: (0, 4),
+    room: (3, 0),
+    acts: &[
+        Deal(&[6, 7], 2, 0),
+        Deal(&[5], 1, 0),
+        LoseLast(Op::Insert(5, 50)),
+        Take(0, &SIX_AND_SEVEN),
+    ],
+    end: End::Refused(LiveError::Missing),
+};
 
 #[test]
 fn a_lost_insertion_costs_its_pass_alone(rt: HostRuntime) {
-    let mut table = Shared::filled(&rt, rt.alloc(), 4, 3, 0);
-    table.deal(&rt, &[6, 7], 2, 0);
-    table.deal(&rt, &[5], 1, 0);
-    table.lose_last(&rt, Op::Insert(5, 50));
-    table.take(&rt, 0, &SIX_AND_SEVEN);
-    table.refuse_close(&rt, LiveError::Missing);
+    play(&rt, rt.alloc(), &LOST);
 }
 
 // ---- several threads
 
-// Begins the insertion of the pass's first key, with ten times the key.
-fn begin_first<R: Abort>(rt: &R, live: &Live, pass: Pass) -> Pending
+// Begins the insertion of the key, with ten times the key.
+fn begin_insertion(rt: &impl Abort, live: &Live, pass: Pass, key: u64) -> Pending
     requires { IsPassOf live.now pass }
     ensures { IsPendingOf live.now result }
 {
-    let first = *pass.keys().first().expect(rt, "no key");
-    begin(live, pass, Op::Insert(first, first.wrapping_mul(10)))
+    begin(live, pass, Op::Insert(key, key.wrapping_mul(10)))
         .ok()
         .expect(rt, "refused")
+}
+
+// The pass's key at this place.
+fn key_of(rt: &impl Abort, pass: &Pass, place: usize) -> u64 {
+    *pass.keys().get(place).expect(rt, "no key")
 }
 
 // Goes on to the end, and inserts the pass's other keys.
@@ -199,26 +206,25 @@ fn insert_others<R: Wait + Abort>(rt: &R, live: &Live, begun: Pending) -> Pass
     requires { IsPendingOf live.now begun }
     ensures { IsPassOf live.now result }
 {
-    let (mut pass, answer) = end(rt, live, begun);
-    assert_eq!(rt; answer, Answer::Inserted);
+    let mut pass = end_with(rt, live, begun, Answer::Inserted);
     for place in 1..pass.keys().len() {
-        let key = *pass.keys().get(place).expect(rt, "no key");
-        let op = Op::Insert(key, key.wrapping_mul(10));
-        pass = step(rt, live, pass, op, Ok(Answer::Inserted));
+        let key = key_of(rt, &pass, place);
+        let pending = begin_insertion(rt, live, pass, key);
+        pass = end_with(rt, live, pending, Answer::Inserted);
     }
     pass
 }
 
-fn with_one_more<R: Abort>(rt: &R, live: &Live, begun: &mut Vec<Pending>, pending: Pending)
+fn with_one_more(rt: &impl Abort, live: &Live, begun: &mut Vec<Pending>, pending: Pending)
     requires one { IsPendingOf live.now pending }
     requires others { All (IsPendingOf live.now) begun.old.items }
     ensures { All (IsPendingOf live.now) begun.new.items }
 {
-    begun.push(pending).ok().expect(rt, "no memory");
+    push(rt, begun, pending);
 }
 
 // Each pass begins the insertion of its first key.
-fn begin_all<R: Abort>(rt: &R, live: &Live, passes: &mut Vec<Pass>, begun: &mut Vec<Pending>)
+fn begin_all(rt: &impl Abort, live: &Live, passes: &mut Vec<Pass>, begun: &mut Vec<Pending>)
     requires passes { All (IsPassOf live.now) passes.old.items }
     requires begun { All (IsPendingOf live.now) begun.old.items }
     ensures passes { All (IsPassOf live.now) passes.new.items }
@@ -226,7 +232,8 @@ fn begin_all<R: Abort>(rt: &R, live: &Live, passes: &mut Vec<Pass>, begun: &mut 
 {
     for _ in 0..passes.len() {
         let pass = without_last(rt, live, passes);
-        let pending = begin_first(rt, live, pass);
+        let first = key_of(rt, &pass, 0);
+        let pending = begin_insertion(rt, live, pass, first);
         with_one_more(rt, live, begun, pending);
     }
 }
@@ -245,15 +252,14 @@ impl Shared {
     }
 }
 
+const ALL: End = End::Closes(&[Every(1, 0, 256)]);
+
 #[test]
 fn four_threads_go_on_with_insertions(rt: HostRuntime) {
-    let mut table = Shared::new(&rt, rt.alloc(), 256, 0);
+    let mut table = Shared::open(&rt, rt.alloc(), (0, 0), (256, 0));
     for thread in 0..4 {
-        let keys = every(rt.alloc(), 4, thread, 64).expect(&rt, "no keys");
-        table.deal(&rt, &keys, 64, 0);
+        table.deal_walk(&rt, &every(4, thread, 64), 64, 0);
     }
     table.insert_all(&rt);
-    let closed = table.close(&rt);
-    let all = every(rt.alloc(), 1, 0, 256).expect(&rt, "no keys");
-    assert_keys(&rt, rt.alloc(), &closed, (0, u64::MAX), &all);
+    table.end(&rt, ALL);
 }

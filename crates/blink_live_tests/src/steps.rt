@@ -3,7 +3,6 @@ ghost use Rattle.blink_live.specs.{IsPassOf};
 
 use blink_batch::{Answer, Op};
 use blink_live::{Live, Pass, PassError};
-use std::alloc::{AllocError, Global};
 use std::process::Abort;
 use std::sync::Wait;
 
@@ -28,7 +27,15 @@ fn call<R: Wait>(rt: &R, live: &Live, pass: &mut Pass, op: Op) -> Result<Answer,
     }
 }
 
-fn take<R: Wait + Abort>(rt: &R, live: &Live, pass: &mut Pass, step: Step)
+// A glance, without what it promises of the key.
+pub(crate) fn look(live: &Live, pass: &mut Pass, key: u64) -> Option<u64>
+    requires { IsPassOf live.now pass.old }
+    ensures { IsPassOf live.now pass.new }
+{
+    live.glance(pass, key)
+}
+
+pub(crate) fn take<R: Wait + Abort>(rt: &R, live: &Live, pass: &mut Pass, step: Step)
     requires { IsPassOf live.now pass.old }
     ensures { IsPassOf live.now pass.new }
 {
@@ -38,11 +45,11 @@ fn take<R: Wait + Abort>(rt: &R, live: &Live, pass: &mut Pass, step: Step)
             assert!(rt; given == expected, "{op:?} gave {given:?}");
         }
         Step::Glance(key, expected) => {
-            let given = live.glance(pass, key);
+            let given = look(live, pass, key);
             assert!(rt; given == expected, "a glance at {key} gave {given:?}");
         }
         Step::GlanceBetween(key, least, greatest) => {
-            let given = live.glance(pass, key);
+            let given = look(live, pass, key);
             let fits = matches!(given, Some(pointer) if least <= pointer && pointer <= greatest);
             assert!(rt; fits, "a glance at {key} gave {given:?}");
         }
@@ -57,18 +64,4 @@ pub(crate) fn take_all<R: Wait + Abort>(rt: &R, live: &Live, pass: &mut Pass, st
     for &step in steps {
         take(rt, live, pass, step);
     }
-}
-
-// So many keys, each by this step above the one before.
-pub(crate) fn every(
-    alloc: Global,
-    step: u64,
-    first: u64,
-    count: u64,
-) -> Result<Vec<u64>, AllocError> {
-    let mut keys = Vec::new(alloc);
-    for place in 0..count {
-        keys.push(place.wrapping_mul(step).wrapping_add(first))?;
-    }
-    Ok(keys)
 }

@@ -1,5 +1,0 @@
-use Rattle.blink_live.specs.{IsPassOf}
-use Rattle.blink_live_tests.proofs.glancing.insert_upwards.Given as goal
-
-abbrev pub invariant-loop-key : goal.invariant-loop-key
-invariant-loop-key g l = IsPassOf l.live l.pass

@@ -1,0 +1,5 @@
+use Rattle.blink_live.specs.{IsPassOf}
+use Rattle.blink_live_tests.proofs.watching.change_and_watch.Given as goal
+
+abbrev pub invariant-loop-others : goal.invariant-loop-others
+invariant-loop-others g l = IsPassOf l.live l.pass
