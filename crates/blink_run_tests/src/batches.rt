@@ -2,13 +2,13 @@
 pub(crate) mod gates;
 
 use crate::calls::{CutBatch, DRIVERS};
+use crate::fixtures::{given, is_shown, same, same_for};
 use blink_batch::{Answer, Op};
 use blink_index::Index;
 use blink_run::{Driver, Gate, Open, RunError, run_batch};
 use std::alloc::Global;
 use std::process::Abort;
 use std::sync::Wait;
-use std::test::Fail;
 use std::thread::Threads;
 
 // The index after a batch, and the answers of the batch.
@@ -18,63 +18,85 @@ struct Ran {
     answers: Vec<Answer>,
 }
 
-// Runs the operations on the index by so many workers, each with the keys of one remainder.
-fn run_on<R: Threads + Wait + Sync, G: Gate + Sync>(
+// Runs a batch on the index.
+fn run_on<R: Threads + Wait + Abort + Sync, G: Gate + Sync>(
     rt: &R,
     alloc: Global,
     driver: Driver,
     mut index: Index,
-    ops: &[Op],
-    workers: u8,
+    work: &CutBatch,
     gate: &G,
-) -> Result<Ran, Fail> {
-    let work = CutBatch::new(alloc, ops, workers)?;
-    let answers = run_batch(rt, alloc, &mut index, &work.batch, &work.cut, driver, gate)?;
-    Ok(Ran { index, answers })
+) -> Ran {
+    let answers = run_batch(rt, alloc, &mut index, &work.batch, &work.cut, driver, gate);
+    let answers = given(rt, answers);
+    Ran { index, answers }
 }
 
-// Runs the operations on a new index.
-fn run_on_new<R: Threads + Wait + Sync, G: Gate + Sync>(
+// Runs the operations on a new index by so many workers, each with the keys of one remainder.
+fn run_on_new<R: Threads + Wait + Abort + Sync, G: Gate + Sync>(
     rt: &R,
     alloc: Global,
     driver: Driver,
     ops: &[Op],
     workers: u8,
     gate: &G,
-) -> Result<Ran, Fail> {
-    let index = Index::new(alloc, 4)?;
-    run_on(rt, alloc, driver, index, ops, workers, gate)
+) -> Ran {
+    let index = given(rt, Index::new(alloc, 4));
+    let work = CutBatch::new(rt, alloc, ops, workers);
+    run_on(rt, alloc, driver, index, &work, gate)
 }
 
 // The insertions of the keys from 1 to this one, each with ten times the key.
-fn insertions(alloc: Global, last: u64) -> Result<Vec<Op>, Fail> {
+fn insertions(rt: &impl Abort, alloc: Global, last: u64) -> Vec<Op> {
     let mut ops = Vec::new(alloc);
     for key in 1..=last {
-        ops.push(Op::Insert(key, key.wrapping_mul(10)))?;
+        given(rt, ops.push(Op::Insert(key, key.wrapping_mul(10))));
     }
-    Ok(ops)
+    ops
 }
 
 // The index of the keys 1 to this one, inserted in order as one batch by one worker.
-fn index_to<R: Threads + Wait + Sync>(
+fn index_to<R: Threads + Wait + Abort + Sync>(
     rt: &R,
     alloc: Global,
     driver: Driver,
     last: u64,
-) -> Result<Index, Fail> {
-    let index = Index::new(alloc, 4)?;
-    let ops = insertions(alloc, last)?;
-    Ok(run_on(rt, alloc, driver, index, &ops, 1, &Open)?.index)
+) -> Index {
+    let ops = insertions(rt, alloc, last);
+    run_on_new(rt, alloc, driver, &ops, 1, &Open).index
 }
 
-// A batch that so many workers run on the index of the keys 1 to `last`, its answers, and the text of the pages after it.
+// The pages of the index are these.
+fn expect_pages(rt: &impl Abort, alloc: Global, driver: Driver, index: &Index, pages: &str) {
+    let text = given(rt, index.dump(alloc));
+    same_for(rt, &text.as_str(), &pages, &driver)
+}
+
+// How the operations of a batch fall to workers.
+#[derive(Clone, Copy)]
+enum Lanes<'a> {
+    // To so many workers, by the remainders of the keys.
+    ByRemainder(u8),
+    // To two workers, each operation to this one.
+    OfTwo(&'a [u8]),
+}
+
+// A batch that workers run on the index of the keys 1 to `last`, its answers, and the text of the pages after it.
 #[derive(Clone, Copy)]
 struct Example<'a> {
     last: u64,
     ops: &'a [Op],
-    workers: u8,
+    lanes: Lanes<'a>,
     answers: &'a [Answer],
     pages: &'a str,
+}
+
+// The batch of an example.
+fn work_of(rt: &impl Abort, alloc: Global, example: &Example<'_>) -> CutBatch {
+    match example.lanes {
+        Lanes::ByRemainder(workers) => CutBatch::new(rt, alloc, example.ops, workers),
+        Lanes::OfTwo(lanes) => CutBatch::by_lanes(rt, alloc, example.ops, 2, lanes),
+    }
 }
 
 // The index of each example has two leaves and a root.
@@ -83,150 +105,132 @@ fn expect_example<R: Threads + Wait + Abort + Sync>(
     alloc: Global,
     driver: Driver,
     example: &Example<'_>,
-) -> Result<(), Fail> {
-    let index = index_to(rt, alloc, driver, example.last)?;
-    let ran = run_on(
-        rt,
-        alloc,
-        driver,
-        index,
-        example.ops,
-        example.workers,
-        &Open,
-    )?;
-    assert_eq!(rt; ran.answers.as_slice(), example.answers, "{driver:?}");
-    assert_eq!(rt; ran.index.page_count(), 3);
-    assert_eq!(rt;
-        ran.index.dump(alloc)?.as_str(),
-        example.pages,
-        "{driver:?}"
-    );
-    Ok(())
+) {
+    let work = work_of(rt, alloc, example);
+    let index = index_to(rt, alloc, driver, example.last);
+    let ran = run_on(rt, alloc, driver, index, &work, &Open);
+    let case = (driver, example.ops);
+    same_for(rt, &ran.answers.as_slice(), &example.answers, &case);
+    same_for(rt, &ran.index.page_count(), &3, &case);
+    expect_pages(rt, alloc, driver, &ran.index, example.pages);
 }
 
-#[test]
-fn a_batch_runs_by_two_workers(rt: HostRuntime) -> Result<(), Fail> {
-    let example = Example {
-        last: 4,
-        ops: &[Op::Insert(5, 50), Op::Find(4)],
-        workers: 2,
-        answers: &[Answer::Inserted, Answer::Found(40)],
-        pages: "1 3 - 18446744073709551615 - 3:1 18446744073709551615:2
-0 1 - 3 2 1:10 2:20 3:30
-0 2 3 18446744073709551615 - 4:40 5:50
-",
-    };
-    for driver in DRIVERS {
-        expect_example(&rt, rt.alloc(), driver, &example)?;
-    }
-    Ok(())
-}
-
-#[test]
-fn a_leaf_emptied_by_deletions_stays(rt: HostRuntime) -> Result<(), Fail> {
-    let example = Example {
-        last: 5,
-        ops: &[Op::Delete(1), Op::Delete(2), Op::Delete(3), Op::Find(3)],
-        workers: 1,
-        answers: &[
-            Answer::Removed(10),
-            Answer::Removed(20),
-            Answer::Removed(30),
-            Answer::Absent,
-        ],
-        pages: "1 3 - 18446744073709551615 - 3:1 18446744073709551615:2
-0 1 - 3 2
-0 2 3 18446744073709551615 - 4:40 5:50
-",
-    };
-    for driver in DRIVERS {
-        expect_example(&rt, rt.alloc(), driver, &example)?;
-    }
-    Ok(())
-}
-
-// Two workers meet in one leaf, which splits, whoever comes first.
-fn expect_four_operations<R: Threads + Wait + Abort + Sync>(
+// The same by both drivers.
+fn expect_examples<R: Threads + Wait + Abort + Sync>(
     rt: &R,
     alloc: Global,
-    driver: Driver,
-) -> Result<(), Fail> {
-    let ops = [
-        Op::Insert(5, 50),
-        Op::Insert(6, 60),
-        Op::Find(5),
-        Op::Delete(4),
-    ];
-    let work = CutBatch::by_lanes(alloc, &ops, 2, &[0, 1, 0, 1])?;
-    let mut index = index_to(rt, alloc, driver, 4)?;
-    let answers = run_batch(rt, alloc, &mut index, &work.batch, &work.cut, driver, &Open)?;
-    assert_eq!(rt; answers.as_slice(), FOUR_ANSWERS.as_slice(), "{driver:?}");
-    assert_eq!(rt; index.dump(alloc)?.as_str(), FOUR_PAGES, "{driver:?}");
-    Ok(())
-}
-
-const FOUR_ANSWERS: [Answer; 4] = [
-    Answer::Inserted,
-    Answer::Inserted,
-    Answer::Found(50),
-    Answer::Removed(40),
-];
-
-const FOUR_PAGES: &str = "1 3 - 18446744073709551615 - 3:1 18446744073709551615:2
-0 1 - 3 2 1:10 2:20 3:30
-0 2 3 18446744073709551615 - 5:50 6:60
-";
-
-#[test]
-fn four_operations_of_two_workers_in_one_leaf(rt: HostRuntime) -> Result<(), Fail> {
-    for driver in DRIVERS {
-        expect_four_operations(&rt, rt.alloc(), driver)?;
+    examples: &[Example<'_>],
+) {
+    for example in examples {
+        expect_example(rt, alloc, Driver::Locked, example);
+        expect_example(rt, alloc, Driver::Live, example);
     }
-    Ok(())
 }
 
 // Three replacements and no deletion: at a table they use the allowance of deletions.
-#[test]
-fn replacements_keep_their_leaf(rt: HostRuntime) -> Result<(), Fail> {
-    for workers in [1, 4] {
-        let example = Example {
-            last: 5,
-            ops: &[
-                Op::Replace(4, 41),
-                Op::Replace(6, 61),
-                Op::Replace(4, 41),
-                Op::Find(4),
-            ],
-            workers,
-            answers: &[
-                Answer::Replaced(40),
-                Answer::Absent,
-                Answer::Replaced(41),
-                Answer::Found(41),
-            ],
-            pages: "1 3 - 18446744073709551615 - 3:1 18446744073709551615:2
+const REPLACEMENTS: [Op; 4] = [
+    Op::Replace(4, 41),
+    Op::Replace(6, 61),
+    Op::Replace(4, 41),
+    Op::Find(4),
+];
+
+const AFTER_REPLACEMENTS: [Answer; 4] = [
+    Answer::Replaced(40),
+    Answer::Absent,
+    Answer::Replaced(41),
+    Answer::Found(41),
+];
+
+const REPLACED_PAGES: &str = "1 3 - 18446744073709551615 - 3:1 18446744073709551615:2
 0 1 - 3 2 1:10 2:20 3:30
 0 2 3 18446744073709551615 - 4:41 5:50
+";
+
+const FIVE_PAGES: &str = "1 3 - 18446744073709551615 - 3:1 18446744073709551615:2
+0 1 - 3 2 1:10 2:20 3:30
+0 2 3 18446744073709551615 - 4:40 5:50
+";
+
+const EXAMPLES: [Example<'static>; 5] = [
+    // A batch runs by two workers.
+    Example {
+        last: 4,
+        ops: &[Op::Insert(5, 50), Op::Find(4)],
+        lanes: Lanes::ByRemainder(2),
+        answers: &[Answer::Inserted, Answer::Found(40)],
+        pages: FIVE_PAGES,
+    },
+    // Two workers meet in one leaf, which splits, whoever comes first.
+    Example {
+        last: 4,
+        ops: &[
+            Op::Insert(5, 50),
+            Op::Insert(6, 60),
+            Op::Find(5),
+            Op::Delete(4),
+        ],
+        lanes: Lanes::OfTwo(&[0, 1, 0, 1]),
+        answers: &[
+            Answer::Inserted,
+            Answer::Inserted,
+            Answer::Found(50),
+            Answer::Removed(40),
+        ],
+        pages: "1 3 - 18446744073709551615 - 3:1 18446744073709551615:2
+0 1 - 3 2 1:10 2:20 3:30
+0 2 3 18446744073709551615 - 5:50 6:60
 ",
-        };
-        for driver in DRIVERS {
-            expect_example(&rt, rt.alloc(), driver, &example)?;
-        }
-    }
-    Ok(())
+    },
+    // Replacements keep their leaf, by one worker and by more.
+    Example {
+        last: 5,
+        ops: &REPLACEMENTS,
+        lanes: Lanes::ByRemainder(1),
+        answers: &AFTER_REPLACEMENTS,
+        pages: REPLACED_PAGES,
+    },
+    Example {
+        last: 5,
+        ops: &REPLACEMENTS,
+        lanes: Lanes::ByRemainder(4),
+        answers: &AFTER_REPLACEMENTS,
+        pages: REPLACED_PAGES,
+    },
+    // An empty batch changes nothing.
+    Example {
+        last: 5,
+        ops: &[],
+        lanes: Lanes::ByRemainder(3),
+        answers: &[],
+        pages: FIVE_PAGES,
+    },
+];
+
+#[test]
+fn batches_leave_answers_and_pages(rt: HostRuntime) {
+    expect_examples(&rt, rt.alloc(), &EXAMPLES)
 }
 
-// All pages, where 14 keys are inserted in order by one worker.
-fn expect_pages<R: Threads + Wait + Abort + Sync>(
-    rt: &R,
-    alloc: Global,
-    driver: Driver,
-    expected: &str,
-) -> Result<(), Fail> {
-    let index = index_to(rt, alloc, driver, 14)?;
-    let pages = index.dump(alloc)?;
-    assert!(rt; pages.as_str() == expected, "{driver:?}: {pages}");
-    Ok(())
+const DELETIONS: [Example<'static>; 1] = [Example {
+    last: 5,
+    ops: &[Op::Delete(1), Op::Delete(2), Op::Delete(3), Op::Find(3)],
+    lanes: Lanes::ByRemainder(1),
+    answers: &[
+        Answer::Removed(10),
+        Answer::Removed(20),
+        Answer::Removed(30),
+        Answer::Absent,
+    ],
+    pages: "1 3 - 18446744073709551615 - 3:1 18446744073709551615:2
+0 1 - 3 2
+0 2 3 18446744073709551615 - 4:40 5:50
+",
+}];
+
+#[test]
+fn a_leaf_emptied_by_deletions_stays(rt: HostRuntime) {
+    expect_examples(&rt, rt.alloc(), &DELETIONS)
 }
 
 // The numbers are in the order in which pages come to be.
@@ -251,70 +255,74 @@ const OF_A_TABLE: &str = "2 8 - 18446744073709551615 - 9:6 18446744073709551615:
 0 5 12 18446744073709551615 - 13:130 14:140
 ";
 
+// All pages, where 14 keys are inserted in order by one worker.
+fn expect_pages_of_14<R: Threads + Wait + Abort + Sync>(
+    rt: &R,
+    alloc: Global,
+    driver: Driver,
+    pages: &str,
+) {
+    let index = index_to(rt, alloc, driver, 14);
+    expect_pages(rt, alloc, driver, &index, pages)
+}
+
 // A run that built a new tree from the plain map would fill its pages in another way. The numbers tell the drivers apart.
 #[test]
-fn the_pages_are_those_of_the_steps(rt: HostRuntime) -> Result<(), Fail> {
-    expect_pages(&rt, rt.alloc(), Driver::Locked, OF_STEPS)?;
-    expect_pages(&rt, rt.alloc(), Driver::Live, OF_A_TABLE)
+fn the_pages_are_those_of_the_steps(rt: HostRuntime) {
+    expect_pages_of_14(&rt, rt.alloc(), Driver::Locked, OF_STEPS);
+    expect_pages_of_14(&rt, rt.alloc(), Driver::Live, OF_A_TABLE)
 }
 
-#[test]
-fn sixty_three_workers_have_nothing_to_do(rt: HostRuntime) -> Result<(), Fail> {
-    for driver in DRIVERS {
-        let ran = run_on_new(&rt, rt.alloc(), driver, &[Op::Insert(7, 70)], 64, &Open)?;
-        assert_eq!(rt; ran.answers.as_slice(), [Answer::Inserted].as_slice());
-        assert_eq!(rt; ran.index.find(7), Some(70));
+/// So many operations were insertions of new keys.
+pub(crate) fn are_inserted(rt: &impl Abort, driver: Driver, answers: &[Answer], count: usize) {
+    same_for(rt, &answers.len(), &count, &driver);
+    for answer in answers {
+        same_for(rt, answer, &Answer::Inserted, &driver);
     }
-    Ok(())
 }
 
-// Eight workers insert into a tree that splits and grows meanwhile, and wait for each other's latches.
+// What is inserted into a new index is found.
 fn expect_all_inserted<R: Threads + Wait + Abort + Sync>(
     rt: &R,
     alloc: Global,
     driver: Driver,
-    last: u64,
-) -> Result<(), Fail> {
-    let ops = insertions(alloc, last)?;
-    let ran = run_on_new(rt, alloc, driver, &ops, 8, &Open)?;
-    for answer in &ran.answers {
-        assert_eq!(rt; *answer, Answer::Inserted);
-    }
-    for key in 1..=last {
-        assert_eq!(rt; ran.index.find(key), Some(key.wrapping_mul(10)));
-    }
-    Ok(())
+    ops: &[Op],
+    workers: u8,
+) {
+    let ran = run_on_new(rt, alloc, driver, ops, workers, &Open);
+    are_inserted(rt, driver, &ran.answers, ops.len());
+    are_found(rt, driver, &ran.index, ops)
 }
 
+/// The keys of the insertions are found.
+pub(crate) fn are_found(rt: &impl Abort, driver: Driver, index: &Index, ops: &[Op]) {
+    for op in ops {
+        if let Op::Insert(key, pointer) = *op {
+            same_for(rt, &index.find(key), &Some(pointer), &driver);
+        }
+    }
+}
+
+// Eight workers insert into a tree that splits and grows meanwhile, and wait for each other's latches. Of 64 workers with one
+// insertion all but one have nothing to do.
 #[test]
-fn many_workers_lose_no_key(rt: HostRuntime) -> Result<(), Fail> {
+fn many_workers_lose_no_key(rt: HostRuntime) {
+    let ops = insertions(&rt, rt.alloc(), 400);
     for driver in DRIVERS {
-        expect_all_inserted(&rt, rt.alloc(), driver, 400)?;
+        expect_all_inserted(&rt, rt.alloc(), driver, &ops, 8);
+        expect_all_inserted(&rt, rt.alloc(), driver, &[Op::Insert(7, 70)], 64);
     }
-    Ok(())
 }
 
 #[test]
-fn an_empty_batch_changes_nothing(rt: HostRuntime) -> Result<(), Fail> {
-    for driver in DRIVERS {
-        let index = index_to(&rt, rt.alloc(), driver, 5)?;
-        let ran = run_on(&rt, rt.alloc(), driver, index, &[], 3, &Open)?;
-        assert_eq!(rt; ran.answers.len(), 0);
-        assert_eq!(rt; ran.index.page_count(), 3);
-    }
-    Ok(())
-}
-
-#[test]
-fn each_refusal_has_its_words(rt: HostRuntime) -> Result<(), Fail> {
+fn each_refusal_has_its_words(rt: HostRuntime) {
     for (refusal, words) in [
         (RunError::TooLarge, "too large"),
         (RunError::OutOfMemory, "out of memory"),
         (RunError::Worker(12), "worker 12 not started"),
         (RunError::Foreign, "foreign book"),
     ] {
-        assert_eq!(rt; format!(in rt.alloc(); "{refusal}")?.as_str(), words);
+        is_shown(&rt, rt.alloc(), &refusal, words);
     }
-    assert_eq!(rt; RunError::TooLarge.code(), 60);
-    Ok(())
+    same(&rt, &RunError::TooLarge.code(), &60);
 }

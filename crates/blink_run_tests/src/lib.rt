@@ -8,6 +8,8 @@ mod books;
 #[cfg(test)]
 mod calls;
 #[cfg(test)]
+mod fixtures;
+#[cfg(test)]
 mod replays;
 #[cfg(test)]
 mod scripts;

@@ -1,36 +1,41 @@
 //! The limits of settings, and the worker that each operation of a batch falls to.
-use crate::calls::locked;
-use blink_run::{CutKind, Driver, Gate, Settings, SettingsError, serve};
+use crate::calls::{locked, serve_from};
+use crate::fixtures::{same, same_for};
+use blink_run::{CutKind, Driver, Gate, ServeError, Settings, SettingsError};
 use std::alloc::Global;
 use std::process::Abort;
 use std::sync::Wait;
 use std::sync::atomic::{AtomicU64, Ordering};
-use std::test::Fail;
 use std::thread::Threads;
 
+// Settings return what they were made of.
+fn expect_settings(rt: &impl Abort, workers: u8, fan: u8) {
+    let settings = locked(rt, workers, fan, CutKind::Ranges);
+    same(rt, &settings.workers(), &workers);
+    same(rt, &settings.fan(), &fan);
+    same(rt, &settings.cut(), &CutKind::Ranges);
+    same(rt, &settings.driver(), &Driver::Locked);
+}
+
 #[test]
-fn settings_return_what_they_were_made_of(rt: HostRuntime) -> Result<(), Fail> {
-    for (workers, fan) in [(1, 4), (4, 32), (64, 4)] {
-        let settings = locked(workers, fan, CutKind::Ranges)?;
-        assert_eq!(rt; (settings.workers(), settings.fan()), (workers, fan));
-        assert_eq!(rt; settings.cut(), CutKind::Ranges);
-        assert_eq!(rt; settings.driver(), Driver::Locked);
-    }
-    Ok(())
+fn settings_return_what_they_were_made_of(rt: HostRuntime) {
+    expect_settings(&rt, 1, 4);
+    expect_settings(&rt, 4, 32);
+    expect_settings(&rt, 64, 4);
+}
+
+fn expect_refused(rt: &impl Abort, workers: u8, fan: u8, refusal: SettingsError, code: u8) {
+    let refused = Settings::new(workers, fan, CutKind::Residue, Driver::Locked);
+    same(rt, &refused, &Err(refusal));
+    same(rt, &refusal.code(), &code);
 }
 
 #[test]
 fn settings_beyond_a_limit_are_refused(rt: HostRuntime) {
-    for (workers, fan, refusal, code) in [
-        (0, 16, SettingsError::BadWorkers, 2),
-        (65, 3, SettingsError::BadWorkers, 2),
-        (64, 3, SettingsError::BadFan, 40),
-        (1, 33, SettingsError::BadFan, 40),
-    ] {
-        let refused = Settings::new(workers, fan, CutKind::Residue, Driver::Locked);
-        assert_eq!(rt; refused, Err(refusal));
-        assert_eq!(rt; refusal.code(), code);
-    }
+    expect_refused(&rt, 0, 16, SettingsError::BadWorkers, 2);
+    expect_refused(&rt, 65, 3, SettingsError::BadWorkers, 2);
+    expect_refused(&rt, 64, 3, SettingsError::BadFan, 40);
+    expect_refused(&rt, 1, 33, SettingsError::BadFan, 40);
 }
 
 // Counts the operations that are begun by the workers that are expected, in the order of the batch.
@@ -50,6 +55,24 @@ impl Gate for LaneGate<'_> {
     fn after(&self, _worker: u8, _op: u32) {}
 }
 
+fn serve_through<R: Threads + Wait + Sync>(
+    rt: &R,
+    alloc: Global,
+    settings: &Settings,
+    script: &str,
+    gate: &LaneGate<'_>,
+) -> Result<(), ServeError> {
+    let mut output = Vec::new(alloc);
+    serve_from(
+        rt,
+        alloc,
+        &mut script.as_bytes(),
+        &mut output,
+        settings,
+        gate,
+    )
+}
+
 // Three workers serve a script of one batch, and these are the workers of its operations.
 fn expect_lanes<R: Threads + Wait + Abort + Sync>(
     rt: &R,
@@ -57,28 +80,15 @@ fn expect_lanes<R: Threads + Wait + Abort + Sync>(
     cut: CutKind,
     script: &str,
     lanes: &[u8],
-) -> Result<(), Fail> {
-    let settings = locked(3, 4, cut)?;
+) {
     let gate = LaneGate {
         lanes,
         as_expected: AtomicU64::new(0),
     };
-    let mut output = Vec::new(alloc);
-    let end = serve(
-        rt,
-        alloc,
-        &mut script.as_bytes(),
-        &mut output,
-        &settings,
-        &gate,
-    );
-    assert_eq!(rt; end, Ok(()));
-    assert_eq!(rt;
-        gate.as_expected.load(Ordering::SeqCst),
-        lanes.len() as u64,
-        "{cut:?}"
-    );
-    Ok(())
+    let end = serve_through(rt, alloc, &locked(rt, 3, 4, cut), script, &gate);
+    same_for(rt, &end, &Ok(()), &cut);
+    let as_expected = gate.as_expected.load(Ordering::SeqCst);
+    same_for(rt, &as_expected, &(lanes.len() as u64), &cut);
 }
 
 // A third of the greatest key is 6148914691236517205.
@@ -91,13 +101,13 @@ find,18446744073709551615,
 ";
 
 #[test]
-fn ranges_are_of_equal_width(rt: HostRuntime) -> Result<(), Fail> {
+fn ranges_are_of_equal_width(rt: HostRuntime) {
     let lanes = [0, 0, 1, 1, 2, 2];
     expect_lanes(&rt, rt.alloc(), CutKind::Ranges, SIX_FINDS, &lanes)
 }
 
 #[test]
-fn a_key_falls_to_the_worker_of_its_remainder(rt: HostRuntime) -> Result<(), Fail> {
+fn a_key_falls_to_the_worker_of_its_remainder(rt: HostRuntime) {
     let script = "find,5,\nfind,5,\n";
     expect_lanes(&rt, rt.alloc(), CutKind::Residue, script, &[2, 2])
 }

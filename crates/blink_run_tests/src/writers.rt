@@ -1,16 +1,17 @@
 //! Writers that fail once, and would go on.
-use crate::calls::locked;
-use blink_run::{CutKind, Open, ServeError, serve, serve_replay};
+use crate::calls::{locked, replay_from, serve_from};
+use crate::fixtures::{are_bytes, prefix_of, same, same_for};
+use blink_batch::{RecordError, ScriptError};
+use blink_run::{CutKind, Open, ServeError, Settings};
 use std::alloc::Global;
 use std::io;
 use std::io::{ErrorKind, Write};
 use std::process::Abort;
 use std::sync::Wait;
-use std::test::Fail;
 use std::thread::Threads;
 
 // How a writer fails.
-#[derive(Clone, Copy, Debug)]
+#[derive(Clone, Copy)]
 enum Failure {
     // A write is refused.
     Refuses(ErrorKind),
@@ -20,13 +21,23 @@ enum Failure {
     IsNotFlushed(ErrorKind),
 }
 
+// A failure, and its name in the messages of assertions.
+type NamedFailure = (&'static str, Failure);
+
 // Each way in which a write fails. Others try again after the first of them.
-const FAILED_WRITES: [Failure; 5] = [
-    Failure::Refuses(ErrorKind::Interrupted),
-    Failure::Refuses(ErrorKind::WouldBlock),
-    Failure::Refuses(ErrorKind::BrokenPipe),
-    Failure::Refuses(ErrorKind::Other),
-    Failure::TakesNothing,
+const FAILED_WRITES: [NamedFailure; 5] = [
+    ("interrupted", Failure::Refuses(ErrorKind::Interrupted)),
+    ("would block", Failure::Refuses(ErrorKind::WouldBlock)),
+    ("broken pipe", Failure::Refuses(ErrorKind::BrokenPipe)),
+    ("other", Failure::Refuses(ErrorKind::Other)),
+    ("takes nothing", Failure::TakesNothing),
+];
+
+const TAKES_NOTHING: [NamedFailure; 1] = [("takes nothing", Failure::TakesNothing)];
+
+const FAILED_FLUSHES: [NamedFailure; 2] = [
+    ("interrupted", Failure::IsNotFlushed(ErrorKind::Interrupted)),
+    ("other", Failure::IsNotFlushed(ErrorKind::Other)),
 ];
 
 // Takes a byte at each call, so many before it fails. It fails once, and counts the calls that come after that.
@@ -93,7 +104,7 @@ impl Write for FailingWriter {
 }
 
 // The call that writes.
-#[derive(Clone, Copy, Debug)]
+#[derive(Clone, Copy)]
 enum Call {
     Serve,
     // By a schedule of two turns.
@@ -103,127 +114,206 @@ enum Call {
 // A script, and what each call writes of it.
 const SCRIPT: &str = "insert,5,50\nscan,0,9\nfind,5,\n";
 
-const TEXTS: [(Call, &str); 2] = [
-    (Call::Serve, "inserted\n5 50\nend 1\nfound 50\n"),
-    (
-        Call::Replay,
-        "1 P\n0 idle\ninserted\n5 50\nend 1\nfound 50\n0 1 - 18446744073709551615 - 5:50\n",
-    ),
-];
+const SERVED: &[u8] = b"inserted\n5 50\nend 1\nfound 50\n";
 
-// Has a script's text written by this call.
-fn write_to<R: Threads + Wait + Sync>(
+const REPLAYED: &[u8] =
+    b"1 P\n0 idle\ninserted\n5 50\nend 1\nfound 50\n0 1 - 18446744073709551615 - 5:50\n";
+
+const TWO_TURNS: [u8; 2] = [1, 0];
+
+// What is no script, and its refusal.
+const NO_SCRIPT: &str = "insert,5,50\nput,5,5\n";
+
+const REFUSAL: ServeError = ServeError::Script(ScriptError::Row(2, RecordError::UnknownOperation));
+
+// A call that writes this text, or a part of it. It ends so, and has flushed the writer so often.
+#[derive(Clone, Copy)]
+struct Writing<'a> {
+    call: Call,
+    script: &'a str,
+    text: &'a [u8],
+    end: Result<(), ServeError>,
+    flushes: u64,
+}
+
+// The call with a writer that has room for so many bytes and fails in this way, and is called no more then.
+fn expect_writing<R: Threads + Wait + Abort + Sync>(
     rt: &R,
     alloc: Global,
-    call: Call,
-    script: &str,
+    writing: &Writing<'_>,
+    failure: &NamedFailure,
+    room: usize,
+) {
+    let (name, failure) = *failure;
+    let mut writer = FailingWriter::new(alloc, room, failure);
+    let end = write_to(rt, alloc, writing, &mut writer);
+    same_for(rt, &end, &writing.end, &(name, room));
+    are_bytes(rt, &writer.taken, prefix_of(rt, writing.text, room), name);
+    same_for(rt, &writer.later_calls, &0, &(name, room));
+    same_for(rt, &writer.flushes, &writing.flushes, &(name, room));
+}
+
+fn write_to<R: Threads + Wait + Abort + Sync>(
+    rt: &R,
+    alloc: Global,
+    writing: &Writing<'_>,
     writer: &mut FailingWriter,
-) -> Result<Result<(), ServeError>, Fail> {
-    let settings = locked(2, 4, CutKind::Residue)?;
-    let mut script = script.as_bytes();
-    Ok(match call {
-        Call::Serve => serve(rt, alloc, &mut script, writer, &settings, &Open),
-        Call::Replay => serve_replay(alloc, &mut script, writer, &settings, &[1, 0]),
-    })
+) -> Result<(), ServeError> {
+    let settings = locked(rt, 2, 4, CutKind::Residue);
+    let script = writing.script.as_bytes();
+    match writing.call {
+        Call::Serve => serve_to(rt, alloc, script, writer, &settings),
+        Call::Replay => replay_to(alloc, script, writer, &settings),
+    }
 }
 
-// The write after so many bytes fails in this way.
-fn expect_last_call<R: Threads + Wait + Abort + Sync>(
+fn serve_to<R: Threads + Wait + Sync>(
     rt: &R,
     alloc: Global,
-    call: Call,
-    failure: Failure,
-    taken: &[u8],
-) -> Result<(), Fail> {
-    let mut writer = FailingWriter::new(alloc, taken.len(), failure);
-    let end = write_to(rt, alloc, call, SCRIPT, &mut writer)?;
-    assert_eq!(rt; end, Err(ServeError::Output), "{failure:?}");
-    assert_eq!(rt; writer.taken.as_slice(), taken, "{failure:?}");
-    assert_eq!(rt; (writer.later_calls, writer.flushes), (0, 0), "{failure:?}");
-    Ok(())
+    mut script: &[u8],
+    writer: &mut FailingWriter,
+    settings: &Settings,
+) -> Result<(), ServeError> {
+    serve_from(rt, alloc, &mut script, writer, settings, &Open)
 }
 
-#[test]
-fn a_failed_write_is_the_last_call(rt: HostRuntime) -> Result<(), Fail> {
-    for (call, text) in TEXTS {
-        for failure in FAILED_WRITES {
-            for room in 0..text.len() {
-                let taken = &text.as_bytes()[..room];
-                expect_last_call(&rt, rt.alloc(), call, failure, taken)?;
-            }
+fn replay_to(
+    alloc: Global,
+    mut script: &[u8],
+    writer: &mut FailingWriter,
+    settings: &Settings,
+) -> Result<(), ServeError> {
+    replay_from(alloc, &mut script, writer, settings, &TWO_TURNS)
+}
+
+// The calls with each failure, and a writer that has room for the whole text.
+fn expect_writings<R: Threads + Wait + Abort + Sync>(
+    rt: &R,
+    alloc: Global,
+    writings: &[Writing<'_>],
+    failures: &[NamedFailure],
+) {
+    for writing in writings {
+        for failure in failures {
+            expect_writing(rt, alloc, writing, failure, writing.text.len());
         }
     }
-    assert_eq!(rt; ServeError::Output.code(), 70);
-    Ok(())
+}
+
+// The same with room for each number of bytes below that.
+fn expect_broken_off<R: Threads + Wait + Abort + Sync>(
+    rt: &R,
+    alloc: Global,
+    writing: &Writing<'_>,
+    failure: &NamedFailure,
+) {
+    let length = writing.text.len();
+    for room in 0..length {
+        expect_writing(rt, alloc, writing, failure, room);
+    }
+}
+
+fn expect_all_broken_off<R: Threads + Wait + Abort + Sync>(
+    rt: &R,
+    alloc: Global,
+    writings: &[Writing<'_>],
+    failures: &[NamedFailure],
+) {
+    for writing in writings {
+        for failure in failures {
+            expect_broken_off(rt, alloc, writing, failure);
+        }
+    }
+}
+
+const BROKEN_OFF: [Writing<'static>; 2] = [
+    Writing {
+        call: Call::Serve,
+        script: SCRIPT,
+        text: SERVED,
+        end: Err(ServeError::Output),
+        flushes: 0,
+    },
+    Writing {
+        call: Call::Replay,
+        script: SCRIPT,
+        text: REPLAYED,
+        end: Err(ServeError::Output),
+        flushes: 0,
+    },
+];
+
+#[test]
+fn a_failed_write_is_the_last_call(rt: HostRuntime) {
+    expect_all_broken_off(&rt, rt.alloc(), &BROKEN_OFF, &FAILED_WRITES);
+    same(&rt, &ServeError::Output.code(), &70);
 }
 
 // All is written, and then the flush goes wrong.
-fn expect_failed_flush<R: Threads + Wait + Abort + Sync>(
-    rt: &R,
-    alloc: Global,
-    call: Call,
-    kind: ErrorKind,
-    text: &str,
-) -> Result<(), Fail> {
-    let mut writer = FailingWriter::new(alloc, 0, Failure::IsNotFlushed(kind));
-    let end = write_to(rt, alloc, call, SCRIPT, &mut writer)?;
-    assert_eq!(rt; end, Err(ServeError::Output));
-    assert_eq!(rt; writer.taken.as_slice(), text.as_bytes());
-    assert_eq!(rt; writer.later_calls, 0);
-    Ok(())
-}
+const UNFLUSHED: [Writing<'static>; 2] = [
+    Writing {
+        call: Call::Serve,
+        script: SCRIPT,
+        text: SERVED,
+        end: Err(ServeError::Output),
+        flushes: 1,
+    },
+    Writing {
+        call: Call::Replay,
+        script: SCRIPT,
+        text: REPLAYED,
+        end: Err(ServeError::Output),
+        flushes: 1,
+    },
+];
 
 #[test]
-fn a_failed_flush_is_reported(rt: HostRuntime) -> Result<(), Fail> {
-    for (call, text) in TEXTS {
-        for kind in [ErrorKind::Interrupted, ErrorKind::Other] {
-            expect_failed_flush(&rt, rt.alloc(), call, kind, text)?;
-        }
-    }
-    Ok(())
+fn a_failed_flush_is_reported(rt: HostRuntime) {
+    expect_writings(&rt, rt.alloc(), &UNFLUSHED, &FAILED_FLUSHES)
 }
 
 // A writer with just enough room is given all, and is flushed.
-fn expect_all_taken<R: Threads + Wait + Abort + Sync>(
-    rt: &R,
-    alloc: Global,
-    call: Call,
-    text: &str,
-) -> Result<(), Fail> {
-    let mut writer = FailingWriter::new(alloc, text.len(), Failure::TakesNothing);
-    let end = write_to(rt, alloc, call, SCRIPT, &mut writer)?;
-    assert_eq!(rt; end, Ok(()));
-    assert_eq!(rt; writer.taken.as_slice(), text.as_bytes());
-    assert_eq!(rt; writer.flushes, 1);
-    Ok(())
-}
+const WRITTEN: [Writing<'static>; 2] = [
+    Writing {
+        call: Call::Serve,
+        script: SCRIPT,
+        text: SERVED,
+        end: Ok(()),
+        flushes: 1,
+    },
+    Writing {
+        call: Call::Replay,
+        script: SCRIPT,
+        text: REPLAYED,
+        end: Ok(()),
+        flushes: 1,
+    },
+];
 
 #[test]
-fn a_writer_of_single_bytes_is_given_all_and_flushed(rt: HostRuntime) -> Result<(), Fail> {
-    for (call, text) in TEXTS {
-        expect_all_taken(&rt, rt.alloc(), call, text)?;
-    }
-    Ok(())
+fn a_writer_of_single_bytes_is_given_all_and_flushed(rt: HostRuntime) {
+    expect_writings(&rt, rt.alloc(), &WRITTEN, &TAKES_NOTHING)
 }
 
 // What is no script isn't even flushed.
-fn expect_nothing_taken<R: Threads + Wait + Abort + Sync>(
-    rt: &R,
-    alloc: Global,
-    call: Call,
-) -> Result<(), Fail> {
-    let failure = Failure::IsNotFlushed(ErrorKind::Other);
-    let mut writer = FailingWriter::new(alloc, 0, failure);
-    let end = write_to(rt, alloc, call, "insert,5,50\nput,5,5\n", &mut writer)?;
-    assert!(rt; matches!(end, Err(ServeError::Script(_))));
-    assert_eq!(rt; (writer.taken.len(), writer.flushes), (0, 0));
-    Ok(())
-}
+const UNWRITTEN: [Writing<'static>; 2] = [
+    Writing {
+        call: Call::Serve,
+        script: NO_SCRIPT,
+        text: b"",
+        end: Err(REFUSAL),
+        flushes: 0,
+    },
+    Writing {
+        call: Call::Replay,
+        script: NO_SCRIPT,
+        text: b"",
+        end: Err(REFUSAL),
+        flushes: 0,
+    },
+];
 
 #[test]
-fn a_refused_script_leaves_the_writer_alone(rt: HostRuntime) -> Result<(), Fail> {
-    for call in [Call::Serve, Call::Replay] {
-        expect_nothing_taken(&rt, rt.alloc(), call)?;
-    }
-    Ok(())
+fn a_refused_script_leaves_the_writer_alone(rt: HostRuntime) {
+    expect_writings(&rt, rt.alloc(), &UNWRITTEN, &FAILED_FLUSHES)
 }

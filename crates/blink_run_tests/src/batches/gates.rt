@@ -1,14 +1,15 @@
 //! Gates that count the operations which pass them, or keep some waiting for others.
-use crate::batches::{insertions, run_on_new};
+use crate::batches::{are_inserted, insertions, run_on_new};
 use crate::calls::DRIVERS;
-use blink_batch::{Answer, Op};
+use crate::fixtures::same_for;
+use blink_batch::Op;
 use blink_run::{Driver, Gate};
 use std::alloc::Global;
+use std::fmt::Debug;
 use std::process::Abort;
 use std::rt::Clock;
 use std::sync::Wait;
 use std::sync::atomic::{AtomicU64, Ordering};
-use std::test::Fail;
 use std::thread::{self, Threads};
 use std::time::Duration;
 
@@ -29,6 +30,12 @@ impl CountingGate {
             after: AtomicU64::new(0),
         }
     }
+
+    /// So many operations were begun, and so many have ended.
+    pub(crate) fn expect<C: Debug>(&self, rt: &impl Abort, before: u64, after: u64, case: &C) {
+        has_counted(rt, &self.before, before, case);
+        has_counted(rt, &self.after, after, case);
+    }
 }
 
 impl Gate for CountingGate {
@@ -41,26 +48,43 @@ impl Gate for CountingGate {
     }
 }
 
+// What a gate has counted.
+fn has_counted<C: Debug>(rt: &impl Abort, counter: &AtomicU64, expected: u64, case: &C) {
+    same_for(rt, &counter.load(Ordering::SeqCst), &expected, case);
+}
+
+// So many workers insert new keys, and pass the gate.
+fn insert_through<R: Threads + Wait + Abort + Sync, G: Gate + Sync>(
+    rt: &R,
+    alloc: Global,
+    driver: Driver,
+    ops: &[Op],
+    workers: u8,
+    gate: &G,
+) {
+    let ran = run_on_new(rt, alloc, driver, ops, workers, gate);
+    are_inserted(rt, driver, &ran.answers, ops.len())
+}
+
 // Three workers insert ten keys.
 fn expect_passed_twice<R: Threads + Wait + Abort + Sync>(
     rt: &R,
     alloc: Global,
     driver: Driver,
-) -> Result<(), Fail> {
-    let ops = insertions(alloc, 10)?;
-    let gate = CountingGate::new();
-    run_on_new(rt, alloc, driver, &ops, 3, &gate)?;
-    assert_eq!(rt; gate.before.load(Ordering::SeqCst), 10);
-    assert_eq!(rt; gate.after.load(Ordering::SeqCst), 10);
-    Ok(())
+    ops: &[Op],
+    gate: &CountingGate,
+) {
+    insert_through(rt, alloc, driver, ops, 3, gate);
+    has_counted(rt, &gate.before, 10, &driver);
+    has_counted(rt, &gate.after, 10, &driver)
 }
 
 #[test]
-fn each_operation_passes_the_gate_twice(rt: HostRuntime) -> Result<(), Fail> {
+fn each_operation_passes_the_gate_twice(rt: HostRuntime) {
+    let ops = insertions(&rt, rt.alloc(), 10);
     for driver in DRIVERS {
-        expect_passed_twice(&rt, rt.alloc(), driver)?;
+        expect_passed_twice(&rt, rt.alloc(), driver, &ops, &CountingGate::new());
     }
-    Ok(())
 }
 
 // Each operation waits, before its first step, until the other has come to its own. One thread can't pass, in either order.
@@ -92,29 +116,23 @@ impl Gate for MeetingGate {
 }
 
 // Two insertions into an empty index, one by each worker.
-fn expect_meeting<R: Threads + Wait + Abort + Sync>(
-    rt: &R,
-    alloc: Global,
-    driver: Driver,
-) -> Result<(), Fail> {
-    let ops = [Op::Insert(1, 10), Op::Insert(2, 20)];
+const TWO: [Op; 2] = [Op::Insert(1, 10), Op::Insert(2, 20)];
+
+fn expect_meeting<R: Threads + Wait + Abort + Sync>(rt: &R, alloc: Global, driver: Driver) {
     let gate = MeetingGate {
         first: AtomicU64::new(0),
         second: AtomicU64::new(0),
         alone: AtomicU64::new(0),
     };
-    let ran = run_on_new(rt, alloc, driver, &ops, 2, &gate)?;
-    assert_eq!(rt; gate.alone.load(Ordering::SeqCst), 0, "{driver:?}");
-    assert_eq!(rt; ran.answers.as_slice(), [Answer::Inserted; 2].as_slice());
-    Ok(())
+    insert_through(rt, alloc, driver, &TWO, 2, &gate);
+    has_counted(rt, &gate.alone, 0, &driver)
 }
 
 #[test]
-fn two_workers_run_at_once(rt: HostRuntime) -> Result<(), Fail> {
+fn two_workers_run_at_once(rt: HostRuntime) {
     for driver in DRIVERS {
-        expect_meeting(&rt, rt.alloc(), driver)?;
+        expect_meeting(&rt, rt.alloc(), driver);
     }
-    Ok(())
 }
 
 // The operation of one of three workers waits, before its first step, until those of the two others have ended. If either of
@@ -146,37 +164,32 @@ impl<R: Clock> Gate for LastInGate<'_, R> {
     }
 }
 
-// Three insertions into an empty index, one by each worker, of which this one is the last to begin.
+// Three insertions into an empty index, one by each worker.
+const THREE: [Op; 3] = [Op::Insert(0, 1), Op::Insert(1, 1), Op::Insert(2, 1)];
+
+// This worker is the last to begin.
 fn expect_nobody_waits<R: Threads + Wait + Clock + Abort + Sync>(
     rt: &R,
     alloc: Global,
     driver: Driver,
     last: u8,
-) -> Result<(), Fail> {
-    let ops = [Op::Insert(0, 1), Op::Insert(1, 1), Op::Insert(2, 1)];
+) {
     let gate = LastInGate {
         clock: rt,
         last,
         ended: AtomicU64::new(0),
         given_up: AtomicU64::new(0),
     };
-    let ran = run_on_new(rt, alloc, driver, &ops, 3, &gate)?;
-    assert_eq!(rt;
-        gate.given_up.load(Ordering::SeqCst),
-        0,
-        "{driver:?}, {last}"
-    );
-    assert_eq!(rt; gate.ended.load(Ordering::SeqCst), 3);
-    assert_eq!(rt; ran.answers.as_slice(), [Answer::Inserted; 3].as_slice());
-    Ok(())
+    insert_through(rt, alloc, driver, &THREE, 3, &gate);
+    has_counted(rt, &gate.given_up, 0, &(driver, last));
+    has_counted(rt, &gate.ended, 3, &(driver, last))
 }
 
 #[test]
-fn a_worker_that_begins_late_blocks_nobody(rt: HostRuntime) -> Result<(), Fail> {
+fn a_worker_that_begins_late_blocks_nobody(rt: HostRuntime) {
     for driver in DRIVERS {
         for last in 0..3 {
-            expect_nobody_waits(&rt, rt.alloc(), driver, last)?;
+            expect_nobody_waits(&rt, rt.alloc(), driver, last);
         }
     }
-    Ok(())
 }

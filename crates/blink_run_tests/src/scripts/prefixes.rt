@@ -1,12 +1,12 @@
 //! Every prefix of some scripts, and a reading of their records that knows nothing of `csv`, batches or threads.
 use crate::calls::{locked, replayed, served};
+use crate::fixtures::{given, prefix_of, same_for};
 use blink_batch::{Entry, Op, Plain, RecordError, ScriptError};
 use blink_run::{CutKind, ServeError};
 use std::alloc::{AllocError, Global};
 use std::fmt::Write;
 use std::process::Abort;
 use std::sync::Wait;
-use std::test::Fail;
 use std::thread::Threads;
 
 // The scripts of replays in `examples/`, with their schedules, and one in which every kind of record stands.
@@ -23,11 +23,11 @@ const REPLAYS: [(&str, &[u8]); 3] = [
 ];
 
 // The number that a field spells in scripts.
-fn number(field: &str) -> Result<u64, RecordError> {
+fn number(field: &str) -> Option<u64> {
     if field.starts_with('+') || (field.starts_with('0') && field.len() > 1) {
-        return Err(RecordError::BadNumber);
+        return None;
     }
-    field.parse().map_err(|_| RecordError::BadNumber)
+    field.parse().ok()
 }
 
 // What a line asks for.
@@ -40,46 +40,57 @@ enum Request {
     Page(u64, u64),
 }
 
+// What stands before the first comma, and what behind it.
+fn cut_at_comma(text: &str) -> Option<(&str, &str)> {
+    text.split_once(',')
+}
+
 // The three fields of a line.
 fn fields_of(line: &str) -> Option<(&str, &str, &str)> {
-    let (word, behind_word) = line.split_once(',')?;
-    let (second, third) = behind_word.split_once(',')?;
-    if third.contains(',') {
-        None
-    } else {
-        Some((word, second, third))
+    let (word, behind_word) = cut_at_comma(line)?;
+    let (second, third) = cut_at_comma(behind_word)?;
+    match cut_at_comma(third) {
+        Some(_) => None,
+        None => Some((word, second, third)),
     }
 }
 
+// A word that is none is told before a number that is none.
 fn request_of(line: &str) -> Result<Request, RecordError> {
     let Some((word, second, third)) = fields_of(line) else {
         return Err(RecordError::BadShape);
     };
-    match word {
-        "find" | "delete" if !third.is_empty() => Err(RecordError::BadShape),
-        "find" => Ok(Request::Of(Op::Find(number(second)?))),
-        "delete" => Ok(Request::Of(Op::Delete(number(second)?))),
-        _ => request_of_two(word, number_pair(second, third)),
+    let requested = match word {
+        "find" | "delete" if !third.is_empty() => return Err(RecordError::BadShape),
+        "find" | "delete" => request_of_one(word, number(second)),
+        "insert" | "replace" | "scan" | "page" => {
+            request_of_two(word, number(second), number(third))
+        }
+        _ => return Err(RecordError::UnknownOperation),
+    };
+    requested.ok_or(RecordError::BadNumber)
+}
+
+// What a word with one number asks for.
+fn request_of_one(word: &str, key: Option<u64>) -> Option<Request> {
+    match (word, key) {
+        (_, None) => None,
+        ("find", Some(key)) => Some(Request::Of(Op::Find(key))),
+        (_, Some(key)) => Some(Request::Of(Op::Delete(key))),
     }
 }
 
-// The numbers that two fields spell.
-fn number_pair(second: &str, third: &str) -> Result<(u64, u64), RecordError> {
-    Ok((number(second)?, number(third)?))
-}
-
-// What a word with two numbers asks for. A word that is none is told before a number that is none.
-fn request_of_two(
-    word: &str,
-    numbers: Result<(u64, u64), RecordError>,
-) -> Result<Request, RecordError> {
-    match word {
-        "insert" => numbers.map(|(key, pointer)| Request::Of(Op::Insert(key, pointer))),
-        "replace" => numbers.map(|(key, pointer)| Request::Of(Op::Replace(key, pointer))),
-        "scan" => numbers.map(|(lo, hi)| Request::Scan(lo, hi)),
-        "page" => numbers.map(|(lo, n)| Request::Page(lo, n)),
-        _ => Err(RecordError::UnknownOperation),
-    }
+// What a word with two numbers asks for.
+fn request_of_two(word: &str, second: Option<u64>, third: Option<u64>) -> Option<Request> {
+    let (Some(second), Some(third)) = (second, third) else {
+        return None;
+    };
+    Some(match word {
+        "insert" => Request::Of(Op::Insert(second, third)),
+        "replace" => Request::Of(Op::Replace(second, third)),
+        "scan" => Request::Scan(second, third),
+        _ => Request::Page(second, third),
+    })
 }
 
 // Adds the line of an entry.
@@ -114,37 +125,54 @@ fn answer(plain: &mut Plain, request: Request, text: &mut String) -> Result<(), 
     }
 }
 
-// What is read of a script without quotes: the text of its answers, how many operations it has, and the refusal of its first
-// line that is no record.
+// What is read of a script without quotes: a plain map, the text of the answers, how many operations and lines there are, and the
+// refusal of the first line that is no record.
 #[derive(Drop)]
 struct Reading {
+    plain: Plain,
     text: String,
     ops: usize,
+    rows: u64,
     refusal: Option<ScriptError>,
 }
 
-fn read_plainly(alloc: Global, script: &str) -> Result<Reading, AllocError> {
-    let mut plain = Plain::new(alloc);
-    let mut text = String::new(alloc);
-    let mut ops = 0usize;
-    let mut row = 0u64;
-    for line in script.split('\n').filter(|line| !line.is_empty()) {
-        row = row.wrapping_add(1);
-        match request_of(line) {
-            Ok(request) => {
-                if let Request::Of(_) = request {
-                    ops = ops.wrapping_add(1);
-                }
-                answer(&mut plain, request, &mut text)?;
-            }
-            Err(error) => {
-                let refusal = Some(ScriptError::Row(row, error));
-                return Ok(Reading { text, ops, refusal });
-            }
+fn read_plainly(rt: &impl Abort, alloc: Global, script: &str) -> Reading {
+    let mut reading = Reading {
+        plain: Plain::new(alloc),
+        text: String::new(alloc),
+        ops: 0,
+        rows: 0,
+        refusal: None,
+    };
+    reading.read_lines(rt, script);
+    reading
+}
+
+impl Reading {
+    fn read_lines(&mut self, rt: &impl Abort, script: &str) {
+        for line in script.split('\n') {
+            self.read(rt, line);
         }
     }
-    let refusal = None;
-    Ok(Reading { text, ops, refusal })
+
+    // Reads a line, unless it is empty or one before it is refused.
+    fn read(&mut self, rt: &impl Abort, line: &str) {
+        if line.is_empty() || self.refusal.is_some() {
+            return;
+        }
+        self.rows = self.rows.wrapping_add(1);
+        match request_of(line) {
+            Ok(request) => self.answer(rt, request),
+            Err(error) => self.refusal = Some(ScriptError::Row(self.rows, error)),
+        }
+    }
+
+    fn answer(&mut self, rt: &impl Abort, request: Request) {
+        if let Request::Of(_) = request {
+            self.ops = self.ops.wrapping_add(1);
+        }
+        given(rt, answer(&mut self.plain, request, &mut self.text));
+    }
 }
 
 // What stands behind so many lines.
@@ -155,15 +183,10 @@ fn behind(text: &str, lines: usize) -> &str {
 }
 
 // A replay wrote a line for each of so many turns, and then this text.
-fn expect_behind_turns<R: Abort>(
-    rt: &R,
-    output: &[u8],
-    turns: usize,
-    text: &str,
-) -> Result<(), Fail> {
-    let replayed = str::from_utf8(output)?;
-    assert!(rt; behind(replayed, turns).starts_with(text), "{replayed}");
-    Ok(())
+fn expect_behind_turns(rt: &impl Abort, output: &[u8], turns: usize, text: &str) {
+    let replayed = given(rt, str::from_utf8(output));
+    let is_behind = behind(replayed, turns).starts_with(text);
+    same_for(rt, &is_behind, &true, &replayed);
 }
 
 // A script is served and replayed as its records ask.
@@ -172,17 +195,16 @@ fn expect_as_read<R: Threads + Wait + Abort + Sync>(
     alloc: Global,
     script: &str,
     schedule: &[u8],
-) -> Result<(), Fail> {
-    let settings = locked(3, 4, CutKind::Residue)?;
-    let reading = read_plainly(alloc, script)?;
+) {
+    let settings = locked(rt, 3, 4, CutKind::Residue);
+    let reading = read_plainly(rt, alloc, script);
     let outcome = served(rt, alloc, script.as_bytes(), &settings);
     let replay = replayed(alloc, script.as_bytes(), &settings, schedule);
-    assert_eq!(rt; outcome.end, replay.end, "{script}");
+    same_for(rt, &outcome.end, &replay.end, &script);
     match reading.refusal {
         Some(error) => {
             outcome.expect_refusal(rt, ServeError::Script(error));
             replay.expect_refusal(rt, ServeError::Script(error));
-            Ok(())
         }
         None => {
             outcome.expect_text(rt, &reading.text);
@@ -193,12 +215,14 @@ fn expect_as_read<R: Threads + Wait + Abort + Sync>(
 }
 
 #[test]
-fn every_prefix_is_served_as_its_records_ask(rt: HostRuntime) -> Result<(), Fail> {
+fn every_prefix_is_served_as_its_records_ask(rt: HostRuntime) {
     for (script, schedule) in REPLAYS {
         for length in 0..=script.len() {
-            let prefix = str::from_utf8(&script.as_bytes()[..length])?;
-            expect_as_read(&rt, rt.alloc(), prefix, schedule)?;
+            let prefix = given(
+                &rt,
+                str::from_utf8(prefix_of(&rt, script.as_bytes(), length)),
+            );
+            expect_as_read(&rt, rt.alloc(), prefix, schedule);
         }
     }
-    Ok(())
 }

@@ -1,36 +1,36 @@
 //! Which bytes are which records, and readers that give single bytes, fail, or are read too far.
-use crate::calls::{Outcome, locked, replayed, served};
+use crate::calls::{Outcome, locked, replay_from, replayed, serve_from, served};
+use crate::fixtures::{are_bytes, bytes_of, is_shown, prefix_of, same};
 use blink_batch::{RecordError, ScriptError};
-use blink_run::{CutKind, Open, ServeError, serve, serve_replay};
+use blink_run::{CutKind, Open, ServeError};
 use std::alloc::Global;
 use std::io;
 use std::io::Read;
 use std::process::Abort;
 use std::sync::Wait;
-use std::test::Fail;
 use std::thread::Threads;
 
-// What is written of a script, or the line of its refusal, when it is served whole.
-fn told<R: Threads + Wait + Sync>(rt: &R, alloc: Global, script: &[u8]) -> Result<String, Fail> {
-    let settings = locked(2, 16, CutKind::Residue)?;
-    let outcome = served(rt, alloc, script, &settings);
-    match outcome.end {
-        Ok(()) => Ok(String::from_utf8(outcome.output)?),
-        Err(error) if outcome.output.is_empty() => Ok(format!(in alloc; "{error}")?),
-        Err(_) => Err(Fail::from("a refusal after some lines")),
-    }
+// A script, and what is told of it: what is written of it, or the line of its refusal, when it is served whole.
+#[derive(Clone, Copy)]
+struct Told<'a> {
+    case: &'a str,
+    script: &'a [u8],
+    text: &'a str,
 }
 
-// That is told of a script.
-fn expect_told<R: Threads + Wait + Abort + Sync>(
-    rt: &R,
-    alloc: Global,
-    script: &[u8],
-    expected: &str,
-) -> Result<(), Fail> {
-    let given = told(rt, alloc, script)?;
-    assert_eq!(rt; given.as_str(), expected, "{script:?}");
-    Ok(())
+fn expect_told<R: Threads + Wait + Abort + Sync>(rt: &R, alloc: Global, told: &Told<'_>) {
+    let settings = locked(rt, 2, 16, CutKind::Residue);
+    is_told(rt, alloc, &served(rt, alloc, told.script, &settings), told)
+}
+
+fn is_told(rt: &impl Abort, alloc: Global, outcome: &Outcome, told: &Told<'_>) {
+    match outcome.end {
+        Ok(()) => are_bytes(rt, &outcome.output, told.text.as_bytes(), told.case),
+        Err(error) => {
+            outcome.expect_refusal(rt, error);
+            is_shown(rt, alloc, &error, told.text)
+        }
+    }
 }
 
 const BAD_NUMBER: &str = "row 1: bad number";
@@ -43,7 +43,7 @@ const UNKNOWN: &str = "row 1: unknown operation";
 const BOTH: &str = "inserted\nfound 10\n";
 
 #[test]
-fn a_script_may_end_anywhere(rt: HostRuntime) -> Result<(), Fail> {
+fn a_script_may_end_anywhere(rt: HostRuntime) {
     let script = b"insert,1,10\n";
     for length in 0..=script.len() {
         let expected = match length {
@@ -52,112 +52,195 @@ fn a_script_may_end_anywhere(rt: HostRuntime) -> Result<(), Fail> {
             9 => BAD_NUMBER,
             _ => "inserted\n",
         };
-        expect_told(&rt, rt.alloc(), &script[..length], expected)?;
+        let told = Told {
+            case: "a prefix",
+            script: prefix_of(&rt, script, length),
+            text: expected,
+        };
+        expect_told(&rt, rt.alloc(), &told);
     }
-    Ok(())
+}
+
+// What is told of scripts.
+const TOLD: [Told<'static>; 23] = [
+    // Bytes that are no text belong to their field.
+    Told {
+        case: "a number of no text",
+        script: b"find,\xff,",
+        text: BAD_NUMBER,
+    },
+    Told {
+        case: "a word of no text",
+        script: b"find\xc3,1,",
+        text: UNKNOWN,
+    },
+    Told {
+        case: "a third field of no text",
+        script: b"find,1,\x80",
+        text: BAD_SHAPE,
+    },
+    // Quotes stand round a field, and in them commas, quotes and line feeds.
+    Told {
+        case: "all quoted",
+        script: b"\"find\",\"5\",\"\"",
+        text: "absent\n",
+    },
+    Told {
+        case: "some quoted",
+        script: b"\"insert\",\"1\",\"10\"\n\"find\",1,\n",
+        text: BOTH,
+    },
+    Told {
+        case: "a comma in a word",
+        script: b"\"fi,nd\",1,",
+        text: UNKNOWN,
+    },
+    Told {
+        case: "a comma in a number",
+        script: b"find,\"1,2\",",
+        text: BAD_NUMBER,
+    },
+    Told {
+        case: "a comma alone",
+        script: b"find,1,\",\"",
+        text: BAD_SHAPE,
+    },
+    Told {
+        case: "a line feed in a number",
+        script: b"find,\"1\n\",",
+        text: BAD_NUMBER,
+    },
+    Told {
+        case: "quotes in a word",
+        script: b"\"fi\"\"nd\",1,",
+        text: UNKNOWN,
+    },
+    Told {
+        case: "line feeds in a number",
+        script: b"insert,1,\"1\n\n0\"\nfind,1,",
+        text: BAD_NUMBER,
+    },
+    Told {
+        case: "a line feed in a word",
+        script: b"find,5,\n\"pu\nt\",1,1\n",
+        text: "row 2: unknown operation",
+    },
+    Told {
+        case: "an open quote",
+        script: b"insert,1,\"10",
+        text: "inserted\n",
+    },
+    // A byte order mark stands before the first record alone.
+    Told {
+        case: "a mark",
+        script: b"\xef\xbb\xbfinsert,1,10\nfind,1,\n",
+        text: BOTH,
+    },
+    Told {
+        case: "a mark in the second record",
+        script: b"find,5,\n\xef\xbb\xbffind,5,\n",
+        text: "row 2: unknown operation",
+    },
+    Told {
+        case: "a mark alone",
+        script: b"\xef\xbb\xbf",
+        text: "",
+    },
+    Told {
+        case: "a part of a mark",
+        script: b"\xef\xbb",
+        text: BAD_SHAPE,
+    },
+    // Records end at a line feed, a carriage return or both, or with the text. Empty lines are no records, and a space is a field.
+    Told {
+        case: "both ends",
+        script: b"insert,1,10\r\nfind,1,\r\n",
+        text: BOTH,
+    },
+    Told {
+        case: "carriage returns",
+        script: b"insert,1,10\rfind,1,\r",
+        text: BOTH,
+    },
+    Told {
+        case: "the text's end",
+        script: b"insert,1,10\nfind,1,",
+        text: BOTH,
+    },
+    Told {
+        case: "empty lines",
+        script: b"\n\r\n\ninsert,1,10\n\n\r\rfind,1,\n\n",
+        text: BOTH,
+    },
+    Told {
+        case: "empty lines first",
+        script: b"\n\nput,1,1\n",
+        text: UNKNOWN,
+    },
+    Told {
+        case: "a space",
+        script: b"\n \n",
+        text: BAD_SHAPE,
+    },
+];
+
+fn expect_all_told<R: Threads + Wait + Abort + Sync>(rt: &R, alloc: Global, cases: &[Told<'_>]) {
+    for told in cases {
+        expect_told(rt, alloc, told);
+    }
 }
 
 #[test]
-fn bytes_that_are_no_text_belong_to_their_field(rt: HostRuntime) -> Result<(), Fail> {
-    let cases = [
-        (b"find,\xff,".as_slice(), BAD_NUMBER),
-        (b"find\xc3,1,", UNKNOWN),
-        (b"find,1,\x80", BAD_SHAPE),
-    ];
-    for (script, expected) in cases {
-        expect_told(&rt, rt.alloc(), script, expected)?;
-    }
-    Ok(())
+fn bytes_are_told_as_their_records(rt: HostRuntime) {
+    expect_all_told(&rt, rt.alloc(), &TOLD)
 }
 
-// Quotes stand round a field, and in them commas, quotes and line feeds.
-#[test]
-fn fields_may_have_quotes(rt: HostRuntime) -> Result<(), Fail> {
-    let cases = [
-        (b"\"find\",\"5\",\"\"".as_slice(), "absent\n"),
-        (b"\"insert\",\"1\",\"10\"\n\"find\",1,\n", BOTH),
-        (b"\"fi,nd\",1,", UNKNOWN),
-        (b"find,\"1,2\",", BAD_NUMBER),
-        (b"find,1,\",\"", BAD_SHAPE),
-        (b"find,\"1\n\",", BAD_NUMBER),
-        (b"\"fi\"\"nd\",1,", UNKNOWN),
-        (b"insert,1,\"1\n\n0\"\nfind,1,", BAD_NUMBER),
-        (b"find,5,\n\"pu\nt\",1,1\n", "row 2: unknown operation"),
-        (b"insert,1,\"10", "inserted\n"),
-    ];
-    for (script, expected) in cases {
-        expect_told(&rt, rt.alloc(), script, expected)?;
-    }
-    Ok(())
-}
+// That is told of a script with a field of a mebibyte, of one byte, which stands between two parts.
+const WIDE: [(&str, &str, &str, &str); 9] = [
+    ("", "x", ",1,1\nfind,1,\n", UNKNOWN),
+    ("find,", "1", ",\n", BAD_NUMBER),
+    ("find,1,", " ", "\n", BAD_SHAPE),
+    ("insert,1,", "0", "\n", BAD_NUMBER),
+    ("\"", "x", "\",1,1\nfind,1,\n", UNKNOWN),
+    ("find,\"", "1", "\",\n", BAD_NUMBER),
+    ("find,1,\"", " ", "\"\n", BAD_SHAPE),
+    ("insert,1,\"", "0", "\"\n", BAD_NUMBER),
+    ("find,\"", "\n", "\",\n", BAD_NUMBER),
+];
 
-// A byte order mark stands before the first record alone.
-#[test]
-fn a_byte_order_mark_is_passed_over_once(rt: HostRuntime) -> Result<(), Fail> {
-    let cases = [
-        (b"\xef\xbb\xbfinsert,1,10\nfind,1,\n".as_slice(), BOTH),
-        (
-            b"find,5,\n\xef\xbb\xbffind,5,\n",
-            "row 2: unknown operation",
-        ),
-        (b"\xef\xbb\xbf", ""),
-        (b"\xef\xbb", BAD_SHAPE),
-    ];
-    for (script, expected) in cases {
-        expect_told(&rt, rt.alloc(), script, expected)?;
-    }
-    Ok(())
-}
+// The width of the field.
+const WIDTH: usize = 1 << 20;
 
-// Records end at a line feed, a carriage return or both, or with the text. Empty lines are no records, and a space is a field.
-#[test]
-fn lines_end_in_several_ways(rt: HostRuntime) -> Result<(), Fail> {
-    let cases = [
-        (b"insert,1,10\r\nfind,1,\r\n".as_slice(), BOTH),
-        (b"insert,1,10\rfind,1,\r", BOTH),
-        (b"insert,1,10\nfind,1,", BOTH),
-        (b"\n\r\n\ninsert,1,10\n\n\r\rfind,1,\n\n", BOTH),
-        (b"\n\nput,1,1\n", UNKNOWN),
-        (b"\n \n", BAD_SHAPE),
-    ];
-    for (script, expected) in cases {
-        expect_told(&rt, rt.alloc(), script, expected)?;
-    }
-    Ok(())
-}
-
-// That is told of a script with a field of a mebibyte, which stands between these parts.
 fn expect_wide_told<R: Threads + Wait + Abort + Sync>(
     rt: &R,
     alloc: Global,
-    before: &str,
-    byte: &str,
-    after: &str,
+    case: &str,
+    parts: &[(&str, usize)],
     expected: &str,
-) -> Result<(), Fail> {
-    let field = byte.repeat(alloc, 1 << 20)?;
-    let script = format!(in alloc; "{before}{field}{after}")?;
-    let given = told(rt, alloc, script.as_bytes())?;
-    assert_eq!(rt; given.as_str(), expected, "{before}");
-    Ok(())
+) {
+    let script = bytes_of(rt, alloc, parts);
+    let told = Told {
+        case,
+        script: &script,
+        text: expected,
+    };
+    expect_told(rt, alloc, &told)
+}
+
+fn expect_all_wide_told<R: Threads + Wait + Abort + Sync>(
+    rt: &R,
+    alloc: Global,
+    cases: &[(&str, &str, &str, &str)],
+) {
+    for &(before, byte, after, expected) in cases {
+        let parts = [(before, 1), (byte, WIDTH), (after, 1)];
+        expect_wide_told(rt, alloc, before, &parts, expected);
+    }
 }
 
 #[test]
-fn fields_may_be_wide(rt: HostRuntime) -> Result<(), Fail> {
-    for (before, byte, after, expected) in [
-        ("", "x", ",1,1\nfind,1,\n", UNKNOWN),
-        ("find,", "1", ",\n", BAD_NUMBER),
-        ("find,1,", " ", "\n", BAD_SHAPE),
-        ("insert,1,", "0", "\n", BAD_NUMBER),
-        ("\"", "x", "\",1,1\nfind,1,\n", UNKNOWN),
-        ("find,\"", "1", "\",\n", BAD_NUMBER),
-        ("find,1,\"", " ", "\"\n", BAD_SHAPE),
-        ("insert,1,\"", "0", "\"\n", BAD_NUMBER),
-        ("find,\"", "\n", "\",\n", BAD_NUMBER),
-    ] {
-        expect_wide_told(&rt, rt.alloc(), before, byte, after, expected)?;
-    }
-    Ok(())
+fn fields_may_be_wide(rt: HostRuntime) {
+    expect_all_wide_told(&rt, rt.alloc(), &WIDE)
 }
 
 // Gives a byte at each call, and fails at the call after so many.
@@ -188,58 +271,56 @@ impl<'a> Read for ByteReader<'a> {
 const SCRIPT: &[u8] = b"\xef\xbb\xbfinsert,5,50\nscan,0,9\nfind,5,\n";
 
 // Serves the script where its reader fails after so many calls.
-fn served_bytewise<R: Threads + Wait + Sync>(
+fn served_bytewise<R: Threads + Wait + Abort + Sync>(
     rt: &R,
     alloc: Global,
     calls: usize,
-) -> Result<Outcome, Fail> {
-    let settings = locked(2, 16, CutKind::Residue)?;
+) -> Outcome {
+    let settings = locked(rt, 2, 16, CutKind::Residue);
     let mut script = ByteReader {
         text: SCRIPT,
         calls,
     };
     let mut output = Vec::new(alloc);
-    let end = serve(rt, alloc, &mut script, &mut output, &settings, &Open);
-    Ok(Outcome {
+    let end = serve_from(rt, alloc, &mut script, &mut output, &settings, &Open);
+    Outcome {
         output,
         end,
         unread: script.text.len(),
-    })
+    }
 }
 
 // Replays it.
-fn replayed_bytewise(alloc: Global, calls: usize) -> Result<Outcome, Fail> {
-    let settings = locked(2, 16, CutKind::Residue)?;
+fn replayed_bytewise(rt: &impl Abort, alloc: Global, calls: usize) -> Outcome {
+    let settings = locked(rt, 2, 16, CutKind::Residue);
     let mut script = ByteReader {
         text: SCRIPT,
         calls,
     };
     let mut output = Vec::new(alloc);
-    let end = serve_replay(alloc, &mut script, &mut output, &settings, &[0]);
-    Ok(Outcome {
+    let end = replay_from(alloc, &mut script, &mut output, &settings, &[0]);
+    Outcome {
         output,
         end,
         unread: script.text.len(),
-    })
+    }
 }
 
 #[test]
-fn a_reader_may_fail_at_any_call(rt: HostRuntime) -> Result<(), Fail> {
+fn a_reader_may_fail_at_any_call(rt: HostRuntime) {
     let refusal = ServeError::Script(ScriptError::Read);
     // A call for each byte, and one that tells the end.
     for calls in 0..=SCRIPT.len() {
-        served_bytewise(&rt, rt.alloc(), calls)?.expect_refusal(&rt, refusal);
-        replayed_bytewise(rt.alloc(), calls)?.expect_refusal(&rt, refusal);
+        served_bytewise(&rt, rt.alloc(), calls).expect_refusal(&rt, refusal);
+        replayed_bytewise(&rt, rt.alloc(), calls).expect_refusal(&rt, refusal);
     }
-    assert_eq!(rt; refusal.code(), 15);
-    Ok(())
+    same(&rt, &refusal.code(), &15);
 }
 
 #[test]
-fn a_reader_may_give_single_bytes(rt: HostRuntime) -> Result<(), Fail> {
-    let outcome = served_bytewise(&rt, rt.alloc(), 1000)?;
+fn a_reader_may_give_single_bytes(rt: HostRuntime) {
+    let outcome = served_bytewise(&rt, rt.alloc(), 1000);
     outcome.expect_text(&rt, "inserted\n5 50\nend 1\nfound 50\n");
-    Ok(())
 }
 
 // No more is read of a script than csv's reader takes at a time: 8,192 bytes, behind those of the beginning that it looks at for a
@@ -247,20 +328,26 @@ fn a_reader_may_give_single_bytes(rt: HostRuntime) -> Result<(), Fail> {
 const READ_AT_MOST: usize = 3 + 8192;
 
 // The first record of these is refused.
-fn expect_first_refused<R: Abort>(rt: &R, length: usize, outcome: &Outcome) {
+fn expect_first_refused(rt: &impl Abort, length: usize, outcome: &Outcome) {
     let row = ScriptError::Row(1, RecordError::BadShape);
     outcome.expect_refusal(rt, ServeError::Script(row));
     assert!(rt; length.saturating_sub(outcome.unread) <= READ_AT_MOST);
 }
 
+// By both calls.
+fn expect_first_refused_by_both<R: Threads + Wait + Abort + Sync>(
+    rt: &R,
+    alloc: Global,
+    script: &[u8],
+) {
+    let settings = locked(rt, 2, 16, CutKind::Residue);
+    let length = script.len();
+    expect_first_refused(rt, length, &served(rt, alloc, script, &settings));
+    expect_first_refused(rt, length, &replayed(alloc, script, &settings, &[]))
+}
+
 #[test]
-fn garbage_is_refused_at_its_first_record(rt: HostRuntime) -> Result<(), Fail> {
-    let settings = locked(2, 16, CutKind::Residue)?;
-    let records = "garbage\n".repeat(rt.alloc(), 1_000_000)?;
-    let script = records.as_bytes();
-    let outcome = served(&rt, rt.alloc(), script, &settings);
-    expect_first_refused(&rt, script.len(), &outcome);
-    let outcome = replayed(rt.alloc(), script, &settings, &[]);
-    expect_first_refused(&rt, script.len(), &outcome);
-    Ok(())
+fn garbage_is_refused_at_its_first_record(rt: HostRuntime) {
+    let script = bytes_of(&rt, rt.alloc(), &[("garbage\n", 1_000_000)]);
+    expect_first_refused_by_both(&rt, rt.alloc(), &script)
 }
