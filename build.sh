@@ -60,21 +60,13 @@ output_of() {
     fi
 }
 
-# How many processes prove a crate: one for each processor where nothing else can be done beside it, one where only the end waits for it,
-# and else half as many as processors, since two such crates are proved side by side.
+# How many processes prove a crate: one for each processor where nothing else can be done beside it, one where more don't help or others are
+# waited for, and else half as many as processors, since two such crates are proved side by side.
 jobs_of() {
     case $1 in
+    index_main | show_main | blink_rows | blink_line | blink_replay) echo 1 ;;
     blink_machine | blink_run | "$crate") echo "$processors" ;;
-    blink_rows | blink_line) echo 1 ;;
     *) echo $(((processors + 1) / 2)) ;;
-    esac
-}
-
-# The processors go to what others wait for first.
-priority_of() {
-    case $1 in
-    blink_rows | blink_line) echo 10 ;;
-    *) echo 0 ;;
     esac
 }
 
@@ -94,13 +86,12 @@ make_crate() {
     set -- "$@" --antt-project "$kit/rattle/logic/antt-project.json" --logic-built "$kit/logic_built" --links "$1="
     output=$(output_of "$1")
     compiled="--toolchain $kit/toolchain --backend llvm"
-    rattle="nice -n $(priority_of "$1") rattle"
     # shellcheck disable=SC2086
     case $output in
-    *.rlib) (cd "$1" && $rattle build --crate-name "$@" --statements -o "$output" src/lib.rt) ;;
-    *.a) (cd "$1" && $rattle build --crate-name "$@" $compiled --crate-type staticlib -o "$output" src/lib.rt) ;;
+    *.rlib) (cd "$1" && rattle build --crate-name "$@" --statements -o "$output" src/lib.rt) ;;
+    *.a) (cd "$1" && rattle build --crate-name "$@" $compiled --crate-type staticlib -o "$output" src/lib.rt) ;;
     *)
-        (cd "$1" && $rattle build --crate-name "$@" $compiled -o "$output.o" src/main.rt) &&
+        (cd "$1" && rattle build --crate-name "$@" $compiled -o "$output.o" src/main.rt) &&
             "$kit/bin/rattle-link" --target x86_64-unknown-linux-gnu --toolchain "$kit/toolchain" -o "$1/$output" "$1/$output.o" \
                 "$kit/c/libos_c.a" "$kit/c/liblibc_c.a"
         ;;
