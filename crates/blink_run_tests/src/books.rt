@@ -82,7 +82,8 @@ fn run_play<B: Origin + Send + Sync, R: Threads + Wait + Abort + Sync>(
     play: &Play<'_>,
 )
     requires lawful { IsLawfulCut B.ops B.assignment.workers B.assignment.lanes }
-    requires picked { (B.start ≡ index.now) × (B.ops ≡ work.now.batch) × (B.assignment ≡ work.now.cut) }
+    requires picked { (B.start ≡ index.now) × (B.ops ≡ work.now.batch)
+        × (B.assignment ≡ work.now.cut) }
 {
     let book = Book::<B>::new(alloc, index.rest(), &work.batch, &work.cut);
     let mut book = given(rt, book);
