@@ -1,7 +1,6 @@
 //! The command line of the programs `blink` and `blink-show`: what their words ask for, and how the programs end.
 #![tactic(auto)]
 
-mod command;
 mod end;
 mod line;
 mod value;

@@ -6,9 +6,9 @@ ghost use Rattle.blink_settings.specs.{IsAllowed, PlainSettings};
 ghost use Rattle.blink_line.specs.Codes.{code_of_line_error};
 ghost use Rattle.blink_line.specs.Line.{as_replay, AreTurns, Asks, AsksToReplay, AsksToRun, AsksToShow, HasAllowedSizes, HasSizes, HasTurns, IsBadValue, IsTaken, IsTakenToShow, Means, Shows, SubcommandMeans, SubcommandShows, value};
 
-use crate::command::{matches_of, show_matches_of};
 use crate::value::{cut_of, driver_of, fan_of, schedule_of, workers_of};
 use blink_batch::read_number;
+use blink_grammar::{matches_of, show_matches_of};
 use blink_settings::{CutKind, Driver, Settings};
 use clap::ArgMatches;
 use clap::error::ErrorKind;

@@ -2,12 +2,42 @@
 mod usage;
 
 use crate::fixtures::{given, is_shown, same_for, settings};
+use blink_grammar::{matches_of, show_matches_of};
 use blink_line::{Line, LineError, Turns, read_line, read_show};
 use blink_run::CutKind::{Ranges, Residue};
 use blink_run::Driver::{Live, Locked};
 use blink_run::{CutKind, Driver, Settings};
+use clap::ArgMatches;
 use std::alloc::Global;
 use std::process::Abort;
+
+// In the words of this subcommand an option has this value, given or by default.
+fn finds(
+    rt: &impl Abort,
+    matches: &ArgMatches<'_>,
+    subcommand: &str,
+    option: &str,
+    expected: &str,
+) {
+    match matches.subcommand() {
+        Some((name, found)) => {
+            same_for(rt, &name, &subcommand, &option);
+            same_for(rt, &found.get_str(option), &Some(expected), &option);
+        }
+        None => panic!(rt; "no subcommand"),
+    }
+}
+
+#[test]
+fn options_by_the_grammar(rt: HostRuntime) {
+    let words = ["blink", "run", "--fan", "32"];
+    let matches = given(&rt, matches_of(rt.alloc(), &words));
+    finds(&rt, &matches, "run", "fan", "32");
+    finds(&rt, &matches, "run", "workers", "4");
+    let words = ["blink", "replay", "--seed", "7"];
+    let matches = given(&rt, show_matches_of(rt.alloc(), &words));
+    finds(&rt, &matches, "replay", "seed", "7");
+}
 
 // The words of a line, which single spaces separate: between two spaces, and behind one at the end, there is an empty word.
 fn words_of<'a>(rt: &impl Abort, alloc: Global, line: &'a str) -> Vec<&'a str> {

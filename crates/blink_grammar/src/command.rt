@@ -3,7 +3,7 @@ ghost use Rattle.std.specs.Prelude.{◌≡◌, false, codes, IfOk, IfErr};
 ghost use Rattle.clap.specs.Words.{app_of, kind_of, new_app, rule_of, subcommand_of, subcommand_rows_of};
 ghost use Rattle.clap.specs.Walk.{texts};
 ghost use Rattle.clap.specs.declared.builder.command.Command.TheViews.{out-Command};
-ghost use Rattle.blink_line.specs.Line.{IsTaken, IsTakenToShow, blink, option, option_or, replay, replay_or_seed, run, show, with_sizes};
+ghost use Rattle.blink_grammar.specs.Grammar.{IsTaken, IsTakenToShow, blink, option, option_or, replay, replay_or_seed, run, show, with_sizes};
 
 use clap::error::ErrorKind;
 use clap::{Arg, ArgMatches, Command};
