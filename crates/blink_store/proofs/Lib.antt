@@ -1,5 +1,6 @@
 pub mod ChangedLists
 pub mod PagesByNumber
+pub mod PagesAfterChange
 pub mod HoldersOfPages
 pub mod ChangedHolders
 pub mod ComparedStores
