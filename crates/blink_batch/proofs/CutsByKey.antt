@@ -2,8 +2,8 @@
 use Rattle.std.proofs.Common.{◌≡◌, ◌<◌, ◌∙◌, ℕ, zero, suc, ◌∷◌, [], List, length, map, get_or, refl, sym, ap, arith}
 use Rattle.std.specs.List.{zip, All}
 use Rattle.std.proofs.lemmas.List.{length-map}
-use Rattle.blink_batch.specs.declared.operation.Op.{Op}
-use Rattle.blink_batch.specs.Operation.{key_of}
+use Rattle.blink_operation.specs.declared.operation.Op.{Op}
+use Rattle.blink_operation.specs.Operation.{key_of}
 use Rattle.blink_batch.specs.Cut.{IsLawfulCut}
 
 module _ (worker_of : ℕ → ℕ) where

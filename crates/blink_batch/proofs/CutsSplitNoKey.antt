@@ -4,9 +4,9 @@ use Rattle.std.proofs.lemmas.Bool.{cases_eq}
 use Rattle.std.proofs.lemmas.List.{get_or_default}
 use Rattle.std.proofs.lemmas.Slice.Zip.{get_or-zip, length-zip}
 use Rattle.std.specs.List.{All}
-use Rattle.blink_batch.specs.declared.operation.Op.{Op}
-use Rattle.blink_batch.specs.declared.operation.Op.TheVariants.{Find}
-use Rattle.blink_batch.specs.Operation.{key_of}
+use Rattle.blink_operation.specs.declared.operation.Op.{Op}
+use Rattle.blink_operation.specs.declared.operation.Op.TheVariants.{Find}
+use Rattle.blink_operation.specs.Operation.{key_of}
 use Rattle.blink_batch.specs.Cut.{IsFirstSplitKey, IsLawfulCut, IsSplitKey}
 use Rattle.blink_batch.proofs.OneThread.{same_worker_from_key}
 

@@ -3,7 +3,7 @@ use Rattle.std.proofs.Common.{◌≡◌, ◌≢◌, ◌<◌, ◌≤◌, ◌+◌,
 use Rattle.std.specs.Prelude.{⊤}
 use Rattle.std.specs.List.{flat_map}
 use Rattle.blink_batch.specs.declared.batch.TheConstants.{BATCH_LIMIT}
-use Rattle.blink_batch.specs.declared.operation.Op.{Op}
+use Rattle.blink_operation.specs.declared.operation.Op.{Op}
 use Rattle.blink_batch.specs.declared.record.Request.{Request}
 use Rattle.blink_batch.specs.declared.record.Request.TheVariants as request
 use Rattle.blink_batch.specs.declared.script.Part.{Part}

@@ -7,13 +7,13 @@ use Rattle.std.proofs.lemmas.Option.{get_or_from_slice_get, slice_get-get_or, sl
 use Rattle.std.proofs.lemmas.Slice.Zip.{get_or-zip, length-zip}
 use Rattle.std.proofs.Math.Seq.{get_or-append_seam}
 use Rattle.std.specs.List.{All, AllByRecursion, slice_get, zip}
-use Rattle.blink_batch.specs.declared.entry.Entry.{Entry}
-use Rattle.blink_batch.specs.declared.operation.Op.{Op}
-use Rattle.blink_batch.specs.declared.operation.Op.TheVariants.{Find}
-use Rattle.blink_batch.specs.declared.operation.Answer.{Answer}
-use Rattle.blink_batch.specs.declared.operation.Answer.TheVariants.{Absent}
-use Rattle.blink_batch.specs.PlainMap.{pointer_of}
-use Rattle.blink_batch.specs.Operation.{key_of, answers, map_after, map_after_all}
+use Rattle.blink_operation.specs.declared.entry.Entry.{Entry}
+use Rattle.blink_operation.specs.declared.operation.Op.{Op}
+use Rattle.blink_operation.specs.declared.operation.Op.TheVariants.{Find}
+use Rattle.blink_operation.specs.declared.operation.Answer.{Answer}
+use Rattle.blink_operation.specs.declared.operation.Answer.TheVariants.{Absent}
+use Rattle.blink_operation.specs.PlainMap.{pointer_of}
+use Rattle.blink_operation.specs.Operation.{key_of, answers, map_after, map_after_all}
 use Rattle.blink_batch.specs.Cut.{IsLawfulCut}
 use Rattle.blink_batch.specs.Order.{operations_at, is_worker, lane_of, part_of, places_from}
 use Rattle.blink_batch.specs.Cell.{cell_answers, cell_after_all, is_on_key, on_key}

@@ -2,7 +2,7 @@
 use Rattle.std.proofs.Common.{◌≡◌, ℕ, zero, suc, ◌+◌, ◌<◌, ◌≤◌, List, length, get_or, set, replicate, Option, None, Some, ap, sym, ◌∙◌, subst, inl, inr, arith}
 use Rattle.std.proofs.lemmas.Bool.{cases_eq, cases_lt}
 use Rattle.std.proofs.lemmas.List.{get_or-replicate, get_or-set_other, get_or-set_same}
-use Rattle.blink_batch.specs.declared.operation.Op.{Op}
+use Rattle.blink_operation.specs.declared.operation.Op.{Op}
 use Rattle.blink_batch.specs.Cut.{IsSplitKey, key_at}
 use Rattle.blink_batch.specs.declared.last_places.LastPlaces.{LastPlaces}
 use Rattle.blink_batch.specs.declared.last_places.TheConstants.{BUCKETS}

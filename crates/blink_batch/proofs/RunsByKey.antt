@@ -3,12 +3,12 @@ use Rattle.std.proofs.Common.{subst, map, ◌≡◌, ℕ, ◌<◌, List, [], ◌
 use Rattle.std.proofs.lemmas.Bool.{cases_eq, eq-eqb, ne_eqb, cases_order, ltb-true, cond_both}
 use Rattle.std.proofs.lemmas.Bool.Decides.{nat_tests}
 use Rattle.std.specs.List.{AllByRecursion, zip, filter}
-use Rattle.blink_batch.specs.declared.entry.Entry.{Entry}
-use Rattle.blink_batch.specs.declared.operation.Op.{Op}
-use Rattle.blink_batch.specs.declared.operation.Op.TheVariants.{Find, Insert, Delete, Replace}
-use Rattle.blink_batch.specs.declared.operation.Answer.{Answer}
-use Rattle.blink_batch.specs.PlainMap.{entry, IsAscending, pointer_of, added, removed, replaced}
-use Rattle.blink_batch.specs.Operation.{key_of, answer_at, cell_after, map_at, answer_of, map_after, answers, map_after_all}
+use Rattle.blink_operation.specs.declared.entry.Entry.{Entry}
+use Rattle.blink_operation.specs.declared.operation.Op.{Op}
+use Rattle.blink_operation.specs.declared.operation.Op.TheVariants.{Find, Insert, Delete, Replace}
+use Rattle.blink_operation.specs.declared.operation.Answer.{Answer}
+use Rattle.blink_operation.specs.PlainMap.{entry, IsAscending, pointer_of, added, removed, replaced}
+use Rattle.blink_operation.specs.Operation.{key_of, answer_at, cell_after, map_at, answer_of, map_after, answers, map_after_all}
 use Rattle.blink_batch.specs.Cell.{cell_answers, cell_after_all, is_on_key, on_key}
 
 -- a key that was absent maps to the pointer of the entry added

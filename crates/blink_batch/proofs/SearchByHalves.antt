@@ -8,8 +8,8 @@ use Rattle.std.proofs.lemmas.Bool.Decides.{nat_tests}
 use Rattle.std.proofs.lemmas.Cmp.{ranked}
 use Rattle.std.proofs.lemmas.List.{get_or_default}
 use Rattle.std.proofs.lemmas.List.Sorted.{IsNonDecreasingBy-from_default}
-use Rattle.blink_batch.specs.declared.entry.Entry.{Entry}
-use Rattle.blink_batch.specs.PlainMap.{entry, IsAscending, pointer_of, added, removed, replaced}
+use Rattle.blink_operation.specs.declared.entry.Entry.{Entry}
+use Rattle.blink_operation.specs.PlainMap.{entry, IsAscending, pointer_of, added, removed, replaced}
 use Rattle.blink_batch.specs.Search.{key_at, IsPlaceOf, IsGapFor}
 
 -- what holds of each entry holds of the one at a place

@@ -1,8 +1,8 @@
 -- A map cut by keys: what operations on one key answer and leave follows from the one cell with that key's pointer.
 use Rattle.std.specs.Prelude.{ℕ, ◌==◌, List, [], ◌∷◌, Bool, Option, filter}
-use Rattle.blink_batch.specs.declared.operation.Op.{Op}
-use Rattle.blink_batch.specs.declared.operation.Answer.{Answer}
-use Rattle.blink_batch.specs.Operation.{key_of, answer_at, cell_after}
+use Rattle.blink_operation.specs.declared.operation.Op.{Op}
+use Rattle.blink_operation.specs.declared.operation.Answer.{Answer}
+use Rattle.blink_operation.specs.Operation.{key_of, answer_at, cell_after}
 
 -- the answers of operations one after another on one cell
 abbrev pub cell_answers : Option ℕ → List Op → List Answer

@@ -4,9 +4,9 @@ use Rattle.std.specs.List.{zip}
 use Rattle.blink_batch.specs.declared.cut.CutError.{CutError}
 use Rattle.blink_batch.specs.declared.cut.CutError.TheVariants.{BadWorkers, WrongLength, BadLane, SplitKey, BadBounds, OutOfMemory}
 use Rattle.blink_batch.specs.declared.cut.TheConstants.{WORKER_LIMIT}
-use Rattle.blink_batch.specs.declared.operation.Op.{Op}
-use Rattle.blink_batch.specs.declared.operation.Op.TheVariants.{Find}
-use Rattle.blink_batch.specs.Operation.{key_of}
+use Rattle.blink_operation.specs.declared.operation.Op.{Op}
+use Rattle.blink_operation.specs.declared.operation.Op.TheVariants.{Find}
+use Rattle.blink_operation.specs.Operation.{key_of}
 
 -- the number of workers, and the worker of each operation
 pub record Assignment : Type 0 where

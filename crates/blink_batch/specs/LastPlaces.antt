@@ -1,6 +1,6 @@
 -- The last earlier place of a batch on each key, in a table of buckets.
 use Rattle.std.specs.Prelude.{ℕ, ◌≡◌, ◌<◌, ◌*◌, ◌/◌, ◌%◌, ◌^◌, List, Option, None, Some, slice_index_or}
-use Rattle.blink_batch.specs.declared.operation.Op.{Op}
+use Rattle.blink_operation.specs.declared.operation.Op.{Op}
 use Rattle.blink_batch.specs.declared.last_places.LastPlaces.{LastPlaces}
 use Rattle.blink_batch.specs.declared.last_places.TheConstants.{BUCKETS}
 use Rattle.blink_batch.specs.Cut.{key_at}

@@ -1,10 +1,10 @@
 -- A batch's operations in an order other than the batch's, as concurrent workers decide them.
 use Rattle.std.specs.Prelude.{ℕ, ◌≡◌, ◌<◌, ◌+◌, ◌==◌, List, [], ◌∷◌, length, filter, Bool, false, Option, Some, None, slice_get, drop, All}
 use Rattle.std.specs.List.{filter_map, zip}
-use Rattle.blink_batch.specs.declared.entry.Entry.{Entry}
-use Rattle.blink_batch.specs.declared.operation.Op.{Op}
-use Rattle.blink_batch.specs.declared.operation.Answer.{Answer}
-use Rattle.blink_batch.specs.Operation.{answers}
+use Rattle.blink_operation.specs.declared.entry.Entry.{Entry}
+use Rattle.blink_operation.specs.declared.operation.Op.{Op}
+use Rattle.blink_operation.specs.declared.operation.Answer.{Answer}
+use Rattle.blink_operation.specs.Operation.{answers}
 
 -- the operations at these places of a batch
 abbrev pub operations_at : List Op → List ℕ → List Op

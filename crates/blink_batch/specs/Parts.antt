@@ -1,7 +1,7 @@
 -- A script as far as it is read: the closed parts, which nothing joins any more, and the operations of the open batch.
 use Rattle.std.specs.Prelude.{◌≤◌, List, [], ◌∷◌, ◌++◌, length}
 use Rattle.blink_batch.specs.declared.batch.TheConstants.{BATCH_LIMIT}
-use Rattle.blink_batch.specs.declared.operation.Op.{Op}
+use Rattle.blink_operation.specs.declared.operation.Op.{Op}
 use Rattle.blink_batch.specs.declared.record.Request.{Request}
 use Rattle.blink_batch.specs.declared.record.Request.TheVariants as request
 use Rattle.blink_batch.specs.declared.script.Part.{Part}

@@ -1,8 +1,8 @@
 -- The meaning of one record of a script: an operation, a scan or a page, or a refusal.
 use Rattle.std.specs.Prelude.{ℕ, List, [], ◌∷◌, Option, Some, None, Result, Ok, Err, if◌then◌else◌, codes}
 use Rattle.std.specs.Str.{bytes_eq}
-use Rattle.blink_batch.specs.declared.operation.Op.{Op}
-use Rattle.blink_batch.specs.declared.operation.Op.TheVariants.{Find, Insert, Delete, Replace}
+use Rattle.blink_operation.specs.declared.operation.Op.{Op}
+use Rattle.blink_operation.specs.declared.operation.Op.TheVariants.{Find, Insert, Delete, Replace}
 use Rattle.blink_batch.specs.declared.error.RecordError.{RecordError}
 use Rattle.blink_batch.specs.declared.error.RecordError.TheVariants.{BadShape, UnknownOperation, BadNumber}
 use Rattle.blink_batch.specs.declared.record.Request.{Request}

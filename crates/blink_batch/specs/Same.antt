@@ -3,8 +3,8 @@ use Rattle.std.specs.Prelude.{ℕ, ◌≡◌, List, Bool, true, false, ◌==◌,
 use Rattle.std.specs.Bool.{Decides}
 use Rattle.std.specs.Cmp.{IsEquivalence, decided, first_so, second_so, unsigned_Decides}
 use Rattle.std.specs.Cmp.Lexicographic.{pointwise, pointwise_decides}
-use Rattle.blink_batch.specs.declared.operation.Op.{Op}
-use Rattle.blink_batch.specs.declared.operation.Op.TheVariants.{Find, Insert, Delete, Replace}
+use Rattle.blink_operation.specs.declared.operation.Op.{Op}
+use Rattle.blink_operation.specs.declared.operation.Op.TheVariants.{Find, Insert, Delete, Replace}
 use Rattle.blink_batch.specs.Cut.{Assignment}
 use mathlib.Core.Path.{refl, sym, ◌∙◌, ap}
 use mathlib.Core.Bool.{true≢false}

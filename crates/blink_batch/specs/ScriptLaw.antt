@@ -6,7 +6,7 @@ use Rattle.blink_batch.specs.declared.batch.TheConstants.{BATCH_LIMIT}
 use Rattle.blink_batch.specs.declared.error.RecordError.{RecordError}
 use Rattle.blink_batch.specs.declared.error.ScriptError.{ScriptError}
 use Rattle.blink_batch.specs.declared.error.ScriptError.TheVariants.{Row, TooMany}
-use Rattle.blink_batch.specs.declared.operation.Op.{Op}
+use Rattle.blink_operation.specs.declared.operation.Op.{Op}
 use Rattle.blink_batch.specs.declared.record.Request.{Request}
 use Rattle.blink_batch.specs.declared.record.Request.TheVariants as request
 use Rattle.blink_batch.specs.declared.script.Part.{Part}

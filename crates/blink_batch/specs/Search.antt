@@ -1,7 +1,7 @@
 -- The end of a search for a key in a plain map.
 use Rattle.std.specs.Prelude.{ℕ, ◌≡◌, ◌<◌, ◌≤◌, List, length, slice_index_or}
-use Rattle.blink_batch.specs.declared.entry.Entry.{Entry}
-use Rattle.blink_batch.specs.PlainMap.{entry}
+use Rattle.blink_operation.specs.declared.entry.Entry.{Entry}
+use Rattle.blink_operation.specs.PlainMap.{entry}
 
 -- the key of the entry at a place
 abbrev pub key_at : List Entry → ℕ → ℕ

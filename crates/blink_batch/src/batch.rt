@@ -1,11 +1,11 @@
 //! Operations that are run together.
 ghost use Rattle.std.specs.Prelude.{◌≡◌, ◌<◌, ◌≤◌, ◌↔◌, List, length, All, count_by, IfOk, IsOk, Err};
-ghost use Rattle.blink_batch.specs.declared.operation.Op.{Op};
+ghost use Rattle.blink_operation.specs.declared.operation.Op.{Op};
 ghost use Rattle.blink_batch.specs.declared.batch.BatchError.TheVariants.{TooMany};
 ghost use Rattle.blink_batch.specs.declared.batch.TheConstants.{BATCH_LIMIT};
-ghost use Rattle.blink_batch.specs.Batch.{FitsWords, is_insert};
+ghost use Rattle.blink_operation.specs.Batch.{FitsWords, is_insert};
 
-use crate::operation::Op;
+use blink_operation::Op;
 use std::marker::Model;
 use thiserror::Error;
 
@@ -60,7 +60,7 @@ impl Batch {
         }
         let mut inserts = 0usize;
         for op in &ops {
-            if op.is_insert() {
+            if is_insert(op) {
                 inserts += 1;
             }
         }
@@ -115,4 +115,17 @@ impl Eq for Batch {
     ghost use Rattle.blink_batch.specs.Same.{same_operations_laws};
 
     ghost laws = { same_operations_laws };
+}
+
+// Whether an operation is an insertion. Its numbers are read, so they are known to be words.
+fn is_insert(op: &Op) -> bool
+    ensures value { result ≡ is_insert op.now }
+    ensures words { FitsWords op.now }
+{
+    match *op {
+        Op::Find(_key) => false,
+        Op::Insert(_key, _pointer) => true,
+        Op::Delete(_key) => false,
+        Op::Replace(_key, _pointer) => false,
+    }
 }

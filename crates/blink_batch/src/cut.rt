@@ -4,7 +4,7 @@ ghost use Rattle.std.specs.List.Sorted.{IsStrictlyIncreasing};
 ghost use Rattle.blink_batch.specs.declared.batch.TheConstants.{BATCH_LIMIT};
 ghost use Rattle.blink_batch.specs.declared.cut.CutError.TheVariants.{BadBounds, BadWorkers, OutOfMemory};
 ghost use Rattle.blink_batch.specs.declared.cut.TheConstants.{WORKER_LIMIT};
-ghost use Rattle.blink_batch.specs.Operation.{key_of};
+ghost use Rattle.blink_operation.specs.Operation.{key_of};
 ghost use Rattle.blink_batch.specs.Codes.{code_of_cut_error};
 ghost use Rattle.blink_batch.specs.Ranges.{AreBadBounds, MayBound, lane_in_ranges, lanes_by_ranges};
 ghost use Rattle.blink_batch.specs.Cut.{AreLanes, Assignment, IsCutFault, IsFirstSplitKey, IsLawfulCut, IsSplitKey, MayWork};
@@ -12,7 +12,7 @@ ghost use Rattle.blink_batch.specs.Cut.{AreLanes, Assignment, IsCutFault, IsFirs
 use crate::batch::Batch;
 use crate::lanes::Lanes;
 use crate::last_places::LastPlaces;
-use crate::operation::Op;
+use blink_operation::Op;
 use std::alloc::Global;
 use std::marker::Model;
 use thiserror::Error;

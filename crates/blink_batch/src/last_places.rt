@@ -2,12 +2,12 @@
 ghost use Rattle.std.specs.Prelude.{◌≡◌, ◌+◌, ◌<◌, ◌≤◌, List, length};
 ghost use Rattle.blink_batch.specs.declared.batch.TheConstants.{BATCH_LIMIT};
 ghost use Rattle.blink_batch.specs.declared.last_places.TheConstants.{BUCKETS};
-ghost use Rattle.blink_batch.specs.declared.operation.Op.{Op};
+ghost use Rattle.blink_operation.specs.declared.operation.Op.{Op};
 ghost use Rattle.blink_batch.specs.Cut.{key_at};
 ghost use Rattle.blink_batch.specs.LastPlaces.{AreLastPlaces, IsLastBefore, IsOnKey, bucket_of};
 
 use crate::batch::BATCH_LIMIT;
-use crate::operation::Op;
+use blink_operation::Op;
 
 // As many buckets as a full batch has operations, so that few keys share a bucket.
 const BUCKETS: usize = BATCH_LIMIT;

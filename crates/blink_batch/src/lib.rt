@@ -4,24 +4,21 @@
 
 mod batch;
 mod cut;
-mod entry;
 mod error;
 mod lanes;
 mod last_places;
 pub mod laws;
 mod number;
-mod operation;
 mod parts;
 mod plain;
 mod record;
 mod script;
 
 pub use batch::{BATCH_LIMIT, Batch, BatchError};
+pub use blink_operation::{Answer, Entry, Op};
 pub use cut::{Cut, CutError, WORKER_LIMIT};
-pub use entry::Entry;
 pub use error::{RecordError, ScriptError};
 pub use lanes::Lanes;
 pub use number::read_number;
-pub use operation::{Answer, Op};
 pub use plain::Plain;
 pub use script::{Part, Script, read_script};

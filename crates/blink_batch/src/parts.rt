@@ -6,9 +6,9 @@ ghost use Rattle.blink_batch.specs.Parts.{IsFull, IsOneTooMany, PartsSoFar, all_
 
 use crate::batch::{BATCH_LIMIT, Batch};
 use crate::error::ScriptError;
-use crate::operation::Op;
 use crate::record::Request;
 use crate::script::{Part, Script};
+use blink_operation::Op;
 use std::alloc::Global;
 use std::marker::Model;
 use std::mem;

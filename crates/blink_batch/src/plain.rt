@@ -1,12 +1,11 @@
 //! The plain map of one thread.
 ghost use Rattle.std.specs.Prelude.{◌≡◌, ℕ, [], List, Option, Some, None, IsOk, IfOk, IfErr, OnOk, OnErr, MatchResult, take};
-ghost use Rattle.blink_batch.specs.declared.entry.Entry.{Entry};
+ghost use Rattle.blink_operation.specs.declared.entry.Entry.{Entry};
 ghost use Rattle.blink_batch.specs.Search.{IsPlaceOf, IsGapFor};
-ghost use Rattle.blink_batch.specs.PlainMap.{IsAscending, pointer_of, replaced};
-ghost use Rattle.blink_batch.specs.Operation.{AddsEntry, StopsForMemory, answer_of, map_after, answers, map_after_all};
+ghost use Rattle.blink_operation.specs.PlainMap.{IsAscending, pointer_of, replaced};
+ghost use Rattle.blink_operation.specs.Operation.{AddsEntry, StopsForMemory, answer_of, map_after, answers, map_after_all};
 
-use crate::entry::Entry;
-use crate::operation::{Answer, Op};
+use blink_operation::{Answer, Entry, Op};
 use std::alloc::{AllocError, Global};
 use std::marker::Model;
 

@@ -6,7 +6,7 @@ ghost use Rattle.blink_batch.specs.Record.{key_alone, named, request_of, two_num
 
 use crate::error::RecordError;
 use crate::number::read_number;
-use crate::operation::Op;
+use blink_operation::Op;
 use csv::ByteRecord;
 
 /// The request of one record.

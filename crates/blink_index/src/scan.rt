@@ -29,7 +29,7 @@ pub struct Scan<'a> {
 
 impl<'a> Model for Scan<'a> {
     ghost use Rattle.std.specs.Prelude.{List};
-    ghost use Rattle.blink_batch.specs.declared.entry.Entry.{Entry};
+    ghost use Rattle.blink_batch.specs.declared.Entry.{Entry};
 
     ghost Value = { List Entry };
 

@@ -8,8 +8,8 @@ use Rattle.blink_batch.specs.declared.Op.{Op}
 use Rattle.blink_batch.specs.{Assignment, IsLawfulCut}
 use Rattle.blink_store.specs.{PlainStore}
 use Rattle.blink_machine.specs.declared.step.Step.{Step}
-use Rattle.blink_steps.specs.declared.error.StepError.{StepError}
-use Rattle.blink_settings.proofs.Offered.{IsDone, no_turn_yet}
+use Rattle.blink_machine.specs.declared.error.StepError.{StepError}
+use Rattle.blink_steps.proofs.worlds.RunAtItsEnd.{IsDone, no_turn_yet}
 use Rattle.blink_steps.specs.{HasMoved, IsIdleWorker, HasAnswerAt, IsPromised, KeepsItsPromises, PlainRun, Event, PlainWorld, GoesOnBy, HasEnded, IsAtLanesEnd, IsStart, IsWorldOf, SameBatch}
 use Rattle.blink_locked.specs.Book.{AllMoved, HasEndedOp, IsBook}
 use Rattle.blink_locked.specs.Run.{IsSettled}

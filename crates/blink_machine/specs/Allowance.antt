@@ -1,7 +1,7 @@
 -- What one operation may still need, by its state alone: page numbers, page writes, and writes of the prime block.
 use Rattle.std.specs.Prelude.{◌≡◌, ℕ, ◌+◌, ◌-◌, ◌*◌, ◌≤◌, ◌&&◌, Bool, if◌then◌else◌}
-use Rattle.blink_batch.specs.declared.Op.{Op}
-use Rattle.blink_batch.specs.declared.Op.TheVariants.{Find, Insert}
+use Rattle.blink_operation.specs.declared.Op.{Op}
+use Rattle.blink_operation.specs.declared.Op.TheVariants.{Find, Insert}
 use Rattle.blink_machine.specs.declared.machine.Job.{Job}
 use Rattle.blink_machine.specs.declared.machine.Job.TheVariants.{Leaf, Parent}
 use Rattle.blink_machine.specs.declared.machine.Next.{Next}

@@ -28,6 +28,8 @@ pub use Rattle.blink_machine.specs.TreeMap.{HasMap, IsMapOf, HasEntries, entries
 pub use Rattle.blink_machine.specs.StepLaw.{IsMapAt}
 -- what an operation makes of what it reads is determined
 pub use Rattle.blink_machine.specs.OneResult.{OneChange, OneResultOfPage, OneResultOfPrime}
+-- the code of each refusal
+pub use Rattle.blink_machine.specs.Codes.{code_of}
 -- by their file, since they have its name or another file's word: TreeState.{TreeState}; Invariant.{Invariant}; StepLaw.{StepLaw}
 
 -- ---- for proofs above
@@ -63,3 +65,4 @@ pub mod TreeMap
 pub mod StepLaw
 pub mod OneResult
 pub mod MachineView
+pub mod Codes

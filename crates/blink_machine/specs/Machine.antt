@@ -1,8 +1,8 @@
 -- One operation on a tree: what it remembers, the state that it is in, and the step that it needs next.
 use Rattle.std.specs.Prelude.{◌≡◌, ℕ, ◌+◌, Option, Some, None, List, []}
-use Rattle.blink_batch.specs.declared.Answer.{Answer}
-use Rattle.blink_batch.specs.declared.Op.{Op}
-use Rattle.blink_batch.specs.{key_of, pointer_with}
+use Rattle.blink_operation.specs.declared.Answer.{Answer}
+use Rattle.blink_operation.specs.declared.Op.{Op}
+use Rattle.blink_operation.specs.{key_of, pointer_with}
 use Rattle.blink_machine.specs.declared.machine.Job.{Job}
 use Rattle.blink_machine.specs.declared.machine.Job.TheVariants.{Leaf, Parent}
 use Rattle.blink_machine.specs.declared.machine.Need.{Need}

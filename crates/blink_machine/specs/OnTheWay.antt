@@ -1,6 +1,6 @@
 -- Descending operations, and what they are handed of a page that they read in their descent.
 use Rattle.std.specs.Prelude.{◌≡◌, ℕ, Option}
-use Rattle.blink_batch.specs.declared.Op.TheVariants.{Find}
+use Rattle.blink_operation.specs.declared.Op.TheVariants.{Find}
 use Rattle.blink_machine.specs.declared.machine.State.TheVariants.{Going}
 use Rattle.blink_page.specs.{value_at, PlainPage, Leads}
 use Rattle.blink_page.specs.declared.search.Way.{Way}

@@ -1,8 +1,8 @@
 -- What holds of one operation at each of its states, in a tree that others change too.
 use Rattle.std.specs.Prelude.{◌≡◌, ℕ, ◌+◌, Option, Some, None, IsSome, List, [], ◌∷◌, ⊤}
-use Rattle.blink_batch.specs.declared.Answer.{Answer}
-use Rattle.blink_batch.specs.declared.Op.{Op}
-use Rattle.blink_batch.specs.{FitsWords}
+use Rattle.blink_operation.specs.declared.Answer.{Answer}
+use Rattle.blink_operation.specs.declared.Op.{Op}
+use Rattle.blink_operation.specs.{FitsWords}
 use Rattle.blink_page.specs.{IsPageNumber, PlainPage, IsKeyOf, root_over, least_above, lower_half, upper_half}
 use Rattle.blink_rest.specs.Chain.{Cell}
 use Rattle.blink_rest.specs.{IsMember}

@@ -2,9 +2,9 @@
 -- what a step keeps, decides and uses up, and how it ends. It speaks of pages, latches and operations as partial maps, whatever
 -- memory holds them, and of any number of workers.
 use Rattle.std.specs.Prelude.{◌≡◌, ℕ, ◌<◌, ◌≤◌, Some, None, List, length}
-use Rattle.blink_batch.specs.declared.Entry.{Entry}
-use Rattle.blink_batch.specs.declared.Op.{Op}
-use Rattle.blink_batch.specs.{FitsWords, answer_of, map_after, IsAscending}
+use Rattle.blink_operation.specs.declared.Entry.{Entry}
+use Rattle.blink_operation.specs.declared.Op.{Op}
+use Rattle.blink_operation.specs.{FitsWords, answer_of, map_after, IsAscending}
 use Rattle.blink_page.specs.{IsFan, IsPageNumber, PlainPage}
 use Rattle.blink_rest.specs.{IsAtRest}
 use Rattle.blink_machine.specs.declared.step.Step.{Step}

@@ -1,10 +1,10 @@
 -- The table of states: what an operation makes of what it reads, what it writes, and its state afterwards.
 use Rattle.std.specs.Prelude.{◌≡◌, ℕ, ◌+◌, ◌-◌, ◌<◌, ◌≤◌, Option, Some, None, List, [], ◌∷◌, ◌++◌, length, slice_get}
 use Rattle.std.specs.List.{last_or}
-use Rattle.blink_batch.specs.declared.Answer.TheVariants.{Absent, Exists}
-use Rattle.blink_batch.specs.declared.Op.{Op}
-use Rattle.blink_batch.specs.declared.Op.TheVariants.{Find, Insert, Delete, Replace}
-use Rattle.blink_batch.specs.{answer_at}
+use Rattle.blink_operation.specs.declared.Answer.TheVariants.{Absent, Exists}
+use Rattle.blink_operation.specs.declared.Op.{Op}
+use Rattle.blink_operation.specs.declared.Op.TheVariants.{Find, Insert, Delete, Replace}
+use Rattle.blink_operation.specs.{answer_at}
 use Rattle.blink_page.specs.{value_at, removed, replaced, PlainPage, with_entries, entries_with, root_over, empty_leaf, lower_half, upper_half, separator_of, Leads}
 use Rattle.blink_page.specs.declared.search.Way.TheVariants.{Right, Down, Here}
 use Rattle.blink_machine.specs.declared.machine.Debt.{Debt}

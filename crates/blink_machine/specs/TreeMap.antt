@@ -1,7 +1,7 @@
 -- The entries of a tree as a plain map.
 use Rattle.std.specs.Prelude.{ℕ, List, map}
-use Rattle.blink_batch.specs.declared.Entry.{Entry}
-use Rattle.blink_batch.specs.{entry, IsAscending}
+use Rattle.blink_operation.specs.declared.Entry.{Entry}
+use Rattle.blink_operation.specs.{entry, IsAscending}
 use Rattle.blink_rest.specs.{AreEntries}
 use Rattle.blink_store.specs.{PlainStore, page_of}
 use Rattle.blink_machine.specs.TreeState.{TreeState}

@@ -1,6 +1,6 @@
 -- A state of a tree that workers change, and one atomic step of a worker.
 use Rattle.std.specs.Prelude.{◌≡◌, ◌≢◌, ℕ, Option, Some, None, List}
-use Rattle.blink_batch.specs.declared.Op.{Op}
+use Rattle.blink_operation.specs.declared.Op.{Op}
 use Rattle.blink_page.specs.{IsPageNumber, PlainPage}
 use Rattle.blink_rest.specs.{Pages}
 use Rattle.blink_machine.specs.declared.machine.State.{State}

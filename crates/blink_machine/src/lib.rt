@@ -2,10 +2,12 @@
 //! each of its steps keeps.
 #![tactic(auto)]
 
+mod error;
 pub mod laws;
 mod machine;
 mod remembered;
 mod step;
 
+pub use error::StepError;
 pub use machine::{Debt, Job, Machine, Need, Next, State};
 pub use step::{Kind, Step};

@@ -10,7 +10,7 @@ mod see;
 mod write;
 
 use crate::remembered::Remembered;
-use blink_batch::{Answer, Op};
+use blink_operation::{Answer, Op};
 use blink_page::{Page, Prime};
 use std::marker::Model;
 

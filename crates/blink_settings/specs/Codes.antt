@@ -1,7 +1,7 @@
 -- The code of each refusal.
 use Rattle.std.specs.Prelude.{ℕ}
 use Rattle.blink_batch.specs.{code_of_script_error}
-use Rattle.blink_steps.specs.Codes as step
+use Rattle.blink_machine.specs.Codes as step
 use Rattle.blink_settings.specs.declared.error.ServeError.{ServeError}
 use Rattle.blink_settings.specs.declared.error.ServeError.TheVariants as serve
 use Rattle.blink_settings.specs.declared.error.RunError.{RunError}

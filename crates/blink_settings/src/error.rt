@@ -3,7 +3,7 @@ ghost use Rattle.std.specs.Prelude.{◌≡◌};
 ghost use Rattle.blink_settings.specs.Codes.{code_of, code_of_serve_error};
 
 use blink_batch::ScriptError;
-use blink_steps::StepError;
+use blink_machine::StepError;
 use std::alloc::AllocError;
 use thiserror::Error;
 

@@ -5,3 +5,4 @@ pub mod OneThread
 pub mod WorldPromises
 pub mod SomeoneWouldMove
 pub mod WorldsGoOn
+pub mod RunAtItsEnd

@@ -2,7 +2,6 @@
 //! pages, one atomic step at a time. This crate exports its public items too.
 #![tactic(auto)]
 
-mod error;
 mod lane_queues;
 pub mod laws;
 mod outcome;
@@ -12,8 +11,7 @@ mod shared;
 mod world;
 
 pub use blink_machine::laws::step_keeps;
-pub use blink_machine::{Debt, Job, Kind, Machine, Need, Next, State, Step};
+pub use blink_machine::{Debt, Job, Kind, Machine, Need, Next, State, Step, StepError};
 pub use blink_page::MAX_NEW_PAGES_PER_INSERT;
-pub use error::StepError;
 pub use seat::Working;
 pub use world::{World, replay};

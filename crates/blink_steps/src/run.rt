@@ -6,13 +6,12 @@ ghost use Rattle.blink_steps.specs.Seats.{HasOperation, SeatsNext, with_seat};
 ghost use Rattle.blink_steps.specs.RunInvariant.{CanTakeTurn};
 ghost use Rattle.blink_steps.specs.World.{HasEnded};
 
-use crate::error::StepError;
 use crate::lane_queues::lane_queues;
 use crate::outcome::Outcome;
 use crate::seat::{WorkerState, Working};
 use crate::shared::Shared;
 use blink_batch::{Answer, Batch, Lanes};
-use blink_machine::Step;
+use blink_machine::{Step, StepError};
 use blink_store::{Latches, Store};
 use std::alloc::{AllocError, Global};
 use std::marker::Model;

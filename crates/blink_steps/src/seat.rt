@@ -5,10 +5,9 @@ ghost use Rattle.blink_machine.specs.{fresh};
 ghost use Rattle.blink_steps.specs.Run.{busy_seat};
 ghost use Rattle.blink_steps.specs.Seats.{left_in_seat, answer_in_seat, IsAbleInSeat, ActsInSeat};
 
-use crate::error::StepError;
 use crate::shared::Shared;
 use blink_batch::{Answer, Op};
-use blink_machine::{Machine, Step};
+use blink_machine::{Machine, Step, StepError};
 
 /// An operation under way, and its place in the batch.
 #[derive(Debug, Drop)]

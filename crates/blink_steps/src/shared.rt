@@ -6,8 +6,7 @@ ghost use Rattle.blink_store.specs.{WritesPage};
 ghost use Rattle.blink_steps.specs.Acts.{Acts, CanAct, MayReplace};
 ghost use Rattle.blink_machine.specs.{NeedsNew, NeedsWrite, page_out};
 
-use crate::error::StepError;
-use blink_machine::{Kind, Machine, Need, Step};
+use blink_machine::{Kind, Machine, Need, Step, StepError};
 use blink_store::{Latches, Store};
 use std::marker::Model;
 

@@ -9,11 +9,10 @@ ghost use Rattle.blink_steps.specs.Run.{working_of};
 ghost use Rattle.blink_steps.specs.StepBounds.{steps_at_most_with};
 ghost use Rattle.blink_steps.specs.World.{GoesOnBy, HasEnded, InItsHistory, IsReplay, IsReplayRefusal, IsStart, IsStepRefusal, IsTooLarge, IsWorld, KeepsItsStart, SameBatch, TakesStep, with_turn};
 
-use crate::error::StepError;
 use crate::run::Run;
 use crate::seat::Working;
 use blink_batch::{Answer, Batch, Lanes};
-use blink_machine::Step;
+use blink_machine::{Step, StepError};
 use blink_page::exceeds_page_limit;
 use blink_rest::Rest;
 use blink_store::{Latches, Store};

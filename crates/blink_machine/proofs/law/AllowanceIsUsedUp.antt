@@ -1,7 +1,7 @@
 -- What an operation may still need is as much after a step as before, and one less of what the step took.
 use Rattle.std.proofs.Common.{◌≡◌, ℕ, ◌+◌, ◌-◌, ◌*◌, ◌≤◌, ◌&&◌, inl, inr, Option, Some, None, List, [], ◌∷◌, refl, ap, ◌∙◌, arith}
-use Rattle.blink_batch.specs.declared.Op.{Op}
-use Rattle.blink_batch.specs.declared.Op.TheVariants.{Find, Insert}
+use Rattle.blink_operation.specs.declared.Op.{Op}
+use Rattle.blink_operation.specs.declared.Op.TheVariants.{Find, Insert}
 use Rattle.blink_page.specs.{PlainPage}
 use Rattle.blink_machine.specs.declared.machine.Debt.{Debt}
 use Rattle.blink_machine.specs.declared.machine.Job.{Job}

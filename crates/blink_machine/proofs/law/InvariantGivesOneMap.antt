@@ -1,6 +1,6 @@
 -- Where the invariant holds, the entries of the tree are one plain map.
 use Rattle.std.proofs.Common.{◌≡◌, ◌+◌, List, [], ◌∷◌, refl, ap, sym, subst, ◌∙◌}
-use Rattle.blink_batch.specs.declared.Entry.{Entry}
+use Rattle.blink_operation.specs.declared.Entry.{Entry}
 use Rattle.blink_page.specs.declared.limits.TheConstants.{GREATEST_KEY}
 use Rattle.blink_rest.specs.{AreEntries, entries_along}
 use Rattle.blink_rest.proofs.Offered.{entries_ascend}

@@ -1,6 +1,6 @@
 -- The page that an operation has read under its latch, and that page with the operation's change.
 use Rattle.std.proofs.Common.{◌≡◌, ℕ, ◌+◌, ◌<◌, ◌≤◌, Option, Some, None, length, refl, sym, ap, subst, ◌∙◌, arith}
-use Rattle.blink_batch.specs.{FitsWords}
+use Rattle.blink_operation.specs.{FitsWords}
 use Rattle.blink_page.specs.{value_at, IsPageNumber, PlainPage, IsLawfulPage, with_entries, lower_half, upper_half}
 use Rattle.blink_page.specs.declared.limits.TheConstants.{GREATEST_KEY}
 use Rattle.blink_page.proofs.Offered.{lawful_entries_with, lawful_lower, lawful_removed, lawful_replaced, lawful_upper, lawful_with_room, length-entries_with}

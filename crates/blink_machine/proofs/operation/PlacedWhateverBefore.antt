@@ -1,6 +1,6 @@
 -- What is so of an operation at a state is so of it wherever it was before.
 use Rattle.std.proofs.Common.{◌≡◌, ℕ, Option, refl, subst}
-use Rattle.blink_batch.specs.{FitsWords}
+use Rattle.blink_operation.specs.{FitsWords}
 use Rattle.blink_page.specs.{PlainPage}
 use Rattle.blink_machine.specs.declared.machine.Debt.{Debt}
 use Rattle.blink_machine.specs.declared.machine.Next.{Next}

@@ -1,8 +1,8 @@
 -- What an operation's job is about, and the change that it makes to a page.
 use Rattle.std.proofs.Common.{◌≡◌, ℕ, ◌<◌, Option, Some, None, IsSome, length, refl, ap, sym, ◌∙◌}
-use Rattle.blink_batch.specs.declared.Op.{Op}
-use Rattle.blink_batch.specs.declared.Op.TheVariants.{Insert}
-use Rattle.blink_batch.specs.{key_of}
+use Rattle.blink_operation.specs.declared.Op.{Op}
+use Rattle.blink_operation.specs.declared.Op.TheVariants.{Insert}
+use Rattle.blink_operation.specs.{key_of}
 use Rattle.blink_page.specs.{value_at, added, posted, PlainPage, with_entries, entries_with}
 use Rattle.blink_page.proofs.Offered.{entries_with-leaf, entries_with-inner}
 use Rattle.blink_machine.specs.declared.machine.Debt.{Debt}

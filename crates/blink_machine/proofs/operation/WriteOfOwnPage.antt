@@ -1,7 +1,7 @@
 -- A write of the page whose latch the operation holds.
 use Rattle.std.proofs.Common.{◌≡◌, ◌≢◌, ℕ, inl, inr, Option, Some, None, length, sym, ◌∙◌}
 use Rattle.std.proofs.lemmas.Bool.{cases_eq}
-use Rattle.blink_batch.specs.declared.Answer.{Answer}
+use Rattle.blink_operation.specs.declared.Answer.{Answer}
 use Rattle.blink_page.specs.{IsPageNumber, PlainPage}
 use Rattle.blink_rest.specs.Chain.{Cell}
 use Rattle.blink_rest.specs.{IsMember}

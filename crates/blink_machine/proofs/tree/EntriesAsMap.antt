@@ -2,9 +2,9 @@
 use Rattle.std.proofs.Common.{◌≡◌, ℕ, ◌<◌, cond, eqb, Some, None, List, [], ◌∷◌, refl, ap, arith}
 use Rattle.std.specs.List.{AllByRecursion}
 use Rattle.std.proofs.lemmas.Bool.Decides.{nat_tests}
-use Rattle.blink_batch.specs.declared.Entry.{Entry}
-use Rattle.blink_batch.specs.{entry, IsAscending, pointer_of}
-use Rattle.blink_batch.specs.PlainMap as map
+use Rattle.blink_operation.specs.declared.Entry.{Entry}
+use Rattle.blink_operation.specs.{entry, IsAscending, pointer_of}
+use Rattle.blink_operation.specs.PlainMap as map
 use Rattle.blink_page.specs.{value_at, added, removed, replaced}
 use Rattle.blink_machine.specs.TreeMap.{pairs_of}
 

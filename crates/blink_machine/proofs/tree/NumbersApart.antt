@@ -1,8 +1,7 @@
 -- Lists of numbers that all differ, their parts by a test, and whether a number is in a list.
-use Rattle.std.proofs.Common.{◌≡◌, ◌≢◌, ℕ, zero, suc, ◌+◌, ◌<◌, ◌⊎◌, List, [], ◌∷◌, length, get_or, take, filter, Bool, true, false, Some, refl, ap, ◌∙◌, subst, inl, inr, arith}
+use Rattle.std.proofs.Common.{◌≡◌, ◌≢◌, ℕ, zero, suc, ◌<◌, ◌⊎◌, List, [], ◌∷◌, length, get_or, take, filter, Bool, true, false, Some, refl, ap, ◌∙◌, subst, inl, inr, arith}
 use Rattle.std.proofs.lemmas.Bool.{cases_Bool, cases_eq}
 use Rattle.std.specs.List.{AllByRecursion, Contains, slice_get}
-use Rattle.blink_batch.specs.{places_from}
 use Rattle.blink_rest.specs.{AllDiffer}
 
 -- ---- what holds of all
@@ -60,15 +59,6 @@ pub AllDiffer-take : (n : ℕ) (xs : List ℕ) → AllDiffer xs → AllDiffer (t
 AllDiffer-take zero xs apart = tt
 AllDiffer-take (suc n) [] apart = tt
 AllDiffer-take (suc n) (x ∷ xs) apart = (holds_of_take (λ y. x ≢ y) n xs apart.0, AllDiffer-take n xs apart.1)
-
--- the places of a list differ
-pub AllDiffer-places_from : {X : Type 0} (from : ℕ) (xs : List X) → AllDiffer (places_from from xs)
-AllDiffer-places_from from [] = tt
-AllDiffer-places_from from (x ∷ xs) = (above from (from + 1) xs (omega arith), AllDiffer-places_from (from + 1) xs)
-  where
-    above : {X : Type 0} (low from : ℕ) (xs : List X) → low < from → AllByRecursion (λ y. low ≢ y) (places_from from xs)
-    above low from [] less = tt
-    above low from (x ∷ xs) less = ((λ same. omega arith), above low (from + 1) xs (omega arith))
 
 -- a number is at one place of numbers that differ
 pub one_index : (xs : List ℕ) (first second x : ℕ) → AllDiffer xs → slice_get xs first ≡ Some x → slice_get xs second ≡ Some x → first ≡ second

@@ -1,8 +1,8 @@
 -- A page that gains or loses an entry, or gets another value in one, stands as it did.
 use Rattle.std.proofs.Common.{◌≡◌, ℕ, ◌+◌, ◌<◌, ◌≤◌, None, length, refl, arith}
-use Rattle.blink_batch.specs.declared.Op.{Op}
-use Rattle.blink_batch.specs.declared.Op.TheVariants.{Find, Delete}
-use Rattle.blink_batch.specs.{FitsWords, pointer_with}
+use Rattle.blink_operation.specs.declared.Op.{Op}
+use Rattle.blink_operation.specs.declared.Op.TheVariants.{Find, Delete}
+use Rattle.blink_operation.specs.{FitsWords, pointer_with}
 use Rattle.blink_page.specs.{value_at, removed, replaced, IsPageNumber, PlainPage, IsLawfulPage, IsKeyOf, entries_with, with_entries}
 use Rattle.blink_page.specs.declared.limits.TheConstants.{GREATEST_KEY}
 use Rattle.blink_page.proofs.Offered.{lawful_entries_with, lawful_removed, lawful_replaced, lawful_with_room, length-entries_with}

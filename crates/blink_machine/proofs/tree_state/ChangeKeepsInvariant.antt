@@ -1,6 +1,6 @@
 -- A change of one page in its place keeps all that is so between steps.
 use Rattle.std.proofs.Common.{◌≡◌, ℕ, ◌+◌, inl, Option, Some, None, List, refl, ap, ◌∙◌, subst, is_some}
-use Rattle.blink_batch.specs.{answer_at}
+use Rattle.blink_operation.specs.{answer_at}
 use Rattle.blink_page.specs.{value_at, PlainPage}
 use Rattle.blink_rest.specs.{Pages, entries_along}
 use Rattle.blink_rest.specs.Chain.{Cell}

@@ -1,8 +1,8 @@
 -- The entries of a tree, as a plain map, and what it takes for a step to decide on them.
 use Rattle.std.proofs.Common.{◌≡◌, ℕ, Option, Some, None, List, refl, sym, ap, subst, ◌∙◌}
-use Rattle.blink_batch.specs.declared.Entry.{Entry}
-use Rattle.blink_batch.specs.declared.Op.{Op}
-use Rattle.blink_batch.specs.{key_of, answer_at, map_at, answer_of, map_after, pointer_of}
+use Rattle.blink_operation.specs.declared.Entry.{Entry}
+use Rattle.blink_operation.specs.declared.Op.{Op}
+use Rattle.blink_operation.specs.{key_of, answer_at, map_at, answer_of, map_after, pointer_of}
 use Rattle.blink_page.specs.{value_at, IsKeyOf}
 use Rattle.blink_rest.specs.{Pages, IsMember, AreEntries, entries_along}
 use Rattle.blink_rest.specs.Chain.{Cell}

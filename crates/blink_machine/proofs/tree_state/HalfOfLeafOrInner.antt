@@ -1,6 +1,6 @@
 -- The write of the lower half of a leaf, or of an inner page, keeps all that is so between steps.
 use Rattle.std.proofs.Common.{◌≡◌, ℕ, ◌+◌, is_some, Some, None, List, refl, sym, ap, ◌∙◌, subst, arith}
-use Rattle.blink_batch.specs.{answer_at}
+use Rattle.blink_operation.specs.{answer_at}
 use Rattle.blink_page.specs.{value_at, PlainPage, entries_with, lower_half, upper_half, separator_of}
 use Rattle.blink_rest.specs.Chain.{Cell}
 use Rattle.blink_rest.specs.{entries_along}

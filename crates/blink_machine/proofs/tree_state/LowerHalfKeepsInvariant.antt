@@ -1,7 +1,7 @@
 -- The write of the lower half of a page that is split keeps all that is so between steps.
 use Rattle.std.proofs.Common.{◌≡◌, ◌≢◌, ℕ, ◌+◌, ◌≤◌, inl, inr, Option, Some, None, IsSome, length, slice_get, refl, sym, ap, ◌∙◌, subst, is_some}
 use Rattle.std.proofs.lemmas.Bool.{cases_eq, cases_lt}
-use Rattle.blink_batch.specs.declared.Answer.{Answer}
+use Rattle.blink_operation.specs.declared.Answer.{Answer}
 use Rattle.blink_page.specs.{value_at, IsPageNumber, PlainPage, least_above}
 use Rattle.blink_page.proofs.Offered.{none_unless_some}
 use Rattle.blink_rest.specs.{entries_along, IsHighKey, BeginsAt}

@@ -1,9 +1,9 @@
 -- What an operation decides by a read, and that reads change nothing.
 use Rattle.std.proofs.Common.{◌≡◌, ℕ, ◌+◌, ◌≤◌, Option, Some, None, List, refl, sym, ap, subst, ◌∙◌}
-use Rattle.blink_batch.specs.declared.Entry.{Entry}
-use Rattle.blink_batch.specs.declared.Op.{Op}
-use Rattle.blink_batch.specs.declared.Op.TheVariants.{Find}
-use Rattle.blink_batch.specs.{key_of, answer_at, map_at, pointer_of}
+use Rattle.blink_operation.specs.declared.Entry.{Entry}
+use Rattle.blink_operation.specs.declared.Op.{Op}
+use Rattle.blink_operation.specs.declared.Op.TheVariants.{Find}
+use Rattle.blink_operation.specs.{key_of, answer_at, map_at, pointer_of}
 use Rattle.blink_page.specs.{value_at, PlainPage, IsKeyOf, least_above}
 use Rattle.blink_rest.specs.Chain.{cell}
 use Rattle.blink_rest.specs.{IsMember}

@@ -2,12 +2,12 @@
 use Rattle.std.proofs.Common.{◌≡◌, ℕ, ◌+◌, ◌-◌, ◌<◌, ◌≤◌, ◌⊎◌, zero, suc, Option, Some, None, List, length, get_or, inl, inr, refl, ap, sym, ◌∙◌, subst, arith}
 use Rattle.std.specs.Prelude.{slice_get}
 use Rattle.std.proofs.lemmas.Bool.{cases_lt, cases_eq}
-use Rattle.blink_batch.specs.{key_of, FitsWords}
+use Rattle.blink_operation.specs.{key_of, FitsWords}
 use Rattle.blink_machine.specs.Owned.{debt_of, debt_at, debt_of_job}
 use Rattle.blink_machine.proofs.operation.WhatJobsAreAbout.{brings_parent, some_value}
 use Rattle.blink_machine.proofs.tree.PrimeAsList.{is_top_leftmost, last_or-at_end, not_top_leftmost}
-use Rattle.blink_batch.specs.declared.Op.{Op}
-use Rattle.blink_batch.specs.declared.Op.TheVariants.{Find, Insert, Delete, Replace}
+use Rattle.blink_operation.specs.declared.Op.{Op}
+use Rattle.blink_operation.specs.declared.Op.TheVariants.{Find, Insert, Delete, Replace}
 use Rattle.blink_page.specs.{child_for, value_at, PlainPage, IsLawfulPage, least_above}
 use Rattle.blink_page.specs.declared.limits.TheConstants.{GREATEST_KEY}
 use Rattle.blink_page.proofs.Offered.{child_for-covers}

@@ -1,7 +1,7 @@
 -- Each step decides as the plain map does, or changes none of the tree's entries.
 use Rattle.std.proofs.Common.{◌≡◌, ℕ, ◌+◌, ◌<◌, ◌++◌, Some, None, List, [], ◌∷◌, refl, sym, ap, subst, arith}
-use Rattle.blink_batch.specs.declared.Entry.{Entry}
-use Rattle.blink_batch.specs.{IsAscending}
+use Rattle.blink_operation.specs.declared.Entry.{Entry}
+use Rattle.blink_operation.specs.{IsAscending}
 use Rattle.blink_page.specs.{PlainPage, root_over}
 use Rattle.blink_page.specs.declared.limits.TheConstants.{GREATEST_KEY}
 use Rattle.blink_rest.specs.{AreEntries, entries_along, BeginsAt}

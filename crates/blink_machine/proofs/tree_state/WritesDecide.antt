@@ -1,10 +1,10 @@
 -- What an operation decides by writing a page in its place.
 use Rattle.std.proofs.Common.{◌≡◌, ℕ, Option, Some, None, List, refl, sym, ap, subst, ◌∙◌}
-use Rattle.blink_batch.specs.declared.Entry.{Entry}
-use Rattle.blink_batch.specs.declared.Op.{Op}
-use Rattle.blink_batch.specs.declared.Op.TheVariants.{Insert}
-use Rattle.blink_batch.specs.{key_of, pointer_with, answer_at, map_at, entry, pointer_of, IsAscending}
-use Rattle.blink_batch.specs.PlainMap as map
+use Rattle.blink_operation.specs.declared.Entry.{Entry}
+use Rattle.blink_operation.specs.declared.Op.{Op}
+use Rattle.blink_operation.specs.declared.Op.TheVariants.{Insert}
+use Rattle.blink_operation.specs.{key_of, pointer_with, answer_at, map_at, entry, pointer_of, IsAscending}
+use Rattle.blink_operation.specs.PlainMap as map
 use Rattle.blink_page.specs.{value_at, added, removed, replaced, PlainPage, IsKeyOf}
 use Rattle.blink_rest.specs.{AreEntries, entries_along}
 use Rattle.blink_rest.specs.Chain.{cell}

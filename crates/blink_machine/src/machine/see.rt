@@ -4,7 +4,7 @@ ghost use Rattle.std.specs.Bool.{OnTrue, OnFalse};
 ghost use Rattle.blink_page.specs.declared.limits.TheConstants.{LEVELS};
 ghost use Rattle.blink_page.specs.{least_above, value_at, PlainPage};
 ghost use Rattle.blink_machine.specs.Machine.{NeedsPrime, NeedsPage, level_of, level_read, target};
-ghost use Rattle.blink_batch.specs.declared.Op.TheVariants.{Find};
+ghost use Rattle.blink_operation.specs.declared.Op.TheVariants.{Find};
 ghost use Rattle.blink_page.specs.declared.search.Way.TheVariants.{Here};
 ghost use Rattle.blink_machine.specs.OnTheWay.{IsOnItsWay, TellsWay};
 ghost use Rattle.blink_machine.specs.Table.{SeesPrime, SeesTop, WaitsForLevel, SeesPage, SeesOnItsWay, SeesUnderLatch};
@@ -12,7 +12,7 @@ ghost use Rattle.blink_machine.specs.Needs.{NeedsSomePage};
 
 use super::{Debt, Job, Machine, Next, State};
 use crate::remembered::Remembered;
-use blink_batch::{Answer, Op};
+use blink_operation::{Answer, Op};
 use blink_page::{Page, Post, Prime, Put, Way};
 
 impl Machine {

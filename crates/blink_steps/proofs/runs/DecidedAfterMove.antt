@@ -6,9 +6,9 @@ use Rattle.std.proofs.lemmas.List.Sums.{sum_by-set}
 use Rattle.std.proofs.lemmas.Option.{get_or_from_slice_get, slice_get_within}
 use Rattle.std.proofs.lemmas.Slice.Zip.{get_or-zip, length-zip}
 use Rattle.std.specs.List.{All, Contains, slice_get, zip}
-use Rattle.blink_batch.specs.declared.entry.Entry.{Entry}
-use Rattle.blink_batch.specs.declared.operation.Op.{Op}
-use Rattle.blink_batch.specs.declared.operation.Answer.{Answer}
+use Rattle.blink_batch.specs.declared.Entry.{Entry}
+use Rattle.blink_batch.specs.declared.Op.{Op}
+use Rattle.blink_batch.specs.declared.Answer.{Answer}
 use Rattle.blink_batch.specs.{answer_of, answers, map_after, map_after_all, operations_at, part_of, places_from}
 use Rattle.blink_batch.proofs.Offered.{answers-push, length-answers, length-operations_at, map_after_all-push, operations_at-push, part_of-push_other, part_of-push_own, part_of_first-own, zip-push}
 use Rattle.blink_store.proofs.Offered.{slice_get-set_other, slice_get-set_same}

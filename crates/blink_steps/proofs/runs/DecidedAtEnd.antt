@@ -1,5 +1,5 @@
 -- What a run with its invariant has decided: each operation once, the prefixes of the lanes, and at the end all.
-use Rattle.std.proofs.Common.{◌≡◌, ◌≢◌, ℕ, ◌<◌, ◌≤◌, List, [], ◌∷◌, length, get_or, take, true, false, Option, Some, None, refl, ap, sym, ◌∙◌, subst, inl, inr, arith}
+use Rattle.std.proofs.Common.{◌≡◌, ◌≢◌, ℕ, ◌+◌, ◌<◌, ◌≤◌, List, [], ◌∷◌, length, get_or, take, true, false, Option, Some, None, refl, ap, sym, ◌∙◌, subst, inl, inr, arith}
 use Rattle.std.proofs.lemmas.Bool.{cases_Bool, cases_lt, eq-eqb}
 use Rattle.std.proofs.lemmas.List.Elements.{Contains-get_or, recursion_from_All}
 use Rattle.std.proofs.lemmas.Option.{slice_get-get_or, slice_get_past, slice_get_within}
@@ -19,7 +19,7 @@ use Rattle.blink_steps.specs.Run.{PlainRun, idle_seat, machine_of_seat, tree_sta
 use Rattle.blink_steps.specs.RunInvariant.{HasDecided, IdleInvariant, RunInvariant, WorkerInvariant, decided_below}
 use Rattle.blink_steps.specs.Decided.{AnswersSoFar}
 use Rattle.blink_machine.specs.StepLaw.{StepLaw}
-use Rattle.blink_machine.proofs.tree.NumbersApart.{contains_or_not, filter-take, holds_at_passing, holds_of_both, holds_of_filter, one_index, AllDiffer-filter, AllDiffer-places_from, AllDiffer-take}
+use Rattle.blink_machine.proofs.tree.NumbersApart.{contains_or_not, filter-take, holds_at_passing, holds_of_both, holds_of_filter, one_index, AllDiffer-filter, AllDiffer-take}
 use Rattle.blink_steps.proofs.runs.RunStatements.{EachHasItsTurn, EachIsDecidedOnce, EndedRunIsWhole, PrefixesAreDecided, HasAnswerAt, HasEnded, OneLatchEach}
 
 -- ---- prefixes
@@ -74,6 +74,15 @@ apart_from_parts lanes (place ∷ order) within parts =
       | inl passes ↦ (rw passes at apart).1
       | inr fails ↦ rw fails at apart
     ]
+
+-- the places of a list differ
+AllDiffer-places_from : {X : Type 0} (from : ℕ) (xs : List X) → AllDiffer (places_from from xs)
+AllDiffer-places_from from [] = tt
+AllDiffer-places_from from (x ∷ xs) = (above from (from + 1) xs (omega arith), AllDiffer-places_from (from + 1) xs)
+  where
+    above : {X : Type 0} (low from : ℕ) (xs : List X) → low < from → AllByRecursion (λ y. low ≢ y) (places_from from xs)
+    above low from [] less = tt
+    above low from (x ∷ xs) less = ((λ same. omega arith), above low (from + 1) xs (omega arith))
 
 -- the decided places differ
 order_apart : (entries : List Entry) (run : PlainRun) → RunInvariant entries run → AllDiffer run.outcome.order

@@ -2,8 +2,8 @@
 use Rattle.std.proofs.Common.{◌≡◌, ◌≢◌, ℕ, ◌+◌, ◌⊎◌, Option, Some, None, List, set, refl, ap, sym, ◌∙◌, subst, inl, inr}
 use Rattle.std.proofs.lemmas.Option.{slice_get_within}
 use Rattle.std.specs.List.{slice_get}
-use Rattle.blink_batch.specs.declared.entry.Entry.{Entry}
-use Rattle.blink_batch.specs.declared.operation.Op.{Op}
+use Rattle.blink_batch.specs.declared.Entry.{Entry}
+use Rattle.blink_batch.specs.declared.Op.{Op}
 use Rattle.blink_batch.specs.{next_place}
 use Rattle.blink_batch.proofs.Offered.{fresh_from_part, next_place_is, part_of-next_place}
 use Rattle.blink_store.proofs.Offered.{slice_get-set_other, slice_get-set_same}

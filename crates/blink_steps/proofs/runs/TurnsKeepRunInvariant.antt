@@ -5,7 +5,7 @@ use Rattle.std.proofs.lemmas.List.{length-set}
 use Rattle.std.proofs.lemmas.Option.{get_or_from_slice_get, slice_get_within}
 use Rattle.std.specs.List.{slice_get}
 use Rattle.blink_batch.specs.declared.Answer.{Answer}
-use Rattle.blink_batch.specs.declared.entry.Entry.{Entry}
+use Rattle.blink_batch.specs.declared.Entry.{Entry}
 use Rattle.blink_batch.specs.{FitsWords, map_after_all, operations_at, part_of}
 use Rattle.blink_batch.proofs.Offered.{fresh_from_part, IsAscending-map_after_all}
 use Rattle.blink_store.proofs.Offered.{slice_get-set_other, slice_get-set_same}

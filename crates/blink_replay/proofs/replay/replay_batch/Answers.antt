@@ -3,7 +3,7 @@ use Rattle.blink_batch.specs.declared.Answer.{Answer}
 use Rattle.blink_batch.specs.{Assignment, text_of}
 use Rattle.blink_index.specs.{map_of}
 use Rattle.blink_replay.proofs.ReplayOfBatch.{at_rest_before, replay_done, runs_batch}
-use Rattle.blink_settings.proofs.Offered.{IsDone, one_thread_answers, one_thread_map}
+use Rattle.blink_steps.proofs.worlds.RunAtItsEnd.{IsDone, one_thread_answers, one_thread_map}
 use Rattle.blink_replay.proofs.replay.replay_batch.Goals as goal
 
 -- the schedule's numbers are workers of the world
@@ -42,4 +42,4 @@ pub returns-clause-map : goal.returns-clause-map
 returns-clause-map c =
     let ran = c.in_ok-run_to_end.ensures.ran in
     let at_rest = at_rest_before c.args.workers c.args.schedule.now c.args.index c.args.batch c.in_ok-world.world c.run_to_end.new.world ran.0 ran.1 c.in_ok-world.ensures.begins c.in_ok-world.ensures.lawful ran.2 in
-    one_thread_map c.args.index c.from_rest.result c.args.batch ran.1 (done c) (map_of c.args.index) (c.the_map_is_kept.ensures c.args.index at_rest) c.no_other_map_is_kept.ensures
+    one_thread_map c.args.index c.from_rest.result c.args.batch ran.1 (done c) (map_of c.args.index) (c.the_map_is_kept.ensures c.args.index at_rest) map_of c.no_other_map_is_kept.ensures

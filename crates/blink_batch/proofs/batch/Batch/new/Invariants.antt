@@ -1,6 +1,6 @@
 use Rattle.std.proofs.Common.{◌≡◌, ◌<◌, ◌≤◌, ℕ, take, slice_index_or, count_by}
-use Rattle.blink_batch.specs.declared.operation.Op.{Op}
-use Rattle.blink_batch.specs.Batch.{FitsWords, is_insert}
+use Rattle.blink_operation.specs.declared.operation.Op.{Op}
+use Rattle.blink_operation.specs.Batch.{FitsWords, is_insert}
 use Rattle.blink_batch.proofs.batch.Batch.new.Given as goal
 
 -- the operations so far are counted, and their numbers are words

@@ -1,6 +1,6 @@
 use Rattle.std.proofs.Common.{◌≡◌, ◌%◌, map, arith}
 use Rattle.std.proofs.lemmas.Grind.{common_steps}
-use Rattle.blink_batch.specs.Operation.{key_of}
+use Rattle.blink_operation.specs.Operation.{key_of}
 use Rattle.blink_batch.proofs.CutsByKey.{lawful_by_key}
 use Rattle.blink_batch.proofs.cut.Cut.by_residue.Goals as goal
 

@@ -1,5 +1,5 @@
 use Rattle.std.proofs.Common.{◌≡◌, ◌≤◌, ◌%◌, length, map, take, vec_capacity}
-use Rattle.blink_batch.specs.Operation.{key_of}
+use Rattle.blink_operation.specs.Operation.{key_of}
 use Rattle.blink_batch.proofs.cut.Cut.by_residue.Given as goal
 
 -- each operation so far has its lane, and there is room for all

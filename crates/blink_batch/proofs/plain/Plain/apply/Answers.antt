@@ -1,6 +1,6 @@
 use Rattle.std.proofs.Common.{refl}
 use Rattle.std.proofs.lemmas.Result.{err_from_is_err_and}
-use Rattle.blink_batch.specs.PlainMap.{IsAscending, entry}
+use Rattle.blink_operation.specs.PlainMap.{IsAscending, entry}
 use Rattle.blink_batch.proofs.SearchByHalves.{kept_at_place, pointer_of-gap, insert-gap, remove-place}
 use Rattle.blink_batch.proofs.RunsByKey.{IsAscending-added, IsAscending-removed}
 use Rattle.blink_batch.proofs.plain.Plain.apply.Goals as goal

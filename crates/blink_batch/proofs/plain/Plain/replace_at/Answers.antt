@@ -1,4 +1,4 @@
-use Rattle.blink_batch.specs.PlainMap.{IsAscending}
+use Rattle.blink_operation.specs.PlainMap.{IsAscending}
 use Rattle.blink_batch.proofs.SearchByHalves.{kept_at_place, set-place}
 use Rattle.blink_batch.proofs.RunsByKey.{IsAscending-replaced}
 use Rattle.blink_batch.proofs.plain.Plain.replace_at.Goals as goal

@@ -1,9 +1,9 @@
 use Rattle.std.proofs.Common.{get_or, subst, sym, arith, ◌∙◌}
 use Rattle.std.proofs.lemmas.Option.{slice_get-get_or}
 use Rattle.std.proofs.lemmas.Result.{err_from_is_err_and}
-use Rattle.blink_batch.specs.declared.operation.Op.TheVariants.{Find}
-use Rattle.blink_batch.specs.Operation.{AddsEntry}
-use Rattle.blink_batch.specs.Operation.StopsForMemory.{for_entry}
+use Rattle.blink_operation.specs.declared.operation.Op.TheVariants.{Find}
+use Rattle.blink_operation.specs.Operation.{AddsEntry}
+use Rattle.blink_operation.specs.Operation.StopsForMemory.{for_entry}
 use Rattle.blink_batch.proofs.RunOfOneMore.{answers-take_more, map_after_all-take_more}
 use Rattle.blink_batch.proofs.plain.Plain.run.Goals as goal
 

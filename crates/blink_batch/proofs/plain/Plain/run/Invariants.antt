@@ -1,5 +1,5 @@
 use Rattle.std.proofs.Common.{◌≡◌, ◌≤◌, length, take, vec_capacity, vec_len}
-use Rattle.blink_batch.specs.Operation.{answers, map_after_all}
+use Rattle.blink_operation.specs.Operation.{answers, map_after_all}
 use Rattle.blink_batch.proofs.plain.Plain.run.Given as goal
 
 -- the operations so far are carried out and answered, and there is room for all answers

@@ -1,5 +1,5 @@
 use Rattle.std.proofs.Common.{◌≡◌, Some, None, refl, ap, sym, ◌∙◌, arith}
-use Rattle.blink_batch.specs.declared.Op.TheVariants.{Delete}
+use Rattle.blink_operation.specs.declared.Op.TheVariants.{Delete}
 use Rattle.blink_page.specs.{value_at, removed, PlainPage, with_entries}
 use Rattle.blink_machine.specs.declared.machine.State.TheVariants.{Change}
 use Rattle.blink_machine.specs.Machine.{PlainMachine, target, at_state}

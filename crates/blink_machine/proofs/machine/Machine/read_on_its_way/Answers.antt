@@ -1,5 +1,5 @@
 use Rattle.std.proofs.Common.{◌≡◌, ℕ, Option, ap, sym, ◌∙◌, subst}
-use Rattle.blink_batch.specs.declared.Op.TheVariants.{Find}
+use Rattle.blink_operation.specs.declared.Op.TheVariants.{Find}
 use Rattle.blink_page.specs.{value_at, PlainPage, Leads}
 use Rattle.blink_page.specs.declared.search.Way.{Way}
 use Rattle.blink_page.specs.declared.search.Way.TheVariants.{Here}

@@ -1,6 +1,6 @@
 use Rattle.std.proofs.Common.{◌≡◌, ℕ, ◌+◌, ◌-◌, List, ◌∷◌, ap, sym, ◌∙◌, subst, inl, inr, arith}
-use Rattle.blink_batch.specs.declared.Op.TheVariants.{Find}
-use Rattle.blink_batch.specs.{answer_at}
+use Rattle.blink_operation.specs.declared.Op.TheVariants.{Find}
+use Rattle.blink_operation.specs.{answer_at}
 use Rattle.blink_page.specs.{Leads}
 use Rattle.blink_page.specs.declared.search.Way.TheVariants.{Down, Here}
 use Rattle.blink_machine.specs.declared.machine.Need.TheVariants.{ReadPage}

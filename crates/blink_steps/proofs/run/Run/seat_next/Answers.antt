@@ -3,7 +3,7 @@ use Rattle.std.proofs.lemmas.Option.{slice_get-get_or, get_or_from_slice_get}
 use Rattle.std.specs.List.{slice_get}
 use Rattle.std.specs.Vec.{with_item}
 use Rattle.blink_batch.proofs.Offered.{next_place_is}
-use Rattle.blink_batch.specs.declared.operation.Op.TheVariants.{Find}
+use Rattle.blink_batch.specs.declared.Op.TheVariants.{Find}
 use Rattle.blink_batch.specs.{next_place}
 use Rattle.blink_steps.proofs.runs.TurnFromItsParts.{IsLinked-with_seat}
 use Rattle.blink_steps.specs.declared.seat.WorkerState.{WorkerState}

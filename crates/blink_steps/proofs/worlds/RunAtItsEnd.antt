@@ -6,11 +6,13 @@ use Rattle.blink_batch.specs.declared.Answer.{Answer}
 use Rattle.blink_batch.specs.declared.Entry.{Entry}
 use Rattle.blink_batch.specs.declared.Op.{Op}
 use Rattle.blink_batch.specs.{answers, map_after_all}
-use Rattle.blink_index.specs.{map_of, NoOtherMapIsKept}
-use Rattle.blink_store.specs.{PlainStore}
-use Rattle.blink_rest.specs.{IsStoreAtRest}
-use Rattle.blink_steps.specs.{Event, HasAnswerAt, IsOneThread, IsWorldOf, PlainRun, PlainWorld}
-use Rattle.blink_machine.specs.{IsMapOf}
+use Rattle.blink_store.specs.{PlainStore, page_of}
+use Rattle.blink_rest.specs.{AreEntries, IsStoreAtRest}
+use Rattle.blink_machine.specs.{IsMapOf, pairs_of}
+use Rattle.blink_steps.specs.Headline.{IsOneThread}
+use Rattle.blink_steps.specs.Promises.{HasAnswerAt}
+use Rattle.blink_steps.specs.Run.{Event, PlainRun}
+use Rattle.blink_steps.specs.World.{IsWorldOf, PlainWorld}
 
 -- a world whose schedule tells no turn has none
 pub no_turn_yet : (start : PlainStore) (world : PlainWorld) (is_world : IsWorldOf start world) → world.schedule ≡ [] → is_world.history ≡ []
@@ -57,9 +59,11 @@ module _ (before after : PlainStore) (ops : List Op) (given : List Answer) (done
       same_given given (answers entries ops) (sym done.same_answers ∙ done.one_thread.same_answers entries is_map
       ∙ ap (λ (xs : List Op). map Some (answers entries xs)) done.same_ops)
 
-  -- and so is the map
-  pub one_thread_map : NoOtherMapIsKept → map_of after ≡ map_after_all entries ops
-  one_thread_map no_other =
+  -- and so is the map, whatever tells the only map of a tree at rest
+  pub one_thread_map : (map_of : PlainStore → List Entry)
+      → ((store : PlainStore) (kept : List Entry) → IsStoreAtRest store → AreEntries store.fan store.prime (page_of store) (pairs_of kept) → kept ≡ map_of store)
+      → map_of after ≡ map_after_all entries ops
+  one_thread_map map_of no_other =
       let kept = done.one_thread.same_entries entries is_map in
       let here : IsMapOf after (map_after_all entries ops) =
       subst (λ (store : PlainStore). IsMapOf store (map_after_all entries ops)) done.same_tree

@@ -1,6 +1,6 @@
-//! The refusals of a run.
+//! The refusals of a batch's run. They stand here, below the runs, so that what reports them is proved beside the runs.
 ghost use Rattle.std.specs.Prelude.{◌≡◌};
-ghost use Rattle.blink_steps.specs.Codes.{code_of};
+ghost use Rattle.blink_machine.specs.Codes.{code_of};
 
 use thiserror::Error;
 

@@ -1,8 +1,8 @@
 -- The numbers that the operations of a batch have.
 use Rattle.std.specs.Prelude.{◌<◌, ◌^◌, Bool, true, false}
-use Rattle.blink_batch.specs.declared.operation.Op.{Op}
-use Rattle.blink_batch.specs.declared.operation.Op.TheVariants.{Find, Insert, Delete}
-use Rattle.blink_batch.specs.Operation.{key_of, pointer_with}
+use Rattle.blink_operation.specs.declared.operation.Op.{Op}
+use Rattle.blink_operation.specs.declared.operation.Op.TheVariants.{Find, Insert, Delete}
+use Rattle.blink_operation.specs.Operation.{key_of, pointer_with}
 
 -- the key and the pointer of an operation, if it has one, are numbers of 64 bits
 abbrev pub FitsWords : Op → Type 0

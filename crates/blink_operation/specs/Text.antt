@@ -2,8 +2,8 @@
 use Rattle.std.specs.Prelude.{ℕ, List, [], ◌∷◌, ◌++◌, codes}
 use Rattle.std.specs.List.{flat_map}
 use Rattle.std.specs.Fmt.{decimal}
-use Rattle.blink_batch.specs.declared.operation.Answer.{Answer}
-use Rattle.blink_batch.specs.declared.operation.Answer.TheVariants.{Found, Absent, Inserted, Exists, Removed, Replaced}
+use Rattle.blink_operation.specs.declared.operation.Answer.{Answer}
+use Rattle.blink_operation.specs.declared.operation.Answer.TheVariants.{Found, Absent, Inserted, Exists, Removed, Replaced}
 
 -- the words of an answer
 abbrev pub words_of : Answer → List ℕ

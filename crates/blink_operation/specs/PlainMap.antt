@@ -1,7 +1,7 @@
 -- The plain map that the whole index is measured by: a list of entries whose keys strictly ascend.
 use Rattle.std.specs.Prelude.{ℕ, ◌<◌, List, [], ◌∷◌, Option, Some, None, if◌then◌else◌, ◌==◌, filter, nat_lt, not}
 use Rattle.std.specs.List.{AllByRecursion}
-use Rattle.blink_batch.specs.declared.entry.Entry.{Entry}
+use Rattle.blink_operation.specs.declared.entry.Entry.{Entry}
 
 -- the entry of a key and its pointer
 abbrev pub entry : ℕ → ℕ → Entry

@@ -1,7 +1,6 @@
 //! The operations on a map, and their answers.
 ghost use Rattle.std.specs.Prelude.{◌≡◌};
-ghost use Rattle.blink_batch.specs.Operation.{answer_at, key_of, pointer_with};
-ghost use Rattle.blink_batch.specs.Batch.{FitsWords, is_insert};
+ghost use Rattle.blink_operation.specs.Operation.{answer_at, key_of, pointer_with};
 
 use std::fmt;
 
@@ -54,19 +53,6 @@ impl Op {
             (Op::Find(_) | Op::Delete(_) | Op::Replace(..), None) => Answer::Absent,
         }
     }
-
-    // Whether the operation is an insertion. Its numbers are read, so they are known to be words.
-    pub(crate) fn is_insert(&self) -> bool
-        ensures value { result ≡ is_insert self.now }
-        ensures words { FitsWords self.now }
-    {
-        match *self {
-            Op::Find(_key) => false,
-            Op::Insert(_key, _pointer) => true,
-            Op::Delete(_key) => false,
-            Op::Replace(_key, _pointer) => false,
-        }
-    }
 }
 
 /// What an operation found and did.
@@ -89,7 +75,7 @@ pub enum Answer {
 /// Writes the words of the answer's output line, as `found 7`.
 impl fmt::Display for Answer {
     ghost use Rattle.std.specs.Prelude.{Some};
-    ghost use Rattle.blink_batch.specs.Text.{words_of};
+    ghost use Rattle.blink_operation.specs.Text.{words_of};
 
     ghost output = { λ answer. Some (words_of answer) };
 

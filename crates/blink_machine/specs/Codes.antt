@@ -1,7 +1,7 @@
 -- The code of each refusal.
 use Rattle.std.specs.Prelude.{ℕ}
-use Rattle.blink_steps.specs.declared.error.StepError.{StepError}
-use Rattle.blink_steps.specs.declared.error.StepError.TheVariants.{OutOfMemory, NoWorker, TooLarge}
+use Rattle.blink_machine.specs.declared.error.StepError.{StepError}
+use Rattle.blink_machine.specs.declared.error.StepError.TheVariants.{OutOfMemory, NoWorker, TooLarge}
 
 abbrev pub code_of : StepError → ℕ
 code_of OutOfMemory = 30

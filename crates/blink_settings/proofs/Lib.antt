@@ -1,2 +1,0 @@
-pub mod RunAtItsEnd
-pub mod Offered
