@@ -22,10 +22,6 @@ run = with_rule (with_rule (with_sizes (new_app (codes "run"))) (option_or (code
 abbrev pub replay : App
 replay = with_rule (with_sizes (new_app (codes "replay"))) (option (codes "schedule"))
 
--- `replay [--workers N] [--fan F] [--schedule S] [--seed N]`
-abbrev pub replay_or_seed : App
-replay_or_seed = with_rule replay (option (codes "seed"))
-
 -- a command that wants a subcommand
 abbrev pub wanting_subcommand : App → App
 wanting_subcommand app = record app { top = record app.top { subcommand_required = true } }
@@ -34,13 +30,6 @@ wanting_subcommand app = record app { top = record app.top { subcommand_required
 abbrev pub blink : App
 blink = with_subcommand (with_subcommand (wanting_subcommand (new_app (codes "blink"))) run.top) replay.top
 
--- the command for the words of `blink-show`, as those of a replay
-abbrev pub show : App
-show = with_subcommand (wanting_subcommand (new_app (codes "blink"))) replay_or_seed.top
-
 -- clap finds no fault in the words
 abbrev pub IsTaken : List Text → Type 0
 IsTaken words = fault_of blink words ≡ []
-
-abbrev pub IsTakenToShow : List Text → Type 0
-IsTakenToShow words = fault_of show words ≡ []

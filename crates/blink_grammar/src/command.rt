@@ -3,13 +3,14 @@ ghost use Rattle.std.specs.Prelude.{◌≡◌, false, codes, IfOk, IfErr};
 ghost use Rattle.clap.specs.Words.{app_of, kind_of, new_app, rule_of, subcommand_of, subcommand_rows_of};
 ghost use Rattle.clap.specs.Walk.{texts};
 ghost use Rattle.clap.specs.declared.builder.command.Command.TheViews.{out-Command};
-ghost use Rattle.blink_grammar.specs.Grammar.{IsTaken, IsTakenToShow, blink, option, option_or, replay, replay_or_seed, run, show, with_sizes};
+ghost use Rattle.blink_grammar.specs.Grammar.{IsTaken, blink, option, option_or, replay, run, with_sizes};
 
 use clap::error::ErrorKind;
 use clap::{Arg, ArgMatches, Command};
 use std::alloc::{AllocError, Global};
 
-/// Returns what `clap` finds in the words.
+/// Reads the words of `blink`, the program's name first, and returns what `clap` finds in them. Words that `clap` doesn't take
+/// give its own error, and refused memory gives one of kind `OutOfMemory`.
 pub fn matches_of<'a>(alloc: Global, words: &'a [&'a str]) -> Result<ArgMatches<'a>, clap::Error>
     ensures taken { IfOk result (λ _. IsTaken (texts words.entry.now)) }
     ensures matches { IfOk result
@@ -21,21 +22,6 @@ pub fn matches_of<'a>(alloc: Global, words: &'a [&'a str]) -> Result<ArgMatches<
     command.try_get_matches_from(words)
 }
 
-/// Returns what `clap` finds in the words of `blink-show`, as those of a replay.
-pub fn show_matches_of<'a>(
-    alloc: Global,
-    words: &'a [&'a str],
-) -> Result<ArgMatches<'a>, clap::Error>
-    ensures taken { IfOk result (λ _. IsTakenToShow (texts words.entry.now)) }
-    ensures matches { IfOk result
-        (λ matches. subcommand_rows_of matches ≡ subcommand_of show (texts words.entry.now)) }
-    ensures memory { IfErr result
-        (λ error. IsTakenToShow (texts words.entry.now) → kind_of error ≡ ErrorKind.OutOfMemory) }
-{
-    let command = show_command(alloc)?;
-    command.try_get_matches_from(words)
-}
-
 fn command<'a>(alloc: Global) -> Result<Command<'a>, AllocError>
     ensures { IfOk result (λ command. app_of command ≡ blink) }
 {
@@ -44,15 +30,6 @@ fn command<'a>(alloc: Global) -> Result<Command<'a>, AllocError>
         .subcommand_required(true)
         .subcommand(run_command(alloc)?)?
         .subcommand(replay_command(alloc)?)
-}
-
-fn show_command<'a>(alloc: Global) -> Result<Command<'a>, AllocError>
-    ensures { IfOk result (λ command. app_of command ≡ show) }
-{
-    Command::new(alloc, "blink")
-        .about("Runs scripts of index operations on a B-link tree")
-        .subcommand_required(true)
-        .subcommand(replay_or_seed_command(alloc)?)
 }
 
 fn run_command<'a>(alloc: Global) -> Result<Command<'a>, AllocError>
@@ -68,7 +45,8 @@ fn run_command<'a>(alloc: Global) -> Result<Command<'a>, AllocError>
     .arg(driver_option(alloc))
 }
 
-fn replay_command<'a>(alloc: Global) -> Result<Command<'a>, AllocError>
+/// Returns the subcommand `replay` with its options, for the command of another program. An error is a refusal of memory alone.
+pub fn replay_command<'a>(alloc: Global) -> Result<Command<'a>, AllocError>
     ensures app { IfOk result (λ command. app_of command ≡ replay) }
     ensures local { IfOk result (λ command. (out-Command command).has_globals ≡ false) }
 {
@@ -78,14 +56,6 @@ fn replay_command<'a>(alloc: Global) -> Result<Command<'a>, AllocError>
         "Runs the script on standard input turn by turn, as a schedule says",
     )?
     .arg(schedule_option(alloc))
-}
-
-// A replay whose turns may be drawn by a seed.
-fn replay_or_seed_command<'a>(alloc: Global) -> Result<Command<'a>, AllocError>
-    ensures app { IfOk result (λ command. app_of command ≡ replay_or_seed) }
-    ensures local { IfOk result (λ command. (out-Command command).has_globals ≡ false) }
-{
-    replay_command(alloc)?.arg(seed_option(alloc))
 }
 
 // A subcommand with the options that both subcommands have.
@@ -144,17 +114,8 @@ fn schedule_option<'a>(alloc: Global) -> Arg<'a>
     )
 }
 
-fn seed_option<'a>(alloc: Global) -> Arg<'a>
-    ensures rule { rule_of result ≡ option (codes "seed") }
-    ensures local { result.global ≡ false }
-{
-    option(alloc, "seed", "N").help(
-        "Draws a worker for each turn by this number, in the place of a schedule",
-    )
-}
-
-// An option with one value.
-fn option<'a>(alloc: Global, name: &'a str, value: &'a str) -> Arg<'a>
+/// Returns an option with one value: `--name VALUE`, where help calls the value as `value` says.
+pub fn option<'a>(alloc: Global, name: &'a str, value: &'a str) -> Arg<'a>
     ensures rule { rule_of result ≡ option name.entry.now }
     ensures local { result.global ≡ false }
 {

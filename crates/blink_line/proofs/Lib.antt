@@ -1,2 +1,0 @@
-pub mod OneMissing
-pub mod ScheduleFromParts

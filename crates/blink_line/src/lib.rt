@@ -1,9 +1,11 @@
-//! The command line of the programs `blink` and `blink-show`: what their words ask for, and how the programs end.
+//! The command line of the program `blink-show`: what its words ask for.
+//!
+//! `blink_line` exports from `blink_command` what a program needs too: the command line of `blink`, and how both programs end.
 #![tactic(auto)]
 
-mod end;
-mod line;
-mod value;
+mod command;
+mod show;
 
-pub use end::{End, ProgramError, end_of, fault};
-pub use line::{Line, LineError, Turns, read_line, read_show};
+pub use blink_command::{End, Line, LineError, ProgramError, end_of, fault, read_line};
+pub use command::show_matches_of;
+pub use show::{Turns, read_show};

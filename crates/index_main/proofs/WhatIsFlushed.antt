@@ -8,8 +8,8 @@ use Rattle.blink_settings.specs.declared.error.ServeError.{ServeError}
 use Rattle.blink_settings.specs.declared.error.ServeError.TheVariants as serve
 use Rattle.blink_replay.proofs.Offered.{prefix_of_text}
 use Rattle.index_main.specs.Program.{HasLeftPrefix, IsText, Leaves, LetsOut, Writes}
-use Rattle.blink_line.specs.declared.line.Line.{Line}
-use Rattle.blink_line.specs.declared.line.Line.TheVariants.{Run, Replay}
+use Rattle.blink_command.specs.declared.line.Line.{Line}
+use Rattle.blink_command.specs.declared.line.Line.TheVariants.{Run, Replay}
 
 -- known bytes that are kept are the same
 kept_as : (between after : Option (List ℕ)) (bytes : List ℕ) → between ≡ Some bytes → Keeps between after → after ≡ Some bytes

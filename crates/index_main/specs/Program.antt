@@ -4,8 +4,8 @@ use Rattle.blink_batch.specs.{records_of}
 use Rattle.blink_run.specs.{IsTextOf, OutputAfterError, Serves, IsReplayText, LeavesReplay, Replays}
 use Rattle.blink_settings.specs.declared.error.ServeError.{ServeError}
 use Rattle.blink_settings.specs.declared.error.ServeError.TheVariants as serve
-use Rattle.blink_line.specs.declared.line.Line.{Line}
-use Rattle.blink_line.specs.declared.line.Line.TheVariants.{Run, Replay}
+use Rattle.blink_command.specs.declared.line.Line.{Line}
+use Rattle.blink_command.specs.declared.line.Line.TheVariants.{Run, Replay}
 
 -- the text of the script that is read, or its replay, stands after what was written before
 abbrev pub Writes : Line → Option (List ℕ) → Option (List ℕ) → Option (List ℕ) → Type 0

@@ -3,7 +3,7 @@
 
 mod program;
 
-use blink_line::{ProgramError, end_of, read_line};
+use blink_command::{ProgramError, end_of, read_line};
 use program::carry_out;
 use std::io::BufWriter;
 use std::process::ExitCode;

@@ -3,7 +3,7 @@ ghost use Rattle.std.specs.Prelude.{◌≡◌, ◌↔◌, [], Err, IfErr, IsTrue
 ghost use Rattle.std.specs.Io.Buffered.{writer_buffer, writer_inner};
 ghost use Rattle.index_main.specs.Program.{HasLeft, Leaves, LetsOut, Writes};
 
-use blink_line::Line;
+use blink_command::Line;
 use blink_run::{Open, ServeError, serve, serve_replay};
 use std::alloc::Global;
 use std::io::{BufWriter, Read, Write};

@@ -3,11 +3,11 @@ use Rattle.std.specs.Prelude.{◌≡◌, ℕ, List, Option}
 use Rattle.std.specs.Io.KnownBytes.{Keeps}
 use Rattle.clap.specs.Words.{Text}
 use Rattle.blink_line.specs.{AsksToShow, as_replay}
-use Rattle.blink_line.specs.declared.end.ProgramError.{ProgramError}
-use Rattle.blink_line.specs.declared.end.ProgramError.TheVariants as program
-use Rattle.blink_line.specs.declared.line.LineError.TheVariants.{OutOfMemory}
-use Rattle.blink_line.specs.declared.line.Turns.{Turns}
-use Rattle.blink_line.specs.declared.line.Turns.TheVariants.{Schedule, Seed}
+use Rattle.blink_line.specs.declared.ProgramError.{ProgramError}
+use Rattle.blink_line.specs.declared.ProgramError.TheVariants as program
+use Rattle.blink_line.specs.declared.LineError.TheVariants.{OutOfMemory}
+use Rattle.blink_line.specs.declared.Turns.{Turns}
+use Rattle.blink_line.specs.declared.Turns.TheVariants.{Schedule, Seed}
 use Rattle.blink_replay.specs.{WritesText, TellsReplayFault, TellsWorkersFault}
 use Rattle.blink_settings.specs.declared.error.ServeError.{ServeError}
 use Rattle.blink_settings.specs.{PlainSettings}

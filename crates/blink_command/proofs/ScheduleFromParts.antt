@@ -2,7 +2,7 @@
 use Rattle.std.proofs.Common.{◌≡◌, ◌≢◌, ◌<◌, ◌∙◌, ℕ, List, [], ◌∷◌, Option, Some, None, Result, Ok, Err, length, map, sym, ap, arith, IfOk, MatchOption}
 use Rattle.std.specs.Borrow.{Bor}
 use Rattle.std.proofs.lemmas.Simd.{map-map}
-use Rattle.blink_line.specs.Value.{IsSchedule, parts_of, worker_of}
+use Rattle.blink_command.specs.Value.{IsSchedule, parts_of, worker_of}
 
 -- what a part spells
 abbrev pub worker_at : Bor (List ℕ) → Option ℕ

@@ -1,10 +1,10 @@
 -- The code of each refusal, and the exit status that reports it.
 use Rattle.std.specs.Prelude.{ℕ, Result, Ok, Err}
 use Rattle.blink_settings.specs.declared.error.ServeError.TheVariants as serve
-use Rattle.blink_line.specs.declared.end.ProgramError.{ProgramError}
-use Rattle.blink_line.specs.declared.end.ProgramError.TheVariants as program
-use Rattle.blink_line.specs.declared.line.LineError.{LineError}
-use Rattle.blink_line.specs.declared.line.LineError.TheVariants as line
+use Rattle.blink_command.specs.declared.end.ProgramError.{ProgramError}
+use Rattle.blink_command.specs.declared.end.ProgramError.TheVariants as program
+use Rattle.blink_command.specs.declared.line.LineError.{LineError}
+use Rattle.blink_command.specs.declared.line.LineError.TheVariants as line
 
 abbrev pub code_of_line_error : LineError → ℕ
 code_of_line_error (line.Usage text) = 80

@@ -2,7 +2,7 @@
 ghost use Rattle.std.specs.Prelude.{◌≡◌, ◌≢◌, ◌≤◌, List, ℕ, Some, map, IfOk, IfSome, MatchOption};
 ghost use Rattle.blink_batch.specs.{MayWork};
 ghost use Rattle.clap.specs.Walk.{texts};
-ghost use Rattle.blink_line.specs.Value.{IsSchedule, cut_of, driver_of, fan_of, number_between, parts_of, worker_of, workers_of};
+ghost use Rattle.blink_command.specs.Value.{IsSchedule, cut_of, driver_of, fan_of, number_between, parts_of, worker_of, workers_of};
 
 use blink_batch::{WORKER_LIMIT, read_number};
 use blink_page::{MAX_FAN, MIN_FAN};

@@ -1,7 +1,7 @@
 use Rattle.std.proofs.Common.{◌∙◌, sym}
-use Rattle.blink_line.specs.Value.{worker_of}
-use Rattle.blink_line.proofs.OneMissing.{one_missing}
-use Rattle.blink_line.proofs.value.workers_at.Goals as goal
+use Rattle.blink_command.specs.Value.{worker_of}
+use Rattle.blink_command.proofs.OneMissing.{one_missing}
+use Rattle.blink_command.proofs.value.workers_at.Goals as goal
 
 -- a part that spells no worker leaves no schedule
 pub returns-in-None : goal.returns-in-None

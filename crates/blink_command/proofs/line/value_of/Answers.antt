@@ -1,7 +1,7 @@
 use Rattle.std.proofs.Common.{◌∙◌}
 use Rattle.clap.specs.Words.{found_of}
 use Rattle.clap.proofs.WalkLemmas.{first_value-rows}
-use Rattle.blink_line.proofs.line.value.Goals as goal
+use Rattle.blink_command.proofs.line.value_of.Goals as goal
 
 -- the option's text is that of its row
 pub returns : goal.returns

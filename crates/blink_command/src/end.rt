@@ -1,9 +1,9 @@
 //! The end of a program.
 ghost use Rattle.std.specs.Prelude.{◌≡◌, IfOk, string_bytes};
 ghost use Rattle.std.specs.Process.{exit_status};
-ghost use Rattle.blink_line.specs.Codes.{status_of, status_of_end};
-ghost use Rattle.blink_line.specs.End.{IsLineOf, failure_of};
-ghost use Rattle.blink_line.specs.declared.end.ProgramError.TheVariants.{Serve};
+ghost use Rattle.blink_command.specs.Codes.{status_of, status_of_end};
+ghost use Rattle.blink_command.specs.End.{IsLineOf, failure_of};
+ghost use Rattle.blink_command.specs.declared.end.ProgramError.TheVariants.{Serve};
 
 use crate::line::LineError;
 use blink_settings::ServeError;
@@ -35,7 +35,7 @@ pub enum ProgramError {
 }
 
 impl From<AllocError> for ProgramError {
-    ghost use Rattle.blink_line.specs.declared.end.ProgramError.TheVariants.{Memory};
+    ghost use Rattle.blink_command.specs.declared.end.ProgramError.TheVariants.{Memory};
 
     ghost from_gives = { λ _ error. error ≡ Memory };
 
@@ -46,7 +46,7 @@ impl From<AllocError> for ProgramError {
 
 /// Writes the lines for standard error, without the last one's line feed.
 impl fmt::Display for ProgramError {
-    ghost use Rattle.blink_line.specs.End.{lines_of};
+    ghost use Rattle.blink_command.specs.End.{lines_of};
 
     ghost output = { lines_of };
 

@@ -2,9 +2,9 @@
 use Rattle.std.specs.Prelude.{◌≡◌, ℕ, List, Option, Some, None, Result, Ok, Err, codes, string_bytes}
 use Rattle.std.specs.Str.{trim_end}
 use Rattle.blink_settings.specs.declared.error.ServeError.TheVariants as serve
-use Rattle.blink_line.specs.declared.end.ProgramError.{ProgramError}
-use Rattle.blink_line.specs.declared.end.ProgramError.TheVariants as program
-use Rattle.blink_line.specs.declared.line.LineError.TheVariants as line
+use Rattle.blink_command.specs.declared.end.ProgramError.{ProgramError}
+use Rattle.blink_command.specs.declared.end.ProgramError.TheVariants as program
+use Rattle.blink_command.specs.declared.line.LineError.TheVariants as line
 
 -- why the program failed
 abbrev pub failure_of : Result (Unit {0}) ProgramError → Option ProgramError

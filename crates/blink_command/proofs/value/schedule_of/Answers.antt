@@ -1,7 +1,7 @@
 use Rattle.std.proofs.Common.{◌<◌, ◌∙◌, ap, length, rules}
 use Rattle.clap.specs.Walk.{texts}
-use Rattle.blink_line.proofs.ScheduleFromParts.{from_parts}
-use Rattle.blink_line.proofs.value.schedule_of.Goals as goal
+use Rattle.blink_command.proofs.ScheduleFromParts.{from_parts}
+use Rattle.blink_command.proofs.value.schedule_of.Goals as goal
 
 -- the parts are those between the commas
 pub returns : goal.returns

@@ -1,7 +1,7 @@
 use Rattle.std.proofs.Common.{lit<}
 use Rattle.std.proofs.lemmas.Iterator.Consumers.{map_from_collect}
 use Rattle.std.proofs.lemmas.Iterator.Splits.{YieldsList-from_str_split}
-use Rattle.blink_line.proofs.value.parts_of.Goals as goal
+use Rattle.blink_command.proofs.value.parts_of.Goals as goal
 
 -- the pieces of a split are the parts
 pub returns : goal.returns

@@ -1,0 +1,2 @@
+pub mod OneMissing
+pub mod ScheduleFromParts

@@ -1,0 +1,12 @@
+//! The command line of the program `blink`: what its words ask for, and how a program ends.
+//!
+//! The words of `blink-show` stand above, in `blink_line`, so `blink` is proved without them.
+#![tactic(auto)]
+
+mod end;
+mod line;
+mod value;
+
+pub use end::{End, ProgramError, end_of, fault};
+pub use line::{Line, LineError, bad_value, read_line, refusal, settings_of, value_of};
+pub use value::schedule_of;
