@@ -2,6 +2,8 @@
 
 -- the request of the words of a command line, by clap's reading of them
 pub use Rattle.blink_command.specs.Line.{Asks, HasAllowedSizes, IsBadValue, IsTaken, blink}
+-- the grammar of the command line: its commands, options and subcommands
+pub use Rattle.blink_command.specs.Grammar.{option, option_or, replay, run, wanting_subcommand, with_sizes}
 -- the meaning of the values of options
 pub use Rattle.blink_command.specs.Value.{IsSchedule, cut_of, driver_of, fan_of, workers_of}
 -- the end of a program, and what it writes on standard error
@@ -11,6 +13,7 @@ pub use Rattle.blink_command.specs.Codes.{code_of_line_error, status_of, status_
 -- ---- for contracts and proofs above
 pub use Rattle.blink_command.specs.Line.{HasSizes, value}
 -- ---- the files
+pub mod Grammar
 pub mod Line
 pub mod Value
 pub mod End

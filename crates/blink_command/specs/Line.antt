@@ -10,7 +10,7 @@ use Rattle.blink_command.specs.declared.line.Line.TheVariants.{Run, Replay}
 use Rattle.blink_command.specs.declared.line.LineError.{LineError}
 use Rattle.blink_command.specs.declared.line.LineError.TheVariants.{Usage, OutOfMemory}
 -- the grammar's own words
-pub use Rattle.blink_grammar.specs.{IsTaken, blink, option, option_or, replay, run, wanting_subcommand, with_sizes}
+pub use Rattle.blink_command.specs.Grammar.{IsTaken, blink, option, option_or, replay, run, wanting_subcommand, with_sizes}
 
 -- the value of an option, given or by default
 abbrev pub value : List Row → Text → Option Text

@@ -3,10 +3,12 @@
 //! The words of `blink-show` stand above, in `blink_line`, so `blink` is proved without them.
 #![tactic(auto)]
 
+mod command;
 mod end;
 mod line;
 mod value;
 
+pub use command::{matches_of, option, replay_command};
 pub use end::{End, ProgramError, end_of, fault};
 pub use line::{Line, LineError, bad_value, read_line, refusal, settings_of, value_of};
 pub use value::schedule_of;

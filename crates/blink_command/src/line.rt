@@ -6,8 +6,8 @@ ghost use Rattle.blink_settings.specs.{IsAllowed};
 ghost use Rattle.blink_command.specs.Codes.{code_of_line_error};
 ghost use Rattle.blink_command.specs.Line.{Asks, AsksToRun, HasAllowedSizes, HasSizes, IsBadValue, IsTaken, Means, SubcommandMeans, value};
 
+use crate::command::matches_of;
 use crate::value::{cut_of, driver_of, fan_of, schedule_of, workers_of};
-use blink_grammar::matches_of;
 use blink_settings::{CutKind, Driver, Settings};
 use clap::ArgMatches;
 use clap::error::ErrorKind;

@@ -1,7 +1,7 @@
 -- The grammar of the words of `blink-show`, and the words that clap finds no fault in by it.
 use Rattle.std.specs.Prelude.{◌≡◌, List, [], codes}
 use Rattle.clap.specs.Words.{App, Text, fault_of, new_app, with_rule, with_subcommand}
-use Rattle.blink_grammar.specs.{option, replay, wanting_subcommand}
+use Rattle.blink_command.specs.{option, replay, wanting_subcommand}
 
 -- `replay [--workers N] [--fan F] [--schedule S] [--seed N]`
 abbrev pub replay_or_seed : App

@@ -3,10 +3,10 @@ ghost use Rattle.std.specs.Prelude.{◌≡◌, false, codes, IfOk, IfErr};
 ghost use Rattle.clap.specs.Words.{app_of, kind_of, rule_of, subcommand_of, subcommand_rows_of};
 ghost use Rattle.clap.specs.Walk.{texts};
 ghost use Rattle.clap.specs.declared.builder.command.Command.TheViews.{out-Command};
-ghost use Rattle.blink_grammar.specs.{option};
+ghost use Rattle.blink_command.specs.{option};
 ghost use Rattle.blink_line.specs.Grammar.{IsTakenToShow, replay_or_seed, show};
 
-use blink_grammar::{option, replay_command};
+use blink_command::{option, replay_command};
 use clap::error::ErrorKind;
 use clap::{Arg, ArgMatches, Command};
 use std::alloc::{AllocError, Global};

@@ -2,7 +2,7 @@
 mod usage;
 
 use crate::fixtures::{given, is_shown, same_for, settings};
-use blink_grammar::matches_of;
+use blink_command::matches_of;
 use blink_line::{Line, LineError, Turns, read_line, read_show, show_matches_of};
 use blink_run::CutKind::{Ranges, Residue};
 use blink_run::Driver::{Live, Locked};

@@ -1,6 +1,6 @@
 use Rattle.std.proofs.Common.{Some, ap}
 use Rattle.clap.specs.Words.{Rule}
-use Rattle.blink_grammar.proofs.command.option.Goals as goal
+use Rattle.blink_command.proofs.command.option.Goals as goal
 
 -- the rule of an option, with its two words
 pub returns-clause-rule : goal.returns-clause-rule

@@ -1,9 +1,9 @@
-//! The grammar of the command line, for `clap`.
+//! The grammar of the command line of `blink`, for `clap`.
 ghost use Rattle.std.specs.Prelude.{◌≡◌, false, codes, IfOk, IfErr};
 ghost use Rattle.clap.specs.Words.{app_of, kind_of, new_app, rule_of, subcommand_of, subcommand_rows_of};
 ghost use Rattle.clap.specs.Walk.{texts};
 ghost use Rattle.clap.specs.declared.builder.command.Command.TheViews.{out-Command};
-ghost use Rattle.blink_grammar.specs.Grammar.{IsTaken, blink, option, option_or, replay, run, with_sizes};
+ghost use Rattle.blink_command.specs.Grammar.{IsTaken, blink, option, option_or, replay, run, with_sizes};
 
 use clap::error::ErrorKind;
 use clap::{Arg, ArgMatches, Command};
