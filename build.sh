@@ -61,12 +61,12 @@ output_of() {
 }
 
 # How many processes prove a crate. Each more loads the libraries once more, and a function's proof waits for those of the functions that it
-# calls. So two took 0.6 to 0.9 of the time of one, and 1.1 to 1.8 of its processor time. That pays where a crate has much that calls nothing,
-# where all others wait for it, and where nothing else is left to prove.
+# calls. So two took 0.6 to 0.8 of the time of one, and 1.1 to 1.4 of its processor time. That pays where all others wait for the crate, and
+# where nothing else is left to prove.
 jobs_of() {
     case $1 in
-    blink_c | blink_machine | blink_run) echo "$processors" ;;
-    blink_batch | blink_live | blink_page | blink_rest | blink_store) echo $(((processors + 1) / 2)) ;;
+    blink_c | blink_machine) echo "$processors" ;;
+    blink_index | blink_live | blink_page | blink_rest | blink_run | blink_store) echo $(((processors + 1) / 2)) ;;
     *) echo 1 ;;
     esac
 }
@@ -74,7 +74,7 @@ jobs_of() {
 # How far a crate gives way to others. These two can be proved early and are needed late, so they take what the chain of the others leaves.
 niceness_of() {
     case $1 in
-    blink_grammar | blink_rows) echo 19 ;;
+    blink_command | blink_rows) echo 19 ;;
     *) echo 0 ;;
     esac
 }
