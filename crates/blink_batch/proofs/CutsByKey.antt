@@ -1,7 +1,8 @@
 -- Cuts by a function of the key.
-use Rattle.std.proofs.Common.{◌≡◌, ◌<◌, ◌∙◌, ℕ, zero, suc, ◌∷◌, [], List, length, map, get_or, refl, sym, ap, arith}
+use Rattle.std.proofs.Common.{◌≡◌, ◌<◌, ◌≤◌, ◌+◌, ◌∙◌, ◌++◌, ℕ, zero, suc, ◌∷◌, [], List, length, map, get_or, take, refl, sym, ap, add-one, arith}
+use Rattle.std.proofs.Math.Seq.{take-suc}
 use Rattle.std.specs.List.{zip, All}
-use Rattle.std.proofs.lemmas.List.{length-map}
+use Rattle.std.proofs.lemmas.List.{length-map, map-append, take_all}
 use Rattle.blink_operation.specs.declared.operation.Op.{Op}
 use Rattle.blink_operation.specs.Operation.{key_of}
 use Rattle.blink_batch.specs.Cut.{IsLawfulCut}
@@ -28,3 +29,12 @@ module _ (worker_of : ℕ → ℕ) where
     one_worker_a_key = λ i j d before in_range same.
         worker_beside ops i d (omega arith) ∙ ap worker_of same ∙ sym (worker_beside ops j d in_range);
   }
+
+  -- the lanes of the first operations, one more at a time
+  pub one_lane_more : (ops : List Op) (i : ℕ) (d : Op) (lanes more : List ℕ) (key lane : ℕ) → i < length ops → lanes ≡ map (λ op. worker_of (key_of op)) (take i ops) → key ≡ key_of (get_or ops i d)
+      → lane ≡ worker_of key → more ≡ lanes ++ lane ∷ [] → more ≡ map (λ op. worker_of (key_of op)) (take (i + 1) ops)
+  one_lane_more ops i d lanes more key lane in_range so_far read its pushed = rw (pushed, so_far, its, read) (sym (rw (add-one, take-suc ops i d in_range, map-append) refl))
+
+  -- and of them all
+  pub lanes_of_all : (ops its : List Op) (i : ℕ) (lanes : List ℕ) → length its ≤ i → its ≡ ops → lanes ≡ map (λ op. worker_of (key_of op)) (take i its) → lanes ≡ map (λ op. worker_of (key_of op)) ops
+  lanes_of_all ops its i lanes past same so_far = so_far ∙ ap (map (λ op. worker_of (key_of op))) (take_all i its past ∙ same)

@@ -1,26 +1,18 @@
 -- What a reader of a script has read so far, and what it finds next.
 use Rattle.std.proofs.Common.{◌≡◌, ◌+◌, ◌++◌, ◌∷◌, [], ℕ, List, Bool, true, false, Option, Some, Result, Ok, Err, refl, sym, ap, ◌∙◌, append_assoc, inl}
-use Rattle.csv.specs.Reading.{Reached, Ready, ReadRecord, default_config, source_of, strip_bom}
+use Rattle.csv.specs.Reading.{Reached, ReadRecord, default_config, source_of, strip_bom}
 use Rattle.csv.specs.declared.parser.State.TheVariants as st
 use Rattle.csv.specs.declared.reader.Reader.{Reader}
-use Rattle.csv.specs.declared.reader.Trim.TheVariants as trim
-use Rattle.std.specs.Prelude.{option_map}
 use Rattle.csv.proofs.ReadFacts.{rows-more, rows-end}
 use Rattle.blink_batch.specs.declared.error.RecordError.{RecordError}
 use Rattle.blink_batch.specs.declared.error.ScriptError.{ScriptError}
 use Rattle.blink_batch.specs.declared.record.Request.{Request}
 use Rattle.blink_batch.specs.Parts.{IsOneTooMany, PartsSoFar, all_parts, parts_with}
+use Rattle.blink_batch.specs.Reader.{IsSetUp}
 use Rattle.blink_batch.specs.Record.{request_of}
 use Rattle.blink_batch.specs.Script.{records_of, script_of}
 use Rattle.blink_batch.proofs.RecordsReadArePrefix.{reached_all, reached_prefix}
 use Rattle.blink_batch.proofs.ScriptStillToRead.{HasTaken, IsRefusedBehind, refuses_next, takes_all, takes_more, takes_nothing}
-
--- the reader reads records by csv's defaults, of any length, and the next read is of one record
-pub record IsSetUp {R : Type 0} (reader : Reader R) : Type 0 where
-  pub no_trim : reader.trim ≡ trim.None
-  pub ready : Ready reader
-  pub config : reader.config ≡ default_config
-  pub flexible : reader.flexible ≡ true
 
 -- of the text, the reader has read records that come to these parts, and has these bytes left; the next record has this number
 pub record HasRead {R : Type 0} (rem : R → Option (List ℕ)) (reader : Reader R) (text : List ℕ) (number : ℕ) (parts : PartsSoFar) : Type 0 where
@@ -32,13 +24,12 @@ pub record HasRead {R : Type 0} (rem : R → Option (List ℕ)) (reader : Reader
 
 module _ {R : Type 0} (rem : R → Option (List ℕ)) where
   -- a reader that begins has read nothing
-  pub begins : (rdr : R) (reader : Reader R) (text : List ℕ) → reader.state ≡ st.StartRecord → source_of rem reader ≡ option_map strip_bom (rem rdr) → rem rdr ≡ Some text
-      → HasRead rem reader text 1 (record { closed = []; pending = [] })
+  pub begins : (reader : Reader R) (text : List ℕ) → reader.state ≡ st.StartRecord → source_of rem reader ≡ Some (strip_bom text) → HasRead rem reader text 1 (record { closed = []; pending = [] })
   unfolding Reached
-  begins rdr reader text state source known = record {
+  begins reader text state source = record {
     rows = [];
     left = strip_bom text;
-    source = source ∙ ap (option_map strip_bom) known;
+    source = source;
     reached = (sym state, refl);
     taken = takes_nothing;
   }

@@ -32,6 +32,7 @@ pub mod Ranges
 pub mod Order
 pub mod Script
 pub mod ScriptLaw
+pub mod Reader
 pub mod Record
 pub mod Number
 pub mod Codes

@@ -1,13 +1,14 @@
 //! Reading scripts.
 ghost use Rattle.std.specs.Prelude.{◌≡◌, Ok, IfOk, IfErr};
 ghost use Rattle.csv.specs.Reading.{error_kind};
+ghost use Rattle.blink_batch.specs.Reader.{Begins, ComesTo, IsRefusedFor};
 ghost use Rattle.blink_batch.specs.Script.{IsReadable, ReadsAs, TellsRefusal, refusal_of};
 
 use crate::batch::Batch;
 use crate::error::ScriptError;
 use crate::parts::Parts;
 use crate::record::read_request;
-use csv::{ByteRecord, ErrorKind, ReaderBuilder};
+use csv::{ByteRecord, ErrorKind, Reader, ReaderBuilder};
 use std::alloc::Global;
 use std::io::Read;
 
@@ -49,14 +50,28 @@ pub fn read_script<R: Read + Drop>(alloc: Global, reader: R) -> Result<Script, S
         .flexible(true)
         .from_reader(alloc, reader);
     let mut row = ByteRecord::new(alloc);
+    read_records(alloc, &mut reader, &mut row)
+}
+
+// Reads every record, each into the row, and returns their script.
+fn read_records<R: Read + Drop>(
+    alloc: Global,
+    reader: &mut Reader<R>,
+    row: &mut ByteRecord,
+) -> Result<Script, ScriptError>
+    requires { Begins reader.old }
+    ensures script { IfOk result (λ script. ComesTo R.remaining reader.old script.parts.items) }
+    ensures refusal { IfErr result (IsRefusedFor R.remaining reader.old) }
+    ensures readable { IfErr result IsReadable }
+{
     let mut parts = Parts::new(alloc);
     for number in 1..u64::MAX {
-        match reader.read_byte_record(&mut row) {
+        match reader.read_byte_record(row) {
             Ok(true) => {}
             Ok(false) => return parts.into_script(),
             Err(error) => return Err(refusal(number, error)),
         }
-        let request = match read_request(&row) {
+        let request = match read_request(row) {
             Ok(request) => request,
             Err(error) => return Err(ScriptError::Row(number, error)),
         };

@@ -1,22 +1,33 @@
-use Rattle.std.proofs.Common.{◌≡◌, arith}
-use Rattle.std.proofs.lemmas.Grind.{common_steps}
-use Rattle.blink_batch.specs.Ranges.{lane_in_ranges, lanes_by_ranges}
-use Rattle.blink_batch.proofs.CutsByKey.{lawful_by_key}
+use Rattle.std.proofs.Common.{arith}
+use Rattle.blink_operation.specs.declared.operation.Op.TheVariants.{Find}
+use Rattle.blink_batch.specs.Ranges.{lane_in_ranges}
+use Rattle.blink_batch.proofs.CutsByKey.{lanes_of_all, lawful_by_key, one_lane_more}
 use Rattle.blink_batch.proofs.LaneAmongRanges.{lane_in_range}
 use Rattle.blink_batch.proofs.cut.Cut.by_ranges.Goals as goal
+
+-- one operation more has its lane
+pub loop-op-preserved : goal.loop-op-preserved
+loop-op-preserved c = record {
+  cut = one_lane_more (lane_in_ranges c.args.bounds.now) c.ops-op-items.result.now c.loop-op.op-index (Find 0) _ _ _ _ c.loop-op-test.true c.loop-op.invariant.cut c.key.ensures c.lane_in_ranges.ensures
+      c.push_reserved.ensures.items;
+  room = omega (arith, c.loop-op.invariant.room, c.push_reserved.ensures.capacity);
+}
+
+-- each has it at the end
+pub returns-clause-lanes : goal.returns-clause-lanes
+returns-clause-lanes c =
+    lanes_of_all (lane_in_ranges c.args.bounds.now) c.args.batch.now c.ops-op-items.result.now c.loop-op.op-index c.loop-op.lanes.items c.loop-op-test.false c.ops-op-items.ensures.ops c.loop-op.invariant.cut
 
 -- the lane is a function of the key
 pub returns-clause-lawful : goal.returns-clause-lawful
 returns-clause-lawful c =
-    let lanes : c.loop-op.lanes.items ≡ lanes_by_ranges c.args.bounds.now c.args.batch.now = grind (arith, common_steps) in
-    rw lanes (lawful_by_key (lane_in_ranges c.args.bounds.now) c.args.batch.now _ (lane_in_range c.args.bounds.now))
+    rw (returns-clause-lanes c) (lawful_by_key (lane_in_ranges c.args.bounds.now) c.args.batch.now _ (lane_in_range c.args.bounds.now))
 
 -- and it is a worker
 pub invariant_of-result : goal.invariant_of-result
 invariant_of-result c =
-    let lanes : c.loop-op.lanes.items ≡ lanes_by_ranges c.args.bounds.now c.args.batch.now = grind (arith, common_steps) in
     let lawful = lawful_by_key (lane_in_ranges c.args.bounds.now) c.args.batch.now _ (lane_in_range c.args.bounds.now) in
     record {
       allowed = (omega arith, omega arith);
-      lanes_are_workers = rw lanes lawful.lanes_are_workers;
+      lanes_are_workers = rw (returns-clause-lanes c) lawful.lanes_are_workers;
     }

@@ -1,21 +1,30 @@
-use Rattle.std.proofs.Common.{◌≡◌, ◌%◌, map, arith}
-use Rattle.std.proofs.lemmas.Grind.{common_steps}
-use Rattle.blink_operation.specs.Operation.{key_of}
-use Rattle.blink_batch.proofs.CutsByKey.{lawful_by_key}
+use Rattle.std.proofs.Common.{◌%◌, ap, arith}
+use Rattle.blink_operation.specs.declared.operation.Op.TheVariants.{Find}
+use Rattle.blink_batch.proofs.CutsByKey.{lanes_of_all, lawful_by_key, one_lane_more}
 use Rattle.blink_batch.proofs.cut.Cut.by_residue.Goals as goal
+
+-- one operation more has its lane
+pub loop-op-preserved : goal.loop-op-preserved
+loop-op-preserved c = record {
+  cut = one_lane_more (λ key. key % c.args.workers) c.ops-op-items.result.now c.loop-op.op-index (Find 0) _ _ _ _ c.loop-op-test.true c.loop-op.invariant.cut c.key.ensures
+      (ap (λ workers. c.key.result % workers) c.from.ensures) c.push_reserved.ensures.items;
+  room = omega (arith, c.loop-op.invariant.room, c.push_reserved.ensures.capacity);
+}
+
+-- each has it at the end
+pub returns-clause-lanes : goal.returns-clause-lanes
+returns-clause-lanes c =
+    lanes_of_all (λ key. key % c.args.workers) c.args.batch.now c.ops-op-items.result.now c.loop-op.op-index c.loop-op.lanes.items c.loop-op-test.false c.ops-op-items.ensures.ops c.loop-op.invariant.cut
 
 -- the remainder is a function of the key
 pub returns-clause-lawful : goal.returns-clause-lawful
-returns-clause-lawful c =
-    let lanes : c.loop-op.lanes.items ≡ map (λ op. key_of op % c.args.workers) c.args.batch.now = grind (arith, common_steps) in
-    rw lanes (lawful_by_key (λ key. key % c.args.workers) c.args.batch.now c.args.workers (λ key. omega arith))
+returns-clause-lawful c = rw (returns-clause-lanes c) (lawful_by_key (λ key. key % c.args.workers) c.args.batch.now c.args.workers (λ key. omega arith))
 
 -- and it is a worker
 pub invariant_of-result : goal.invariant_of-result
 invariant_of-result c =
-    let lanes : c.loop-op.lanes.items ≡ map (λ op. key_of op % c.args.workers) c.args.batch.now = grind (arith, common_steps) in
     let lawful = lawful_by_key (λ key. key % c.args.workers) c.args.batch.now c.args.workers (λ key. omega arith) in
     record {
       allowed = (omega arith, omega arith);
-      lanes_are_workers = rw lanes lawful.lanes_are_workers;
+      lanes_are_workers = rw (returns-clause-lanes c) lawful.lanes_are_workers;
     }
