@@ -2,7 +2,7 @@
 mod usage;
 
 use crate::fixtures::{given, is_shown, same_for, settings};
-use blink_command::matches_of;
+use blink_command::{bad_value, matches_of, refusal, schedule_of, settings_of, value_of};
 use blink_line::{Line, LineError, Turns, read_line, read_show, show_matches_of};
 use blink_run::CutKind::{Ranges, Residue};
 use blink_run::Driver::{Live, Locked};
@@ -37,6 +37,37 @@ fn options_by_the_grammar(rt: HostRuntime) {
     let words = ["blink", "replay", "--seed", "7"];
     let matches = given(&rt, show_matches_of(rt.alloc(), &words));
     finds(&rt, &matches, "replay", "seed", "7");
+}
+
+// What the words of both programs are read by.
+#[test]
+fn parts_of_requests(rt: HostRuntime) {
+    let alloc = rt.alloc();
+    let words = ["blink", "replay", "--fan", "32", "--schedule", "0,63"];
+    let matches = given(&rt, matches_of(alloc, &words));
+    let Some((_, found)) = matches.subcommand() else {
+        panic!(&rt; "no subcommand")
+    };
+    same_for(&rt, &value_of(found, "workers"), &Some("4"), &"workers");
+    same_for(&rt, &value_of(found, "seed"), &None, &"seed");
+    let expected = settings(&rt, (4, 32), Residue, Locked);
+    let sizes = settings_of(found, Residue, Locked);
+    same_for(&rt, &sizes, &Some(expected), &"sizes");
+    match given(&rt, schedule_of(alloc, "0,63")) {
+        Some(turns) => same_for(&rt, &turns.as_slice(), &[0, 63].as_slice(), &"schedule"),
+        None => panic!(&rt; "no schedule"),
+    }
+    is_shown(&rt, alloc, &bad_value(alloc), "usage: bad value", &"value");
+    match matches_of(alloc, &["blink"]) {
+        Ok(_) => panic!(&rt; "taken"),
+        Err(error) => is_shown(
+            &rt,
+            alloc,
+            &refusal(alloc, &error),
+            usage::NO_SUBCOMMAND,
+            &"words",
+        ),
+    }
 }
 
 // The words of a line, which single spaces separate: between two spaces, and behind one at the end, there is an empty word.

@@ -1,7 +1,8 @@
 //! The texts of `clap` where it doesn't take the words, its help among them.
 use crate::command_lines::{asked, asked_to_show, is_refused};
 
-const NO_SUBCOMMAND: &str = "error: 'blink' requires a subcommand but one was not provided
+pub(super) const NO_SUBCOMMAND: &str =
+    "error: 'blink' requires a subcommand but one was not provided
   [subcommands: run, replay, help]
 
 Usage: blink <COMMAND>
