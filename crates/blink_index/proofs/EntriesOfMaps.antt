@@ -4,10 +4,10 @@ use Rattle.std.specs.Prelude.{Contains, if◌then◌else◌}
 use Rattle.std.specs.List.{AllByRecursion}
 use mathlib.Core.Logic.{dite}
 use native.Mathlib.Decide.{ℕ_discrete}
-use Rattle.blink_batch.specs.declared.Answer.TheVariants.{Found}
-use Rattle.blink_batch.specs.declared.Entry.{Entry}
-use Rattle.blink_batch.specs.declared.Op.TheVariants.{Find}
-use Rattle.blink_batch.specs.{answer_at, answer_of, entry, pointer_of, IsAscending}
+use Rattle.blink_operation.specs.declared.Answer.TheVariants.{Found}
+use Rattle.blink_operation.specs.declared.Entry.{Entry}
+use Rattle.blink_operation.specs.declared.Op.TheVariants.{Find}
+use Rattle.blink_operation.specs.{answer_at, answer_of, entry, pointer_of, IsAscending}
 
 -- a key and the pointer that it maps to are an entry
 pub entry-from_pointer : (map : List Entry) (key pointer : ℕ) → pointer_of map key ≡ Some pointer → Contains map (entry key pointer)

@@ -1,11 +1,10 @@
 -- The plain map of a store at rest: the entries of its tree, and nothing else.
 use Rattle.std.proofs.Common.{◌≡◌, ℕ, Some, List, [], ◌∷◌, cond, eqb, refl, sym, ap, ◌∙◌, subst}
-use Rattle.blink_batch.specs.{pointer_of}
+use Rattle.blink_operation.specs.{pointer_of}
 use Rattle.blink_page.specs.{value_at}
 use Rattle.blink_store.specs.{PlainStore, page_of}
-use Rattle.blink_rest.specs.{AreEntries, entries_along}
-use Rattle.blink_machine.specs.{IsMapOf, entries_from, pairs_of}
-use Rattle.blink_machine.proofs.Offered.{entries_at_start, entries_from-pairs_of}
+use Rattle.blink_rest.specs.{AreEntries, entries_along, IsMapOf, entries_from, pairs_of}
+use Rattle.blink_rest.proofs.Offered.{entries_at_start, entries_from-pairs_of}
 use Rattle.blink_index.specs.Index.{level_of, map_of, cells_of}
 use Rattle.blink_index.specs.Laws.{MapIsKept, NoOtherMapIsKept}
 use Rattle.blink_index.proofs.PagesAlongLinks.{cells_of-chain}

@@ -3,11 +3,11 @@ use Rattle.std.proofs.Common.{◌≡◌, ℕ, zero, suc, ◌+◌, ◌-◌, ◌<�
 use Rattle.std.proofs.lemmas.Bool.Decides.{nat_tests}
 use Rattle.std.proofs.lemmas.List.{map-append}
 use Rattle.std.proofs.lemmas.List.Elements.{filter-append}
-use Rattle.blink_batch.specs.declared.Entry.{Entry}
-use Rattle.blink_batch.specs.{entry}
+use Rattle.blink_operation.specs.declared.Entry.{Entry}
+use Rattle.blink_operation.specs.{entry}
 use Rattle.blink_page.specs.{place_of, IsRising}
 use Rattle.blink_page.proofs.Offered.{from_at_most_to, IsRising-append}
-use Rattle.blink_machine.specs.{entries_from}
+use Rattle.blink_rest.specs.{entries_from}
 use Rattle.std.specs.Iterator.{YieldsFirst}
 use Rattle.std.proofs.iter.runs.Sources.{from_front, as_is}
 use Rattle.blink_index.specs.Scan.{at_most, is_from, is_within, entries_to, one_fewer, BringsInOrder}

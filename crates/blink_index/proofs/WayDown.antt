@@ -7,8 +7,8 @@ use Rattle.blink_store.specs.{PlainStore, page_of, HasPage}
 use Rattle.blink_store.proofs.Offered.{has_page}
 use Rattle.blink_rest.specs.{AreEntries, Reaches, IsRoot, at_root, down, IsStoreAtRest}
 use Rattle.blink_rest.proofs.Offered.{child_lower, entries_exist_at_rest, reached_for, root_at_end, search_ends_at_leaf}
-use Rattle.blink_batch.specs.declared.Entry.{Entry}
-use Rattle.blink_batch.specs.{pointer_of}
+use Rattle.blink_operation.specs.declared.Entry.{Entry}
+use Rattle.blink_operation.specs.{pointer_of}
 use Rattle.blink_index.specs.Index.{map_of}
 use Rattle.blink_index.specs.Leaf.{IsLeafFor}
 use Rattle.blink_index.proofs.MapOfStore.{map_of-entries, pointer_of-entries_from}

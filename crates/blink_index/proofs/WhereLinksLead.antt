@@ -5,15 +5,13 @@ use Rattle.blink_page.specs.{PlainPage, place_of, least_above, IsRising}
 use Rattle.blink_page.specs.declared.limits.TheConstants.{GREATEST_KEY}
 use Rattle.blink_store.specs.{PlainStore, page_of, HasPage}
 use Rattle.blink_store.proofs.Offered.{has_page}
-use Rattle.blink_rest.specs.{AreAmong, InLine, floor_after, AreEntries, entries_along, IsStoreAtRest}
+use Rattle.blink_rest.specs.{AreAmong, InLine, floor_after, AreEntries, entries_along, IsStoreAtRest, IsMapOf, pairs_of, entries_from}
 use Rattle.blink_rest.specs.Chain.{Cell, cell}
-use Rattle.blink_rest.proofs.Offered.{AreAmong-rest, chain_spans, entries_ascend, entries_exist_at_rest, InLine-prefix, InLine-rest, line_rising, same_cell, search_ends_at_leaf, stands_of, stands_split, stands_there}
-use Rattle.blink_machine.specs.{IsMapOf, pairs_of, entries_from}
+use Rattle.blink_rest.proofs.Offered.{AreAmong-rest, chain_spans, entries_ascend, entries_exist_at_rest, InLine-prefix, InLine-rest, line_rising, same_cell, search_ends_at_leaf, stands_of, stands_split, stands_there, entries_from-pairs_of}
 use Rattle.blink_index.specs.Index.{cells_of, map_of}
 use Rattle.blink_index.specs.Leaf.{IsLeafFor}
 use Rattle.blink_index.specs.Scan.{IsLinkOf, entries_after, entries_to, is_from, is_within}
 use Rattle.blink_index.proofs.PagesAlongLinks.{cells_from-line, cells_from-none, line_within}
-use Rattle.blink_machine.proofs.Offered.{entries_from-pairs_of}
 use Rattle.blink_index.proofs.MapOfStore.{map_of-entries}
 use Rattle.blink_index.proofs.StretchOfScan.{scan_of_parts, all_within, from_within}
 

@@ -1,10 +1,9 @@
 -- The content of an index: the levels of its tree, its tree's entries, and these as a plain map.
 use Rattle.std.specs.Prelude.{ℕ, zero, suc, Option, Some, None, List, [], ◌∷◌, length, map, slice_get}
-use Rattle.blink_batch.specs.declared.Entry.{Entry}
-use Rattle.blink_rest.specs.{Pages, entries_along}
+use Rattle.blink_operation.specs.declared.Entry.{Entry}
+use Rattle.blink_rest.specs.{Pages, entries_along, entries_from}
 use Rattle.blink_rest.specs.Chain.{Cell}
 use Rattle.blink_store.specs.{PlainStore, page_of}
-use Rattle.blink_machine.specs.{entries_from}
 
 -- the pages from a link on, each the right link of the one before, and at most this many
 abbrev pub cells_from : Pages → ℕ → Option ℕ → List Cell

@@ -1,10 +1,9 @@
 -- Laws of the plain map of an index and of its text.
 use Rattle.std.specs.Prelude.{◌≡◌, List}
-use Rattle.blink_batch.specs.declared.Entry.{Entry}
+use Rattle.blink_operation.specs.declared.Entry.{Entry}
 use Rattle.blink_rest.specs.Chain.{Cell}
-use Rattle.blink_rest.specs.{AreEntries, AreLevels, IsStoreAtRest}
+use Rattle.blink_rest.specs.{AreEntries, AreLevels, IsStoreAtRest, IsMapOf, pairs_of}
 use Rattle.blink_store.specs.{PlainStore, page_of}
-use Rattle.blink_machine.specs.{IsMapOf, pairs_of}
 use Rattle.blink_index.specs.Dump.{text_of, text_of_store}
 use Rattle.blink_index.specs.Index.{map_of}
 

@@ -3,8 +3,8 @@
 use Rattle.std.specs.Prelude.{ℕ, ◌-◌, ◌≤◌, nat_le, if◌then◌else◌, ◌&&◌, Bool, Option, Some, None, List, [], ◌∷◌, length, take}
 use Rattle.std.specs.Iterator.{YieldsFirst}
 use Rattle.std.specs.Iterator.Runs.{YieldsInOrder}
-use Rattle.blink_batch.specs.declared.Entry.{Entry}
-use Rattle.blink_batch.specs.{entry}
+use Rattle.blink_operation.specs.declared.Entry.{Entry}
+use Rattle.blink_operation.specs.{entry}
 use Rattle.blink_rest.specs.Chain.{Cell}
 use Rattle.blink_rest.specs.{entries_along, IsTail}
 use Rattle.blink_store.specs.{PlainStore, page_of}

@@ -1,6 +1,6 @@
 -- A `Scan` as a contract sees it.
 use Rattle.std.specs.Prelude.{List, ◌++◌}
-use Rattle.blink_batch.specs.declared.Entry.{Entry}
+use Rattle.blink_operation.specs.declared.Entry.{Entry}
 use Rattle.blink_index.specs.Scan.{IsLinkOf, at_most, entries_after, entries_to}
 use Rattle.blink_index.specs.declared.scan.Scan.TheInside.{Inside}
 

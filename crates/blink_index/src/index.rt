@@ -1,10 +1,9 @@
 //! A tree at rest, as a map to be read.
 ghost use Rattle.std.specs.Prelude.{◌≡◌, ℕ, ◌↔◌, List, [], filter, length, string_bytes, IfOk, IsErrOf, IsOkUnless, take};
-ghost use Rattle.blink_batch.specs.{pointer_of};
+ghost use Rattle.blink_operation.specs.{pointer_of};
 ghost use Rattle.blink_page.specs.{value_at, IsPageNumber};
-ghost use Rattle.blink_rest.specs.{AreEntries, IsStoreAtRest};
+ghost use Rattle.blink_rest.specs.{AreEntries, IsStoreAtRest, IsMapOf};
 ghost use Rattle.blink_store.specs.{page_of, new_store};
-ghost use Rattle.blink_machine.specs.{IsMapOf};
 ghost use Rattle.blink_index.specs.Codes.{IsBadFan};
 ghost use Rattle.blink_index.specs.Dump.{text_of_store};
 ghost use Rattle.blink_index.specs.Index.{map_of};
@@ -14,7 +13,7 @@ use crate::down::leaf_for;
 use crate::dump::tree_text;
 use crate::error::IndexError;
 use crate::scan::Scan;
-use blink_batch::Entry;
+use blink_operation::Entry;
 use blink_page::{MAX_FAN, MIN_FAN};
 use blink_rest::Rest;
 use blink_store::Store;

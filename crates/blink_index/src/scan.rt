@@ -7,7 +7,7 @@ ghost use Rattle.blink_index.specs.Index.{map_of};
 ghost use Rattle.blink_index.specs.Scan.{IsLinkOf, at_most, entries_after, is_within, one_fewer};
 
 use crate::down::leaf_for;
-use blink_batch::Entry;
+use blink_operation::Entry;
 use blink_page::Page;
 use blink_store::Store;
 use std::marker::Model;
@@ -29,7 +29,7 @@ pub struct Scan<'a> {
 
 impl<'a> Model for Scan<'a> {
     ghost use Rattle.std.specs.Prelude.{List};
-    ghost use Rattle.blink_batch.specs.declared.Entry.{Entry};
+    ghost use Rattle.blink_operation.specs.declared.Entry.{Entry};
 
     ghost Value = { List Entry };
 

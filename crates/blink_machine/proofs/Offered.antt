@@ -1,9 +1,7 @@
 -- What this crate offers to the proofs of the crates above.
 
--- a tree at rest has a plain map
-pub use Rattle.blink_machine.proofs.law.EntriesAtStart.{entries_at_start}
--- a plain map is told by its pairs
-pub use Rattle.blink_machine.proofs.law.InvariantGivesOneMap.{entries_from-pairs_of}
+-- a tree at rest has a plain map, which its pairs tell
+pub use Rattle.blink_rest.proofs.Offered.{entries_at_start, entries_from-pairs_of}
 -- the law of a step as a whole, for lemmas, which can't call it
 pub use Rattle.blink_machine.proofs.law.EachPart.{step_law}
 -- whoever drives a machine: its way down ends, it has an answer when it ends, and a find only reads

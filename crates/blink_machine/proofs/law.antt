@@ -1,4 +1,3 @@
-pub mod EntriesAtStart
 pub mod InvariantGivesOrder
 pub mod InvariantGivesOneMap
 pub mod IdleWorkers

@@ -13,6 +13,7 @@ pub mod ExampleIsAtRest
 pub mod FewLevels
 pub mod ChildrenAreInChain
 pub mod EachLaw
+pub mod MapAtRest
 pub mod WalkAlongLevel
 pub mod ComparedLevels
 pub mod WalkDownLevels

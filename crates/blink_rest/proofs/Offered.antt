@@ -23,3 +23,5 @@ pub use Rattle.blink_rest.proofs.LeafOfKey.{root_at_end}
 pub use Rattle.blink_rest.proofs.PagesReached.{reached_for, child_lower}
 -- laws of trees
 pub use Rattle.blink_rest.proofs.EachLaw.{entries_ascend, entries_exist_at_rest, search_ends_at_leaf, as_many_levels}
+-- a tree at rest has a plain map, which its pairs tell
+pub use Rattle.blink_rest.proofs.MapAtRest.{ascending_from, entries_at_start, entries_from-pairs_of, pairs_of-entries_from}

@@ -8,6 +8,8 @@ pub use Rattle.blink_rest.specs.Level.{entries_along, numbers_of}
 pub use Rattle.blink_rest.specs.References.{BeginsAt, IsHighKey, Refers}
 -- the entries of a tree: those of its leaves, joined along the chain of level 0
 pub use Rattle.blink_rest.specs.Entries.{AreEntries}
+-- the same as a plain map
+pub use Rattle.blink_rest.specs.TreeMap.{HasMap, IsMapOf, entries_from, pairs_of}
 -- a tree at rest: no operation is under way, and every split is posted
 pub use Rattle.blink_rest.specs.Rest.{AreLevels, IsAtRest, IsStoreAtRest}
 -- how a search reaches a page: down from the root, and to the right
@@ -31,6 +33,7 @@ pub mod Chain
 pub mod Level
 pub mod References
 pub mod Entries
+pub mod TreeMap
 pub mod Rest
 pub mod Reach
 pub mod Laws

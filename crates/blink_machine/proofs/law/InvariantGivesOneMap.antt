@@ -1,18 +1,11 @@
 -- Where the invariant holds, the entries of the tree are one plain map.
-use Rattle.std.proofs.Common.{◌≡◌, ◌+◌, List, [], ◌∷◌, refl, ap, sym, subst, ◌∙◌}
-use Rattle.blink_operation.specs.declared.Entry.{Entry}
+use Rattle.std.proofs.Common.{◌+◌, ap, sym, subst, ◌∙◌}
 use Rattle.blink_page.specs.declared.limits.TheConstants.{GREATEST_KEY}
 use Rattle.blink_rest.specs.{AreEntries, entries_along}
-use Rattle.blink_rest.proofs.Offered.{entries_ascend}
+use Rattle.blink_rest.proofs.Offered.{ascending_from, entries_ascend, entries_from-pairs_of, pairs_of-entries_from}
 use Rattle.blink_machine.specs.StepLaw.{InvariantGivesOneMap}
 use Rattle.blink_machine.specs.TreeMap.{entries_from, pairs_of}
 use Rattle.blink_machine.proofs.tree_state.EntriesOfATree.{are_entries, entries_are}
-use Rattle.blink_machine.proofs.law.EntriesAtStart.{ascending_from, pairs_of-entries_from}
-
--- a plain map is told by its pairs
-pub entries_from-pairs_of : (entries : List Entry) → entries_from (pairs_of entries) ≡ entries
-entries_from-pairs_of [] = refl
-entries_from-pairs_of (e ∷ entries) = ap (λ (rest : List Entry). e ∷ rest) (entries_from-pairs_of entries)
 
 -- the entries of level 0, and no others
 pub invariant_gives_one_map : InvariantGivesOneMap

@@ -13,7 +13,7 @@ use Rattle.blink_steps.specs.RunInvariant.{IsShaped, RunInvariant, CanTakeTurn}
 use Rattle.blink_steps.specs.World.{PlainWorld, IsWorldOf, IsWorld, IsReplay}
 use Rattle.blink_steps.proofs.runs.RunLaws.{run_laws}
 use Rattle.blink_steps.proofs.runs.RunStatements.{CountsAreOf}
-use Rattle.blink_machine.proofs.law.EntriesAtStart.{entries_at_start}
+use Rattle.blink_machine.proofs.Offered.{entries_at_start}
 use Rattle.blink_steps.proofs.worlds.WorldsGoFurther.{counts_with, place_within, promises_with, shaped_with, invariant_now, turn_can_be_taken}
 
 -- what is promised of a world

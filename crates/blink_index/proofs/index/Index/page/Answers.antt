@@ -1,5 +1,5 @@
 use Rattle.std.proofs.Common.{List, take, ap, ◌∙◌, subst, sym}
-use Rattle.blink_batch.specs.declared.Entry.{Entry}
+use Rattle.blink_operation.specs.declared.Entry.{Entry}
 use Rattle.blink_rest.specs.{IsStoreAtRest}
 use Rattle.blink_index.proofs.MapOfStore.{the_map_is_kept}
 use Rattle.blink_index.proofs.StretchOfScan.{brings_in_order}

@@ -1,7 +1,7 @@
 use Rattle.std.proofs.Common.{arith, rules, ◌≡◌, ◌++◌, ◌∷◌, ℕ, List, Option, Some, sym, ap, ◌∙◌}
 use Rattle.std.proofs.lemmas.Grind.{common_steps}
-use Rattle.blink_batch.specs.declared.Entry.{Entry}
-use Rattle.blink_batch.specs.{entry}
+use Rattle.blink_operation.specs.declared.Entry.{Entry}
+use Rattle.blink_operation.specs.{entry}
 use Rattle.blink_index.specs.Scan.{at_most, entries_after, entries_to, one_fewer}
 use Rattle.blink_index.proofs.StretchOfScan.{one_brought}
 use Rattle.blink_index.proofs.scan.ScanIterator.next.Goals as goal

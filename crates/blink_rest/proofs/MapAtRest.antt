@@ -1,19 +1,25 @@
--- The entries of the tree that a run begins with, as a plain map.
+-- The entries of a tree at rest, as a plain map.
 use Rattle.std.proofs.Common.{◌≡◌, ℕ, ◌+◌, ◌<◌, List, [], ◌∷◌, refl, ap, sym, subst, arith}
 use Rattle.std.specs.List.{AllByRecursion}
 use Rattle.blink_operation.specs.declared.Entry.{Entry}
 use Rattle.blink_operation.specs.{IsAscending}
 use Rattle.blink_page.specs.{IsRising}
 use Rattle.blink_page.specs.declared.limits.TheConstants.{GREATEST_KEY}
-use Rattle.blink_rest.specs.{AreEntries, IsStoreAtRest}
-use Rattle.blink_rest.proofs.Offered.{entries_ascend, entries_exist_at_rest}
 use Rattle.blink_store.specs.{PlainStore, page_of}
-use Rattle.blink_machine.specs.TreeMap.{IsMapOf, entries_from, pairs_of}
+use Rattle.blink_rest.specs.Entries.{AreEntries}
+use Rattle.blink_rest.specs.Rest.{IsStoreAtRest}
+use Rattle.blink_rest.specs.TreeMap.{IsMapOf, entries_from, pairs_of}
+use Rattle.blink_rest.proofs.EachLaw.{entries_ascend, entries_exist_at_rest}
 
 -- pairs as the entries of a map, and these as pairs again, are the same
 pub pairs_of-entries_from : (pairs : List (ℕ × ℕ)) → pairs_of (entries_from pairs) ≡ pairs
 pairs_of-entries_from [] = refl
 pairs_of-entries_from (pair ∷ pairs) = ap (λ (rest : List (ℕ × ℕ)). pair ∷ rest) (pairs_of-entries_from pairs)
+
+-- a plain map is told by its pairs
+pub entries_from-pairs_of : (entries : List Entry) → entries_from (pairs_of entries) ≡ entries
+entries_from-pairs_of [] = refl
+entries_from-pairs_of (e ∷ entries) = ap (λ (rest : List Entry). e ∷ rest) (entries_from-pairs_of entries)
 
 -- the keys of rising pairs are all above a key that is below them
 all_above : (key from : ℕ) (pairs : List (ℕ × ℕ)) (to : ℕ) → key < from → IsRising from pairs to → AllByRecursion (λ (after : Entry). key < after.key) (entries_from pairs)
