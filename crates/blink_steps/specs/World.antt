@@ -56,6 +56,10 @@ pub record IsReplay (start : PlainStore) (ops : List Op) (assignment : Assignmen
   pub same_assignment : world.run.assignment ≡ assignment
   pub same_schedule : world.schedule ≡ schedule
 
+-- from a start the world of this schedule
+abbrev pub FollowsSchedule : PlainWorld → List ℕ → PlainWorld → Type 0
+FollowsSchedule old schedule new = (start : PlainStore) (ops : List Op) (assignment : Assignment) → IsStart start ops assignment old → IsReplay start ops assignment schedule new
+
 -- the world after one turn of a worker, which its schedule records
 pub record TakesStep (old : PlainWorld) (worker : ℕ) (step : Step) (new : PlainWorld) : Type 0 where
   pub taken : Event
@@ -140,3 +144,9 @@ abbrev pub IsStepRefusal : ℕ → ℕ → StepError → Type 0
 IsStepRefusal workers worker OutOfMemory = ⊤
 IsStepRefusal workers worker (NoWorker number) = (number ≡ worker) × (workers ≤ worker)
 IsStepRefusal workers worker TooLarge = ⊥
+
+-- the refusals of a schedule's turns: memory, or the first number that is no worker's
+abbrev pub IsScheduleRefusal : ℕ → List ℕ → StepError → Type 0
+IsScheduleRefusal workers schedule OutOfMemory = ⊤
+IsScheduleRefusal workers schedule (NoWorker number) = IsFirstNoWorker workers schedule number
+IsScheduleRefusal workers schedule TooLarge = ⊥

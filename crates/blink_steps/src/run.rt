@@ -1,5 +1,6 @@
 //! A batch's run over a tree, turn by turn.
-ghost use Rattle.std.specs.Prelude.{◌≡◌, ◌↔◌, ◌+◌, ◌<◌, ℕ, Some, length, option_map, slice_get, IsTrue, IsNone, IfOk, IfSome, OnErr, IsOkUnless};
+ghost use Rattle.std.specs.Prelude.{◌≡◌, ◌↔◌, ◌+◌, ◌<◌, ◌≤◌, ℕ, Some, length, option_map, slice_get, IsTrue, IsNone, IfOk, IfSome, OnErr, IsOkUnless};
+ghost use Rattle.blink_store.specs.declared.latches.TheConstants.{WORKERS};
 ghost use Rattle.blink_steps.specs.Pick.{IsFirstMover, IsIdleWorker, WouldMove, WouldWait};
 ghost use Rattle.blink_steps.specs.Run.{AppliesSomeEvent, IsOpeningRun, idle_seat, working_of};
 ghost use Rattle.blink_steps.specs.Seats.{HasOperation, SeatsNext, with_seat};
@@ -12,7 +13,7 @@ use crate::seat::{WorkerState, Working};
 use crate::shared::Shared;
 use blink_batch::{Answer, Batch, Lanes};
 use blink_machine::{Step, StepError};
-use blink_store::{Latches, Store};
+use blink_store::{Latches, Store, WORKERS};
 use std::alloc::{AllocError, Global};
 use std::marker::Model;
 
@@ -54,14 +55,8 @@ impl Run {
     {
         let places = batch.ops().len();
         let (following, firsts) = lane_queues(alloc, lanes.lanes())?;
-        let workers = usize::from(lanes.workers());
-        let mut seats = Vec::with_capacity(alloc, workers)?;
-        for worker in 0..workers {
-            seats.push_reserved(WorkerState {
-                working: None,
-                next: firsts[worker],
-            });
-        }
+        let seats = idle_seats(alloc, lanes.workers(), &firsts)?;
+        let outcome = Outcome::new(alloc, places)?;
         Ok(Run {
             shared: Shared {
                 store,
@@ -71,7 +66,7 @@ impl Run {
             lanes,
             following,
             seats,
-            outcome: Outcome::new(alloc, places)?,
+            outcome,
         })
     }
 
@@ -164,7 +159,7 @@ impl Run {
         ensures { IsTrue result ↔ HasEnded self.now }
     {
         for seat in &self.seats {
-            if seat.working.is_some() || seat.next.is_some() {
+            if !seat.is_at_end() {
                 return false;
             }
         }
@@ -196,8 +191,7 @@ impl Run {
         ensures { IsTrue result ↔ WouldMove self.now worker }
     {
         let seat = &self.seats[usize::from(worker)];
-        let at_end = seat.working.is_none() && seat.next.is_none();
-        !at_end && !self.waits(worker)
+        !seat.is_at_end() && !self.waits(worker)
     }
 
     /// The smallest worker whose next turn would be a step.
@@ -279,4 +273,26 @@ impl Run {
     {
         self.shared.store
     }
+}
+
+// Makes a seat for each worker, which is idle, with the first place of its lane next.
+fn idle_seats(
+    alloc: Global,
+    workers: u8,
+    firsts: &[Option<u32>; WORKERS],
+) -> Result<Vec<WorkerState>, AllocError>
+    requires { workers ≤ WORKERS }
+    ensures a_seat_each { IfOk result (λ seats. length seats.items ≡ workers) }
+    ensures all_idle { IfOk result (λ seats. (worker : ℕ) → worker < workers
+        → slice_get seats.items worker ≡ option_map idle_seat (slice_get firsts.now worker)) }
+{
+    let workers = usize::from(workers);
+    let mut seats = Vec::with_capacity(alloc, workers)?;
+    for worker in 0..workers {
+        seats.push_reserved(WorkerState {
+            working: None,
+            next: firsts[worker],
+        });
+    }
+    Ok(seats)
 }

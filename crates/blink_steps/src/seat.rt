@@ -1,8 +1,8 @@
 //! The state of a worker: its operation under way, and the next one of its lane.
-ghost use Rattle.std.specs.Prelude.{◌≡◌, IsOkUnless};
+ghost use Rattle.std.specs.Prelude.{◌≡◌, ◌↔◌, None, IsTrue, IsOkUnless};
 ghost use Rattle.blink_page.specs.{IsFan};
 ghost use Rattle.blink_machine.specs.{fresh};
-ghost use Rattle.blink_steps.specs.Run.{busy_seat};
+ghost use Rattle.blink_steps.specs.Run.{busy_seat, idle_seat};
 ghost use Rattle.blink_steps.specs.Seats.{left_in_seat, answer_in_seat, IsAbleInSeat, ActsInSeat};
 
 use crate::shared::Shared;
@@ -59,6 +59,13 @@ impl WorkerState {
             Some(working) => working.machine.answer(),
             None => None,
         }
+    }
+
+    /// Whether the worker is idle, and its lane is at its end.
+    pub(crate) fn is_at_end(&self) -> bool
+        ensures { IsTrue result ↔ (self.now ≡ idle_seat None) }
+    {
+        self.working.is_none() && self.next.is_none()
     }
 
     /// Drops the operation if it has ended.

@@ -7,7 +7,7 @@ ghost use Rattle.blink_steps.specs.Pick.{GoesOnPicked, IsFirstMover, IsIdleWorke
 ghost use Rattle.blink_steps.specs.Promises.{IsPromised};
 ghost use Rattle.blink_steps.specs.Run.{working_of};
 ghost use Rattle.blink_steps.specs.StepBounds.{steps_at_most_with};
-ghost use Rattle.blink_steps.specs.World.{GoesOnBy, HasEnded, InItsHistory, IsReplay, IsReplayRefusal, IsStart, IsStepRefusal, IsTooLarge, IsWorld, KeepsItsStart, SameBatch, TakesStep, with_turn};
+ghost use Rattle.blink_steps.specs.World.{FollowsSchedule, GoesOnBy, HasEnded, InItsHistory, IsReplay, IsReplayRefusal, IsScheduleRefusal, IsStart, IsStepRefusal, IsTooLarge, IsWorld, KeepsItsStart, SameBatch, TakesStep, with_turn};
 
 use crate::run::Run;
 use crate::seat::Working;
@@ -281,8 +281,21 @@ pub fn replay(
     ensures refused { IfErr result (IsReplayRefusal rest batch lanes.workers schedule.now) }
 {
     let mut world = World::start(alloc, rest, batch, lanes)?;
+    match follow(&mut world, schedule) {
+        Ok(()) => Ok(world),
+        Err(refusal) => Err(refusal),
+    }
+}
+
+// Gives a world one turn for each number of a schedule, up to the first refusal.
+fn follow(world: &mut World, schedule: &[u8]) -> Result<(), StepError>
+    ensures world { IfOk result (λ _. FollowsSchedule world.old schedule.now world.new) }
+    ensures workers { IfOk result
+        (λ _. All (λ worker. worker < world.old.run.assignment.workers) schedule.now) }
+    ensures refused { IfErr result (IsScheduleRefusal world.old.run.assignment.workers schedule.now) }
+{
     for &worker in schedule {
         world.step(worker)?;
     }
-    Ok(world)
+    Ok(())
 }

@@ -1,5 +1,5 @@
 -- One turn of a worker, from what becomes of the tree, of its seat and of the outcome.
-use Rattle.std.proofs.Common.{◌≡◌, ◌≢◌, ℕ, ◌+◌, ◌<◌, List, [], ◌∷◌, ◌++◌, length, set, get_or, true, Option, Some, None, refl, sym, ap, ◌∙◌, subst, inl, inr, arith}
+use Rattle.std.proofs.Common.{◌≡◌, ℕ, ◌<◌, ◌≤◌, option_map, List, length, set, get_or, true, Option, Some, None, refl, sym, ap, ◌∙◌, subst, inl, inr, arith}
 use Rattle.std.proofs.lemmas.Bool.{cases_eq}
 use Rattle.std.proofs.lemmas.List.{set-get_or, length-set}
 use Rattle.std.proofs.lemmas.Option.{slice_get_within, slice_get_read, get_or_from_slice_get}
@@ -23,7 +23,7 @@ use Rattle.blink_machine.specs.declared.step.Step.{Step}
 use Rattle.blink_machine.specs.declared.step.Step.TheVariants.{Moved, Waited, Idle}
 use Rattle.blink_steps.specs.Acts.{PlainShared, ActsOn, Acts, CanAct}
 use Rattle.blink_steps.specs.Outcome.{PlainOutcome, decides_now, recorded}
-use Rattle.blink_store.proofs.Offered.{slice_get-push_other, slice_get-push_same, slice_get-set_other, slice_get-set_same}
+use Rattle.blink_store.proofs.Offered.{slice_get-set_other, slice_get-set_same}
 use Rattle.blink_steps.specs.LaneQueues.{FirstInLane}
 use Rattle.blink_machine.specs.{PlainMachine, need_at, fresh, goes_on, SeesPrime}
 use Rattle.blink_steps.specs.Run.{PlainRun, Event, AppliesEvent, IsNextOf, idle_seat, seat_after, after_move}
@@ -147,18 +147,11 @@ IsLinked-with_seat inside shared outcome at seat linked of_lane = record {
 abbrev pub AreIdle : List ℕ → List WorkerState → ℕ → Type 0
 AreIdle lanes seats below = (worker : ℕ) → worker < below → slice_get seats worker ≡ Some (idle_seat (next_place lanes worker 0))
 
--- one worker more
-pub AreIdle-more : (lanes : List ℕ) (firsts : List (Option ℕ)) (seats : List WorkerState) (worker : ℕ) → FirstInLane lanes firsts 0 → worker < WORKER_LIMIT → length seats ≡ worker → AreIdle lanes seats worker
-    → AreIdle lanes (seats ++ idle_seat (get_or firsts worker None) ∷ []) (worker + 1)
-AreIdle-more lanes firsts seats worker are_firsts a_worker as_many are_idle other below = elim (cases_eq other worker) [
-  | inl same ↦
-      let first : get_or firsts worker None ≡ next_place lanes worker 0 = get_or_from_slice_get firsts worker (next_place lanes worker 0) None (are_firsts worker a_worker) in
-      rw (same, first, ← as_many) (slice_get-push_same seats (idle_seat (next_place lanes (length seats) 0)))
-  | inr different ↦
-      let past : other ≢ length seats = λ at_end. different (at_end ∙ as_many) in
-      let below_worker : other < worker = omega arith in
-      slice_get-push_other seats other (idle_seat (get_or firsts worker None)) past ∙ are_idle other below_worker
-]
+-- as each is with the first place of its lane
+pub AreIdle-firsts : (lanes : List ℕ) (firsts : List (Option ℕ)) (seats : List WorkerState) (workers : ℕ) → FirstInLane lanes firsts 0 → workers ≤ WORKER_LIMIT
+    → ((worker : ℕ) → worker < workers → slice_get seats worker ≡ option_map idle_seat (slice_get firsts worker)) → AreIdle lanes seats workers
+AreIdle-firsts lanes firsts seats workers are_firsts allowed seated worker below =
+    seated worker below ∙ ap (option_map idle_seat) (are_firsts worker (omega arith))
 
 -- the first place of a worker's lane is of its lane
 pub AreOfLanes-idle : (lanes : List ℕ) (seats : List WorkerState) → AreIdle lanes seats (length seats) → AreOfLanes lanes seats

@@ -19,7 +19,7 @@ use Rattle.blink_steps.specs.Headline.{ReachesPresent}
 use Rattle.blink_steps.specs.Promises.{KeepsItsPromises}
 use Rattle.blink_steps.specs.Run.{PlainRun, Event, AppliesEvent, IsHistory, IsOpeningRun, IsNextOf, idle_seat, busy_seat}
 use Rattle.blink_steps.specs.RunInvariant.{is_answered, IsShaped, RunInvariant, CanTakeTurn}
-use Rattle.blink_steps.specs.World.{PlainWorld, IsFirstNoWorker, IsReplay, IsReplayRefusal, IsStepRefusal, IsWorldOf, MayBegin, TakesStep, HasTurnMore, SameBatch, OnEachTurn, AfterEachTurn, WritesItsOwn}
+use Rattle.blink_steps.specs.World.{PlainWorld, IsFirstNoWorker, IsReplay, IsReplayRefusal, IsScheduleRefusal, IsStepRefusal, IsWorldOf, MayBegin, TakesStep, HasTurnMore, SameBatch, OnEachTurn, AfterEachTurn, WritesItsOwn}
 use Rattle.blink_batch.proofs.Offered.{IsAscending-map_after_all, next_place_is}
 use Rattle.blink_steps.proofs.worlds.OneThread.{one_thread}
 use Rattle.blink_steps.proofs.runs.RunStatements.{CountsAreOf, RunLaws}
@@ -92,13 +92,19 @@ first_no_worker workers schedule index within before no_worker = record {
   workers_before = before;
 }
 
--- a step that is refused after a prefix of workers is why the schedule isn't replayed
-pub replay_refusal : (start : PlainStore) (ops : List Op) (workers : ℕ) (schedule : List ℕ) (index : ℕ) (refusal : StepError) → index < length schedule
-    → All (λ worker. worker < workers) (take index schedule) → IsStepRefusal workers (get_or schedule index 0) refusal → IsReplayRefusal start ops workers schedule refusal
-replay_refusal start ops workers schedule index OutOfMemory within before refused = tt
-replay_refusal start ops workers schedule index (NoWorker number) within before refused =
+-- a step that is refused after a prefix of workers is why the schedule isn't followed
+pub schedule_refusal : (workers : ℕ) (schedule : List ℕ) (index : ℕ) (refusal : StepError) → index < length schedule
+    → All (λ worker. worker < workers) (take index schedule) → IsStepRefusal workers (get_or schedule index 0) refusal → IsScheduleRefusal workers schedule refusal
+schedule_refusal workers schedule index OutOfMemory within before refused = tt
+schedule_refusal workers schedule index (NoWorker number) within before refused =
     subst (IsFirstNoWorker workers schedule) (sym refused.0) (first_no_worker workers schedule index within before refused.1)
-replay_refusal start ops workers schedule index TooLarge within before refused = absurd refused
+schedule_refusal workers schedule index TooLarge within before refused = absurd refused
+
+-- and so why it isn't replayed
+pub replay_refusal : (start : PlainStore) (ops : List Op) (workers : ℕ) (schedule : List ℕ) (refusal : StepError) → IsScheduleRefusal workers schedule refusal → IsReplayRefusal start ops workers schedule refusal
+replay_refusal start ops workers schedule OutOfMemory refused = tt
+replay_refusal start ops workers schedule (NoWorker number) refused = refused
+replay_refusal start ops workers schedule TooLarge refused = absurd refused
 
 -- a prefix of workers and one more
 pub workers_more : (workers : ℕ) (schedule : List ℕ) (index : ℕ) → index < length schedule → All (λ worker. worker < workers) (take index schedule)

@@ -1,9 +1,31 @@
-use Rattle.std.proofs.Common.{◌++◌, ℕ, List, [], ◌∷◌, ap, subst, ◌∙◌, arith}
+use Rattle.std.proofs.Common.{◌≡◌, ◌↔◌, ◌<◌, ◌≤◌, ◌++◌, ℕ, List, [], ◌∷◌, Result, Ok, Err, refl, ap, subst, ◌∙◌, arith}
+use Rattle.blink_machine.specs.declared.error.StepError.{StepError}
+use Rattle.blink_machine.specs.declared.error.StepError.TheVariants.{OutOfMemory, NoWorker}
+use Rattle.blink_machine.specs.declared.step.Step.{Step}
 use Rattle.blink_steps.specs.World.{PlainWorld, TakesStep}
 use Rattle.blink_steps.proofs.worlds.WorldsGoOn.{would_move_moves, would_wait_waits}
 use Rattle.blink_steps.proofs.worlds.WorldsGoFurther.{goes_further, has_turn_more, same_batch}
 use Rattle.blink_steps.proofs.worlds.WorldPromises.{promises, can_take_turn}
 use Rattle.blink_steps.proofs.world.World.step.Goals as goal
+
+-- a worker that is one is not refused as none
+is_one : (workers worker told : ℕ) (result : Result Step StepError) → told ≡ workers → worker < told → (result ≡ Err (NoWorker worker) → ⊥) → (result ≡ Err (NoWorker worker)) ↔ (workers ≤ worker)
+is_one workers worker told result same below other = (λ is. absurd (other is), λ above. absurd (omega arith))
+
+memory_is_other : (worker : ℕ) (result : Result Step StepError) → result ≡ Err OutOfMemory → result ≡ Err (NoWorker worker) → ⊥
+memory_is_other worker result memory is = absurd (cc)
+
+step_is_other : (worker : ℕ) (step : Step) (result : Result Step StepError) → result ≡ Ok step → result ≡ Err (NoWorker worker) → ⊥
+step_is_other worker step result ok is = absurd (cc)
+
+pub returns-then-worker-workers-clause-no_worker : goal.returns-then-worker-workers-clause-no_worker
+returns-then-worker-workers-clause-no_worker c = (λ is. subst (λ (workers : ℕ). workers ≤ c.args.worker) (c.workers.ensures ∙ ap (λ (world : PlainWorld). world.run.assignment.workers) c.self.view_is) c.if-worker-workers.true, λ above. refl)
+
+pub returns-then-is_err-clause-no_worker : goal.returns-then-is_err-clause-no_worker
+returns-then-is_err-clause-no_worker c = is_one _ c.args.worker _ _ (c.workers.ensures ∙ ap (λ (world : PlainWorld). world.run.assignment.workers) c.self.view_is) c.if-worker-workers.false (memory_is_other c.args.worker _ refl)
+
+pub returns-clause-no_worker : goal.returns-clause-no_worker
+returns-clause-no_worker c = is_one _ c.args.worker _ _ (c.workers.ensures ∙ ap (λ (world : PlainWorld). world.run.assignment.workers) c.self.view_is) c.if-worker-workers.false (step_is_other c.args.worker c.in_ok-step.step _ refl)
 
 pub returns-then-worker-workers-clause-promised : goal.returns-then-worker-workers-clause-promised
 returns-then-worker-workers-clause-promised c start is_world = promises start _ is_world
