@@ -9,4 +9,5 @@ pub mod OwnChangesByKey
 pub mod StepsOfUpdates
 pub mod UpdatesGoOn
 pub mod PassesComeBack
+pub mod PassesSetOut
 pub mod PendingsAreSent

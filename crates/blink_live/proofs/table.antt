@@ -11,3 +11,4 @@ pub mod PassesComeIn
 pub mod OthersKnowTheSame
 pub mod StoresKeepTable
 pub mod SharesAreKnown
+pub mod RefusalsTold

@@ -1,4 +1,4 @@
-use Rattle.std.proofs.Common.{◌≡◌, ℕ, zero, suc, ◌+◌, ◌-◌, ◌<◌, ◌≤◌, Some, List, [], ◌∷◌, ◌++◌, length, sym, ap, ◌∙◌, subst, arith}
+use Rattle.std.proofs.Common.{◌≡◌, ℕ, zero, suc, ◌+◌, ◌-◌, ◌<◌, ◌≤◌, Some, List, [], ◌∷◌, ◌++◌, length, map, sym, ap, ◌∙◌, subst, arith}
 use Rattle.std.specs.Prelude.{Contains, slice_get}
 use Rattle.std.specs.Mem.Slots.{slots_items}
 use Rattle.blink_batch.specs.declared.Entry.{Entry}
@@ -43,10 +43,13 @@ enough out were count passes same is all = omega (arith, same, is, all)
 enough_back : (dealt back passes shares : ℕ) → dealt - back ≤ passes → shares ≡ passes → dealt ≤ back + shares
 enough_back dealt back passes shares all long = omega (arith, all, long)
 
+came : {A : Type 0} (share : A → Share) (items : List A) (rest : List Share) (place : ℕ) (item : A) → slice_get items place ≡ Some item → Contains (map share items ++ rest) (share item)
+came share [] rest place item at = absurd (cc)
+came share (first ∷ items) rest zero item at = (0, some (length (map share items ++ rest)), let same : first ≡ item = cc in ap share same)
+came share (first ∷ items) rest (suc place) item at = let t = came share items rest place item at in (suc t.0, one_more t.0 (length (map share items ++ rest)) t.1, t.2)
+
 share_came : (passes : List Pass) (rest : List Share) (place : ℕ) (pass : Pass) → slice_get passes place ≡ Some pass → Contains (shares_of passes ++ rest) pass.seat.me.0.share
-share_came [] rest place pass at = absurd (cc)
-share_came (first ∷ passes) rest zero pass at = (0, some (length (shares_of passes ++ rest)), let same : first ≡ pass = cc in ap (λ (p : Pass). p.seat.me.0.share) same)
-share_came (first ∷ passes) rest (suc place) pass at = let t = share_came passes rest place pass at in (suc t.0, one_more t.0 (length (shares_of passes ++ rest)) t.1, t.2)
+share_came = came (λ (pass : Pass). pass.seat.me.0.share)
 
 -- the keeper with all shares back
 abbrev view_at_end : (keeper : Keeper) (passes : List Pass) → View

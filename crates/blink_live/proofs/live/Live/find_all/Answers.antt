@@ -1,9 +1,44 @@
-use Rattle.std.proofs.Common.{ℕ, List, Contains, sym, ap, subst}
+use Rattle.std.proofs.Common.{◌≡◌, ◌≤◌, ℕ, List, Contains, map, refl, sym, ap, ◌∙◌, subst}
+use mathlib.Core.List.{IsPrefix}
+use Rattle.blink_batch.specs.{pointer_of}
+use Rattle.blink_rows.specs.declared.span.Span.{Span}
+use Rattle.blink_live.specs.declared.live.Live.{Live}
+use Rattle.blink_live.specs.declared.live.Pass.{Pass}
+use Rattle.blink_live.specs.declared.view.Change.{Change}
+use Rattle.blink_live.specs.declared.view.Plan.{Plan}
 use Rattle.blink_live.specs.declared.view.Share.{Share}
-use Rattle.blink_live.specs.Finding.{AllAreOwn}
-use Rattle.blink_live.specs.Handles.{keys_of}
+use Rattle.blink_live.specs.AtomicSteps.{LooksUp}
+use Rattle.blink_live.specs.Changes.{after}
+use Rattle.blink_live.specs.Finding.{AllAreOwn, HasSearched}
+use Rattle.blink_live.specs.Handles.{IsPassOf, IsSameBesideSeen, KnowsItsKeys, keys_of}
 use Rattle.blink_live.specs.Views.{SeatState}
+use Rattle.blink_live.proofs.told.PrefixesOfOneList.{prefix_of_prefix}
+use Rattle.blink_live.proofs.table.RefusalsTold.{no_refusal}
 use Rattle.blink_live.proofs.live.Live.find_all.Goals as goal
+
+-- after the searches the pass is as it was, except that it may have seen more, and it knows its keys
+module _ (pass new : Pass) (looked : SeatState) (up : LooksUp pass.seat.me looked) (searched : HasSearched looked new.seat.me) where
+  is_same : new.seat.table_id ≡ pass.seat.table_id → keys_of new ≡ keys_of pass → new.rows ≡ pass.rows → new.pages ≡ pass.pages → IsSameBesideSeen pass new
+  is_same same_table same_keys same_rows same_pages =
+      let share = searched.same_share ∙ ap (λ (x : SeatState). x.0.share) up.is in record {
+        saw = prefix_of_prefix pass.seat.me.0.seen looked.0.seen new.seat.me.0.seen (subst (λ (seen : List Change). IsPrefix pass.seat.me.0.seen seen) (sym (ap (λ (x : SeatState). x.0.seen) up.is)) up.learns.saw) searched.saw;
+        same_table = same_table;
+        same_plan = searched.same_plan ∙ ap (λ (x : SeatState). x.0.plan) up.is;
+        same_keys = same_keys;
+        same_share = share;
+        same_changes = ap (λ (s : Share). s.changes) share;
+        same_rows = same_rows;
+        same_pages = same_pages;
+      }
+
+  knows : (live : Live) → IsPassOf live pass → KnowsItsKeys live new
+  knows live its_own =
+      let same_plan = searched.same_plan ∙ (ap (λ (x : SeatState). x.0.plan) up.is ∙ its_own.1) in
+      let own = searched.idle.knows_own in record {
+        state = λ key among.
+            ap (λ (p : Plan). after (pointer_of p.opening) new.seat.me.0.seen key) (sym same_plan) ∙ own.state key (subst (λ (keys : List ℕ). Contains keys key) new.keys_are among);
+        changes = λ key among. own.changes key (subst (λ (keys : List ℕ). Contains keys key) new.keys_are among);
+      }
 
 pub search_all-requires-clause-own : goal.search_all-requires-clause-own
 search_all-requires-clause-own c key has =
@@ -11,7 +46,45 @@ search_all-requires-clause-own c key has =
     let its : Contains c.args.pass.now.seat.me.0.share.keys key = subst (λ (keys : List ℕ). Contains keys key) c.args.pass.now.keys_are own in
     subst (λ (s : Share). Contains s.keys key) (sym (ap (λ (x : SeatState). x.0.share) c.look_up.ensures.up.is)) its
 
+pub search_all-requires-clause-idle : goal.search_all-requires-clause-idle
+search_all-requires-clause-idle c =
+    let pass = c.args.pass.now in
+    let up = c.look_up.ensures.up in record {
+      idle = ap (λ (x : SeatState). x.0.operation) up.is ∙ pass.idle;
+      rows = subst (λ (s : Span). s.next ≤ s.stop) (pass.rows_are ∙ sym (ap (λ (x : SeatState). x.0.rows) up.is)) pass.in_order.0;
+      pages = subst (λ (s : Span). s.next ≤ s.stop) (pass.pages_are ∙ sym (ap (λ (x : SeatState). x.0.pages) up.is)) pass.in_order.1;
+      knows_own = up.knows_own;
+    }
+
+pub invariant_of-pass : goal.invariant_of-pass
+invariant_of-pass c =
+    let pass = c.args.pass.now in
+    let up = c.look_up.ensures.up in
+    let searched = c.search_all.ensures.searched in record {
+      keys_are = pass.keys_are ∙ sym (ap (λ (s : Share). s.keys) (searched.same_share ∙ ap (λ (x : SeatState). x.0.share) up.is));
+      ascending = pass.ascending;
+      rows_are = pass.rows_are ∙ sym (searched.same_rows ∙ ap (λ (x : SeatState). x.0.rows) up.is);
+      pages_are = pass.pages_are ∙ sym (searched.same_pages ∙ ap (λ (x : SeatState). x.0.pages) up.is);
+      in_order = pass.in_order;
+      for_changes = pass.for_changes;
+      role_is = searched.same_role ∙ (ap (λ (x : SeatState). x.0.role) up.is ∙ pass.role_is);
+      own_seen = searched.idle.knows_own.changes;
+      none_told = searched.same_told ∙ ap (λ (x : SeatState). x.0.told) up.is;
+      idle = searched.idle.idle;
+      no_slot = searched.same_slots ∙ (ap (λ (x : SeatState). x.1) up.is ∙ pass.no_slot);
+    }
+
+pub returns-clause-answers : goal.returns-clause-answers
+returns-clause-answers c = c.search_all.ensures.answers ∙ ap (λ (x : SeatState). map (pointer_of x.0.share.entries) c.args.keys.now) c.look_up.ensures.up.is
+
+pub returns-clause-knows : goal.returns-clause-knows
+returns-clause-knows c = knows c.args.pass.now _ c.look_up.new.seat.me c.look_up.ensures.up c.search_all.ensures.searched c.args.self.now c.requires.its_own
+
+pub returns-clause-same : goal.returns-clause-same
+returns-clause-same c =
+    is_same c.args.pass.now _ c.look_up.new.seat.me c.look_up.ensures.up c.search_all.ensures.searched (c.search_all.ensures.same_table.0 ∙ c.look_up.ensures.same.0) refl refl refl
+
 pub returns-clause-not_yours : goal.returns-clause-not_yours
 returns-clause-not_yours c =
     let all : AllAreOwn (keys_of c.args.pass.now) c.args.keys.now = subst (λ (own : List ℕ). AllAreOwn own c.args.keys.now) c.deref.ensures.value (c.are_among.ensures.all c.if-not-are_among.false) in
-    (λ refused. absurd (cc), λ foreign. absurd (foreign.2 (all foreign.0 foreign.1)))
+    no_refusal _ _ (λ foreign. foreign.2 (all foreign.0 foreign.1))

@@ -1,0 +1,40 @@
+-- A pass that has a change of the operation's kind left can begin an operation of one of its keys.
+use Rattle.std.proofs.Common.{◌≡◌, ◌≢◌, ℕ, ◌+◌, ◌≤◌, List, subst}
+use Rattle.std.specs.Prelude.{Contains}
+use Rattle.blink_batch.specs.{key_of}
+use Rattle.blink_batch.specs.declared.Op.{Op}
+use Rattle.blink_machine.specs.{IsUpdate}
+use Rattle.blink_rows.specs.declared.span.Span.{Span}
+use Rattle.blink_live.specs.declared.live.Live.{Live}
+use Rattle.blink_live.specs.declared.live.Pass.{Pass}
+use Rattle.blink_live.specs.Allowed.{changes_left}
+use Rattle.blink_live.specs.Handles.{IsPassOf, keys_of}
+use Rattle.blink_live.specs.Seats.{IsPassSeat}
+use Rattle.blink_live.specs.Updating.{room_for}
+use Rattle.blink_live.specs.Views.{CanBegin, rows_of, pages_of}
+use Rattle.blink_live.proofs.dealt.ChangesLeft.{takes_some}
+
+-- the pass has what the operation takes, and its seat can begin the operation
+pub record CanSetOut (live : Live) (op : Op) (pass : Pass) : Type 0 where
+  pub enough_rows : pass.rows.next + rows_of op ≤ pass.rows.stop
+  pub enough_pages : pass.pages.next + pages_of op ≤ pass.pages.stop
+  pub some_row : 1 ≤ pass.rows.stop
+  pub seat : IsPassSeat live pass.seat.table_id pass.seat.me
+  pub can_begin : CanBegin pass.seat.me.0 op
+  pub same_room : room_for op pass.rows pass.pages ≡ room_for op pass.seat.me.0.rows pass.seat.me.0.pages
+  pub own_key : Contains pass.seat.me.0.share.keys (key_of op)
+
+pub can_set_out : (live : Live) (op : Op) (pass : Pass) → IsPassOf live pass → IsUpdate op → Contains (keys_of pass) (key_of op) → changes_left op pass.pages pass.rows ≢ 0 → CanSetOut live op pass
+can_set_out live op pass its_own updates own some =
+    let takes = takes_some pass.pages pass.rows pass.for_changes pass.in_order op updates some in record {
+      enough_rows = takes.enough_rows;
+      enough_pages = takes.enough_pages;
+      some_row = takes.some_row;
+      seat = record { same_table = its_own.0; same_plan = its_own.1; role = pass.role_is };
+      can_begin = record {
+        rows = subst (λ (s : Span). s.next + rows_of op ≤ s.stop) pass.rows_are takes.enough_rows;
+        pages = subst (λ (s : Span). s.next + pages_of op ≤ s.stop) pass.pages_are takes.enough_pages;
+      };
+      same_room = λ i. room_for op (pass.rows_are i) (pass.pages_are i);
+      own_key = subst (λ (keys : List ℕ). Contains keys (key_of op)) pass.keys_are own;
+    }
