@@ -1,7 +1,7 @@
-use Rattle.std.proofs.Common.{◌≡◌, ◌+◌, ◌*◌, ◌≤◌, ◌∷◌, [], take, drop, get_or, length, true, ap, subst, sym, refl, ◌∙◌, arith}
+use Rattle.std.proofs.Common.{◌≡◌, ℕ, List, ◌+◌, ◌*◌, ◌≤◌, ◌∷◌, [], take, drop, get_or, length, true, ap, subst, sym, refl, ◌∙◌, arith}
 use Rattle.std.specs.Prelude.{unwrap_or}
 use Rattle.blink_page.specs.declared.limits.TheConstants.{MAX_FAN}
-use Rattle.blink_page.specs.{IsLawfulPage}
+use Rattle.blink_page.specs.{PlainPage, IsLawfulPage}
 use Rattle.blink_rows.specs.declared.limits.TheConstants.{ROW_WORDS, HEAD_WORDS}
 use Rattle.blink_rows.specs.Row.{flat, flag, AreZero, IsRowOfNoPage}
 use Rattle.blink_rows.proofs.RowsOfContent.{length_behind_head, row_of_parts, first_six}
@@ -48,3 +48,10 @@ returns-clause-page c =
     (omega (arith, length-flat c.entries_of-items.result.items, count, c.in_ok-count.ensures.some.0)))
     (ap (λ n. take n (drop HEAD_WORDS words)) (sym count) ∙ sym read)
     (subst (λ n. AreZero (drop n (drop HEAD_WORDS words))) count c.in_ok-content.ensures.rest)
+
+-- the parts were found lawful
+pub invariant_of-result : goal.invariant_of-result
+invariant_of-result c =
+    let right = c.in_ok-right.right in
+    let page : List (ℕ × ℕ) → PlainPage = λ entries. record { level = c.in_ok-level.level; floor = c.in_ok-floor.floor; high = get_or c.args.words.now 3 0; right = right; entries = entries } in
+    subst (λ (entries : List (ℕ × ℕ)). IsLawfulPage MAX_FAN (page entries)) c.deref.ensures.0 (c.is_lawful.ensures.0 c.if-not-is_lawful.false)
