@@ -80,6 +80,14 @@ ended_where_idle run worker op idle within some exact = (λ yes. (answer_there r
 pub own_within : (start : PlainStore) (world : PlainWorld) → IsWorldOf start world → (worker op : ℕ) → slice_get world.run.assignment.lanes op ≡ Some worker → op < length world.run.ops
 own_within start world is_world worker op own = omega (arith, slice_get_within world.run.assignment.lanes op worker own, is_world.may_begin.a_lane_each)
 
+-- who has an operation is one of the run's workers
+pub is_worker : (start : PlainStore) (world : PlainWorld) → IsWorldOf start world → (worker op : ℕ) → slice_get world.run.assignment.lanes op ≡ Some worker
+    → worker < world.run.assignment.workers
+is_worker start world is_world worker op own =
+    let found : get_or world.run.assignment.lanes op 0 ≡ worker = get_or_from_slice_get world.run.assignment.lanes op worker 0 own in
+    subst (λ lane. lane < world.run.assignment.workers) found
+    (is_world.may_begin.lanes.lanes_are_workers op 0 (slice_get_within world.run.assignment.lanes op worker own))
+
 -- a worker whose operation hasn't ended isn't at its lane's end
 pub has_more : (start : PlainStore) (world : PlainWorld) (is_world : IsWorldOf start world) (worker op : ℕ) → KeepsItsPromises start world is_world → length world.run.outcome.answers ≡ length world.run.ops
     → slice_get world.run.assignment.lanes op ≡ Some worker → op < length world.run.ops → ¬ HasEndedOp world.run worker op → ¬ IsAtLanesEnd world.run worker

@@ -170,6 +170,17 @@ impl<B: Origin> Book<B> {
             (λ done. IsSettled B.start B.ops B.assignment done.0 done.1.items) }
         ensures refused { IsOkUnless result RunError.OutOfMemory }
     {
+        let given = self.all_given(alloc)?;
+        Ok(self.into_result(given))
+    }
+
+    // Takes the steps that are left, and returns the answers, unless the run is stopped.
+    fn all_given(&mut self, alloc: Global) -> Result<Vec<Answer>, RunError>
+        ensures ended { IfOk result (λ _. HasEnded self.new.world.run) }
+        ensures all { IfOk result
+            (λ given. self.new.world.run.outcome.answers ≡ map Some given.items) }
+        ensures refused { IsOkUnless result RunError.OutOfMemory }
+    {
         if self.stopped {
             return Err(RunError::OutOfMemory);
         }
@@ -177,7 +188,7 @@ impl<B: Origin> Book<B> {
             return Err(RunError::OutOfMemory);
         };
         match self.all_answers(alloc) {
-            Ok(given) => Ok(self.into_result(given)),
+            Ok(given) => Ok(given),
             Err(_) => Err(RunError::OutOfMemory),
         }
     }

@@ -3,8 +3,21 @@ use Rattle.std.specs.Prelude.{slice_get}
 use Rattle.blink_batch.specs.declared.Answer.{Answer}
 use Rattle.blink_steps.specs.{IsAtLanesEnd}
 use Rattle.blink_locked.specs.Book.{PlainBook, HasEndedOp}
-use Rattle.blink_locked.proofs.BooksGoOn.{ended_where_idle, has_more, no_answer, own_within}
+use Rattle.blink_locked.proofs.BooksGoOn.{ended_where_idle, has_more, is_worker, no_answer, own_within}
 use Rattle.blink_locked.proofs.book.Book.has_ended.Goals as goal
+
+-- the operation is one of the batch, and each has its place among the answers
+pub bounds-answers-op : goal.bounds-answers-op
+bounds-answers-op g c =
+    let own = subst (λ (book : PlainBook). slice_get book.world.run.assignment.lanes c.args.op ≡ Some c.args.worker) (sym c.self.view_is) c.requires in
+    let within = own_within _ c.self.inside.world c.self.invariant.0.is_world c.args.worker c.args.op own in
+    omega (arith, within, c.answers.ensures.one_each)
+
+-- who has the operation is one of the run's workers
+pub is_idle-requires : goal.is_idle-requires
+is_idle-requires g c =
+    is_worker _ c.self.inside.world c.self.invariant.0.is_world c.args.worker c.args.op
+    (subst (λ (book : PlainBook). slice_get book.world.run.assignment.lanes c.args.op ≡ Some c.args.worker) (sym c.self.view_is) c.requires)
 
 pub returns-then-is_some-clause-ended : goal.returns-then-is_some-clause-ended
 returns-then-is_some-clause-ended g c =
