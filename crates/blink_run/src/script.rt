@@ -44,167 +44,166 @@ pub fn serve<T: Threads + Wait + Sync, R: Read, W: Write, G: Gate + Sync>(
 {
     let script = read_script(alloc, reader)?;
     let mut index = new_index(alloc, settings)?;
-    serve_script(rt, alloc, &script.parts, &mut index, writer, settings, gate)
+    let service = Service {
+        rt,
+        alloc,
+        settings,
+        gate,
+    };
+    service.serve_script(&script.parts, &mut index, writer)
 }
 
-// Serves the parts of a script, and flushes unless the writer failed.
-fn serve_script<T: Threads + Wait + Sync, O: TrackedWriter, G: Gate + Sync>(
-    rt: &T,
+// What each part of a script is served with.
+#[derive(Drop)]
+struct Service<'a, T, G> {
+    rt: &'a T,
     alloc: Global,
-    parts: &[Part],
-    index: &mut Index,
-    tracked_writer: &mut O,
-    settings: &Settings,
-    gate: &G,
-) -> Result<(), ServeError>
-    ensures served { OnOk result
-        (Writes O.offered O.settled tracked_writer.old
-        (script_text (map_of index.old) parts.now) tracked_writer.new) }
-    ensures by_settings { OnOk result (RunsPartsBy settings.now index.old parts.now index.new) }
-    ensures not_run { IfErr result (TellsRun settings.now index.old parts.now) }
-    ensures left { IfErr result (λ error.
-        FlushedOutputAfterError O.offered O.settled (map_of index.old) parts.now error
-        tracked_writer.old tracked_writer.new) }
-{
-    let outcome = serve_parts(rt, alloc, parts, index, tracked_writer, settings, gate);
-    if outcome == Err(ServeError::Output) {
-        return outcome;
+    settings: &'a Settings,
+    gate: &'a G,
+}
+
+impl<'a, T: Threads + Wait + Sync, G: Gate + Sync> Service<'a, T, G> {
+    // Serves the parts of a script, and flushes unless the writer failed.
+    fn serve_script<O: TrackedWriter>(
+        &self,
+        parts: &[Part],
+        index: &mut Index,
+        tracked_writer: &mut O,
+    ) -> Result<(), ServeError>
+        ensures served { OnOk result
+            (Writes O.offered O.settled tracked_writer.old
+            (script_text (map_of index.old) parts.now) tracked_writer.new) }
+        ensures by_settings { OnOk result
+            (RunsPartsBy self.now.settings.now index.old parts.now index.new) }
+        ensures not_run { IfErr result (TellsRun self.now.settings.now index.old parts.now) }
+        ensures left { IfErr result (λ error.
+            FlushedOutputAfterError O.offered O.settled (map_of index.old) parts.now error
+            tracked_writer.old tracked_writer.new) }
+    {
+        let outcome = self.serve_parts(parts, index, tracked_writer);
+        if outcome == Err(ServeError::Output) {
+            return outcome;
+        }
+        flush_out(tracked_writer)?;
+        outcome
     }
-    flush_out(tracked_writer)?;
-    outcome
-}
 
-// Serves the parts of a script, one after another.
-fn serve_parts<T: Threads + Wait + Sync, O: TrackedWriter, G: Gate + Sync>(
-    rt: &T,
-    alloc: Global,
-    parts: &[Part],
-    index: &mut Index,
-    tracked_writer: &mut O,
-    settings: &Settings,
-    gate: &G,
-) -> Result<(), ServeError>
-    ensures served { OnOk result
-        (WritesAll O.offered tracked_writer.old
-        (script_text (map_of index.old) parts.now) tracked_writer.new) }
-    ensures by_settings { OnOk result (RunsPartsBy settings.now index.old parts.now index.new) }
-    ensures not_run { IfErr result (TellsRun settings.now index.old parts.now) }
-    ensures left { IfErr result (λ error.
-        PrefixOutputAfterError O.offered O.settled (map_of index.old) parts.now error
-        tracked_writer.old tracked_writer.new) }
-{
-    let mut batches = 0u64;
-    for part in parts {
-        batches = batches_with(part, batches);
-        serve_part(
-            rt,
-            alloc,
-            part,
-            batches,
-            index,
-            tracked_writer,
-            settings,
-            gate,
-        )?;
+    // Serves the parts of a script, one after another.
+    fn serve_parts<O: TrackedWriter>(
+        &self,
+        parts: &[Part],
+        index: &mut Index,
+        tracked_writer: &mut O,
+    ) -> Result<(), ServeError>
+        ensures served { OnOk result
+            (WritesAll O.offered tracked_writer.old
+            (script_text (map_of index.old) parts.now) tracked_writer.new) }
+        ensures by_settings { OnOk result
+            (RunsPartsBy self.now.settings.now index.old parts.now index.new) }
+        ensures not_run { IfErr result (TellsRun self.now.settings.now index.old parts.now) }
+        ensures left { IfErr result (λ error.
+            PrefixOutputAfterError O.offered O.settled (map_of index.old) parts.now error
+            tracked_writer.old tracked_writer.new) }
+    {
+        let mut batches = 0u64;
+        for part in parts {
+            batches = batches_with(part, batches);
+            self.serve_part(part, batches, index, tracked_writer)?;
+        }
+        Ok(())
     }
-    Ok(())
-}
 
-// Serves one part. `number` is the part's number if it is a batch.
-fn serve_part<T: Threads + Wait + Sync, O: TrackedWriter, G: Gate + Sync>(
-    rt: &T,
-    alloc: Global,
-    part: &Part,
-    number: u64,
-    index: &mut Index,
-    tracked_writer: &mut O,
-    settings: &Settings,
-    gate: &G,
-) -> Result<(), ServeError>
-    ensures served { OnOk result
-        (WritesAll O.offered tracked_writer.old (part_text (map_of index.old) part.now) tracked_writer.new) }
-    ensures map { OnOk result (map_of index.new ≡ part_after (map_of index.old) part.now) }
-    ensures by_settings { OnOk result (RunsPartBy settings.now index.old part.now index.new) }
-    ensures fault { IfErr result (IsPartFault part.now number) }
-    ensures not_run { IfErr result (RefusesPart settings.now index.old part.now) }
-    ensures left { IfErr result (λ error. PartOutputAfterError O.offered O.settled
-        (part_text (map_of index.old) part.now) error tracked_writer.old tracked_writer.new) }
-{
-    let text = text_of_part(rt, alloc, part, number, index, settings, gate)?;
-    write_out(tracked_writer, &text)
-}
-
-// Runs one part, and returns its lines. `number` is the part's number if it is a batch.
-fn text_of_part<T: Threads + Wait + Sync, G: Gate + Sync>(
-    rt: &T,
-    alloc: Global,
-    part: &Part,
-    number: u64,
-    index: &mut Index,
-    settings: &Settings,
-    gate: &G,
-) -> Result<String, ServeError>
-    ensures text { IfOk result
-        (λ text. string_bytes text ≡ part_text (map_of index.old) part.now) }
-    ensures map { IfOk result (λ _. map_of index.new ≡ part_after (map_of index.old) part.now) }
-    ensures by_settings { IfOk result
-        (λ _. RunsPartBy settings.now index.old part.now index.new) }
-    ensures fault { IfErr result (IsPartFault part.now number) }
-    ensures not_run { IfErr result (RefusesPart settings.now index.old part.now) }
-    ensures no_writer { ¬ IsErrOf result ServeError.Output }
-{
-    match part {
-        Part::Batch(batch) => batch_text(rt, alloc, batch, number, index, settings, gate),
-        Part::Scan(lo, hi) => scan_text(alloc, index.scan(*lo, *hi)),
-        Part::Page(lo, n) => scan_text(alloc, index.page(*lo, *n)),
+    // Serves one part. `number` is the part's number if it is a batch.
+    fn serve_part<O: TrackedWriter>(
+        &self,
+        part: &Part,
+        number: u64,
+        index: &mut Index,
+        tracked_writer: &mut O,
+    ) -> Result<(), ServeError>
+        ensures served { OnOk result (WritesAll O.offered tracked_writer.old
+            (part_text (map_of index.old) part.now) tracked_writer.new) }
+        ensures map { OnOk result (map_of index.new ≡ part_after (map_of index.old) part.now) }
+        ensures by_settings { OnOk result
+            (RunsPartBy self.now.settings.now index.old part.now index.new) }
+        ensures fault { IfErr result (IsPartFault part.now number) }
+        ensures not_run { IfErr result (RefusesPart self.now.settings.now index.old part.now) }
+        ensures left { IfErr result (λ error. PartOutputAfterError O.offered O.settled
+            (part_text (map_of index.old) part.now) error tracked_writer.old tracked_writer.new) }
+    {
+        let text = self.text_of_part(part, number, index)?;
+        write_out(tracked_writer, &text)
     }
-}
 
-// Runs the batch of this number, and returns the lines of its answers.
-fn batch_text<T: Threads + Wait + Sync, G: Gate + Sync>(
-    rt: &T,
-    alloc: Global,
-    batch: &Batch,
-    number: u64,
-    index: &mut Index,
-    settings: &Settings,
-    gate: &G,
-) -> Result<String, ServeError>
-    ensures text { IfOk result
-        (λ text. string_bytes text ≡ text_of (answers (map_of index.old) batch.now)) }
-    ensures map { IfOk result
-        (λ _. map_of index.new ≡ map_after_all (map_of index.old) batch.now) }
-    ensures by_settings { IfOk result
-        (λ _. RunsBatchBy settings.now index.old batch.now index.new) }
-    ensures fault { IfErr result (IsBatchFault number) }
-    ensures not_run { IfErr result (RefusesPart settings.now index.old (PartBatch batch.now)) }
-{
-    let answers = batch_answers(rt, alloc, batch, number, index, settings, gate)?;
-    Ok(answers_text(alloc, &answers)?)
-}
+    // Runs one part, and returns its lines. `number` is the part's number if it is a batch.
+    fn text_of_part(
+        &self,
+        part: &Part,
+        number: u64,
+        index: &mut Index,
+    ) -> Result<String, ServeError>
+        ensures text { IfOk result
+            (λ text. string_bytes text ≡ part_text (map_of index.old) part.now) }
+        ensures map { IfOk result
+            (λ _. map_of index.new ≡ part_after (map_of index.old) part.now) }
+        ensures by_settings { IfOk result
+            (λ _. RunsPartBy self.now.settings.now index.old part.now index.new) }
+        ensures fault { IfErr result (IsPartFault part.now number) }
+        ensures not_run { IfErr result (RefusesPart self.now.settings.now index.old part.now) }
+        ensures no_writer { ¬ IsErrOf result ServeError.Output }
+    {
+        match part {
+            Part::Batch(batch) => self.batch_text(batch, number, index),
+            Part::Scan(lo, hi) => scan_text(self.alloc, index.scan(*lo, *hi)),
+            Part::Page(lo, n) => scan_text(self.alloc, index.page(*lo, *n)),
+        }
+    }
 
-// Runs the batch of this number, and returns its answers.
-fn batch_answers<T: Threads + Wait + Sync, G: Gate + Sync>(
-    rt: &T,
-    alloc: Global,
-    batch: &Batch,
-    number: u64,
-    index: &mut Index,
-    settings: &Settings,
-    gate: &G,
-) -> Result<Vec<Answer>, ServeError>
-    ensures answers { IfOk result (λ given. given.items ≡ answers (map_of index.old) batch.now) }
-    ensures map { IfOk result
-        (λ _. map_of index.new ≡ map_after_all (map_of index.old) batch.now) }
-    ensures by_settings { IfOk result
-        (λ _. RunsBatchBy settings.now index.old batch.now index.new) }
-    ensures fault { IfErr result (IsBatchFault number) }
-    ensures not_run { IfErr result (RefusesPart settings.now index.old (PartBatch batch.now)) }
-{
-    let cut = settings.cut_batch(alloc, batch)?;
-    match run_batch(rt, alloc, index, batch, &cut, settings.driver(), gate) {
-        Ok(answers) => Ok(answers),
-        Err(error) => Err(ServeError::Run(number, error)),
+    // Runs the batch of this number, and returns the lines of its answers.
+    fn batch_text(
+        &self,
+        batch: &Batch,
+        number: u64,
+        index: &mut Index,
+    ) -> Result<String, ServeError>
+        ensures text { IfOk result
+            (λ text. string_bytes text ≡ text_of (answers (map_of index.old) batch.now)) }
+        ensures map { IfOk result
+            (λ _. map_of index.new ≡ map_after_all (map_of index.old) batch.now) }
+        ensures by_settings { IfOk result
+            (λ _. RunsBatchBy self.now.settings.now index.old batch.now index.new) }
+        ensures fault { IfErr result (IsBatchFault number) }
+        ensures not_run { IfErr result
+            (RefusesPart self.now.settings.now index.old (PartBatch batch.now)) }
+    {
+        let answers = self.batch_answers(batch, number, index)?;
+        Ok(answers_text(self.alloc, &answers)?)
+    }
+
+    // Runs the batch of this number, and returns its answers.
+    fn batch_answers(
+        &self,
+        batch: &Batch,
+        number: u64,
+        index: &mut Index,
+    ) -> Result<Vec<Answer>, ServeError>
+        ensures answers { IfOk result
+            (λ given. given.items ≡ answers (map_of index.old) batch.now) }
+        ensures map { IfOk result
+            (λ _. map_of index.new ≡ map_after_all (map_of index.old) batch.now) }
+        ensures by_settings { IfOk result
+            (λ _. RunsBatchBy self.now.settings.now index.old batch.now index.new) }
+        ensures fault { IfErr result (IsBatchFault number) }
+        ensures not_run { IfErr result
+            (RefusesPart self.now.settings.now index.old (PartBatch batch.now)) }
+    {
+        let settings = self.settings;
+        let cut = settings.cut_batch(self.alloc, batch)?;
+        let driver = settings.driver();
+        match run_batch(self.rt, self.alloc, index, batch, &cut, driver, self.gate) {
+            Ok(answers) => Ok(answers),
+            Err(error) => Err(ServeError::Run(number, error)),
+        }
     }
 }
 

@@ -3,7 +3,7 @@ use Rattle.std.proofs.lemmas.Result.{err_from_is_err_and}
 use Rattle.blink_index.specs.{map_of}
 use Rattle.blink_settings.specs.declared.error.ServeError.TheVariants as serve
 use Rattle.blink_replay.proofs.Offered.{unflushed}
-use Rattle.blink_run.proofs.script.serve_script.Goals as goal
+use Rattle.blink_run.proofs.script.Service.serve_script.Goals as goal
 
 -- what was written isn't flushed
 pub returns-in_err-flush_out-clause-left : goal.returns-in_err-flush_out-clause-left
