@@ -26,9 +26,13 @@ replay = with_rule (with_sizes (new_app (codes "replay"))) (option (codes "sched
 abbrev pub wanting_subcommand : App → App
 wanting_subcommand app = record app { top = record app.top { subcommand_required = true } }
 
+-- `blink run ..`, and no other subcommand
+abbrev pub runner : App
+runner = with_subcommand (wanting_subcommand (new_app (codes "blink"))) run.top
+
 -- the whole command: `blink run ..` and `blink replay ..`
 abbrev pub blink : App
-blink = with_subcommand (with_subcommand (wanting_subcommand (new_app (codes "blink"))) run.top) replay.top
+blink = with_subcommand runner replay.top
 
 -- clap finds no fault in the words
 abbrev pub IsTaken : List Text → Type 0

@@ -3,7 +3,7 @@ ghost use Rattle.std.specs.Prelude.{◌≡◌, false, codes, IfOk, IfErr};
 ghost use Rattle.clap.specs.Words.{app_of, kind_of, new_app, rule_of, subcommand_of, subcommand_rows_of};
 ghost use Rattle.clap.specs.Walk.{texts};
 ghost use Rattle.clap.specs.declared.builder.command.Command.TheViews.{out-Command};
-ghost use Rattle.blink_command.specs.Grammar.{IsTaken, blink, option, option_or, replay, run, with_sizes};
+ghost use Rattle.blink_command.specs.Grammar.{IsTaken, blink, option, option_or, replay, run, runner, with_sizes};
 
 use clap::error::ErrorKind;
 use clap::{Arg, ArgMatches, Command};
@@ -25,11 +25,19 @@ pub fn matches_of<'a>(alloc: Global, words: &'a [&'a str]) -> Result<ArgMatches<
 fn command<'a>(alloc: Global) -> Result<Command<'a>, AllocError>
     ensures { IfOk result (λ command. app_of command ≡ blink) }
 {
+    let command = runner(alloc)?;
+    command.subcommand(replay_command(alloc)?)
+}
+
+// The command with `run` as its only subcommand yet.
+fn runner<'a>(alloc: Global) -> Result<Command<'a>, AllocError>
+    ensures { IfOk result (λ command. app_of command ≡ runner) }
+{
+    let run = run_command(alloc)?;
     Command::new(alloc, "blink")
         .about("Runs scripts of index operations on a B-link tree")
         .subcommand_required(true)
-        .subcommand(run_command(alloc)?)?
-        .subcommand(replay_command(alloc)?)
+        .subcommand(run)
 }
 
 fn run_command<'a>(alloc: Global) -> Result<Command<'a>, AllocError>

@@ -3,8 +3,9 @@
 
 mod program;
 
-use blink_command::{ProgramError, end_of, read_line};
+use blink_command::{Line, ProgramError, end_of, read_line};
 use program::carry_out;
+use std::alloc::Global;
 use std::io::BufWriter;
 use std::process::ExitCode;
 use std::rt::Env;
@@ -20,12 +21,7 @@ fn blink(
     rt: &(impl Env + Input + Print + AllocGlobal + Threads + Wait + Sync),
 ) -> Result<(), ProgramError> {
     let alloc = rt.alloc();
-    let words: Vec<String> = match env::args(rt) {
-        Ok(words) => words.collect(alloc)?,
-        Err(_) => return Err(ProgramError::Memory),
-    };
-    let texts: Vec<&str> = words.iter().map(|word| word.as_str()).collect(alloc)?;
-    let line = read_line(alloc, texts.as_slice()).map_err(ProgramError::Line)?;
+    let line = asked(rt, alloc)?;
     let Ok(mut output) = BufWriter::with_capacity(alloc, BUFFER, io::writer(rt)) else {
         return Err(ProgramError::Memory);
     };
@@ -34,6 +30,16 @@ fn blink(
     // dropped.
     let _ = output.into_parts();
     outcome.map_err(ProgramError::Serve)
+}
+
+// What the command line asks for.
+fn asked(rt: &(impl Env + AllocGlobal), alloc: Global) -> Result<Line, ProgramError> {
+    let words: Vec<String> = match env::args(rt) {
+        Ok(words) => words.collect(alloc)?,
+        Err(_) => return Err(ProgramError::Memory),
+    };
+    let texts: Vec<&str> = words.iter().map(|word| word.as_str()).collect(alloc)?;
+    read_line(alloc, texts.as_slice()).map_err(ProgramError::Line)
 }
 
 fn main(rt: HostRuntime) -> ExitCode {
