@@ -65,8 +65,8 @@ output_of() {
 # where nothing else is left to prove.
 jobs_of() {
     case $1 in
-    blink_c | blink_machine) echo "$processors" ;;
-    blink_index | blink_live | blink_page | blink_rest | blink_run | blink_store) echo $(((processors + 1) / 2)) ;;
+    blink_c) echo "$processors" ;;
+    blink_live | blink_machine | blink_page | blink_run) echo $(((processors + 1) / 2)) ;;
     *) echo 1 ;;
     esac
 }
