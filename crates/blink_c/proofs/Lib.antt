@@ -1,5 +1,4 @@
 pub mod IndexAsBox
-pub mod FanStays
 pub mod RunOfBatch
 pub mod RunRefusals
 pub mod Found

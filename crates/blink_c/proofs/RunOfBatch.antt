@@ -13,7 +13,7 @@ use Rattle.blink_c.specs.declared.raw.RawAnswer.{RawAnswer}
 use Rattle.blink_c.specs.declared.raw.RawOperation.{RawOperation}
 use Rattle.blink_c.specs.Raw.{AreOperations, op_of, raw_answer, raw_given}
 use Rattle.blink_c.specs.Runs.{HasRunToEnd}
-use Rattle.blink_c.proofs.FanStays.{fan_stays}
+use Rattle.blink_steps.proofs.worlds.FanStays.{fan_stays}
 
 pub run_done : (before : PlainStore) (ops : List Op) (assignment : Assignment) (first last : PlainWorld) → IsStart before ops assignment first
     → IsLawfulCut ops assignment.workers assignment.lanes → KeepsItsStart first last → SameBatch first.run last.run → IsPromised last → HasEnded last.run

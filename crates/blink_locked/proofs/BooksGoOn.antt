@@ -1,5 +1,5 @@
 -- How a book begins and goes on, and what it shows at its end.
-use Rattle.std.proofs.Common.{◌≡◌, ℕ, ◌<◌, Bool, true, false, Option, Some, None, is_some, List, [], Result, Ok, Err, IfOk, OnErr, length, map, get_or, refl, ap, sym, ◌∙◌, subst, arith}
+use Rattle.std.proofs.Common.{◌≡◌, ℕ, ◌<◌, Bool, true, false, Option, Some, None, is_some, List, [], length, map, get_or, refl, ap, sym, ◌∙◌, subst, arith}
 use Rattle.std.specs.Prelude.{slice_get}
 use Rattle.std.proofs.lemmas.List.Elements.{All-cons}
 use Rattle.std.proofs.lemmas.Option.{get_or_from_slice_get, slice_get-get_or, slice_get_within}
@@ -8,11 +8,12 @@ use Rattle.blink_batch.specs.declared.Op.{Op}
 use Rattle.blink_batch.specs.{Assignment, IsLawfulCut}
 use Rattle.blink_store.specs.{PlainStore}
 use Rattle.blink_machine.specs.declared.step.Step.{Step}
-use Rattle.blink_machine.specs.declared.error.StepError.{StepError}
 use Rattle.blink_steps.proofs.worlds.RunAtItsEnd.{IsDone, no_turn_yet}
 use Rattle.blink_steps.specs.{HasMoved, IsIdleWorker, HasAnswerAt, IsPromised, KeepsItsPromises, PlainRun, Event, PlainWorld, GoesOnBy, HasEnded, IsAtLanesEnd, IsStart, IsWorldOf, SameBatch}
 use Rattle.blink_locked.specs.Book.{AllMoved, HasEndedOp, IsBook}
-use Rattle.blink_locked.specs.Run.{IsSettled}
+use Rattle.blink_steps.proofs.worlds.FanStays.{fan_stays}
+use Rattle.blink_steps.proofs.worlds.PagesStayFew.{pages_stay_few}
+use Rattle.blink_locked.specs.Run.{HasFewPagesMore, IsSettled}
 
 -- ---- the book's beginning
 
@@ -48,13 +49,6 @@ moves_book start ops assignment old new worker step is goes same moved =
 -- where nothing of the world changed it stays one
 pub stays_book : (start : PlainStore) (ops : List Op) (assignment : Assignment) (old new : PlainWorld) → IsBook start ops assignment old → new ≡ old → IsBook start ops assignment new
 stays_book start ops assignment old new is same = subst (λ (world : PlainWorld). IsBook start ops assignment world) (sym same) is
-
--- a step of the first mover moved, if it isn't refused
-pub advances_book : (start : PlainStore) (ops : List Op) (assignment : Assignment) (old new : PlainWorld) (worker : ℕ) → IsBook start ops assignment old
-    → (result : Result Step StepError) → IfOk result (λ (step : Step). GoesOnBy old worker step new) → IfOk result HasMoved → SameBatch old.run new.run
-    → OnErr result (new ≡ old) → IsBook start ops assignment new
-advances_book start ops assignment old new worker is (Ok step) goes moved same unchanged = moves_book start ops assignment old new worker step is goes same moved
-advances_book start ops assignment old new worker is (Err refusal) goes moved same unchanged = stays_book start ops assignment old new is unchanged
 
 -- an answer that is found
 answer_there : (given : List (Option Answer)) (op : ℕ) → op < length given → is_some (get_or given op None) ≡ true → HasAnswerAt given op
@@ -121,6 +115,8 @@ settled start ops assignment world is promised lawful ended given all_given tree
       same_answers = all_given;
       one_thread = kept.one_thread cut ended;
       at_rest = (kept.ended ended).at_rest;
+      same_fan = fan_stays start world is.is_world;
+      few_pages = subst (λ (xs : List Op). HasFewPagesMore start xs world.run.shared.store) is.same_ops (pages_stay_few start world is.is_world kept);
     })
 
 -- a settled run is done

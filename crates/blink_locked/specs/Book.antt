@@ -1,13 +1,12 @@
 -- The book of a run: the world that its workers' steps have led to from what the run began with.
-use Rattle.std.specs.Prelude.{◌≡◌, ◌↔◌, ℕ, ◌⊎◌, Bool, true, false, Some, List, All, map, slice_get}
-use Rattle.blink_batch.specs.declared.Answer.{Answer}
+use Rattle.std.specs.Prelude.{◌≡◌, ◌↔◌, ℕ, ◌⊎◌, Bool, true, false, Some, List, All, slice_get}
 use Rattle.blink_batch.specs.declared.Op.{Op}
 use Rattle.blink_batch.specs.{Assignment}
 use Rattle.blink_store.specs.{PlainStore}
 use Rattle.blink_machine.specs.declared.step.Step.TheVariants.{Moved}
 use Rattle.blink_steps.specs.{HasMoved, IsIdleWorker, WouldMove, WouldWait, HasAnswerAt, PlainRun, Event, PlainWorld, HasEnded, IsStart, IsWorldOf, TakesStep}
 use Rattle.blink_settings.specs.declared.error.RunError.{RunError}
-use Rattle.blink_settings.specs.declared.error.RunError.TheVariants.{TooLarge, OutOfMemory}
+use Rattle.blink_settings.specs.declared.error.RunError.TheVariants.{Foreign, OutOfMemory, TooLarge}
 use Rattle.blink_locked.specs.declared.book.Turn.{Turn}
 use Rattle.blink_locked.specs.declared.book.Turn.TheVariants.{Took, Over, Waits, Stopped}
 
@@ -64,12 +63,16 @@ Turns old worker op turn new = (¬ HasEndedOp old.world.run worker op) × WouldM
 abbrev pub IsBookRefusal : RunError → Type 0
 IsBookRefusal refusal = (refusal ≡ TooLarge) ⊎ (refusal ≡ OutOfMemory)
 
+-- the run isn't stopped, and operations are left
+pub record IsLeftEarly (book : PlainBook) : Type 0 where
+  pub not_stopped : book.stopped ≡ false
+  pub left : ¬ HasEnded book.world.run
+
+-- why a book gives no result
+abbrev pub IsSettleRefusal : RunError → Type 0
+IsSettleRefusal refusal = (refusal ≡ Foreign) ⊎ (refusal ≡ OutOfMemory)
+
 -- the book of this run before its first step
 pub record IsNewBook (start : PlainStore) (ops : List Op) (assignment : Assignment) (book : PlainBook) : Type 0 where
   pub is_start : IsStart start ops assignment book.world
   pub not_stopped : book.stopped ≡ false
-
--- all operations of the book's run have ended, with these answers
-pub record IsAtItsEnd (book : PlainBook) (given : List Answer) : Type 0 where
-  pub ended : HasEnded book.world.run
-  pub all_given : book.world.run.outcome.answers ≡ map Some given

@@ -1,9 +1,9 @@
 //! The book of a run. Its workers take turns to write it.
-ghost use Rattle.std.specs.Prelude.{◌≡◌, ◌↔◌, ◌<◌, IfOk, IfErr, IsOkUnless, IsTrue, IsErrOf, OnOk, Some, map, slice_get};
+ghost use Rattle.std.specs.Prelude.{◌≡◌, ◌↔◌, IfOk, IfErr, IsTrue, IsErrOf, Some, map, slice_get};
 ghost use Rattle.blink_batch.specs.{IsLawfulCut};
 ghost use Rattle.std.specs.Bool.{OnFalse};
-ghost use Rattle.blink_steps.specs.{WouldMove, IsFirstMover, HasEnded, IsAtLanesEnd, IsStart, IsTooLarge, steps_left};
-ghost use Rattle.blink_locked.specs.Book.{HasEndedOp, IsBookRefusal, IsNewBook, MayTurn, BookStepsPage, Turns, book_stopped};
+ghost use Rattle.blink_steps.specs.{WouldMove, HasEnded, IsAtLanesEnd, IsStart, IsTooLarge};
+ghost use Rattle.blink_locked.specs.Book.{HasEndedOp, IsBookRefusal, IsLeftEarly, IsNewBook, IsSettleRefusal, MayTurn, BookStepsPage, Turns, book_stopped};
 ghost use Rattle.blink_locked.specs.Run.{IsSettled};
 
 use crate::origin::Origin;
@@ -160,55 +160,28 @@ impl<B: Origin> Book<B> {
         self.stopped = true;
     }
 
-    /// Returns the result of the run: its tree and its answers, place by place. If operations are left, it takes their steps. So
-    /// workers whose threads have left their lanes early leave no other result.
+    /// Returns the result of the run: its tree and its answers, place by place.
     ///
-    /// The call refuses with `OutOfMemory`, if the run is stopped, or memory was refused.
-    pub fn settle(mut self, alloc: Global) -> Result<(Rest, Vec<Answer>), RunError>
+    /// The call refuses with `OutOfMemory`, if the run is stopped, or memory was refused. It refuses with `Foreign`, if the run
+    /// isn't stopped, and operations are left: then some worker's thread hasn't run its lane to the end. The book takes no step
+    /// by itself, so each step of a result is one that a worker took at its turn.
+    pub fn settle(self, alloc: Global) -> Result<(Rest, Vec<Answer>), RunError>
         requires { IsLawfulCut B.ops B.assignment.workers B.assignment.lanes }
         ensures settled { IfOk result
             (λ done. IsSettled B.start B.ops B.assignment done.0 done.1.items) }
-        ensures refused { IsOkUnless result RunError.OutOfMemory }
-    {
-        let given = self.all_given(alloc)?;
-        Ok(self.into_result(given))
-    }
-
-    // Takes the steps that are left, and returns the answers, unless the run is stopped.
-    fn all_given(&mut self, alloc: Global) -> Result<Vec<Answer>, RunError>
-        ensures ended { IfOk result (λ _. HasEnded self.new.world.run) }
-        ensures all { IfOk result
-            (λ given. self.new.world.run.outcome.answers ≡ map Some given.items) }
-        ensures refused { IsOkUnless result RunError.OutOfMemory }
+        ensures foreign { IsErrOf result RunError.Foreign ↔ IsLeftEarly self }
+        ensures refused { IfErr result IsSettleRefusal }
     {
         if self.stopped {
             return Err(RunError::OutOfMemory);
         }
-        let Ok(()) = self.finish() else {
-            return Err(RunError::OutOfMemory);
-        };
+        if !self.world.ended() {
+            return Err(RunError::Foreign);
+        }
         match self.all_answers(alloc) {
-            Ok(given) => Ok(given),
+            Ok(given) => Ok(self.into_result(given)),
             Err(_) => Err(RunError::OutOfMemory),
         }
-    }
-
-    // Takes the steps that are left. None is, where each worker has run its lane to the end.
-    fn finish(&mut self) -> Result<(), StepError>
-        ensures { IfOk result (λ _. HasEnded self.new.world.run) }
-    {
-        while let Some(worker) = self.world.pick() {
-            self.advance(worker)?;
-        }
-        Ok(())
-    }
-
-    // Takes a step of the first worker that would move. Fewer are left then.
-    fn advance(&mut self, worker: u8) -> Result<Step, StepError>
-        requires { IsFirstMover self.old.world.run worker }
-        ensures { OnOk result (steps_left self.new.world.run < steps_left self.old.world.run) }
-    {
-        self.world.advance(worker)
     }
 
     // The result of a book at its end, whose answers are given.

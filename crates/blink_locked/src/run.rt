@@ -3,7 +3,7 @@ ghost use Rattle.std.specs.Prelude.{◌≡◌, ◌↔◌, ◌≤◌, [], length,
 ghost use Rattle.blink_batch.specs.{IsLawfulCut, answers, map_after_all};
 ghost use Rattle.blink_index.specs.{map_of};
 ghost use Rattle.blink_steps.specs.{IsTooLarge};
-ghost use Rattle.blink_locked.specs.Run.{IsReplayed, IsSettled, MayRefuse};
+ghost use Rattle.blink_locked.specs.Run.{HasFewPagesMore, IsReplayed, IsSettled, MayRefuse};
 ghost use Rattle.blink_locked.specs.Starts.{AtEach, IsStartRefusal, TellsNext};
 
 use crate::book::Book;
@@ -35,6 +35,8 @@ pub fn run_locked<R: Threads + Wait + Sync, G: Gate + Sync>(
     ensures map { IfOk result
         (λ given. map_of index.new ≡ map_after_all (map_of index.old) batch.now) }
     ensures replayed { IfOk result (λ given. IsReplayed index.old batch.now cut.now index.new) }
+    ensures fan { OnOk result (index.new.fan ≡ index.old.fan) }
+    ensures pages { OnOk result (HasFewPagesMore index.old batch.now index.new) }
     ensures too_large { IsErrOf result RunError.TooLarge ↔ IsTooLarge index.old batch.now }
     ensures refused { IfErr result
         (MayRefuse cut.now.workers index.old batch.now) }

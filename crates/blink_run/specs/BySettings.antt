@@ -4,14 +4,15 @@ use Rattle.std.specs.Prelude.{ℕ, ◌≡◌, ◌+◌, List, [], ◌∷◌, ◌+
 use Rattle.blink_batch.specs.declared.Op.{Op}
 use Rattle.blink_batch.specs.declared.Part.{Part}
 use Rattle.blink_batch.specs.declared.Part.TheVariants.{Batch}
-use Rattle.blink_batch.specs.{Assignment, records_of, script_of}
+use Rattle.blink_batch.specs.{Assignment, map_after_all, records_of, script_of}
+use Rattle.blink_index.specs.{map_of}
 use Rattle.blink_live.specs.{IsNumberedInOrder}
 use Rattle.blink_store.specs.{PlainStore, new_store}
 use Rattle.blink_settings.specs.declared.error.RunError.{RunError}
 use Rattle.blink_settings.specs.declared.error.ServeError.{ServeError}
 use Rattle.blink_settings.specs.declared.error.ServeError.TheVariants as serve
 use Rattle.blink_settings.specs.declared.settings.Driver.TheVariants.{Locked, Live}
-use Rattle.blink_locked.specs.{IsReplayed, MayRefuse}
+use Rattle.blink_locked.specs.{HasFewPagesMore, IsReplayed, MayRefuse}
 use Rattle.blink_replay.specs.{is_batch}
 use Rattle.blink_settings.specs.{PlainSettings, lanes_by}
 
@@ -22,6 +23,9 @@ assignment_by settings ops = record { workers = settings.workers; lanes = lanes_
 -- the batch led from the one tree to the other: under the lock it is that of a replay of these lanes; at a table its pages are
 -- numbered anew
 pub record RunsBatchBy (settings : PlainSettings) (before : PlainStore) (ops : List Op) (after : PlainStore) : Type 0 where
+  pub map : map_of after ≡ map_after_all (map_of before) ops
+  pub fan : after.fan ≡ before.fan
+  pub pages : HasFewPagesMore before ops after
   pub locked : settings.driver ≡ Locked → IsReplayed before ops (assignment_by settings ops) after
   pub live : settings.driver ≡ Live → IsNumberedInOrder after
 
@@ -35,10 +39,14 @@ abbrev pub RunsPartsBy : PlainSettings → PlainStore → List Part → PlainSto
 RunsPartsBy settings before [] after = after ≡ before
 RunsPartsBy settings before (part ∷ parts) after = (between : PlainStore) × RunsPartBy settings before part between × RunsPartsBy settings between parts after
 
--- the parts of what was read run on a new tree of the settings' fan
-abbrev pub ServesBy : PlainSettings → Option (List ℕ) → Type 0
-ServesBy settings to_read = (read : List ℕ) → to_read ≡ Some read
-    → (parts : List Part) × (script_of (records_of read) ≡ Ok parts) × (after : PlainStore) × RunsPartsBy settings (new_store settings.fan) parts after
+-- the parts of what was read lead from a new tree of the settings' fan to this tree
+abbrev pub ServesBy : PlainSettings → Option (List ℕ) → PlainStore → Type 0
+ServesBy settings to_read after = (read : List ℕ) → to_read ≡ Some read
+    → (parts : List Part) × (script_of (records_of read) ≡ Ok parts) × RunsPartsBy settings (new_store settings.fan) parts after
+
+-- they lead to some tree
+abbrev pub IsServedBy : PlainSettings → Option (List ℕ) → Type 0
+IsServedBy settings to_read = (after : PlainStore) × ServesBy settings to_read after
 
 -- ---- which refusal of a batch comes
 

@@ -1,7 +1,7 @@
 -- What a caller of `blink_run` reads, in this order; then what proofs above it need; then the files themselves.
 
 -- a script's run as its settings say
-pub use Rattle.blink_run.specs.BySettings.{ServesBy, TellsRunOf}
+pub use Rattle.blink_run.specs.BySettings.{IsServedBy, ServesBy, TellsRunOf}
 -- the output for a script: the text of its parts, one after another, by one thread on one plain map
 pub use Rattle.blink_replay.specs.{IsPrefixOf, IsTextOf, OutputAfterError, Serves, TellsFault, WritesText, is_batch}
 -- the output of a script's replay: the trace of its last batch, the text of its parts, and the pages at the end

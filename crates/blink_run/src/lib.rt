@@ -16,4 +16,4 @@ pub use blink_replay::{
 };
 pub use blink_settings::{CutKind, Driver, RunError, ServeError, Settings, SettingsError};
 pub use run::run_batch;
-pub use script::serve;
+pub use script::{serve, serve_index};

@@ -1,10 +1,10 @@
 //! A batch's run on an index by threads that share a table of words without a lock.
-ghost use Rattle.std.specs.Prelude.{◌≡◌, ◌↔◌, count_by, IfErr, IfOk, IsErrOf, OnErr};
+ghost use Rattle.std.specs.Prelude.{◌≡◌, ◌↔◌, count_by, IfErr, IfOk, IsErrOf, OnErr, OnOk};
 ghost use Rattle.blink_batch.specs.{IsLawfulCut, answers, map_after_all, is_insert, IsAscending};
 ghost use Rattle.blink_index.specs.{map_of};
 ghost use Rattle.blink_live.specs.{IsNumberedInOrder};
 ghost use Rattle.blink_run.specs.Lanes.{HasDealtAll, HaveRunLanes, IsNewKeeper, uses_deletion};
-ghost use Rattle.blink_locked.specs.{MayRefuse, IsStartRefusal};
+ghost use Rattle.blink_locked.specs.{HasFewPagesMore, MayRefuse, IsStartRefusal};
 ghost use Rattle.blink_steps.specs.{IsTooLarge};
 
 mod dealing;
@@ -40,8 +40,11 @@ pub(crate) fn run_live<R: Threads + Wait + Sync, G: Gate + Sync>(
     ensures map { IfOk result
         (λ given. map_of index.new ≡ map_after_all (map_of index.old) batch.now) }
     ensures numbered { IfOk result (λ given. IsNumberedInOrder index.new) }
+    ensures fan { OnOk result (index.new.fan ≡ index.old.fan) }
+    ensures pages { OnOk result (HasFewPagesMore index.old batch.now index.new) }
     ensures too_large { IsErrOf result RunError.TooLarge ↔ IsTooLarge index.old batch.now }
     ensures refused { IfErr result (MayRefuse cut.now.workers index.old batch.now) }
+    ensures not_foreign { ¬ IsErrOf result RunError.Foreign }
     ensures unchanged { OnErr result (index.new ≡ index.old) }
 {
     let (live, mut keeper) = match Live::open(alloc, index, allowance_of(batch)) {

@@ -3,7 +3,7 @@ ghost use Rattle.std.specs.Prelude.{◌≡◌, IfErr, IfOk, IsErrOf, OnOk, strin
 ghost use Rattle.blink_batch.specs.{answers, map_after_all, text_of};
 ghost use Rattle.blink_batch.specs.declared.Part.TheVariants.{Batch as PartBatch};
 ghost use Rattle.blink_index.specs.{map_of};
-ghost use Rattle.blink_run.specs.BySettings.{RefusesPart, RunsBatchBy, RunsPartBy, RunsPartsBy, ServesBy, TellsRun, TellsRunOf};
+ghost use Rattle.blink_run.specs.BySettings.{RefusesPart, RunsBatchBy, RunsPartBy, RunsPartsBy, IsServedBy, ServesBy, TellsRun, TellsRunOf};
 ghost use Rattle.blink_replay.specs.{IsBatchFault, IsPartFault, FlushedOutputAfterError, PrefixOutputAfterError, OutputAfterError, PartOutputAfterError, Serves, TellsFault, Writes, WritesAll, part_after, part_text, scan_text, script_text};
 
 use crate::run::run_batch;
@@ -36,7 +36,32 @@ pub fn serve<T: Threads + Wait + Sync, R: Read, W: Write, G: Gate + Sync>(
 ) -> Result<(), ServeError>
     ensures served { OnOk result
         (Serves (R.remaining reader.old) (W.contents writer.old) (W.contents writer.new)) }
-    ensures by_settings { OnOk result (ServesBy settings.now (R.remaining reader.old)) }
+    ensures by_settings { OnOk result (IsServedBy settings.now (R.remaining reader.old)) }
+    ensures fault { IfErr result (TellsFault (R.remaining reader.old)) }
+    ensures not_run { IfErr result (TellsRunOf settings.now (R.remaining reader.old)) }
+    ensures left { IfErr result (λ error.
+        OutputAfterError (R.remaining reader.old) error (W.contents writer.old) (W.contents writer.new)) }
+{
+    match serve_index(rt, alloc, reader, writer, settings, gate) {
+        Ok(_index) => Ok(()),
+        Err(error) => Err(error),
+    }
+}
+
+/// Does what [`serve`] does, and returns the index that the parts of the script leave. Its entries are those of one thread, and
+/// its pages show by which settings the batches were run: by the driver `Locked` they are those of a replay of the lanes, and by
+/// `Live` they are numbered anew.
+pub fn serve_index<T: Threads + Wait + Sync, R: Read, W: Write, G: Gate + Sync>(
+    rt: &T,
+    alloc: Global,
+    reader: &mut R,
+    writer: &mut W,
+    settings: &Settings,
+    gate: &G,
+) -> Result<Index, ServeError>
+    ensures served { OnOk result
+        (Serves (R.remaining reader.old) (W.contents writer.old) (W.contents writer.new)) }
+    ensures by_settings { IfOk result (ServesBy settings.now (R.remaining reader.old)) }
     ensures fault { IfErr result (TellsFault (R.remaining reader.old)) }
     ensures not_run { IfErr result (TellsRunOf settings.now (R.remaining reader.old)) }
     ensures left { IfErr result (λ error.
@@ -50,7 +75,10 @@ pub fn serve<T: Threads + Wait + Sync, R: Read, W: Write, G: Gate + Sync>(
         settings,
         gate,
     };
-    service.serve_script(&script.parts, &mut index, writer)
+    match service.serve_script(&script.parts, &mut index, writer) {
+        Ok(()) => Ok(index),
+        Err(error) => Err(error),
+    }
 }
 
 // What each part of a script is served with.

@@ -53,8 +53,8 @@ struct Stop {
 enum End {
     // With the insertions of the keys 1 and 2.
     BothInserted,
-    // Not at all, since the run is stopped.
-    Refused,
+    // Not at all, for this reason: the run is stopped, or operations are left.
+    Refused(RunError),
     // Nobody asks.
     Dropped,
 }
@@ -231,11 +231,7 @@ fn expect_end<B: Origin>(rt: &impl Abort, alloc: Global, book: Book<B>, end: End
 {
     match end {
         End::BothInserted => are_both_inserted(rt, &given(rt, settled(alloc, book))),
-        End::Refused => same(
-            rt,
-            &settled(alloc, book).err(),
-            &Some(RunError::OutOfMemory),
-        ),
+        End::Refused(refusal) => same(rt, &settled(alloc, book).err(), &Some(refusal)),
         End::Dropped => {}
     }
 }
@@ -294,7 +290,7 @@ const NONE_MOVES: [TurnTaken; 2] = [(0, 1, Turn::Stopped), (1, 0, Turn::Stopped)
 
 const BOTH_OVER: [TurnTaken; 2] = [(1, 0, Turn::Over), (0, 1, Turn::Over)];
 
-const PLAYS: [Play<'static>; 5] = [
+const PLAYS: [Play<'static>; 7] = [
     // Each turn returns its step.
     Play {
         ops: &TWO,
@@ -305,13 +301,25 @@ const PLAYS: [Play<'static>; 5] = [
     Play {
         ops: &TWO,
         acts: &[Act::Takes(&ONE_WAITS), Act::Stops, Act::Takes(&NONE_MOVES)],
-        end: End::Refused,
+        end: End::Refused(RunError::OutOfMemory),
     },
-    // One operation is under way and the other waits for it: the steps that are left are taken.
+    // One operation is under way and the other waits for it: nobody takes the steps that are left.
     Play {
         ops: &TWO,
         acts: &[Act::Takes(&ONE_WAITS)],
-        end: End::BothInserted,
+        end: End::Refused(RunError::Foreign),
+    },
+    // Of a stopped book that isn't the reason.
+    Play {
+        ops: &TWO,
+        acts: &[Act::Stops],
+        end: End::Refused(RunError::OutOfMemory),
+    },
+    // No worker has begun.
+    Play {
+        ops: &TWO,
+        acts: &[],
+        end: End::Refused(RunError::Foreign),
     },
     // A book at its end is settled.
     Play {
@@ -323,7 +331,7 @@ const PLAYS: [Play<'static>; 5] = [
     Play {
         ops: &TWO,
         acts: &[Act::Takes(&ONE_WAITS), Act::WaitsForStop],
-        end: End::Refused,
+        end: End::Refused(RunError::OutOfMemory),
     },
 ];
 
@@ -334,7 +342,7 @@ fn expect_plays<R: Threads + Wait + Abort + Sync>(rt: &R, alloc: Global, plays: 
 }
 
 #[test]
-fn a_book_is_settled_unless_it_is_stopped(rt: HostRuntime) {
+fn a_book_is_settled_at_its_end_unless_it_is_stopped(rt: HostRuntime) {
     expect_plays(&rt, rt.alloc(), &PLAYS)
 }
 
@@ -360,7 +368,7 @@ const STOPPED_PLAYS: [Play<'static>; 3] = [
             begun: 2,
             ended: 1,
         })],
-        end: End::Refused,
+        end: End::Refused(RunError::OutOfMemory),
     },
     Play {
         ops: &THREE,
@@ -370,7 +378,7 @@ const STOPPED_PLAYS: [Play<'static>; 3] = [
             begun: 2,
             ended: 1,
         })],
-        end: End::Refused,
+        end: End::Refused(RunError::OutOfMemory),
     },
 ];
 

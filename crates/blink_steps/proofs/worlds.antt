@@ -6,3 +6,5 @@ pub mod WorldPromises
 pub mod SomeoneWouldMove
 pub mod WorldsGoOn
 pub mod RunAtItsEnd
+pub mod FanStays
+pub mod PagesStayFew

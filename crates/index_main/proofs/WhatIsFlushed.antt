@@ -4,6 +4,7 @@ use Rattle.std.specs.Io.KnownBytes.{Keeps, append_known}
 use Rattle.blink_batch.specs.declared.Part.TheVariants.{Batch}
 use Rattle.blink_batch.specs.{records_of}
 use Rattle.blink_run.specs.{IsPrefixOf, IsTextBeforeBatch, IsTextOf, IsTextOfPrefix, OutputAfterError, WritesText, IsReplayText, LeavesReplay}
+use Rattle.blink_store.specs.{PlainStore}
 use Rattle.blink_settings.specs.declared.error.ServeError.{ServeError}
 use Rattle.blink_settings.specs.declared.error.ServeError.TheVariants as serve
 use Rattle.blink_replay.proofs.Offered.{prefix_of_text}
@@ -129,7 +130,7 @@ nothing_of line to_read before between stays read written known known_before =
     record { prefix = []; more = []; its_text = inr refl; known = kept_as (append_known before []) between (written ++ []) (with_nothing before ∙ known_before ∙ ap (λ (t : List ℕ). Some t) (sym (append-nil written))) stays }
 
 -- what was written before the flush
-prefix_written : (line : Line) (to_read before between : Option (List ℕ)) (outcome : Result (Unit {0}) ServeError) → (outcome ≡ Err serve.Output → ⊥) → OnOk outcome (Writes line to_read (append_known before []) between)
+prefix_written : (line : Line) (to_read before between : Option (List ℕ)) (outcome : Result (Option PlainStore) ServeError) → (outcome ≡ Err serve.Output → ⊥) → OnOk outcome (Writes line to_read (append_known before []) between)
     → IfErr outcome (λ error. Leaves line to_read error (append_known before []) between) → (read written : List ℕ) → to_read ≡ Some read → before ≡ Some written → PrefixWritten line (records_of read) written between
 prefix_written (Run settings) to_read before between (Ok done) not_output writes left = whole_of (Run settings) to_read before between writes
 prefix_written (Replay settings schedule) to_read before between (Ok done) not_output writes left = whole_of (Replay settings schedule) to_read before between writes
@@ -158,7 +159,7 @@ module _ (line : Line) (to_read before after : Option (List ℕ)) where
       by_line (Run settings) left = left
       by_line (Replay settings schedule) left = left
 
-  module _ (between : Option (List ℕ)) (outcome : Result (Unit {0}) ServeError) (not_output : outcome ≡ Err serve.Output → ⊥) (left : IfErr outcome (λ error. Leaves line to_read error (append_known before []) between)) where
+  module _ (between : Option (List ℕ)) (outcome : Result (Option PlainStore) ServeError) (not_output : outcome ≡ Err serve.Output → ⊥) (left : IfErr outcome (λ error. Leaves line to_read error (append_known before []) between)) where
     -- it fails at the flush
     pub flush_failed : (buffer : List ℕ) → OnOk outcome (Writes line to_read (append_known before []) between) → Keeps between (append_known after buffer) → LetsOut line to_read serve.Output before after
     flush_failed buffer writes keeps = lets_out line to_read before between after buffer keeps (prefix_written line to_read before between outcome not_output writes left)
@@ -167,6 +168,6 @@ module _ (line : Line) (to_read before after : Option (List ℕ)) where
     pub refusals_left : Keeps between (append_known after []) → IfErr outcome (λ error. LetsOut line to_read error before after)
     refusals_left keeps = by_outcome outcome not_output left
       where
-        by_outcome : (r : Result (Unit {0}) ServeError) → (r ≡ Err serve.Output → ⊥) → IfErr r (λ error. Leaves line to_read error (append_known before []) between) → IfErr r (λ error. LetsOut line to_read error before after)
+        by_outcome : (r : Result (Option PlainStore) ServeError) → (r ≡ Err serve.Output → ⊥) → IfErr r (λ error. Leaves line to_read error (append_known before []) between) → IfErr r (λ error. LetsOut line to_read error before after)
         by_outcome (Ok done) not_output left = tt
         by_outcome (Err error) not_output left = refusal_left before between after keeps line to_read error (λ same. not_output (ap Err same)) left

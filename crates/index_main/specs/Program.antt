@@ -1,7 +1,8 @@
 -- The program's output for a command line, and what is left after a refusal.
-use Rattle.std.specs.Prelude.{◌≡◌, ◌⊎◌, ⊤, ℕ, List, [], ◌++◌, Option, Some, Result, Ok, Err}
+use Rattle.std.specs.Prelude.{◌≡◌, ◌⊎◌, ⊤, ℕ, List, [], ◌++◌, Option, Some, None, Result, Ok, Err}
 use Rattle.blink_batch.specs.{records_of}
-use Rattle.blink_run.specs.{IsTextOf, OutputAfterError, Serves, IsReplayText, LeavesReplay, Replays}
+use Rattle.blink_run.specs.{IsTextOf, OutputAfterError, Serves, ServesBy, IsReplayText, LeavesReplay, Replays, TellsFault, TellsReplayFault, TellsReplayOf, TellsRunOf}
+use Rattle.blink_store.specs.{PlainStore}
 use Rattle.blink_settings.specs.declared.error.ServeError.{ServeError}
 use Rattle.blink_settings.specs.declared.error.ServeError.TheVariants as serve
 use Rattle.blink_command.specs.declared.line.Line.{Line}
@@ -11,6 +12,26 @@ use Rattle.blink_command.specs.declared.line.Line.TheVariants.{Run, Replay}
 abbrev pub Writes : Line → Option (List ℕ) → Option (List ℕ) → Option (List ℕ) → Type 0
 Writes (Run settings) to_read before after = Serves to_read before after
 Writes (Replay settings schedule) to_read before after = Replays settings.workers settings.fan schedule.items to_read before after
+
+-- a run leaves an index that its settings lead to; a replay leaves none, and writes its pages
+abbrev pub RunsBy : Line → Option (List ℕ) → Option PlainStore → Type 0
+RunsBy (Run settings) to_read (Some after) = ServesBy settings to_read after
+RunsBy (Run settings) to_read None = ⊥
+RunsBy (Replay settings schedule) to_read left = left ≡ None
+
+-- why a run or a replay fails: the refusals of `serve` and of `serve_replay`, each exactly where they say
+abbrev pub IsLineFault : Line → Option (List ℕ) → ServeError → Type 0
+IsLineFault (Run settings) to_read error = TellsFault to_read error × TellsRunOf settings to_read error
+IsLineFault (Replay settings schedule) to_read error =
+    TellsReplayFault settings.workers schedule.items to_read error × TellsReplayOf settings.workers settings.fan to_read error
+
+-- the same, except that the output may fail at the end, whatever was read
+abbrev pub IsFault : Line → Option (List ℕ) → ServeError → Type 0
+IsFault line to_read (serve.Script error) = IsLineFault line to_read (serve.Script error)
+IsFault line to_read (serve.Run number error) = IsLineFault line to_read (serve.Run number error)
+IsFault line to_read (serve.Step error) = IsLineFault line to_read (serve.Step error)
+IsFault line to_read serve.Output = ⊤
+IsFault line to_read serve.OutOfMemory = IsLineFault line to_read serve.OutOfMemory
 
 -- what a refusal leaves: of a run the lines of the parts before, and of a replay nothing; if the writer failed, a prefix of the
 -- text
@@ -41,7 +62,7 @@ LetsOut line to_read serve.Output before after = (read written : List ℕ) → t
 LetsOut line to_read serve.OutOfMemory before after = Leaves line to_read serve.OutOfMemory before after
 
 -- nothing is left in the buffer, unless the writer failed
-abbrev pub HasLeft : Result (Unit {0}) ServeError → List ℕ → Type 0
+abbrev pub HasLeft : Result (Option PlainStore) ServeError → List ℕ → Type 0
 HasLeft (Ok done) buffer = buffer ≡ []
 HasLeft (Err (serve.Script error)) buffer = buffer ≡ []
 HasLeft (Err (serve.Run number error)) buffer = buffer ≡ []

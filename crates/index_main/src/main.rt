@@ -29,7 +29,10 @@ fn blink(
     // Bytes are left in the buffer only if the writer failed. They aren't written again, as they would be when the buffer is
     // dropped.
     let _ = output.into_parts();
-    outcome.map_err(ProgramError::Serve)
+    match outcome {
+        Ok(_index) => Ok(()),
+        Err(error) => Err(ProgramError::Serve(error)),
+    }
 }
 
 // What the command line asks for.

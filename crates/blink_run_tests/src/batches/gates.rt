@@ -1,5 +1,5 @@
 //! Gates that count the operations which pass them, or keep some waiting for others.
-use crate::batches::{are_inserted, insertions, run_on_new};
+use crate::batches::{are_inserted, expect_pages, insertions, run_on_new};
 use crate::calls::DRIVERS;
 use crate::fixtures::same_for;
 use blink_batch::Op;
@@ -191,5 +191,113 @@ fn a_worker_that_begins_late_blocks_nobody(rt: HostRuntime) {
         for last in 0..3 {
             expect_nobody_waits(&rt, rt.alloc(), driver, last);
         }
+    }
+}
+
+// Lets eight operations run one after another, those of the least keys first or last. Each waits, before its first step, until
+// those before it in that order have ended.
+#[derive(Drop)]
+struct InOrderGate<'a, R: Clock> {
+    clock: &'a R,
+    descending: bool,
+    ended: AtomicU64,
+    given_up: AtomicU64,
+}
+
+impl<R: Clock> Gate for InOrderGate<'_, R> {
+    fn before(&self, _worker: u8, op: u32) {
+        let place = u64::from(op);
+        let others = if self.descending {
+            7u64.saturating_sub(place)
+        } else {
+            place
+        };
+        for _ in 0..LOOKS {
+            if self.ended.load(Ordering::SeqCst) == others {
+                return;
+            }
+            thread::sleep(self.clock, Duration::from_micros(10));
+        }
+        self.given_up.store(1, Ordering::SeqCst);
+    }
+
+    fn after(&self, _worker: u8, _op: u32) {
+        self.ended.fetch_add(1, Ordering::SeqCst);
+    }
+}
+
+// Keys 1 to 8, each inserted by a worker of its own, in an order of the gate's, leave these pages.
+#[derive(Clone, Copy)]
+struct Ordered<'a> {
+    driver: Driver,
+    descending: bool,
+    pages: &'a str,
+}
+
+// By hand, for pages of at most 4 entries, which split with the lower 3 of 5 in the old page. Ascending keys split 1 to 5, and
+// then 4 to 8. Descending ones split 4 to 8, and then 2 to 6.
+const ORDERED: [Ordered<'static>; 4] = [
+    Ordered {
+        driver: Driver::Locked,
+        descending: false,
+        pages: "1 3 - 18446744073709551615 - 3:1 6:2 18446744073709551615:4
+0 1 - 3 2 1:10 2:20 3:30
+0 2 3 6 4 4:40 5:50 6:60
+0 4 6 18446744073709551615 - 7:70 8:80
+",
+    },
+    Ordered {
+        driver: Driver::Locked,
+        descending: true,
+        pages: "1 3 - 18446744073709551615 - 4:1 6:4 18446744073709551615:2
+0 1 - 4 4 1:10 2:20 3:30 4:40
+0 4 4 6 2 5:50 6:60
+0 2 6 18446744073709551615 - 7:70 8:80
+",
+    },
+    Ordered {
+        driver: Driver::Live,
+        descending: false,
+        pages: "1 4 - 18446744073709551615 - 3:1 6:2 18446744073709551615:3
+0 1 - 3 2 1:10 2:20 3:30
+0 2 3 6 3 4:40 5:50 6:60
+0 3 6 18446744073709551615 - 7:70 8:80
+",
+    },
+    Ordered {
+        driver: Driver::Live,
+        descending: true,
+        pages: "1 4 - 18446744073709551615 - 4:1 6:2 18446744073709551615:3
+0 1 - 4 2 1:10 2:20 3:30 4:40
+0 2 4 6 3 5:50 6:60
+0 3 6 18446744073709551615 - 7:70 8:80
+",
+    },
+];
+
+fn expect_ordered<R: Threads + Wait + Clock + Abort + Sync>(
+    rt: &R,
+    alloc: Global,
+    case: Ordered<'_>,
+) {
+    let gate = InOrderGate {
+        clock: rt,
+        descending: case.descending,
+        ended: AtomicU64::new(0),
+        given_up: AtomicU64::new(0),
+    };
+    let ops = insertions(rt, alloc, 8);
+    let ran = run_on_new(rt, alloc, case.driver, &ops, 8, &gate);
+    has_counted(rt, &gate.given_up, 0, &case.driver);
+    are_inserted(rt, case.driver, &ran.answers, 8);
+    expect_pages(rt, alloc, case.driver, &ran.index, case.pages)
+}
+
+// The pages tell whose turn it was. A run whose threads pass the gate and take no turn, while the caller's thread runs the batch,
+// leaves the same pages for both orders.
+#[test]
+fn each_thread_runs_its_operation_where_the_gate_lets_it(rt: HostRuntime) {
+    for case in ORDERED {
+        expect_ordered(&rt, rt.alloc(), case);
     }
 }

@@ -1,4 +1,4 @@
-use Rattle.std.proofs.Common.{List, Option, Some, map, subst, sym, ◌≡◌}
+use Rattle.std.proofs.Common.{Some, map, subst, sym, ◌≡◌}
 use Rattle.blink_steps.specs.{HasEnded}
 use Rattle.blink_locked.specs.Book.{PlainBook}
 use Rattle.blink_locked.proofs.BooksGoOn.{settled}

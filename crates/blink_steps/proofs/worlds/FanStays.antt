@@ -6,9 +6,9 @@ use Rattle.blink_machine.specs.declared.step.Kind.{Kind}
 use Rattle.blink_machine.specs.declared.step.Step.TheVariants.{Moved}
 use Rattle.blink_machine.specs.{PlainMachine, need_at}
 use Rattle.blink_store.specs.{PlainStore}
-use Rattle.blink_steps.specs.Acts.{ActsOn}
-use Rattle.blink_steps.specs.Run.{AppliesEvent, IsHistory, moves, waits, idles}
-use Rattle.blink_steps.specs.{Event, IsWorldOf, PlainRun, PlainShared, PlainWorld}
+use Rattle.blink_steps.specs.Acts.{ActsOn, PlainShared}
+use Rattle.blink_steps.specs.Run.{AppliesEvent, Event, IsHistory, PlainRun, moves, waits, idles}
+use Rattle.blink_steps.specs.World.{IsWorldOf, PlainWorld}
 
 acts_keep : (need : Need) (old new : PlainShared) (worker : ℕ) (m after : PlainMachine) (kind : Kind) → ActsOn need old worker m (Moved kind) after new
     → new.store.fan ≡ old.store.fan
