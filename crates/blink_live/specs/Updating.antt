@@ -1,13 +1,13 @@
 -- An update after its descent: it changes its leaf, and goes on to its end.
-use Rattle.std.specs.Prelude.{◌≡◌, ℕ, ◌+◌, ◌-◌, ◌≤◌, Some, None, IsSome, Contains}
+use Rattle.std.specs.Prelude.{◌≡◌, ◌≢◌, ℕ, ◌+◌, ◌-◌, ◌<◌, ◌≤◌, Some, None, IsSome, Contains}
 use mathlib.Core.List.{IsPrefix}
 use Rattle.atomic_table.specs.declared.Seat.{Seat}
 use Rattle.blink_batch.specs.{FitsWords, answer_of, key_of}
 use Rattle.blink_batch.specs.declared.Answer.{Answer}
 use Rattle.blink_batch.specs.declared.Op.{Op}
 use Rattle.blink_machine.specs.declared.machine.State.{State}
-use Rattle.blink_machine.specs.declared.machine.State.TheVariants.{Start, Going, Ended}
-use Rattle.blink_machine.specs.{numbers_left, writes_left, primes_left, PlainMachine, goes_on, IsUpdate}
+use Rattle.blink_machine.specs.declared.machine.State.TheVariants.{Start, Going, Held, Change, SplitNew, SplitOld, AskPrime, Root, NewPrime, Leave, Ended}
+use Rattle.blink_machine.specs.{numbers_left, writes_left, primes_left, PlainMachine, goes_on, latch_of, IsUpdate}
 use Rattle.blink_live.specs.declared.live.Live.{Live}
 use Rattle.blink_live.specs.declared.room.Room.{Room}
 use Rattle.blink_rows.specs.declared.span.Span.{Span}
@@ -39,6 +39,22 @@ abbrev pub IsPastDescent : State → Type 0
 IsPastDescent Start = ⊥
 IsPastDescent (Going page level) = ⊥
 IsPastDescent state = Unit {0}
+
+-- the greatest number of steps that the operation takes until it has let go the latch that it holds
+abbrev pub steps_to_leave : State → ℕ
+steps_to_leave (Held page) = 7
+steps_to_leave (SplitNew page before) = 6
+steps_to_leave (SplitOld page lower debt) = 5
+steps_to_leave (AskPrime page debt) = 4
+steps_to_leave (Root page debt prime) = 3
+steps_to_leave (NewPrime page debt root prime) = 2
+steps_to_leave (Change page changed kept) = 2
+steps_to_leave (Leave page next) = 1
+steps_to_leave state = 0
+
+-- where it holds a latch, the operation comes nearer to letting it go
+abbrev pub ComesNearer : PlainMachine → PlainMachine → Type 0
+ComesNearer m after = latch_of m ≢ None → steps_to_leave after.state < steps_to_leave m.state
 
 -- what the call has left is enough: a row for each write of a page or of the prime block, and the page numbers
 pub record HasLeft (first call : Call) (m : PlainMachine) : Type 0 where
