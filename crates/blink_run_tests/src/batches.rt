@@ -66,8 +66,14 @@ fn index_to<R: Threads + Wait + Abort + Sync>(
     run_on_new(rt, alloc, driver, &ops, 1, &Open).index
 }
 
-// The pages of the index are these.
-fn expect_pages(rt: &impl Abort, alloc: Global, driver: Driver, index: &Index, pages: &str) {
+/// The pages of the index are these.
+pub(crate) fn expect_pages(
+    rt: &impl Abort,
+    alloc: Global,
+    driver: Driver,
+    index: &Index,
+    pages: &str,
+) {
     let text = given(rt, index.dump(alloc));
     same_for(rt, &text.as_str(), &pages, &driver)
 }
@@ -233,8 +239,8 @@ fn a_leaf_emptied_by_deletions_stays(rt: HostRuntime) {
     expect_examples(&rt, rt.alloc(), &DELETIONS)
 }
 
-// The numbers are in the order in which pages come to be.
-const OF_STEPS: &str = "2 8 - 18446744073709551615 - 9:3 18446744073709551615:7
+/// The pages of 14 keys, inserted in order by one worker. The numbers are in the order in which pages come to be.
+pub(crate) const OF_STEPS: &str = "2 8 - 18446744073709551615 - 9:3 18446744073709551615:7
 1 3 - 9 7 3:1 6:2 9:4
 1 7 9 18446744073709551615 - 12:5 18446744073709551615:6
 0 1 - 3 2 1:10 2:20 3:30
@@ -244,8 +250,8 @@ const OF_STEPS: &str = "2 8 - 18446744073709551615 - 9:3 18446744073709551615:7
 0 6 12 18446744073709551615 - 13:130 14:140
 ";
 
-// A table that closes numbers its pages level by level, the leaves first.
-const OF_A_TABLE: &str = "2 8 - 18446744073709551615 - 9:6 18446744073709551615:7
+/// The same pages of a table, which numbers them as it closes, level by level, the leaves first.
+pub(crate) const OF_A_TABLE: &str = "2 8 - 18446744073709551615 - 9:6 18446744073709551615:7
 1 6 - 9 7 3:1 6:2 9:3
 1 7 9 18446744073709551615 - 12:4 18446744073709551615:5
 0 1 - 3 2 1:10 2:20 3:30

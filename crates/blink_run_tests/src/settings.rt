@@ -1,7 +1,8 @@
 //! The limits of settings, and the worker that each operation of a batch falls to.
+use crate::batches::{OF_A_TABLE, OF_STEPS, expect_pages};
 use crate::calls::{locked, serve_from};
-use crate::fixtures::{same, same_for};
-use blink_run::{CutKind, Driver, Gate, ServeError, Settings, SettingsError};
+use crate::fixtures::{given, same, same_for};
+use blink_run::{CutKind, Driver, Gate, Open, ServeError, Settings, SettingsError, serve_index};
 use std::alloc::Global;
 use std::process::Abort;
 use std::sync::Wait;
@@ -110,4 +111,44 @@ fn ranges_are_of_equal_width(rt: HostRuntime) {
 fn a_key_falls_to_the_worker_of_its_remainder(rt: HostRuntime) {
     let script = "find,5,\nfind,5,\n";
     expect_lanes(&rt, rt.alloc(), CutKind::Residue, script, &[2, 2])
+}
+
+// Keys 1 to 14 in order, by two batches and two parts between them that change nothing.
+const FOURTEEN: &str = "insert,1,10
+insert,2,20
+insert,3,30
+insert,4,40
+insert,5,50
+insert,6,60
+scan,9,1
+page,9,1
+insert,7,70
+insert,8,80
+insert,9,90
+insert,10,100
+insert,11,110
+insert,12,120
+insert,13,130
+insert,14,140
+";
+
+// One worker's pages of these keys, by a driver.
+fn expect_index<R: Threads + Wait + Abort + Sync>(
+    rt: &R,
+    alloc: Global,
+    driver: Driver,
+    pages: &str,
+) {
+    let settings = given(rt, Settings::new(1, 4, CutKind::Residue, driver));
+    let mut script = FOURTEEN.as_bytes();
+    let mut output = Vec::new(alloc);
+    let index = serve_index(rt, alloc, &mut script, &mut output, &settings, &Open);
+    expect_pages(rt, alloc, driver, &given(rt, index), pages)
+}
+
+// The first batch of a table numbers the root 3, as steps do; the second numbers all leaves before it.
+#[test]
+fn the_index_of_a_script_shows_its_driver(rt: HostRuntime) {
+    expect_index(&rt, rt.alloc(), Driver::Locked, OF_STEPS);
+    expect_index(&rt, rt.alloc(), Driver::Live, OF_A_TABLE)
 }

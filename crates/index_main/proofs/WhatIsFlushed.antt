@@ -1,5 +1,6 @@
 -- What has left a buffer that was empty before: all that was written, where it is empty now, and else a beginning of it.
-use Rattle.std.proofs.Common.{◌≡◌, ◌⊎◌, ℕ, List, [], ◌∷◌, ◌++◌, Option, Some, None, Result, Ok, Err, IfErr, OnOk, refl, sym, ap, ◌∙◌, inl, inr, append_assoc, append-nil}
+use Rattle.std.proofs.Common.{◌≡◌, ◌⊎◌, ℕ, List, [], ◌∷◌, ◌++◌, Option, Some, None, Result, Ok, Err, IfErr, OnOk, refl, sym, ap, ◌∙◌, subst, inl, inr, append_assoc, append-nil}
+use Rattle.std.proofs.lemmas.List.{append_cancel_left}
 use Rattle.std.specs.Io.KnownBytes.{Keeps, append_known}
 use Rattle.blink_batch.specs.declared.Part.TheVariants.{Batch}
 use Rattle.blink_batch.specs.{records_of}
@@ -8,6 +9,7 @@ use Rattle.blink_store.specs.{PlainStore}
 use Rattle.blink_settings.specs.declared.error.ServeError.{ServeError}
 use Rattle.blink_settings.specs.declared.error.ServeError.TheVariants as serve
 use Rattle.blink_replay.proofs.Offered.{prefix_of_text}
+use Rattle.index_main.specs.Appending.{BeginsWith}
 use Rattle.index_main.specs.Program.{HasLeftPrefix, IsText, Leaves, LetsOut, Writes}
 use Rattle.blink_command.specs.declared.line.Line.{Line}
 use Rattle.blink_command.specs.declared.line.Line.TheVariants.{Run, Replay}
@@ -87,19 +89,21 @@ record PrefixWritten (line : Line) (records : List (List (List ℕ))) (written :
   its_text : IsText line records (prefix ++ more) ⊎ (prefix ++ more ≡ [])
   known : between ≡ Some (written ++ prefix)
 
--- behind a buffer, a beginning of that has left
-prefix_left : (line : Line) (records : List (List (List ℕ))) (written buffer : List ℕ) (between after : Option (List ℕ)) → PrefixWritten line records written between → Keeps between (append_known after buffer) → HasLeftPrefix line records written after
-prefix_left line records written buffer between after prefix keeps = by_after after (kept_as between (append_known after buffer) (written ++ prefix.prefix) prefix.known keeps)
-  where
-    by_after : (known : Option (List ℕ)) → append_known known buffer ≡ Some (written ++ prefix.prefix) → HasLeftPrefix line records written known
-    by_after None same = absurd (cc same)
-    by_after (Some left) same = record {
+-- behind a buffer, a beginning of that has left, after what had left before
+prefix_left : (line : Line) (records : List (List (List ℕ))) (written buffer : List ℕ) (between after : Option (List ℕ)) → PrefixWritten line records written between → Keeps between (append_known after buffer)
+    → BeginsWith (Some written) after → HasLeftPrefix line records written after
+prefix_left line records written buffer between after prefix keeps begins =
+    let same : append_known (Some (written ++ begins.0)) buffer ≡ Some (written ++ prefix.prefix) =
+    ap (λ (known : Option (List ℕ)). append_known known buffer) (sym begins.1) ∙ kept_as between (append_known after buffer) (written ++ prefix.prefix) prefix.known keeps in
+    let behind : (written ++ begins.0) ++ buffer ≡ written ++ prefix.prefix = cc in
+    let more : begins.0 ++ buffer ≡ prefix.prefix = append_cancel_left written (begins.0 ++ buffer) prefix.prefix (sym (append_assoc written begins.0 buffer) ∙ behind) in
+    record {
       text = prefix.prefix ++ prefix.more;
       its_text = prefix.its_text;
-      left = left;
+      prefix = begins.0;
       rest = buffer ++ prefix.more;
-      known = refl;
-      in_order = sym (append_assoc written prefix.prefix prefix.more) ∙ ap (λ (t : List ℕ). t ++ prefix.more) (sym (cc same)) ∙ append_assoc left buffer prefix.more;
+      in_order = ap (λ (t : List ℕ). t ++ prefix.more) (sym more) ∙ append_assoc begins.0 buffer prefix.more;
+      known = begins.1;
     }
 
 -- known bytes that aren't touched stay
@@ -107,10 +111,10 @@ untouched : (known : Option (List ℕ)) → Keeps known known
 untouched None = tt
 untouched (Some bytes) = refl
 
-module _ (line : Line) (to_read before between after : Option (List ℕ)) (buffer : List ℕ) (keeps : Keeps between (append_known after buffer)) where
+module _ (line : Line) (to_read before between after : Option (List ℕ)) (buffer : List ℕ) (keeps : Keeps between (append_known after buffer)) (begins : BeginsWith before after) where
   -- of what was written a beginning has left, where the writer failed
   lets_out : ((read written : List ℕ) → to_read ≡ Some read → before ≡ Some written → PrefixWritten line (records_of read) written between) → LetsOut line to_read serve.Output before after
-  lets_out prefix = λ read written known known_before. prefix_left line (records_of read) written buffer between after (prefix read written known known_before) keeps
+  lets_out prefix = λ read written known known_before. prefix_left line (records_of read) written buffer between after (prefix read written known known_before) keeps (subst (λ (b : Option (List ℕ)). BeginsWith b after) known_before begins)
 
 -- a beginning of a text, with what had left before
 prefix_of : (line : Line) (to_read before between : Option (List ℕ)) → WritesText (IsPrefixOf (IsText line)) to_read (append_known before []) between → (read written : List ℕ) → to_read ≡ Some read → before ≡ Some written → PrefixWritten line (records_of read) written between
@@ -150,10 +154,10 @@ prefix_written (Replay settings schedule) to_read before between (Err (serve.Run
 prefix_written (Replay settings schedule) to_read before between (Err (serve.Step error)) not_output writes left = nothing_of (Replay settings schedule) to_read before between left
 prefix_written (Replay settings schedule) to_read before between (Err serve.OutOfMemory) not_output writes left = nothing_of (Replay settings schedule) to_read before between left
 
-module _ (line : Line) (to_read before after : Option (List ℕ)) where
+module _ (line : Line) (to_read before after : Option (List ℕ)) (begins : BeginsWith before after) where
   -- the writer fails at a write
   pub write_failed : (buffer : List ℕ) → Leaves line to_read serve.Output (append_known before []) (append_known after buffer) → LetsOut line to_read serve.Output before after
-  write_failed buffer left = lets_out line to_read before (append_known after buffer) after buffer (untouched (append_known after buffer)) (prefix_of line to_read before (append_known after buffer) (by_line line left))
+  write_failed buffer left = lets_out line to_read before (append_known after buffer) after buffer (untouched (append_known after buffer)) begins (prefix_of line to_read before (append_known after buffer) (by_line line left))
     where
       by_line : (l : Line) → Leaves l to_read serve.Output (append_known before []) (append_known after buffer) → WritesText (IsPrefixOf (IsText l)) to_read (append_known before []) (append_known after buffer)
       by_line (Run settings) left = left
@@ -162,7 +166,7 @@ module _ (line : Line) (to_read before after : Option (List ℕ)) where
   module _ (between : Option (List ℕ)) (outcome : Result (Option PlainStore) ServeError) (not_output : outcome ≡ Err serve.Output → ⊥) (left : IfErr outcome (λ error. Leaves line to_read error (append_known before []) between)) where
     -- it fails at the flush
     pub flush_failed : (buffer : List ℕ) → OnOk outcome (Writes line to_read (append_known before []) between) → Keeps between (append_known after buffer) → LetsOut line to_read serve.Output before after
-    flush_failed buffer writes keeps = lets_out line to_read before between after buffer keeps (prefix_written line to_read before between outcome not_output writes left)
+    flush_failed buffer writes keeps = lets_out line to_read before between after buffer keeps begins (prefix_written line to_read before between outcome not_output writes left)
 
     -- it doesn't fail
     pub refusals_left : Keeps between (append_known after []) → IfErr outcome (λ error. LetsOut line to_read error before after)

@@ -44,14 +44,14 @@ abbrev pub IsText : Line → List (List (List ℕ)) → List ℕ → Type 0
 IsText (Run settings) records text = IsTextOf records text
 IsText (Replay settings schedule) records text = IsReplayText settings.workers settings.fan schedule.items records text
 
--- what has left the buffer is a prefix of what had left before and the text after it; what is refused has no text
+-- behind what had left the buffer before stands a prefix of a text; what is refused has no text
 pub record HasLeftPrefix (line : Line) (records : List (List (List ℕ))) (written : List ℕ) (after : Option (List ℕ)) : Type 0 where
   pub text : List ℕ
   pub its_text : IsText line records text ⊎ (text ≡ [])
-  pub left : List ℕ
+  pub prefix : List ℕ
   pub rest : List ℕ
-  pub known : after ≡ Some left
-  pub in_order : written ++ text ≡ left ++ rest
+  pub in_order : text ≡ prefix ++ rest
+  pub known : after ≡ Some (written ++ prefix)
 
 -- what leaves the buffer then, if the bytes to be read and those that had left before are known
 abbrev pub LetsOut : Line → Option (List ℕ) → ServeError → Option (List ℕ) → Option (List ℕ) → Type 0

@@ -1,12 +1,17 @@
 //! The program `blink`: it reads a script of operations on standard input and prints their answers.
 #![tactic(auto)]
+ghost use Rattle.std.specs.Prelude.{◌≡◌};
 
+mod appending;
 mod program;
+
+use appending::{Appending, Before};
 
 use blink_command::{Line, ProgramError, end_of, read_line};
 use program::carry_out;
 use std::alloc::Global;
-use std::io::BufWriter;
+use std::io::{BufWriter, Write};
+use std::marker::Brand;
 use std::process::ExitCode;
 use std::rt::Env;
 use std::sync::Wait;
@@ -22,10 +27,23 @@ fn blink(
 ) -> Result<(), ProgramError> {
     let alloc = rt.alloc();
     let line = asked(rt, alloc)?;
-    let Ok(mut output) = BufWriter::with_capacity(alloc, BUFFER, io::writer(rt)) else {
+    write_to::<Brand, _, _>(rt, alloc, &line, io::writer(rt))
+}
+
+// Does what the command line asks for, with a buffer before this writer.
+fn write_to<B: Before, T: Input + Threads + Wait + Sync, W: Write + Drop>(
+    rt: &T,
+    alloc: Global,
+    line: &Line,
+    writer: W,
+) -> Result<(), ProgramError>
+    requires { B.before ≡ W.contents writer }
+{
+    let kept = Appending::<B, W>::new(writer);
+    let Ok(mut output) = BufWriter::with_capacity(alloc, BUFFER, kept) else {
         return Err(ProgramError::Memory);
     };
-    let outcome = carry_out(rt, alloc, &line, &mut rt.reader(), &mut output);
+    let outcome = carry_out(rt, alloc, line, &mut rt.reader(), &mut output);
     // Bytes are left in the buffer only if the writer failed. They aren't written again, as they would be when the buffer is
     // dropped.
     let _ = output.into_parts();

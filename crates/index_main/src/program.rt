@@ -3,6 +3,7 @@ ghost use Rattle.std.specs.Prelude.{◌≡◌, ◌↔◌, [], IfErr, IfOk, IsErr
 ghost use Rattle.std.specs.Io.Buffered.{writer_buffer, writer_inner};
 ghost use Rattle.index_main.specs.Program.{HasLeft, IsFault, IsLineFault, Leaves, LetsOut, RunsBy, Writes};
 
+use crate::appending::{Appending, Before};
 use blink_command::Line;
 use blink_index::Index;
 use blink_run::{Open, ServeError, serve_index, serve_replay};
@@ -16,20 +17,21 @@ use std::thread::Threads;
 ///
 /// After the call the buffer is empty, unless the writer failed. Then the call refuses with `Output`, and nothing more is
 /// written.
-pub fn carry_out<T: Threads + Wait + Sync, R: Read, W: Write + Drop>(
+pub fn carry_out<B: Before, T: Threads + Wait + Sync, R: Read, W: Write + Drop>(
     rt: &T,
     alloc: Global,
     line: &Line,
     reader: &mut R,
-    output: &mut BufWriter<W>,
+    output: &mut BufWriter<Appending<B, W>>,
 ) -> Result<Option<Index>, ServeError>
-    requires { writer_buffer output.old ≡ [] }
+    requires empty { writer_buffer output.old ≡ [] }
+    requires picked { B.before ≡ W.contents (writer_inner output.old).inner }
     ensures written { OnOk result (Writes line.now (R.remaining reader.old)
-        (W.contents (writer_inner output.old)) (W.contents (writer_inner output.new))) }
+        (W.contents (writer_inner output.old).inner) (W.contents (writer_inner output.new).inner)) }
     ensures by_settings { IfOk result (RunsBy line.now (R.remaining reader.old)) }
     ensures fault { IfErr result (IsFault line.now (R.remaining reader.old)) }
     ensures left { IfErr result (λ error. LetsOut line.now (R.remaining reader.old) error
-        (W.contents (writer_inner output.old)) (W.contents (writer_inner output.new))) }
+        (W.contents (writer_inner output.old).inner) (W.contents (writer_inner output.new).inner)) }
     ensures emptied { HasLeft result (writer_buffer output.new) }
 {
     let outcome = served(rt, alloc, line, reader, output);
