@@ -1,1 +1,2 @@
+pub mod FirstBytesStay
 pub mod WhatIsFlushed

@@ -1,6 +1,6 @@
 -- What has left a buffer that was empty before: all that was written, where it is empty now, and else a beginning of it.
-use Rattle.std.proofs.Common.{◌≡◌, ◌⊎◌, ℕ, List, [], ◌∷◌, ◌++◌, Option, Some, None, Result, Ok, Err, IfErr, OnOk, refl, sym, ap, ◌∙◌, subst, inl, inr, append_assoc, append-nil}
-use Rattle.std.proofs.lemmas.List.{append_cancel_left}
+use Rattle.std.proofs.Common.{◌≡◌, ◌⊎◌, ℕ, drop, length, option_map, take, List, [], ◌∷◌, ◌++◌, Option, Some, None, Result, Ok, Err, IfErr, OnOk, refl, sym, ap, ◌∙◌, subst, inl, inr, append_assoc, append-nil}
+use Rattle.std.proofs.lemmas.List.{append_cancel_left, take-append-drop}
 use Rattle.std.specs.Io.KnownBytes.{Keeps, append_known}
 use Rattle.blink_batch.specs.declared.Part.TheVariants.{Batch}
 use Rattle.blink_batch.specs.{records_of}
@@ -92,19 +92,26 @@ record PrefixWritten (line : Line) (records : List (List (List ℕ))) (written :
 -- behind a buffer, a beginning of that has left, after what had left before
 prefix_left : (line : Line) (records : List (List (List ℕ))) (written buffer : List ℕ) (between after : Option (List ℕ)) → PrefixWritten line records written between → Keeps between (append_known after buffer)
     → BeginsWith (Some written) after → HasLeftPrefix line records written after
-prefix_left line records written buffer between after prefix keeps begins =
-    let same : append_known (Some (written ++ begins.0)) buffer ≡ Some (written ++ prefix.prefix) =
-    ap (λ (known : Option (List ℕ)). append_known known buffer) (sym begins.1) ∙ kept_as between (append_known after buffer) (written ++ prefix.prefix) prefix.known keeps in
-    let behind : (written ++ begins.0) ++ buffer ≡ written ++ prefix.prefix = cc in
-    let more : begins.0 ++ buffer ≡ prefix.prefix = append_cancel_left written (begins.0 ++ buffer) prefix.prefix (sym (append_assoc written begins.0 buffer) ∙ behind) in
-    record {
-      text = prefix.prefix ++ prefix.more;
-      its_text = prefix.its_text;
-      prefix = begins.0;
-      rest = buffer ++ prefix.more;
-      in_order = ap (λ (t : List ℕ). t ++ prefix.more) (sym more) ∙ append_assoc begins.0 buffer prefix.more;
-      known = begins.1;
-    }
+prefix_left line records written buffer between after prefix keeps begins = by_after after (kept_as between (append_known after buffer) (written ++ prefix.prefix) prefix.known keeps) (begins written refl)
+  where
+    by_after : (known : Option (List ℕ)) → append_known known buffer ≡ Some (written ++ prefix.prefix) → option_map (λ (all : List ℕ). take (length written) all) known ≡ Some written
+        → HasLeftPrefix line records written known
+    by_after None same first = absurd (cc same)
+    by_after (Some left) same first =
+        let front : take (length written) left ≡ written = cc first in
+        let more : List ℕ = drop (length written) left in
+        let whole : left ≡ written ++ more = sym (take-append-drop (length written) left) ∙ ap (λ (t : List ℕ). t ++ more) front in
+        let as_one : left ++ buffer ≡ written ++ prefix.prefix = cc same in
+        let behind : written ++ (more ++ buffer) ≡ written ++ prefix.prefix = sym (append_assoc written more buffer) ∙ ap (λ (t : List ℕ). t ++ buffer) (sym whole) ∙ as_one in
+        let same_prefix : more ++ buffer ≡ prefix.prefix = append_cancel_left written (more ++ buffer) prefix.prefix behind in
+        record {
+          text = prefix.prefix ++ prefix.more;
+          its_text = prefix.its_text;
+          prefix = more;
+          rest = buffer ++ prefix.more;
+          in_order = ap (λ (t : List ℕ). t ++ prefix.more) (sym same_prefix) ∙ append_assoc more buffer prefix.more;
+          known = ap (λ (t : List ℕ). Some t) whole;
+        }
 
 -- known bytes that aren't touched stay
 untouched : (known : Option (List ℕ)) → Keeps known known

@@ -1,12 +1,12 @@
 //! The program `blink`: it reads a script of operations on standard input and prints their answers.
 #![tactic(auto)]
+
 ghost use Rattle.std.specs.Prelude.{◌≡◌};
 
 mod appending;
 mod program;
 
 use appending::{Appending, Before};
-
 use blink_command::{Line, ProgramError, end_of, read_line};
 use program::carry_out;
 use std::alloc::Global;
