@@ -1,4 +1,5 @@
 pub mod IndexAsBox
+pub mod PagesAreFew
 pub mod RunOfBatch
 pub mod RunRefusals
 pub mod Found
