@@ -1,0 +1,101 @@
+//! The index and the table of libblink beside their peers: all workloads in one run, round by round, a process for each side.
+//!
+//! ```text
+//! beside                 measures all, and prints the tables as Markdown; out/bench has them, all figures and the plot
+//! beside README PLOT     also puts the tables between the markers of that file, and the plot into the other
+//! beside small           runs a little of every workload, to see that the answers are right, and prints nothing
+//! beside planted         the same with one wrong sum, which it has to find
+//! beside side NAME FILE  what a process of its own does: runs the cases of a file by this side
+//! beside batch ENTRIES   a batch of insertions into a BTreeMap, as the program `inside` runs one
+//! beside script make|run a script of 40,000 rows, or the answers to one from a BTreeMap; `make small` has 400
+//! ```
+
+mod map;
+mod ours;
+mod plan;
+mod plot;
+mod report;
+mod rounds;
+mod script;
+mod side;
+mod workload;
+
+use map::Map;
+use ours::{ByIndex, ByTable};
+use plan::Scale;
+use rounds::{measure, room};
+use std::error::Error;
+use std::path::Path;
+use std::sync::{Mutex, RwLock};
+use std::{env, fs};
+
+// The lines between which the tables stand.
+const BEGIN: &str = "<!-- begin of what bench/beside wrote -->\n";
+const END: &str = "<!-- end of what bench/beside wrote -->\n";
+
+fn side(name: &str, file: &Path) -> Result<(), Box<dyn Error>> {
+    match name {
+        "table 32" => side::work::<ByTable<32>>(file)?,
+        "table 16" => side::work::<ByTable<16>>(file)?,
+        "index 32" => side::work::<ByIndex<32>>(file)?,
+        "index 16" => side::work::<ByIndex<16>>(file)?,
+        "BTreeMap" => side::work::<Map>(file)?,
+        "Mutex" => side::work::<Mutex<Map>>(file)?,
+        "RwLock" => side::work::<RwLock<Map>>(file)?,
+        _ => return Err(format!("no side has this name: {name}").into()),
+    }
+    Ok(())
+}
+
+// Puts the tables between the markers of a document.
+fn put(document: &Path, tables: &str) -> Result<(), Box<dyn Error>> {
+    let text = fs::read_to_string(document)?;
+    let lacks = || format!("{} lacks the markers", document.display());
+    let begin = text.find(BEGIN).ok_or_else(lacks)? + BEGIN.len();
+    let end = text.find(END).ok_or_else(lacks)?;
+    fs::write(document, format!("{}\n{tables}\n{}", &text[..begin], &text[end..]))?;
+    Ok(())
+}
+
+fn all(into: Option<(&Path, &Path)>) -> Result<(), Box<dyn Error>> {
+    let measured = measure(Scale { small: false }, false)?;
+    let lines = report::lines(&measured);
+    let tables = report::markdown(&measured, &lines);
+    let plot = plot::svg(&lines, &measured.peers);
+    fs::write(room().join("tables.md"), &tables)?;
+    fs::write(room().join("figures.tsv"), report::figures(&measured, &lines))?;
+    fs::write(room().join("threads.svg"), &plot)?;
+    print!("{tables}");
+    if let Some((document, picture)) = into {
+        put(document, &tables)?;
+        fs::write(picture, &plot)?;
+    }
+    Ok(())
+}
+
+fn small(planted: bool) -> Result<(), Box<dyn Error>> {
+    let measured = measure(Scale { small: true }, planted)?;
+    // The tables and the plot are made, so that they can't break unseen.
+    let lines = report::lines(&measured);
+    report::markdown(&measured, &lines);
+    report::figures(&measured, &lines);
+    plot::svg(&lines, &measured.peers);
+    Ok(())
+}
+
+fn main() -> Result<(), Box<dyn Error>> {
+    let words: Vec<String> = env::args().skip(1).collect();
+    let words: Vec<&str> = words.iter().map(String::as_str).collect();
+    match words.as_slice() {
+        [] => all(None),
+        ["small"] => small(false),
+        ["planted"] => small(true),
+        ["side", name, file] => side(name, Path::new(file)),
+        ["batch", entries] => script::batch(entries.parse()?),
+        ["script", "make"] => script::make(3_999),
+        ["script", "make", "small"] => script::make(39),
+        ["script", "run"] => script::run(),
+        [document, picture] => all(Some((Path::new(document), Path::new(picture)))),
+        _ => Err("see the head of src/main.rs".into()),
+    }
+}
