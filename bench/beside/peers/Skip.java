@@ -13,7 +13,7 @@ import java.util.concurrent.atomic.AtomicInteger;
 final class Skip {
     static final int FIND = 0, INSERT = 1, DELETE = 2, REPLACE = 3, SCAN = 4;
     static final long MANY = 2, ABSENT = 1, INSERTED = 2, SAME = -1;
-    static final int WARM_UPS = 4;
+    static final int WARM_UPS = 2;
 
     // The steps of a thread: three words each.
     record Phase(long mode, long[][] threads) {}

@@ -3,6 +3,8 @@
 //! ```text
 //! beside                 measures all, and prints the tables as Markdown; out/bench has them, all figures and the plot
 //! beside README PLOT     also puts the tables between the markers of that file, and the plot into the other
+//! beside again FIGURES [README PLOT]
+//!                        tells again what was measured, of the file of all figures
 //! beside small           runs a little of every workload, to see that the answers are right, and prints nothing
 //! beside planted         the same with one wrong sum, which it has to find
 //! beside side NAME FILE  what a process of its own does: runs the cases of a file by this side
@@ -23,6 +25,7 @@ mod workload;
 use map::Map;
 use ours::{ByIndex, ByTable};
 use plan::Scale;
+use report::Report;
 use rounds::{measure, room};
 use std::error::Error;
 use std::path::Path;
@@ -57,29 +60,31 @@ fn put(document: &Path, tables: &str) -> Result<(), Box<dyn Error>> {
     Ok(())
 }
 
-fn all(into: Option<(&Path, &Path)>) -> Result<(), Box<dyn Error>> {
-    let measured = measure(Scale { small: false }, false)?;
-    let lines = report::lines(&measured);
-    let tables = report::markdown(&measured, &lines);
-    let plot = plot::svg(&lines, &measured.peers);
+// Writes and prints the report, and puts it into a document and a picture, where they are named.
+fn tell(report: &Report, into: Option<(&str, &str)>) -> Result<(), Box<dyn Error>> {
+    let (tables, plot) = (report::markdown(report), plot::svg(report));
     fs::write(room().join("tables.md"), &tables)?;
-    fs::write(room().join("figures.tsv"), report::figures(&measured, &lines))?;
+    fs::write(room().join("figures.tsv"), report::figures(report))?;
     fs::write(room().join("threads.svg"), &plot)?;
     print!("{tables}");
     if let Some((document, picture)) = into {
-        put(document, &tables)?;
+        put(Path::new(document), &tables)?;
         fs::write(picture, &plot)?;
     }
     Ok(())
 }
 
+fn all(into: Option<(&str, &str)>) -> Result<(), Box<dyn Error>> {
+    tell(&Report::of(&measure(Scale { small: false }, false)?), into)
+}
+
 fn small(planted: bool) -> Result<(), Box<dyn Error>> {
-    let measured = measure(Scale { small: true }, planted)?;
     // The tables and the plot are made, so that they can't break unseen.
-    let lines = report::lines(&measured);
-    report::markdown(&measured, &lines);
-    report::figures(&measured, &lines);
-    plot::svg(&lines, &measured.peers);
+    let report = Report::of(&measure(Scale { small: true }, planted)?);
+    let again = Report::read(&report::figures(&report))?;
+    if report::figures(&again) != report::figures(&report) || report::markdown(&again).is_empty() || plot::svg(&again).is_empty() {
+        return Err("figures are read otherwise than they were written".into());
+    }
     Ok(())
 }
 
@@ -95,7 +100,9 @@ fn main() -> Result<(), Box<dyn Error>> {
         ["script", "make"] => script::make(3_999),
         ["script", "make", "small"] => script::make(39),
         ["script", "run"] => script::run(),
-        [document, picture] => all(Some((Path::new(document), Path::new(picture)))),
+        ["again", figures] => tell(&Report::read(&fs::read_to_string(figures)?)?, None),
+        ["again", figures, document, picture] => tell(&Report::read(&fs::read_to_string(figures)?)?, Some((document, picture))),
+        [document, picture] => all(Some((document, picture))),
         _ => Err("see the head of src/main.rs".into()),
     }
 }

@@ -26,8 +26,7 @@ pub struct Row {
 
 /// Cases that one process of each side runs, one after another.
 pub struct Group {
-    pub name: String,
-    pub rounds: usize,
+    pub name: &'static str,
     pub cases: Vec<Case>,
     pub expected: Vec<Expected>,
     pub rows: Vec<Row>,
@@ -78,18 +77,19 @@ impl Scale {
         }
     }
 
-    fn rounds(self, count: usize) -> usize {
+    /// How often everything is measured.
+    pub fn rounds(self) -> usize {
         if self.small {
             1
         } else {
-            count
+            3
         }
     }
 }
 
 impl Group {
-    fn new(name: &str, rounds: usize) -> Group {
-        Group { name: name.to_string(), rounds, cases: Vec::new(), expected: Vec::new(), rows: Vec::new() }
+    fn new(name: &'static str) -> Group {
+        Group { name, cases: Vec::new(), expected: Vec::new(), rows: Vec::new() }
     }
 
     // Adds a case, and rows of it: a workload, the entries, and the figure.
@@ -112,34 +112,11 @@ impl Group {
         self.expected.push(expected);
     }
 
-    // Finds, glances and scans of a map that nobody changes.
-    fn add_looks(&mut self, mut model: Model, entries: &str, size: usize, scale: Scale, threads: &[usize]) {
-        let count = scale.of(200_000);
-        // Keys in no order and few enough for a table are loaded by cases of their own.
-        let mut rows = vec![(LOAD, Figure::Begin)];
-        for (mode, workload) in [(Mode::Own, FIND), (Mode::Any, GLANCE)] {
-            for &threads in threads {
-                model.finds(mode, threads, count);
-                rows.push((workload, Figure::Phase(rows.len() - 1)));
-            }
-        }
-        model.finds(Mode::Many, 1, count);
-        rows.push((MANY, Figure::Phase(rows.len() - 1)));
-        let all = 400_000usize.div_ceil(size);
-        for (length, scans, workload) in [(10, 20_000, SCAN_10), (1_000, 400, SCAN_1000), (usize::MAX, all, SCAN_ALL)] {
-            model.scans(length.min(size), if scale.small { 2 } else { scans });
-            rows.push((workload, Figure::Phase(rows.len() - 1)));
-        }
-        let loads_alone = self.name.starts_with("random") && threads.len() == THREADS.len() && size <= 40_000;
-        self.add(model, entries, &rows[usize::from(loads_alone)..]);
-    }
-
     // A mix by each number of threads, each on a map of its own.
     fn add_mixes(&mut self, base: &Model, entries: &str, workload: &'static str, mix: Mix, count: usize, threads: &[usize]) {
         for &threads in threads {
             let mut model = base.again();
-            model.mixed(mix, threads, count);
-            let mut rows = vec![(workload, Figure::Phase(0))];
+            let mut rows = vec![(workload, Figure::Phase(model.mixed(mix, threads, count)))];
             if workload == MIXED_80 && entries == "40,000" && threads == 1 {
                 rows.extend([(OPEN, Figure::Beside("open")), (CLOSE, Figure::Beside("close"))]);
             }
@@ -148,90 +125,98 @@ impl Group {
     }
 }
 
-// Keys that were inserted at random: looks, loads, and each mix.
-fn random(size: usize, entries: &str, scale: Scale, all_mixes: bool) -> Group {
-    let mut group = Group::new(&format!("random-{size}"), scale.rounds(5));
-    let keys = Keys::random(scale.of(size), scale.of(size / 2));
-    group.add_looks(Model::new(&keys), entries, scale.of(size), scale, &THREADS);
-    for threads in [2, 4, 8] {
-        let mut model = Model::empty(&keys);
-        model.load(threads);
-        group.add(model, entries, &[(LOAD, Figure::Phase(0))]);
+// Adds finds, glances and scans to a map's life, and returns their rows. The first finds are told nowhere: what the making of the map left
+// in the caches is another for each side.
+fn looks(model: &mut Model, scale: Scale, threads: &[usize]) -> Vec<(&'static str, Figure)> {
+    let (count, size) = (scale.of(200_000), model.len());
+    model.finds(Mode::Any, 1, count);
+    let mut rows = Vec::new();
+    for (mode, workload) in [(Mode::Own, FIND), (Mode::Any, GLANCE)] {
+        for &threads in threads {
+            rows.push((workload, Figure::Phase(model.finds(mode, threads, count))));
+        }
     }
-    let mut model = Model::empty(&keys);
-    model.load(1);
-    group.add(model, entries, &[(LOAD, Figure::Phase(0))]);
-    let base = Model::new(&keys);
-    let count = scale.of(5 * size.min(40_000));
-    group.add_mixes(&base, entries, MIXED_80, Mix::changes(80, 10, 10), count, &THREADS);
-    group.add_mixes(&base, entries, REPLACE, Mix::changes(0, 0, 0), count, &THREADS);
-    if all_mixes {
-        group.add_mixes(&base, entries, MIXED_90, Mix::changes(90, 5, 5), count, &THREADS);
-        group.add_mixes(&base, entries, MIXED_50, Mix::changes(50, 25, 25), count * 2 / 5, &THREADS);
+    rows.push((MANY, Figure::Phase(model.finds(Mode::Many, 1, count))));
+    let all = 400_000usize.div_ceil(size);
+    for (length, scans, workload) in [(10, 20_000, SCAN_10), (1_000, 400, SCAN_1000), (usize::MAX, all, SCAN_ALL)] {
+        let scans = if scale.small { 2 } else { scans };
+        rows.push((workload, Figure::Phase(model.scans(length.min(size), scans))));
     }
-    group
+    rows
 }
 
-// A million keys. Their maps take so long to make that one goes through the mix by all numbers of threads, one after another.
-fn million(scale: Scale) -> Group {
-    let mut group = Group::new("random-1000000", scale.rounds(3));
-    let size = scale.of(1_000_000);
-    let keys = Keys::random(size, scale.of(50_000));
+// Keys that were inserted at random: looks, loads, and each mix.
+fn random(group: &mut Group, size: usize, entries: &str, scale: Scale) {
+    let keys = Keys::random(scale.of(size), scale.of(size / 2));
     let base = Model::new(&keys);
-    group.add_looks(base.again(), "1,000,000", size, scale, &THREADS);
     let mut model = base.again();
+    let rows = looks(&mut model, scale, &THREADS);
+    group.add(model, entries, &rows);
     for threads in THREADS {
-        model.mixed(Mix::changes(80, 10, 10), threads, scale.of(50_000));
+        let mut model = Model::empty(&keys);
+        let load = model.load(threads);
+        group.add(model, entries, &[(LOAD, Figure::Phase(load))]);
     }
-    let rows: Vec<_> = (0..THREADS.len()).map(|place| (MIXED_80, Figure::Phase(place))).collect();
+    let count = scale.of(5 * size);
+    group.add_mixes(&base, entries, MIXED_80, Mix::changes(80, 10, 10), count, &THREADS);
+    group.add_mixes(&base, entries, REPLACE, Mix::changes(0, 0, 0), count, &THREADS);
+    group.add_mixes(&base, entries, MIXED_90, Mix::changes(90, 5, 5), count, &THREADS);
+    group.add_mixes(&base, entries, MIXED_50, Mix::changes(50, 25, 25), count * 2 / 5, &THREADS);
+}
+
+// A million keys. A map of them takes so long to make that one goes through all, one after another.
+fn million(group: &mut Group, scale: Scale) {
+    let mut model = Model::new(&Keys::random(scale.of(1_000_000), scale.of(50_000)));
+    let mut rows = looks(&mut model, scale, &THREADS);
+    for threads in THREADS {
+        let mixed = model.mixed(Mix::changes(80, 10, 10), threads, scale.of(50_000));
+        rows.push((MIXED_80, Figure::Phase(mixed)));
+    }
+    rows.push((LOAD, Figure::Begin));
     group.add(model, "1,000,000", &rows);
-    group
 }
 
 // The same keys, inserted from the least to the greatest.
-fn ascending(size: usize, entries: &str, scale: Scale, rounds: usize) -> Group {
-    let mut group = Group::new(&format!("ascending-{size}"), scale.rounds(rounds));
-    let keys = Keys::ascending(scale.of(size));
-    group.add_looks(Model::new(&keys), entries, scale.of(size), scale, &[1, 4]);
-    group
+fn ascending(group: &mut Group, size: usize, entries: &str, scale: Scale) {
+    let mut model = Model::new(&Keys::ascending(scale.of(size)));
+    let mut rows = looks(&mut model, scale, &[1, 4]);
+    rows.push((LOAD, Figure::Begin));
+    group.add(model, entries, &rows);
 }
 
 // Where threads meet: in the same leaves, and all in one.
-fn meeting(scale: Scale) -> Group {
-    let mut group = Group::new("meeting", scale.rounds(5));
+fn meeting(group: &mut Group, scale: Scale) {
     let near = Model::new(&Keys::side_by_side(1_000, 250));
     group.add_mixes(&near, "1,000", NEAR, Mix::changes(80, 10, 10), scale.of(100_000), &THREADS);
     let leaf = Model::new(&Keys::side_by_side(16, 0));
     group.add_mixes(&leaf, "16", LEAF, Mix::changes(50, 0, 0), scale.of(200_000), &THREADS);
-    group
 }
 
 // A map that lives long and stays as large as it is. A table takes 47,662 insertions in all, so most of these changes are replacements.
-fn long(scale: Scale) -> Group {
-    let mut group = Group::new("long", scale.rounds(3));
+fn long(group: &mut Group, scale: Scale) {
     let base = Model::new(&Keys::random(scale.of(40_000), scale.of(20_000)));
     group.add_mixes(&base, "40,000", LONG, Mix::changes(0, 2, 2), scale.of(1_000_000), &[1, 4]);
-    group
 }
 
 /// All groups.
 pub fn groups(scale: Scale) -> Vec<Group> {
-    vec![
-        random(10_000, "10,000", scale, false),
-        random(40_000, "40,000", scale, true),
-        million(scale),
-        ascending(10_000, "10,000 ascending", scale, 5),
-        ascending(40_000, "40,000 ascending", scale, 5),
-        ascending(1_000_000, "1,000,000 ascending", scale, 3),
-        meeting(scale),
-        long(scale),
-    ]
+    let mut groups = ["random", "million", "ascending", "meeting"].map(Group::new);
+    let [few, many, sorted, others] = &mut groups;
+    random(few, 10_000, "10,000", scale);
+    random(few, 40_000, "40,000", scale);
+    million(many, scale);
+    ascending(sorted, 10_000, "10,000 ascending", scale);
+    ascending(sorted, 40_000, "40,000 ascending", scale);
+    ascending(sorted, 1_000_000, "1,000,000 ascending", scale);
+    meeting(others, scale);
+    long(others, scale);
+    groups.into()
 }
 
 /// What a side whose code is compiled while it runs runs first.
 pub fn warm_up() -> Group {
-    let mut group = random(5_000, "5,000", Scale { small: false }, true);
-    let leaf = Model::new(&Keys::side_by_side(16, 0));
-    group.add_mixes(&leaf, "16", LEAF, Mix::changes(50, 0, 0), 20_000, &[2]);
+    let mut group = Group::new("warm");
+    random(&mut group, 5_000, "5,000", Scale { small: false });
+    meeting(&mut group, Scale { small: false });
     group
 }

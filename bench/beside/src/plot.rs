@@ -1,19 +1,18 @@
 //! A plot of nanoseconds an operation by threads, as SVG: two panels with one line a side.
 
 use crate::plan::{FIND, MIXED_80};
-use crate::report::{Line, Spread};
-use crate::rounds::Peer;
+use crate::report::{Report, Spread};
 use std::fmt::Write;
 
 const THREADS: [usize; 4] = [1, 2, 4, 8];
 const ENTRIES: &str = "40,000";
 
 // A panel's frame, in pixels.
-const WIDTH: f64 = 470.0;
+const WIDTH: f64 = 520.0;
 const LEFT: f64 = 52.0;
 const RIGHT: f64 = 348.0;
-const TOP: f64 = 62.0;
-const BOTTOM: f64 = 372.0;
+const TOP: f64 = 66.0;
+const BOTTOM: f64 = 376.0;
 const HEIGHT: f64 = 430.0;
 /// How far apart the names at the lines' ends stand at least.
 const APART: f64 = 16.0;
@@ -51,16 +50,16 @@ struct Curve<'a> {
     points: Vec<(usize, Spread)>,
 }
 
-fn curves<'a>(lines: &[Line], peers: &'a [Peer], workload: &str) -> Vec<Curve<'a>> {
+fn curves<'a>(report: &'a Report, workload: &str) -> Vec<Curve<'a>> {
     let of = |threads: usize| {
-        lines.iter().find(move |line| line.workload == workload && line.entries == ENTRIES && line.threads == threads)
+        report.lines.iter().find(move |line| line.workload == workload && line.entries == ENTRIES && line.threads == threads)
     };
     let mut curves = Vec::new();
-    for (column, peer) in peers.iter().enumerate() {
+    for (column, side) in report.sides.iter().enumerate() {
         let spread = |&threads: &usize| Some((threads, of(threads)?.columns[column]?));
         let points: Vec<_> = THREADS.iter().filter_map(spread).collect();
         if points.len() == THREADS.len() {
-            curves.push(Curve { name: peer.name, points });
+            curves.push(Curve { name: side, points });
         }
     }
     curves
@@ -97,7 +96,9 @@ fn steps() -> Vec<f64> {
 }
 
 fn frame(text: &mut String, title: &str, scale: &Scale) {
-    _ = writeln!(text, r##"<text x="{LEFT}" y="36" font-size="15" font-weight="bold">{title}</text>"##);
+    _ = writeln!(text, r##"<text x="{LEFT}" y="28" font-size="15" font-weight="bold">{title}</text>"##);
+    let unit = format!("nanoseconds an operation, all threads together; {ENTRIES} entries; less is better");
+    _ = writeln!(text, r##"<text x="{LEFT}" y="47" font-size="11" fill="#555">{unit}</text>"##);
     for step in steps().into_iter().filter(|step| *step >= scale.least && *step <= scale.greatest) {
         let y = scale.y(step);
         _ = writeln!(text, r##"<line x1="{LEFT}" x2="{RIGHT}" y1="{y:.1}" y2="{y:.1}" stroke="#e3e3e3"/>"##);
@@ -156,17 +157,17 @@ fn panel(text: &mut String, title: &str, curves: &[Curve]) {
 }
 
 /// The plot of finds, and of 80 finds, 10 insertions and 10 deletions, on 40,000 entries.
-pub fn svg(lines: &[Line], peers: &[Peer]) -> String {
+pub fn svg(report: &Report) -> String {
     let mut text = String::new();
-    let width = 2.0 * WIDTH + 20.0;
+    let width = 2.0 * WIDTH;
     _ = writeln!(
         text,
         r##"<svg xmlns="http://www.w3.org/2000/svg" viewBox="0 0 {width} {HEIGHT}" width="{width}" height="{HEIGHT}" font-family="Helvetica, Arial, sans-serif" font-size="12">"##
     );
     _ = writeln!(text, r##"<rect width="{width}" height="{HEIGHT}" fill="#ffffff"/>"##);
-    for (place, (title, workload)) in [("Finds: ns each", FIND), ("80 finds, 10 insertions, 10 deletions: ns each", MIXED_80)].iter().enumerate() {
-        _ = writeln!(text, r##"<g transform="translate({:.0} 0)">"##, place as f64 * (WIDTH + 20.0));
-        panel(&mut text, title, &curves(lines, peers, workload));
+    for (place, (title, workload)) in [("A find", FIND), ("Of a hundred, 80 finds, 10 insertions and 10 deletions", MIXED_80)].iter().enumerate() {
+        _ = writeln!(text, r##"<g transform="translate({:.0} 0)">"##, place as f64 * WIDTH);
+        panel(&mut text, title, &curves(report, workload));
         text.push_str("</g>\n");
     }
     text.push_str("</svg>\n");

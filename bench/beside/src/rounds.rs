@@ -196,8 +196,8 @@ pub fn measure(scale: Scale, planted: bool) -> Result<Measured, Box<dyn Error>> 
     }
     let peers = peers(planted)?;
     let mut figures = Figures::new();
-    for round in 0..groups.iter().map(|group| group.rounds).max().unwrap_or(0) {
-        for (number, (group, file)) in groups.iter().zip(&files).enumerate().filter(|it| round < it.1 .0.rounds) {
+    for round in 0..scale.rounds() {
+        for (number, (group, file)) in groups.iter().zip(&files).enumerate() {
             for turn in 0..peers.len() {
                 let column = (turn + round) % peers.len();
                 let told = run(&peers[column], group, file, &warm)?;
@@ -209,7 +209,7 @@ pub fn measure(scale: Scale, planted: bool) -> Result<Measured, Box<dyn Error>> 
             }
         }
         if !scale.small {
-            eprintln!("round {} is measured", round + 1);
+            eprintln!("round {} of {} is measured", round + 1, scale.rounds());
         }
     }
     for file in files.iter().chain([&warm]) {

@@ -176,6 +176,11 @@ impl Model {
         }
     }
 
+    /// How many entries it begins with.
+    pub fn len(&self) -> usize {
+        self.entries.len()
+    }
+
     /// A map that is empty at first, and these keys to be inserted.
     pub fn empty(keys: &Keys) -> Model {
         let absent = Keys { present: Vec::new(), absent: keys.present.clone() };
@@ -196,13 +201,15 @@ impl Model {
         }
     }
 
-    fn push(&mut self, mode: Mode, threads: Vec<Vec<Step>>, sum: u64) {
+    // Adds a phase, and returns its place.
+    fn push(&mut self, mode: Mode, threads: Vec<Vec<Step>>, sum: u64) -> usize {
         self.phases.push(Phase { mode, threads });
         self.answers.push(sum);
+        self.phases.len() - 1
     }
 
-    /// Insertions of all keys, each thread's own.
-    pub fn load(&mut self, threads: usize) {
+    /// Insertions of all keys, each thread's own. This and the next return the phase's place.
+    pub fn load(&mut self, threads: usize) -> usize {
         let mut lanes = vec![Vec::new(); threads];
         let keys = std::mem::take(&mut self.absent);
         for (place, &key) in keys.iter().enumerate() {
@@ -210,11 +217,11 @@ impl Model {
             lanes[place % threads].push(Step { kind: INSERT, key, pointer });
             self.map.insert(key, pointer);
         }
-        self.push(Mode::Own, lanes, INSERTED.wrapping_mul(keys.len() as u64));
+        self.push(Mode::Own, lanes, INSERTED.wrapping_mul(keys.len() as u64))
     }
 
     /// Finds of keys that are there: each thread's own, or any.
-    pub fn finds(&mut self, mode: Mode, threads: usize, count: usize) {
+    pub fn finds(&mut self, mode: Mode, threads: usize, count: usize) -> usize {
         let keys: Vec<u64> = self.entries.iter().map(|entry| entry.0).collect();
         let mut sum = 0u64;
         let lanes = (0..threads)
@@ -232,11 +239,11 @@ impl Model {
                     .collect()
             })
             .collect();
-        self.push(mode, lanes, sum);
+        self.push(mode, lanes, sum)
     }
 
     /// Scans of so many entries, or fewer where the map ends, by one thread.
-    pub fn scans(&mut self, length: usize, count: usize) {
+    pub fn scans(&mut self, length: usize, count: usize) -> usize {
         let mut sorted: Vec<(u64, u64)> = self.map.iter().map(|(&key, &pointer)| (key, pointer)).collect();
         sorted.sort_unstable();
         let mut sum = 0u64;
@@ -249,12 +256,12 @@ impl Model {
                 Step { kind: SCAN, key: sorted[first].0, pointer: length as u64 }
             })
             .collect();
-        self.push(Mode::Scan, vec![steps], sum);
+        self.push(Mode::Scan, vec![steps], sum)
     }
 
     /// Operations of a mix, each thread on keys of its own. A find, a deletion and a replacement are of a key that is there, and an
     /// insertion of one that isn't; where a thread has none of these, it does the opposite.
-    pub fn mixed(&mut self, mix: Mix, threads: usize, count: usize) {
+    pub fn mixed(&mut self, mix: Mix, threads: usize, count: usize) -> usize {
         let mut lanes: Vec<Lane> = (0..threads).map(|_| Lane::default()).collect();
         for (place, &key) in self.keys.iter().enumerate() {
             let lane = &mut lanes[place % threads];
@@ -266,7 +273,7 @@ impl Model {
                 sum = sum.wrapping_add(draw(lane, mix, &mut self.random, &mut self.map));
             }
         }
-        self.push(Mode::Own, lanes.into_iter().map(|lane| lane.steps).collect(), sum);
+        self.push(Mode::Own, lanes.into_iter().map(|lane| lane.steps).collect(), sum)
     }
 
     pub fn end(self) -> (Case, Expected) {
