@@ -53,8 +53,9 @@ if [ ! -x "$blink" ]; then
     echo "$0: no built blink, so its script was not tried" >&2
     exit 0
 fi
-beside script make small >"$work/rows"
-beside script run <"$work/rows" >"$work/expected"
+script=$top/bench/beside/target/debug/beside
+"$script" script make small >"$work/rows"
+"$script" script run <"$work/rows" >"$work/expected"
 for driver in locked live; do
     "$blink" run --driver $driver --workers 2 <"$work/rows" >"$work/printed"
     cmp "$work/printed" "$work/expected"

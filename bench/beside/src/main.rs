@@ -2,8 +2,10 @@
 //!
 //! ```text
 //! beside                 measures all, and prints the tables as Markdown; out/bench has them, all figures and the plot
-//! beside README PLOT     also puts the tables between the markers of that file, and the plot into the other
-//! beside again FIGURES [README PLOT]
+//! beside TABLES SHORT PLOT ALL
+//!                        also puts the tables between the markers of the first file, the ratios that most callers want between those of
+//!                        the second, the plot into the third, and all figures into the fourth
+//! beside again FIGURES [TABLES SHORT PLOT ALL]
 //!                        tells again what was measured, of the file of all figures
 //! beside small           runs a little of every workload, to see that the answers are right, and prints nothing
 //! beside planted         the same with one wrong sum, which it has to find
@@ -60,21 +62,27 @@ fn put(document: &Path, tables: &str) -> Result<(), Box<dyn Error>> {
     Ok(())
 }
 
-// Writes and prints the report, and puts it into a document and a picture, where they are named.
-fn tell(report: &Report, into: Option<(&str, &str)>) -> Result<(), Box<dyn Error>> {
-    let (tables, plot) = (report::markdown(report), plot::svg(report));
+// The documents that tables and short table are put into, and the files of the plot and of all figures.
+type Into<'a> = [&'a str; 4];
+
+// Writes and prints the report, and puts it into documents and a picture, where they are named.
+fn tell(report: &Report, into: Option<Into>) -> Result<(), Box<dyn Error>> {
+    let (tables, short, plot) = (report::markdown(report), report::summary(report), plot::svg(report));
     fs::write(room().join("tables.md"), &tables)?;
+    fs::write(room().join("short.md"), &short)?;
     fs::write(room().join("figures.tsv"), report::figures(report))?;
     fs::write(room().join("threads.svg"), &plot)?;
-    print!("{tables}");
-    if let Some((document, picture)) = into {
+    print!("{short}\n{tables}");
+    if let Some([document, other, picture, all]) = into {
         put(Path::new(document), &tables)?;
+        put(Path::new(other), &short)?;
         fs::write(picture, &plot)?;
+        fs::write(all, report::figures(report))?;
     }
     Ok(())
 }
 
-fn all(into: Option<(&str, &str)>) -> Result<(), Box<dyn Error>> {
+fn all(into: Option<Into>) -> Result<(), Box<dyn Error>> {
     tell(&Report::of(&measure(Scale { small: false }, false)?), into)
 }
 
@@ -82,7 +90,7 @@ fn small(planted: bool) -> Result<(), Box<dyn Error>> {
     // The tables and the plot are made, so that they can't break unseen.
     let report = Report::of(&measure(Scale { small: true }, planted)?);
     let again = Report::read(&report::figures(&report))?;
-    if report::figures(&again) != report::figures(&report) || report::markdown(&again).is_empty() || plot::svg(&again).is_empty() {
+    if report::figures(&again) != report::figures(&report) || report::markdown(&again).is_empty() || report::summary(&again).is_empty() || plot::svg(&again).is_empty() {
         return Err("figures are read otherwise than they were written".into());
     }
     Ok(())
@@ -101,8 +109,10 @@ fn main() -> Result<(), Box<dyn Error>> {
         ["script", "make", "small"] => script::make(39),
         ["script", "run"] => script::run(),
         ["again", figures] => tell(&Report::read(&fs::read_to_string(figures)?)?, None),
-        ["again", figures, document, picture] => tell(&Report::read(&fs::read_to_string(figures)?)?, Some((document, picture))),
-        [document, picture] => all(Some((document, picture))),
+        ["again", figures, document, other, picture, all] => {
+            tell(&Report::read(&fs::read_to_string(figures)?)?, Some([document, other, picture, all]))
+        }
+        [document, other, picture, figures] => all(Some([document, other, picture, figures])),
         _ => Err("see the head of src/main.rs".into()),
     }
 }
