@@ -1,7 +1,7 @@
 #!/bin/sh
 # Compiles every program of bench/ and runs each once, small, so that none can stop compiling or answer wrongly unseen. Nothing is proved
 # here: bench/inside.sh, bench/soak.sh and bench/refuse.sh prove what they run. It says nothing where all is well, but names what it left
-# out: without cargo or out/libblink.a the benchmark beside the peers; without g++, javac or a peer's library that peer; without a built
+# out: without cargo, cc or out/libblink.a the benchmark beside the peers; without g++, javac or a peer's library that peer; without a built
 # `blink` the script.
 set -eu
 top=$(cd "$(dirname "$0")/.." && pwd)
@@ -33,8 +33,8 @@ if ! (cd "$work/crates/programs" && rt try --test) >"$work/told" 2>&1; then
     exit 1
 fi
 
-if ! command -v cargo >/dev/null 2>&1 || [ ! -e "$top/out/libblink.a" ]; then
-    echo "$0: no cargo, or no out/libblink.a, so bench/beside was not tried" >&2
+if ! command -v cargo >/dev/null 2>&1 || ! command -v cc >/dev/null 2>&1 || [ ! -e "$top/out/libblink.a" ]; then
+    echo "$0: no cargo, no cc, or no out/libblink.a, so bench/beside was not tried" >&2
     exit 0
 fi
 beside() {

@@ -3,7 +3,7 @@
 use crate::workload::{self, with_content, Case, Mode, Phase, Step, ABSENT, DELETE, FIND, INSERT, INSERTED, REPLACE};
 use std::io;
 use std::path::Path;
-use std::sync::Barrier;
+use std::sync::atomic::{AtomicUsize, Ordering};
 use std::thread;
 use std::time::Instant;
 
@@ -70,15 +70,19 @@ pub fn timed<H: Handle>(handles: &mut [H], phase: &Phase) -> (u64, u64) {
         return (start.elapsed().as_nanos() as u64, sum);
     }
     let begin = Instant::now();
-    let barrier = Barrier::new(handles.len());
+    // All wait awake, so that none is late by a wake-up.
+    let (count, ready) = (handles.len(), AtomicUsize::new(0));
     let ended: Vec<(u64, u64, u64)> = thread::scope(|scope| {
         let running: Vec<_> = handles
             .iter_mut()
             .zip(&phase.threads)
             .map(|(handle, steps)| {
-                let barrier = &barrier;
+                let ready = &ready;
                 scope.spawn(move || {
-                    barrier.wait();
+                    ready.fetch_add(1, Ordering::SeqCst);
+                    while ready.load(Ordering::SeqCst) < count {
+                        thread::yield_now();
+                    }
                     let start = begin.elapsed().as_nanos() as u64;
                     let sum = answer(handle, phase.mode, steps);
                     (start, begin.elapsed().as_nanos() as u64, sum)
