@@ -2,13 +2,20 @@
 # Proves and builds a crate, and before it each crate that it stands on, side by side. What is built already of the same sources by the
 # same toolchain is kept, so a build that was stopped goes on where it was. Standard error is told how it gets on.
 #
-#     build.sh CRATE NAME     a program as crates/CRATE/out/CRATE, a static library as libCRATE.a there, another library as
-#                             rlib/CRATE.rlib there; NAME is what the lines begin with
+#     build.sh CRATE NAME             a program as crates/CRATE/out/CRATE, a static library as libCRATE.a there, another library as
+#                                     rlib/CRATE.rlib there; NAME is what the lines begin with
+#     build.sh --after-ci CRATE NAME  the same over the libraries that `rt ci` left, so that CRATE alone is proved; where one of them
+#                                     isn't there, or is older than its sources, as without the word
 #
 # It calls `rattle` and not `rt lib`, for one flag: with --statements a library holds what it states and not its proofs, as under `rt ci`,
 # and what stands above it loads a fraction.
 set -eu
 top=$(cd "$(dirname "$0")" && pwd)
+after_ci=
+if [ "$1" = --after-ci ]; then
+    after_ci=yes
+    shift
+fi
 crate=$1
 name=$2
 kit=$(cd "$(dirname "$(rt doc)")" && pwd)
@@ -173,6 +180,29 @@ stop() {
     done
     kill "$1" 2>/dev/null || true
 }
+
+# Whether each library below a crate is there, and no source of it is newer.
+is_proved_below() {
+    for it in $(all_below "$1"); do
+        if [ ! -e "$it/out/rlib/$it.rlib/format" ] ||
+            [ -n "$(find "$it/src" "$it/specs" "$it/proofs" -type f -newer "$it/out/rlib/$it.rlib/format" 2>/dev/null | head -n 1)" ]; then
+            return 1
+        fi
+    done
+}
+
+if [ -n "$after_ci" ] && is_proved_below "$crate"; then
+    log=$(mktemp)
+    mkdir -p "$crate/out"
+    if ! make_crate "$crate" >"$log" 2>&1; then
+        cat "$log" >&2
+        rm "$log"
+        echo "$name: it could not be built" >&2
+        exit 1
+    fi
+    rm "$log"
+    exit 0
+fi
 
 crates="$(all_below "$crate") $crate"
 count=$(echo "$crates" | wc -w)

@@ -1,6 +1,6 @@
 #!/bin/sh
-# Refuses each request for memory that a public call makes, one a run: proves and builds the tests of refuse/ over a copy
-# of the repository, and runs each with refuse.c loaded before the C library. First it runs without a refusal, which
+# Refuses each request for memory that a public call makes, one a run: proves and builds the tests of refuse/ over
+# copies of the crates that they stand on, and runs each with refuse.c loaded before the C library. First it runs without a refusal, which
 # tells how many requests each call makes; then each of them is refused in turn. Where a call starts threads its requests vary
 # with their schedule, so the numbers go to twice that count, each in several runs, and the start of a thread counts as a
 # request too.
@@ -10,12 +10,11 @@
 # and how the runs ended. It exits with 1 where a run ended in another way, or where a request that a run without a refusal
 # makes was never refused. The names of some tests may be given, and then only these are tried.
 #
-# It needs a C compiler, cc, and the GNU C library. The copy takes along what checks of the crates kept in out/, and then it
+# It needs a C compiler, cc, and the GNU C library. The copies take along what checks of the crates kept in out/, and then it
 # takes some 18 minutes; where nothing was kept, each is proved from nothing first, which takes far longer. Run it while no
 # check of them runs.
 set -eu
 here=$(cd "$(dirname "$0")" && pwd)
-repository=$here/..
 tries=10
 most_tries=200
 all='read_script cuts index replay world deal close serve_replay run_batch serve'
@@ -24,8 +23,7 @@ trap 'rm -rf "$work"' EXIT
 trap 'exit 1' HUP INT TERM
 cd "$work"
 cc -shared -fPIC -O2 -o refuse.so "$here/refuse.c"
-cp -R "$repository/HANDLES" "$repository/crates.txt" "$repository/crates" .
-sh "$here/refuse/crate.sh" "$here/refuse" .
+sh "$here/crate.sh" refusals . "$here/refuse"
 tests=crates/refusals/out/refusals_tests
 if ! (cd crates/refusals && rt test >tests.log 2>&1); then
     cat crates/refusals/tests.log >&2

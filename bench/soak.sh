@@ -16,7 +16,6 @@
 # the crates runs.
 set -eu
 here=$(cd "$(dirname "$0")" && pwd)
-repository=$here/..
 case $# in
 1) seed=$(od -An -N8 -tu8 /dev/urandom | tr -d ' ') ;;
 2) seed=$2 ;;
@@ -30,17 +29,9 @@ work=$(mktemp -d)
 trap 'rm -rf "$work"' EXIT
 trap 'exit 1' HUP INT TERM
 cd "$work"
-mkdir -p crates/soak/src crates/soak/proofs/tables/carried_out
-cp "$repository/HANDLES" .
-for name in blink_batch blink_page blink_store blink_rest blink_machine blink_steps blink_rows blink_index blink_live blink_settings blink_locked blink_replay blink_run; do
-    cp -R "$repository/crates/$name" crates
-    grep "^$name[ :]" "$repository/crates.txt" >>crates.txt
-done
-echo 'soak: anyhow blink_batch blink_index blink_live blink_rows blink_run blink_steps rand' >>crates.txt
+sh "$here/crate.sh" soak . "$here/soak"
+mkdir -p crates/soak/proofs/tables/carried_out
 cd crates/soak
-for part in main batches compare dice schedules tables workload; do
-    cp "$here/soak/$part.rt.txt" "src/$part.rt"
-done
 cp "$here/soak/carried_out.antt.txt" proofs/tables/carried_out/Invariants.antt
 if ! rt run -- 0 "$seed" >run.log 2>&1; then
     cat run.log >&2

@@ -1,0 +1,230 @@
+//! The index and the table, with pages of at most `FAN` entries.
+
+use crate::side::{timed, Handle, Side};
+use crate::workload::{Case, Mode, Phase, Step, ABSENT, DELETE, FIND, INSERT, INSERTED, REPLACE};
+use blink::{Answer, Index, Op, Pass, Table};
+use std::sync::Arc;
+use std::time::Instant;
+
+/// How many operations `Index::run` is given at once, as many as it takes on one copy of the index.
+const BATCH: usize = 8_192;
+
+// The index after insertions in this order.
+fn grown(fan: u8, entries: &[(u64, u64)]) -> Index {
+    let mut index = Index::new(fan).expect("an index");
+    for part in entries.chunks(BATCH) {
+        let ops: Vec<Op> = part.iter().map(|&(key, pointer)| Op::Insert(key, pointer)).collect();
+        index.run(&ops).expect("a batch");
+    }
+    index
+}
+
+/// The index: one thread looks up and scans, and changes it by batches.
+pub struct ByIndex<const FAN: u8> {
+    index: Index,
+}
+
+impl<const FAN: u8> Handle for &mut ByIndex<FAN> {
+    fn find(&mut self, key: u64) -> Option<u64> {
+        self.index.find(key)
+    }
+    fn insert(&mut self, _: u64, _: u64) -> bool {
+        unreachable!()
+    }
+    fn delete(&mut self, _: u64) -> Option<u64> {
+        unreachable!()
+    }
+    fn replace(&mut self, _: u64, _: u64) -> Option<u64> {
+        unreachable!()
+    }
+    fn scan(&mut self, from: u64, count: usize) -> u64 {
+        let scan = self.index.scan(from..).take(count);
+        scan.fold(0, |sum, entry| sum.wrapping_add(entry.key ^ entry.pointer))
+    }
+    fn find_many(&mut self, keys: &[Step]) -> u64 {
+        let keys: Vec<u64> = keys.iter().map(|step| step.key).collect();
+        let found = self.index.find_many(&keys);
+        found.into_iter().fold(0, |sum, pointer| sum.wrapping_add(pointer.unwrap_or(ABSENT)))
+    }
+}
+
+// What an answer adds to the sum.
+fn sum_of(answer: &Answer) -> u64 {
+    match answer {
+        Answer::Inserted => INSERTED,
+        Answer::Found(pointer) | Answer::Removed(pointer) | Answer::Replaced(pointer) => *pointer,
+        Answer::Absent | Answer::Exists(_) => ABSENT,
+    }
+}
+
+impl<const FAN: u8> ByIndex<FAN> {
+    // Runs the steps of one thread by batches.
+    fn batches(&mut self, steps: &[Step]) -> (u64, u64) {
+        let start = Instant::now();
+        let mut sum = 0u64;
+        for part in steps.chunks(BATCH) {
+            let ops: Vec<Op> = part.iter().map(op).collect();
+            let answers = self.index.run(&ops).expect("a batch");
+            sum = answers.iter().fold(sum, |sum, answer| sum.wrapping_add(sum_of(answer)));
+        }
+        (start.elapsed().as_nanos() as u64, sum)
+    }
+}
+
+fn op(step: &Step) -> Op {
+    match step.kind {
+        FIND => Op::Find(step.key),
+        INSERT => Op::Insert(step.key, step.pointer),
+        DELETE => Op::Delete(step.key),
+        REPLACE => Op::Replace(step.key, step.pointer),
+        kind => unreachable!("a step of kind {kind}"),
+    }
+}
+
+impl<const FAN: u8> Side for ByIndex<FAN> {
+    fn open(case: &Case, _: Option<Self>) -> Self {
+        ByIndex { index: grown(FAN, &case.entries) }
+    }
+
+    // An index isn't shared, so it has one thread.
+    fn run(&mut self, phase: &Phase) -> Option<(u64, u64)> {
+        let [steps] = phase.threads.as_slice() else { return None };
+        match phase.changes() {
+            true => Some(self.batches(steps)),
+            false => Some(timed(&mut [self], phase)),
+        }
+    }
+
+    fn contents(&mut self, keys: &[u64]) -> Vec<Option<u64>> {
+        self.index.find_many(keys)
+    }
+}
+
+/// The table: a pass a thread.
+pub struct ByTable<const FAN: u8> {
+    // The index that it was opened over, and of which entries that is.
+    index: Index,
+    entries: Arc<Vec<(u64, u64)>>,
+    table: Option<Table>,
+    opened: u64,
+    closed: u64,
+}
+
+// A thread's pass, whose finds are of its own keys.
+struct Own(Pass);
+
+impl Handle for Own {
+    fn find(&mut self, key: u64) -> Option<u64> {
+        self.0.find(key).ok()?.pointer()
+    }
+    fn insert(&mut self, key: u64, pointer: u64) -> bool {
+        self.0.insert(key, pointer) == Ok(Answer::Inserted)
+    }
+    fn delete(&mut self, key: u64) -> Option<u64> {
+        self.0.delete(key).ok()?.pointer()
+    }
+    fn replace(&mut self, key: u64, pointer: u64) -> Option<u64> {
+        self.0.replace(key, pointer).ok()?.pointer()
+    }
+    fn scan(&mut self, _: u64, _: usize) -> u64 {
+        unreachable!()
+    }
+}
+
+// A thread's pass that has no keys, and glances at all.
+struct Any(Pass);
+
+impl Handle for Any {
+    fn find(&mut self, key: u64) -> Option<u64> {
+        self.0.glance(key)
+    }
+    fn insert(&mut self, _: u64, _: u64) -> bool {
+        unreachable!()
+    }
+    fn delete(&mut self, _: u64) -> Option<u64> {
+        unreachable!()
+    }
+    fn replace(&mut self, _: u64, _: u64) -> Option<u64> {
+        unreachable!()
+    }
+    fn scan(&mut self, _: u64, _: usize) -> u64 {
+        unreachable!()
+    }
+}
+
+// How many insertions and deletions steps need; a replacement takes a deletion.
+fn allowance<'a>(steps: impl Iterator<Item = &'a Step>) -> (u32, u32) {
+    steps.fold((0, 0), |(inserts, deletes), step| match step.kind {
+        INSERT => (inserts + 1, deletes),
+        DELETE | REPLACE => (inserts, deletes + 1),
+        _ => (inserts, deletes),
+    })
+}
+
+impl<const FAN: u8> ByTable<FAN> {
+    // A pass for each thread, with the keys that its steps have.
+    fn passes(table: &mut Table, phase: &Phase) -> Vec<Own> {
+        phase
+            .threads
+            .iter()
+            .map(|steps| {
+                let mut keys: Vec<u64> = steps.iter().map(|step| step.key).collect();
+                keys.sort_unstable();
+                keys.dedup();
+                let (inserts, deletes) = allowance(steps.iter());
+                Own(table.deal(&keys, inserts, deletes).expect("a pass"))
+            })
+            .collect()
+    }
+}
+
+fn give_back(table: &mut Table, passes: impl Iterator<Item = Pass>) {
+    for pass in passes {
+        table.give_back(pass).expect("the table's own pass");
+    }
+}
+
+impl<const FAN: u8> Side for ByTable<FAN> {
+    fn open(case: &Case, before: Option<Self>) -> Self {
+        let index = match before {
+            Some(before) if Arc::ptr_eq(&before.entries, &case.entries) => before.index,
+            _ => grown(FAN, &case.entries),
+        };
+        let (inserts, deletes) = allowance(case.phases.iter().flat_map(|phase| &phase.threads).flatten());
+        let start = Instant::now();
+        let table = Some(Table::open(&index, inserts, deletes).expect("a table"));
+        let opened = start.elapsed().as_nanos() as u64;
+        ByTable { index, entries: case.entries.clone(), table, opened, closed: 0 }
+    }
+
+    fn run(&mut self, phase: &Phase) -> Option<(u64, u64)> {
+        let table = self.table.as_mut().expect("an open table");
+        match phase.mode {
+            Mode::Own => {
+                let mut passes = Self::passes(table, phase);
+                let told = timed(&mut passes, phase);
+                give_back(table, passes.into_iter().map(|own| own.0));
+                Some(told)
+            }
+            Mode::Any => {
+                let deal = |_: &Vec<Step>| Any(table.deal(&[], 0, 0).expect("a pass"));
+                let mut passes: Vec<Any> = phase.threads.iter().map(deal).collect();
+                let told = timed(&mut passes, phase);
+                give_back(table, passes.into_iter().map(|any| any.0));
+                Some(told)
+            }
+            Mode::Many | Mode::Scan => None,
+        }
+    }
+
+    fn contents(&mut self, keys: &[u64]) -> Vec<Option<u64>> {
+        let start = Instant::now();
+        let index = self.table.take().expect("an open table").close([]).expect("an index");
+        self.closed = start.elapsed().as_nanos() as u64;
+        index.find_many(keys)
+    }
+
+    fn beside(&self) -> Vec<(&'static str, u64)> {
+        vec![("open", self.opened), ("close", self.closed)]
+    }
+}

@@ -1,0 +1,222 @@
+//! Which workloads are measured: the cases of each group, and the row of a table that each figure stands in.
+
+use crate::workload::{Case, Expected, Keys, Mix, Mode, Model};
+
+/// What one run measures of a case.
+#[derive(Clone, Copy)]
+pub enum Figure {
+    /// Nanoseconds an operation of a phase, by its place.
+    Phase(usize),
+    /// Nanoseconds an entry that the making of the map took.
+    Begin,
+    /// Milliseconds beside the phases, by this name.
+    Beside(&'static str),
+}
+
+/// A row of a workload's table.
+pub struct Row {
+    pub workload: &'static str,
+    pub entries: String,
+    pub threads: usize,
+    pub case: usize,
+    pub figure: Figure,
+    /// How many operations it has, or entries.
+    pub operations: usize,
+}
+
+/// Cases that one process of each side runs, one after another.
+pub struct Group {
+    pub name: &'static str,
+    pub cases: Vec<Case>,
+    pub expected: Vec<Expected>,
+    pub rows: Vec<Row>,
+}
+
+pub const FIND: &str = "A find";
+pub const GLANCE: &str = "A glance";
+pub const MANY: &str = "A find, 64 keys by a call";
+pub const SCAN_10: &str = "A scan of 10 entries, an entry";
+pub const SCAN_1000: &str = "A scan of 1,000 entries, an entry";
+pub const SCAN_ALL: &str = "A scan of all entries, an entry";
+pub const LOAD: &str = "An insertion into an empty map";
+pub const MIXED_80: &str = "80 finds, 10 insertions, 10 deletions";
+pub const MIXED_90: &str = "90 finds, 5 insertions, 5 deletions";
+pub const MIXED_50: &str = "50 finds, 25 insertions, 25 deletions";
+pub const REPLACE: &str = "A replacement";
+pub const NEAR: &str = "80 + 10 + 10, keys side by side";
+pub const LEAF: &str = "50 finds, 50 replacements, all in one leaf";
+pub const LONG: &str = "A million changes: 96 replacements, 2 insertions, 2 deletions";
+pub const OPEN: &str = "Opening a table for 20,000 insertions and as many deletions, ms";
+pub const CLOSE: &str = "Closing it, ms";
+
+/// The tables in the order in which they are told.
+pub const WORKLOADS: [&str; 16] = [
+    FIND, GLANCE, MANY, SCAN_10, SCAN_1000, SCAN_ALL, LOAD, MIXED_80, MIXED_90, MIXED_50, REPLACE, NEAR, LEAF, LONG, OPEN, CLOSE,
+];
+
+const THREADS: [usize; 4] = [1, 2, 4, 8];
+
+impl Mix {
+    const fn changes(finds: u64, inserts: u64, deletes: u64) -> Mix {
+        Mix { finds, inserts, deletes }
+    }
+}
+
+/// How much is run: all of it, or of each workload a little, to see that the answers are right.
+#[derive(Clone, Copy)]
+pub struct Scale {
+    pub small: bool,
+}
+
+impl Scale {
+    fn of(self, count: usize) -> usize {
+        if self.small {
+            (count / 500).max(16)
+        } else {
+            count
+        }
+    }
+
+    /// How often everything is measured.
+    pub fn rounds(self) -> usize {
+        if self.small {
+            1
+        } else {
+            3
+        }
+    }
+}
+
+impl Group {
+    fn new(name: &'static str) -> Group {
+        Group { name, cases: Vec::new(), expected: Vec::new(), rows: Vec::new() }
+    }
+
+    // Adds a case, and rows of it: a workload, the entries, and the figure.
+    fn add(&mut self, model: Model, entries: &str, rows: &[(&'static str, Figure)]) {
+        let (case, expected) = model.end();
+        for &(workload, figure) in rows {
+            let (threads, operations) = match figure {
+                Figure::Phase(place) => {
+                    let phase = &case.phases[place];
+                    let scanned = phase.threads.iter().flatten().filter(|step| step.kind == crate::workload::SCAN);
+                    let scanned: u64 = scanned.map(|step| step.pointer.min(case.entries.len() as u64)).sum();
+                    (phase.threads.len(), if phase.mode == Mode::Scan { scanned as usize } else { phase.steps() })
+                }
+                _ => (1, case.entries.len()),
+            };
+            let (entries, case) = (entries.to_string(), self.cases.len());
+            self.rows.push(Row { workload, entries, threads, case, figure, operations });
+        }
+        self.cases.push(case);
+        self.expected.push(expected);
+    }
+
+    // A mix by each number of threads, each on a map of its own.
+    fn add_mixes(&mut self, base: &Model, entries: &str, workload: &'static str, mix: Mix, count: usize, threads: &[usize]) {
+        for &threads in threads {
+            let mut model = base.again();
+            let mut rows = vec![(workload, Figure::Phase(model.mixed(mix, threads, count)))];
+            if workload == MIXED_80 && entries == "40,000" && threads == 1 {
+                rows.extend([(OPEN, Figure::Beside("open")), (CLOSE, Figure::Beside("close"))]);
+            }
+            self.add(model, entries, &rows);
+        }
+    }
+}
+
+// Adds finds, glances and scans to a map's life, and returns their rows. The first finds are told nowhere: what the making of the map left
+// in the caches is another for each side.
+fn looks(model: &mut Model, scale: Scale, threads: &[usize]) -> Vec<(&'static str, Figure)> {
+    let (count, size) = (scale.of(200_000), model.len());
+    model.finds(Mode::Any, 1, count);
+    let mut rows = Vec::new();
+    for (mode, workload) in [(Mode::Own, FIND), (Mode::Any, GLANCE)] {
+        for &threads in threads {
+            rows.push((workload, Figure::Phase(model.finds(mode, threads, count))));
+        }
+    }
+    rows.push((MANY, Figure::Phase(model.finds(Mode::Many, 1, count))));
+    let all = 400_000usize.div_ceil(size);
+    for (length, scans, workload) in [(10, 20_000, SCAN_10), (1_000, 400, SCAN_1000), (usize::MAX, all, SCAN_ALL)] {
+        let scans = if scale.small { 2 } else { scans };
+        rows.push((workload, Figure::Phase(model.scans(length.min(size), scans))));
+    }
+    rows
+}
+
+// Keys that were inserted at random: looks, loads, and each mix.
+fn random(group: &mut Group, size: usize, entries: &str, scale: Scale) {
+    let keys = Keys::random(scale.of(size), scale.of(size / 2));
+    let base = Model::new(&keys);
+    let mut model = base.again();
+    let rows = looks(&mut model, scale, &THREADS);
+    group.add(model, entries, &rows);
+    for threads in THREADS {
+        let mut model = Model::empty(&keys);
+        let load = model.load(threads);
+        group.add(model, entries, &[(LOAD, Figure::Phase(load))]);
+    }
+    let count = scale.of(5 * size);
+    group.add_mixes(&base, entries, MIXED_80, Mix::changes(80, 10, 10), count, &THREADS);
+    group.add_mixes(&base, entries, REPLACE, Mix::changes(0, 0, 0), count, &THREADS);
+    group.add_mixes(&base, entries, MIXED_90, Mix::changes(90, 5, 5), count, &THREADS);
+    group.add_mixes(&base, entries, MIXED_50, Mix::changes(50, 25, 25), count * 2 / 5, &THREADS);
+}
+
+// A million keys. A map of them takes so long to make that one goes through all, one after another.
+fn million(group: &mut Group, scale: Scale) {
+    let mut model = Model::new(&Keys::random(scale.of(1_000_000), scale.of(50_000)));
+    let mut rows = looks(&mut model, scale, &THREADS);
+    for threads in THREADS {
+        let mixed = model.mixed(Mix::changes(80, 10, 10), threads, scale.of(50_000));
+        rows.push((MIXED_80, Figure::Phase(mixed)));
+    }
+    rows.push((LOAD, Figure::Begin));
+    group.add(model, "1,000,000", &rows);
+}
+
+// The same keys, inserted from the least to the greatest.
+fn ascending(group: &mut Group, size: usize, entries: &str, scale: Scale) {
+    let mut model = Model::new(&Keys::ascending(scale.of(size)));
+    let mut rows = looks(&mut model, scale, &[1, 4]);
+    rows.push((LOAD, Figure::Begin));
+    group.add(model, entries, &rows);
+}
+
+// Where threads meet: in the same leaves, and all in one.
+fn meeting(group: &mut Group, scale: Scale) {
+    let near = Model::new(&Keys::side_by_side(1_000, 250));
+    group.add_mixes(&near, "1,000", NEAR, Mix::changes(80, 10, 10), scale.of(100_000), &THREADS);
+    let leaf = Model::new(&Keys::side_by_side(16, 0));
+    group.add_mixes(&leaf, "16", LEAF, Mix::changes(50, 0, 0), scale.of(200_000), &THREADS);
+}
+
+// A map that lives long and stays as large as it is. A table takes 47,662 insertions in all, so most of these changes are replacements.
+fn long(group: &mut Group, scale: Scale) {
+    let base = Model::new(&Keys::random(scale.of(40_000), scale.of(20_000)));
+    group.add_mixes(&base, "40,000", LONG, Mix::changes(0, 2, 2), scale.of(1_000_000), &[1, 4]);
+}
+
+/// All groups.
+pub fn groups(scale: Scale) -> Vec<Group> {
+    let mut groups = ["random", "million", "ascending", "meeting"].map(Group::new);
+    let [few, many, sorted, others] = &mut groups;
+    random(few, 10_000, "10,000", scale);
+    random(few, 40_000, "40,000", scale);
+    million(many, scale);
+    ascending(sorted, 10_000, "10,000 ascending", scale);
+    ascending(sorted, 40_000, "40,000 ascending", scale);
+    ascending(sorted, 1_000_000, "1,000,000 ascending", scale);
+    meeting(others, scale);
+    long(others, scale);
+    groups.into()
+}
+
+/// What a side whose code is compiled while it runs runs first.
+pub fn warm_up() -> Group {
+    let mut group = Group::new("warm");
+    random(&mut group, 5_000, "5,000", Scale { small: false });
+    meeting(&mut group, Scale { small: false });
+    group
+}
