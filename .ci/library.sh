@@ -1,6 +1,6 @@
 #!/bin/sh
 # Runs what links the library as its users do: the C tests, the example programs in C and in Rust, and the tests of rust/blink, over the
-# archive that the gate has proved. The tests of memory and of threads by valgrind are left to `./libblink --test`. It says nothing where
+# libraries that the gate has proved. The tests of memory and of threads by valgrind are left to `./libblink --test`. It says nothing where
 # all is well. Without a C compiler or without cargo what needs it isn't run, and it says so.
 set -eu
 top=$(cd "$(dirname "$0")/.." && pwd)
@@ -10,7 +10,7 @@ trap 'rm -rf "$work"' EXIT
 
 # Runs a command that has to end well. What it writes is shown only where it doesn't.
 ends_well() {
-    if ! timeout 300 "$@" >"$work/told" 2>&1; then
+    if ! timeout 900 "$@" >"$work/told" 2>&1; then
         cat "$work/told" >&2
         echo "$0: failed: $*" >&2
         exit 1
@@ -34,7 +34,7 @@ if ! command -v "$cc" >/dev/null 2>&1; then
 fi
 printf 'The cat sees the dog, the dog sees a cat.\n' >"$work/text"
 
-ends_well "$top/libblink" --linked
+ends_well "$top/libblink" --after-ci
 ends_well sh "$top/crates/blink_c/link/test.sh" --quick
 for program in word_count csv_index; do
     ends_well "$cc" -std=c11 -O2 -pthread -I "$top/include" "$top/examples/c/$program.c" "$top/out/libblink.a" -o "$work/$program"
