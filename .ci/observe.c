@@ -5,6 +5,8 @@
 #include <stdatomic.h>
 #include <stddef.h>
 #include <stdio.h>
+#include <sys/syscall.h>
+#include <unistd.h>
 
 extern void *__libc_malloc(size_t size);
 extern void *__libc_calloc(size_t count, size_t size);
@@ -45,6 +47,9 @@ int pthread_create(pthread_t *thread, const pthread_attr_t *attributes, void *(*
     return next(thread, attributes, run, with);
 }
 
-__attribute__((destructor)) static void tell(void) {
-    fprintf(stderr, "observed %ld %ld %ld\n", atomic_load(&threads), atomic_load(&requests), atomic_load(&bytes));
+// A program with threads ends by this call, which runs no destructor.
+void _exit(int status) {
+    dprintf(STDERR_FILENO, "observed %ld %ld %ld\n", atomic_load(&threads), atomic_load(&requests), atomic_load(&bytes));
+    syscall(SYS_exit_group, status);
+    __builtin_unreachable();
 }
