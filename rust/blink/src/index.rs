@@ -154,6 +154,7 @@ impl Index {
         Scan {
             index: self,
             range: lo.zip(hi).filter(|(lo, hi)| lo <= hi),
+            part: Scan::FIRST_PART,
             entries: Vec::new().into_iter(),
         }
     }
@@ -249,24 +250,29 @@ impl<'a> IntoIterator for &'a Index {
     }
 }
 
-/// The entries of an index whose keys are in a range, in ascending order. It takes 256 at a time out of the index.
+/// The entries of an index whose keys are in a range, in ascending order. It takes them out of the index in parts: 16 first, then twice
+/// as many each time, up to 256.
 #[derive(Clone, Debug)]
 pub struct Scan<'a> {
     index: &'a Index,
     // The keys that are still to be asked for.
     range: Option<(u64, u64)>,
+    // How many entries are asked for next. A short range pays for few, and a long one makes few calls.
+    part: usize,
     entries: std::vec::IntoIter<Entry>,
 }
 
 impl Scan<'_> {
-    const PART: usize = 256;
+    const FIRST_PART: usize = 16;
+    const MAX_PART: usize = 256;
 
     // Takes the next entries out of the index.
     fn refill(&mut self) {
         let Some((lo, hi)) = self.range else { return };
-        let mut entries = self.index.page(lo, Self::PART);
+        let mut entries = self.index.page(lo, self.part);
         let within = entries.partition_point(|entry| entry.key <= hi);
-        let whole = entries.len() == Self::PART && within == Self::PART;
+        let whole = within == self.part;
+        self.part = Self::MAX_PART.min(2 * self.part);
         entries.truncate(within);
         let next = entries.last().and_then(|last| last.key.checked_add(1));
         self.range = next.filter(|next| whole && *next <= hi).map(|next| (next, hi));

@@ -89,3 +89,17 @@ fn scans_at_the_ends_of_the_keys() {
     assert_eq!(index.scan(backwards).count(), 0);
     assert_eq!(format!("{index:?}"), "{0: 1, 18446744073709551615: 2}");
 }
+
+// A scan asks for 16, 32, 64, 128 and then 256 entries at a time: around each of these ends, and in the middle of an index.
+#[test]
+fn scans_of_every_length_at_the_ends_of_their_parts() {
+    let entries: Vec<Entry> = (0..1000u64).map(|key| Entry::from((2 * key, key))).collect();
+    let index = Index::from_entries(8, &entries).unwrap();
+    for length in [0, 1, 15, 16, 17, 47, 48, 49, 111, 112, 113, 239, 240, 241, 495, 496, 497, 700] {
+        for first in [0u64, 300] {
+            let range = 2 * first..2 * (first + length);
+            let expected = &entries[first as usize..(first + length) as usize];
+            assert!(index.scan(range).eq(expected.iter().copied()), "{length} from {first}");
+        }
+    }
+}
