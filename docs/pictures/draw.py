@@ -577,10 +577,36 @@ def prefixes():
     picture.save("prefixes.svg")
 
 
+def one_list():
+    picture = Picture(640, 244)
+    changes = [("7 → 70", "by A"), ("9 → 90", "by B"), ("7 → 71", "by B"), ("9 is gone", "by A"), ("5 → 50", "by C")]
+    left, wide = 110, 92
+    picture.text(14, 46, "the list", anchor="start", bold=True)
+    for at, (what, by) in enumerate(changes):
+        picture.box(left + at * wide, 22, wide, 40, fill=HEAD)
+        picture.text(left + at * wide + wide / 2, 39, what, bold=True)
+        picture.text(left + at * wide + wide / 2, 55, by, size=10.5, fill=SOFT)
+    picture.line([(left + 5 * wide + 4, 42), (left + 5 * wide + 40, 42)], arrow=True, stroke=SOFT)
+
+    def bracket(y, name, count, words, stroke, own=None):
+        end = left + count * wide
+        picture.text(14, y + 5, name, anchor="start", bold=True, fill=stroke)
+        picture.line([(left + 3, y - 8), (left + 3, y + 1), (end - 3, y + 1), (end - 3, y - 8)], stroke=stroke, width=2)
+        if own is not None:
+            picture.dot(left + own * wide + wide / 2, y + 1, radius=4, fill=stroke)
+        picture.text(left + 6, y + 17, words, size=11, fill=SOFT, anchor="start")
+
+    bracket(88, "A, before", 3, "what A has seen when it deletes 9", RED)
+    bracket(134, "A, then", 4, "answered: removed 90, since the list before says so; its change follows at once", RED, own=3)
+    bracket(182, "B", 3, "B's replacement of 7 answered: replaced 70", BLUE, own=2)
+    picture.text(left + 6, 228, "After the list so far the map is 5 → 50, 7 → 71: of each key what its last change says.", size=11, fill=SOFT, anchor="start")
+    picture.save("one-list.svg")
+
+
 def main():
     if sys.argv[1:] == ["check"]:
         sys.exit(1 if check() else 0)
-    for draw in (pages, tree, moving_right, split, posting, overtaking, root_growth, debts, latches, deciding, row, prefixes):
+    for draw in (pages, tree, moving_right, split, posting, overtaking, root_growth, debts, latches, deciding, row, prefixes, one_list):
         draw()
 
 
