@@ -4,12 +4,14 @@ use Rattle.std.specs.BTreeSet.{BTreeSet, contains}
 use Rattle.std.specs.Ordering.{nat_cmp}
 use Rattle.blink_live.specs.declared.view.Role.TheVariants.{Keeper}
 use Rattle.blink_live.specs.declared.view.View.{View}
+use Rattle.blink_live.specs.Views.{IsOwned}
 
 -- the keeper's view has these rows and page numbers, and none of these keys is dealt; with them all keys of `taken` are taken
 pub record CanDeal (v : View) (rows pages : ℕ) (keys taken : List ℕ) : Type 0 where
   pub dealt : ℕ
   pub back : ℕ
   pub role : v.role ≡ Keeper dealt back
+  pub owned : IsOwned v.plan
   pub enough_rows : v.rows.next + rows ≤ v.rows.stop
   pub enough_pages : v.pages.next + pages ≤ v.pages.stop
   pub free_keys : (key : ℕ) → Contains keys key → ¬ Contains v.taken key

@@ -1,6 +1,6 @@
 -- The rule of the table: between any two atomic steps the words and the views of the seats together represent a tree state for
 -- which the invariant holds.
-use Rattle.std.specs.Prelude.{◌≡◌, ℕ, suc, ◌+◌, ◌-◌, ◌<◌, ◌≤◌, Option, Some, None, List, [], ◌∷◌, length, All, Contains, slice_index, ⊤}
+use Rattle.std.specs.Prelude.{◌≡◌, ℕ, suc, ◌+◌, ◌<◌, ◌≤◌, Option, Some, None, List, [], ◌∷◌, length, All, Contains, slice_index, ⊤}
 use mathlib.Core.Option.{some}
 use mathlib.Core.List.{IsPrefix}
 use lib.ListN.{get_elem?}
@@ -22,7 +22,7 @@ use Rattle.blink_live.specs.declared.view.Role.TheVariants.{Keeper, Pass, Spent}
 use Rattle.blink_live.specs.declared.view.Share.{Share}
 use Rattle.blink_live.specs.declared.view.View.{View}
 use Rattle.blink_live.specs.Changes.{after, states_of}
-use Rattle.blink_live.specs.Views.{span}
+use Rattle.blink_live.specs.Views.{IsCommon, IsOwned, latch_of, span}
 use Rattle.blink_live.specs.Words.{word_count, IsRowNumber, RowIs}
 
 -- ---- owners: 0 for nobody, and else a seat's number plus 1
@@ -92,10 +92,10 @@ pub record IsOwnKey (plan : Plan) (owners : Owners) (log : List Change) (owner :
 abbrev pub IsShare : Plan → Owners → List Change → ℕ → Share → Type 0
 IsShare plan owners log owner share = (key : ℕ) → Contains share.keys key → IsOwnKey plan owners log owner share key
 
--- nobody owns the key, and the keeper has seen all its changes
+-- nobody owns the key, and where passes own keys, the keeper has seen all its changes
 pub record IsFree (owners : Owners) (log : List Change) (v : View) (key : ℕ) : Type 0 where
   pub own : owners.key key ≡ 0
-  pub saw_all : states_of key v.seen ≡ states_of key log
+  pub saw_all : IsOwned v.plan → states_of key v.seen ≡ states_of key log
 
 -- a seat by its role: the keeper's seat is the first, the keys that it hasn't dealt to a pass that is out are free, and the shares
 -- that it took back when the table closes are its own; only a pass has an operation
@@ -103,7 +103,7 @@ abbrev pub IsInRole : Plan → Owners → List Change → ℕ → View → Role 
 IsInRole plan owners log seat v (Keeper dealt back) =
     (seat ≡ 0) × (v.operation ≡ None) × ((key : ℕ) → ¬ Contains v.taken key → IsFree owners log v key)
     × ((share : Share) → Contains v.back share → IsShare plan owners log 1 share)
-IsInRole plan owners log seat v Pass = (1 ≤ seat) × (owners.latch_number seat ≡ v.rows.stop - 1)
+IsInRole plan owners log seat v Pass = (1 ≤ seat) × (owners.latch_number seat ≡ latch_of v)
 IsInRole plan owners log seat v Spent = v.operation ≡ None
 
 -- the descent bound of the seat's operation
@@ -134,14 +134,14 @@ abbrev pub passes_in : List View → ℕ
 passes_in [] = 0
 passes_in (v ∷ rest) = pass_count v.role + passes_in rest
 
--- the first seat is the keeper's, and its count of passes is right
+-- the first seat is the keeper's, and where passes own keys, its count of passes is right
 pub record AreCounted (views : List View) : Type 0 where
   pub keeper : View
   pub dealt : ℕ
   pub back : ℕ
   pub first : get_elem? views 0 ≡ some keeper
   pub role : keeper.role ≡ Keeper dealt back
-  pub counted : passes_in views + back ≡ dealt
+  pub counted : IsOwned keeper.plan → passes_in views + back ≡ dealt
 
 -- ---- the whole
 
@@ -165,6 +165,8 @@ pub record IsTableAt (plan : Plan) (s : State ℕ View) (tree_state : TreeState)
   -- the entries: the opening ones after the changes
   pub is_map : IsMapAt tree_state now
   pub kept : (key : ℕ) → pointer_of now key ≡ after (pointer_of plan.opening) log key
+  -- nobody owns a key of a common table
+  pub nobodys : IsCommon plan → (key : ℕ) → owners.key key ≡ 0
   -- the seats
   pub views : (seat : ℕ) (v : View) → get_elem? s.views seat ≡ some v → Knows plan owners s.words tree_state log seat v
   pub others_idle : (seat : ℕ) → length s.views ≤ seat → tree_state.machines seat ≡ None

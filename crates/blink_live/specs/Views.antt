@@ -1,5 +1,5 @@
 -- The views of seats: how they begin, and what each kind of step makes of them.
-use Rattle.std.specs.Prelude.{Option, ◌≡◌, ℕ, suc, ◌+◌, ◌≤◌, List, [], ◌∷◌, ◌++◌, length, replicate, slice_set, Some, None, ◌||◌, ◌==◌, Bool, false, filter, Contains}
+use Rattle.std.specs.Prelude.{Option, ◌≡◌, ◌⊎◌, ℕ, zero, suc, ◌+◌, ◌-◌, ◌≤◌, List, [], ◌∷◌, ◌++◌, length, replicate, slice_set, Some, None, ◌||◌, ◌==◌, Bool, false, filter, Contains}
 use mathlib.Core.List.{IsPrefix}
 use Rattle.atomic_table.specs.Table.{Me}
 use Rattle.blink_batch.specs.declared.Entry.{Entry}
@@ -26,7 +26,7 @@ abbrev pub SeatState : Type 0
 SeatState = Me ℕ View
 
 abbrev pub plan_of : Opened → Plan
-plan_of opened = record { fan = opened.index.value.fan; counts = opened.counts; opening = map_of opened.index.value }
+plan_of opened = record { fan = opened.index.value.fan; counts = opened.counts; places = opened.places; opening = map_of opened.index.value }
 
 abbrev pub span : ℕ → ℕ → Span
 span next stop = record { next = next; stop = stop }
@@ -66,11 +66,30 @@ first_view count plan = seat_for plan (Keeper 0 0) (span (count + 2) (plan.count
 
 -- the plan of no table
 abbrev pub no_plan : Plan
-no_plan = record { fan = 0; counts = record { numbers = 0; rows = 0 }; opening = [] }
+no_plan = record { fan = 0; counts = record { numbers = 0; rows = 0 }; places = 0; opening = [] }
 
 -- a seat whose view another seat has taken
 abbrev pub spent : Plan → View
 spent plan = seat_for plan Spent (span 1 1) (span 1 1) no_share
+
+-- in a table without places passes own the keys; in one with places any session changes any key
+abbrev pub IsOwned : Plan → Type 0
+IsOwned plan = plan.places ≡ 0
+
+abbrev pub IsCommon : Plan → Type 0
+IsCommon plan = 1 ≤ plan.places
+
+-- the number that a seat puts into latch words: a pass that of its last row, and a session 1
+abbrev pub latch_in : ℕ → ℕ → ℕ
+latch_in zero stop = stop - 1
+latch_in (suc places) stop = 1
+
+abbrev pub latch_of : View → ℕ
+latch_of v = latch_in v.plan.places v.rows.stop
+
+-- the seat may change the key: its share has the key, or the table is common
+abbrev pub MayChange : View → ℕ → Type 0
+MayChange v key = Contains v.share.keys key ⊎ IsCommon v.plan
 
 -- ---- what it has seen
 
@@ -137,6 +156,10 @@ is_staged v words = record v { call = record { rows = v.call.rows; pages = v.cal
 -- the call has staged one more word of that row
 abbrev pub stage_word : View → ℕ → ℕ → View
 stage_word v place word = is_staged v (slice_set v.call.staged place word)
+
+-- a session's operation has made this change, or none
+abbrev pub adds : List Change → Share → Share
+adds made share = record { keys = share.keys; entries = share.entries; changes = share.changes ++ made }
 
 -- the share is changed as the operation changes a map
 abbrev pub changed_by : Op → Share → Share

@@ -10,7 +10,7 @@ ghost use Rattle.blink_live.specs.Gathered.{IsNumberedInOrder, KeepsTreeAtRest, 
 ghost use Rattle.blink_live.specs.Handles.{IsKeeperOf, IsPassOf, fan_of, passes_out};
 ghost use Rattle.blink_live.specs.declared.view.Role.TheVariants.{Keeper as KeeperRole, Pass as PassRole};
 ghost use Rattle.blink_live.specs.Merge.{IsMerge, shares_of, KeepsPrime, KeepsSomeTree, KeepsTree};
-ghost use Rattle.blink_live.specs.Views.{TakesAllBack, plan_of, takes_back};
+ghost use Rattle.blink_live.specs.Views.{IsOwned, TakesAllBack, plan_of, takes_back};
 ghost use Rattle.blink_live.specs.Words.{word_count};
 ghost use Rattle.blink_live.specs.ToCome.{HasPagesToCome, HasLeavesToCome, AddsPages, HasPageAt, IsPageAt};
 ghost use Rattle.blink_live.specs.Renumbered.{child_count, link_anew, page_anew, with_children};
@@ -72,6 +72,7 @@ impl Live {
     fn take_back(&self, seat: &mut Seat<u8, View>, mut passes: Vec<Pass>)
         requires table { seat.old.table_id ≡ self.now.table.shared.table_id }
         requires role { (dealt : ℕ) × (back : ℕ) × (seat.old.me.0.role ≡ KeeperRole dealt back) }
+        requires owned { IsOwned seat.old.me.0.plan }
         requires its_passes { All (IsPassOf self.now) passes.items }
         ensures same { HasSameNumber seat.old seat.new }
         ensures back { TakesAllBack (shares_of passes.items) seat.old.me seat.new.me }
@@ -93,6 +94,7 @@ impl Live {
             × (other.table_id ≡ self.now.table.shared.table_id) }
         requires picked { B.plan ≡ plan_of self.now.table.shared.key }
         requires keeper { (dealt : ℕ) × (back : ℕ) × (seat.old.me.0.role ≡ KeeperRole dealt back) }
+        requires owned { IsOwned seat.old.me.0.plan }
         requires pass { IsIdleIn PassRole other.me }
         ensures same { HasSameNumber seat.old seat.new }
         ensures back { seat.new.me ≡ (takes_back seat.old.me.0 other.me.0, seat.old.me.1) }

@@ -7,7 +7,7 @@ ghost use Rattle.blink_page.specs.{IsFan};
 ghost use Rattle.blink_live.specs.Words.{word_count};
 ghost use Rattle.blink_live.specs.declared.view.Role.TheVariants.{Keeper, Pass};
 ghost use Rattle.blink_live.specs.Allowed.{AreForChanges};
-ghost use Rattle.blink_live.specs.Views.{SawItsOwn};
+ghost use Rattle.blink_live.specs.Views.{IsOwned, SawItsOwn};
 
 use crate::room::Room;
 use crate::rule::InvariantOfTree;
@@ -54,6 +54,7 @@ pub struct Keeper {
     ghost ascending: { IsSorted nat_cmp taken.items },
     ghost role_is: { seat.me.0.role ≡ Keeper dealt back },
     ghost counted: { back ≤ dealt },
+    ghost owned: { IsOwned seat.me.0.plan },
     ghost no_slot: { seat.me.1 ≡ [] },
 }
 
@@ -72,6 +73,7 @@ pub struct Pass {
     ghost in_order: { (rows.next ≤ rows.stop) × (pages.next ≤ pages.stop) },
     ghost for_changes: { AreForChanges pages rows },
     ghost role_is: { seat.me.0.role ≡ Pass },
+    ghost owned: { IsOwned seat.me.0.plan },
     ghost own_seen: { SawItsOwn seat.me.0 },
     ghost none_told: { seat.me.0.told ≡ [] },
     ghost idle: { seat.me.0.operation ≡ None },

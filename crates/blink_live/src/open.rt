@@ -46,6 +46,7 @@ impl Live {
         };
         let opened = Opened {
             counts,
+            places: 0,
             index: Snapshot::of(index),
         };
         let Ok((table, seat)) = Table::<u8, View, Opened, InvariantOfTree, Global>::of_words(

@@ -11,6 +11,8 @@ use std::snapshot::Snapshot;
 #[derive(Drop)]
 pub(crate) struct Opened {
     pub counts: Counts,
+    /// 0 in a table whose keys passes own. In others, which any session changes at any key, the number of places for sessions.
+    pub places: u64,
     pub index: Snapshot<Index>,
 }
 
@@ -18,6 +20,7 @@ pub(crate) struct Opened {
 pub(crate) struct Plan {
     pub fan: u8,
     pub counts: Counts,
+    pub places: u64,
     pub opening: LinkedList<Entry>,
 }
 
@@ -28,7 +31,8 @@ pub(crate) struct Change {
 }
 
 /// A pass's part of the map: its keys, their entries as its own operations leave them, and the changes of these operations.
-/// Before them stand the changes of its keys by the passes that had them earlier.
+/// Before them stand the changes of its keys by the passes that had them earlier. A session's share has no keys and no entries;
+/// its changes are those that the session made.
 pub(crate) struct Share {
     pub keys: LinkedList<u64>,
     pub entries: LinkedList<Entry>,
@@ -39,7 +43,7 @@ pub(crate) struct Share {
 pub(crate) enum Role {
     /// The keeper's seat, with the number of passes dealt and the number of passes that came back.
     Keeper(u64, u64),
-    /// A pass's seat.
+    /// A pass's seat, or a session's.
     Pass,
     /// A seat whose view another seat has taken or is to take: a note, or keys on their way.
     Spent,

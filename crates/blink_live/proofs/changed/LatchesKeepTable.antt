@@ -1,5 +1,5 @@
 -- A latch that is got is the tree's step, and keeps the rule.
-use Rattle.std.proofs.Common.{◌≡◌, ℕ, suc, ◌+◌, ◌-◌, ◌<◌, ◌≤◌, Option, Some, None, List, set, refl, sym, ap, ◌∙◌, subst, get_or-set_same, get_or-set_other, arith}
+use Rattle.std.proofs.Common.{◌≡◌, ℕ, suc, ◌+◌, ◌<◌, ◌≤◌, Option, Some, None, List, set, refl, sym, ap, ◌∙◌, subst, get_or-set_same, get_or-set_other, arith}
 use Rattle.std.specs.Prelude.{slice_index}
 use mathlib.Core.Option.{some, none}
 use mathlib.Core.Logic.{dite}
@@ -24,7 +24,7 @@ use Rattle.blink_live.specs.declared.view.View.{View}
 use Rattle.blink_live.specs.Changes.{put}
 use Rattle.blink_live.specs.Rule.{Owners, PageWordIs, latch_word, IsInRole, IsBoundedWay, Knows, IsTableAt, IsTable}
 use Rattle.blink_live.specs.AtomicSteps.{GoesOn, CanGoOn, tries_latch, lets_go}
-use Rattle.blink_live.specs.Views.{SeatState, going_on}
+use Rattle.blink_live.specs.Views.{SeatState, going_on, latch_of}
 use Rattle.blink_live.proofs.found.OperationBegins.{goes_on_as}
 use Rattle.blink_live.proofs.table.MapsWithOneChange.{put_here, put_else}
 use Rattle.blink_live.proofs.table.NextPageIsThere.{next_page_is_there}
@@ -57,7 +57,8 @@ module _ (plan : Plan) (s : State ℕ View) (tree_state : TreeState) (h : IsTabl
     ways = λ seat m other is. refl;
     rows = λ row least apart. (refl, row_stays plan s.words (plan.counts.numbers + number) x row (omega (arith, in_range)));
     numbers = λ n apart. (refl, λ free. free);
-    keys = λ key apart. (refl, refl, refl);
+    keys = λ owned key apart. (refl, refl, refl);
+    nobodys = h.nobodys;
     latch_numbers = λ seat. refl;
     longer = λ seen is. is;
   }
@@ -118,19 +119,19 @@ module _ (plan : Plan) (s : State ℕ View) (tree_state : TreeState) (h : IsTabl
       → IsTable plan record { words = words; homes = s.homes; views = set s.views id w }
   passes_latch invariant bounded is some_number =
       let kept = subst (IsInRole plan h.owners h.log id v) role (h.views id v at).in_role in
-      store_keeps plan s tree_state then h id (plan.counts.numbers + number) x kept.0 v w at h.owners h.log h.now leaves (stored invariant is some_number) refl (knows bounded)
+      store_keeps plan s tree_state then h id (plan.counts.numbers + number) x kept.0 v w at h.owners h.log h.now leaves (stored invariant is some_number) refl refl (knows bounded)
 
 -- ---- the latch is got, or not
 
-pub latch_is_tried : (plan : Plan) (slots id number : ℕ) (me : SeatState) (m : PlainMachine) → me.0.role ≡ Pass → me.0.operation ≡ Some m → FitsWords m.op → NeedsLatch m number → number < plan.counts.numbers → 2 ≤ me.0.rows.stop
-    → Allows (IsTable plan) slots id me (plan.counts.numbers + number) (λ n. either (eqb n 0) (me.0.rows.stop - 1) n)
-    (tries_latch (step slots (plan.counts.numbers + number) 0 (me.0.rows.stop - 1) none) me)
-latch_is_tried plan slots id number me m role at_m fits needs in_range some_row s table homes at small =
+pub latch_is_tried : (plan : Plan) (slots id number : ℕ) (me : SeatState) (m : PlainMachine) → me.0.role ≡ Pass → me.0.operation ≡ Some m → FitsWords m.op → NeedsLatch m number → number < plan.counts.numbers → 1 ≤ latch_of me.0
+    → Allows (IsTable plan) slots id me (plan.counts.numbers + number) (λ n. either (eqb n 0) (latch_of me.0) n)
+    (tries_latch (step slots (plan.counts.numbers + number) 0 (latch_of me.0) none) me)
+latch_is_tried plan slots id number me m role at_m fits needs in_range some_latch s table homes at small =
     let tree_state : TreeState = table.0 in
     let h : IsTableAt plan s tree_state = table.1 in
     let known = h.views id me.0 at in
     let place : ℕ = plan.counts.numbers + number in
-    let x : ℕ = me.0.rows.stop - 1 in
+    let x : ℕ = latch_of me.0 in
     let found : ℕ = slice_index s.words place in
     let after : PlainMachine = done m 0 in
     let under : tree_state.machines id ≡ Some m = known.operation ∙ at_m in
@@ -149,7 +150,7 @@ latch_is_tried plan slots id number me m role at_m fits needs in_range some_row 
       keeps,
       tt,
       passes_latch plan s tree_state h id number x way me.0 after (Some id) at role in_range invariant (λ other is. ap (descent_bound tree_state.pages) (sym (goes_on_as after after.state other is))) (sym kept.1)
-          (λ seat is. let same : id ≡ seat = cc in let its_number : h.owners.latch_number id ≡ me.0.rows.stop - 1 = kept.1 in subst (λ (j : ℕ). 1 ≤ h.owners.latch_number j) same (omega (arith, its_number, some_row))),
+          (λ seat is. let same : id ≡ seat = cc in subst (λ (j : ℕ). 1 ≤ h.owners.latch_number j) same (subst (λ (n : ℕ). 1 ≤ n) (sym kept.1) some_latch)),
       λ k n at_k needs_k is. record {
         got = λ none_found.
             let same : m ≡ k = cc in

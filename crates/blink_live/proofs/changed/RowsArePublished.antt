@@ -28,7 +28,7 @@ use Rattle.blink_live.specs.declared.view.Share.{Share}
 use Rattle.blink_live.specs.declared.view.View.{View}
 use Rattle.blink_live.specs.Changes.{put, after, states_of}
 use Rattle.blink_live.specs.Rule.{Owners, IsPublished, PageWordIs, latch_word, HasRows, HasNumbers, IsShare, IsInRole, IsBoundedWay, Knows, IsTableAt, IsTable}
-use Rattle.blink_live.specs.Views.{span, publishes}
+use Rattle.blink_live.specs.Views.{IsOwned, span, publishes}
 use Rattle.blink_live.specs.Words.{RowIs}
 use Rattle.blink_live.proofs.changed.ChangesAreTheMaps.{after-append, states_of-append}
 use Rattle.blink_live.proofs.table.MapsWithOneChange.{put_here, put_else}
@@ -93,8 +93,8 @@ module _ (plan : Plan) (s : State ℕ View) (tree_state then : TreeState) (h : I
 
     -- what the write changes of keys: its own alone
     pub record ChangesOwn : Type 0 where
-      pub other_changes : (key : ℕ) → h.owners.key key ≢ suc id → states_of key made ≡ []
-      pub other_kept : (key : ℕ) → h.owners.key key ≢ suc id → after (after (pointer_of plan.opening) h.log) made key ≡ after (pointer_of plan.opening) h.log key
+      pub other_changes : IsOwned plan → (key : ℕ) → h.owners.key key ≢ suc id → states_of key made ≡ []
+      pub other_kept : IsOwned plan → (key : ℕ) → h.owners.key key ≢ suc id → after (after (pointer_of plan.opening) h.log) made key ≡ after (pointer_of plan.opening) h.log key
       pub own_share : IsShare plan new log (suc id) share
       pub is_map : IsMapAt then now
       pub kept_now : (key : ℕ) → pointer_of now key ≡ after (pointer_of plan.opening) log key
@@ -106,11 +106,12 @@ module _ (plan : Plan) (s : State ℕ View) (tree_state then : TreeState) (h : I
         ways = λ seat m apart is. ways_stay tree_state then.pages seat m h.invariant step.places is;
         rows = λ row least apart. (put_else h.owners.row v.call.rows.next row 0 (λ same. apart (ap h.owners.row same ∙ (known.for_call.first_own room).1)), stays row);
         numbers = λ n apart. (refl, step.others_free n apart);
-        keys = λ key apart. (
+        keys = λ owned key apart. (
           refl,
-          states_of-append key h.log made ∙ (ap (λ (l : List (Option ℕ)). states_of key h.log ++ l) (own.other_changes key apart) ∙ append-nil (states_of key h.log)),
-          after-append (pointer_of plan.opening) h.log made key ∙ own.other_kept key apart,
+          states_of-append key h.log made ∙ (ap (λ (l : List (Option ℕ)). states_of key h.log ++ l) (own.other_changes owned key apart) ∙ append-nil (states_of key h.log)),
+          after-append (pointer_of plan.opening) h.log made key ∙ own.other_kept owned key apart,
         );
+        nobodys = h.nobodys;
         latch_numbers = λ seat. refl;
         longer = λ seen is. (is.0 ++ made, sym (append_assoc seen is.0 made) ∙ ap (λ (l : List Change). l ++ made) is.1);
       }
@@ -209,4 +210,4 @@ module _ (plan : Plan) (s : State ℕ View) (tree_state then : TreeState) (h : I
       }
 
       pub publish_keeps : IsTable plan record { words = words; homes = s.homes; views = set s.views id w }
-      publish_keeps = store_keeps plan s tree_state then h id number v.call.rows.next kept.0 v w at new log now leaves stored refl knows
+      publish_keeps = store_keeps plan s tree_state then h id number v.call.rows.next kept.0 v w at new log now leaves stored refl refl knows

@@ -51,7 +51,8 @@ module _ (plan : Plan) (s : State ℕ View) (tree_state : TreeState) (h : IsTabl
     ways = λ seat m other is. refl;
     rows = λ r least apart. (refl, other_row_stays plan s.words row r i x some_row least (λ same. apart (ap h.owners.row same ∙ (known.for_call.first_own room).1)) inside);
     numbers = λ n apart. (refl, λ free. free);
-    keys = λ key apart. (refl, refl, refl);
+    keys = λ owned key apart. (refl, refl, refl);
+    nobodys = h.nobodys;
     latch_numbers = λ seat. refl;
     longer = λ seen is. is;
   }
@@ -115,7 +116,7 @@ module _ (plan : Plan) (s : State ℕ View) (tree_state : TreeState) (h : IsTabl
     holders = h.holders;
     is_map = h.is_map;
     kept = h.kept;
-  } refl knows
+  } refl refl knows
 
 pub word_is_staged : (plan : Plan) (slots id i x : ℕ) (me : SeatState) → me.0.role ≡ Pass → me.0.call.rows.next < me.0.call.rows.stop → i < ROW_WORDS → 1 ≤ plan.counts.numbers
     → Allows (IsTable plan) slots id me (row_start plan.counts me.0.call.rows.next + i) (λ n. x) (λ n. stores_word (step slots (row_start plan.counts me.0.call.rows.next + i) x 0 none) me x)

@@ -1,5 +1,5 @@
 -- A deal keeps the rule: the keeper's first rows and page numbers, and keys that nobody has, become a new seat's.
-use Rattle.std.proofs.Common.{◌≡◌, ◌≢◌, ℕ, suc, ◌+◌, ◌-◌, ◌<◌, Bool, true, false, Some, None, List, [], ◌∷◌, ◌++◌, length, set, refl, sym, ap, ◌∙◌, subst, inl, inr, ⊎_elim, length-set, length-append, arith}
+use Rattle.std.proofs.Common.{◌≡◌, ◌≢◌, ℕ, suc, ◌+◌, ◌<◌, Bool, true, false, Some, None, List, [], ◌∷◌, ◌++◌, length, set, refl, sym, ap, ◌∙◌, subst, inl, inr, ⊎_elim, length-set, length-append, arith}
 use Rattle.std.specs.Prelude.{if◌then◌else◌, Contains}
 use mathlib.Core.Option.{some, some-injective}
 use lib.ListN.{get_elem?}
@@ -13,7 +13,7 @@ use Rattle.blink_live.specs.declared.view.View.{View}
 use Rattle.blink_live.specs.Changes.{put, after, entries_after, states_of}
 use Rattle.blink_live.specs.Dealing.{CanDeal}
 use Rattle.blink_live.specs.Rule.{Owners, IsFree, IsShare, IsInRole, Knows, pass_count, passes_in, AreCounted, IsTableAt, IsTable}
-use Rattle.blink_live.specs.Views.{is_among, share_of_keys, deals_one, keeps_rest, gets_first}
+use Rattle.blink_live.specs.Views.{is_among, share_of_keys, deals_one, keeps_rest, gets_first, latch_in}
 use Rattle.blink_live.proofs.dealt.KeysOfShare.{among_from_contains, contains_from_among, entries_of_keep, changes_of_keep}
 use Rattle.blink_live.proofs.told.EntriesAfterChanges.{after-same_states, entries_after-state}
 use Rattle.blink_live.proofs.table.MapsWithOneChange.{put_here, put_else}
@@ -29,7 +29,7 @@ owners_after old seat v rows pages keys = record {
   row = ranged v.rows.next (v.rows.next + rows) (suc seat) old.row;
   page = ranged v.pages.next (v.pages.next + pages) (suc seat) old.page;
   key = λ key. if is_among keys key then suc seat else old.key key;
-  latch_number = put old.latch_number seat (v.rows.next + rows - 1);
+  latch_number = put old.latch_number seat (latch_in v.plan.places (v.rows.next + rows));
 }
 
 module _ (plan : Plan) (s : State ℕ View) (tree_state : TreeState) (h : IsTableAt plan s tree_state) (id : ℕ) (v : View) (at : get_elem? s.views id ≡ some v)
@@ -79,7 +79,7 @@ module _ (plan : Plan) (s : State ℕ View) (tree_state : TreeState) (h : IsTabl
   published row is = row_else row 0 is (λ e. absurd (omega (arith, e)))
 
   latch_else : (seat : ℕ) → seat ≢ new_seat → new.latch_number seat ≡ old.latch_number seat
-  latch_else seat other = put_else old.latch_number new_seat seat (v.rows.next + rows - 1) other
+  latch_else seat other = put_else old.latch_number new_seat seat (latch_in v.plan.places (v.rows.next + rows)) other
 
   -- whoever holds a latch has an operation, and the new seat has none
   holder_else : (number seat : ℕ) → tree_state.holder number ≡ Some seat → new.latch_number seat ≡ old.latch_number seat
@@ -152,7 +152,7 @@ module _ (plan : Plan) (s : State ℕ View) (tree_state : TreeState) (h : IsTabl
 
   new_share : IsShare plan new h.log (suc new_seat) (share_of_keys keys v.plan.opening v.seen)
   new_share key has =
-      let saw_all : states_of key v.seen ≡ states_of key h.log = (in_role.2 key (can.free_keys key has)).saw_all in
+      let saw_all : states_of key v.seen ≡ states_of key h.log = (in_role.2 key (can.free_keys key has)).saw_all can.owned in
       let among : is_among keys key ≡ true = among_from_contains keys key has in
       record {
         own = new_key key has;
@@ -182,7 +182,7 @@ module _ (plan : Plan) (s : State ℕ View) (tree_state : TreeState) (h : IsTabl
     share = new_share;
     saw = known.saw;
     heard = (h.log, refl);
-    in_role = (let inside : id < new_seat = at_inside s.views id v at in omega (arith, inside), put_here old.latch_number new_seat (v.rows.next + rows - 1));
+    in_role = (let inside : id < new_seat = at_inside s.views id v at in omega (arith, inside), put_here old.latch_number new_seat (latch_in v.plan.places (v.rows.next + rows)));
   }
 
   -- ---- all seats
@@ -220,14 +220,15 @@ module _ (plan : Plan) (s : State ℕ View) (tree_state : TreeState) (h : IsTabl
         back = was.back;
         first = at_longer (set s.views id left) (right ∷ []) 0 left (subst (λ (i : ℕ). get_elem? (set s.views id left) i ≡ some left) first (at_put s.views id v left at));
         role = role_then;
-        counted = omega (arith, changed, no_pass, no_pass_then, more, counted);
+        counted = λ owned. let count = counted (ap (λ (y : View). y.plan.places) (sym is) ∙ owned) in omega (arith, changed, no_pass, no_pass_then, more, count);
       }
 
   deals_at : IsTableAt plan record { words = s.words; homes = s.homes; views = views_then } tree_state
   deals_at = owners_change plan s tree_state h new views_then published holder_else all_know
       (let same : length (set s.views id left) ≡ length s.views = length-set s.views id left in
       let longer : length views_then ≡ length (set s.views id left) + 1 = length-append (set s.views id left) (right ∷ []) in
-      omega (arith, same, longer)) counted_then
+      omega (arith, same, longer))
+      (λ common. absurd (let none : plan.places ≡ 0 = ap (λ (p : Plan). p.places) (sym known.same_plan) ∙ can.owned in omega (arith, none, common))) counted_then
 
 pub deals_keep_table : (plan : Plan) (id : ℕ) (v : View) (rows pages : ℕ) (keys taken : List ℕ) → CanDeal v rows pages keys taken
     → Splits (IsTable plan) id v (keeps_rest v rows pages taken) (gets_first v rows pages keys)

@@ -122,7 +122,7 @@ begins_operation plan slots id me op role idle fits enough s table homes at smal
       w,
       keeps,
       tt,
-      load_keeps_with plan s tree_state h id 0 me.0 w at invariant refl
+      load_keeps_with plan s tree_state h id 0 me.0 w at invariant refl refl
           (begin_knows plan s tree_state h id me.0 after row way (prime_words tree_state.prime) at role op enough (λ other is. ap (descent_bound tree_state.pages) (sym (goes_on_as after after.state other is))) h.prime),
       (
         after,

@@ -26,7 +26,7 @@ use Rattle.blink_live.proofs.table.CallsOfSeats.{nothing_for_call}
 
 -- the plan of a table that opens
 abbrev pub plan_over : PlainStore → PlainCounts → Plan
-plan_over store counts = record { fan = store.fan; counts = counts; opening = map_of store }
+plan_over store counts = record { fan = store.fan; counts = counts; places = 0; opening = map_of store }
 
 -- nobody is at work on the tree
 abbrev pub tree_state_over : PlainStore → TreeState
@@ -123,7 +123,7 @@ module _ (store : PlainStore) (counts : PlainCounts) (words : List ℕ) (numbers
     share = λ key among. absurd (omega (arith, among.1));
     saw = ([], refl);
     heard = ([], refl);
-    in_role = (refl, refl, (λ key not. record { own = refl; saw_all = refl }), (λ share among. absurd (omega (arith, among.1))));
+    in_role = (refl, refl, (λ key not. record { own = refl; saw_all = λ owned. refl }), (λ share among. absurd (omega (arith, among.1))));
   }
 
   -- the table of a tree at rest, as it opens
@@ -152,8 +152,9 @@ module _ (store : PlainStore) (counts : PlainCounts) (words : List ℕ) (numbers
           holders = λ number seat is. absurd (cc);
           is_map = record { ascending = is_map.ascending; kept = is_map.kept };
           kept = λ key. refl;
+          nobodys = λ common key. refl;
           views = one_view (Knows plan owners words (tree_state_over store) []) (first_view (length store.pages) plan) keeper_knows;
           others_idle = λ seat late. refl;
-          counted = record { keeper = first_view (length store.pages) plan; dealt = 0; back = 0; first = refl; role = refl; counted = refl };
+          counted = record { keeper = first_view (length store.pages) plan; dealt = 0; back = 0; first = refl; role = refl; counted = λ owned. refl };
         },
       )

@@ -47,9 +47,9 @@ module _ (plan : Plan) (s : State ℕ View) (tree_state : TreeState) (h : IsTabl
       } in
       subst (Knows plan h.owners s.words (moved tree_state id w.operation) h.log id) (sym same) knows
 
-  pub load_keeps_with : Invariant (moved tree_state id w.operation) → w.role ≡ v.role → Knows plan h.owners s.words (moved tree_state id w.operation) h.log id w
+  pub load_keeps_with : Invariant (moved tree_state id w.operation) → w.role ≡ v.role → w.plan ≡ v.plan → Knows plan h.owners s.words (moved tree_state id w.operation) h.log id w
       → IsTable plan record { words = set s.words word (get_or s.words word 0); homes = s.homes; views = set s.views id w }
-  load_keeps_with invariant same_role knows = subst (λ (words : List ℕ). IsTable plan record { words = words; homes = s.homes; views = set s.views id w }) (sym (set-get_or s.words word 0)) (
+  load_keeps_with invariant same_role same_plan knows = subst (λ (words : List ℕ). IsTable plan record { words = words; homes = s.homes; views = set s.views id w }) (sym (set-get_or s.words word 0)) (
     moved tree_state id w.operation,
     record {
       owners = h.owners;
@@ -68,6 +68,7 @@ module _ (plan : Plan) (s : State ℕ View) (tree_state : TreeState) (h : IsTabl
       holders = h.holders;
       is_map = record { ascending = h.is_map.ascending; kept = h.is_map.kept };
       kept = h.kept;
+      nobodys = h.nobodys;
       views = views_stay (Knows plan h.owners s.words (moved tree_state id w.operation) h.log) s.views id w knows
           (λ j u other there. let known = h.views j u there in record {
             same_plan = known.same_plan;
@@ -87,7 +88,7 @@ module _ (plan : Plan) (s : State ℕ View) (tree_state : TreeState) (h : IsTabl
           let inside = at_inside s.views id v at in
           let longer : length (set s.views id w) ≡ length s.views = length-set s.views id w in
           put_else tree_state.machines id seat w.operation (λ e. omega (arith, e, inside, longer, beyond)) ∙ h.others_idle seat (omega (arith, beyond, longer));
-      counted = counted_stays s.views id v w at same_role h.counted;
+      counted = counted_stays s.views id v w at same_role same_plan h.counted;
     },
   )
 
@@ -100,4 +101,4 @@ module _ (plan : Plan) (s : State ℕ View) (tree_state : TreeState) (h : IsTabl
 
   pub load_keeps : Invariant (moved tree_state id w.operation) → SameBesideReads v w → IsBoundedWay tree_state w → ReadsRow plan h.owners s.words w.reads → IsPrefix w.seen h.log
       → IsTable plan record { words = set s.words word (get_or s.words word 0); homes = s.homes; views = set s.views id w }
-  load_keeps invariant same bounded reads saw = load_keeps_with plan s tree_state h id word v w at invariant (ap (λ (x : View). x.role) same) (load_knows same bounded reads saw)
+  load_keeps invariant same bounded reads saw = load_keeps_with plan s tree_state h id word v w at invariant (ap (λ (x : View). x.role) same) (ap (λ (x : View). x.plan) same) (load_knows same bounded reads saw)

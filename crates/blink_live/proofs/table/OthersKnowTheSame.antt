@@ -1,7 +1,8 @@
 -- A step of one seat leaves what the others know.
-use Rattle.std.proofs.Common.{◌≡◌, ◌≢◌, ℕ, suc, ◌+◌, ◌<◌, ◌≤◌, Option, Some, None, List, sym, ◌∙◌, arith, []}
+use Rattle.std.proofs.Common.{◌≡◌, ◌≢◌, ℕ, suc, ◌+◌, ◌<◌, ◌≤◌, Option, Some, None, List, sym, ap, ◌∙◌, arith, []}
 use Rattle.std.specs.Prelude.{slice_index}
 use mathlib.Core.Option.{some}
+use native.Mathlib.Decide.{dec_le}
 use mathlib.Core.List.{IsPrefix}
 use lib.ListN.{get_elem?}
 use Rattle.atomic_table.specs.Table.{State}
@@ -20,7 +21,7 @@ use Rattle.blink_live.specs.declared.view.Share.{Share}
 use Rattle.blink_live.specs.declared.view.View.{View}
 use Rattle.blink_live.specs.Changes.{after, states_of}
 use Rattle.blink_live.specs.Rule.{Owners, IsPublished, PageWordIs, ReadsRow, HasRows, HasNumbers, HasForCall, IsShare, IsInRole, Knows, IsTableAt}
-use Rattle.blink_live.specs.Views.{span}
+use Rattle.blink_live.specs.Views.{IsCommon, IsOwned, span}
 use Rattle.blink_live.specs.Words.{row_start, RowIs}
 
 -- the words of a row stay
@@ -36,8 +37,9 @@ pub record LeavesOthers (plan : Plan) (s : State ℕ View) (tree_state then : Tr
   pub ways : (seat : ℕ) (m : PlainMachine) → seat ≢ id → tree_state.machines seat ≡ Some m → descent_bound then.pages m ≡ descent_bound tree_state.pages m
   pub rows : (row : ℕ) → 1 ≤ row → h.owners.row row ≢ suc id → (new.row row ≡ h.owners.row row) × RowStays plan s.words words row
   pub numbers : (number : ℕ) → h.owners.page number ≢ suc id → (new.page number ≡ h.owners.page number) × (tree_state.pages number ≡ None → then.pages number ≡ None)
-  pub keys : (key : ℕ) → h.owners.key key ≢ suc id
+  pub keys : IsOwned plan → (key : ℕ) → h.owners.key key ≢ suc id
       → (new.key key ≡ h.owners.key key) × (states_of key log ≡ states_of key h.log) × (after (pointer_of plan.opening) log key ≡ after (pointer_of plan.opening) h.log key)
+  pub nobodys : IsCommon plan → (key : ℕ) → new.key key ≡ 0
   pub latch_numbers : (seat : ℕ) → new.latch_number seat ≡ h.owners.latch_number seat
   pub longer : (seen : List Change) → IsPrefix seen h.log → IsPrefix seen log
 
@@ -88,24 +90,41 @@ module _ (plan : Plan) (s : State ℕ View) (tree_state then : TreeState) (h : I
       numbers = numbers_still v.call.pages has.numbers;
     }
 
-  share_still : (owner : ℕ) (share : Share) → owner ≢ suc id → IsShare plan h.owners h.log owner share → IsShare plan new log owner share
-  share_still owner share apart has key among =
+  -- where a seat owns a key, passes own the keys
+  owned : (owner key : ℕ) → 1 ≤ owner → h.owners.key key ≡ owner → IsOwned plan
+  owned owner key some_owner own = elim (dec_le 1 plan.places) [
+    | yes common ↦ let zero_is : 0 ≡ owner = sym (h.nobodys common key) ∙ own in absurd (omega (arith, zero_is, some_owner))
+    | no none ↦ omega (arith, none)
+  ]
+
+  share_still : (owner : ℕ) (share : Share) → 1 ≤ owner → owner ≢ suc id → IsShare plan h.owners h.log owner share → IsShare plan new log owner share
+  share_still owner share some_owner apart has key among =
       let own = has key among in
-      let t = leaves.keys key (λ e. apart (sym own.own ∙ e)) in
+      let t = leaves.keys (owned owner key some_owner own.own) key (λ e. apart (sym own.own ∙ e)) in
       record { own = t.0 ∙ own.own; kept = own.kept ∙ sym t.2; changes = t.1 ∙ own.changes }
 
-  role_still : (seat : ℕ) (v : View) (role : Role) → IsInRole plan h.owners h.log seat v role → IsInRole plan new log seat v role
-  role_still seat v (Keeper dealt back) is = (
+  -- a key that nobody owned is nobody's
+  still_free : (key : ℕ) → h.owners.key key ≡ 0 → h.owners.key key ≢ suc id → new.key key ≡ 0
+  still_free key none not_own = elim (dec_le 1 plan.places) [
+    | yes common ↦ leaves.nobodys common key
+    | no passes ↦ (leaves.keys (omega (arith, passes)) key not_own).0 ∙ none
+  ]
+
+  role_still : (seat : ℕ) (v : View) (role : Role) → v.plan ≡ plan → IsInRole plan h.owners h.log seat v role → IsInRole plan new log seat v role
+  role_still seat v (Keeper dealt back) same_plan is = (
     is.0,
     is.1,
     λ key untaken.
         let free = is.2 key untaken in
-        let t = leaves.keys key (λ e. let zero_is : 0 ≡ suc id = sym free.own ∙ e in absurd (omega (arith, zero_is))) in
-        record { own = t.0 ∙ free.own; saw_all = free.saw_all ∙ sym t.1 },
-    λ share came. share_still 1 share (λ e. omega (arith, e, some_pass)) (is.3 share came),
+        let not_own : h.owners.key key ≢ suc id = λ e. let zero_is : 0 ≡ suc id = sym free.own ∙ e in absurd (omega (arith, zero_is)) in
+        record {
+          own = still_free key free.own not_own;
+          saw_all = λ passes. free.saw_all passes ∙ sym (leaves.keys (sym (ap (λ (p : Plan). p.places) same_plan) ∙ passes) key not_own).1;
+        },
+    λ share came. share_still 1 share (omega arith) (λ e. omega (arith, e, some_pass)) (is.3 share came),
   )
-  role_still seat v Pass is = (is.0, leaves.latch_numbers seat ∙ is.1)
-  role_still seat v Spent is = is
+  role_still seat v Pass same_plan is = (is.0, leaves.latch_numbers seat ∙ is.1)
+  role_still seat v Spent same_plan is = is
 
   pub other_knows : (seat : ℕ) (v : View) → seat ≢ id → get_elem? s.views seat ≡ some v → Knows plan new words then log seat v
   other_knows seat v other at =
@@ -117,8 +136,8 @@ module _ (plan : Plan) (s : State ℕ View) (tree_state then : TreeState) (h : I
         rows = rows_still seat other v.rows known.rows;
         numbers = numbers_still seat other v.pages known.numbers;
         for_call = call_stays seat other v known.for_call;
-        share = share_still (suc seat) v.share (λ e. other (omega (arith, e))) known.share;
+        share = share_still (suc seat) v.share (omega arith) (λ e. other (omega (arith, e))) known.share;
         saw = leaves.longer v.seen known.saw;
         heard = leaves.longer v.told known.heard;
-        in_role = role_still seat v v.role known.in_role;
+        in_role = role_still seat v v.role known.same_plan known.in_role;
       }

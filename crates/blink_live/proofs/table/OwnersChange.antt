@@ -13,6 +13,7 @@ use Rattle.blink_live.specs.declared.view.Role.TheVariants.{Keeper, Pass, Spent}
 use Rattle.blink_live.specs.declared.view.Share.{Share}
 use Rattle.blink_live.specs.declared.view.View.{View}
 use Rattle.blink_live.specs.Rule.{Owners, PageWordIs, latch_word, ReadsRow, IsShare, IsInRole, Knows, AreCounted, IsTableAt}
+use Rattle.blink_live.specs.Views.{IsCommon}
 use Rattle.blink_live.proofs.table.CallsOfSeats.{call_still}
 
 -- what was published is
@@ -69,9 +70,9 @@ pub owners_change : (plan : Plan) (s : State ℕ View) (tree_state : TreeState) 
     → StaysPublished h.owners new
     → ((number seat : ℕ) → tree_state.holder number ≡ Some seat → new.latch_number seat ≡ h.owners.latch_number seat)
     → ((seat : ℕ) (v : View) → get_elem? views seat ≡ some v → Knows plan new s.words tree_state h.log seat v)
-    → length s.views ≤ length views → AreCounted views
+    → length s.views ≤ length views → (IsCommon plan → (key : ℕ) → new.key key ≡ 0) → AreCounted views
     → IsTableAt plan record { words = s.words; homes = s.homes; views = views } tree_state
-owners_change plan s tree_state h new views published same_latch knows longer counted = record {
+owners_change plan s tree_state h new views published same_latch knows longer nobodys counted = record {
   owners = new;
   log = h.log;
   now = h.now;
@@ -88,6 +89,7 @@ owners_change plan s tree_state h new views published same_latch knows longer co
   holders = λ number seat holds. let same = same_latch number seat holds in let some_number = h.holders number seat holds in omega (arith, same, some_number);
   is_map = record { ascending = h.is_map.ascending; kept = h.is_map.kept };
   kept = h.kept;
+  nobodys = nobodys;
   views = knows;
   others_idle = λ seat beyond. h.others_idle seat (omega (arith, longer, beyond));
   counted = counted;

@@ -13,7 +13,7 @@ use Rattle.blink_live.specs.declared.view.Role.TheVariants.{Keeper, Pass}
 use Rattle.blink_live.specs.declared.view.Share.{Share}
 use Rattle.blink_live.specs.declared.view.View.{View}
 use Rattle.blink_live.specs.Rule.{Owners, IsFree, IsShare, IsInRole, Knows, pass_count, passes_in, AreCounted, IsTableAt}
-use Rattle.blink_live.specs.Views.{spent, takes_one}
+use Rattle.blink_live.specs.Views.{IsOwned, spent, takes_one}
 use Rattle.blink_live.proofs.table.OwnersChange.{StaysPublished, StillOwns, reads_still, share_still, knows_still, owners_change}
 use Rattle.blink_live.proofs.table.PassesOut.{passes_role}
 use Rattle.blink_live.proofs.table.SeatsThatStay.{at_put, views_stay}
@@ -34,7 +34,7 @@ owners_after old other owner = record {
 
 module _ (plan : Plan) (some_number : 1 ≤ plan.counts.numbers) (s : State ℕ View) (tree_state : TreeState) (h : IsTableAt plan s tree_state) (id other : ℕ) (v w : View) (taken : List ℕ) (shares : List Share) (seen : List Change) (owner : ℕ)
     (at : get_elem? s.views id ≡ some v) (apart : ¬ (other ≡ id)) (there : get_elem? (set s.views id (takes_in v taken shares seen)) other ≡ some w)
-    (dealt back : ℕ) (role : v.role ≡ Keeper dealt back) (its_role : w.role ≡ Pass) (idle : w.operation ≡ None) where
+    (dealt back : ℕ) (role : v.role ≡ Keeper dealt back) (owned : IsOwned v.plan) (its_role : w.role ≡ Pass) (idle : w.operation ≡ None) where
   abbrev old : Owners
   old = h.owners
 
@@ -131,7 +131,7 @@ module _ (plan : Plan) (some_number : 1 ≤ plan.counts.numbers) (s : State ℕ 
         first = set_else (set s.views id both) other 0 (spent plan) (λ e. apart (sym e ∙ sym first))
             ∙ subst (λ (i : ℕ). get_elem? (set s.views id both) i ≡ some both) first (at_put s.views id v both at);
         role = role_then;
-        counted = omega (arith, one, two, no_pass, no_pass_then, a_pass, counted);
+        counted = λ passes. let count = counted (ap (λ (y : View). y.plan.places) (sym is) ∙ passes) in omega (arith, one, two, no_pass, no_pass_then, a_pass, count);
       }
 
   module _ (saw : IsPrefix seen h.log) (free : (key : ℕ) → ¬ Contains taken key → IsFree new h.log both key) (came : (share : Share) → Contains shares share → IsShare plan new h.log 1 share) where
@@ -164,4 +164,5 @@ module _ (plan : Plan) (some_number : 1 ≤ plan.counts.numbers) (s : State ℕ 
     takes_in_at = owners_change plan s tree_state h new views_then published (λ number seat holds. refl) all_know
         (let one : length (set s.views id both) ≡ length s.views = length-set s.views id both in
         let two : length views_then ≡ length (set s.views id both) = length-set (set s.views id both) other (spent plan) in
-        omega (arith, one, two)) counted_then
+        omega (arith, one, two))
+        (λ common. absurd (let none : plan.places ≡ 0 = ap (λ (p : Plan). p.places) (sym known.same_plan) ∙ owned in omega (arith, none, common))) counted_then

@@ -67,9 +67,9 @@ prime_still plan s tree_state then h id some_pass words new log leaves same_word
     (published.0, row_is_still plan s.words words (slice_index s.words 0) content published.1 h.prime.1)
 
 module _ (plan : Plan) (s : State ℕ View) (tree_state then : TreeState) (h : IsTableAt plan s tree_state) (id place x : ℕ) (some_pass : 1 ≤ id) (v w : View) (at : get_elem? s.views id ≡ some v) (new : Owners) (log : List Change) (now : List Entry) where
-  pub store_keeps : LeavesOthers plan s tree_state then h id (set s.words place x) new log → IsStored plan s tree_state then h (set s.words place x) new log now → w.role ≡ v.role
+  pub store_keeps : LeavesOthers plan s tree_state then h id (set s.words place x) new log → IsStored plan s tree_state then h (set s.words place x) new log now → w.role ≡ v.role → w.plan ≡ v.plan
       → Knows plan new (set s.words place x) then log id w → IsTable plan record { words = set s.words place x; homes = s.homes; views = set s.views id w }
-  store_keeps leaves stored same_role knows =
+  store_keeps leaves stored same_role same_plan knows =
       let words : List ℕ = set s.words place x in (
         then,
         record {
@@ -89,11 +89,12 @@ module _ (plan : Plan) (s : State ℕ View) (tree_state then : TreeState) (h : I
           holders = stored.holders;
           is_map = stored.is_map;
           kept = stored.kept;
+          nobodys = leaves.nobodys;
           views = views_stay (Knows plan new words then log) s.views id w knows (λ j u other there. other_knows plan s tree_state then h id some_pass words new log leaves j u other there);
           others_idle = λ seat beyond.
               let inside = at_inside s.views id v at in
               let longer : length (set s.views id w) ≡ length s.views = length-set s.views id w in
               leaves.machines seat (λ e. omega (arith, e, inside, longer, beyond)) ∙ h.others_idle seat (omega (arith, beyond, longer));
-          counted = counted_stays s.views id v w at same_role h.counted;
+          counted = counted_stays s.views id v w at same_role same_plan h.counted;
         },
       )

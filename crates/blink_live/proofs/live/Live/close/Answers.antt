@@ -61,7 +61,7 @@ its_end live keeper passes id me words slots is all final =
     let same : me.0 ≡ view_at_end keeper passes = ap (λ (x : SeatState). x.0) is in
     let long : length (shares_of passes) ≡ length passes = length-map passes (λ (pass : Pass). pass.seat.me.0.share) in
     let role : (view_at_end keeper passes).role ≡ KeeperRole keeper.dealt (keeper.back + length (shares_of passes)) = ap (λ (r : Role). takes_more r (length (shares_of passes))) keeper.role_is in
-    at_end (plan_of live.table.shared.key) id (view_at_end keeper passes) keeper.dealt (keeper.back + length (shares_of passes)) words slots role (enough_back keeper.dealt keeper.back (length passes) (length (shares_of passes)) all long)
+    at_end (plan_of live.table.shared.key) id (view_at_end keeper passes) keeper.dealt (keeper.back + length (shares_of passes)) words slots role keeper.owned (enough_back keeper.dealt keeper.back (length passes) (length (shares_of passes)) all long)
     (subst (λ (v : View). Final (Seen (IsTable (plan_of live.table.shared.key)) id v) words slots) same final)
 
 -- in the words of the table's own counts and fan

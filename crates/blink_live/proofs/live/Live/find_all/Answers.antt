@@ -68,6 +68,7 @@ invariant_of-pass c =
       in_order = pass.in_order;
       for_changes = pass.for_changes;
       role_is = searched.same_role ∙ (ap (λ (x : SeatState). x.0.role) up.is ∙ pass.role_is);
+      owned = ap (λ (p : Plan). p.places) (searched.same_plan ∙ ap (λ (x : SeatState). x.0.plan) up.is) ∙ pass.owned;
       own_seen = searched.idle.knows_own.changes;
       none_told = searched.same_told ∙ ap (λ (x : SeatState). x.0.told) up.is;
       idle = searched.idle.idle;

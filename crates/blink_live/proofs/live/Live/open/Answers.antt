@@ -62,5 +62,6 @@ invariant_of-keeper c =
       ascending = none_in_order c.new.result.items c.new.ensures.items;
       role_is = ap (λ (x : SeatState). x.0.role) made.4;
       counted = omega arith;
+      owned = ap (λ (x : SeatState). x.0.plan.places) made.4;
       no_slot = ap (λ (x : SeatState). x.1) made.4;
     }
