@@ -11,3 +11,5 @@ pub mod UpdatesGoOn
 pub mod PassesComeBack
 pub mod PassesSetOut
 pub mod PendingsAreSent
+pub mod PlacesAreMarked
+pub mod RoomComesBack

@@ -20,7 +20,7 @@ use Rattle.blink_live.specs.declared.view.Role.TheVariants.{Keeper}
 use Rattle.blink_live.specs.declared.view.Share.{Share}
 use Rattle.blink_live.specs.declared.view.View.{View}
 use Rattle.blink_live.specs.Changes.{after, changes_made, states_of, Learns}
-use Rattle.blink_live.specs.Views.{SeatState, KnowsItsOwn, ShowsNoMore, for_call, going_on, stage_word, changed_by, publishes, reading, forgets_told, learns_of_others, span}
+use Rattle.blink_live.specs.Views.{SeatState, KnowsItsOwn, ShowsNoMore, for_call, going_on, is_busy, stage_word, changed_by, publishes, reading, forgets_told, learns_of_others, span}
 use Rattle.blink_live.specs.Words.{AreNumbersIn, AreRowsIn, IsRowNumber, row_start}
 
 -- the page of this number has a page word
@@ -181,6 +181,11 @@ tries_latch st me found then = (m : PlainMachine) (number : ℕ) → me.0.operat
 
 abbrev pub lets_go : Step ℕ → SeatState → ℕ → SeatState → Type 0
 lets_go st me found then = (m : PlainMachine) (number : ℕ) → me.0.operation ≡ Some m → NeedsUnlatch m number → st.word ≡ me.0.plan.counts.numbers + number → GoesOn (unlatch number) m me then
+
+-- ---- the word of a session's place
+
+abbrev pub marks_place : Step ℕ → SeatState → ℕ → SeatState → Type 0
+marks_place st me found then = then ≡ (is_busy me.0 st.first, me.1)
 
 -- ---- a word of the first row that the seat's call may use
 

@@ -1,6 +1,6 @@
 -- The rule of the table: between any two atomic steps the words and the views of the seats together represent a tree state for
 -- which the invariant holds.
-use Rattle.std.specs.Prelude.{◌≡◌, ℕ, suc, ◌+◌, ◌<◌, ◌≤◌, Option, Some, None, List, [], ◌∷◌, length, All, Contains, slice_index, ⊤}
+use Rattle.std.specs.Prelude.{◌≡◌, ℕ, suc, ◌+◌, ◌*◌, ◌<◌, ◌≤◌, Option, Some, None, List, [], ◌∷◌, length, All, Contains, slice_index, ⊤}
 use mathlib.Core.Option.{some}
 use mathlib.Core.List.{IsPrefix}
 use lib.ListN.{get_elem?}
@@ -23,7 +23,7 @@ use Rattle.blink_live.specs.declared.view.Share.{Share}
 use Rattle.blink_live.specs.declared.view.View.{View}
 use Rattle.blink_live.specs.Changes.{after, states_of}
 use Rattle.blink_live.specs.Views.{IsCommon, IsOwned, latch_of, span}
-use Rattle.blink_live.specs.Words.{word_count, IsRowNumber, RowIs}
+use Rattle.blink_live.specs.Words.{word_count, place_word, IsRowNumber, RowIs}
 
 -- ---- owners: 0 for nobody, and else a seat's number plus 1
 
@@ -36,6 +36,8 @@ pub record Owners : Type 0 where
   pub key : ℕ → ℕ
   -- the number that a seat puts into a latch word
   pub latch_number : ℕ → ℕ
+  -- of the places of sessions
+  pub place : ℕ → ℕ
 
 -- the row is published: nobody stores to it any more
 abbrev pub IsPublished : Plan → Owners → ℕ → Type 0
@@ -106,6 +108,18 @@ IsInRole plan owners log seat v (Keeper dealt back) =
 IsInRole plan owners log seat v Pass = (1 ≤ seat) × (owners.latch_number seat ≡ latch_of v)
 IsInRole plan owners log seat v Spent = v.operation ≡ None
 
+-- in a common table a pass's seat is a session's, and has a place: the word of the place is as the session knows it, and isn't 0
+-- while an operation is under way
+pub record HasPlace (plan : Plan) (owners : Owners) (words : List ℕ) (seat : ℕ) (v : View) : Type 0 where
+  pub in_range : v.place < plan.places
+  pub own : owners.place v.place ≡ suc seat
+  pub word : slice_index words (place_word plan.counts v.place) ≡ v.busy
+  pub busy : (m : PlainMachine) → v.operation ≡ Some m → 1 ≤ v.busy
+
+-- nobody has the places from `first` on, and their words are 0
+abbrev pub ArePlacesLeft : Plan → Owners → List ℕ → ℕ → Type 0
+ArePlacesLeft plan owners words first = (place : ℕ) → first ≤ place → (owners.place place ≡ 0) × (place < plan.places → slice_index words (place_word plan.counts place) ≡ 0)
+
 -- the descent bound of the seat's operation
 abbrev pub IsBoundedWay : TreeState → View → Type 0
 IsBoundedWay tree_state v = (m : PlainMachine) → v.operation ≡ Some m → descent_bound tree_state.pages m ≡ v.descent_bound
@@ -123,6 +137,8 @@ pub record Knows (plan : Plan) (owners : Owners) (words : List ℕ) (tree_state 
   pub saw : IsPrefix v.seen log
   pub heard : IsPrefix v.told log
   pub in_role : IsInRole plan owners log seat v v.role
+  pub placed : IsCommon plan → v.role ≡ Pass → HasPlace plan owners words seat v
+  pub places_left : (dealt back : ℕ) → v.role ≡ Keeper dealt back → ArePlacesLeft plan owners words dealt
 
 -- ---- the number of passes out
 
@@ -155,7 +171,7 @@ pub record IsTableAt (plan : Plan) (s : State ℕ View) (tree_state : TreeState)
   pub prime_numbers : All IsPageNumber tree_state.prime
   -- the words
   pub bounded : AreBounded plan.counts
-  pub width : length s.words ≡ word_count plan.counts
+  pub width : length s.words ≡ word_count plan.counts + 8 * plan.places
   pub prime : IsPublished plan owners (slice_index s.words 0) × RowIs plan.counts s.words (slice_index s.words 0) (prime_words tree_state.prime)
   pub pages : (number : ℕ) → 1 ≤ number → number < plan.counts.numbers → PageWordIs plan owners s.words (slice_index s.words number) (tree_state.pages number)
   pub no_other_page : (number : ℕ) → plan.counts.numbers ≤ number → tree_state.pages number ≡ None

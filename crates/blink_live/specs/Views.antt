@@ -49,6 +49,8 @@ seat_for plan role rows pages share = record {
   role = role;
   rows = rows;
   pages = pages;
+  place = 0;
+  busy = 0;
   call = no_call;
   share = share;
   taken = [];
@@ -126,10 +128,11 @@ abbrev pub pages_of : Op → ℕ
 pages_of (Insert key pointer) = MAX_NEW_PAGES_PER_INSERT
 pages_of op = 0
 
--- the pass has these rows and page numbers
+-- the seat has these rows and page numbers, and a session has announced that it begins
 pub record CanBegin (v : View) (op : Op) : Type 0 where
   pub rows : v.rows.next + rows_of op ≤ v.rows.stop
   pub pages : v.pages.next + pages_of op ≤ v.pages.stop
+  pub announced : IsCommon v.plan → 1 ≤ v.busy
 
 -- the first of them go to the call that begins
 abbrev pub for_call : View → Op → View
@@ -148,6 +151,10 @@ SameBesideReads v w = w ≡ record v { operation = w.operation; descent_bound = 
 -- the operation is `after` now
 abbrev pub going_on : View → PlainMachine → ℕ → View
 going_on v after way = record v { operation = goes_on after after.state; descent_bound = way }
+
+-- the place's word is this now
+abbrev pub is_busy : View → ℕ → View
+is_busy v busy = record v { busy = busy }
 
 -- the call has staged these words of its first row
 abbrev pub is_staged : View → List ℕ → View
@@ -207,6 +214,11 @@ abbrev pub takes_one : Role → Role
 takes_one (Keeper dealt back) = Keeper dealt (suc back)
 takes_one role = role
 
+-- the number of passes dealt, or of sessions, whose places are taken in this order
+abbrev pub dealt_in : Role → ℕ
+dealt_in (Keeper dealt back) = dealt
+dealt_in role = 0
+
 -- the keeper without the first rows and page numbers; these keys are taken now
 abbrev pub keeps_rest : View → ℕ → ℕ → List ℕ → View
 keeps_rest v rows pages taken = record v {
@@ -219,7 +231,7 @@ keeps_rest v rows pages taken = record v {
 -- a pass with these rows and page numbers, and with these keys; it has seen what the keeper has seen
 abbrev pub gets_first : View → ℕ → ℕ → List ℕ → View
 gets_first v rows pages keys =
-    record (seat_for v.plan Pass (span v.rows.next (v.rows.next + rows)) (span v.pages.next (v.pages.next + pages)) (share_of_keys keys v.plan.opening v.seen)) { seen = v.seen }
+    record (seat_for v.plan Pass (span v.rows.next (v.rows.next + rows)) (span v.pages.next (v.pages.next + pages)) (share_of_keys keys v.plan.opening v.seen)) { place = dealt_in v.role; seen = v.seen }
 
 -- the keeper after a pass has come back while the table lives: these keys are still taken, and it has seen what the pass had seen
 abbrev pub retires : View → List ℕ → View → View

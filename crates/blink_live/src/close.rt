@@ -58,7 +58,12 @@ impl Live {
             back: _,
         } = keeper;
         self.take_back(&mut seat, passes);
-        let Live { table, counts, fan } = self;
+        let Live {
+            table,
+            counts,
+            fan,
+            places: _,
+        } = self;
         let closed = table.close_with(seat);
         let tree = tree_at_end(alloc, &closed, &counts, fan);
         closed.free();
@@ -104,14 +109,14 @@ impl Live {
 }
 
 // Builds the tree at rest that the words hold, with its pages numbered anew.
-fn tree_at_end(
+pub fn tree_at_end(
     alloc: Global,
     closed: &Closed<u8, Global>,
     counts: &Counts,
     fan: u8,
 ) -> Result<Rest, AllocError>
     requires full { IsFull closed.now.words }
-    requires width { slots_len closed.now.words ≡ word_count counts.now }
+    requires width { word_count counts.now ≤ slots_len closed.now.words }
     requires fan { IsFan fan }
     requires tree { KeepsSomeTree counts.now (slots_items closed.now.words) fan }
     ensures fan { IfOk result (λ rest. rest.fan ≡ fan) }
@@ -126,7 +131,7 @@ fn tree_at_end(
 // The prime block that the words hold.
 fn prime_at(closed: &Closed<u8, Global>, counts: &Counts) -> Prime
     requires full { IsFull closed.now.words }
-    requires width { slots_len closed.now.words ≡ word_count counts.now }
+    requires width { word_count counts.now ≤ slots_len closed.now.words }
     requires kept { (leftmost : List ℕ) × KeepsPrime counts.now (slots_items closed.now.words) leftmost }
     ensures { (leftmost : List ℕ) → KeepsPrime counts.now (slots_items closed.now.words) leftmost
         → result ≡ leftmost }
@@ -149,7 +154,7 @@ fn gather(
     prime: &Prime,
 ) -> Result<Rest, AllocError>
     requires full { IsFull closed.now.words }
-    requires width { slots_len closed.now.words ≡ word_count counts.now }
+    requires width { word_count counts.now ≤ slots_len closed.now.words }
     requires fan { IsFan fan }
     requires rest { KeepsTreeAtRest counts.now (slots_items closed.now.words) fan prime.now }
     ensures fan { IfOk result (λ rest. rest.fan ≡ fan) }
@@ -183,7 +188,7 @@ fn store_of_leaves(
     leftmost: u32,
 ) -> Result<Store, AllocError>
     requires full { IsFull closed.now.words }
-    requires width { slots_len closed.now.words ≡ word_count counts.now }
+    requires width { word_count counts.now ≤ slots_len closed.now.words }
     requires fan { IsFan fan }
     requires leaves { HasLeavesToCome counts.now (slots_items closed.now.words) fan leftmost }
     ensures fan { IfOk result (λ store. store.fan ≡ fan) }
@@ -210,7 +215,7 @@ fn add_pages(
     first_child: u32,
 ) -> Result<(), AllocError>
     requires full { IsFull closed.now.words }
-    requires width { slots_len closed.now.words ≡ word_count counts.now }
+    requires width { word_count counts.now ≤ slots_len closed.now.words }
     requires pages { HasPagesToCome counts.now (slots_items closed.now.words)
         store.old.fan from (length store.old.pages) first_child }
     ensures fan { store.new.fan ≡ store.old.fan }
@@ -248,7 +253,7 @@ fn add(store: &mut Store, page: Page) -> Result<(), AllocError>
 // The page that the words hold under `number`.
 fn page_at(closed: &Closed<u8, Global>, counts: &Counts, number: u32) -> Page
     requires full { IsFull closed.now.words }
-    requires width { slots_len closed.now.words ≡ word_count counts.now }
+    requires width { word_count counts.now ≤ slots_len closed.now.words }
     requires kept { HasPageAt counts.now (slots_items closed.now.words) number }
     ensures { IsPageAt counts.now (slots_items closed.now.words) number result }
 {

@@ -1,7 +1,7 @@
 //! The types of a table: `Live` holds the tree, `Keeper` deals the passes, and with a `Pass` a thread reads and changes some
 //! keys. A `Pending` is a pass's operation under way. These types stand apart from their calls, since the calls' contracts name
 //! them.
-ghost use Rattle.std.specs.Prelude.{◌≡◌, ◌≤◌, [], IsSorted, None};
+ghost use Rattle.std.specs.Prelude.{◌≡◌, ◌+◌, ◌*◌, ◌≤◌, [], IsSorted, None};
 ghost use Rattle.std.specs.Ordering.{nat_cmp};
 ghost use Rattle.blink_page.specs.{IsFan};
 ghost use Rattle.blink_live.specs.Words.{word_count};
@@ -28,11 +28,14 @@ pub struct Live {
     pub(crate) table: Table<u8, View, Opened, InvariantOfTree, Global>,
     pub(crate) counts: Counts,
     pub(crate) fan: u8,
+    // 0 where passes own the keys; else the number of places for sessions.
+    pub(crate) places: u64,
     ghost counts_are: { counts ≡ table.shared.key.counts },
     ghost fan_is: { (fan ≡ table.shared.key.index.value.fan) × IsFan fan },
     ghost some_number: { 1 ≤ counts.numbers },
     ghost no_slot: { table.shared.table_id.slots ≡ 0 },
-    ghost width: { table.shared.table_id.words ≡ word_count counts },
+    ghost places_are: { places ≡ table.shared.key.places },
+    ghost width: { table.shared.table_id.words ≡ word_count counts + 8 * places },
 }
 
 /// The right to deal a table's passes, to take them back, and to close the table when all are back. It holds the keys of the

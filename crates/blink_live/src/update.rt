@@ -64,13 +64,7 @@ impl Live {
     }
 
     // Takes a new operation to the leaf of its key. The operation stays where its caller made it, since it is large.
-    pub(crate) fn set_out(
-        &self,
-        seat: &mut Seat<u8, View>,
-        machine: &mut Machine,
-        room: &Room,
-        op: Op,
-    )
+    pub fn set_out(&self, seat: &mut Seat<u8, View>, machine: &mut Machine, room: &Room, op: Op)
         requires seat { IsPassSeat self.now seat.old.table_id seat.old.me }
         requires fresh { machine.old ≡ fresh self.now.fan op }
         requires idle { seat.old.me.0.operation ≡ None }
@@ -99,7 +93,7 @@ impl Live {
 
     // Takes steps of the operation until it has ended, and returns its answer; or `None` after so many steps in vain, at least
     // one. It waits for nobody.
-    pub(crate) fn take_steps(
+    pub fn take_steps(
         &self,
         seat: &mut Seat<u8, View>,
         machine: &mut Machine,

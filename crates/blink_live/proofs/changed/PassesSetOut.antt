@@ -1,5 +1,5 @@
 -- A pass that has a change of the operation's kind left can begin an operation of one of its keys.
-use Rattle.std.proofs.Common.{◌≡◌, ◌≢◌, inl, ℕ, ◌+◌, ◌≤◌, List, sym, ◌∙◌, subst}
+use Rattle.std.proofs.Common.{◌≡◌, ◌≢◌, inl, ℕ, ◌+◌, ◌≤◌, List, sym, ◌∙◌, subst, arith}
 use Rattle.std.specs.Prelude.{Contains}
 use Rattle.blink_batch.specs.{key_of}
 use Rattle.blink_batch.specs.declared.Op.{Op}
@@ -43,6 +43,7 @@ can_set_out live op pass its_own updates own some =
       can_begin = record {
         rows = subst (λ (s : Span). s.next + rows_of op ≤ s.stop) pass.rows_are takes.enough_rows;
         pages = subst (λ (s : Span). s.next + pages_of op ≤ s.stop) pass.pages_are takes.enough_pages;
+        announced = λ common. absurd (let none = pass.owned in omega (arith, none, common));
       };
       same_room = (λ i. room_for op (pass.rows_are i) (pass.pages_are i)) ∙ in_room op pass.seat.me.0 pass.owned;
       may = inl (subst (λ (keys : List ℕ). Contains keys (key_of op)) pass.keys_are own);

@@ -55,7 +55,7 @@ pub record BecomesPublished (plan : Plan) (s : State ℕ View) (id number : ℕ)
   pub longest : IsLongest (set s.views id (publishes me.0 after_it way pages share seen)) seen
 
 module _ (plan : Plan) (s : State ℕ View) (tree_state then : TreeState) (h : IsTableAt plan s tree_state) (id number : ℕ) (kind : Kind) (pages : Span) (me : SeatState) (m after_it : PlainMachine) (content : List ℕ)
-    (at : get_elem? s.views id ≡ some me.0) (role : me.0.role ≡ Pass) (its : IsItsOperation tree_state id m) (fits : FitsWords m.op) (stepped : Steps tree_state id m (Moved kind) after_it then)
+    (at : get_elem? s.views id ≡ some me.0) (role : me.0.role ≡ Pass) (under : (k : PlainMachine) × (me.0.operation ≡ Some k)) (its : IsItsOperation tree_state id m) (fits : FitsWords m.op) (stepped : Steps tree_state id m (Moved kind) after_it then)
     (tree : IsStepOfTree plan s tree_state then h id number (descent_bound then.pages after_it) me.0 after_it content pages at role)
     (in_range : number < plan.counts.numbers) (room : me.0.call.rows.next < me.0.call.rows.stop) (is_row : IsRowOf me.0.call.staged content) (may : MayChange me.0 (key_of m.op)) where
   known : Knows plan h.owners s.words tree_state h.log id me.0
@@ -123,7 +123,7 @@ module _ (plan : Plan) (s : State ℕ View) (tree_state then : TreeState) (h : I
 
   -- the changes where the step decides the operation
   decides_here : (share : Share) → IsShareThen share → HasEntries then (map_after h.now m.op)
-      → ChangesOwn plan s tree_state then h id number (descent_bound then.pages after_it) me.0 after_it content pages at role tree in_range room is_row its_changes (map_after h.now m.op) share
+      → ChangesOwn plan s tree_state then h id number (descent_bound then.pages after_it) me.0 after_it content pages at role under tree in_range room is_row its_changes (map_after h.now m.op) share
   decides_here share is has_entries = record {
     other_changes = λ owned key apart. none_of_other m.op kept_before key (its_key owned key apart);
     other_kept = λ owned key apart. other_stays (after (pointer_of plan.opening) h.log) m.op kept_before key (its_key owned key apart);
@@ -143,7 +143,7 @@ module _ (plan : Plan) (s : State ℕ View) (tree_state then : TreeState) (h : I
       (answers ∙ ap (λ (k : Option ℕ). Some (answer_at m.op k)) (h.kept (key_of m.op)), ([], append-nil (h.log ++ its_changes)), is.changes, is.own)
 
   -- and where it doesn't
-  decides_nothing : HasEntries then h.now → ChangesOwn plan s tree_state then h id number (descent_bound then.pages after_it) me.0 after_it content pages at role tree in_range room is_row [] h.now me.0.share
+  decides_nothing : HasEntries then h.now → ChangesOwn plan s tree_state then h id number (descent_bound then.pages after_it) me.0 after_it content pages at role under tree in_range room is_row [] h.now me.0.share
   decides_nothing has_entries = record {
     other_changes = λ owned key apart. refl;
     other_kept = λ owned key apart. refl;
@@ -185,7 +185,7 @@ module _ (plan : Plan) (s : State ℕ View) (tree_state then : TreeState) (h : I
           way = way;
           share = decided_share.0;
           seen = h.log ++ its_changes;
-          table = publish_keeps plan s tree_state then h id number way me.0 after_it content pages at role tree in_range room is_row its_changes (map_after h.now m.op) decided_share.0 (decides_here decided_share.0 decided_share.1 has_entries) bounded;
+          table = publish_keeps plan s tree_state then h id number way me.0 after_it content pages at role under tree in_range room is_row its_changes (map_after h.now m.op) decided_share.0 (decides_here decided_share.0 decided_share.1 has_entries) bounded;
           learns = learns its_changes;
           decided = Decided.deciding none_yet (in_order decided_share.0 decided_share.1 answers);
           next = next;
@@ -199,7 +199,7 @@ module _ (plan : Plan) (s : State ℕ View) (tree_state then : TreeState) (h : I
           way = way;
           share = me.0.share;
           seen = h.log ++ [];
-          table = publish_keeps plan s tree_state then h id number way me.0 after_it content pages at role tree in_range room is_row [] h.now me.0.share (decides_nothing has_entries) bounded;
+          table = publish_keeps plan s tree_state then h id number way me.0 after_it content pages at role under tree in_range room is_row [] h.now me.0.share (decides_nothing has_entries) bounded;
           learns = learns [];
           decided = Decided.other same_answer refl;
           next = next;
@@ -277,7 +277,7 @@ page_becomes_published plan s table id number me m at role at_m fits needs some_
     (numbers_else plan s tree_state h id number way me.0 after_it page me.0.call.pages at role some_number in_range me.0.pages (λ n low high. differs n (known.numbers.free n low high)) known.numbers)
     (numbers_else plan s tree_state h id number way me.0 after_it page me.0.call.pages at role some_number in_range me.0.call.pages (λ n low high. differs n (known.for_call.numbers.free n low high)) known.for_call.numbers)
     known.for_call.before.1 in
-    becomes_published plan s tree_state then h id number (kinds.WritePage number) me.0.call.pages me m after_it (page_words page) at role its fits stepped tree in_range room is_row may
+    becomes_published plan s tree_state then h id number (kinds.WritePage number) me.0.call.pages me m after_it (page_words page) at role (m, at_m) its fits stepped tree in_range room is_row may
 
 pub page_is_published : (plan : Plan) (slots id number : ℕ) (me : SeatState) (m : PlainMachine) → me.0.role ≡ Pass → me.0.operation ≡ Some m → FitsWords m.op → NeedsWrite m number
     → 1 ≤ number → number < plan.counts.numbers → me.0.call.rows.next < me.0.call.rows.stop → IsRowOf me.0.call.staged (page_words (page_out m 0)) → MayChange me.0 (key_of m.op)
@@ -329,7 +329,7 @@ new_becomes_published plan s table id me m at role at_m fits needs number_left r
     (numbers_else plan s tree_state h id number way me.0 after_it page rest at role some_number in_range rest (λ n low high same. omega (arith, low, same))
     (record { in_range = (omega arith, last); own = λ n low high. numbers.own n (omega (arith, low)) high; free = λ n low high. numbers.free n (omega (arith, low)) high }))
     before in
-    becomes_published plan s tree_state then h id number (kinds.WritePage number) rest me m after_it (page_words page) at role its fits stepped tree in_range room is_row may
+    becomes_published plan s tree_state then h id number (kinds.WritePage number) rest me m after_it (page_words page) at role (m, at_m) its fits stepped tree in_range room is_row may
 
 pub new_is_published : (plan : Plan) (slots id : ℕ) (me : SeatState) (m : PlainMachine) → me.0.role ≡ Pass → me.0.operation ≡ Some m → FitsWords m.op → NeedsNew m
     → me.0.call.pages.next < me.0.call.pages.stop → me.0.call.rows.next < me.0.call.rows.stop → IsRowOf me.0.call.staged (page_words (page_out m me.0.call.pages.next)) → MayChange me.0 (key_of m.op)
@@ -386,7 +386,7 @@ prime_becomes_published plan s table id me m prime at role at_m fits needs out s
       call_before = known.for_call.before.1;
       no_other_page = h.no_other_page;
     } in
-    becomes_published plan s tree_state then h id 0 kinds.WritePrime me.0.call.pages me m after_it (prime_words prime) at role its fits stepped tree (omega (arith, some_number)) room is_row may
+    becomes_published plan s tree_state then h id 0 kinds.WritePrime me.0.call.pages me m after_it (prime_words prime) at role (m, at_m) its fits stepped tree (omega (arith, some_number)) room is_row may
 
 pub prime_is_published : (plan : Plan) (slots id : ℕ) (me : SeatState) (m : PlainMachine) (prime : List ℕ) → me.0.role ≡ Pass → me.0.operation ≡ Some m → FitsWords m.op → NeedsPrimeWrite m → PrimeOut m prime
     → 1 ≤ plan.counts.numbers → me.0.call.rows.next < me.0.call.rows.stop → IsRowOf me.0.call.staged (prime_words prime) → MayChange me.0 (key_of m.op)

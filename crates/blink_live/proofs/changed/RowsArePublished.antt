@@ -23,13 +23,13 @@ use Rattle.blink_machine.specs.Invariant.{Invariant}
 use Rattle.blink_machine.proofs.Offered.{step_law, descent_bound_stays}
 use Rattle.blink_live.specs.declared.view.Change.{Change}
 use Rattle.blink_live.specs.declared.view.Plan.{Plan}
-use Rattle.blink_live.specs.declared.view.Role.TheVariants.{Pass}
+use Rattle.blink_live.specs.declared.view.Role.TheVariants.{Keeper, Pass}
 use Rattle.blink_live.specs.declared.view.Share.{Share}
 use Rattle.blink_live.specs.declared.view.View.{View}
 use Rattle.blink_live.specs.Changes.{put, after, states_of}
 use Rattle.blink_live.specs.Rule.{Owners, IsPublished, PageWordIs, latch_word, HasRows, HasNumbers, IsShare, IsInRole, IsBoundedWay, Knows, IsTableAt, IsTable}
 use Rattle.blink_live.specs.Views.{IsOwned, span, publishes}
-use Rattle.blink_live.specs.Words.{RowIs}
+use Rattle.blink_live.specs.Words.{place_word, RowIs}
 use Rattle.blink_live.proofs.changed.ChangesAreTheMaps.{after-append, states_of-append}
 use Rattle.blink_live.proofs.table.MapsWithOneChange.{put_here, put_else}
 use Rattle.blink_live.proofs.table.OthersKnowTheSame.{LeavesOthers, RowStays, row_is_still, page_word_still, reads_still}
@@ -69,7 +69,7 @@ module _ (plan : Plan) (s : State ℕ View) (tree_state then : TreeState) (h : I
     pub call_before : pages.stop ≤ v.pages.next
     pub no_other_page : (n : ℕ) → plan.counts.numbers ≤ n → then.pages n ≡ None
 
-  module _ (step : IsStepOfTree) (in_range : number < plan.counts.numbers) (room : v.call.rows.next < v.call.rows.stop) (is_row : IsRowOf v.call.staged content) (made : List Change) (now : List Entry) (share : Share) where
+  module _ (under : (m : PlainMachine) × (v.operation ≡ Some m)) (step : IsStepOfTree) (in_range : number < plan.counts.numbers) (room : v.call.rows.next < v.call.rows.stop) (is_row : IsRowOf v.call.staged content) (made : List Change) (now : List Entry) (share : Share) where
     abbrev pub words : List ℕ
     words = set s.words number v.call.rows.next
 
@@ -91,6 +91,10 @@ module _ (plan : Plan) (s : State ℕ View) (tree_state then : TreeState) (h : I
     stays : (row : ℕ) → RowStays plan s.words words row
     stays row = row_stays plan s.words number v.call.rows.next row (omega (arith, in_range))
 
+    -- the words of places stand behind
+    other_place : (place : ℕ) → slice_index words (place_word plan.counts place) ≡ slice_index s.words (place_word plan.counts place)
+    other_place place = get_or-set_other s.words number (place_word plan.counts place) v.call.rows.next 0 (λ e. omega (arith, e, in_range))
+
     -- what the write changes of keys: its own alone
     pub record ChangesOwn : Type 0 where
       pub other_changes : IsOwned plan → (key : ℕ) → h.owners.key key ≢ suc id → states_of key made ≡ []
@@ -104,7 +108,7 @@ module _ (plan : Plan) (s : State ℕ View) (tree_state then : TreeState) (h : I
       leaves = record {
         machines = step.others;
         ways = λ seat m apart is. ways_stay tree_state then.pages seat m h.invariant step.places is;
-        rows = λ row least apart. (put_else h.owners.row v.call.rows.next row 0 (λ same. apart (ap h.owners.row same ∙ (known.for_call.first_own room).1)), stays row);
+        rows = λ row least most apart. (put_else h.owners.row v.call.rows.next row 0 (λ same. apart (ap h.owners.row same ∙ (known.for_call.first_own room).1)), stays row);
         numbers = λ n apart. (refl, step.others_free n apart);
         keys = λ owned key apart. (
           refl,
@@ -112,6 +116,8 @@ module _ (plan : Plan) (s : State ℕ View) (tree_state then : TreeState) (h : I
           after-append (pointer_of plan.opening) h.log made key ∙ own.other_kept owned key apart,
         );
         nobodys = h.nobodys;
+        places = λ place. refl;
+        place_words = λ place inside apart. other_place place;
         latch_numbers = λ seat. refl;
         longer = λ seen is. (is.0 ++ made, sym (append_assoc seen is.0 made) ∙ ap (λ (l : List Change). l ++ made) is.1);
       }
@@ -157,6 +163,8 @@ module _ (plan : Plan) (s : State ℕ View) (tree_state then : TreeState) (h : I
             saw = ([], append-nil log);
             heard = leaves.longer v.told known.heard;
             in_role = subst (IsInRole plan new log id w) (sym role) kept;
+            placed = λ common is. let p = known.placed common is in record { in_range = p.in_range; own = p.own; word = other_place v.place ∙ p.word; busy = λ m goes. p.busy under.0 under.1 };
+            places_left = λ dealt back is. absurd (let e : Pass ≡ Keeper dealt back = sym role ∙ is in cc);
           }
 
       -- the row is published, and has the words

@@ -13,7 +13,7 @@ use Rattle.blink_live.specs.Rule.{Owners, IsInRole, pass_count, passes_in, IsTab
 use Rattle.blink_live.specs.Views.{IsOwned}
 
 -- a seat is beyond the views, or has one
-seat_there : (views : List View) (seat : ℕ) → (length views ≤ seat) ⊎ ((v : View) × (get_elem? views seat ≡ some v))
+pub seat_there : (views : List View) (seat : ℕ) → (length views ≤ seat) ⊎ ((v : View) × (get_elem? views seat ≡ some v))
 seat_there [] seat = inl (omega arith)
 seat_there (v ∷ rest) zero = inr (v, refl)
 seat_there (v ∷ rest) (suc seat) = ⊎_elim (λ (beyond : length rest ≤ seat). inl (omega (arith, beyond))) (λ t. inr t) (seat_there rest seat)

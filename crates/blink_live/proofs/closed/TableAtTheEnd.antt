@@ -43,7 +43,7 @@ module _ (plan : Plan) (s : State ℕ View) (tree_state : TreeState) (h : IsTabl
       let word : PageWordIs plan h.owners s.words (slice_index s.words number) (Some page) = subst (PageWordIs plan h.owners s.words (slice_index s.words number)) there (h.pages number some_number in_range) in
       record { number_in_range = (some_number, in_range); row_in_range = word.0.0; row_is = word.1 }
 
-  keeps_tree : KeepsTree plan.counts s.words plan.fan h.now
+  pub keeps_tree : KeepsTree plan.counts s.words plan.fan h.now
   keeps_tree =
       let order = step_law.invariant_gives_order tree_state h.invariant in record {
         prime = tree_state.prime;

@@ -18,15 +18,15 @@ use Rattle.blink_machine.specs.{IsOpening, IsMapOf}
 use Rattle.blink_machine.proofs.Offered.{step_law}
 use Rattle.blink_live.specs.declared.view.Plan.{Plan}
 use Rattle.blink_live.specs.declared.view.View.{View}
-use Rattle.blink_live.specs.Laid.{IsLaid}
+use Rattle.blink_live.specs.Laid.{IsLaidWith}
 use Rattle.blink_live.specs.Rule.{Owners, IsPublished, PageWordIs, Knows, IsTable}
 use Rattle.blink_live.specs.Views.{first_view}
 use Rattle.blink_live.specs.Words.{RowIs}
 use Rattle.blink_live.proofs.table.CallsOfSeats.{nothing_for_call}
 
 -- the plan of a table that opens
-abbrev pub plan_over : PlainStore → PlainCounts → Plan
-plan_over store counts = record { fan = store.fan; counts = counts; places = 0; opening = map_of store }
+abbrev pub plan_over : PlainStore → PlainCounts → ℕ → Plan
+plan_over store counts places = record { fan = store.fan; counts = counts; places = places; opening = map_of store }
 
 -- nobody is at work on the tree
 abbrev pub tree_state_over : PlainStore → TreeState
@@ -61,6 +61,7 @@ owners_over count = record {
   page = owner_from (count + 1);
   key = λ key. 0;
   latch_number = λ seat. 0;
+  place = λ place. 0;
 }
 
 -- no page has a number behind the last
@@ -86,11 +87,11 @@ opening_tree_state store at_rest lawful = step_law.opening_has_invariant (tree_s
       all_idle = λ worker. refl;
     }
 
-module _ (store : PlainStore) (counts : PlainCounts) (words : List ℕ) (numbers : length store.pages < counts.numbers) (rows : length store.pages < counts.rows) (laid : IsLaid counts store words) where
+module _ (store : PlainStore) (counts : PlainCounts) (places : ℕ) (words : List ℕ) (numbers : length store.pages < counts.numbers) (rows : length store.pages < counts.rows) (laid : IsLaidWith counts places store words) where
   -- each page word names its page's row
-  page_words_are : (number : ℕ) → 1 ≤ number → number < counts.numbers → PageWordIs (plan_over store counts) (owners_over (length store.pages)) words (slice_index words number) (page_of store number)
+  page_words_are : (number : ℕ) → 1 ≤ number → number < counts.numbers → PageWordIs (plan_over store counts places) (owners_over (length store.pages)) words (slice_index words number) (page_of store number)
   page_words_are number least early =
-      let plan = plan_over store counts in
+      let plan = plan_over store counts places in
       let owners = owners_over (length store.pages) in
       elim (cases_lt number (length store.pages + 1)) [
         | inl less ↦
@@ -103,7 +104,7 @@ module _ (store : PlainStore) (counts : PlainCounts) (words : List ℕ) (numbers
       ]
 
   -- the keeper knows what is so
-  keeper_knows : Knows (plan_over store counts) (owners_over (length store.pages)) words (tree_state_over store) [] 0 (first_view (length store.pages) (plan_over store counts))
+  keeper_knows : Knows (plan_over store counts places) (owners_over (length store.pages)) words (tree_state_over store) [] 0 (first_view (length store.pages) (plan_over store counts places))
   keeper_knows = record {
     same_plan = refl;
     operation = refl;
@@ -119,18 +120,20 @@ module _ (store : PlainStore) (counts : PlainCounts) (words : List ℕ) (numbers
       own = λ number late early. owner_on (length store.pages + 1) number late;
       free = λ number late early. no_page_past store number (omega arith);
     };
-    for_call = nothing_for_call (plan_over store counts) (owners_over (length store.pages)) words (tree_state_over store) 1 (length store.pages + 2) (length store.pages + 1) (omega arith) (omega arith) (omega arith);
+    for_call = nothing_for_call (plan_over store counts places) (owners_over (length store.pages)) words (tree_state_over store) 1 (length store.pages + 2) (length store.pages + 1) (omega arith) (omega arith) (omega arith);
     share = λ key among. absurd (omega (arith, among.1));
     saw = ([], refl);
     heard = ([], refl);
     in_role = (refl, refl, (λ key not. record { own = refl; saw_all = λ owned. refl }), (λ share among. absurd (omega (arith, among.1))));
+    placed = λ common is. absurd (cc);
+    places_left = λ dealt back is place from. (refl, λ inside. laid.blank_places place inside);
   }
 
   -- the table of a tree at rest, as it opens
   pub opens : IsStoreAtRest store → IsLawfulStore store → IsMapOf store (map_of store) → AreBounded counts
-      → IsTable (plan_over store counts) (opening words [] (first_view (length store.pages) (plan_over store counts)))
+      → IsTable (plan_over store counts places) (opening words [] (first_view (length store.pages) (plan_over store counts places)))
   opens at_rest lawful is_map bounded =
-      let plan = plan_over store counts in
+      let plan = plan_over store counts places in
       let owners = owners_over (length store.pages) in
       let named : slice_index words 0 ≡ 1 = laid.page_words_named 0 (omega arith) in (
         tree_state_over store,

@@ -22,7 +22,7 @@ use Rattle.blink_live.specs.declared.view.View.{View}
 use Rattle.blink_live.specs.Changes.{after, states_of}
 use Rattle.blink_live.specs.Rule.{Owners, IsPublished, PageWordIs, ReadsRow, HasRows, HasNumbers, HasForCall, IsShare, IsInRole, Knows, IsTableAt}
 use Rattle.blink_live.specs.Views.{IsCommon, IsOwned, span}
-use Rattle.blink_live.specs.Words.{row_start, RowIs}
+use Rattle.blink_live.specs.Words.{place_word, row_start, RowIs}
 
 -- the words of a row stay
 abbrev pub RowStays : Plan → List ℕ → List ℕ → ℕ → Type 0
@@ -35,11 +35,13 @@ row_is_still plan old new row content stays is i inside = stays i inside ∙ is 
 pub record LeavesOthers (plan : Plan) (s : State ℕ View) (tree_state then : TreeState) (h : IsTableAt plan s tree_state) (id : ℕ) (words : List ℕ) (new : Owners) (log : List Change) : Type 0 where
   pub machines : (seat : ℕ) → seat ≢ id → then.machines seat ≡ tree_state.machines seat
   pub ways : (seat : ℕ) (m : PlainMachine) → seat ≢ id → tree_state.machines seat ≡ Some m → descent_bound then.pages m ≡ descent_bound tree_state.pages m
-  pub rows : (row : ℕ) → 1 ≤ row → h.owners.row row ≢ suc id → (new.row row ≡ h.owners.row row) × RowStays plan s.words words row
+  pub rows : (row : ℕ) → 1 ≤ row → row ≤ plan.counts.rows → h.owners.row row ≢ suc id → (new.row row ≡ h.owners.row row) × RowStays plan s.words words row
   pub numbers : (number : ℕ) → h.owners.page number ≢ suc id → (new.page number ≡ h.owners.page number) × (tree_state.pages number ≡ None → then.pages number ≡ None)
   pub keys : IsOwned plan → (key : ℕ) → h.owners.key key ≢ suc id
       → (new.key key ≡ h.owners.key key) × (states_of key log ≡ states_of key h.log) × (after (pointer_of plan.opening) log key ≡ after (pointer_of plan.opening) h.log key)
   pub nobodys : IsCommon plan → (key : ℕ) → new.key key ≡ 0
+  pub places : (place : ℕ) → new.place place ≡ h.owners.place place
+  pub place_words : (place : ℕ) → place < plan.places → h.owners.place place ≢ suc id → slice_index words (place_word plan.counts place) ≡ slice_index s.words (place_word plan.counts place)
   pub latch_numbers : (seat : ℕ) → new.latch_number seat ≡ h.owners.latch_number seat
   pub longer : (seen : List Change) → IsPrefix seen h.log → IsPrefix seen log
 
@@ -47,7 +49,7 @@ module _ (plan : Plan) (s : State ℕ View) (tree_state then : TreeState) (h : I
     (leaves : LeavesOthers plan s tree_state then h id words new log) where
   pub still_published : (row : ℕ) → IsPublished plan h.owners row → IsPublished plan new row × RowStays plan s.words words row
   still_published row is =
-      let t = leaves.rows row is.0.0 (λ e. let zero_is : 0 ≡ suc id = sym is.1 ∙ e in absurd (omega (arith, zero_is))) in
+      let t = leaves.rows row is.0.0 is.0.1 (λ e. let zero_is : 0 ≡ suc id = sym is.1 ∙ e in absurd (omega (arith, zero_is))) in
       ((is.0, t.0 ∙ is.1), t.1)
 
   pub page_word_still : (word : ℕ) (page : Option PlainPage) → PageWordIs plan h.owners s.words word page → PageWordIs plan new words word page
@@ -65,10 +67,11 @@ module _ (plan : Plan) (s : State ℕ View) (tree_state then : TreeState) (h : I
     rows_still : (rows : Span) → HasRows plan h.owners s.words (suc seat) rows → HasRows plan new words (suc seat) rows
     rows_still rows has = record {
       in_range = has.in_range;
-      own = λ row low high. let least = has.in_range.0 in (leaves.rows row (omega (arith, least, low)) (λ e. apart (sym (has.own row low high) ∙ e))).0 ∙ has.own row low high;
+      own = λ row low high. let least = has.in_range.0 in let most = has.in_range.1 in (leaves.rows row (omega (arith, least, low)) (omega (arith, high, most)) (λ e. apart (sym (has.own row low high) ∙ e))).0 ∙ has.own row low high;
       blank = λ row low high.
           let least = has.in_range.0 in
-          row_is_still plan s.words words row [] (leaves.rows row (omega (arith, least, low)) (λ e. apart (sym (has.own row low high) ∙ e))).1 (has.blank row low high);
+          let most = has.in_range.1 in
+          row_is_still plan s.words words row [] (leaves.rows row (omega (arith, least, low)) (omega (arith, high, most)) (λ e. apart (sym (has.own row low high) ∙ e))).1 (has.blank row low high);
     }
 
     numbers_still : (pages : Span) → HasNumbers plan h.owners tree_state (suc seat) pages → HasNumbers plan new then (suc seat) pages
@@ -82,10 +85,11 @@ module _ (plan : Plan) (s : State ℕ View) (tree_state then : TreeState) (h : I
     call_stays v has = record {
       before = has.before;
       width = has.width;
-      first_own = λ some_row. let own = has.first_own some_row in (own.0, (leaves.rows v.call.rows.next own.0 (λ e. apart (sym own.1 ∙ e))).0 ∙ own.1);
+      first_own = λ some_row. let own = has.first_own some_row in let most = has.others.in_range.1 in (own.0, (leaves.rows v.call.rows.next own.0 (omega (arith, some_row, most)) (λ e. apart (sym own.1 ∙ e))).0 ∙ own.1);
       staged = λ some_row.
           let own = has.first_own some_row in
-          row_is_still plan s.words words v.call.rows.next v.call.staged (leaves.rows v.call.rows.next own.0 (λ e. apart (sym own.1 ∙ e))).1 (has.staged some_row);
+          let most = has.others.in_range.1 in
+          row_is_still plan s.words words v.call.rows.next v.call.staged (leaves.rows v.call.rows.next own.0 (omega (arith, some_row, most)) (λ e. apart (sym own.1 ∙ e))).1 (has.staged some_row);
       others = rows_still (span (suc v.call.rows.next) v.call.rows.stop) has.others;
       numbers = numbers_still v.call.pages has.numbers;
     }
@@ -140,4 +144,14 @@ module _ (plan : Plan) (s : State ℕ View) (tree_state then : TreeState) (h : I
         saw = leaves.longer v.seen known.saw;
         heard = leaves.longer v.told known.heard;
         in_role = role_still seat v v.role known.same_plan known.in_role;
+        placed = λ common role. let p = known.placed common role in record {
+          in_range = p.in_range;
+          own = leaves.places v.place ∙ p.own;
+          word = leaves.place_words v.place p.in_range (λ e. let one : suc seat ≡ suc id = sym p.own ∙ e in other (omega (arith, one))) ∙ p.word;
+          busy = p.busy;
+        };
+        places_left = λ dealt back role place from. let left = known.places_left dealt back role place from in (
+          leaves.places place ∙ left.0,
+          λ inside. leaves.place_words place inside (λ e. let zero_is : 0 ≡ suc id = sym left.0 ∙ e in absurd (omega (arith, zero_is))) ∙ left.1 inside,
+        );
       }

@@ -1,5 +1,5 @@
 -- Rows, page numbers and keys get other owners; the words and the tree state stay as they are.
-use Rattle.std.proofs.Common.{◌≡◌, ℕ, suc, ◌≤◌, Option, Some, None, List, length, refl, sym, ◌∙◌, arith}
+use Rattle.std.proofs.Common.{◌≡◌, ℕ, suc, ◌≤◌, Option, Some, None, List, length, refl, sym, ◌∙◌, arith, subst}
 use Rattle.std.specs.Prelude.{slice_index}
 use mathlib.Core.Option.{some}
 use lib.ListN.{get_elem?}
@@ -26,6 +26,7 @@ pub record StillOwns (old new : Owners) (seat : ℕ) : Type 0 where
   pub page : (number : ℕ) → old.page number ≡ suc seat → new.page number ≡ suc seat
   pub key : (key : ℕ) → old.key key ≡ suc seat → new.key key ≡ suc seat
   pub latch_number : new.latch_number seat ≡ old.latch_number seat
+  pub place : (place : ℕ) → old.place place ≡ suc seat → new.place place ≡ suc seat
 
 module _ (plan : Plan) (old new : Owners) (words : List ℕ) (log : List Change) (published : StaysPublished old new) where
   page_still : (word : ℕ) (page : Option PlainPage) → PageWordIs plan old words word page → PageWordIs plan new words word page
@@ -59,6 +60,8 @@ module _ (plan : Plan) (old new : Owners) (words : List ℕ) (log : List Change)
     saw = known.saw;
     heard = known.heard;
     in_role = role_still seat v v.role later owns.latch_number known.in_role;
+    placed = λ common is. let p = known.placed common is in record { in_range = p.in_range; own = owns.place v.place p.own; word = p.word; busy = p.busy };
+    places_left = λ dealt back is. absurd (let first = (subst (IsInRole plan old log seat v) is known.in_role).0 in omega (arith, first, later));
   }
 
 latch_still : (old new : Owners) (holder : Option ℕ) → ((seat : ℕ) → holder ≡ Some seat → new.latch_number seat ≡ old.latch_number seat) → latch_word old holder ≡ latch_word new holder

@@ -12,7 +12,7 @@ use Rattle.blink_live.specs.declared.view.Plan.{Plan}
 use Rattle.blink_live.specs.declared.view.Role.TheVariants.{Keeper, Pass}
 use Rattle.blink_live.specs.declared.view.Share.{Share}
 use Rattle.blink_live.specs.declared.view.View.{View}
-use Rattle.blink_live.specs.Rule.{Owners, IsFree, IsShare, IsInRole, Knows, pass_count, passes_in, AreCounted, IsTableAt}
+use Rattle.blink_live.specs.Rule.{ArePlacesLeft, Owners, IsFree, IsShare, IsInRole, Knows, pass_count, passes_in, AreCounted, IsTableAt}
 use Rattle.blink_live.specs.Views.{IsOwned, spent, takes_one}
 use Rattle.blink_live.proofs.table.OwnersChange.{StaysPublished, StillOwns, reads_still, share_still, knows_still, owners_change}
 use Rattle.blink_live.proofs.table.PassesOut.{passes_role}
@@ -30,6 +30,7 @@ owners_after old other owner = record {
   page = old.page;
   key = λ key. if old.key key == suc other then owner else old.key key;
   latch_number = old.latch_number;
+  place = old.place;
 }
 
 module _ (plan : Plan) (some_number : 1 ≤ plan.counts.numbers) (s : State ℕ View) (tree_state : TreeState) (h : IsTableAt plan s tree_state) (id other : ℕ) (v w : View) (taken : List ℕ) (shares : List Share) (seen : List Change) (owner : ℕ)
@@ -96,6 +97,8 @@ module _ (plan : Plan) (some_number : 1 ≤ plan.counts.numbers) (s : State ℕ 
     saw = (h.log, refl);
     heard = (h.log, refl);
     in_role = refl;
+    placed = λ common is. absurd (cc);
+    places_left = λ d b is. absurd (cc);
   }
 
   -- ---- all seats
@@ -106,6 +109,7 @@ module _ (plan : Plan) (some_number : 1 ≤ plan.counts.numbers) (s : State ℕ 
     page = λ number is. is;
     key = λ key is. key_else key (suc seat) is (λ e. ne (omega (arith, e)));
     latch_number = refl;
+    place = λ place is. is;
   }
 
   abbrev views_then : List View
@@ -149,6 +153,8 @@ module _ (plan : Plan) (some_number : 1 ≤ plan.counts.numbers) (s : State ℕ 
       saw = saw;
       heard = known.heard;
       in_role = subst (IsInRole plan new h.log id both) (sym both_role) (in_role.0, in_role.1, free, came);
+      placed = λ common is. absurd (let e : Keeper dealt (suc back) ≡ Pass = sym both_role ∙ is in cc);
+      places_left = λ d b is. let e : Keeper dealt (suc back) ≡ Keeper d b = sym both_role ∙ is in let same : dealt ≡ d = cc in subst (ArePlacesLeft plan new s.words) same (known.places_left dealt back role);
     }
 
     all_know : (seat : ℕ) (u : View) → get_elem? views_then seat ≡ some u → Knows plan new s.words tree_state h.log seat u

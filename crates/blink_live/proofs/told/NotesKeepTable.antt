@@ -47,6 +47,8 @@ module _ (plan : Plan) (some_number : 1 ≤ plan.counts.numbers) (s : State ℕ 
     saw = (h.log, refl);
     heard = heard;
     in_role = refl;
+    placed = λ common is. absurd (cc);
+    places_left = λ dealt back is. absurd (cc);
   }
 
   -- ---- a note
@@ -110,6 +112,8 @@ module _ (plan : Plan) (some_number : 1 ≤ plan.counts.numbers) (s : State ℕ 
           saw = was.saw;
           heard = its.heard;
           in_role = told_in_role plan h.owners h.log id v w.told v.role was.in_role;
+          placed = λ common is. let p = was.placed common is in record { in_range = p.in_range; own = p.own; word = p.word; busy = p.busy };
+          places_left = was.places_left;
         }
 
     abbrev taken : List View

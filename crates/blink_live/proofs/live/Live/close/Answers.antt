@@ -4,10 +4,8 @@ use Rattle.std.specs.Mem.Slots.{slots_items}
 use Rattle.blink_batch.specs.declared.Entry.{Entry}
 use Rattle.blink_batch.specs.{pointer_of}
 use Rattle.blink_index.specs.{map_of}
-use Rattle.blink_index.proofs.Offered.{map_of-entries}
 use Rattle.blink_rows.specs.{PlainCounts}
-use Rattle.blink_machine.specs.{IsMapOf, pairs_of}
-use Rattle.blink_machine.proofs.Offered.{entries_from-pairs_of}
+use Rattle.blink_machine.specs.{IsMapOf}
 use Rattle.blink_store.specs.{PlainStore}
 use Rattle.blink_live.specs.declared.live.Pass.{Pass}
 use Rattle.blink_live.specs.declared.view.Role.{Role}
@@ -22,13 +20,10 @@ use Rattle.blink_live.specs.declared.view.View.{View}
 use Rattle.blink_live.specs.Handles.{opening_of, passes_out, seen_by}
 use Rattle.blink_live.specs.Merge.{KeepsTree, IsMerge, shares_of}
 use Rattle.blink_live.specs.Views.{SeatState, plan_of, takes_more, takes_all_back}
+use Rattle.blink_live.proofs.closed.EntriesOfStore.{map_is}
 use Rattle.blink_live.proofs.closed.TableAtTheEnd.{IsAtEnd, at_end}
 use Rattle.blink_live.proofs.told.EntriesAfterChanges.{entries_after-state}
 use Rattle.blink_live.proofs.live.Live.close.Goals as goal
-
--- the map of a store with these entries
-map_is : (store : PlainStore) (entries : List Entry) → IsMapOf store entries → map_of store ≡ entries
-map_is store entries is = map_of-entries store (pairs_of entries) is.kept ∙ entries_from-pairs_of entries
 
 -- facts on plain numbers, since passes and keepers have many fields to read
 some : (count : ℕ) → 0 < suc count

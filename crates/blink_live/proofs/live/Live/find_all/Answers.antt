@@ -1,4 +1,4 @@
-use Rattle.std.proofs.Common.{◌≡◌, ◌≤◌, ℕ, List, Contains, map, refl, sym, ap, ◌∙◌, subst}
+use Rattle.std.proofs.Common.{◌≡◌, ◌≤◌, ℕ, List, Contains, map, refl, sym, ap, ◌∙◌, subst, arith}
 use mathlib.Core.List.{IsPrefix}
 use Rattle.blink_batch.specs.{pointer_of}
 use Rattle.blink_rows.specs.declared.span.Span.{Span}
@@ -54,6 +54,7 @@ search_all-requires-clause-idle c =
       rows = subst (λ (s : Span). s.next ≤ s.stop) (pass.rows_are ∙ sym (ap (λ (x : SeatState). x.0.rows) up.is)) pass.in_order.0;
       pages = subst (λ (s : Span). s.next ≤ s.stop) (pass.pages_are ∙ sym (ap (λ (x : SeatState). x.0.pages) up.is)) pass.in_order.1;
       knows_own = up.knows_own;
+      announced = λ common. absurd (let none : c.look_up.new.seat.me.0.plan.places ≡ 0 = ap (λ (x : SeatState). x.0.plan.places) up.is ∙ pass.owned in omega (arith, none, common));
     }
 
 pub invariant_of-pass : goal.invariant_of-pass
