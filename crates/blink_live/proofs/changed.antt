@@ -13,3 +13,4 @@ pub mod PassesSetOut
 pub mod PendingsAreSent
 pub mod PlacesAreMarked
 pub mod RoomComesBack
+pub mod PoolIsDrawn

@@ -20,7 +20,7 @@ use Rattle.blink_live.specs.declared.view.Role.TheVariants.{Keeper}
 use Rattle.blink_live.specs.declared.view.Share.{Share}
 use Rattle.blink_live.specs.declared.view.View.{View}
 use Rattle.blink_live.specs.Changes.{after, changes_made, states_of, Learns}
-use Rattle.blink_live.specs.Views.{SeatState, KnowsItsOwn, ShowsNoMore, for_call, going_on, is_busy, stage_word, changed_by, publishes, reading, forgets_told, learns_of_others, span}
+use Rattle.blink_live.specs.Views.{SeatState, KnowsItsOwn, ShowsNoMore, for_call, going_on, has_pages, has_rows, is_busy, stage_word, changed_by, publishes, reading, forgets_told, learns_of_others, span}
 use Rattle.blink_live.specs.Words.{AreNumbersIn, AreRowsIn, IsRowNumber, row_start}
 
 -- the page of this number has a page word
@@ -186,6 +186,18 @@ lets_go st me found then = (m : PlainMachine) (number : ℕ) → me.0.operation 
 
 abbrev pub marks_place : Step ℕ → SeatState → ℕ → SeatState → Type 0
 marks_place st me found then = then ≡ (is_busy me.0 st.first, me.1)
+
+-- ---- a word of the pool, where a number of it becomes a greater one: the seat has the rows, or page numbers, between
+
+pub record Draws (drawn : View) (old : ℕ) (me : SeatState) (found : ℕ) (then : SeatState) : Type 0 where
+  pub got : found ≡ old → then ≡ (drawn, me.1)
+  pub lost : found ≢ old → then ≡ me
+
+abbrev pub draws_rows : Step ℕ → SeatState → ℕ → SeatState → Type 0
+draws_rows st me found then = Draws (has_rows me.0 (span st.first st.second)) st.first me found then
+
+abbrev pub draws_pages : Step ℕ → SeatState → ℕ → SeatState → Type 0
+draws_pages st me found then = Draws (has_pages me.0 (span st.first st.second)) st.first me found then
 
 -- ---- a word of the first row that the seat's call may use
 

@@ -13,13 +13,13 @@ use Rattle.blink_live.specs.declared.view.Role.TheVariants.{Keeper}
 use Rattle.blink_live.specs.declared.view.View.{View}
 use Rattle.blink_live.specs.Changes.{after}
 use Rattle.blink_live.specs.Handles.{counts_of, fan_of, opening_of}
-use Rattle.blink_live.specs.Views.{first_view, plan_of}
+use Rattle.blink_live.specs.Views.{back_in, dealt_in, first_view, plan_of}
 
 -- the seat is that of the table's host: a keeper's, in a common table
 pub record IsHost (live : Live) (seat : Seat ℕ View) : Type 0 where
   pub same_table : seat.table_id ≡ live.table.shared.table_id
   pub same_plan : seat.me.0.plan ≡ plan_of live.table.shared.key
-  pub role : (dealt : ℕ) × (back : ℕ) × (seat.me.0.role ≡ Keeper dealt back)
+  pub role : seat.me.0.role ≡ Keeper (dealt_in seat.me.0.role) (back_in seat.me.0.role)
   pub some_place : 1 ≤ live.places
 
 -- a common table over this tree, with such an extent, and its host's seat

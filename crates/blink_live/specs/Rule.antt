@@ -23,7 +23,7 @@ use Rattle.blink_live.specs.declared.view.Share.{Share}
 use Rattle.blink_live.specs.declared.view.View.{View}
 use Rattle.blink_live.specs.Changes.{after, states_of}
 use Rattle.blink_live.specs.Views.{IsCommon, IsOwned, latch_of, span}
-use Rattle.blink_live.specs.Words.{word_count, place_word, IsRowNumber, RowIs}
+use Rattle.blink_live.specs.Words.{word_count, place_word, pool_page, pool_row, IsRowNumber, RowIs}
 
 -- ---- owners: 0 for nobody, and else a seat's number plus 1
 
@@ -116,6 +116,16 @@ pub record HasPlace (plan : Plan) (owners : Owners) (words : List ℕ) (seat : �
   pub word : slice_index words (place_word plan.counts v.place) ≡ v.busy
   pub busy : (m : PlainMachine) → v.operation ≡ Some m → 1 ≤ v.busy
 
+-- the seat has no rows and no page numbers
+abbrev pub HasNothing : View → Type 0
+HasNothing v = (v.rows.stop ≤ v.rows.next) × (v.pages.stop ≤ v.pages.next) × (v.call.rows.stop ≤ v.call.rows.next) × (v.call.pages.stop ≤ v.call.pages.next)
+
+-- the rows and the page numbers from those on that the pool's words say are the pool's: they have the host's owner, and the host
+-- has none of its own
+pub record HasPool (plan : Plan) (owners : Owners) (words : List ℕ) (tree_state : TreeState) : Type 0 where
+  pub rows : HasRows plan owners words (suc 0) (span (slice_index words (pool_row plan.counts)) (plan.counts.rows + 1))
+  pub pages : HasNumbers plan owners tree_state (suc 0) (span (slice_index words (pool_page plan.counts)) plan.counts.numbers)
+
 -- nobody has the places from `first` on, and their words are 0
 abbrev pub ArePlacesLeft : Plan → Owners → List ℕ → ℕ → Type 0
 ArePlacesLeft plan owners words first = (place : ℕ) → first ≤ place → (owners.place place ≡ 0) × (place < plan.places → slice_index words (place_word plan.counts place) ≡ 0)
@@ -138,6 +148,7 @@ pub record Knows (plan : Plan) (owners : Owners) (words : List ℕ) (tree_state 
   pub heard : IsPrefix v.told log
   pub in_role : IsInRole plan owners log seat v v.role
   pub placed : IsCommon plan → v.role ≡ Pass → HasPlace plan owners words seat v
+  pub nothing : IsCommon plan → (dealt back : ℕ) → v.role ≡ Keeper dealt back → HasNothing v
   pub places_left : (dealt back : ℕ) → v.role ≡ Keeper dealt back → ArePlacesLeft plan owners words dealt
 
 -- ---- the number of passes out
@@ -183,6 +194,8 @@ pub record IsTableAt (plan : Plan) (s : State ℕ View) (tree_state : TreeState)
   pub kept : (key : ℕ) → pointer_of now key ≡ after (pointer_of plan.opening) log key
   -- nobody owns a key of a common table
   pub nobodys : IsCommon plan → (key : ℕ) → owners.key key ≡ 0
+  -- and it has a pool
+  pub pool : IsCommon plan → HasPool plan owners s.words tree_state
   -- the seats
   pub views : (seat : ℕ) (v : View) → get_elem? s.views seat ≡ some v → Knows plan owners s.words tree_state log seat v
   pub others_idle : (seat : ℕ) → length s.views ≤ seat → tree_state.machines seat ≡ None

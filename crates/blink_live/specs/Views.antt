@@ -62,9 +62,14 @@ seat_for plan role rows pages share = record {
   told = [];
 }
 
+-- the keeper's first rows or page numbers: none in a common table, where they are the pool's
+abbrev pub first_span : ℕ → ℕ → ℕ → Span
+first_span zero next stop = span next stop
+first_span (suc places) next stop = span 1 1
+
 -- the keeper of a table that was opened over this many pages
 abbrev pub first_view : ℕ → Plan → View
-first_view count plan = seat_for plan (Keeper 0 0) (span (count + 2) (plan.counts.rows + 1)) (span (count + 1) plan.counts.numbers) no_share
+first_view count plan = seat_for plan (Keeper 0 0) (first_span plan.places (count + 2) (plan.counts.rows + 1)) (first_span plan.places (count + 1) plan.counts.numbers) no_share
 
 -- the plan of no table
 abbrev pub no_plan : Plan
@@ -152,6 +157,13 @@ SameBesideReads v w = w ≡ record v { operation = w.operation; descent_bound = 
 abbrev pub going_on : View → PlainMachine → ℕ → View
 going_on v after way = record v { operation = goes_on after after.state; descent_bound = way }
 
+-- the seat has these rows now, or these page numbers, and nothing for its last call
+abbrev pub has_rows : View → Span → View
+has_rows v rows = record v { rows = rows; call = no_call }
+
+abbrev pub has_pages : View → Span → View
+has_pages v pages = record v { pages = pages; call = no_call }
+
 -- the place's word is this now
 abbrev pub is_busy : View → ℕ → View
 is_busy v busy = record v { busy = busy }
@@ -218,6 +230,11 @@ takes_one role = role
 abbrev pub dealt_in : Role → ℕ
 dealt_in (Keeper dealt back) = dealt
 dealt_in role = 0
+
+-- the number of passes that came back
+abbrev pub back_in : Role → ℕ
+back_in (Keeper dealt back) = back
+back_in role = 0
 
 -- the keeper without the first rows and page numbers; these keys are taken now
 abbrev pub keeps_rest : View → ℕ → ℕ → List ℕ → View

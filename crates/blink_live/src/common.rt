@@ -1,5 +1,5 @@
 //! Tables whose keys any seat changes: how they open, and how they close. The crate of maps makes its calls of these.
-ghost use Rattle.std.specs.Prelude.{◌≡◌, ◌+◌, ◌<◌, ◌≤◌, ◌++◌, ◌*◌, ℕ, List, IfOk, IsTrue, drop, length, replicate, slice_index};
+ghost use Rattle.std.specs.Prelude.{◌≡◌, ◌+◌, ◌<◌, ◌≤◌, ◌++◌, ◌*◌, ℕ, List, IfOk, IsTrue, drop, length, replicate, set, slice_index};
 ghost use Rattle.std.specs.Mem.Slots.{slots_items, slots_len, IsFull};
 ghost use Rattle.blink_index.specs.{map_of};
 ghost use Rattle.blink_page.specs.declared.limits.TheConstants.{MAX_PAGE};
@@ -7,7 +7,7 @@ ghost use Rattle.blink_live.specs.Common.{HasAllChanges, IsOpenedCommon, IsHost}
 ghost use Rattle.blink_live.specs.Gathered.{IsNumberedInOrder};
 ghost use Rattle.blink_live.specs.Handles.{fan_of};
 ghost use Rattle.blink_live.specs.Laid.{IsLaid};
-ghost use Rattle.blink_live.specs.Words.{place_word, word_count};
+ghost use Rattle.blink_live.specs.Words.{place_word, pool_page, pool_row, word_count};
 
 use crate::close::tree_at_end;
 use crate::live::Live;
@@ -23,6 +23,11 @@ use std::snapshot::Snapshot;
 
 /// The number of words in the line of a place, as many as in a line of the processor's cache.
 pub(crate) const PLACE_WORDS: usize = 8;
+
+// The places of the pool's words behind the rows.
+pub(crate) const POOL_ROW: usize = 1;
+
+pub(crate) const POOL_PAGE: usize = 2;
 
 /// What a common table has beside the rows and numbers of its pages: page numbers, rows, and places for sessions.
 #[derive(Clone, Copy)]
@@ -118,7 +123,8 @@ fn counts_over(count: u32, extent: &Extent) -> Counts
     }
 }
 
-// The words of a common table over the store's tree. The words of its places, behind the rows, are 0.
+// The words of a common table over the store's tree. The words of its places, behind the rows, are 0. Its pool has all rows and
+// page numbers that no page has.
 fn words_with_places(
     alloc: Global,
     counts: &Counts,
@@ -127,16 +133,35 @@ fn words_with_places(
 ) -> Result<Vec<u64>, AllocError>
     requires numbers { length store.now.pages < counts.now.numbers }
     requires rows { length store.now.pages < counts.now.rows }
-    requires places { places ≤ 256 }
+    requires places { (1 ≤ places) × (places ≤ 256) }
     ensures { IfOk result (λ words. (front : List ℕ) × IsLaid counts.now store.now front
-        × (words.items ≡ front ++ replicate (8 * places) 0)) }
+        × (words.items ≡ set (set (front ++ replicate (8 * places) 0)
+        (pool_row counts.now) (length store.now.pages + 2))
+        (pool_page counts.now) (length store.now.pages + 1))) }
 {
     // Read for the proof: there are few numbers and rows.
     let _numbers = counts.numbers;
     let _rows = counts.rows;
     let mut words = vec![in alloc; 0u64; word_count(counts) + PLACE_WORDS * places as usize]?;
-    lay_front(&mut words, counts, store);
+    lay_common(&mut words, counts, store);
     Ok(words)
+}
+
+// Lays the tree into the first words, and the pool's words behind them.
+fn lay_common(words: &mut [u64], counts: &Counts, store: &Store)
+    requires numbers { length store.now.pages < counts.now.numbers }
+    requires rows { length store.now.pages < counts.now.rows }
+    requires blank { (places : ℕ) × (1 ≤ places)
+        × (words.old ≡ replicate (word_count counts.now + 8 * places) 0) }
+    ensures { (front : List ℕ) × IsLaid counts.now store.now front
+        × (words.new ≡ set (set (front ++ drop (word_count counts.now) words.old)
+        (pool_row counts.now) (length store.now.pages + 2))
+        (pool_page counts.now) (length store.now.pages + 1)) }
+{
+    let front = word_count(counts);
+    lay_front(words, counts, store);
+    words[front + POOL_ROW] = u64::from(store.pages()) + 2;
+    words[front + POOL_PAGE] = u64::from(store.pages()) + 1;
 }
 
 // Lays the tree into the first words.

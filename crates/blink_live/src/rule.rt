@@ -159,6 +159,24 @@ impl Play<u8, View> for MarkPlace {
     ghost then = { marks_place };
 }
 
+/// The compare-and-exchange in the pool's first word of a row for a later one: the seat has the rows between.
+pub struct DrawRows;
+
+impl Play<u8, View> for DrawRows {
+    ghost use Rattle.blink_live.specs.AtomicSteps.{draws_rows};
+
+    ghost then = { draws_rows };
+}
+
+/// The compare-and-exchange in the pool's second word of a page number for a later one: the seat has the numbers between.
+pub struct DrawPages;
+
+impl Play<u8, View> for DrawPages {
+    ghost use Rattle.blink_live.specs.AtomicSteps.{draws_pages};
+
+    ghost then = { draws_pages };
+}
+
 /// The load of the prime block's page word by a seat that takes back what its last call hasn't used.
 pub struct GiveBack;
 

@@ -25,8 +25,9 @@ use Rattle.blink_live.specs.Changes.{put}
 use Rattle.blink_live.specs.Rule.{Owners, PageWordIs, latch_word, IsInRole, IsBoundedWay, Knows, IsTableAt, IsTable}
 use Rattle.blink_live.specs.AtomicSteps.{GoesOn, CanGoOn, tries_latch, lets_go}
 use Rattle.blink_live.specs.Views.{SeatState, going_on, latch_of}
-use Rattle.blink_live.specs.Words.{place_word}
+use Rattle.blink_live.specs.Words.{place_word, word_count}
 use Rattle.blink_live.proofs.found.OperationBegins.{goes_on_as}
+use Rattle.blink_live.proofs.table.PoolStays.{pool_stays}
 use Rattle.blink_live.proofs.table.MapsWithOneChange.{put_here, put_else}
 use Rattle.blink_live.proofs.table.NextPageIsThere.{next_page_is_there}
 use Rattle.blink_live.proofs.table.OthersKnowTheSame.{LeavesOthers, RowStays, page_word_still, reads_still}
@@ -52,6 +53,9 @@ module _ (plan : Plan) (s : State ℕ View) (tree_state : TreeState) (h : IsTabl
   abbrev pub w : View
   w = going_on v after way
 
+  behind : (n : ℕ) → slice_index words (word_count plan.counts + n) ≡ slice_index s.words (word_count plan.counts + n)
+  behind n = get_or-set_other s.words (plan.counts.numbers + number) (word_count plan.counts + n) x 0 (λ e. omega (arith, e, in_range))
+
   -- the words of places stand behind
   other_place : (place : ℕ) → slice_index words (place_word plan.counts place) ≡ slice_index s.words (place_word plan.counts place)
   other_place place = get_or-set_other s.words (plan.counts.numbers + number) (place_word plan.counts place) x 0 (λ e. omega (arith, e, in_range))
@@ -60,10 +64,11 @@ module _ (plan : Plan) (s : State ℕ View) (tree_state : TreeState) (h : IsTabl
   leaves = record {
     machines = λ seat other. put_else tree_state.machines id seat (goes_on after after.state) other;
     ways = λ seat m other is. refl;
-    rows = λ row least most apart. (refl, row_stays plan s.words (plan.counts.numbers + number) x row (omega (arith, in_range)));
-    numbers = λ n apart. (refl, λ free. free);
+    rows = λ row least most apart shared. (refl, row_stays plan s.words (plan.counts.numbers + number) x row (omega (arith, in_range)));
+    numbers = λ n apart shared. (refl, λ free. free);
     keys = λ owned key apart. (refl, refl, refl);
     nobodys = h.nobodys;
+    pool = λ common. pool_stays plan h.owners h.owners s.words words tree_state then (behind 1) (behind 2) (λ row least most own. (own, row_stays plan s.words (plan.counts.numbers + number) x row (omega (arith, in_range)))) (λ n own. (own, λ free. free)) (h.pool common);
     places = λ place. refl;
     place_words = λ place inside apart. other_place place;
     latch_numbers = λ seat. refl;
@@ -89,6 +94,7 @@ module _ (plan : Plan) (s : State ℕ View) (tree_state : TreeState) (h : IsTabl
         in_role = subst (IsInRole plan h.owners h.log id w) (sym role) kept;
         placed = λ common is. let p = known.placed common is in record { in_range = p.in_range; own = p.own; word = other_place v.place ∙ p.word; busy = λ m goes. p.busy under.0 under.1 };
         places_left = λ dealt back is. absurd (let e : Pass ≡ Keeper dealt back = sym role ∙ is in cc);
+        nothing = λ common dealt back is. absurd (let e : Pass ≡ Keeper dealt back = sym role ∙ is in cc);
       }
 
   -- the words and the tree afterwards

@@ -12,7 +12,8 @@ use Rattle.blink_live.specs.declared.view.View.{View}
 use Rattle.blink_live.specs.AtomicSteps.{marks_place}
 use Rattle.blink_live.specs.Rule.{HasPlace, PageWordIs, IsInRole, Knows, IsTableAt, IsTable}
 use Rattle.blink_live.specs.Views.{IsCommon, SeatState, is_busy}
-use Rattle.blink_live.specs.Words.{place_word, row_start}
+use Rattle.blink_live.specs.Words.{place_word, row_start, word_count}
+use Rattle.blink_live.proofs.table.PoolStays.{pool_stays}
 use Rattle.blink_live.proofs.table.OthersKnowTheSame.{LeavesOthers, RowStays, page_word_still, reads_still}
 use Rattle.blink_live.proofs.table.StoresKeepTable.{rows_kept, call_kept, prime_still, store_keeps}
 
@@ -42,14 +43,19 @@ module _ (plan : Plan) (s : State ℕ View) (tree_state : TreeState) (h : IsTabl
   before : (n : ℕ) → n < 2 * plan.counts.numbers → slice_index words n ≡ slice_index s.words n
   before n below = get_or-set_other s.words place n x 0 (λ e. omega (arith, e, below))
 
+  -- the pool's words stand in a place's line, behind its mark
+  behind : (n : ℕ) → 1 ≤ n → n < 8 → slice_index words (word_count plan.counts + n) ≡ slice_index s.words (word_count plan.counts + n)
+  behind n least most = get_or-set_other s.words place (word_count plan.counts + n) x 0 (λ e. omega (arith, e, least, most))
+
   leaves : LeavesOthers plan s tree_state tree_state h id words h.owners h.log
   leaves = record {
     machines = λ seat other. refl;
     ways = λ seat m other is. refl;
-    rows = λ row least most apart. (refl, stays row least most);
-    numbers = λ n apart. (refl, λ free. free);
+    rows = λ row least most apart shared. (refl, stays row least most);
+    numbers = λ n apart shared. (refl, λ free. free);
     keys = λ owned key apart. (refl, refl, refl);
     nobodys = h.nobodys;
+    pool = λ common_too. pool_stays plan h.owners h.owners s.words words tree_state tree_state (behind 1 (omega arith) (omega arith)) (behind 2 (omega arith) (omega arith)) (λ row least most its. (its, stays row least most)) (λ n its. (its, λ free. free)) (h.pool common_too);
     places = λ other. refl;
     place_words = λ other inside apart.
         get_or-set_other s.words place (place_word plan.counts other) x 0 (λ e. let same : v.place ≡ other = omega (arith, e) in apart (ap h.owners.place (sym same) ∙ its.own));
@@ -77,6 +83,7 @@ module _ (plan : Plan) (s : State ℕ View) (tree_state : TreeState) (h : IsTabl
       busy = idle_or_busy;
     };
     places_left = λ dealt back is. absurd (let e : Pass ≡ Keeper dealt back = sym role ∙ is in cc);
+    nothing = λ common dealt back is. absurd (let e : Pass ≡ Keeper dealt back = sym role ∙ is in cc);
   }
 
   pub mark_keeps : IsTable plan record { words = words; homes = s.homes; views = set s.views id w }

@@ -12,7 +12,7 @@ use Rattle.blink_live.specs.declared.view.Role.TheVariants.{Keeper, Pass}
 use Rattle.blink_live.specs.declared.view.View.{View}
 use Rattle.blink_live.specs.Changes.{put, after, entries_after, states_of}
 use Rattle.blink_live.specs.Dealing.{CanDeal}
-use Rattle.blink_live.specs.Rule.{Owners, IsFree, IsShare, IsInRole, Knows, pass_count, passes_in, AreCounted, IsTableAt, IsTable}
+use Rattle.blink_live.specs.Rule.{HasPool, Owners, IsFree, IsShare, IsInRole, Knows, pass_count, passes_in, AreCounted, IsTableAt, IsTable}
 use Rattle.blink_live.specs.Views.{is_among, share_of_keys, deals_one, dealt_in, keeps_rest, gets_first, latch_in, IsCommon}
 use Rattle.blink_live.specs.Words.{place_word}
 use Rattle.blink_live.proofs.dealt.KeysOfShare.{among_from_contains, contains_from_among, entries_of_keep, changes_of_keep}
@@ -156,6 +156,7 @@ module _ (plan : Plan) (s : State ℕ View) (tree_state : TreeState) (h : IsTabl
     heard = known.heard;
     in_role = left_in_role;
     placed = λ common is. absurd (let e : Keeper (suc can.dealt) can.back ≡ Pass = sym left_role ∙ is in cc);
+    nothing = λ common d b is. let none = known.nothing common can.dealt can.back can.role in (omega (arith, none), omega (arith, none), none.2, none.3);
     places_left = λ d b is place from.
         let e : Keeper (suc can.dealt) can.back ≡ Keeper d b = sym left_role ∙ is in
         let same : suc can.dealt ≡ d = cc in
@@ -210,6 +211,7 @@ module _ (plan : Plan) (s : State ℕ View) (tree_state : TreeState) (h : IsTabl
         omega (arith, there, same_places, first) in
         record { in_range = in_range; own = put_here old.place (dealt_in v.role) (suc new_seat); word = place_left.1 in_range; busy = λ m goes. absurd (cc) };
     places_left = λ d b is. absurd (cc);
+    nothing = λ common d b is. absurd (cc);
   }
 
   -- ---- all seats
@@ -258,12 +260,31 @@ module _ (plan : Plan) (s : State ℕ View) (tree_state : TreeState) (h : IsTabl
       go true has = absurd (let none : plan.places ≡ 0 = ap (λ (p : Plan). p.places) (sym known.same_plan) ∙ can.owned key (contains_from_among keys key has) in omega (arith, none, common))
       go false has = h.nobodys common key
 
+  -- nor does anything come from the pool
+  pool_then : IsCommon plan → HasPool plan new s.words tree_state
+  pool_then common =
+      let pool = h.pool common in
+      let none = known.nothing common can.dealt can.back can.role in
+      let enough_rows = can.enough_rows in
+      let enough_pages = can.enough_pages in record {
+        rows = record {
+          in_range = pool.rows.in_range;
+          own = λ row low high. ranged_out v.rows.next (v.rows.next + rows) (suc new_seat) old.row row (λ a c. absurd (omega (arith, a, c, none, enough_rows))) ∙ pool.rows.own row low high;
+          blank = pool.rows.blank;
+        };
+        pages = record {
+          in_range = pool.pages.in_range;
+          own = λ number low high. ranged_out v.pages.next (v.pages.next + pages) (suc new_seat) old.page number (λ a c. absurd (omega (arith, a, c, none, enough_pages))) ∙ pool.pages.own number low high;
+          free = pool.pages.free;
+        };
+      }
+
   deals_at : IsTableAt plan record { words = s.words; homes = s.homes; views = views_then } tree_state
   deals_at = owners_change plan s tree_state h new views_then published holder_else all_know
       (let same : length (set s.views id left) ≡ length s.views = length-set s.views id left in
       let longer : length views_then ≡ length (set s.views id left) + 1 = length-append (set s.views id left) (right ∷ []) in
       omega (arith, same, longer))
-      nobodys_then counted_then
+      nobodys_then pool_then counted_then
 
 pub deals_keep_table : (plan : Plan) (id : ℕ) (v : View) (rows pages : ℕ) (keys taken : List ℕ) → CanDeal v rows pages keys taken
     → Splits (IsTable plan) id v (keeps_rest v rows pages taken) (gets_first v rows pages keys)

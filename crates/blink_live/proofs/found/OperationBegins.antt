@@ -101,6 +101,7 @@ module _ (plan : Plan) (s : State ℕ View) (tree_state : TreeState) (h : IsTabl
         in_role = subst (IsInRole plan h.owners h.log id w) (sym role) kept;
         placed = λ common is. let p = known.placed common is in record { in_range = p.in_range; own = p.own; word = p.word; busy = λ m goes. can.announced (subst IsCommon (sym known.same_plan) common) };
         places_left = λ dealt back is. absurd (let e : Pass ≡ Keeper dealt back = sym role ∙ is in cc);
+        nothing = λ common dealt back is. absurd (let e : Pass ≡ Keeper dealt back = sym role ∙ is in cc);
       }
 
 pub begins_operation : (plan : Plan) (slots id : ℕ) (me : SeatState) (op : Op) → me.0.role ≡ Pass → me.0.operation ≡ None → FitsWords op → CanBegin me.0 op

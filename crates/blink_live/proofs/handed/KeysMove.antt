@@ -68,6 +68,7 @@ module _ (plan : Plan) (old : Owners) (words : List ℕ) (tree_state : TreeState
     in_role = role_then seat v share told v.role known.in_role;
     placed = λ common is. let p = known.placed common is in record { in_range = p.in_range; own = p.own; word = p.word; busy = p.busy };
     places_left = known.places_left;
+    nothing = known.nothing;
   }
 
   -- any other seat

@@ -19,8 +19,8 @@ use Rattle.blink_machine.proofs.Offered.{step_law}
 use Rattle.blink_live.specs.declared.view.Plan.{Plan}
 use Rattle.blink_live.specs.declared.view.View.{View}
 use Rattle.blink_live.specs.Laid.{IsLaidWith}
-use Rattle.blink_live.specs.Rule.{Owners, IsPublished, PageWordIs, Knows, IsTable}
-use Rattle.blink_live.specs.Views.{first_view}
+use Rattle.blink_live.specs.Rule.{HasNumbers, HasPool, HasRows, Owners, IsPublished, PageWordIs, Knows, IsTable}
+use Rattle.blink_live.specs.Views.{IsCommon, first_span, first_view, span}
 use Rattle.blink_live.specs.Words.{RowIs}
 use Rattle.blink_live.proofs.table.CallsOfSeats.{nothing_for_call}
 
@@ -69,6 +69,15 @@ no_page_past : (store : PlainStore) (number : ℕ) → length store.pages < numb
 no_page_past store zero late = refl
 no_page_past store (suc n) late = slice_get_past store.pages n (omega arith)
 
+-- the keeper's first span, or an empty one
+some_first : (n next stop : ℕ) → 1 ≤ next → 1 ≤ (first_span n next stop).next
+some_first zero next stop least = least
+some_first (suc n) next stop least = omega arith
+
+none_first : (n next stop : ℕ) → 1 ≤ n → (first_span n next stop).stop ≤ (first_span n next stop).next
+none_first zero next stop least = absurd (omega (arith, least))
+none_first (suc n) next stop least = omega arith
+
 one_view : (K : ℕ → View → Type 0) (v : View) → K 0 v → (seat : ℕ) (u : View) → get_elem? (v ∷ []) seat ≡ some u → K seat u
 one_view K v known zero u is = subst (K 0) (some-injective v u is) known
 one_view K v known (suc seat) u is = absurd (some-ne-none u (sym is))
@@ -103,6 +112,36 @@ module _ (store : PlainStore) (counts : PlainCounts) (places : ℕ) (words : Lis
         | inr more ↦ subst (PageWordIs plan owners words (slice_index words number)) (sym (no_page_past store number (omega arith))) (laid.no_more number (omega arith) (omega arith))
       ]
 
+  -- the rows and page numbers that no page has
+  all_rows : HasRows (plan_over store counts places) (owners_over (length store.pages)) words 1 (span (length store.pages + 2) (counts.rows + 1))
+  all_rows = record {
+    in_range = (omega arith, omega arith);
+    own = λ row late early. owner_on (length store.pages + 2) row late;
+    blank = λ row late early. laid.blank_rows row late (omega arith);
+  }
+
+  all_numbers : HasNumbers (plan_over store counts places) (owners_over (length store.pages)) (tree_state_over store) 1 (span (length store.pages + 1) counts.numbers)
+  all_numbers = record {
+    in_range = (omega arith, omega arith);
+    own = λ number late early. owner_on (length store.pages + 1) number late;
+    free = λ number late early. no_page_past store number (omega arith);
+  }
+
+  -- are the keeper's, or the pool's
+  first_rows : (n : ℕ) → HasRows (plan_over store counts places) (owners_over (length store.pages)) words 1 (first_span n (length store.pages + 2) (counts.rows + 1))
+  first_rows zero = all_rows
+  first_rows (suc n) = record { in_range = (omega arith, omega arith); own = λ row low high. absurd (omega (arith, low, high)); blank = λ row low high. absurd (omega (arith, low, high)) }
+
+  first_numbers : (n : ℕ) → HasNumbers (plan_over store counts places) (owners_over (length store.pages)) (tree_state_over store) 1 (first_span n (length store.pages + 1) counts.numbers)
+  first_numbers zero = all_numbers
+  first_numbers (suc n) = record { in_range = (omega arith, omega arith); own = λ number low high. absurd (omega (arith, low, high)); free = λ number low high. absurd (omega (arith, low, high)) }
+
+  first_pool : IsCommon (plan_over store counts places) → HasPool (plan_over store counts places) (owners_over (length store.pages)) words (tree_state_over store)
+  first_pool common = record {
+    rows = subst (λ (n : ℕ). HasRows (plan_over store counts places) (owners_over (length store.pages)) words 1 (span n (counts.rows + 1))) (sym (laid.pool_rows common)) all_rows;
+    pages = subst (λ (n : ℕ). HasNumbers (plan_over store counts places) (owners_over (length store.pages)) (tree_state_over store) 1 (span n counts.numbers)) (sym (laid.pool_pages common)) all_numbers;
+  }
+
   -- the keeper knows what is so
   keeper_knows : Knows (plan_over store counts places) (owners_over (length store.pages)) words (tree_state_over store) [] 0 (first_view (length store.pages) (plan_over store counts places))
   keeper_knows = record {
@@ -110,22 +149,21 @@ module _ (store : PlainStore) (counts : PlainCounts) (places : ℕ) (words : Lis
     operation = refl;
     bounded = λ m is. absurd (cc);
     reads = tt;
-    rows = record {
-      in_range = (omega arith, omega arith);
-      own = λ row late early. owner_on (length store.pages + 2) row late;
-      blank = λ row late early. laid.blank_rows row late (omega arith);
-    };
-    numbers = record {
-      in_range = (omega arith, omega arith);
-      own = λ number late early. owner_on (length store.pages + 1) number late;
-      free = λ number late early. no_page_past store number (omega arith);
-    };
-    for_call = nothing_for_call (plan_over store counts places) (owners_over (length store.pages)) words (tree_state_over store) 1 (length store.pages + 2) (length store.pages + 1) (omega arith) (omega arith) (omega arith);
+    rows = first_rows places;
+    numbers = first_numbers places;
+    for_call = nothing_for_call (plan_over store counts places) (owners_over (length store.pages)) words (tree_state_over store) 1 (first_span places (length store.pages + 2) (counts.rows + 1)).next (first_span places (length store.pages + 1) counts.numbers).next
+        (some_first places (length store.pages + 2) (counts.rows + 1) (omega arith)) (some_first places (length store.pages + 1) counts.numbers (omega arith)) (omega arith);
     share = λ key among. absurd (omega (arith, among.1));
     saw = ([], refl);
     heard = ([], refl);
     in_role = (refl, refl, (λ key not. record { own = refl; saw_all = λ owned. refl }), (λ share among. absurd (omega (arith, among.1))));
     placed = λ common is. absurd (cc);
+    nothing = λ common dealt back is. (
+      none_first places (length store.pages + 2) (counts.rows + 1) common,
+      none_first places (length store.pages + 1) counts.numbers common,
+      omega arith,
+      omega arith,
+    );
     places_left = λ dealt back is place from. (refl, λ inside. laid.blank_places place inside);
   }
 
@@ -156,6 +194,7 @@ module _ (store : PlainStore) (counts : PlainCounts) (places : ℕ) (words : Lis
           is_map = record { ascending = is_map.ascending; kept = is_map.kept };
           kept = λ key. refl;
           nobodys = λ common key. refl;
+          pool = first_pool;
           views = one_view (Knows plan owners words (tree_state_over store) []) (first_view (length store.pages) plan) keeper_knows;
           others_idle = λ seat late. refl;
           counted = record { keeper = first_view (length store.pages) plan; dealt = 0; back = 0; first = refl; role = refl; counted = λ owned. refl };

@@ -46,6 +46,7 @@ module _ (plan : Plan) (s : State ℕ View) (tree_state : TreeState) (h : IsTabl
         in_role = in_role;
         placed = λ common is. let p = known.placed common is in record { in_range = p.in_range; own = p.own; word = p.word; busy = busy common is };
         places_left = known.places_left;
+        nothing = known.nothing;
       } in
       subst (Knows plan h.owners s.words (moved tree_state id w.operation) h.log id) (sym same) knows
 
@@ -71,6 +72,7 @@ module _ (plan : Plan) (s : State ℕ View) (tree_state : TreeState) (h : IsTabl
       is_map = record { ascending = h.is_map.ascending; kept = h.is_map.kept };
       kept = h.kept;
       nobodys = h.nobodys;
+      pool = λ common. let pool = h.pool common in record { rows = pool.rows; pages = record { in_range = pool.pages.in_range; own = pool.pages.own; free = pool.pages.free } };
       views = views_stay (Knows plan h.owners s.words (moved tree_state id w.operation) h.log) s.views id w knows
           (λ j u other there. let known = h.views j u there in record {
             same_plan = known.same_plan;
@@ -87,6 +89,7 @@ module _ (plan : Plan) (s : State ℕ View) (tree_state : TreeState) (h : IsTabl
             in_role = known.in_role;
             placed = known.placed;
             places_left = known.places_left;
+            nothing = known.nothing;
           });
       others_idle = λ seat beyond.
           let inside = at_inside s.views id v at in

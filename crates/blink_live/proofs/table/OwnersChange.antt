@@ -12,7 +12,7 @@ use Rattle.blink_live.specs.declared.view.Role.{Role}
 use Rattle.blink_live.specs.declared.view.Role.TheVariants.{Keeper, Pass, Spent}
 use Rattle.blink_live.specs.declared.view.Share.{Share}
 use Rattle.blink_live.specs.declared.view.View.{View}
-use Rattle.blink_live.specs.Rule.{Owners, PageWordIs, latch_word, ReadsRow, IsShare, IsInRole, Knows, AreCounted, IsTableAt}
+use Rattle.blink_live.specs.Rule.{HasPool, Owners, PageWordIs, latch_word, ReadsRow, IsShare, IsInRole, Knows, AreCounted, IsTableAt}
 use Rattle.blink_live.specs.Views.{IsCommon}
 use Rattle.blink_live.proofs.table.CallsOfSeats.{call_still}
 
@@ -62,6 +62,7 @@ module _ (plan : Plan) (old new : Owners) (words : List ℕ) (log : List Change)
     in_role = role_still seat v v.role later owns.latch_number known.in_role;
     placed = λ common is. let p = known.placed common is in record { in_range = p.in_range; own = owns.place v.place p.own; word = p.word; busy = p.busy };
     places_left = λ dealt back is. absurd (let first = (subst (IsInRole plan old log seat v) is known.in_role).0 in omega (arith, first, later));
+    nothing = λ common dealt back is. absurd (let first = (subst (IsInRole plan old log seat v) is known.in_role).0 in omega (arith, first, later));
   }
 
 latch_still : (old new : Owners) (holder : Option ℕ) → ((seat : ℕ) → holder ≡ Some seat → new.latch_number seat ≡ old.latch_number seat) → latch_word old holder ≡ latch_word new holder
@@ -73,9 +74,9 @@ pub owners_change : (plan : Plan) (s : State ℕ View) (tree_state : TreeState) 
     → StaysPublished h.owners new
     → ((number seat : ℕ) → tree_state.holder number ≡ Some seat → new.latch_number seat ≡ h.owners.latch_number seat)
     → ((seat : ℕ) (v : View) → get_elem? views seat ≡ some v → Knows plan new s.words tree_state h.log seat v)
-    → length s.views ≤ length views → (IsCommon plan → (key : ℕ) → new.key key ≡ 0) → AreCounted views
+    → length s.views ≤ length views → (IsCommon plan → (key : ℕ) → new.key key ≡ 0) → (IsCommon plan → HasPool plan new s.words tree_state) → AreCounted views
     → IsTableAt plan record { words = s.words; homes = s.homes; views = views } tree_state
-owners_change plan s tree_state h new views published same_latch knows longer nobodys counted = record {
+owners_change plan s tree_state h new views published same_latch knows longer nobodys pool counted = record {
   owners = new;
   log = h.log;
   now = h.now;
@@ -93,6 +94,7 @@ owners_change plan s tree_state h new views published same_latch knows longer no
   is_map = record { ascending = h.is_map.ascending; kept = h.is_map.kept };
   kept = h.kept;
   nobodys = nobodys;
+  pool = pool;
   views = knows;
   others_idle = λ seat beyond. h.others_idle seat (omega (arith, longer, beyond));
   counted = counted;

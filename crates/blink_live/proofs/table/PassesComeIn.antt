@@ -99,6 +99,7 @@ module _ (plan : Plan) (some_number : 1 ≤ plan.counts.numbers) (s : State ℕ 
     in_role = refl;
     placed = λ common is. absurd (cc);
     places_left = λ d b is. absurd (cc);
+    nothing = λ common d b is. absurd (cc);
   }
 
   -- ---- all seats
@@ -155,6 +156,7 @@ module _ (plan : Plan) (some_number : 1 ≤ plan.counts.numbers) (s : State ℕ 
       in_role = subst (IsInRole plan new h.log id both) (sym both_role) (in_role.0, in_role.1, free, came);
       placed = λ common is. absurd (let e : Keeper dealt (suc back) ≡ Pass = sym both_role ∙ is in cc);
       places_left = λ d b is. let e : Keeper dealt (suc back) ≡ Keeper d b = sym both_role ∙ is in let same : dealt ≡ d = cc in subst (ArePlacesLeft plan new s.words) same (known.places_left dealt back role);
+      nothing = λ common d b is. known.nothing common dealt back role;
     }
 
     all_know : (seat : ℕ) (u : View) → get_elem? views_then seat ≡ some u → Knows plan new s.words tree_state h.log seat u
@@ -171,4 +173,5 @@ module _ (plan : Plan) (some_number : 1 ≤ plan.counts.numbers) (s : State ℕ 
         (let one : length (set s.views id both) ≡ length s.views = length-set s.views id both in
         let two : length views_then ≡ length (set s.views id both) = length-set (set s.views id both) other (spent plan) in
         omega (arith, one, two))
+        (λ common. absurd (let none : plan.places ≡ 0 = ap (λ (p : Plan). p.places) (sym known.same_plan) ∙ owned in omega (arith, none, common)))
         (λ common. absurd (let none : plan.places ≡ 0 = ap (λ (p : Plan). p.places) (sym known.same_plan) ∙ owned in omega (arith, none, common))) counted_then

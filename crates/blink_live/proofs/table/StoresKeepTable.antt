@@ -90,6 +90,7 @@ module _ (plan : Plan) (s : State ℕ View) (tree_state then : TreeState) (h : I
           is_map = stored.is_map;
           kept = stored.kept;
           nobodys = leaves.nobodys;
+          pool = leaves.pool;
           views = views_stay (Knows plan new words then log) s.views id w knows (λ j u other there. other_knows plan s tree_state then h id some_pass words new log leaves j u other there);
           others_idle = λ seat beyond.
               let inside = at_inside s.views id v at in

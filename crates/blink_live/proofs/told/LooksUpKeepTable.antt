@@ -38,6 +38,7 @@ forgets plan owners words tree_state log id v known = record {
   in_role = told_in_role plan owners log id v [] v.role known.in_role;
   placed = λ common role. let p = known.placed common role in record { in_range = p.in_range; own = p.own; word = p.word; busy = p.busy };
   places_left = known.places_left;
+  nothing = known.nothing;
 }
 
 -- and may have seen any prefix of the changes that agrees with its role

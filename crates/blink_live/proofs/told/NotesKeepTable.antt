@@ -49,6 +49,7 @@ module _ (plan : Plan) (some_number : 1 ≤ plan.counts.numbers) (s : State ℕ 
     in_role = refl;
     placed = λ common is. absurd (cc);
     places_left = λ dealt back is. absurd (cc);
+    nothing = λ common d b is. absurd (cc);
   }
 
   -- ---- a note
@@ -85,7 +86,7 @@ module _ (plan : Plan) (some_number : 1 ≤ plan.counts.numbers) (s : State ℕ 
 
     recorded : IsTableAt plan record { words = s.words; homes = s.homes; views = views_then } tree_state
     recorded = owners_change plan s tree_state h h.owners views_then (λ row is. is) (λ number seat holds. refl) all_know
-        (let longer : length views_then ≡ length s.views + 1 = length-append s.views (note_of v ∷ []) in omega (arith, longer)) h.nobodys counted_then
+        (let longer : length views_then ≡ length s.views + 1 = length-append s.views (note_of v ∷ []) in omega (arith, longer)) h.nobodys h.pool counted_then
 
   -- ---- it is taken
 
@@ -114,6 +115,7 @@ module _ (plan : Plan) (some_number : 1 ≤ plan.counts.numbers) (s : State ℕ 
           in_role = told_in_role plan h.owners h.log id v w.told v.role was.in_role;
           placed = λ common is. let p = was.placed common is in record { in_range = p.in_range; own = p.own; word = p.word; busy = p.busy };
           places_left = was.places_left;
+          nothing = was.nothing;
         }
 
     abbrev taken : List View
@@ -130,7 +132,7 @@ module _ (plan : Plan) (some_number : 1 ≤ plan.counts.numbers) (s : State ℕ 
     heard = owners_change plan s tree_state h h.owners taken (λ row is. is) (λ number seat holds. refl) taken_know
         (let one : length (set s.views id both) ≡ length s.views = length-set s.views id both in
         let two : length taken ≡ length (set s.views id both) = length-set (set s.views id both) other (spent plan) in
-        omega (arith, one, two)) h.nobodys
+        omega (arith, one, two)) h.nobodys h.pool
         (counted_stays (set s.views id both) other w (spent plan) there (sym its_role) (sym its.same_plan) (counted_stays s.views id v both at refl refl h.counted))
 
 pub note_keeps_table : (plan : Plan) (id : ℕ) (v : View) → 1 ≤ plan.counts.numbers → Splits (IsTable plan) id v v (note_of v)

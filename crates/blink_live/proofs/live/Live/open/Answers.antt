@@ -1,4 +1,3 @@
-use mathlib.Core.List.{append-nil}
 use Rattle.std.proofs.Common.{ℕ, ◌≡◌, ◌+◌, ◌*◌, ◌<◌, ◌≤◌, List, [], length, ap, sym, ◌∙◌, subst, arith}
 use Rattle.std.specs.Ordering.{nat_cmp}
 use Rattle.std.specs.Prelude.{IsSorted}
@@ -12,7 +11,7 @@ use Rattle.blink_live.specs.Words.{word_count}
 use Rattle.blink_live.specs.declared.view.Opened.{Opened}
 use Rattle.blink_live.specs.Views.{SeatState, first_view, span}
 use Rattle.blink_live.proofs.dealt.ChangesLeft.{opened_for_changes}
-use Rattle.blink_live.proofs.opened.PlacesAreLaid.{laid_with}
+use Rattle.blink_live.proofs.opened.PlacesAreLaid.{laid_alone}
 use Rattle.blink_live.proofs.opened.OpeningIsTable.{plan_over, opens}
 use Rattle.blink_live.proofs.live.Live.open.Goals as goal
 
@@ -28,7 +27,7 @@ of_words-requires c =
     let laid : IsLaid counts store words = subst (λ (s : PlainStore). IsLaid counts s words) (c.store-store.ensures.store ∙ tree) c.in-Ok.ensures in
     let at_rest : IsStoreAtRest store = subst IsStoreAtRest tree c.store-store.ensures.at_rest in
     let lawful : IsLawfulStore store = subst IsLawfulStore tree c.store-store.ensures.lawful in
-    let opened = opens store counts 0 words numbers rows (laid_with counts 0 store words words numbers rows laid (sym (append-nil words))) at_rest lawful c.rest.ensures.map bounded in
+    let opened = opens store counts 0 words numbers rows (laid_alone counts store words numbers rows laid) at_rest lawful c.rest.ensures.map bounded in
     let T : PlainStore → List ℕ → Type 0 = λ s ws. IsTable (plan_over s counts 0) (opening ws [] (first_view (length s.pages) (plan_over s counts 0))) in
     subst (λ (s : PlainStore). T s c.deref.result.now) (sym c.of.ensures) (subst (T store) (sym c.deref.ensures.value) opened)
 
