@@ -1,8 +1,10 @@
 /*
  * blink.h: a proved B-link tree index, and a table that threads share without a lock, for C and C++.
  *
- * Link with libblink.a or libblink.so, which ./libblink builds. Every function is proved to keep what its comment says, in
- * crates/blink_c; what follows is what the caller keeps.
+ * Link with libblink.a or libblink.so, which ./libblink builds. What the comment of a function says of its results, and of what
+ * it changes, is proved in crates/blink_c, unless it says "tested". Of all functions it is tested alone that memory is refused only
+ * where malloc or realloc gives none, that an operation gets on by blink_pass_advance, and that what is freed is free. What
+ * follows is what the caller keeps.
  *
  * Handles. blink_index, blink_table and blink_pass are handles. A handle begins as {NULL}, and is then empty. A function with a
  * parameter `out` takes the place of an empty handle, and fills it if it returns BLINK_DONE. All other functions take a full one.
@@ -10,10 +12,11 @@
  * full or freed: an empty or freed handle passed where a full one is asked for, or a full one as `out`, is undefined, as a wild
  * pointer is.
  *
- * Threads. One call at a time uses a handle. Any thread may use it; one gives it to another by a lock, a start or join of a
- * thread, or a sequentially consistent atomic. Different handles may be used by different threads at the same time, also passes
- * of one table, and the table itself. No call waits for another thread. None may be called from a signal handler, or in a forked
- * child of a process with threads.
+ * Threads. One call at a time uses a handle. Any thread may use it; one gives it to another by what orders memory between the
+ * two: a lock, a start or join of a thread, or an atomic that one stores with release order, at least, and the other loads with
+ * acquire order. Different handles may be used by different threads at the same time, also passes of one table, and the table
+ * itself. No call waits for another thread. None may be called from a signal handler, or in a forked child of a process with
+ * threads.
  *
  * Arrays. A pointer and the number of its elements follow one another. The pointer isn't NULL, also where that number is 0, and
  * no two arrays or results of one call overlap.
@@ -96,8 +99,9 @@ enum {
  * BLINK_INDEX_NO_MEMORY. */
 uint8_t blink_index_new(uint8_t fan, blink_index *out);
 
-/* Makes an index of entries in any order, sorted or not. Of two with one key the first stays. Refused: BLINK_BAD_FAN;
- * then BLINK_INDEX_TOO_LARGE or BLINK_INDEX_NO_MEMORY. */
+/* Makes an index of entries in any order, sorted or not. Of two with one key the first stays. It has at most 1 page and 22 for
+ * each entry. Refused: BLINK_BAD_FAN; then BLINK_INDEX_NO_MEMORY, or BLINK_INDEX_TOO_LARGE, only if 2 and 22 for each entry are
+ * above 1,048,576. */
 uint8_t blink_index_from_entries(uint8_t fan, const blink_entry *entries, size_t count, blink_index *out);
 
 /* Makes a copy, page by page. Refused: BLINK_INDEX_NO_MEMORY. */
@@ -106,7 +110,7 @@ uint8_t blink_index_copy(blink_index *index, blink_index *out);
 /* Runs operations one after another, and gives the answer of each at its place. It works on a copy of the index, which then takes
  * its place: so run many at once. Refused, looked for in this order: BLINK_WRONG_LENGTH, if there aren't as many places for
  * answers as operations; BLINK_TOO_MANY; BLINK_UNKNOWN_OPERATION; then BLINK_INDEX_TOO_LARGE or BLINK_INDEX_NO_MEMORY. Then the
- * index and the answers are as they were. */
+ * index and the answers are as they were. Otherwise the index has at most 22 pages more for each insertion. */
 uint8_t blink_index_run(blink_index *index, const blink_operation *operations, size_t count, blink_answer *answers,
                         size_t places);
 
@@ -150,7 +154,7 @@ void blink_index_free(blink_index index);
 
 /* Opens a table over the index, which stays as it is, with room for so many insertions and deletions; a replacement uses a
  * deletion. `number` is one that no other table of the process has while it or a pass of it lives: by it passes of two tables are
- * told apart. Refused: BLINK_TABLE_TOO_LARGE, BLINK_NO_MEMORY. */
+ * told apart. Refused: BLINK_TABLE_TOO_LARGE, exactly if 1 + pages + 22 for each insertion is above 1,048,576; BLINK_NO_MEMORY. */
 uint8_t blink_table_open(blink_index *index, uint32_t inserts, uint32_t deletes, uint64_t number, blink_table *out);
 
 /* Deals a pass with these keys, in any order, and room for so many changes. A key that was dealt before has the state that its last
@@ -164,8 +168,9 @@ uint8_t blink_table_deal(blink_table *table, const uint64_t *keys, size_t count,
 uint8_t blink_table_return(blink_table *table, blink_pass *pass);
 
 /* Closes the table, and gives the index of its tree: the entries that it was opened with, except that each key that was dealt has
- * the state that its last pass left. The table is given up either way. Refused: BLINK_MISSING, if a pass wasn't given back or its
- * handle isn't freed; BLINK_NO_MEMORY. */
+ * the state that its last pass left. The index has at most the pages that the table was opened over, and 22 for each insertion that
+ * the table has room for. The table is given up either way. Refused: BLINK_MISSING, if a pass wasn't given back; BLINK_NO_MEMORY.
+ * Tested: it is BLINK_MISSING also if the handle of a pass isn't freed, and in no other case. */
 uint8_t blink_table_close(blink_table table, blink_index *out);
 
 /* Frees the table, without an index. The handles of its passes may still be used, and are still to be freed. */
@@ -200,9 +205,9 @@ uint8_t blink_pass_begin_delete(blink_pass *pass, uint64_t key);
 uint8_t blink_pass_begin_replace(blink_pass *pass, uint64_t key, uint64_t pointer);
 
 /* Takes the next steps of the operation under way. It returns BLINK_DONE and the answer once the operation has ended, and
- * BLINK_PENDING after `tries` steps in vain, since another pass has the page that it wants: then the thread may do something else,
- * yield or wait as it likes, and calls again. It never waits itself. Refused: BLINK_IDLE, if nothing is under way;
- * BLINK_RETURNED. */
+ * BLINK_PENDING if it hasn't: then the operation holds no page, so that no other pass waits for it, and the thread may do something
+ * else, yield or wait as it likes, and calls again. Tested: that is after `tries` steps in vain, since another pass has the page that
+ * it wants. It never waits itself. Refused: BLINK_IDLE, if nothing is under way; BLINK_RETURNED. */
 uint8_t blink_pass_advance(blink_pass *pass, uint32_t tries, blink_answer *answer);
 
 /* Frees the handle. A pass that wasn't given back before is lost: blink_table_close is then refused with BLINK_MISSING. */

@@ -1,5 +1,8 @@
 #!/bin/sh
-# Links test.c with out/libblink.a and runs it, under valgrind too where that is there.
+# Links test.c with out/libblink.a and runs it; then with the shared object, and under valgrind where that is there.
+#
+#     test.sh            all of this
+#     test.sh --quick    the archive alone, and no valgrind
 set -eu
 here=$(cd "$(dirname "$0")" && pwd)
 top=$(cd "$here/../../.." && pwd)
@@ -8,6 +11,9 @@ trap 'rm -rf "$work"' EXIT
 ${CC:-cc} -std=c11 -O2 -Wall -Wextra -pthread -I "$top/include" "$here/test.c" "$top/out/libblink.a" \
     -Wl,--wrap=malloc,--wrap=realloc -o "$work/test"
 "$work/test"
+if [ "${1-}" = --quick ]; then
+    exit 0
+fi
 # The shared object, found as a program would find it.
 if command -v pkg-config >/dev/null; then
     flags=$(PKG_CONFIG_PATH=$top/out pkg-config --cflags --libs blink)

@@ -1,5 +1,6 @@
 pub mod IndexAsBox
 pub mod FanStays
+pub mod PagesAreFew
 pub mod RunOfBatch
 pub mod RunRefusals
 pub mod Found

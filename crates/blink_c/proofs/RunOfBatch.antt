@@ -1,9 +1,9 @@
 -- A run of one worker at its end: its answers and its map are those of one thread.
-use Rattle.std.proofs.Common.{◌≡◌, Option, Some, List, [], ◌∷◌, length, map, refl, ap, sym, ◌∙◌, subst}
+use Rattle.std.proofs.Common.{◌≡◌, Option, Some, List, [], ◌∷◌, count_by, length, map, refl, ap, sym, ◌∙◌, subst, arith}
 use Rattle.std.proofs.lemmas.List.{length-map}
 use Rattle.blink_batch.specs.declared.Answer.{Answer}
 use Rattle.blink_batch.specs.declared.Op.{Op}
-use Rattle.blink_batch.specs.{Assignment, IsLawfulCut, answers, map_after_all}
+use Rattle.blink_batch.specs.{Assignment, IsLawfulCut, answers, is_insert, map_after_all}
 use Rattle.blink_batch.proofs.Offered.{length-answers}
 use Rattle.blink_index.specs.{MapIsKept, NoOtherMapIsKept, map_of}
 use Rattle.blink_machine.specs.{IsMapOf}
@@ -14,6 +14,7 @@ use Rattle.blink_c.specs.declared.raw.RawOperation.{RawOperation}
 use Rattle.blink_c.specs.Raw.{AreOperations, op_of, raw_answer, raw_given}
 use Rattle.blink_c.specs.Runs.{HasRunToEnd}
 use Rattle.blink_c.proofs.FanStays.{fan_stays}
+use Rattle.blink_c.proofs.PagesAreFew.{begun_at_most}
 
 pub run_done : (before : PlainStore) (ops : List Op) (assignment : Assignment) (first last : PlainWorld) → IsStart before ops assignment first
     → IsLawfulCut ops assignment.workers assignment.lanes → KeepsItsStart first last → SameBatch first.run last.run → IsPromised last → HasEnded last.run
@@ -37,6 +38,10 @@ run_done before ops assignment first last begins lawful same_start same_batch pr
       one_each = ap (λ (xs : List (Option Answer)). length xs) given ∙ length-map (answers (map_of before) ops) Some ∙ length-answers (map_of before) ops;
       same_answers = given;
       same_fan = fan_stays before last is_world;
+      few_pages = let bound = kept.bounded.pages in
+          let few = begun_at_most last.run.ops last.run.outcome.moves in
+          let same = ap (count_by is_insert) same_ops in
+          omega (arith, bound, few, same);
       same_map = sym (no_other last.run.shared.store (map_after_all (map_of before) ops) (kept.ended ended).at_rest after.kept);
     }
 

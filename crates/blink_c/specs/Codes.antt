@@ -30,7 +30,3 @@ IsNewFault refusal = (refusal ≡ BadFan) ⊎ (refusal ≡ OutOfMemory)
 -- a result that is neither 0 nor the code of a bad fan is that of lack of memory
 abbrev pub TellsNewFault : ℕ → Type 0
 TellsNewFault given = given ≢ 0 → given ≢ code_of BadFan → given ≡ code_of OutOfMemory
-
--- an index with more entries is refused for its size, or for lack of memory
-abbrev pub IsGrowthFault : Refusal → Type 0
-IsGrowthFault refusal = (refusal ≡ TooLarge) ⊎ (refusal ≡ OutOfMemory)

@@ -4,14 +4,14 @@
 -- entries, operations and answers as structs of numbers
 pub use Rattle.blink_c.specs.Raw.{AreOperations, insertion_of, op_of, raw_answer, raw_entry, raw_given, raw_shown}
 -- a batch that one thread runs over an index, an index made of entries, and why they are refused
-pub use Rattle.blink_c.specs.Runs.{HasEntriesOf, HasRun, IsMakeRefusal, IsRunRefusal}
+pub use Rattle.blink_c.specs.Runs.{HasEntriesOf, HasPagesFor, HasPagesOf, HasRun, IsMakeRefusal, IsRunRefusal}
 -- what the code of a refused call tells
 pub use Rattle.blink_c.specs.Codes.{TellsNewFault, TellsWhy}
 -- what the look-ups give, and the caller's arrays after a scan, a page or a dump
 pub use Rattle.blink_c.specs.Found.{found_answer, pointer_or}
 pub use Rattle.blink_c.specs.Filled.{overlaid, put_if_fits}
 -- a table behind a handle: what the calls make of it, and why they are refused
-pub use Rattle.blink_c.specs.Tables.{DealsTo, IsNewTable, IsOwnTable, IsReturnRefusal, TakesBack, TellsDealFault, TellsOpenFault}
+pub use Rattle.blink_c.specs.Tables.{DealsTo, IsNewTable, IsOwnTable, IsReturnRefusal, TakesBack, TellsDealFault}
 -- a pass behind a handle likewise
 pub use Rattle.blink_c.specs.Passes.{Begins, Ends, Finds, Glances, Hands, IsAdvanceRefusal, IsBeginRefusal, IsFindRefusal, IsHandRefusal, IsOwn, IsTellRefusal, TellsHandFault, TellsOn}
 -- ---- the files

@@ -1,17 +1,18 @@
 -- A pass behind a handle: what the calls make of it, and why they are refused.
-use Rattle.std.specs.Prelude.{◌≡◌, ◌≢◌, ◌⊎◌, ℕ, List, Contains, ⊤}
+use Rattle.std.specs.Prelude.{◌≡◌, ◌≢◌, ◌⊎◌, ℕ, List, None, Contains, ⊤}
 use Rattle.std.specs.Arc.{arc_value}
 use mathlib.Core.List.{IsPrefix}
 use Rattle.blink_batch.specs.declared.Op.{Op}
 use Rattle.blink_batch.specs.declared.Op.TheVariants.{Find}
 use Rattle.blink_batch.specs.{answer_of, key_of, pointer_of}
+use Rattle.blink_machine.specs.{latch_of}
 use Rattle.blink_live.specs.declared.live.Live.{Live}
 use Rattle.blink_live.specs.declared.live.Pass.{Pass}
 use Rattle.blink_live.specs.declared.live.Pending.{Pending}
 use Rattle.blink_live.specs.declared.error.HandError.{HandError}
 use Rattle.blink_live.specs.declared.error.HandError.TheVariants as hand
 use Rattle.blink_live.specs.declared.error.PassError.TheVariants.{NotYours, Spent}
-use Rattle.blink_live.specs.{HasBegun, IsChangedBy, IsHandRefusal as IsRefusalOfKeys, IsHanded, IsPassOf, IsPendingOf, IsSameBesideSeen, IsSamePass, KnowsItsKeys, SawAllOf, after, keys_of, op_of, opening_of, pass_of, seen_of, share_of}
+use Rattle.blink_live.specs.{AllAreYours, HasBegun, IsChangedBy, IsHandRefusal as IsRefusalOfKeys, IsHanded, IsPassOf, IsPendingOf, IsSameBesideSeen, IsSamePass, IsWaiting, KnowsItsKeys, SawAllOf, after, keys_of, op_of, opening_of, pass_of, seen_of, share_of}
 use Rattle.blink_live.specs.Allowed.{changes_left}
 use Rattle.blink_c.specs.declared.raw.RawAnswer.{RawAnswer}
 use Rattle.blink_c.specs.declared.pass_owner.Held.{Held}
@@ -103,6 +104,7 @@ IsTellRefusal from to refusal =
 
 -- ---- keys that change hands
 
+-- each key of the list is the first pass's, and stands there once
 pub record Hands (keys : List ℕ) (from from_new to to_new : PassOwner) : Type 0 where
   pub giver : Pass
   pub giver_now : Pass
@@ -111,6 +113,7 @@ pub record Hands (keys : List ℕ) (from from_new to to_new : PassOwner) : Type 
   pub from_free : StaysFree from from_new giver giver_now
   pub to_free : StaysFree to to_new taker taker_now
   pub one_table : from.number ≡ to.number
+  pub yours : AllAreYours (keys_of giver) keys
   pub handed : IsHanded (table_of from) giver taker keys giver_now taker_now
 
 -- both passes are free and of one table, but a key isn't the first pass's to hand over, or memory was refused
@@ -167,7 +170,7 @@ pub record Ends (old new : PassOwner) (given : RawAnswer) : Type 0 where
   pub changed : IsChangedBy (op_of pending) (pass_of pending) pass
   pub knows : KnowsItsKeys (table_of old) pass
 
--- it goes on at the next call: the same operation of the same pass
+-- it goes on at the next call: the same operation of the same pass, which waits and holds no page's latch
 pub record StaysBusy (old new : PassOwner) : Type 0 where
   pub before : Pending
   pub now : Pending
@@ -176,6 +179,8 @@ pub record StaysBusy (old new : PassOwner) : Type 0 where
   pub same_table : new.live ≡ old.live
   pub same_number : new.number ≡ old.number
   pub begun : HasBegun (table_of old) (op_of before) (pass_of before) now
+  pub waits : IsWaiting now.now.machine
+  pub no_latch : latch_of now.now.machine ≡ None
 
 abbrev pub IsNotBusy : Held → TableRefusal → Type 0
 IsNotBusy (Free pass) refusal = refusal ≡ refused.Idle

@@ -1,9 +1,12 @@
 -- A batch that one thread runs over an index, and why a run is refused.
-use Rattle.std.specs.Prelude.{◌≡◌, ◌≢◌, ℕ, ◌<◌, ◌≤◌, Some, IsSome, List, [], length, map, All, ⊤}
+use Rattle.std.specs.Prelude.{◌≡◌, ◌≢◌, ℕ, ◌+◌, ◌*◌, ◌<◌, ◌≤◌, Some, IsSome, List, [], length, map, All, ⊤}
+use Rattle.std.specs.List.{count_by}
 use Rattle.blink_batch.specs.declared.Op.{Op}
 use Rattle.blink_batch.specs.declared.batch.TheConstants.{BATCH_LIMIT}
-use Rattle.blink_batch.specs.{answers, map_after_all}
+use Rattle.blink_batch.specs.{answers, is_insert, map_after_all}
 use Rattle.blink_index.specs.{IsBadFan, map_of}
+use Rattle.blink_page.specs.{ExceedsPageLimit}
+use Rattle.blink_page.specs.declared.limits.TheConstants.{MAX_NEW_PAGES_PER_INSERT}
 use Rattle.blink_store.specs.{PlainStore}
 use Rattle.blink_steps.specs.{HasEnded, IsTooLarge, PlainWorld}
 use Rattle.blink_c.specs.declared.raw.RawAnswer.{RawAnswer}
@@ -13,6 +16,10 @@ use Rattle.blink_c.specs.declared.refusal.Refusal.{Refusal}
 use Rattle.blink_c.specs.declared.refusal.Refusal.TheVariants.{TooMany, WrongLength, UnknownOperation, TooLarge, BadFan, OutOfMemory}
 use Rattle.blink_c.specs.Raw.{AreOperations, insertion_of, op_of, raw_answer}
 
+-- the tree has at most so many pages more than before as these insertions may need
+abbrev pub HasPagesFor : ℕ → PlainStore → PlainStore → Type 0
+HasPagesFor inserts before after = length after.pages ≤ length before.pages + MAX_NEW_PAGES_PER_INSERT * inserts
+
 -- a world at its end: its answers, and its tree's entries, are those of one thread that runs the operations in their order
 pub record HasRunToEnd (before : PlainStore) (ops : List Op) (world : PlainWorld) : Type 0 where
   pub ended : HasEnded world.run
@@ -20,6 +27,7 @@ pub record HasRunToEnd (before : PlainStore) (ops : List Op) (world : PlainWorld
   pub same_answers : world.run.outcome.answers ≡ map Some (answers (map_of before) ops)
   pub same_map : map_of world.run.shared.store ≡ map_after_all (map_of before) ops
   pub same_fan : world.run.shared.store.fan ≡ before.fan
+  pub few_pages : HasPagesFor (count_by is_insert ops) before world.run.shared.store
 
 -- the caller's operations have run: each answer stands at its operation's place, and the index has the map that they leave
 pub record HasRun (before : PlainStore) (raws : List RawOperation) (given : List RawAnswer) (after : PlainStore) : Type 0 where
@@ -29,6 +37,7 @@ pub record HasRun (before : PlainStore) (raws : List RawOperation) (given : List
   pub same_answers : given ≡ map raw_answer (answers (map_of before) ops)
   pub same_map : map_of after ≡ map_after_all (map_of before) ops
   pub same_fan : after.fan ≡ before.fan
+  pub few_pages : HasPagesFor (count_by is_insert ops) before after
 
 -- all kinds are known
 abbrev pub AreKnown : List RawOperation → Type 0
@@ -59,9 +68,14 @@ IsStartRefusal before ops refusal = ⊥
 abbrev pub HasEntriesOf : List RawEntry → PlainStore → Type 0
 HasEntriesOf raws store = map_of store ≡ map_after_all [] (map insertion_of raws)
 
--- the refusals of making it, the fan's first
-abbrev pub IsMakeRefusal : ℕ → Refusal → Type 0
-IsMakeRefusal fan BadFan = IsBadFan fan
-IsMakeRefusal fan TooLarge = ¬ IsBadFan fan
-IsMakeRefusal fan OutOfMemory = ¬ IsBadFan fan
-IsMakeRefusal fan refusal = ⊥
+-- an index without an entry has one page, and gets at most so many as the insertions of the entries may need
+abbrev pub HasPagesOf : List RawEntry → PlainStore → Type 0
+HasPagesOf raws store = length store.pages ≤ 1 + MAX_NEW_PAGES_PER_INSERT * length raws
+
+-- the refusals of making it, the fan's first; the entries are too many only if their insertions may need more page numbers than
+-- exist
+abbrev pub IsMakeRefusal : ℕ → List RawEntry → Refusal → Type 0
+IsMakeRefusal fan raws BadFan = IsBadFan fan
+IsMakeRefusal fan raws TooLarge = (¬ IsBadFan fan) × ExceedsPageLimit 1 (length raws)
+IsMakeRefusal fan raws OutOfMemory = ¬ IsBadFan fan
+IsMakeRefusal fan raws refusal = ⊥

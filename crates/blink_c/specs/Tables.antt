@@ -1,11 +1,11 @@
 -- A table behind a handle: what the calls make of it, and why they are refused.
-use Rattle.std.specs.Prelude.{◌≡◌, ◌≢◌, ◌⊎◌, ℕ, List, length, ⊤}
+use Rattle.std.specs.Prelude.{◌≡◌, ◌≢◌, ℕ, List, ⊤}
 use Rattle.std.specs.Arc.{arc_value}
 use Rattle.blink_live.specs.declared.live.Live.{Live}
 use Rattle.blink_live.specs.declared.live.Pass.{Pass}
 use Rattle.blink_live.specs.declared.error.LiveError.{LiveError}
 use Rattle.blink_live.specs.declared.error.LiveError.TheVariants as live
-use Rattle.blink_live.specs.{HasDealt, HasRetired, IsDealt, IsFirstTaken, IsKeeperOf, IsOpened, IsTooLarge, LacksAllowance, NoneIsTaken, code_of, taken_of}
+use Rattle.blink_live.specs.{HasDealt, HasRetired, IsDealt, IsFirstTaken, IsKeeperOf, IsOpened, LacksAllowance, NoneIsTaken, code_of, taken_of}
 use Rattle.blink_rows.specs.declared.allowance.Allowance.{Allowance}
 use Rattle.blink_store.specs.{PlainStore}
 use Rattle.blink_c.specs.declared.pass_owner.Held.TheVariants.{Free, Gone}
@@ -29,16 +29,14 @@ pub record IsNewTable (store : PlainStore) (allowance : Allowance) (number : ℕ
   pub same_number : owner.number ≡ number
   pub its_own : IsOwnTable owner
 
--- the code of the refusal to open one
-abbrev pub TellsOpenFault : PlainStore → Allowance → ℕ → Type 0
-TellsOpenFault store allowance code = ((code ≡ code_of live.TooLarge) × IsTooLarge (length store.pages) allowance) ⊎ (code ≡ code_of live.OutOfMemory)
-
 -- ---- deals
 
--- the keeper has dealt a pass with these keys, and the new handle has it
+-- the keeper has dealt a pass with these keys, of which none was taken, and the new handle has it. The keeper had such changes left
 pub record DealsTo (keys : List ℕ) (inserts deletes : ℕ) (old new : TableOwner) (given : PassOwner) : Type 0 where
   pub pass : Pass
   pub free : given.held ≡ Free pass
+  pub none_taken : NoneIsTaken (taken_of old.keeper) keys
+  pub allowed : ¬ LacksAllowance old.keeper inserts deletes
   pub one_table : table_of given ≡ table_in old
   pub one_number : given.number ≡ old.number
   pub dealt : IsDealt (table_in old) old.keeper keys inserts deletes pass
@@ -62,9 +60,10 @@ pub record TellsDealFault (old : TableOwner) (keys : List ℕ) (inserts deletes 
 
 -- ---- passes that come back
 
--- the keeper has taken the pass back, so that its keys are free, and the handle has nothing left
+-- the keeper has taken the pass back, which has the table's number, so that its keys are free; and the handle has nothing left
 pub record TakesBack (old new : TableOwner) (pass_old pass_new : PassOwner) : Type 0 where
   pub pass : Pass
+  pub one_number : old.number ≡ pass_old.number
   pub was : pass_old.held ≡ Free pass
   pub gone : pass_new.held ≡ Gone
   pub retired : HasRetired (table_in old) old.keeper pass new.keeper

@@ -3,9 +3,9 @@ ghost use Rattle.std.specs.Prelude.{◌≡◌, ◌≢◌, ◌≤◌, None, IsSom
 ghost use Rattle.blink_batch.specs.{map_after_all};
 ghost use Rattle.blink_batch.specs.declared.batch.TheConstants.{BATCH_LIMIT};
 ghost use Rattle.blink_index.specs.{map_of};
-ghost use Rattle.blink_c.specs.Codes.{IsGrowthFault, TellsWhy, code_of};
+ghost use Rattle.blink_c.specs.Codes.{TellsWhy, code_of};
 ghost use Rattle.blink_c.specs.Raw.{insertion_of};
-ghost use Rattle.blink_c.specs.Runs.{HasEntriesOf, IsMakeRefusal};
+ghost use Rattle.blink_c.specs.Runs.{HasEntriesOf, HasPagesFor, HasPagesOf, IsMakeRefusal, IsStartRefusal};
 
 use crate::batch::run_to_end;
 use crate::index::{fill, new_index};
@@ -27,7 +27,8 @@ pub extern "C" fn blink_index_from_entries(
     requires { out.old.value ≡ None }
     ensures made { result ≡ 0 → IsSome out.new.value × IfSome out.new.value (HasEntriesOf entries.now) }
     ensures fan { IfSome out.new.value (λ index. index.fan ≡ fan) }
-    ensures refused { TellsWhy code_of (IsMakeRefusal fan) result }
+    ensures pages { IfSome out.new.value (HasPagesOf entries.now) }
+    ensures refused { TellsWhy code_of (IsMakeRefusal fan entries.now) result }
     ensures unchanged { result ≢ 0 → out.new.value ≡ None }
 {
     match index_of(alloc, fan, entries) {
@@ -40,7 +41,8 @@ pub extern "C" fn blink_index_from_entries(
 fn index_of(alloc: Global, fan: u8, entries: &[RawEntry]) -> Result<Index, Refusal>
     ensures index { IfOk result (HasEntriesOf entries.now) }
     ensures fan { IfOk result (λ index. index.fan ≡ fan) }
-    ensures refused { IfErr result (IsMakeRefusal fan) }
+    ensures pages { IfOk result (HasPagesOf entries.now) }
+    ensures refused { IfErr result (IsMakeRefusal fan entries.now) }
 {
     let mut index = new_index(alloc, fan)?;
     let mut left = entries;
@@ -58,7 +60,8 @@ fn with_entries(alloc: Global, index: Index, entries: &[RawEntry]) -> Result<Ind
     ensures map { IfOk result
         (λ after. map_of after ≡ map_after_all (map_of index) (map insertion_of entries.now)) }
     ensures fan { IfOk result (λ after. after.fan ≡ index.fan) }
-    ensures refused { IfErr result IsGrowthFault }
+    ensures pages { IfOk result (HasPagesFor (length entries.now) index) }
+    ensures refused { IfErr result (IsStartRefusal index (map insertion_of entries.now)) }
 {
     let Ok(ops) = insertions(alloc, entries) else {
         return Err(Refusal::OutOfMemory);

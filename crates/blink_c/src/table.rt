@@ -1,11 +1,11 @@
 //! The exports of a table.
-ghost use Rattle.std.specs.Prelude.{◌≡◌, ◌≢◌, ◌⊎◌, ◌<◌, None, Some, IfSome, IsSome, []};
+ghost use Rattle.std.specs.Prelude.{◌≡◌, ◌≢◌, ◌↔◌, ◌⊎◌, ◌<◌, None, Some, IfSome, IsSome, [], length};
 ghost use Rattle.blink_index.specs.{map_of};
-ghost use Rattle.blink_live.specs.{IsMerge, IsNumberedInOrder, fan_of, passes_out};
+ghost use Rattle.blink_live.specs.{IsMerge, IsNumberedInOrder, IsTooLarge, counts_of, fan_of, passes_out};
 ghost use Rattle.blink_c.specs.Codes.{TellsWhy};
 ghost use Rattle.blink_c.specs.Passes.{IsOwn, table_of};
 ghost use Rattle.blink_c.specs.TableCodes.{code_of};
-ghost use Rattle.blink_c.specs.Tables.{DealsTo, IsNewTable, IsOwnTable, IsReturnRefusal, TakesBack, TellsDealFault, TellsOpenFault, table_in};
+ghost use Rattle.blink_c.specs.Tables.{DealsTo, IsNewTable, IsOwnTable, IsReturnRefusal, TakesBack, TellsDealFault, table_in};
 
 use crate::index_handle::IndexHandle;
 use crate::index_slot::IndexSlot;
@@ -35,8 +35,9 @@ pub extern "C" fn blink_table_open(
     requires { out.old.value ≡ None }
     ensures opened { result ≡ 0 → IsSome out.new.value × IfSome out.new.value
         (IsNewTable index.old.value (record { inserts = inserts; deletes = deletes }) number) }
-    ensures refused { result ≢ 0
-        → TellsOpenFault index.old.value (record { inserts = inserts; deletes = deletes }) result }
+    ensures too_large { result ≡ 57 ↔ IsTooLarge (length index.old.value.pages)
+        (record { inserts = inserts; deletes = deletes }) }
+    ensures refused { result ≢ 0 → (result ≡ 57) ⊎ (result ≡ 50) }
     ensures unchanged { result ≢ 0 → out.new.value ≡ None }
     ensures same { index.new.value ≡ index.old.value }
 {
@@ -115,6 +116,8 @@ pub extern "C" fn blink_table_close(alloc: Global, table: TableHandle, out: &mut
         (λ index. IsMerge (table_in table.value) table.value.keeper [] (map_of index)) }
     ensures fan { IfSome out.new.value (λ index. index.fan ≡ fan_of (table_in table.value)) }
     ensures numbered { IfSome out.new.value IsNumberedInOrder }
+    ensures pages { IfSome out.new.value
+        (λ index. length index.pages < (counts_of (table_in table.value)).numbers) }
     ensures missing { 0 < passes_out table.value.keeper → result ≡ 56 }
     ensures refused { result ≢ 0 → (result ≡ 50) ⊎ (result ≡ 56) }
     ensures unchanged { result ≢ 0 → out.new.value ≡ None }

@@ -1,7 +1,7 @@
 //! What the box of a table's handle holds: an owner of the table, and its keeper.
 ghost use Rattle.std.specs.Prelude.{◌≡◌, ◌⊎◌, ◌<◌, ◌↔◌, IfOk, IfErr, IsErrOf, OnErr, OnOk, [], length};
 ghost use Rattle.blink_index.specs.{map_of};
-ghost use Rattle.blink_live.specs.{IsMerge, IsNumberedInOrder, IsTooLarge, fan_of, passes_out};
+ghost use Rattle.blink_live.specs.{IsMerge, IsNumberedInOrder, IsTooLarge, counts_of, fan_of, passes_out};
 ghost use Rattle.blink_c.specs.Passes.{IsOwn, table_of};
 ghost use Rattle.blink_c.specs.Tables.{DealsTo, IsDealFault, IsNewTable, IsOwnTable, IsReturnRefusal, TakesBack, table_in};
 
@@ -145,6 +145,7 @@ impl TableOwner {
         ensures entries { IfOk result
             (λ index. IsMerge (table_in self) self.keeper [] (map_of index)) }
         ensures numbered { IfOk result IsNumberedInOrder }
+        ensures pages { IfOk result (λ index. length index.pages < (counts_of (table_in self)).numbers) }
         ensures missing { 0 < passes_out self.keeper → IsErrOf result LiveError.Missing }
         ensures refused { IfErr result
             (λ refusal. (refusal ≡ LiveError.Missing) ⊎ (refusal ≡ LiveError.OutOfMemory)) }

@@ -8,6 +8,7 @@ pub mod UpdatesBegin
 pub mod OwnChangesByKey
 pub mod StepsOfUpdates
 pub mod UpdatesGoOn
+pub mod LatchesAreLeft
 pub mod PassesComeBack
 pub mod PassesSetOut
 pub mod PendingsAreSent

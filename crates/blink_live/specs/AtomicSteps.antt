@@ -20,7 +20,7 @@ use Rattle.blink_live.specs.declared.view.Role.TheVariants.{Keeper}
 use Rattle.blink_live.specs.declared.view.Share.{Share}
 use Rattle.blink_live.specs.declared.view.View.{View}
 use Rattle.blink_live.specs.Changes.{after, changes_made, states_of, Learns}
-use Rattle.blink_live.specs.Views.{SeatState, KnowsItsOwn, ShowsNoMore, for_call, going_on, has_pages, has_rows, is_busy, stage_word, changed_by, publishes, reading, forgets_told, learns_of_others, span}
+use Rattle.blink_live.specs.Views.{SeatState, KnowsItsOwn, ShowsNoMore, for_call, going_on, has_pages, has_rows, is_busy, stage_word, changed_by, publishes, reading, forgets_told, learns_of_others, span, SawItsOwn}
 use Rattle.blink_live.specs.Words.{AreNumbersIn, AreRowsIn, IsRowNumber, row_start}
 
 -- the page of this number has a page word
@@ -132,10 +132,12 @@ pub record LooksUp (me then : SeatState) : Type 0 where
 abbrev pub looks_up : Step ℕ → SeatState → ℕ → SeatState → Type 0
 looks_up st me row then = LooksUp me then
 
--- or the seat has seen no more, and of its own keys the note shows only changes that its own operations made
+-- or the seat has seen no more, and of its own keys the note shows only changes that its own operations made; where it has seen
+-- these, it knows what its share says
 pub record LooksBack (me then : SeatState) : Type 0 where
   pub is : then ≡ (forgets_told me.0, me.1)
   pub no_more : ShowsNoMore me.0.told me.0.share
+  pub knows_own : SawItsOwn me.0 → KnowsItsOwn then.0
 
 abbrev pub looks_back : Step ℕ → SeatState → ℕ → SeatState → Type 0
 looks_back st me row then = LooksBack me then

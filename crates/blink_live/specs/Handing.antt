@@ -6,7 +6,7 @@ use Rattle.blink_live.specs.declared.error.HandError.{HandError}
 use Rattle.blink_live.specs.declared.error.HandError.TheVariants.{NotYours, OutOfMemory}
 use Rattle.blink_live.specs.declared.live.Live.{Live}
 use Rattle.blink_live.specs.declared.live.Pass.{Pass}
-use Rattle.blink_live.specs.Handles.{IsPassOf, KnowsItsKeys, SawAllOf, keys_of, share_of, seen_of, changes_by, own_changes_of}
+use Rattle.blink_live.specs.Handles.{IsPassOf, KnowsItsKeys, SawAllOf, SawPrefixOf, keys_of, share_of, seen_of, changes_by, own_changes_of}
 use Rattle.blink_live.specs.Views.{changes_of, entries_of}
 
 -- ---- keys that a pass can't hand over
@@ -27,13 +27,14 @@ AllAreYours own keys = (place key : ℕ) → ¬ IsForeignAt own keys place key
 
 -- ---- what becomes of the passes
 
--- the pass has lost these keys, and the rest of its share is as it was
+-- the pass has lost these keys, and the rest of its share is as it was. It has seen all changes of its keys, and no other
 pub record HasGiven (live : Live) (keys : List ℕ) (old new : Pass) : Type 0 where
   pub its_own : IsPassOf live new
   pub its_keys : (key : ℕ) → Contains (keys_of new) key ↔ (Contains (keys_of old) key × ¬ Contains keys key)
   pub share : share_of new ≡ entries_of (keys_of new) (share_of old)
   pub changes : changes_by new ≡ changes_of (keys_of new) (changes_by old)
   pub same_seen : seen_of new ≡ seen_of old
+  pub knows : KnowsItsKeys live new
   pub same_rows : new.rows ≡ old.rows
   pub same_pages : new.pages ≡ old.pages
 
@@ -52,11 +53,13 @@ pub record HasReceived (live : Live) (from : Pass) (keys : List ℕ) (old new : 
   pub same_rows : new.rows ≡ old.rows
   pub same_pages : new.pages ≡ old.pages
 
--- these keys have changed hands; of the keys that the first pass has left, the second has seen exactly the first one's changes
+-- these keys have changed hands. Of the keys that the first pass has left, the second has seen exactly the first one's changes; of
+-- the second one's keys the first has seen the second one's changes from the first on, and no other
 pub record IsHanded (live : Live) (old_from old_to : Pass) (keys : List ℕ) (new_from new_to : Pass) : Type 0 where
   pub given : HasGiven live keys old_from new_from
   pub received : HasReceived live old_from keys old_to new_to
   pub saw_all : SawAllOf new_from new_to
+  pub saw_prefix : SawPrefixOf new_to new_from
 
 -- the refusals
 pub data IsHandRefusal (own keys : List ℕ) (refusal : HandError) : Type 0 where

@@ -12,8 +12,8 @@ pub use Rattle.blink_live.specs.Deals.{HasDealt, HasRetired, IsDealRefusal, IsDe
 pub use Rattle.blink_live.specs.Handing.{AllAreYours, HasGiven, HasReceived, IsFirstForeign, IsHandRefusal, IsHanded}
 -- the keys of a call that finds several: one of them isn't the pass's
 pub use Rattle.blink_live.specs.Finding.{HasForeign}
--- an operation under way: the pass before it, and which one it is
-pub use Rattle.blink_live.specs.Pendings.{HasBegun, IsPendingOf, op_of, pass_of}
+-- an operation under way: the pass before it, which one it is, and what it waits for
+pub use Rattle.blink_live.specs.Pendings.{HasBegun, IsPendingOf, IsWaiting, op_of, pass_of}
 -- the entries of a table when all its passes are back: the merge of their shares
 pub use Rattle.blink_live.specs.Merge.{IsMerge}
 -- the code of each refusal

@@ -8,7 +8,7 @@ use Rattle.blink_live.specs.declared.view.Share.{Share}
 use Rattle.blink_live.specs.declared.view.View.{View}
 use Rattle.blink_live.specs.Changes.{with_pointer}
 use Rattle.blink_live.specs.Retiring.{without}
-use Rattle.blink_live.specs.Views.{SeatState, KnowsItsOwn, ShowsNoMore, changes_of, entries_of, forgets_told, is_among, learns_of_others, spent}
+use Rattle.blink_live.specs.Views.{SeatState, KnowsItsOwn, SawItsOwn, ShowsNoMore, changes_of, entries_of, forgets_told, is_among, learns_of_others, spent}
 
 -- these keys' part of a share
 abbrev pub part_of : List ℕ → Share → Share
@@ -44,7 +44,8 @@ abbrev pub receives : View → List ℕ → View → View
 receives v keys w = record v { share = with_share v.share keys w.share; told = w.told }
 
 -- these keys have gone from one pass's seat to another's, which has all these keys then. The second has seen all that both had
--- seen, and of the keys that the first has left no change but the first one's
+-- seen, and of the keys that the first has left no change but the first one's. The first knows what its share says, if it had
+-- seen its own changes
 pub record HaveMoved (keys all : List ℕ) (giver taker giver_then taker_then : SeatState) : Type 0 where
   pub seen : List Change
   pub gave : giver_then ≡ (forgets_told (parts_with giver.0 keys), giver.1)
@@ -53,3 +54,4 @@ pub record HaveMoved (keys all : List ℕ) (giver taker giver_then taker_then : 
   pub heard : IsPrefix giver.0.seen seen
   pub knows_own : KnowsItsOwn taker_then.0
   pub no_more : ShowsNoMore seen giver_then.0.share
+  pub giver_knows : SawItsOwn (parts_with giver.0 keys) → KnowsItsOwn giver_then.0

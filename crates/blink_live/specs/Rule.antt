@@ -22,7 +22,7 @@ use Rattle.blink_live.specs.declared.view.Role.TheVariants.{Keeper, Pass, Spent}
 use Rattle.blink_live.specs.declared.view.Share.{Share}
 use Rattle.blink_live.specs.declared.view.View.{View}
 use Rattle.blink_live.specs.Changes.{after, states_of}
-use Rattle.blink_live.specs.Views.{IsCommon, IsOwned, latch_of, span}
+use Rattle.blink_live.specs.Views.{IsCommon, IsOwned, latch_number_by, span}
 use Rattle.blink_live.specs.Words.{word_count, place_word, pool_page, pool_row, IsRowNumber, RowIs}
 
 -- ---- owners: 0 for nobody, and else a seat's number plus 1
@@ -105,7 +105,7 @@ abbrev pub IsInRole : Plan → Owners → List Change → ℕ → View → Role 
 IsInRole plan owners log seat v (Keeper dealt back) =
     (seat ≡ 0) × (v.operation ≡ None) × ((key : ℕ) → ¬ Contains v.taken key → IsFree owners log v key)
     × ((share : Share) → Contains v.back share → IsShare plan owners log 1 share)
-IsInRole plan owners log seat v Pass = (1 ≤ seat) × (owners.latch_number seat ≡ latch_of v)
+IsInRole plan owners log seat v Pass = (1 ≤ seat) × (owners.latch_number seat ≡ latch_number_by v)
 IsInRole plan owners log seat v Spent = v.operation ≡ None
 
 -- in a common table a pass's seat is a session's, and has a place: the word of the place is as the session knows it, and isn't 0

@@ -1,13 +1,13 @@
 -- An update after its descent: it changes its leaf, and goes on to its end.
-use Rattle.std.specs.Prelude.{◌≡◌, ℕ, ◌+◌, ◌-◌, ◌≤◌, Some, None, IsSome}
+use Rattle.std.specs.Prelude.{◌≡◌, ℕ, ◌+◌, ◌-◌, ◌≤◌, Some, None, IsSome, ◌≢◌, ◌<◌, Contains}
 use mathlib.Core.List.{IsPrefix}
 use Rattle.atomic_table.specs.declared.Seat.{Seat}
 use Rattle.blink_batch.specs.{FitsWords, key_of}
 use Rattle.blink_batch.specs.declared.Answer.{Answer}
 use Rattle.blink_batch.specs.declared.Op.{Op}
 use Rattle.blink_machine.specs.declared.machine.State.{State}
-use Rattle.blink_machine.specs.declared.machine.State.TheVariants.{Start, Going, Ended}
-use Rattle.blink_machine.specs.{numbers_left, writes_left, primes_left, PlainMachine, goes_on, IsUpdate}
+use Rattle.blink_machine.specs.declared.machine.State.TheVariants.{Start, Going, Held, Change, SplitNew, SplitOld, AskPrime, Root, NewPrime, Leave, Ended}
+use Rattle.blink_machine.specs.{numbers_left, writes_left, primes_left, PlainMachine, goes_on, latch_of, IsUpdate}
 use Rattle.blink_live.specs.declared.live.Live.{Live}
 use Rattle.blink_live.specs.declared.room.Room.{Room}
 use Rattle.blink_rows.specs.declared.span.Span.{Span}
@@ -15,12 +15,12 @@ use Rattle.blink_live.specs.declared.view.Call.{Call}
 use Rattle.blink_live.specs.declared.view.View.{View}
 use Rattle.blink_live.specs.AtomicSteps.{AnswersInOrder, CanGoOn}
 use Rattle.blink_live.specs.Seats.{HasSameNumber, IsPassSeat}
-use Rattle.blink_live.specs.Views.{SeatState, KnowsItsOwn, CanBegin, MayChange, for_call, latch_of, no_words, pages_of, rows_of, span}
+use Rattle.blink_live.specs.Views.{SeatState, KnowsItsOwn, CanBegin, MayChange, for_call, latch_number_by, no_words, pages_of, rows_of, span}
 use Rattle.blink_live.specs.Words.{AreNumbersIn, AreRowsIn}
 
 -- what an operation may use of its seat's rows and page numbers: the first of them
 abbrev pub room_in : Op → View → Room
-room_in op v = record { rows = span v.rows.next (v.rows.next + rows_of op); pages = span v.pages.next (v.pages.next + pages_of op); latch_number = latch_of v }
+room_in op v = record { rows = span v.rows.next (v.rows.next + rows_of op); pages = span v.pages.next (v.pages.next + pages_of op); latch_number = latch_number_by v }
 
 -- and of a pass's, whose latch number is that of its last row
 abbrev pub room_for : Op → Span → Span → Room
@@ -40,6 +40,22 @@ abbrev pub IsPastDescent : State → Type 0
 IsPastDescent Start = ⊥
 IsPastDescent (Going page level) = ⊥
 IsPastDescent state = Unit {0}
+
+-- the greatest number of steps that the operation takes until it has let go the latch that it holds
+abbrev pub steps_to_leave : State → ℕ
+steps_to_leave (Held page) = 7
+steps_to_leave (SplitNew page before) = 6
+steps_to_leave (SplitOld page lower debt) = 5
+steps_to_leave (AskPrime page debt) = 4
+steps_to_leave (Root page debt prime) = 3
+steps_to_leave (NewPrime page debt root prime) = 2
+steps_to_leave (Change page changed kept) = 2
+steps_to_leave (Leave page next) = 1
+steps_to_leave state = 0
+
+-- where it holds a latch, the operation comes nearer to letting it go
+abbrev pub ComesNearer : PlainMachine → PlainMachine → Type 0
+ComesNearer m after = latch_of m ≢ None → steps_to_leave after.state < steps_to_leave m.state
 
 -- what the call has left is enough: a row for each write of a page or of the prime block, and the page numbers
 pub record HasLeft (first call : Call) (m : PlainMachine) : Type 0 where
@@ -78,7 +94,7 @@ pub record CanUpdate (live : Live) (op : Op) (first : Seat ℕ View) : Type 0 wh
   pub seat : IsPassSeat live first.table_id first.me
   pub updates : IsUpdate op
   pub fits : FitsWords op
-  pub some_latch : 1 ≤ latch_of first.me.0
+  pub some_latch : 1 ≤ latch_number_by first.me.0
   pub may_change : MayChange first.me.0 (key_of op)
   pub can_begin : CanBegin first.me.0 op
   pub rows : AreRowsIn live.counts first.me.0.rows
@@ -91,4 +107,4 @@ pub record IsUnderWay (live : Live) (op : Op) (first seat : Seat ℕ View) (m : 
   pub same_number : HasSameNumber first seat
   pub updating : IsUpdating op (for_call first.me.0 op, first.me.1) seat.me m
   pub room_is : (room.rows ≡ seat.me.0.call.rows) × (room.pages ≡ seat.me.0.call.pages)
-  pub latch_number : room.latch_number ≡ latch_of first.me.0
+  pub latch_number : room.latch_number ≡ latch_number_by first.me.0

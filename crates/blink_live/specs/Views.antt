@@ -91,8 +91,8 @@ abbrev pub latch_in : ℕ → ℕ → ℕ
 latch_in zero stop = stop - 1
 latch_in (suc places) stop = 1
 
-abbrev pub latch_of : View → ℕ
-latch_of v = latch_in v.plan.places v.rows.stop
+abbrev pub latch_number_by : View → ℕ
+latch_number_by v = latch_in v.plan.places v.rows.stop
 
 -- the seat may change the key: its share has the key, or the table is common
 abbrev pub MayChange : View → ℕ → Type 0

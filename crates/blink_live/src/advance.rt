@@ -6,7 +6,7 @@ ghost use Rattle.blink_batch.specs.declared.Op.TheVariants.{Delete, Insert, Repl
 ghost use Rattle.blink_machine.specs.{IsUpdate};
 ghost use Rattle.blink_live.specs.Allowed.{changes_left, deletes_left, inserts_left};
 ghost use Rattle.blink_live.specs.Handles.{IsChangedBy, IsPassOf, KnowsItsKeys, keys_of, share_of};
-ghost use Rattle.blink_live.specs.Pendings.{HasBegun, IsPendingOf, op_of, pass_of};
+ghost use Rattle.blink_live.specs.Pendings.{HasBegun, IsPendingOf, IsWaiting, op_of, pass_of};
 
 use crate::error::PassError;
 use crate::live::{Live, Pass, Pending, UnderWay};
@@ -74,7 +74,8 @@ impl Live {
     /// Takes the operation's next steps. It returns the pass and the operation's answer once the operation has ended, exactly
     /// those of `insert`, `delete` or `replace`. It gives the operation back, whole and with its pass, after `tries` steps in
     /// vain, at least one: another pass had the latch of the page that it wants, or was about to make the root of a new level
-    /// that it posts to. The next call goes on from there. The call takes no memory, waits for nobody, and returns.
+    /// that it posts to. Then it holds no page's latch. The next call goes on from there. The call takes no memory, waits for
+    /// nobody, and returns.
     pub fn advance(&self, pending: Pending, tries: u32) -> Result<(Pass, Answer), Pending>
         requires its_own { IsPendingOf self.now pending }
         ensures answer { IfOk result
@@ -82,6 +83,7 @@ impl Live {
         ensures changed { IfOk result (λ ended. IsChangedBy (op_of pending) (pass_of pending) ended.0) }
         ensures knows { IfOk result (λ ended. KnowsItsKeys self.now ended.0) }
         ensures goes_on { IfErr result (HasBegun self.now (op_of pending) (pass_of pending)) }
+        ensures waits { IfErr result (λ pending. IsWaiting pending.now.machine) }
     {
         let Pending { mut now, begun } = pending;
         match self.take_steps(&mut now.seat, &mut now.machine, &mut now.room, tries) {

@@ -1,13 +1,13 @@
 //! Closing a table: it takes keeper and passes back, and builds an index from the tree at rest that the words hold. The index
 //! has a new store, and its pages get new numbers.
-ghost use Rattle.std.specs.Prelude.{◌≡◌, ◌<◌, ◌↔◌, ◌⊎◌, ℕ, None, [], All, length, IfOk, IfErr, IsErrOf, List, ◌+◌, ◌≤◌, ◌++◌, Some, ◌∷◌, OnOk, slice_index, IfSome};
+ghost use Rattle.std.specs.Prelude.{◌≡◌, ◌<◌, ◌↔◌, ◌⊎◌, ℕ, None, [], All, length, IfOk, IfErr, IsErrOf, List, ◌+◌, ◌-◌, ◌≤◌, ◌++◌, Some, ◌∷◌, OnOk, slice_index, IfSome};
 ghost use Rattle.std.specs.Mem.Slots.{slots_items, slots_len, IsFull};
 ghost use Rattle.blink_batch.specs.declared.Entry.{Entry};
 ghost use Rattle.blink_index.specs.{map_of};
 ghost use Rattle.blink_page.specs.{IsFan, IsPageNumber};
 ghost use Rattle.blink_machine.specs.{IsMapOf};
 ghost use Rattle.blink_live.specs.Gathered.{IsNumberedInOrder, KeepsTreeAtRest, HasTheEntries};
-ghost use Rattle.blink_live.specs.Handles.{IsKeeperOf, IsPassOf, fan_of, passes_out};
+ghost use Rattle.blink_live.specs.Handles.{IsKeeperOf, IsPassOf, counts_of, fan_of, passes_out};
 ghost use Rattle.blink_live.specs.declared.view.Role.TheVariants.{Keeper as KeeperRole, Pass as PassRole};
 ghost use Rattle.blink_live.specs.Merge.{IsMerge, shares_of, KeepsPrime, KeepsSomeTree, KeepsTree};
 ghost use Rattle.blink_live.specs.Views.{IsOwned, TakesAllBack, plan_of, takes_back};
@@ -32,7 +32,7 @@ use std::marker::Brand;
 impl Live {
     /// Closes the table once all passes are back, and returns the index of its tree. The index's entries are those that the
     /// table was opened with, except that each key that was ever dealt has the state of its last pass's share. Its pages are
-    /// numbered anew from 1, level 0 first, and each level from the left.
+    /// numbered anew from 1, level 0 first, and each level from the left. They are fewer than the table's page numbers.
     ///
     /// The call refuses with `Missing` exactly if fewer passes come back than are out; then with `OutOfMemory`, if memory was
     /// refused. The table is given up either way. The index that was opened stays as it was.
@@ -42,6 +42,7 @@ impl Live {
         ensures fan { IfOk result (λ index. index.fan ≡ fan_of self) }
         ensures entries { IfOk result (λ index. IsMerge self keeper passes.items (map_of index)) }
         ensures numbered { IfOk result IsNumberedInOrder }
+        ensures pages { IfOk result (λ index. length index.pages < (counts_of self).numbers) }
         ensures missing { IsErrOf result LiveError.Missing ↔ length passes.items < passes_out keeper }
         ensures refused { IfErr result
             (λ refusal. (refusal ≡ LiveError.Missing) ⊎ (refusal ≡ LiveError.OutOfMemory)) }
@@ -123,6 +124,7 @@ pub fn tree_at_end(
     ensures entries { IfOk result (λ rest. (entries : List Entry)
         → KeepsTree counts.now (slots_items closed.now.words) fan entries → IsMapOf rest entries) }
     ensures numbered { IfOk result IsNumberedInOrder }
+    ensures few { IfOk result (λ rest. length rest.pages ≤ counts.now.numbers - 1) }
 {
     let prime = prime_at(closed, counts);
     gather(alloc, closed, counts, fan, &prime)
@@ -161,6 +163,7 @@ fn gather(
     ensures entries { IfOk result
         (λ rest. HasTheEntries counts.now (slots_items closed.now.words) fan prime.now rest) }
     ensures numbered { IfOk result IsNumberedInOrder }
+    ensures few { IfOk result (λ rest. length rest.pages ≤ counts.now.numbers - 1) }
 {
     // Read for the proof: there are no more page numbers than a store has.
     let _numbers = counts.numbers;

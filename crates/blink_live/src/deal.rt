@@ -43,6 +43,8 @@ impl Live {
         requires its_own { IsKeeperOf self.now keeper.old }
         ensures dealt { IfOk result (λ pass. IsDealt self.now keeper.old keys.items inserts deletes pass) }
         ensures rest { OnOk result (HasDealt self.now keeper.old keeper.new keys.items inserts deletes) }
+        ensures free { OnOk result (NoneIsTaken (taken_of keeper.old) keys.items) }
+        ensures allowed { OnOk result (¬ LacksAllowance keeper.old inserts deletes) }
         ensures taken { (key : ℕ) → IsErrOf result (LiveError.Taken key)
             ↔ IsFirstTaken (taken_of keeper.old) keys.items key }
         ensures no_allowance { IsErrOf result LiveError.NoAllowance
@@ -68,7 +70,7 @@ impl Live {
         requires its_own { IsKeeperOf self.now keeper.old }
         requires free { NoneIsTaken (taken_of keeper.old) keys.items }
         requires allowed { ¬ LacksAllowance keeper.old inserts deletes }
-        requires ascending { IsSorted nat_cmp taken_now.items }
+        requires ascending { IsStrictlyIncreasing taken_now.items }
         requires taken { (key : ℕ) → Contains taken_now.items key
             ↔ (Contains (taken_of keeper.old) key ⊎ Contains keys.items key) }
         ensures dealt { IsDealt self.now keeper.old keys.items inserts deletes result }
@@ -155,11 +157,11 @@ impl Keeper {
         self.pages
     }
 
-    // All keys that are taken once these are dealt too, in ascending order; or the refusal of the deal.
+    // All keys that are taken once these are dealt too, in ascending order and each once; or the refusal of the deal.
     fn taken_with(&self, keys: &[u64], inserts: u32, deletes: u32) -> Result<Vec<u64>, LiveError>
         ensures free { OnOk result (NoneIsTaken (taken_of self.now) keys.now) }
         ensures allowed { OnOk result (¬ LacksAllowance self.now inserts deletes) }
-        ensures ascending { IfOk result (λ all. IsSorted nat_cmp all.items) }
+        ensures ascending { IfOk result (λ all. IsStrictlyIncreasing all.items) }
         ensures all { IfOk result (λ all. (key : ℕ)
             → Contains all.items key ↔ (Contains (taken_of self.now) key ⊎ Contains keys.now key)) }
         ensures taken { (key : ℕ) → IsErrOf result (LiveError.Taken key)
@@ -261,7 +263,7 @@ impl Met {
 
 // Looks for the first key of a list, in the list's order, that was taken before or stands earlier in the list.
 fn first_taken(alloc: Global, taken: &[u64], keys: &[u64]) -> Option<u64>
-    requires ascending { IsSorted nat_cmp taken.now }
+    requires ascending { IsStrictlyIncreasing taken.now }
     ensures first { IfSome result (IsFirstTaken taken.now keys.now) }
     ensures none { IfNone result (NoneIsTaken taken.now keys.now) }
 {
@@ -280,8 +282,7 @@ fn first_taken(alloc: Global, taken: &[u64], keys: &[u64]) -> Option<u64>
 
 // Whether each key is below the next.
 pub(crate) fn ascends(keys: &[u64]) -> bool
-    ensures strictly { IsTrue result → IsStrictlyIncreasing keys.now }
-    ensures sorted { IsTrue result → IsSorted nat_cmp keys.now }
+    ensures { IsTrue result → IsStrictlyIncreasing keys.now }
 {
     for place in 0..keys.len().saturating_sub(1) {
         if keys[place] >= keys[place + 1] {
@@ -293,7 +294,7 @@ pub(crate) fn ascends(keys: &[u64]) -> bool
 
 // Whether the key is one of these.
 pub(crate) fn is_among(keys: &[u64], key: u64) -> bool
-    requires ascending { IsSorted nat_cmp keys.now }
+    requires ascending { IsStrictlyIncreasing keys.now }
     ensures { IsTrue result ↔ Contains keys.now key }
 {
     let place = place_of_key(keys, key);

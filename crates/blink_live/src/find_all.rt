@@ -5,8 +5,8 @@
 //! loads words without a seat, which tells it nothing for certain. But it fetches the lines of the cache that the finds are to
 //! read, and leaves a trail for each find, which tests what its trail says. The keys are looked for among the pass's own in the
 //! same way.
-ghost use Rattle.std.specs.Prelude.{◌≡◌, ◌≤◌, ◌↔◌, IsTrue, IsFalse, IfErr, OnErr, OnOk, IsErrOf, IsSorted, Contains, length, map};
-ghost use Rattle.std.specs.Ordering.{nat_cmp};
+ghost use Rattle.std.specs.Prelude.{◌≡◌, ◌≤◌, ◌↔◌, IsTrue, IsFalse, IfErr, OnErr, OnOk, IsErrOf, Contains, length, map};
+ghost use Rattle.std.specs.List.Sorted.{IsStrictlyIncreasing};
 ghost use Rattle.blink_batch.specs.{pointer_of};
 ghost use Rattle.blink_page.specs.declared.limits.TheConstants.{LEVELS};
 ghost use Rattle.blink_live.specs.Finding.{AllAreOwn, HasForeign, HasSearched, IsIdle};
@@ -228,7 +228,7 @@ fn group_of(keys: &[u64]) -> [u64; GROUP] {
 
 // Whether each of these keys is one of the pass's.
 fn are_among(own: &[u64], keys: &[u64]) -> bool
-    requires ascending { IsSorted nat_cmp own.now }
+    requires ascending { IsStrictlyIncreasing own.now }
     ensures all { IsTrue result → AllAreOwn own.now keys.now }
     ensures foreign { IsFalse result → HasForeign own.now keys.now }
 {
@@ -247,7 +247,7 @@ fn are_among(own: &[u64], keys: &[u64]) -> bool
 
 // Whether the key is one of these. It looks at this place first.
 fn is_among_near(own: &[u64], place: usize, key: u64) -> bool
-    requires ascending { IsSorted nat_cmp own.now }
+    requires ascending { IsStrictlyIncreasing own.now }
     ensures { IsTrue result ↔ Contains own.now key }
 {
     stands_at(own, place, key) || is_among(own, key)

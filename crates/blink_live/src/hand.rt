@@ -1,6 +1,6 @@
 //! Keys that change hands between two passes, without the keeper.
-ghost use Rattle.std.specs.Prelude.{◌≡◌, ◌⊎◌, ◌↔◌, ℕ, [], IfOk, IfErr, OnOk, OnErr, IsErrOf, IsTrue, IsPermutation, IfSome, IfNone, IsSorted, Contains, ◌<◌, length, slice_index};
-ghost use Rattle.std.specs.Ordering.{nat_cmp};
+ghost use Rattle.std.specs.Prelude.{◌≡◌, ◌⊎◌, ◌↔◌, ℕ, [], IfOk, IfErr, OnOk, OnErr, IsErrOf, IsTrue, IsPermutation, IfSome, IfNone, Contains, ◌<◌, length, slice_index};
+ghost use Rattle.std.specs.List.Sorted.{IsStrictlyIncreasing};
 ghost use Rattle.blink_live.specs.declared.view.Role.TheVariants.{Pass as PassRole, Spent};
 ghost use Rattle.blink_live.specs.Handing.{AllAreYours, IsFirstForeign, IsHandRefusal, IsHanded};
 ghost use Rattle.blink_live.specs.Handles.{IsPassOf, keys_of};
@@ -32,6 +32,7 @@ impl Live {
         requires from_its_own { IsPassOf self.now from.old }
         requires to_its_own { IsPassOf self.now to.old }
         ensures handed { OnOk result (IsHanded self.now from.old to.old keys.now from.new to.new) }
+        ensures yours { OnOk result (AllAreYours (keys_of from.old) keys.now) }
         ensures not_yours { (key : ℕ) → IsErrOf result (HandError.NotYours key)
             ↔ IsFirstForeign (keys_of from.old) keys.now key }
         ensures refused { IfErr result (IsHandRefusal (keys_of from.old) keys.now) }
@@ -53,7 +54,7 @@ impl Live {
         requires from_its_own { IsPassOf self.now from.old }
         requires to_its_own { IsPassOf self.now to.old }
         requires yours { (key : ℕ) → Contains handed.now key → Contains (keys_of from.old) key }
-        requires ascending { IsSorted nat_cmp handed.now × IsSorted nat_cmp all.items }
+        requires ascending { IsStrictlyIncreasing handed.now × IsStrictlyIncreasing all.items }
         requires all { (key : ℕ) → Contains all.items key
             ↔ (Contains (keys_of to.old) key ⊎ Contains handed.now key) }
         ensures { IsHanded self.now from.old to.old handed.now from.new to.new }
@@ -145,7 +146,7 @@ fn has_all(own: &[u64], keys: &[u64]) -> bool
 
 // The refusal of a hand of these keys: that of a key, if memory isn't what is lacking.
 fn refusal(alloc: Global, own: &[u64], keys: &[u64]) -> HandError
-    requires ascending { IsSorted nat_cmp own.now }
+    requires ascending { IsStrictlyIncreasing own.now }
     ensures not_yours { (key : ℕ) → result ≡ HandError.NotYours key
         ↔ IsFirstForeign own.now keys.now key }
     ensures refused { IsHandRefusal own.now keys.now result }
@@ -158,7 +159,7 @@ fn refusal(alloc: Global, own: &[u64], keys: &[u64]) -> HandError
 
 // Looks for the first key of a list, in the list's order, that isn't among these or stands earlier in the list.
 fn first_foreign(alloc: Global, own: &[u64], keys: &[u64]) -> Option<u64>
-    requires ascending { IsSorted nat_cmp own.now }
+    requires ascending { IsStrictlyIncreasing own.now }
     ensures first { IfSome result (IsFirstForeign own.now keys.now) }
     ensures none { IfNone result (AllAreYours own.now keys.now) }
 {
@@ -175,10 +176,9 @@ fn first_foreign(alloc: Global, own: &[u64], keys: &[u64]) -> Option<u64>
     None
 }
 
-// These keys in ascending order, and all keys of both lists in ascending order.
+// These keys in order, and all keys of both lists in ascending order, each once.
 fn both_lists(alloc: Global, own: &[u64], keys: &[u64]) -> Result<(Vec<u64>, Vec<u64>), AllocError>
-    ensures ascending { IfOk result (λ lists.
-        IsSorted nat_cmp lists.0.items × IsSorted nat_cmp lists.1.items) }
+    ensures ascending { IfOk result (λ lists. IsStrictlyIncreasing lists.1.items) }
     ensures handed { IfOk result (λ lists. IsPermutation keys.now lists.0.items) }
     ensures all { IfOk result (λ lists. (key : ℕ)
         → Contains lists.1.items key ↔ (Contains own.now key ⊎ Contains keys.now key)) }
@@ -188,9 +188,8 @@ fn both_lists(alloc: Global, own: &[u64], keys: &[u64]) -> Result<(Vec<u64>, Vec
     Ok((handed, all))
 }
 
-// A copy of these keys in ascending order.
+// A copy of these keys in order.
 fn sorted(alloc: Global, keys: &[u64]) -> Result<Vec<u64>, AllocError>
-    ensures ascending { IfOk result (λ all. IsSorted nat_cmp all.items) }
     ensures same { IfOk result (λ all. IsPermutation keys.now all.items) }
 {
     let mut all = keys.to_vec(alloc)?;
@@ -198,13 +197,15 @@ fn sorted(alloc: Global, keys: &[u64]) -> Result<Vec<u64>, AllocError>
     Ok(all)
 }
 
-// The keys in ascending order. A merge of ascending lists ascends, so that nothing is left to sort.
+// The keys in ascending order, each once. A merge of two ascending lists without a common key ascends, so that nothing is left
+// to do.
 fn in_order(mut keys: Vec<u64>) -> Vec<u64>
-    ensures ascending { IsSorted nat_cmp result.items }
+    ensures ascending { IsStrictlyIncreasing result.items }
     ensures same { (key : ℕ) → Contains result.items key ↔ Contains keys.items key }
 {
     if !ascends(&keys) {
         keys.sort_unstable();
+        keys.dedup();
     }
     keys
 }

@@ -3,6 +3,7 @@
 //! them.
 ghost use Rattle.std.specs.Prelude.{◌≡◌, ◌+◌, ◌*◌, ◌≤◌, [], IsSorted, None};
 ghost use Rattle.std.specs.Ordering.{nat_cmp};
+ghost use Rattle.std.specs.List.Sorted.{IsStrictlyIncreasing};
 ghost use Rattle.blink_page.specs.{IsFan};
 ghost use Rattle.blink_live.specs.Words.{word_count};
 ghost use Rattle.blink_live.specs.declared.view.Role.TheVariants.{Keeper, Pass};
@@ -39,8 +40,8 @@ pub struct Live {
 }
 
 /// The right to deal a table's passes, to take them back, and to close the table when all are back. It holds the keys of the
-/// passes that are out, the rows and the page numbers that weren't dealt, and the numbers of passes dealt and of passes taken
-/// back.
+/// passes that are out, in ascending order and each once, the rows and the page numbers that weren't dealt, and the numbers of
+/// passes dealt and of passes taken back.
 #[derive(Drop)]
 pub struct Keeper {
     pub(crate) seat: Seat<u8, View>,
@@ -54,15 +55,15 @@ pub struct Keeper {
     ghost pages_are: { pages ≡ seat.me.0.pages },
     ghost in_order: { (rows.next ≤ rows.stop) × (pages.next ≤ pages.stop) },
     ghost for_changes: { AreForChanges pages rows },
-    ghost ascending: { IsSorted nat_cmp taken.items },
+    ghost ascending: { IsStrictlyIncreasing taken.items },
     ghost role_is: { seat.me.0.role ≡ Keeper dealt back },
     ghost counted: { back ≤ dealt },
     ghost owned: { IsOwned seat.me.0.plan },
     ghost no_slot: { seat.me.1 ≡ [] },
 }
 
-/// The right to read and change some keys of a table, which no other pass has. It holds its keys, in ascending order, and the
-/// rows and page numbers that it may still use.
+/// The right to read and change some keys of a table, which no other pass has. It holds its keys, in ascending order and each
+/// once, and the rows and page numbers that it may still use.
 #[derive(Drop)]
 pub struct Pass {
     pub(crate) seat: Seat<u8, View>,
@@ -70,7 +71,7 @@ pub struct Pass {
     pub(crate) rows: Span,
     pub(crate) pages: Span,
     ghost keys_are: { keys.items ≡ seat.me.0.share.keys },
-    ghost ascending: { IsSorted nat_cmp keys.items },
+    ghost ascending: { IsStrictlyIncreasing keys.items },
     ghost rows_are: { rows ≡ seat.me.0.rows },
     ghost pages_are: { pages ≡ seat.me.0.pages },
     ghost in_order: { (rows.next ≤ rows.stop) × (pages.next ≤ pages.stop) },

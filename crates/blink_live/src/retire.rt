@@ -1,5 +1,6 @@
 //! Taking back a pass while the table lives, so that its keys can be dealt again.
 ghost use Rattle.std.specs.Prelude.{◌≡◌, ◌⊎◌, ◌↔◌, ℕ, ◌≤◌, ◌<◌, IsSorted, IsTrue, Contains, length, slice_index, take};
+ghost use Rattle.std.specs.List.Sorted.{IsStrictlyIncreasing};
 ghost use Rattle.std.specs.Ordering.{nat_cmp};
 ghost use mathlib.Core.List.{IsPrefix};
 ghost use Rattle.blink_live.specs.declared.view.Role.TheVariants.{Keeper as KeeperRole, Pass as PassRole};
@@ -94,8 +95,8 @@ impl Live {
 
 // Removes these keys from others, in one pass over both lists.
 pub(crate) fn remove_all(from: &mut Vec<u64>, keys: &[u64])
-    requires ascending { IsSorted nat_cmp from.old.items × IsSorted nat_cmp keys.now }
-    ensures ascending { IsSorted nat_cmp from.new.items }
+    requires ascending { IsStrictlyIncreasing from.old.items × IsStrictlyIncreasing keys.now }
+    ensures ascending { IsStrictlyIncreasing from.new.items }
     ensures rest { from.new.items ≡ without keys.now from.old.items }
 {
     leave_others(from, keys);

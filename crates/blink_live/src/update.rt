@@ -1,6 +1,7 @@
 //! How an operation changes the tree after its descent. To change a page it latches the page and stores the page's next version
 //! word by word in a row of its own. Then it names that row in the page word, and releases the latch.
-ghost use Rattle.std.specs.Prelude.{◌≡◌, ◌≢◌, ℕ, ◌+◌, None, ◌<◌, ◌≤◌, Some, suc, List, IsTrue, IfSome};
+ghost use Rattle.std.specs.Prelude.{◌≡◌, ◌≢◌, ℕ, ◌+◌, None, ◌<◌, ◌≤◌, Some, suc, List, IsTrue, IfSome, ◌↔◌, ◌-◌, Contains, IfNone};
+ghost use Rattle.std.specs.Bool.{OnFalse};
 ghost use Rattle.atomic_table.specs.declared.Seat.{Seat};
 ghost use Rattle.blink_batch.specs.{FitsWords, key_of};
 ghost use Rattle.blink_batch.specs.declared.Op.{Op};
@@ -8,11 +9,12 @@ ghost use Rattle.blink_page.specs.{IsPageNumber};
 ghost use Rattle.blink_rows.specs.{page_words, prime_words, IsRowOf};
 ghost use Rattle.blink_rows.specs.declared.limits.TheConstants.{ROW_WORDS};
 ghost use Rattle.blink_machine.specs.declared.machine.State.TheVariants.{Ended};
-ghost use Rattle.blink_machine.specs.{IsUpdate, fresh, done, PrimeOut, page_out, NeedsNew, NeedsPrimeWrite, NeedsWrite, NeedsLatch, NeedsUnlatch, latch, unlatch};
+ghost use Rattle.blink_machine.specs.{IsUpdate, fresh, done, PrimeOut, page_out, NeedsNew, NeedsPrimeWrite, NeedsWrite, NeedsLatch, NeedsUnlatch, latch, latch_of, unlatch};
 ghost use Rattle.blink_live.specs.declared.view.View.{View};
 ghost use Rattle.blink_live.specs.Seats.{HasSameNumber, IsPassSeat, IsFirst};
-ghost use Rattle.blink_live.specs.Updating.{HasEnded, IsUnderWay, room_in};
-ghost use Rattle.blink_live.specs.Views.{CanBegin, MayChange, is_staged, latch_of, no_words, stage_word};
+ghost use Rattle.blink_live.specs.Updating.{HasEnded, IsUnderWay, room_in, ComesNearer, IsPastDescent};
+ghost use Rattle.blink_live.specs.Views.{CanBegin, MayChange, is_staged, latch_number_by, no_words, stage_word};
+ghost use Rattle.blink_live.specs.Pendings.{IsWaiting};
 ghost use Rattle.blink_live.specs.AtomicSteps.{PublishesNew, PublishesPage, PublishesPrime, GoesOn};
 ghost use Rattle.blink_live.specs.Words.{IsRowNumber};
 
@@ -22,7 +24,7 @@ use crate::rule::{LetGo, Publish, PublishNew, PublishPrime, StoreWord, TryLatch}
 use crate::view::View;
 use atomic_table::Seat;
 use blink_batch::{Answer, Op};
-use blink_machine::{Machine, Need};
+use blink_machine::{Machine, Need, State};
 use blink_rows::{ROW_WORDS, page_row, prime_row};
 use std::sync::Wait;
 use std::{hint, thread};
@@ -74,6 +76,7 @@ impl Live {
         requires room { room.now ≡ room_in op seat.old.me.0 }
         requires may { MayChange seat.old.me.0 (key_of op) }
         ensures under_way { IsUnderWay self.now op seat.old seat.new machine.new room.now }
+        ensures waits { IsWaiting machine.new }
     {
         self.fetch_row(room.rows.next);
         self.descend(seat, machine, op);
@@ -92,7 +95,7 @@ impl Live {
     }
 
     // Takes steps of the operation until it has ended, and returns its answer; or `None` after so many steps in vain, at least
-    // one. It waits for nobody.
+    // one. It waits for nobody, and never stops while the operation holds a latch.
     pub fn take_steps(
         &self,
         seat: &mut Seat<u8, View>,
@@ -102,27 +105,45 @@ impl Live {
     ) -> Option<Answer>
         requires under_way { (op : Op) × (first : Seat ℕ View)
             × IsUnderWay self.now op first seat.old machine.old room.old }
+        requires waits { IsWaiting machine.old }
         ensures under_way { (op : Op) (first : Seat ℕ View)
             → IsUnderWay self.now op first seat.old machine.old room.old
             → IsUnderWay self.now op first seat.new machine.new room.new }
         ensures ended { IfSome result
             (λ answer. (machine.new.state ≡ Ended) × (machine.new.answer ≡ Some answer)) }
+        ensures waits { IfNone result (IsWaiting machine.new) }
     {
         let mut left = tries;
         // The range ends for the proof alone, which knows no bound of an operation's steps.
         for _ in 0..u64::MAX {
-            if machine.ended() {
-                return machine.answer();
-            }
             if !self.turn(seat, machine, room) {
                 left = left.saturating_sub(1);
                 if left == 0 {
                     return None;
                 }
                 hint::spin_loop();
+                continue;
+            }
+            self.leave(seat, machine, room);
+            if machine.ended() {
+                return machine.answer();
             }
         }
         None
+    }
+
+    // Takes the operation's steps for as long as it holds a latch. None of these waits.
+    fn leave(&self, seat: &mut Seat<u8, View>, machine: &mut Machine, room: &mut Room)
+        requires under_way { (op : Op) × (first : Seat ℕ View)
+            × IsUnderWay self.now op first seat.old machine.old room.old }
+        ensures under_way { (op : Op) (first : Seat ℕ View)
+            → IsUnderWay self.now op first seat.old machine.old room.old
+            → IsUnderWay self.now op first seat.new machine.new room.new }
+        ensures no_latch { latch_of machine.new ≡ None }
+    {
+        while holds_latch(machine) {
+            self.turn(seat, machine, room);
+        }
     }
 
     // Takes the operation's next step, and returns whether the operation moved. It waits if another seat has the latch that it
@@ -134,6 +155,8 @@ impl Live {
         ensures under_way { (op : Op) (first : Seat ℕ View)
             → IsUnderWay self.now op first seat.old machine.old room.old
             → IsUnderWay self.now op first seat.new machine.new room.new }
+        ensures waits { OnFalse result (machine.new ≡ machine.old) }
+        ensures nearer { ComesNearer machine.old machine.new }
     {
         // Read for the proof: the room's numbers are words.
         let _stop = room.rows.stop;
@@ -268,7 +291,7 @@ impl Live {
         requires fits { FitsWords machine.old.op }
         requires needs { NeedsLatch machine.old number }
         requires in_range { number < self.now.counts.numbers }
-        requires own { (own ≡ latch_of seat.old.me.0) × (1 ≤ own) }
+        requires own { (own ≡ latch_number_by seat.old.me.0) × (1 ≤ own) }
         ensures same { HasSameNumber seat.old seat.new }
         ensures moved { IsTrue result → machine.new ≡ done machine.old 0 }
         ensures got { IsTrue result → GoesOn (latch number) machine.old seat.old.me seat.new.me }
@@ -377,4 +400,15 @@ impl Live {
         self.table.shared.store::<PublishPrime>(seat, 0, row);
         machine.done(0);
     }
+}
+
+// Whether the operation holds a page's latch.
+fn holds_latch(machine: &Machine) -> bool
+    requires past_descent { IsPastDescent machine.now.state }
+    ensures { IsTrue result ↔ latch_of machine.now ≢ None }
+{
+    !matches!(
+        machine.state(),
+        State::Want(_) | State::Posting | State::Ended
+    )
 }

@@ -8,7 +8,7 @@ use crate::same::{push, same, same_for};
 use crate::shared::{Shared, with_last, without_last};
 use crate::steps::Step::{self, Call, Glance};
 use crate::steps::take_all;
-use crate::story::Act::{Deal, InSteps, LoseLast, Take};
+use crate::story::Act::{Deal, InSteps, LoseLast, LoseLastUnderWay, Take};
 use crate::story::{End, Story, play};
 use crate::walks::every;
 use blink_batch::{Answer, Op};
@@ -102,6 +102,14 @@ impl Shared {
         let last = without_last(rt, live, passes);
         let _lost = begin(live, last, op).ok().expect(rt, "refused");
     }
+
+    // The last pass begins the operation and goes on with it once. Then it is dropped, whether the operation has ended or not.
+    pub(crate) fn lose_last_under_way(&mut self, rt: &impl Abort, op: Op) {
+        let (live, passes) = (&self.live, &mut self.passes);
+        let last = without_last(rt, live, passes);
+        let begun = begin(live, last, op).ok().expect(rt, "refused");
+        let _lost = live.advance(begun, 1);
+    }
 }
 
 // ---- one thread
@@ -182,6 +190,29 @@ const LOST: Story = Story {
 #[test]
 fn a_lost_insertion_costs_its_pass_alone(rt: HostRuntime) {
     play(&rt, rt.alloc(), &LOST);
+}
+
+// An operation that gave up in the middle of its leaf would leave the leaf latched, and the other pass would wait for ever.
+const LOST_UNDER_WAY: Story = Story {
+    over: (0, 4),
+    room: (3, 0),
+    acts: &[
+        Deal(&[6, 7], 2, 0),
+        Deal(&[5], 1, 0),
+        LoseLastUnderWay(Op::Insert(5, 50)),
+        Take(0, &SIX_AND_SEVEN_ALONE),
+    ],
+    end: End::Refused(LiveError::Missing),
+};
+
+const SIX_AND_SEVEN_ALONE: [Step; 2] = [
+    Call(Op::Insert(6, 60), Ok(Answer::Inserted)),
+    Call(Op::Insert(7, 70), Ok(Answer::Inserted)),
+];
+
+#[test]
+fn a_pass_lost_under_way_leaves_no_latch(rt: HostRuntime) {
+    play(&rt, rt.alloc(), &LOST_UNDER_WAY);
 }
 
 // ---- several threads

@@ -43,6 +43,8 @@ pub(crate) enum Act {
     LoseFirst,
     // The last pass begins this call, and is dropped with it.
     LoseLast(Op),
+    // The last pass begins this call, goes on with it once, and is dropped with it, whether it has ended or not.
+    LoseLastUnderWay(Op),
     // The table, its keeper or the pass at this place shows this of itself.
     Table(OfTable),
     Keeper(OfKeeper),
@@ -79,6 +81,7 @@ impl Shared {
             Act::RetireLast => self.retire_last(rt),
             Act::LoseFirst => self.lose_first(rt),
             Act::LoseLast(op) => self.lose_last(rt, op),
+            Act::LoseLastUnderWay(op) => self.lose_last_under_way(rt, op),
             Act::Table(sight) => see_table(rt, &self.live, sight),
             Act::Keeper(sight) => see_keeper(rt, &self.keeper, sight),
             Act::Pass(place, sight) => {

@@ -107,7 +107,19 @@ impl Table {
 
     /// Takes these passes back and closes the table. The index that it returns has the entries that the table was opened with,
     /// except that each key that was dealt has the state that its last pass left. The table is given up also where the call is refused:
-    /// with [`Error::Missing`] if a pass wasn't given back, with [`Error::Foreign`] if one is of another table.
+    /// with [`Error::Missing`] if a pass wasn't given back, with [`Error::Foreign`] at the first pass that is of another table. That
+    /// pass is dropped, as those after it are: its own table can't be closed any more. [`Table::give_back`] hands such a pass back.
+    ///
+    /// ```
+    /// use blink::{Error, Index, Table};
+    ///
+    /// let index = Index::new(16)?;
+    /// let (one, mut other) = (Table::open(&index, 0, 0)?, Table::open(&index, 0, 0)?);
+    /// let pass = other.deal(&[1], 0, 0)?;
+    /// assert_eq!(one.close([pass]).unwrap_err(), Error::Foreign);
+    /// assert_eq!(other.close([]).unwrap_err(), Error::Missing);
+    /// # Ok::<(), Error>(())
+    /// ```
     pub fn close(mut self, passes: impl IntoIterator<Item = Pass>) -> Result<Index, Error> {
         for pass in passes {
             self.give_back(pass).map_err(|(_, error)| error)?;

@@ -24,7 +24,7 @@ use Rattle.blink_live.specs.declared.view.View.{View}
 use Rattle.blink_live.specs.Changes.{put}
 use Rattle.blink_live.specs.Rule.{Owners, PageWordIs, latch_word, IsInRole, IsBoundedWay, Knows, IsTableAt, IsTable}
 use Rattle.blink_live.specs.AtomicSteps.{GoesOn, CanGoOn, tries_latch, lets_go}
-use Rattle.blink_live.specs.Views.{SeatState, going_on, latch_of}
+use Rattle.blink_live.specs.Views.{SeatState, going_on, latch_number_by}
 use Rattle.blink_live.specs.Words.{place_word, word_count}
 use Rattle.blink_live.proofs.found.OperationBegins.{goes_on_as}
 use Rattle.blink_live.proofs.table.PoolStays.{pool_stays}
@@ -138,15 +138,15 @@ module _ (plan : Plan) (s : State ℕ View) (tree_state : TreeState) (h : IsTabl
 
 -- ---- the latch is got, or not
 
-pub latch_is_tried : (plan : Plan) (slots id number : ℕ) (me : SeatState) (m : PlainMachine) → me.0.role ≡ Pass → me.0.operation ≡ Some m → FitsWords m.op → NeedsLatch m number → number < plan.counts.numbers → 1 ≤ latch_of me.0
-    → Allows (IsTable plan) slots id me (plan.counts.numbers + number) (λ n. either (eqb n 0) (latch_of me.0) n)
-    (tries_latch (step slots (plan.counts.numbers + number) 0 (latch_of me.0) none) me)
+pub latch_is_tried : (plan : Plan) (slots id number : ℕ) (me : SeatState) (m : PlainMachine) → me.0.role ≡ Pass → me.0.operation ≡ Some m → FitsWords m.op → NeedsLatch m number → number < plan.counts.numbers → 1 ≤ latch_number_by me.0
+    → Allows (IsTable plan) slots id me (plan.counts.numbers + number) (λ n. either (eqb n 0) (latch_number_by me.0) n)
+    (tries_latch (step slots (plan.counts.numbers + number) 0 (latch_number_by me.0) none) me)
 latch_is_tried plan slots id number me m role at_m fits needs in_range some_latch s table homes at small =
     let tree_state : TreeState = table.0 in
     let h : IsTableAt plan s tree_state = table.1 in
     let known = h.views id me.0 at in
     let place : ℕ = plan.counts.numbers + number in
-    let x : ℕ = latch_of me.0 in
+    let x : ℕ = latch_number_by me.0 in
     let found : ℕ = slice_index s.words place in
     let after : PlainMachine = done m 0 in
     let under : tree_state.machines id ≡ Some m = known.operation ∙ at_m in

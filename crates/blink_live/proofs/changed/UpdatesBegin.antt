@@ -12,8 +12,9 @@ use Rattle.blink_live.specs.declared.room.Room.{Room}
 use Rattle.blink_live.specs.declared.view.Call.{Call}
 use Rattle.blink_live.specs.declared.view.View.{View}
 use Rattle.blink_live.specs.Seats.{HasRead, HasSameNumber, IsAtLeaf, IsPassSeat, found, wants as wants_leaf}
-use Rattle.blink_live.specs.Updating.{SameBesideCall, not_yet, HasLeft, IsUpdating, IsPastDescent, CanUpdate, IsUnderWay, room_in}
+use Rattle.blink_live.specs.Updating.{SameBesideCall, not_yet, HasLeft, IsUpdating, IsPastDescent, CanUpdate, IsUnderWay, room_in, room_for}
 use Rattle.blink_live.specs.Views.{SeatState, CanBegin, MayChange, SameBesideReads, latch_in, rows_of, pages_of, for_call, known_of}
+use Rattle.blink_live.specs.Pendings.{IsWaiting, for_latch}
 use Rattle.blink_live.specs.Words.{AreNumbersIn, AreRowsIn}
 
 within_call : (v w : View) → SameBesideReads v w → SameBesideCall v w
@@ -60,6 +61,11 @@ update_begins op v first me m kept updates is read (wants_leaf page update at no
       past_descent = subst IsPastDescent (sym at) tt;
       answers_at_end = λ ends. absurd (cc);
     }
+
+-- it wants its leaf's latch
+pub waits_at_leaf : (op : Op) (kept : Option ℕ) (m : PlainMachine) → IsUpdate op → IsAtLeaf op kept m → IsWaiting m
+waits_at_leaf op kept m updates (found key is_find at_end answer) = absurd (subst IsUpdate is_find updates)
+waits_at_leaf op kept m updates (wants_leaf page update at none_yet) = for_latch page at
 
 -- it takes a row at least
 takes_a_row : (op : Op) → IsUpdate op → 1 ≤ rows_of op

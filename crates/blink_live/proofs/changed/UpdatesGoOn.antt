@@ -25,7 +25,7 @@ use Rattle.blink_live.specs.AtomicSteps.{AnswersInOrder, CanGoOn, Decided, decid
 use Rattle.blink_live.specs.Changes.{changes_made}
 use Rattle.blink_live.specs.Seats.{HasSameNumber, IsFirst, IsPassSeat}
 use Rattle.blink_live.specs.Updating.{SameBesideCall, HasDecided, not_yet, decided, HasLeft, IsUpdating, HasEnded, IsUnderWay}
-use Rattle.blink_live.specs.Views.{IsCommon, MayChange, SeatState, changed_by, for_call, latch_of, no_words, pages_of, rows_of, span}
+use Rattle.blink_live.specs.Views.{IsCommon, MayChange, SeatState, changed_by, for_call, latch_number_by, no_words, pages_of, rows_of, span}
 use Rattle.blink_live.specs.Words.{IsRowNumber}
 use Rattle.blink_live.proofs.told.PrefixesOfOneList.{prefix_of_prefix}
 use Rattle.blink_live.proofs.changed.StepsOfUpdates.{Takes, latch_answers, unlatch_answers, goes_on_takes, page_takes, prime_takes, publish_takes}
@@ -177,8 +177,8 @@ module _ {live : Live} {op : Op} {first seat : Seat ℕ View} {m : PlainMachine}
       same_keys (not_yet none same) = ap (λ (s : Share). s.keys) same
       same_keys (decided given) = given.keys
 
-  pub is_its_number : (room.latch_number ≡ latch_of seat.me.0) × (1 ≤ room.latch_number)
-  is_its_number = (is.latch_number ∙ ap latch_of (sym is.updating.same.0), subst (λ (n : ℕ). 1 ≤ n) (sym is.latch_number) is.can.some_latch)
+  pub is_its_number : (room.latch_number ≡ latch_number_by seat.me.0) × (1 ≤ room.latch_number)
+  is_its_number = (is.latch_number ∙ ap latch_number_by (sym is.updating.same.0), subst (λ (n : ℕ). 1 ≤ n) (sym is.latch_number) is.can.some_latch)
 
   in_range : (number : ℕ) → (1 ≤ number) × (number < first.me.0.plan.counts.numbers) → (1 ≤ number) × (number < live.counts.numbers)
   in_range number there = (there.0, subst (λ (counts : PlainCounts). number < counts.numbers) same_counts there.1)

@@ -1,18 +1,20 @@
 -- The keys of two lists in one ascending list: which they are, and that none stands twice where each is below the next.
-use Rattle.std.proofs.Common.{◌≡◌, ◌≢◌, ◌↔◌, ◌⊎◌, ℕ, ◌+◌, ◌<◌, Some, List, ◌++◌, [], ◌∷◌, zero, suc, length, take, get_or, ⊎_elim, sym, ◌∙◌, arith, append_assoc, subst, ap}
+use Rattle.std.proofs.Common.{◌≡◌, ◌≢◌, ◌↔◌, ◌⊎◌, ℕ, ◌+◌, ◌<◌, Some, List, ◌++◌, [], ◌∷◌, zero, suc, length, take, get_or, inr, refl, ⊎_elim, sym, ◌∙◌, arith, append_assoc, subst, ap}
 use Rattle.std.specs.Prelude.{Contains, slice_get, ◌==◌}
 use Rattle.std.specs.List.{AllPairs}
+use Rattle.std.specs.List.Retain.{DiffersFromLast, IsFiltered}
 use Rattle.std.specs.List.Sorted.{IsPermutation, IsStrictlyIncreasing}
 use Rattle.std.proofs.lemmas.Bool.Decides.{Decides-eqb, nat_tests}
 use Rattle.std.proofs.lemmas.List.{get_or-append-add, get_or_append_left, get_or_default, length-append, length-take, get_or-take}
 use Rattle.std.proofs.lemmas.List.Elements.{Contains-append_left, Contains-append_right, Contains-append_cases}
-use Rattle.std.proofs.lemmas.List.Kept.{AllPairs-from_increasing}
-use Rattle.std.proofs.lemmas.List.Sorted.{Contains-permutation, IsPermutation-append_comm, IsPermutation-append_left, IsPermutation-append_right, IsPermutation-middle, IsPermutation-sym, IsPermutation-trans}
+use Rattle.std.proofs.lemmas.List.Filters.{dedup_is}
+use Rattle.std.proofs.lemmas.List.Kept.{AllPairs-from_increasing, Contains-dedup_nat, Contains-from_dedup}
+use Rattle.std.proofs.lemmas.List.Sorted.{Contains-permutation, IsNonDecreasingBy-from_sort, IsPermutation-append_comm, IsPermutation-append_left, IsPermutation-append_right, IsPermutation-middle, IsPermutation-sym, IsPermutation-trans}
 use Rattle.std.specs.Prelude.{IsSorted}
 use Rattle.std.specs.Ordering.{nat_cmp, is_lt}
 use Rattle.std.specs.Cmp.{nat_cmp_is}
 use Rattle.std.specs.declared.cmp.Ordering.TheVariants.{Greater}
-use Rattle.std.proofs.lemmas.Map.Keys.{IsDistinct-IsPermutation}
+use Rattle.std.proofs.lemmas.Map.Keys.{IsDistinct-IsPermutation, IsStrictlyIncreasing-dedup, IsStrictlyIncreasing-from_distinct}
 use Rattle.std.proofs.lemmas.Map.Made.{AllPairs-from_IsDistinct, IsDistinct-from_AllPairs}
 use Rattle.blink_live.specs.Deals.{NoneIsTaken}
 
@@ -90,3 +92,32 @@ sorted_from_rising keys rises k d low inside =
     let here : get_or keys k 0 ≡ get_or keys k d = get_or_default keys k 0 d (omega (arith, inside)) in
     let next : get_or keys (k + 1) 0 ≡ get_or keys (k + 1) d = get_or_default keys (k + 1) 0 d inside in
     ap is_lt (sym (nat_cmp_is (get_or keys (k + 1) d) (get_or keys k d) Greater (omega (arith, below, here, next))))
+
+-- ---- keys of which none stands twice
+
+at_index : (keys : List ℕ) (n d : ℕ) → n < length keys → slice_get keys n ≡ Some (get_or keys n d)
+at_index [] n d inside = absurd (omega (arith, inside))
+at_index (first ∷ rest) zero d inside = refl
+at_index (first ∷ rest) (suc n) d inside = at_index rest n d (omega (arith, inside))
+
+-- in order they rise
+pub rises_in_order : (taken keys sorted : List ℕ) → NoneIsTaken taken keys → IsPermutation keys sorted → IsSorted nat_cmp sorted → IsStrictlyIncreasing sorted
+rises_in_order taken keys sorted free moved ordered =
+    IsStrictlyIncreasing-from_distinct sorted (λ i j d le inside. IsNonDecreasingBy-from_sort (λ x. x) sorted ordered i j d le inside)
+    (IsDistinct-IsPermutation (λ (x y : ℕ). x == y) flips keys sorted moved
+    (IsDistinct-from_AllPairs Decides-eqb keys (λ i j d less inside same.
+    let long = length-take j keys in
+    let before : i < length (take j keys) = omega (arith, long, less, inside) in
+    let first : get_or keys i (get_or keys j d) ≡ get_or keys j d = get_or_default keys i (get_or keys j d) d (omega (arith, less, inside)) ∙ same in
+    free j (get_or keys j d) record { at = at_index keys j d inside; again = inr (i, before, get_or-take j keys i (get_or keys j d) less ∙ first) })))
+
+-- what is left of keys in order without those that stand again
+pub rises_without_again : (keys left : List ℕ) → IsSorted nat_cmp keys → IsFiltered (DiffersFromLast (λ (x y : ℕ). x == y)) [] keys left → IsStrictlyIncreasing left
+rises_without_again keys left ordered is = subst IsStrictlyIncreasing (sym (dedup_is (λ (x y : ℕ). x == y) keys left is)) (IsStrictlyIncreasing-dedup keys ordered)
+
+pub same_without_again : (keys sorted left : List ℕ) → IsPermutation keys sorted → IsFiltered (DiffersFromLast (λ (x y : ℕ). x == y)) [] sorted left → (key : ℕ) → Contains left key ↔ Contains keys key
+same_without_again keys sorted left moved is key =
+    let same = dedup_is (λ (x y : ℕ). x == y) sorted left is in (
+      λ has. Contains-permutation sorted keys key (IsPermutation-sym keys sorted moved) (Contains-from_dedup (λ (x y : ℕ). x == y) sorted key (subst (λ (l : List ℕ). Contains l key) same has)),
+      λ has. subst (λ (l : List ℕ). Contains l key) (sym same) (Contains-dedup_nat sorted key (Contains-permutation keys sorted key moved has)),
+    )

@@ -1,5 +1,5 @@
 -- The levels of a kept tree: each page is kept, and they are as few as page numbers.
-use Rattle.std.proofs.Common.{◌≡◌, ℕ, ◌+◌, ◌≤◌, Some, None, List, [], ◌∷◌, ◌++◌, length, arith}
+use Rattle.std.proofs.Common.{◌≡◌, ℕ, ◌+◌, ◌-◌, ◌≤◌, Some, None, List, [], ◌∷◌, ◌++◌, length, arith}
 use Rattle.std.specs.List.{flat_map}
 use Rattle.blink_page.specs.declared.limits.TheConstants.{MAX_PAGE}
 use Rattle.blink_page.specs.{PlainPage}
@@ -33,18 +33,20 @@ module _ (counts : PlainCounts) (words : List ℕ) (fan : ℕ) (pages : Pages) (
     room_for_children = fits;
   }
 
-  module _ (bounded : counts.numbers ≤ MAX_PAGE + 1) where
-    within : (number : ℕ) (page : PlainPage) → pages number ≡ Some page → (1 ≤ number) × (number ≤ MAX_PAGE)
-    within number page there = let range = (kept number page there).number_in_range in (range.0, omega (arith, range.1))
-
-    levels_within : (level : ℕ) (prime : List ℕ) (levels : List (List Cell)) → AreChains fan pages level prime levels → AreWithin MAX_PAGE (flat_map numbers_of levels)
+  module _ (n : ℕ) (within : (number : ℕ) (page : PlainPage) → pages number ≡ Some page → (1 ≤ number) × (number ≤ n)) where
+    levels_within : (level : ℕ) (prime : List ℕ) (levels : List (List Cell)) → AreChains fan pages level prime levels → AreWithin n (flat_map numbers_of levels)
     levels_within level [] [] chains = tt
     levels_within level [] (cells ∷ above) chains = absurd chains
     levels_within level (leftmost ∷ prime) [] chains = absurd chains
     levels_within level (leftmost ∷ prime) (cells ∷ above) chains =
-        within_both MAX_PAGE (numbers_of cells) (flat_map numbers_of above) (cells_within MAX_PAGE pages cells chains.0.pages_there within) (levels_within (level + 1) prime above chains.1)
+        within_both n (numbers_of cells) (flat_map numbers_of above) (cells_within n pages cells chains.0.pages_there within) (levels_within (level + 1) prime above chains.1)
 
-    -- all levels together have no more pages than there are numbers
-    pub levels_fit : (prime : List ℕ) (levels : List (List Cell)) → AreChains fan pages 0 prime levels → length (flat_map numbers_of levels) ≤ MAX_PAGE
-    levels_fit prime levels chains =
-        at_most_n MAX_PAGE (flat_map numbers_of levels) (levels_differ fan pages 0 prime levels chains) (levels_within 0 prime levels chains)
+    at_most : (prime : List ℕ) (levels : List (List Cell)) → AreChains fan pages 0 prime levels → length (flat_map numbers_of levels) ≤ n
+    at_most prime levels chains = at_most_n n (flat_map numbers_of levels) (levels_differ fan pages 0 prime levels chains) (levels_within 0 prime levels chains)
+
+  -- all levels together have no more pages than there are numbers
+  pub levels_in_numbers : (prime : List ℕ) (levels : List (List Cell)) → AreChains fan pages 0 prime levels → length (flat_map numbers_of levels) ≤ counts.numbers - 1
+  levels_in_numbers = at_most (counts.numbers - 1) (λ number page there. let range = (kept number page there).number_in_range in (range.0, omega (arith, range.1)))
+
+  pub levels_fit : counts.numbers ≤ MAX_PAGE + 1 → (prime : List ℕ) (levels : List (List Cell)) → AreChains fan pages 0 prime levels → length (flat_map numbers_of levels) ≤ MAX_PAGE
+  levels_fit bounded prime levels chains = let few = levels_in_numbers prime levels chains in omega (arith, few, bounded)

@@ -1,5 +1,5 @@
 -- A store whose pages and prime block are those of a kept tree's levels with other numbers is that tree at rest.
-use Rattle.std.proofs.Common.{◌≡◌, ℕ, ◌+◌, ◌<◌, ◌≤◌, zero, suc, List, [], ◌∷◌, length, drop, get_or, refl, ap, ◌∙◌, subst, arith}
+use Rattle.std.proofs.Common.{◌≡◌, ℕ, ◌+◌, ◌-◌, ◌<◌, ◌≤◌, zero, suc, List, [], ◌∷◌, length, drop, get_or, refl, ap, ◌∙◌, subst, arith}
 use Rattle.std.proofs.lemmas.List.{drop_all}
 use Rattle.blink_page.specs.declared.limits.TheConstants.{MAX_PAGE}
 use Rattle.blink_store.specs.{PlainStore, page_of}
@@ -9,9 +9,9 @@ use Rattle.blink_rows.specs.{AreBounded, PlainCounts}
 use Rattle.blink_live.specs.Gathered.{HasTheEntries, IsNumberedInOrder, KeepsTreeAtRest}
 use Rattle.blink_live.specs.Renumbered.{firsts_anew, levels_anew, pages_in_all}
 use Rattle.blink_live.specs.Words.{KeepsPages}
-use Rattle.blink_live.proofs.gathered.KeptLevelsFit.{levels_fit}
+use Rattle.blink_live.proofs.gathered.KeptLevelsFit.{levels_fit, levels_in_numbers}
 use Rattle.blink_live.proofs.gathered.LevelsAreAdded.{LevelsLeft, none_left}
-use Rattle.blink_live.proofs.gathered.RenumberedTreeIsAtRest.{are-levels_anew, entries-levels_anew, in_order-levels_anew}
+use Rattle.blink_live.proofs.gathered.RenumberedTreeIsAtRest.{are-levels_anew, entries-levels_anew, in_order-levels_anew, length-levels_anew}
 
 -- a prime block is its first page and the others
 pub first_of_prime : (prime : List ℕ) → 0 < length prime → prime ≡ get_or prime 0 0 ∷ drop 1 prime
@@ -59,6 +59,7 @@ pub record IsTheTree (counts : PlainCounts) (words : List ℕ) (fan : ℕ) (prim
   pub at_rest : IsStoreAtRest store
   pub entries : HasTheEntries counts words fan prime store
   pub in_order : IsNumberedInOrder store
+  pub few : length store.pages ≤ counts.numbers - 1
 
 -- once the prime block names the first pages of all levels
 pub is_the_tree : (counts : PlainCounts) (words : List ℕ) (fan : ℕ) (prime firsts : List ℕ) (level child : ℕ) (old store : PlainStore)
@@ -78,4 +79,8 @@ is_the_tree counts words fan prime firsts level child old store bounded rest pas
         are = new;
         in_order = in_order-levels_anew fan rest.pages store levels (whole rest.pages levels rest.kept are).same_pages;
       };
+      few = let as_many = ap length (whole rest.pages levels rest.kept are).same_pages in
+          let all = length-levels_anew 1 1 levels in
+          let fit = levels_in_numbers counts words fan rest.pages rest.kept prime levels are.chains in
+          omega (arith, as_many, all, fit);
     }

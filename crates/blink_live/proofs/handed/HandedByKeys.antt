@@ -21,6 +21,7 @@ by_same_keys live old_from old_to keys others new_from new_to same handed =
         share = given.share;
         changes = given.changes;
         same_seen = given.same_seen;
+        knows = given.knows;
         same_rows = given.same_rows;
         same_pages = given.same_pages;
       };
@@ -40,4 +41,5 @@ by_same_keys live old_from old_to keys others new_from new_to same handed =
         same_pages = received.same_pages;
       };
       saw_all = handed.saw_all;
+      saw_prefix = handed.saw_prefix;
     }

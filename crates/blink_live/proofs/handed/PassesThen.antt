@@ -16,6 +16,7 @@ use Rattle.blink_live.proofs.dealt.KeysOfShare.{among_from_contains, changes_of_
 use Rattle.blink_live.proofs.handed.SharesOfKeys.{states_mine, states_theirs, with_those-other, with_those-own}
 use Rattle.blink_live.proofs.retired.KeysWithout.{not_among, stays}
 use Rattle.blink_live.proofs.told.OwnersAreSeen.{all_that_was_made}
+use Rattle.blink_live.proofs.told.StatesOfKeys.{states_of-prefix}
 
 -- of the keys that it has left, a pass has seen what it had seen
 saw_the_rest : (v : View) (keys : List ℕ) → SawItsOwn v → SawItsOwn (parts_with v keys)
@@ -39,6 +40,14 @@ module _ (live : Live) (from to : Pass) (its : IsPassOf live to) (keys all rest 
 
   pub giver_saw : SawItsOwn giver.0
   giver_saw = subst (λ (x : SeatState). SawItsOwn x.0) (sym moved.gave) (saw_the_rest from.seat.me.0 keys from.own_seen)
+
+  pub giver_state : IsPassOf live from → (key : ℕ) → Contains rest key → after (pointer_of (opening_of live)) giver.0.seen key ≡ pointer_of giver.0.share.entries key
+  giver_state from_its key has =
+      ap (λ (p : Plan). after (pointer_of p.opening) giver.0.seen key) (sym (ap (λ (x : SeatState). x.0.plan) moved.gave ∙ from_its.1))
+      ∙ (moved.giver_knows (saw_the_rest from.seat.me.0 keys from.own_seen)).state key (subst (λ (l : List ℕ). Contains l key) rest_are has)
+
+  pub giver_changes : (key : ℕ) → Contains rest key → states_of key giver.0.seen ≡ states_of key giver.0.share.changes
+  giver_changes key has = giver_saw key (subst (λ (l : List ℕ). Contains l key) rest_are has)
 
   -- ---- the second
 
@@ -91,3 +100,9 @@ module _ (live : Live) (from to : Pass) (its : IsPassOf live to) (keys all rest 
   pub saw_all : (key : ℕ) → Contains rest key → states_of key taker.0.seen ≡ states_of key giver.0.share.changes
   saw_all key has = ap (states_of key) now_seen
       ∙ all_that_was_made moved.seen giver.0 rest rest_are giver_saw (subst (λ (x : SeatState). IsPrefix x.0.seen moved.seen) (sym moved.gave) moved.heard) moved.no_more key has
+
+  -- and of the second one's keys the first has seen only the second one's changes
+  pub saw_prefix : (key : ℕ) → Contains all key → IsPrefix (states_of key giver.0.seen) (states_of key taker.0.share.changes)
+  saw_prefix key has =
+      let shown : IsPrefix giver.0.seen taker.0.seen = subst (λ (x : SeatState). IsPrefix x.0.seen taker.0.seen) (sym moved.gave) saw_theirs in
+      subst (IsPrefix (states_of key giver.0.seen)) (knows_changes key has) (states_of-prefix key giver.0.seen taker.0.seen shown)

@@ -1,13 +1,13 @@
 -- Keys without others: which these are, and how one pass over both lists finds them.
 use Rattle.std.proofs.Common.{◌≡◌, ◌≢◌, ◌⊎◌, ◌↔◌, ℕ, suc, ◌+◌, ◌<◌, ◌≤◌, Bool, true, false, List, [], ◌∷◌, length, set, refl, sym, ap, ◌∙◌, subst, inl, inr, ⊎_elim, true≢false, arith}
 use Rattle.std.specs.Prelude.{Contains, IsSorted, if◌then◌else◌, not, slice_index}
-use Rattle.std.specs.Ordering.{nat_cmp, is_lt}
+use Rattle.std.specs.Ordering.{nat_cmp}
 use Rattle.std.proofs.lemmas.Bool.{cases_lt}
-use Rattle.std.proofs.lemmas.Cmp.{nat_cmp_total}
 use Rattle.std.proofs.lemmas.List.{drop_more, get_or_default}
 use Rattle.std.proofs.lemmas.List.Filters.{FiltersInPlace, FiltersInPlace-more_no, FiltersInPlace-more_set}
-use Rattle.std.proofs.lemmas.List.Kept.{IsSortedBy-filter}
-use Rattle.std.proofs.lemmas.List.Sorted.{IsNonDecreasingBy-from_sort, ranks_by}
+use Rattle.std.proofs.lemmas.List.Kept.{IsStrictlyIncreasing-filter}
+use Rattle.std.specs.List.Sorted.{IsStrictlyIncreasing}
+use Rattle.std.proofs.lemmas.List.Sorted.{IsNonDecreasingBy-from_sort}
 use Rattle.blink_live.specs.Retiring.{IsReached, without}
 use Rattle.blink_live.specs.Views.{is_among}
 use Rattle.blink_live.proofs.dealt.FirstOrOneOfRest.{contains_case}
@@ -62,8 +62,8 @@ left_out keys others key gone = go (is_among keys key) refl
     go true is = inr (contains_from_among keys key is)
     go false is = inl (λ there. gone (in_without keys others key there is))
 
-pub without_in_order : (keys others : List ℕ) → IsSorted nat_cmp others → IsSorted nat_cmp (without keys others)
-without_in_order keys others ascending = IsSortedBy-filter (λ x y. is_lt (nat_cmp x y)) (ranks_by nat_cmp_total (λ (x : ℕ). x)) (λ (key : ℕ). not (is_among keys key)) others ascending
+pub without_rises : (keys others : List ℕ) → IsStrictlyIncreasing others → IsStrictlyIncreasing (without keys others)
+without_rises keys others rises = IsStrictlyIncreasing-filter (λ (key : ℕ). not (is_among keys key)) others rises
 
 pub in_order : (keys : List ℕ) → IsSorted nat_cmp keys → (i j : ℕ) → i ≤ j → j < length keys → slice_index keys i ≤ slice_index keys j
 in_order keys ascending i j le inside = IsNonDecreasingBy-from_sort (λ x. x) keys ascending i j 0 le inside

@@ -19,7 +19,7 @@ use Rattle.blink_live.proofs.table.MapsWithOneChange.{put_same}
 use Rattle.blink_live.proofs.table.SharesAreKnown.{share_is_known}
 use Rattle.blink_live.proofs.table.KeepersCount.{keeper_counts}
 use Rattle.blink_live.proofs.told.NotesKeepTable.{told_in_role}
-use Rattle.blink_live.proofs.told.OwnersAreSeen.{prefix_shows_no_more}
+use Rattle.blink_live.proofs.told.OwnersAreSeen.{knows_what_it_saw, prefix_shows_no_more}
 use Rattle.blink_live.proofs.told.StatesOfKeys.{states_of-prefix}
 
 -- a seat may know no more what it was told
@@ -99,7 +99,11 @@ looks_back_at_prime plan slots id me role s table homes at small =
       keeps,
       tt,
       looks plan s table.0 h id me.0 at me.0.seen known.saw known.in_role,
-      record { is = refl; no_more = prefix_shows_no_more plan h.owners h.log (suc id) me.0.share me.0.told known.share known.heard },
+      record {
+        is = refl;
+        no_more = prefix_shows_no_more plan h.owners h.log (suc id) me.0.share me.0.told known.share known.heard;
+        knows_own = knows_what_it_saw plan h.owners h.log (suc id) (forgets_told me.0) known.same_plan known.share;
+      },
     )
 
 -- nor was the keeper told more of the keys that it can deal than it has seen; and each pass that is back was dealt

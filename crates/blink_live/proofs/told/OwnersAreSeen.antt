@@ -1,16 +1,17 @@
 -- What two passes have seen of each other's keys, where one tells the other.
-use Rattle.std.proofs.Common.{◌≡◌, ℕ, Option, List, [], subst}
+use Rattle.std.proofs.Common.{◌≡◌, ℕ, Option, List, [], ap, sym, ◌∙◌, subst}
+use Rattle.blink_batch.specs.{pointer_of}
 use Rattle.std.specs.Prelude.{Contains}
 use mathlib.Core.List.{IsPrefix, append-nil}
 use Rattle.blink_live.specs.declared.view.Change.{Change}
 use Rattle.blink_live.specs.declared.view.Plan.{Plan}
 use Rattle.blink_live.specs.declared.view.Share.{Share}
 use Rattle.blink_live.specs.declared.view.View.{View}
-use Rattle.blink_live.specs.Changes.{states_of}
+use Rattle.blink_live.specs.Changes.{after, last_state, states_of}
 use Rattle.blink_live.specs.Rule.{Owners, IsShare}
-use Rattle.blink_live.specs.Views.{SawItsOwn, ShowsNoMore}
+use Rattle.blink_live.specs.Views.{KnowsItsOwn, SawItsOwn, ShowsNoMore}
 use Rattle.blink_live.proofs.told.PrefixesOfOneList.{prefix_of_prefix}
-use Rattle.blink_live.proofs.told.StatesOfKeys.{states_of-prefix, prefixes_of_each_other}
+use Rattle.blink_live.proofs.told.StatesOfKeys.{after-last_state, states_of-prefix, prefixes_of_each_other}
 
 -- a prefix of the list of changes shows of a share's keys no more than its own operations made: so does what any seat has seen, or was told
 pub prefix_shows_no_more : (plan : Plan) (owners : Owners) (log : List Change) (owner : ℕ) (share : Share) (seen : List Change) → IsShare plan owners log owner share → IsPrefix seen log → ShowsNoMore seen share
@@ -39,3 +40,16 @@ all_that_was_made seen v keys its_keys saw prefix no_more key mine =
     let its : Contains v.share.keys key = subst (λ (all : List ℕ). Contains all key) its_keys mine in
     prefixes_of_each_other (states_of key seen) (states_of key v.share.changes) (no_more key its)
     (subst (λ (states : List (Option ℕ)). IsPrefix states (states_of key seen)) (saw key its) (states_of-prefix key v.seen seen prefix))
+
+-- who has seen its own changes knows what its share says
+pub knows_what_it_saw : (plan : Plan) (owners : Owners) (log : List Change) (owner : ℕ) (v : View) → v.plan ≡ plan → IsShare plan owners log owner v.share → SawItsOwn v → KnowsItsOwn v
+knows_what_it_saw plan owners log owner v same_plan its_own saw = record {
+  state = λ key mine.
+      let f = pointer_of v.plan.opening in
+      let its = its_own key mine in
+      after-last_state f v.seen key
+      ∙ (ap (last_state (f key)) (saw key mine ∙ sym its.changes)
+      ∙ (sym (after-last_state f log key)
+      ∙ (ap (λ (p : Plan). after (pointer_of p.opening) log key) same_plan ∙ sym its.kept)));
+  changes = saw;
+}

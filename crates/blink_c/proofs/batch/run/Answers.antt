@@ -1,11 +1,11 @@
-use Rattle.std.proofs.Common.{◌≡◌, ◌∙◌, Option, List, length, map, ap, sym, subst}
+use Rattle.std.proofs.Common.{◌≡◌, ◌∙◌, Option, List, count_by, length, map, ap, sym, subst}
 use Rattle.std.proofs.lemmas.Result.{err_from_is_err_and}
 use Rattle.blink_batch.specs.declared.Answer.{Answer}
 use Rattle.blink_index.specs.{map_of}
 use Rattle.blink_store.specs.{PlainStore}
 use Rattle.blink_c.specs.Raw.{raw_given}
-use Rattle.blink_c.specs.Runs.{HasRunToEnd, IsRunRefusal, IsStartRefusal}
-use Rattle.blink_batch.specs.{answers}
+use Rattle.blink_c.specs.Runs.{HasPagesFor, HasRunToEnd, IsRunRefusal, IsStartRefusal}
+use Rattle.blink_batch.specs.{answers, is_insert}
 use Rattle.blink_c.proofs.RunOfBatch.{as_many, each_given}
 use Rattle.blink_c.proofs.RunRefusals.{kinds_known, refused_at_start}
 use Rattle.blink_c.proofs.batch.run.Goals as goal
@@ -29,6 +29,7 @@ returns-clause-ran c =
           ∙ each_given (answers (map_of c.args.index.now) c.in_ok-batch.batch);
       same_fan = ap (λ (store : PlainStore). store.fan) (c.from_rest.ensures ∙ c.into_rest.ensures.tree) ∙ ran.same_fan;
       same_map = ap (λ (store : PlainStore). map_of store) (c.from_rest.ensures ∙ c.into_rest.ensures.tree) ∙ ran.same_map;
+      few_pages = subst (HasPagesFor (count_by is_insert c.in_ok-batch.batch) c.args.index.now) (sym (c.from_rest.ensures ∙ c.into_rest.ensures.tree)) ran.few_pages;
     }
 
 -- no memory for the copy

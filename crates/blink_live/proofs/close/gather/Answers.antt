@@ -1,8 +1,9 @@
-use Rattle.std.proofs.Common.{◌≡◌, ◌+◌, ◌<◌, ◌≤◌, ◌++◌, ℕ, Some, List, [], ◌∷◌, suc, length, drop, get_or, ap, sym, subst, ◌∙◌, arith, length-append}
+use Rattle.std.proofs.Common.{◌≡◌, ◌+◌, ◌-◌, ◌<◌, ◌≤◌, ◌++◌, ℕ, Some, List, [], ◌∷◌, suc, length, drop, get_or, ap, sym, subst, ◌∙◌, arith, length-append}
 use Rattle.std.specs.Mem.Slots.{slots_items}
 use Rattle.blink_page.specs.declared.limits.TheConstants.{MAX_PAGE}
 use Rattle.blink_rest.specs.{AreLevels}
 use Rattle.blink_rows.specs.{AreBounded}
+use Rattle.blink_store.specs.{PlainStore}
 use Rattle.blink_live.specs.Gathered.{HasTheEntries, IsNumberedInOrder}
 use Rattle.blink_live.specs.ToCome.{AddsPages, HasLeavesToCome, HasPagesToCome}
 use Rattle.blink_live.proofs.gathered.StoreIsTheTree.{first_of_prime, next_of_prime, is_the_tree}
@@ -112,3 +113,11 @@ returns-clause-numbered c =
     subst IsNumberedInOrder (sym c.of.ensures)
     (is_the_tree c.args.counts.now (slots_items c.args.closed.now.words) c.args.fan prime c.loop-level.firsts c.loop-level.level c.loop-level.child c.loop-level.store c.set_prime.new.self
     (subst AreBounded c.counts.view_is c.counts.invariant) c.requires.rest past c.loop-level.invariant.same_fan c.set_prime.ensures.prime c.loop-level.invariant.left).in_order
+
+pub returns-clause-few : goal.returns-clause-few
+returns-clause-few c =
+    let prime = c.args.prime.now in
+    let past : length prime ≤ c.loop-level.level = omega (arith, c.loop-level-test.false, c.len-level-end.ensures.value, ap length c.prime.view_is) in
+    subst (λ (store : PlainStore). length store.pages ≤ c.args.counts.now.numbers - 1) (sym c.of.ensures)
+    (is_the_tree c.args.counts.now (slots_items c.args.closed.now.words) c.args.fan prime c.loop-level.firsts c.loop-level.level c.loop-level.child c.loop-level.store c.set_prime.new.self
+    (subst AreBounded c.counts.view_is c.counts.invariant) c.requires.rest past c.loop-level.invariant.same_fan c.set_prime.ensures.prime c.loop-level.invariant.left).few

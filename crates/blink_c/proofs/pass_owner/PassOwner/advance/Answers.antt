@@ -32,4 +32,6 @@ returns-in-Err-clause-refused c =
       same_table = same_live;
       same_number = ap (λ (owner : PassOwner). owner.number) c.in_ok-pending.ensures.gone;
       begun = subst (λ (live : Live). HasBegun live (op_of c.in_ok-pending.pending) (pass_of c.in_ok-pending.pending) c.in-Err.pending) (c.deref.ensures ∙ ap arc_value same_live) c.in-Err.ensures.goes_on;
+      waits = c.in-Err.ensures.waits;
+      no_latch = c.in-Err.ensures.goes_on.its_own.no_latch;
     }

@@ -12,5 +12,6 @@ returns-in-Ok-clause-handed c = record {
   from_free = record { was = c.in-Free.is; is = refl; same_table = refl; same_number = refl };
   to_free = record { was = c.in-Free-held.is; is = refl; same_table = refl; same_number = refl };
   one_table = c.if-self-taker.false;
+  yours = c.in-Ok.ensures.yours;
   handed = subst (λ (live : Live). IsHanded live c.in-Free.from c.in-Free-held.to c.args.keys.now c.hand.new.from c.hand.new.to) c.deref.ensures c.in-Ok.ensures.handed;
 }

@@ -1,6 +1,6 @@
 use Rattle.std.proofs.Common.{◌≡◌, ◌∙◌, ℕ, List, Err, ap, refl, subst}
 use Rattle.blink_live.specs.declared.live.Live.{Live}
-use Rattle.blink_live.specs.{HasDealt, IsDealt}
+use Rattle.blink_live.specs.{HasDealt, IsDealt, NoneIsTaken, taken_of}
 use Rattle.blink_c.specs.declared.pass_owner.PassOwner.{PassOwner}
 use Rattle.blink_c.specs.Passes.{table_of}
 use Rattle.blink_c.proofs.DealFaults.{deal_fault}
@@ -13,6 +13,8 @@ returns-in-Ok-deal-clause-dealt c =
     record {
       pass = c.in-Ok-deal.pass;
       free = refl;
+      none_taken = subst (NoneIsTaken (taken_of c.args.self.now.keeper)) same_keys c.in-Ok-deal.ensures.free;
+      allowed = c.in-Ok-deal.ensures.allowed;
       one_table = ap (λ (owner : PassOwner). table_of owner) in_box ∙ c.in-Ok.ensures.table;
       one_number = ap (λ (owner : PassOwner). owner.number) in_box ∙ c.in-Ok.ensures.number;
       dealt = subst (λ (live : Live). IsDealt live c.args.self.now.keeper c.args.keys.now c.args.inserts c.args.deletes c.in-Ok-deal.pass) c.deref.ensures

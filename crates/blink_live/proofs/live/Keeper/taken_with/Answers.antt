@@ -1,6 +1,5 @@
 use Rattle.std.proofs.Common.{◌⊎◌, ◌↔◌, ℕ, List, Err, Vec, Global, ap, subst}
-use Rattle.std.specs.Prelude.{Contains, IsSorted}
-use Rattle.std.specs.Ordering.{nat_cmp}
+use Rattle.std.specs.Prelude.{Contains}
 use Rattle.std.specs.List.Sorted.{IsStrictlyIncreasing}
 use Rattle.blink_live.specs.Deals.{NoneIsTaken}
 use Rattle.blink_live.specs.Handles.{taken_of}
@@ -22,7 +21,7 @@ returns c =
 
 none_of : (c : goal.Then-not-lacks_allowance) → NoneIsTaken (taken_of c.args.self.now) c.args.keys.now
 none_of c =
-    let rises : IsStrictlyIncreasing c.in-Ok.all.items = subst IsStrictlyIncreasing c.deref-in-Ok.ensures.value (c.ascends.ensures.strictly c.if-ascends.true) in
+    let rises : IsStrictlyIncreasing c.in-Ok.all.items = subst IsStrictlyIncreasing c.deref-in-Ok.ensures.value (c.ascends.ensures c.if-ascends.true) in
     subst (λ (taken : List ℕ). NoneIsTaken taken c.args.keys.now) c.deref.ensures.value (none_twice c.deref.result.now c.args.keys.now c.in-Ok.all.items c.in-Ok.ensures.of_both rises)
 
 pub returns-then-not-lacks_allowance-clause-free : goal.returns-then-not-lacks_allowance-clause-free
@@ -37,4 +36,4 @@ pub returns-then-not-lacks_allowance-clause-taken : goal.returns-then-not-lacks_
 returns-then-not-lacks_allowance-clause-taken c key = (λ same. absurd (cc), λ first. absurd (none_of c first.place key first.is_taken))
 
 pub returns-then-not-lacks_allowance-clause-ascending : goal.returns-then-not-lacks_allowance-clause-ascending
-returns-then-not-lacks_allowance-clause-ascending c = subst (IsSorted nat_cmp) c.deref-in-Ok.ensures.value (c.ascends.ensures.sorted c.if-ascends.true)
+returns-then-not-lacks_allowance-clause-ascending c = subst IsStrictlyIncreasing c.deref-in-Ok.ensures.value (c.ascends.ensures c.if-ascends.true)

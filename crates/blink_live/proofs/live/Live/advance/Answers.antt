@@ -1,11 +1,11 @@
-use Rattle.std.proofs.Common.{ℕ, List, sym, subst, refl}
-use Rattle.std.specs.Prelude.{IsSorted}
-use Rattle.std.specs.Ordering.{nat_cmp}
+use Rattle.std.proofs.Common.{sym, subst, refl}
+use Rattle.std.specs.List.Sorted.{IsStrictlyIncreasing}
 use Rattle.blink_batch.specs.declared.Op.{Op}
 use Rattle.blink_batch.specs.{key_of}
 use Rattle.blink_live.specs.Pendings.{HasRest, op_of, pass_of}
 use Rattle.blink_live.specs.Updating.{IsUnderWay}
 use Rattle.blink_live.proofs.changed.PassesComeBack.{answers_by_share, is_changed, is_whole, knows_its_keys, own_of_may}
+use Rattle.blink_live.proofs.changed.LatchesAreLeft.{no_latch_waiting}
 use Rattle.blink_live.proofs.changed.UpdatesGoOn.{at_end}
 use Rattle.blink_live.proofs.live.Live.advance.Goals as goal
 
@@ -18,7 +18,7 @@ invariant_of-pass c =
     let ended = at_end c.args.self.now (op_of pending) (pass_of pending).seat c.take_steps.new.seat c.take_steps.new.machine c.take_steps.new.room c.in-Some.answer (c.take_steps.ensures.under_way (op_of pending) (pass_of pending).seat its_own.under_way) ends.0 ends.1 in
     let whole = is_whole (op_of pending) (pass_of pending) c.take_steps.new.seat c.in-Some.answer pending.now.keys.items pending.now.rows pending.now.pages its_own.under_way.can.updates rest.some_left ended rest.same_keys rest.rows_are rest.pages_are in record {
       keys_are = whole.keys_are;
-      ascending = subst (λ (keys : List ℕ). IsSorted nat_cmp keys) (sym rest.same_keys) (pass_of pending).ascending;
+      ascending = subst IsStrictlyIncreasing (sym rest.same_keys) (pass_of pending).ascending;
       rows_are = whole.rows_are;
       pages_are = whole.pages_are;
       in_order = whole.in_order;
@@ -65,6 +65,8 @@ returns-in-None-clause-goes_on c =
         its_own = its_own.its_own;
         under_way = subst (λ (op : Op). IsUnderWay c.args.self.now op (pass_of pending).seat c.take_steps.new.seat c.take_steps.new.machine c.take_steps.new.room) (sym same_op) now;
         rest = subst (λ (op : Op). HasRest op (pass_of pending) pending.now.keys.items pending.now.rows pending.now.pages) (sym same_op) its_own.rest;
+        waits = c.in-None.ensures.waits;
+        no_latch = no_latch_waiting c.take_steps.new.machine c.in-None.ensures.waits;
       };
       same_op = same_op;
       same_pass = refl;

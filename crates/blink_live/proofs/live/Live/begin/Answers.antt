@@ -4,20 +4,23 @@ use Rattle.blink_live.specs.declared.live.Live.{Live}
 use Rattle.blink_live.specs.declared.live.Pass.{Pass}
 use Rattle.blink_live.specs.declared.live.Pending.{Pending}
 use Rattle.blink_live.specs.Handles.{IsPassOf}
-use Rattle.blink_live.specs.Pendings.{HasBegun, HasRest}
+use Rattle.blink_live.specs.Pendings.{HasBegun, HasRest, IsWaiting}
 use Rattle.blink_live.specs.Updating.{IsUnderWay}
+use Rattle.blink_live.proofs.changed.LatchesAreLeft.{no_latch_waiting}
 use Rattle.blink_live.proofs.changed.PassesSetOut.{can_set_out}
 use Rattle.blink_live.proofs.table.RefusalsTold.{beside, no_refusal}
 use Rattle.blink_live.proofs.live.Live.begin.Goals as goal
 
 has_begun : (live : Live) (op : Op) (pass : Pass) (pending : Pending) → pending.begun.value ≡ pass → IsPassOf live pass → IsUnderWay live op pass.seat pending.now.seat pending.now.machine pending.now.room
-    → HasRest op pass pending.now.keys.items pending.now.rows pending.now.pages → HasBegun live op pass pending
-has_begun live op pass pending same_pass its_own under_way rest =
+    → HasRest op pass pending.now.keys.items pending.now.rows pending.now.pages → IsWaiting pending.now.machine → HasBegun live op pass pending
+has_begun live op pass pending same_pass its_own under_way rest waits =
     let same_op = under_way.updating.same_op in record {
       its_own = record {
         its_own = subst (IsPassOf live) (sym same_pass) its_own;
         under_way = subst (λ (x : Op × Pass). IsUnderWay live x.0 x.1.seat pending.now.seat pending.now.machine pending.now.room) (λ i. (sym same_op i, sym same_pass i)) under_way;
         rest = subst (λ (x : Op × Pass). HasRest x.0 x.1 pending.now.keys.items pending.now.rows pending.now.pages) (λ i. (sym same_op i, sym same_pass i)) rest;
+        waits = waits;
+        no_latch = no_latch_waiting pending.now.machine waits;
       };
       same_op = same_op;
       same_pass = same_pass;
@@ -60,11 +63,12 @@ set_out-requires-clause-may c =
 
 pub returns-clause-begun : goal.returns-clause-begun
 returns-clause-begun c = has_begun c.args.self.now c.args.op c.args.pass _ c.of-begun.ensures c.requires.its_own c.set_out.ensures.under_way record {
+  own_key = c.in_default.ensures.own_key;
   some_left = c.in_default.ensures.some_left;
   same_keys = refl;
   rows_are = c.next_of-room.ensures.rows;
   pages_are = c.next_of-room.ensures.pages;
-}
+} c.set_out.ensures.waits
 
 pub returns-clause-not_yours : goal.returns-clause-not_yours
 returns-clause-not_yours c = no_refusal _ _ (λ foreign. foreign c.in_default.ensures.own_key)

@@ -89,3 +89,10 @@ returns-in-Ok-clause-entries c =
     let tree = its_tree c.args.self (view_at_end c.args.keeper c.args.passes.items) words end in
     merges c.args.self c.args.keeper c.args.passes.items words c.from_rest.result end (sym c.args.keeper.taken_are)
     (subst (λ (store : PlainStore). IsMapOf store end.now) (sym c.from_rest.ensures) (c.in-Ok.ensures.entries end.now tree))
+
+pub returns-in-Ok-clause-pages : goal.returns-in-Ok-clause-pages
+returns-in-Ok-clause-pages c =
+    let some_number = c.args.self.some_number in
+    let few = c.in-Ok.ensures.few in
+    let same = ap (λ (store : PlainStore). length store.pages) c.from_rest.ensures in
+    omega (arith, some_number, few, same)

@@ -7,6 +7,7 @@ use Rattle.blink_live.specs.Handing.{AllAreYours, IsFirstForeign}
 use Rattle.blink_live.specs.Handles.{keys_of}
 use Rattle.blink_live.proofs.handed.HandedByKeys.{by_same_keys}
 use Rattle.blink_live.proofs.handed.KeysInList.{same_keys, same_refusal, yours_from}
+use Rattle.blink_live.proofs.live.Live.hand.Goals.{After-drop-handed}
 use Rattle.blink_live.proofs.live.Live.hand.Goals as goal
 
 pub hand_over-requires-clause-yours : goal.hand_over-requires-clause-yours
@@ -31,16 +32,19 @@ returns-then-has_all-clause-handed c =
     by_same_keys c.args.self.now c.args.from.now c.args.to.now c.deref-then-has_all.result.now keys c.hand_over.new.from c.hand_over.new.to
     (λ key. subst (λ (l : List ℕ). Contains l key ↔ Contains keys key) (sym c.deref-then-has_all.ensures.value) (same_keys keys c.in-Ok.handed.items c.in-Ok.ensures.handed key)) c.hand_over.ensures
 
-pub returns-then-has_all-clause-not_yours : goal.returns-then-has_all-clause-not_yours
-returns-then-has_all-clause-not_yours c key =
-    let rises : IsStrictlyIncreasing c.in-Ok.handed.items = subst IsStrictlyIncreasing c.deref-in-Ok.ensures.value (c.ascends.ensures.strictly c.if-ascends.true) in
-    let yours : AllAreYours (keys_of c.args.from.now) c.args.keys.now =
+-- each key of the list is the first pass's, and stands there once
+all_yours : (c : After-drop-handed) → AllAreYours (keys_of c.args.from.now) c.args.keys.now
+all_yours c =
+    let rises : IsStrictlyIncreasing c.in-Ok.handed.items = subst IsStrictlyIncreasing c.deref-in-Ok.ensures.value (c.ascends.ensures c.if-ascends.true) in
     yours_from (keys_of c.args.from.now) c.args.keys.now c.in-Ok.handed.items c.in-Ok.ensures.handed rises
     (λ k has. subst (λ (l : List ℕ). Contains l k) c.deref-then-ascends.ensures.value
-    (c.has_all.ensures c.if-has_all.true k (subst (λ (l : List ℕ). Contains l k) (sym c.deref-then-ascends-2.ensures.value) has))) in (
-      λ same. absurd (cc),
-      λ first. absurd (yours first.place key first.is_foreign),
-    )
+    (c.has_all.ensures c.if-has_all.true k (subst (λ (l : List ℕ). Contains l k) (sym c.deref-then-ascends-2.ensures.value) has)))
+
+pub returns-then-has_all-clause-yours : goal.returns-then-has_all-clause-yours
+returns-then-has_all-clause-yours c = all_yours c
+
+pub returns-then-has_all-clause-not_yours : goal.returns-then-has_all-clause-not_yours
+returns-then-has_all-clause-not_yours c key = (λ same. absurd (cc), λ first. absurd (all_yours c first.place key first.is_foreign))
 
 pub returns-clause-not_yours : goal.returns-clause-not_yours
 returns-clause-not_yours c key =

@@ -13,6 +13,7 @@ use Rattle.blink_live.specs.Deals.{LacksAllowance, rows_for}
 use Rattle.blink_live.specs.Views.{SeatState, SawItsOwn, span, changes_of, deals_one, entries_of}
 use Rattle.blink_live.proofs.dealt.KeeperCanDeal.{enough_inserts, enough_deletes, keeper_can_deal}
 use Rattle.blink_live.proofs.dealt.ChangesLeft.{dealt_for_changes, enough_pages, enough_rows, rest_for_changes}
+use Rattle.blink_live.proofs.dealt.KeysInOrder.{rises_in_order}
 use Rattle.blink_live.proofs.dealt.KeysOfShare.{new_saw_its_own, same_changes, same_entries}
 use Rattle.blink_live.proofs.live.Live.hand_out.Goals as goal
 
@@ -127,7 +128,7 @@ invariant_of-result c =
     let rows = c.first_of.ensures.first ∙ λ i. span keeper.rows.next (keeper.rows.next + (44 * c.from.ensures i + c.from-2.ensures i)) in
     let pages = c.first_of-2.ensures.first ∙ λ i. span keeper.pages.next (keeper.pages.next + 22 * c.from-page_count.ensures i) in record {
       keys_are = sym c.deref.ensures.value ∙ sym (ap (λ (me : SeatState). me.0.share.keys) right);
-      ascending = c.sort_unstable.ensures.sorted;
+      ascending = rises_in_order _ c.args.keys.items c.sort_unstable.new.self.items c.requires.free c.sort_unstable.ensures.permutation c.sort_unstable.ensures.sorted;
       rows_are = c.first_of.ensures.first ∙ (ap (λ (s : Span). span s.next (s.next + (44 * c.from.result + c.from-2.result))) keeper.rows_are ∙ sym (ap (λ (me : SeatState). me.0.rows) right));
       pages_are = c.first_of-2.ensures.first ∙ (ap (λ (s : Span). span s.next (s.next + 22 * c.from-page_count.result)) keeper.pages_are ∙ sym (ap (λ (me : SeatState). me.0.pages) right));
       in_order = (in_order keeper.rows.next _ c.first_of.result c.first_of.ensures.first, in_order keeper.pages.next _ c.first_of-2.result c.first_of-2.ensures.first);

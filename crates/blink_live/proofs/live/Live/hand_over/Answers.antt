@@ -3,7 +3,7 @@ use Rattle.std.specs.Prelude.{Contains}
 use Rattle.blink_live.specs.Handles.{keys_of}
 use Rattle.blink_live.specs.Retiring.{without}
 use Rattle.blink_live.specs.Views.{SeatState}
-use Rattle.blink_live.proofs.handed.PassesThen.{changes_left, entries_left, giver_saw, knows_changes, knows_state, other_changes, other_state, rest_are, saw_all, saw_own, saw_theirs, took_changes, took_state}
+use Rattle.blink_live.proofs.handed.PassesThen.{changes_left, entries_left, giver_changes, giver_saw, giver_state, knows_changes, knows_state, other_changes, other_state, rest_are, saw_all, saw_own, saw_prefix, saw_theirs, took_changes, took_state}
 use Rattle.blink_live.proofs.retired.KeysWithout.{stays}
 use Rattle.blink_live.proofs.live.Live.hand_over.Goals as goal
 
@@ -63,6 +63,10 @@ returns c =
         share = entries_left live from to its keys all rest giver taker moved rest_is;
         changes = changes_left live from to its keys all rest giver taker moved rest_is;
         same_seen = ap (λ (x : SeatState). x.0.seen) moved.gave;
+        knows = record {
+          state = giver_state live from to its keys all rest giver taker moved rest_is c.requires.from_its_own;
+          changes = giver_changes live from to its keys all rest giver taker moved rest_is;
+        };
         same_rows = refl;
         same_pages = refl;
       };
@@ -82,4 +86,5 @@ returns c =
         same_pages = refl;
       };
       saw_all = saw_all live from to its keys all rest giver taker moved rest_is;
+      saw_prefix = λ key has. saw_prefix live from to its keys all rest giver taker moved rest_is key (subst (λ (l : List ℕ). Contains l key) (sym c.deref.ensures.value) has);
     }

@@ -3,7 +3,7 @@ use Rattle.std.specs.Prelude.{Contains}
 use mathlib.Core.List.{IsPrefix}
 use Rattle.blink_live.specs.declared.view.Change.{Change}
 use Rattle.blink_live.specs.Parcels.{parcel_of, parts_with, receives}
-use Rattle.blink_live.specs.Views.{SeatState, KnowsItsOwn, forgets_told, hears, learns_of_others, note_of}
+use Rattle.blink_live.specs.Views.{SeatState, KnowsItsOwn, SawItsOwn, forgets_told, hears, learns_of_others, note_of}
 use Rattle.blink_live.proofs.told.OwnersAreSeen.{no_more_of}
 use Rattle.blink_live.proofs.live.Live.move_keys.Goals as goal
 
@@ -34,6 +34,7 @@ returns-clause-moved c =
       knows_own = subst (λ (x : SeatState). KnowsItsOwn x.0) (sym c.pass_on.ensures.from.2) up.knows_own;
       no_more = no_more_of seen c.look_back.new.seat.me.0.share c.pass_on.new.to.me.0 (ap (λ (x : SeatState). x.0.told) told ∙ ap (λ (x : SeatState). x.0.seen) up.is)
           (sym (ap (λ (x : SeatState). x.0.share) back.is)) back.no_more;
+      giver_knows = λ saw. back.knows_own (subst (λ (x : SeatState). SawItsOwn x.0) (sym told) saw);
     }
 
 pub receive-requires-clause-picked : goal.receive-requires-clause-picked

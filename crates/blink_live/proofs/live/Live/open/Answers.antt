@@ -1,6 +1,5 @@
 use Rattle.std.proofs.Common.{ℕ, ◌≡◌, ◌+◌, ◌*◌, ◌<◌, ◌≤◌, List, [], length, ap, sym, ◌∙◌, subst, arith}
-use Rattle.std.specs.Ordering.{nat_cmp}
-use Rattle.std.specs.Prelude.{IsSorted}
+use Rattle.std.specs.List.Sorted.{IsStrictlyIncreasing}
 use Rattle.atomic_table.specs.Table.{opening}
 use Rattle.blink_rest.specs.{IsStoreAtRest}
 use Rattle.blink_rows.specs.{PlainCounts, AreBounded}
@@ -46,8 +45,8 @@ invariant_of-live c =
       width = let wide : c.in-Ok-of_words.table.shared.table_id.words ≡ word_count c.of-counts.result = made.0 ∙ (ap length c.deref.ensures.value ∙ c.in-Ok.ensures.width) in omega (arith, wide);
     }
 
-none_in_order : (keys : List ℕ) → keys ≡ [] → IsSorted nat_cmp keys
-none_in_order keys is = subst (IsSorted nat_cmp) (sym is) (λ k d least inside. absurd (omega (arith, inside)))
+none_in_order : (keys : List ℕ) → keys ≡ [] → IsStrictlyIncreasing keys
+none_in_order keys is = subst IsStrictlyIncreasing (sym is) (λ k inside. absurd (omega (arith, inside)))
 
 pub invariant_of-keeper : goal.invariant_of-keeper
 invariant_of-keeper c =

@@ -2,8 +2,12 @@ use Rattle.std.proofs.Common.{ℕ}
 use Rattle.atomic_table.specs.declared.Seat.{Seat}
 use Rattle.blink_batch.specs.declared.Op.{Op}
 use Rattle.blink_live.specs.declared.view.View.{View}
+use Rattle.blink_live.specs.Pendings.{IsWaiting}
 use Rattle.blink_live.specs.Updating.{IsUnderWay}
 use Rattle.blink_live.proofs.live.Live.take_steps.Given as goal
 
 abbrev pub invariant-loop : goal.invariant-loop
-invariant-loop l = (op : Op) (first : Seat ℕ View) → IsUnderWay l.self op first l.fn.seat l.fn.machine l.fn.room → IsUnderWay l.self op first l.seat l.machine l.room
+invariant-loop l = record {
+  under_way : (op : Op) (first : Seat ℕ View) → IsUnderWay l.self op first l.fn.seat l.fn.machine l.fn.room → IsUnderWay l.self op first l.seat l.machine l.room;
+  waits : IsWaiting l.machine;
+}

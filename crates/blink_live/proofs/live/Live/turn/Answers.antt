@@ -1,4 +1,6 @@
-use Rattle.std.proofs.Common.{sym, ◌∙◌, arith}
+use Rattle.std.proofs.Common.{sym, ◌∙◌, subst, arith}
+use Rattle.blink_machine.specs.Needs.{TellsNothing}
+use Rattle.blink_live.proofs.changed.LatchesAreLeft.{nearer_done, nearer_page, nearer_prime, no_latch_wanted, stays_unless}
 use Rattle.blink_live.proofs.changed.UpdatesGoOn as on
 use Rattle.blink_live.proofs.live.Live.turn.Goals as goal
 
@@ -119,25 +121,51 @@ overflow_add-room-in-WritePrime c =
     omega (arith, left)
 
 pub returns-in-ReadPrime : goal.returns-in-ReadPrime
-returns-in-ReadPrime c = record { under_way = λ op first is. on.after_prime is c.read_prime.ensures.same c.read_prime.ensures.read.0 c.read_prime.ensures.read.1 }
+returns-in-ReadPrime c = record {
+  under_way = λ op first is. on.after_prime is c.read_prime.ensures.same c.read_prime.ensures.read.0 c.read_prime.ensures.read.1;
+  waits = c.read_prime.ensures.waits;
+  nearer = nearer_prime _ _ _ c.read_prime.ensures.read.1.asks;
+}
 
 pub returns-in-ReadPage : goal.returns-in-ReadPage
-returns-in-ReadPage c = record { under_way = λ op first is. on.after_page is c.read_latched.ensures.same c.in-ReadPage.number c.read_latched.ensures.read.0 c.read_latched.ensures.read.1 }
+returns-in-ReadPage c = record {
+  under_way = λ op first is. on.after_page is c.read_latched.ensures.same c.in-ReadPage.number c.read_latched.ensures.read.0 c.read_latched.ensures.read.1;
+  waits = tt;
+  nearer = nearer_page _ _ _ _ c.read_latched.ensures.read.1.sees;
+}
 
 pub returns-in-Latch : goal.returns-in-Latch
 returns-in-Latch c = record {
   under_way = λ op first is.
       on.after_try is c.try_latch.ensures.same c.try_latch.result c.in-Latch.number (sym c.need.ensures ∙ c.in-Latch.is) c.try_latch.ensures.moved c.try_latch.ensures.got c.try_latch.ensures.lost;
+  waits = stays_unless c.try_latch.result c.args.machine.now c.try_latch.new.machine (λ lost. (c.try_latch.ensures.lost lost).0);
+  nearer = λ held. absurd (held (no_latch_wanted c.args.machine.now c.in-Latch.number (sym c.need.ensures ∙ c.in-Latch.is)));
 }
 
 pub returns-in-Unlatch : goal.returns-in-Unlatch
-returns-in-Unlatch c = record { under_way = λ op first is. on.after_unlatch is c.let_go.ensures.same c.in-Unlatch.number (sym c.need.ensures ∙ c.in-Unlatch.is) c.let_go.ensures.machine c.let_go.ensures.gone }
+returns-in-Unlatch c = record {
+  under_way = λ op first is. on.after_unlatch is c.let_go.ensures.same c.in-Unlatch.number (sym c.need.ensures ∙ c.in-Unlatch.is) c.let_go.ensures.machine c.let_go.ensures.gone;
+  waits = tt;
+  nearer = nearer_done _ _ 0 (subst TellsNothing (sym (sym c.need.ensures ∙ c.in-Unlatch.is)) tt) c.let_go.ensures.machine;
+}
 
 pub returns-in-WritePage : goal.returns-in-WritePage
-returns-in-WritePage c = record { under_way = λ op first is. on.after_write_page is c.write_page.ensures.same c.in-WritePage.number c.write_page.ensures.machine c.write_page.ensures.published }
+returns-in-WritePage c = record {
+  under_way = λ op first is. on.after_write_page is c.write_page.ensures.same c.in-WritePage.number c.write_page.ensures.machine c.write_page.ensures.published;
+  waits = tt;
+  nearer = nearer_done _ _ 0 (subst TellsNothing (sym (sym c.need.ensures ∙ c.in-WritePage.is)) tt) c.write_page.ensures.machine;
+}
 
 pub returns-in-WritePrime : goal.returns-in-WritePrime
-returns-in-WritePrime c = record { under_way = λ op first is. on.after_write_prime is c.write_prime.ensures.same c.write_prime.ensures.machine c.write_prime.ensures.published }
+returns-in-WritePrime c = record {
+  under_way = λ op first is. on.after_write_prime is c.write_prime.ensures.same c.write_prime.ensures.machine c.write_prime.ensures.published;
+  waits = tt;
+  nearer = nearer_done _ _ 0 (subst TellsNothing (sym (sym c.need.ensures ∙ c.in-WritePrime.is)) tt) c.write_prime.ensures.machine;
+}
 
 pub returns-in-WriteNew : goal.returns-in-WriteNew
-returns-in-WriteNew c = record { under_way = λ op first is. on.after_write_new is c.write_new.ensures.same (sym c.need.ensures ∙ c.in-WriteNew.is) c.write_new.ensures.machine c.write_new.ensures.published }
+returns-in-WriteNew c = record {
+  under_way = λ op first is. on.after_write_new is c.write_new.ensures.same (sym c.need.ensures ∙ c.in-WriteNew.is) c.write_new.ensures.machine c.write_new.ensures.published;
+  waits = tt;
+  nearer = nearer_done _ _ _ (subst TellsNothing (sym (sym c.need.ensures ∙ c.in-WriteNew.is)) tt) c.write_new.ensures.machine;
+}

@@ -1,0 +1,51 @@
+#!/bin/sh
+# Runs what links the library as its users do: the C tests, the example programs in C and in Rust, and the tests of rust/blink, over the
+# archive that the gate has proved. The tests of memory and of threads by valgrind are left to `./libblink --test`. It says nothing where
+# all is well. Without a C compiler or without cargo what needs it isn't run, and it says so.
+set -eu
+top=$(cd "$(dirname "$0")/.." && pwd)
+cc=${CC:-cc}
+work=$(mktemp -d)
+trap 'rm -rf "$work"' EXIT
+
+# Runs a command that has to end well. What it writes is shown only where it doesn't.
+ends_well() {
+    if ! timeout 300 "$@" >"$work/told" 2>&1; then
+        cat "$work/told" >&2
+        echo "$0: failed: $*" >&2
+        exit 1
+    fi
+}
+
+# Runs a program whose output has to end with this line.
+ends_with() {
+    line=$1
+    shift
+    ends_well "$@"
+    if [ "$(tail -n 1 "$work/told")" != "$line" ]; then
+        echo "$0: $*: '$(tail -n 1 "$work/told")' in place of '$line'" >&2
+        exit 1
+    fi
+}
+
+if ! command -v "$cc" >/dev/null 2>&1; then
+    echo "$0: no C compiler, so the library wasn't linked" >&2
+    exit 0
+fi
+printf 'The cat sees the dog, the dog sees a cat.\n' >"$work/text"
+
+ends_well "$top/libblink" --linked
+ends_well sh "$top/crates/blink_c/link/test.sh" --quick
+for program in word_count csv_index; do
+    ends_well "$cc" -std=c11 -O2 -pthread -I "$top/include" "$top/examples/c/$program.c" "$top/out/libblink.a" -o "$work/$program"
+done
+ends_with '10 words, 5 different, "the" 3 times' "$work/word_count" "$work/text"
+ends_with '5: insert,5,50' "$work/csv_index" "$top/examples/first.csv" 5
+
+if ! command -v cargo >/dev/null 2>&1; then
+    echo "$0: no cargo, so rust/blink wasn't tried" >&2
+    exit 0
+fi
+export CARGO_TARGET_DIR="$work/cargo" CARGO_NET_OFFLINE=true
+ends_well cargo test --quiet --manifest-path "$top/rust/blink/Cargo.toml"
+ends_with "    1 a" cargo run --quiet --manifest-path "$top/examples/rust/Cargo.toml" -- "$work/text"
