@@ -7,6 +7,7 @@ ghost use Rattle.blink_batch.specs.declared.Op.TheVariants.{Delete, Insert, Repl
 ghost use Rattle.blink_machine.specs.{IsUpdate};
 ghost use Rattle.blink_machine.specs.declared.machine.State.TheVariants.{Ended};
 ghost use Rattle.blink_live.specs.declared.view.View.{View};
+ghost use Rattle.blink_live.specs.Pendings.{IsWaiting};
 ghost use Rattle.blink_live.specs.Updating.{IsUnderWay};
 ghost use Rattle.blink_live.specs.Views.{pages_of, rows_of, span};
 ghost use Rattle.blink_map.specs.Changing.{HasChanged, HasDrawn};
@@ -245,6 +246,7 @@ fn to_end<R: Wait>(
 ) -> Answer
     requires under_way { (op : Op) × (first : Seat ℕ View)
         × IsUnderWay live.now op first seat.old machine.old room.old }
+    requires waits { IsWaiting machine.old }
     ensures under_way { (op : Op) (first : Seat ℕ View)
         → IsUnderWay live.now op first seat.old machine.old room.old
         → IsUnderWay live.now op first seat.new machine.new room.new }
