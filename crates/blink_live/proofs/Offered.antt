@@ -19,3 +19,5 @@ pub use Rattle.blink_live.proofs.changed.PendingsAreSent.{pending_send}
 pub use Rattle.blink_live.proofs.changed.UpdatesGoOn.{IsAfterCall, after_call, at_end, is_its_seat}
 -- of two prefixes of one list one is a prefix of the other
 pub use Rattle.blink_live.proofs.told.PrefixesOfOneList.{prefixes_of_one_list}
+-- the state that more changes leave of a key
+pub use Rattle.blink_live.proofs.changed.ChangesAreTheMaps.{after-append}

@@ -1,5 +1,5 @@
 -- An update after its descent: it changes its leaf, and goes on to its end.
-use Rattle.std.specs.Prelude.{◌≡◌, ℕ, ◌+◌, ◌-◌, ◌≤◌, Some, None, IsSome, ◌≢◌, ◌<◌, Contains}
+use Rattle.std.specs.Prelude.{◌≡◌, ℕ, ◌+◌, ◌-◌, ◌≤◌, Some, None, IsSome, ◌≢◌, ◌<◌}
 use mathlib.Core.List.{IsPrefix}
 use Rattle.atomic_table.specs.declared.Seat.{Seat}
 use Rattle.blink_batch.specs.{FitsWords, key_of}

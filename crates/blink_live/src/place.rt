@@ -151,6 +151,9 @@ impl Live {
     }
 }
 
+// A draw takes at most this part of what the pool has left, so that one session leaves some for others.
+const SHARES: u64 = 8;
+
 // Where a draw from `next` on ends, of at least `least` numbers and at most `most`, before `end`; `None`, if there are fewer.
 fn end_of(next: u64, end: u64, least: u64, most: u64) -> Option<u64>
     requires { (1 ≤ least) × (least ≤ most) }
@@ -160,5 +163,6 @@ fn end_of(next: u64, end: u64, least: u64, most: u64) -> Option<u64>
     if left < least {
         return None;
     }
-    Some(next + most.min(left))
+    let share = least.max(left / SHARES);
+    Some(next + most.min(share))
 }

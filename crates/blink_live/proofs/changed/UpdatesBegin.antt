@@ -12,7 +12,7 @@ use Rattle.blink_live.specs.declared.room.Room.{Room}
 use Rattle.blink_live.specs.declared.view.Call.{Call}
 use Rattle.blink_live.specs.declared.view.View.{View}
 use Rattle.blink_live.specs.Seats.{HasRead, HasSameNumber, IsAtLeaf, IsPassSeat, found, wants as wants_leaf}
-use Rattle.blink_live.specs.Updating.{SameBesideCall, not_yet, HasLeft, IsUpdating, IsPastDescent, CanUpdate, IsUnderWay, room_in, room_for}
+use Rattle.blink_live.specs.Updating.{SameBesideCall, not_yet, HasLeft, IsUpdating, IsPastDescent, CanUpdate, IsUnderWay, room_in}
 use Rattle.blink_live.specs.Views.{SeatState, CanBegin, MayChange, SameBesideReads, latch_in, rows_of, pages_of, for_call, known_of}
 use Rattle.blink_live.specs.Pendings.{IsWaiting, for_latch}
 use Rattle.blink_live.specs.Words.{AreNumbersIn, AreRowsIn}
