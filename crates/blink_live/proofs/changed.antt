@@ -12,3 +12,6 @@ pub mod LatchesAreLeft
 pub mod PassesComeBack
 pub mod PassesSetOut
 pub mod PendingsAreSent
+pub mod PlacesAreMarked
+pub mod RoomComesBack
+pub mod PoolIsDrawn

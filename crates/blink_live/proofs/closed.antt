@@ -3,3 +3,5 @@ pub mod AllBack
 pub mod TableAtTheEnd
 pub mod SharesComeBack
 pub mod EntriesOfMerge
+pub mod CommonTableAtTheEnd
+pub mod EntriesOfStore

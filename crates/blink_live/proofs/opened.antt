@@ -1,3 +1,4 @@
 pub mod RowIsStored
 pub mod RowsAreLaid
+pub mod PlacesAreLaid
 pub mod OpeningIsTable

@@ -12,3 +12,4 @@ pub mod OthersKnowTheSame
 pub mod StoresKeepTable
 pub mod SharesAreKnown
 pub mod RefusalsTold
+pub mod PoolStays

@@ -3,7 +3,8 @@ use Rattle.std.specs.Prelude.{◌≡◌, ◌≢◌, ◌⊎◌, ℕ, suc, ◌+◌
 use mathlib.Core.List.{IsPrefix}
 use Rattle.atomic_table.specs.Table.{Step}
 use Rattle.blink_batch.specs.declared.Op.{Op}
-use Rattle.blink_batch.specs.{answer_at, answer_of, key_of, pointer_of}
+use Rattle.blink_batch.specs.declared.Answer.{Answer}
+use Rattle.blink_batch.specs.{answer_at, key_of, pointer_of}
 use Rattle.blink_page.specs.{IsPageNumber, PlainPage, IsLawfulPage}
 use Rattle.blink_page.specs.declared.limits.TheConstants.{LEVELS, MAX_FAN}
 use Rattle.blink_rows.specs.{page_words, prime_words}
@@ -18,8 +19,8 @@ use Rattle.blink_live.specs.declared.view.Plan.{Plan}
 use Rattle.blink_live.specs.declared.view.Role.TheVariants.{Keeper}
 use Rattle.blink_live.specs.declared.view.Share.{Share}
 use Rattle.blink_live.specs.declared.view.View.{View}
-use Rattle.blink_live.specs.Changes.{after, states_of, Learns}
-use Rattle.blink_live.specs.Views.{SeatState, KnowsItsOwn, SawItsOwn, ShowsNoMore, for_call, going_on, stage_word, changed_by, publishes, reading, forgets_told, learns_of_others, span}
+use Rattle.blink_live.specs.Changes.{after, changes_made, states_of, Learns}
+use Rattle.blink_live.specs.Views.{SeatState, KnowsItsOwn, ShowsNoMore, for_call, going_on, has_pages, has_rows, is_busy, stage_word, changed_by, publishes, reading, forgets_told, learns_of_others, span, SawItsOwn}
 use Rattle.blink_live.specs.Words.{AreNumbersIn, AreRowsIn, IsRowNumber, row_start}
 
 -- the page of this number has a page word
@@ -183,6 +184,23 @@ tries_latch st me found then = (m : PlainMachine) (number : ℕ) → me.0.operat
 abbrev pub lets_go : Step ℕ → SeatState → ℕ → SeatState → Type 0
 lets_go st me found then = (m : PlainMachine) (number : ℕ) → me.0.operation ≡ Some m → NeedsUnlatch m number → st.word ≡ me.0.plan.counts.numbers + number → GoesOn (unlatch number) m me then
 
+-- ---- the word of a session's place
+
+abbrev pub marks_place : Step ℕ → SeatState → ℕ → SeatState → Type 0
+marks_place st me found then = then ≡ (is_busy me.0 st.first, me.1)
+
+-- ---- a word of the pool, where a number of it becomes a greater one: the seat has the rows, or page numbers, between
+
+pub record Draws (drawn : View) (old : ℕ) (me : SeatState) (found : ℕ) (then : SeatState) : Type 0 where
+  pub got : found ≡ old → then ≡ (drawn, me.1)
+  pub lost : found ≢ old → then ≡ me
+
+abbrev pub draws_rows : Step ℕ → SeatState → ℕ → SeatState → Type 0
+draws_rows st me found then = Draws (has_rows me.0 (span st.first st.second)) st.first me found then
+
+abbrev pub draws_pages : Step ℕ → SeatState → ℕ → SeatState → Type 0
+draws_pages st me found then = Draws (has_pages me.0 (span st.first st.second)) st.first me found then
+
 -- ---- a word of the first row that the seat's call may use
 
 abbrev pub stores_word : Step ℕ → SeatState → ℕ → SeatState → Type 0
@@ -190,11 +208,26 @@ stores_word st me found then = (place : ℕ) → place < ROW_WORDS → st.word �
 
 -- ---- a page word, which names the first row that the seat's call may use
 
--- the step decides the operation, which answers by the share and changes the share as it changes a map; or the operation was
--- decided before, and the share stays
-pub data Decided (m after : PlainMachine) (before share : Share) : Type 0 where
-  deciding : m.answer ≡ None → after.answer ≡ Some (answer_of before.entries m.op) → share ≡ changed_by m.op before → Decided m after before share
-  other : after.answer ≡ m.answer → share ≡ before → Decided m after before share
+-- a key's state after these changes
+abbrev pub state_after : View → List Change → ℕ → Option ℕ
+state_after v changes key = after (pointer_of v.plan.opening) changes key
+
+-- an operation of this seat has this answer, by what some changes leave of its key. They go on from all that the seat had seen.
+-- The operation's own change follows them at once, and the seat has seen both now. If the key is one of the seat's own, its share
+-- says what they leave, and changes as the operation changes a map
+pub record AnswersInOrder (op : Op) (v : View) (answer : Option Answer) (share : Share) (seen : List Change) : Type 0 where
+  pub before : List Change
+  pub saw : IsPrefix v.seen before
+  pub answers : answer ≡ Some (answer_at op (state_after v before (key_of op)))
+  pub goes_on : IsPrefix (before ++ changes_made op (state_after v before (key_of op))) seen
+  pub keys : share.keys ≡ v.share.keys
+  pub changes : share.changes ≡ v.share.changes ++ changes_made op (state_after v before (key_of op))
+  pub own : Contains v.share.keys (key_of op) → (state_after v before (key_of op) ≡ pointer_of v.share.entries (key_of op)) × (share ≡ changed_by op v.share)
+
+-- the step decides the operation; or the operation was decided before, and the share stays
+pub data Decided (m after : PlainMachine) (v : View) (share : Share) (seen : List Change) : Type 0 where
+  deciding : m.answer ≡ None → AnswersInOrder m.op v after.answer share seen → Decided m after v share seen
+  other : after.answer ≡ m.answer → share ≡ v.share → Decided m after v share seen
 
 -- the seat has seen all changes so far, and then the change that the step makes of the share, if it makes one
 pub record EndsWithOwn (v : View) (share : Share) (seen : List Change) : Type 0 where
@@ -211,7 +244,7 @@ pub record Publishes (kind : Kind) (pages : Span) (m after : PlainMachine) (me t
   pub seen : List Change
   pub is : then ≡ (publishes me.0 after way pages share seen, me.1)
   pub learns : Learns me.0 seen
-  pub decided : Decided m after me.0.share share
+  pub decided : Decided m after me.0 share seen
   pub next : CanGoOn me.0.plan after
   pub uses : UsesUp m (Moved kind) after
   pub answers_at_end : after.state ≡ Ended → IsSome after.answer

@@ -54,3 +54,5 @@ pub mod Laying
 pub mod Gathered
 pub mod ToCome
 pub mod Renumbered
+pub mod GivingBack
+pub mod Common

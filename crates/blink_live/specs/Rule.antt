@@ -1,6 +1,6 @@
 -- The rule of the table: between any two atomic steps the words and the views of the seats together represent a tree state for
 -- which the invariant holds.
-use Rattle.std.specs.Prelude.{◌≡◌, ℕ, suc, ◌+◌, ◌-◌, ◌<◌, ◌≤◌, Option, Some, None, List, [], ◌∷◌, length, All, Contains, slice_index, ⊤}
+use Rattle.std.specs.Prelude.{◌≡◌, ℕ, suc, ◌+◌, ◌*◌, ◌<◌, ◌≤◌, Option, Some, None, List, [], ◌∷◌, length, All, Contains, slice_index, ⊤}
 use mathlib.Core.Option.{some}
 use mathlib.Core.List.{IsPrefix}
 use lib.ListN.{get_elem?}
@@ -22,8 +22,8 @@ use Rattle.blink_live.specs.declared.view.Role.TheVariants.{Keeper, Pass, Spent}
 use Rattle.blink_live.specs.declared.view.Share.{Share}
 use Rattle.blink_live.specs.declared.view.View.{View}
 use Rattle.blink_live.specs.Changes.{after, states_of}
-use Rattle.blink_live.specs.Views.{span}
-use Rattle.blink_live.specs.Words.{word_count, IsRowNumber, RowIs}
+use Rattle.blink_live.specs.Views.{IsCommon, IsOwned, latch_number_by, span}
+use Rattle.blink_live.specs.Words.{word_count, place_word, pool_page, pool_row, IsRowNumber, RowIs}
 
 -- ---- owners: 0 for nobody, and else a seat's number plus 1
 
@@ -36,6 +36,8 @@ pub record Owners : Type 0 where
   pub key : ℕ → ℕ
   -- the number that a seat puts into a latch word
   pub latch_number : ℕ → ℕ
+  -- of the places of sessions
+  pub place : ℕ → ℕ
 
 -- the row is published: nobody stores to it any more
 abbrev pub IsPublished : Plan → Owners → ℕ → Type 0
@@ -92,10 +94,10 @@ pub record IsOwnKey (plan : Plan) (owners : Owners) (log : List Change) (owner :
 abbrev pub IsShare : Plan → Owners → List Change → ℕ → Share → Type 0
 IsShare plan owners log owner share = (key : ℕ) → Contains share.keys key → IsOwnKey plan owners log owner share key
 
--- nobody owns the key, and the keeper has seen all its changes
+-- nobody owns the key, and where passes own keys, the keeper has seen all its changes
 pub record IsFree (owners : Owners) (log : List Change) (v : View) (key : ℕ) : Type 0 where
   pub own : owners.key key ≡ 0
-  pub saw_all : states_of key v.seen ≡ states_of key log
+  pub saw_all : IsOwned v.plan → states_of key v.seen ≡ states_of key log
 
 -- a seat by its role: the keeper's seat is the first, the keys that it hasn't dealt to a pass that is out are free, and the shares
 -- that it took back when the table closes are its own; only a pass has an operation
@@ -103,8 +105,30 @@ abbrev pub IsInRole : Plan → Owners → List Change → ℕ → View → Role 
 IsInRole plan owners log seat v (Keeper dealt back) =
     (seat ≡ 0) × (v.operation ≡ None) × ((key : ℕ) → ¬ Contains v.taken key → IsFree owners log v key)
     × ((share : Share) → Contains v.back share → IsShare plan owners log 1 share)
-IsInRole plan owners log seat v Pass = (1 ≤ seat) × (owners.latch_number seat ≡ v.rows.stop - 1)
+IsInRole plan owners log seat v Pass = (1 ≤ seat) × (owners.latch_number seat ≡ latch_number_by v)
 IsInRole plan owners log seat v Spent = v.operation ≡ None
+
+-- in a common table a pass's seat is a session's, and has a place: the word of the place is as the session knows it, and isn't 0
+-- while an operation is under way
+pub record HasPlace (plan : Plan) (owners : Owners) (words : List ℕ) (seat : ℕ) (v : View) : Type 0 where
+  pub in_range : v.place < plan.places
+  pub own : owners.place v.place ≡ suc seat
+  pub word : slice_index words (place_word plan.counts v.place) ≡ v.busy
+  pub busy : (m : PlainMachine) → v.operation ≡ Some m → 1 ≤ v.busy
+
+-- the seat has no rows and no page numbers
+abbrev pub HasNothing : View → Type 0
+HasNothing v = (v.rows.stop ≤ v.rows.next) × (v.pages.stop ≤ v.pages.next) × (v.call.rows.stop ≤ v.call.rows.next) × (v.call.pages.stop ≤ v.call.pages.next)
+
+-- the rows and the page numbers from those on that the pool's words say are the pool's: they have the host's owner, and the host
+-- has none of its own
+pub record HasPool (plan : Plan) (owners : Owners) (words : List ℕ) (tree_state : TreeState) : Type 0 where
+  pub rows : HasRows plan owners words (suc 0) (span (slice_index words (pool_row plan.counts)) (plan.counts.rows + 1))
+  pub pages : HasNumbers plan owners tree_state (suc 0) (span (slice_index words (pool_page plan.counts)) plan.counts.numbers)
+
+-- nobody has the places from `first` on, and their words are 0
+abbrev pub ArePlacesLeft : Plan → Owners → List ℕ → ℕ → Type 0
+ArePlacesLeft plan owners words first = (place : ℕ) → first ≤ place → (owners.place place ≡ 0) × (place < plan.places → slice_index words (place_word plan.counts place) ≡ 0)
 
 -- the descent bound of the seat's operation
 abbrev pub IsBoundedWay : TreeState → View → Type 0
@@ -123,6 +147,9 @@ pub record Knows (plan : Plan) (owners : Owners) (words : List ℕ) (tree_state 
   pub saw : IsPrefix v.seen log
   pub heard : IsPrefix v.told log
   pub in_role : IsInRole plan owners log seat v v.role
+  pub placed : IsCommon plan → v.role ≡ Pass → HasPlace plan owners words seat v
+  pub nothing : IsCommon plan → (dealt back : ℕ) → v.role ≡ Keeper dealt back → HasNothing v
+  pub places_left : (dealt back : ℕ) → v.role ≡ Keeper dealt back → ArePlacesLeft plan owners words dealt
 
 -- ---- the number of passes out
 
@@ -134,14 +161,14 @@ abbrev pub passes_in : List View → ℕ
 passes_in [] = 0
 passes_in (v ∷ rest) = pass_count v.role + passes_in rest
 
--- the first seat is the keeper's, and its count of passes is right
+-- the first seat is the keeper's, and where passes own keys, its count of passes is right
 pub record AreCounted (views : List View) : Type 0 where
   pub keeper : View
   pub dealt : ℕ
   pub back : ℕ
   pub first : get_elem? views 0 ≡ some keeper
   pub role : keeper.role ≡ Keeper dealt back
-  pub counted : passes_in views + back ≡ dealt
+  pub counted : IsOwned keeper.plan → passes_in views + back ≡ dealt
 
 -- ---- the whole
 
@@ -155,7 +182,7 @@ pub record IsTableAt (plan : Plan) (s : State ℕ View) (tree_state : TreeState)
   pub prime_numbers : All IsPageNumber tree_state.prime
   -- the words
   pub bounded : AreBounded plan.counts
-  pub width : length s.words ≡ word_count plan.counts
+  pub width : length s.words ≡ word_count plan.counts + 8 * plan.places
   pub prime : IsPublished plan owners (slice_index s.words 0) × RowIs plan.counts s.words (slice_index s.words 0) (prime_words tree_state.prime)
   pub pages : (number : ℕ) → 1 ≤ number → number < plan.counts.numbers → PageWordIs plan owners s.words (slice_index s.words number) (tree_state.pages number)
   pub no_other_page : (number : ℕ) → plan.counts.numbers ≤ number → tree_state.pages number ≡ None
@@ -165,6 +192,10 @@ pub record IsTableAt (plan : Plan) (s : State ℕ View) (tree_state : TreeState)
   -- the entries: the opening ones after the changes
   pub is_map : IsMapAt tree_state now
   pub kept : (key : ℕ) → pointer_of now key ≡ after (pointer_of plan.opening) log key
+  -- nobody owns a key of a common table
+  pub nobodys : IsCommon plan → (key : ℕ) → owners.key key ≡ 0
+  -- and it has a pool
+  pub pool : IsCommon plan → HasPool plan owners s.words tree_state
   -- the seats
   pub views : (seat : ℕ) (v : View) → get_elem? s.views seat ≡ some v → Knows plan owners s.words tree_state log seat v
   pub others_idle : (seat : ℕ) → length s.views ≤ seat → tree_state.machines seat ≡ None

@@ -1,8 +1,8 @@
 -- An update after its descent: it changes its leaf, and goes on to its end.
-use Rattle.std.specs.Prelude.{◌≡◌, ◌≢◌, ℕ, ◌+◌, ◌-◌, ◌<◌, ◌≤◌, Some, None, IsSome, Contains}
+use Rattle.std.specs.Prelude.{◌≡◌, ℕ, ◌+◌, ◌-◌, ◌≤◌, Some, None, IsSome, ◌≢◌, ◌<◌}
 use mathlib.Core.List.{IsPrefix}
 use Rattle.atomic_table.specs.declared.Seat.{Seat}
-use Rattle.blink_batch.specs.{FitsWords, answer_of, key_of}
+use Rattle.blink_batch.specs.{FitsWords, key_of}
 use Rattle.blink_batch.specs.declared.Answer.{Answer}
 use Rattle.blink_batch.specs.declared.Op.{Op}
 use Rattle.blink_machine.specs.declared.machine.State.{State}
@@ -12,15 +12,17 @@ use Rattle.blink_live.specs.declared.live.Live.{Live}
 use Rattle.blink_live.specs.declared.room.Room.{Room}
 use Rattle.blink_rows.specs.declared.span.Span.{Span}
 use Rattle.blink_live.specs.declared.view.Call.{Call}
-use Rattle.blink_live.specs.declared.view.Share.{Share}
 use Rattle.blink_live.specs.declared.view.View.{View}
-use Rattle.blink_live.specs.AtomicSteps.{CanGoOn}
+use Rattle.blink_live.specs.AtomicSteps.{AnswersInOrder, CanGoOn}
 use Rattle.blink_live.specs.Seats.{HasSameNumber, IsPassSeat}
-use Rattle.blink_live.specs.Views.{SeatState, KnowsItsOwn, CanBegin, for_call, no_words, changed_by, pages_of, rows_of, span}
+use Rattle.blink_live.specs.Views.{SeatState, KnowsItsOwn, CanBegin, MayChange, for_call, latch_number_by, no_words, pages_of, rows_of, span}
 use Rattle.blink_live.specs.Words.{AreNumbersIn, AreRowsIn}
 
--- what an operation may use of these rows and page numbers of its pass: the first of them; the pass's latch number is that of its
--- last row
+-- what an operation may use of its seat's rows and page numbers: the first of them
+abbrev pub room_in : Op → View → Room
+room_in op v = record { rows = span v.rows.next (v.rows.next + rows_of op); pages = span v.pages.next (v.pages.next + pages_of op); latch_number = latch_number_by v }
+
+-- and of a pass's, whose latch number is that of its last row
 abbrev pub room_for : Op → Span → Span → Room
 room_for op rows pages = record { rows = span rows.next (rows.next + rows_of op); pages = span pages.next (pages.next + pages_of op); latch_number = rows.stop - 1 }
 
@@ -28,11 +30,10 @@ room_for op rows pages = record { rows = span rows.next (rows.next + rows_of op)
 abbrev pub SameBesideCall : View → View → Type 0
 SameBesideCall v w = w ≡ record v { operation = w.operation; descent_bound = w.descent_bound; reads = w.reads; seen = w.seen; share = w.share; call = w.call }
 
--- the operation hasn't decided yet, and the share is as it was; or it answers by the share, which changes as the operation
--- changes a map
-pub data HasDecided (op : Op) (before share : Share) (m : PlainMachine) : Type 0 where
-  not_yet : m.answer ≡ None → share ≡ before → HasDecided op before share m
-  decided : m.answer ≡ Some (answer_of before.entries op) → share ≡ changed_by op before → HasDecided op before share m
+-- the operation hasn't decided yet, and the share is as it was; or it has decided once since the beginning
+pub data HasDecided (op : Op) (first v : View) (m : PlainMachine) : Type 0 where
+  not_yet : m.answer ≡ None → v.share ≡ first.share → HasDecided op first v m
+  decided : AnswersInOrder op first m.answer v.share v.seen → HasDecided op first v m
 
 -- the operation's descent is over
 abbrev pub IsPastDescent : State → Type 0
@@ -73,17 +74,16 @@ pub record IsUpdating (op : Op) (first me : SeatState) (m : PlainMachine) : Type
   pub same_op : m.op ≡ op
   pub next : CanGoOn first.0.plan m
   pub left : HasLeft first.0.call me.0.call m
-  pub has_decided : HasDecided op first.0.share me.0.share m
+  pub has_decided : HasDecided op first.0 me.0 m
   pub past_descent : IsPastDescent m.state
   pub answers_at_end : m.state ≡ Ended → IsSome m.answer
 
 -- the operation has ended with this answer. The seat is as it was at the beginning, except for the rows and page numbers that the
 -- operation takes, for its change of the share, and for what the seat has seen since
 pub record HasEnded (op : Op) (first seat : Seat ℕ View) (answer : Answer) : Type 0 where
-  pub answers : answer ≡ answer_of first.me.0.share.entries op
+  pub answers : AnswersInOrder op first.me.0 (Some answer) seat.me.0.share seat.me.0.seen
   pub idle : seat.me.0.operation ≡ None
   pub same_number : HasSameNumber first seat
-  pub share : seat.me.0.share ≡ changed_by op first.me.0.share
   pub knows_own : KnowsItsOwn seat.me.0
   pub saw : IsPrefix first.me.0.seen seat.me.0.seen
   pub same : SameBesideCall (for_call first.me.0 op) seat.me.0
@@ -94,8 +94,8 @@ pub record CanUpdate (live : Live) (op : Op) (first : Seat ℕ View) : Type 0 wh
   pub seat : IsPassSeat live first.table_id first.me
   pub updates : IsUpdate op
   pub fits : FitsWords op
-  pub some_row : 1 ≤ first.me.0.rows.stop - 1
-  pub own_key : Contains first.me.0.share.keys (key_of op)
+  pub some_latch : 1 ≤ latch_number_by first.me.0
+  pub may_change : MayChange first.me.0 (key_of op)
   pub can_begin : CanBegin first.me.0 op
   pub rows : AreRowsIn live.counts first.me.0.rows
   pub pages : AreNumbersIn live.counts first.me.0.pages
@@ -107,4 +107,4 @@ pub record IsUnderWay (live : Live) (op : Op) (first seat : Seat ℕ View) (m : 
   pub same_number : HasSameNumber first seat
   pub updating : IsUpdating op (for_call first.me.0 op, first.me.1) seat.me m
   pub room_is : (room.rows ≡ seat.me.0.call.rows) × (room.pages ≡ seat.me.0.call.pages)
-  pub latch_number : room.latch_number ≡ first.me.0.rows.stop - 1
+  pub latch_number : room.latch_number ≡ latch_number_by first.me.0

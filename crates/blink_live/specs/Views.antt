@@ -1,5 +1,5 @@
 -- The views of seats: how they begin, and what each kind of step makes of them.
-use Rattle.std.specs.Prelude.{Option, ◌≡◌, ℕ, suc, ◌+◌, ◌≤◌, List, [], ◌∷◌, ◌++◌, length, replicate, slice_set, Some, None, ◌||◌, ◌==◌, Bool, false, filter, Contains}
+use Rattle.std.specs.Prelude.{Option, ◌≡◌, ◌⊎◌, ℕ, zero, suc, ◌+◌, ◌-◌, ◌≤◌, List, [], ◌∷◌, ◌++◌, length, replicate, slice_set, Some, None, ◌||◌, ◌==◌, Bool, false, filter, Contains}
 use mathlib.Core.List.{IsPrefix}
 use Rattle.atomic_table.specs.Table.{Me}
 use Rattle.blink_batch.specs.declared.Entry.{Entry}
@@ -26,7 +26,7 @@ abbrev pub SeatState : Type 0
 SeatState = Me ℕ View
 
 abbrev pub plan_of : Opened → Plan
-plan_of opened = record { fan = opened.index.value.fan; counts = opened.counts; opening = map_of opened.index.value }
+plan_of opened = record { fan = opened.index.value.fan; counts = opened.counts; places = opened.places; opening = map_of opened.index.value }
 
 abbrev pub span : ℕ → ℕ → Span
 span next stop = record { next = next; stop = stop }
@@ -49,6 +49,8 @@ seat_for plan role rows pages share = record {
   role = role;
   rows = rows;
   pages = pages;
+  place = 0;
+  busy = 0;
   call = no_call;
   share = share;
   taken = [];
@@ -60,17 +62,41 @@ seat_for plan role rows pages share = record {
   told = [];
 }
 
+-- the keeper's first rows or page numbers: none in a common table, where they are the pool's
+abbrev pub first_span : ℕ → ℕ → ℕ → Span
+first_span zero next stop = span next stop
+first_span (suc places) next stop = span 1 1
+
 -- the keeper of a table that was opened over this many pages
 abbrev pub first_view : ℕ → Plan → View
-first_view count plan = seat_for plan (Keeper 0 0) (span (count + 2) (plan.counts.rows + 1)) (span (count + 1) plan.counts.numbers) no_share
+first_view count plan = seat_for plan (Keeper 0 0) (first_span plan.places (count + 2) (plan.counts.rows + 1)) (first_span plan.places (count + 1) plan.counts.numbers) no_share
 
 -- the plan of no table
 abbrev pub no_plan : Plan
-no_plan = record { fan = 0; counts = record { numbers = 0; rows = 0 }; opening = [] }
+no_plan = record { fan = 0; counts = record { numbers = 0; rows = 0 }; places = 0; opening = [] }
 
 -- a seat whose view another seat has taken
 abbrev pub spent : Plan → View
 spent plan = seat_for plan Spent (span 1 1) (span 1 1) no_share
+
+-- in a table without places passes own the keys; in one with places any session changes any key
+abbrev pub IsOwned : Plan → Type 0
+IsOwned plan = plan.places ≡ 0
+
+abbrev pub IsCommon : Plan → Type 0
+IsCommon plan = 1 ≤ plan.places
+
+-- the number that a seat puts into latch words: a pass that of its last row, and a session 1
+abbrev pub latch_in : ℕ → ℕ → ℕ
+latch_in zero stop = stop - 1
+latch_in (suc places) stop = 1
+
+abbrev pub latch_number_by : View → ℕ
+latch_number_by v = latch_in v.plan.places v.rows.stop
+
+-- the seat may change the key: its share has the key, or the table is common
+abbrev pub MayChange : View → ℕ → Type 0
+MayChange v key = Contains v.share.keys key ⊎ IsCommon v.plan
 
 -- ---- what it has seen
 
@@ -107,10 +133,11 @@ abbrev pub pages_of : Op → ℕ
 pages_of (Insert key pointer) = MAX_NEW_PAGES_PER_INSERT
 pages_of op = 0
 
--- the pass has these rows and page numbers
+-- the seat has these rows and page numbers, and a session has announced that it begins
 pub record CanBegin (v : View) (op : Op) : Type 0 where
   pub rows : v.rows.next + rows_of op ≤ v.rows.stop
   pub pages : v.pages.next + pages_of op ≤ v.pages.stop
+  pub announced : IsCommon v.plan → 1 ≤ v.busy
 
 -- the first of them go to the call that begins
 abbrev pub for_call : View → Op → View
@@ -130,6 +157,17 @@ SameBesideReads v w = w ≡ record v { operation = w.operation; descent_bound = 
 abbrev pub going_on : View → PlainMachine → ℕ → View
 going_on v after way = record v { operation = goes_on after after.state; descent_bound = way }
 
+-- the seat has these rows now, or these page numbers, and nothing for its last call
+abbrev pub has_rows : View → Span → View
+has_rows v rows = record v { rows = rows; call = no_call }
+
+abbrev pub has_pages : View → Span → View
+has_pages v pages = record v { pages = pages; call = no_call }
+
+-- the place's word is this now
+abbrev pub is_busy : View → ℕ → View
+is_busy v busy = record v { busy = busy }
+
 -- the call has staged these words of its first row
 abbrev pub is_staged : View → List ℕ → View
 is_staged v words = record v { call = record { rows = v.call.rows; pages = v.call.pages; staged = words } }
@@ -137,6 +175,10 @@ is_staged v words = record v { call = record { rows = v.call.rows; pages = v.cal
 -- the call has staged one more word of that row
 abbrev pub stage_word : View → ℕ → ℕ → View
 stage_word v place word = is_staged v (slice_set v.call.staged place word)
+
+-- a session's operation has made this change, or none
+abbrev pub adds : List Change → Share → Share
+adds made share = record { keys = share.keys; entries = share.entries; changes = share.changes ++ made }
 
 -- the share is changed as the operation changes a map
 abbrev pub changed_by : Op → Share → Share
@@ -184,6 +226,16 @@ abbrev pub takes_one : Role → Role
 takes_one (Keeper dealt back) = Keeper dealt (suc back)
 takes_one role = role
 
+-- the number of passes dealt, or of sessions, whose places are taken in this order
+abbrev pub dealt_in : Role → ℕ
+dealt_in (Keeper dealt back) = dealt
+dealt_in role = 0
+
+-- the number of passes that came back
+abbrev pub back_in : Role → ℕ
+back_in (Keeper dealt back) = back
+back_in role = 0
+
 -- the keeper without the first rows and page numbers; these keys are taken now
 abbrev pub keeps_rest : View → ℕ → ℕ → List ℕ → View
 keeps_rest v rows pages taken = record v {
@@ -196,7 +248,7 @@ keeps_rest v rows pages taken = record v {
 -- a pass with these rows and page numbers, and with these keys; it has seen what the keeper has seen
 abbrev pub gets_first : View → ℕ → ℕ → List ℕ → View
 gets_first v rows pages keys =
-    record (seat_for v.plan Pass (span v.rows.next (v.rows.next + rows)) (span v.pages.next (v.pages.next + pages)) (share_of_keys keys v.plan.opening v.seen)) { seen = v.seen }
+    record (seat_for v.plan Pass (span v.rows.next (v.rows.next + rows)) (span v.pages.next (v.pages.next + pages)) (share_of_keys keys v.plan.opening v.seen)) { place = dealt_in v.role; seen = v.seen }
 
 -- the keeper after a pass has come back while the table lives: these keys are still taken, and it has seen what the pass had seen
 abbrev pub retires : View → List ℕ → View → View

@@ -15,6 +15,17 @@ row_start counts row = 2 * counts.numbers + ROW_WORDS * (row - 1)
 abbrev pub word_count : PlainCounts → ℕ
 word_count counts = 2 * counts.numbers + ROW_WORDS * counts.rows
 
+-- the place of a session's word: behind the rows each place has a cache line of the processor
+abbrev pub place_word : PlainCounts → ℕ → ℕ
+place_word counts place = word_count counts + 8 * place
+
+-- in the line of the first place stand the pool's words too: the next row that nobody has taken, and the next page number
+abbrev pub pool_row : PlainCounts → ℕ
+pool_row counts = word_count counts + 1
+
+abbrev pub pool_page : PlainCounts → ℕ
+pool_page counts = word_count counts + 2
+
 abbrev pub IsRowNumber : PlainCounts → ℕ → Type 0
 IsRowNumber counts row = (1 ≤ row) × (row ≤ counts.rows)
 

@@ -10,7 +10,7 @@ ghost use Rattle.blink_live.specs.Gathered.{IsNumberedInOrder, KeepsTreeAtRest, 
 ghost use Rattle.blink_live.specs.Handles.{IsKeeperOf, IsPassOf, counts_of, fan_of, passes_out};
 ghost use Rattle.blink_live.specs.declared.view.Role.TheVariants.{Keeper as KeeperRole, Pass as PassRole};
 ghost use Rattle.blink_live.specs.Merge.{IsMerge, shares_of, KeepsPrime, KeepsSomeTree, KeepsTree};
-ghost use Rattle.blink_live.specs.Views.{TakesAllBack, plan_of, takes_back};
+ghost use Rattle.blink_live.specs.Views.{IsOwned, TakesAllBack, plan_of, takes_back};
 ghost use Rattle.blink_live.specs.Words.{word_count};
 ghost use Rattle.blink_live.specs.ToCome.{HasPagesToCome, HasLeavesToCome, AddsPages, HasPageAt, IsPageAt};
 ghost use Rattle.blink_live.specs.Renumbered.{child_count, link_anew, page_anew, with_children};
@@ -59,7 +59,12 @@ impl Live {
             back: _,
         } = keeper;
         self.take_back(&mut seat, passes);
-        let Live { table, counts, fan } = self;
+        let Live {
+            table,
+            counts,
+            fan,
+            places: _,
+        } = self;
         let closed = table.close_with(seat);
         let tree = tree_at_end(alloc, &closed, &counts, fan);
         closed.free();
@@ -73,6 +78,7 @@ impl Live {
     fn take_back(&self, seat: &mut Seat<u8, View>, mut passes: Vec<Pass>)
         requires table { seat.old.table_id ≡ self.now.table.shared.table_id }
         requires role { (dealt : ℕ) × (back : ℕ) × (seat.old.me.0.role ≡ KeeperRole dealt back) }
+        requires owned { IsOwned seat.old.me.0.plan }
         requires its_passes { All (IsPassOf self.now) passes.items }
         ensures same { HasSameNumber seat.old seat.new }
         ensures back { TakesAllBack (shares_of passes.items) seat.old.me seat.new.me }
@@ -94,6 +100,7 @@ impl Live {
             × (other.table_id ≡ self.now.table.shared.table_id) }
         requires picked { B.plan ≡ plan_of self.now.table.shared.key }
         requires keeper { (dealt : ℕ) × (back : ℕ) × (seat.old.me.0.role ≡ KeeperRole dealt back) }
+        requires owned { IsOwned seat.old.me.0.plan }
         requires pass { IsIdleIn PassRole other.me }
         ensures same { HasSameNumber seat.old seat.new }
         ensures back { seat.new.me ≡ (takes_back seat.old.me.0 other.me.0, seat.old.me.1) }
@@ -103,14 +110,14 @@ impl Live {
 }
 
 // Builds the tree at rest that the words hold, with its pages numbered anew.
-fn tree_at_end(
+pub fn tree_at_end(
     alloc: Global,
     closed: &Closed<u8, Global>,
     counts: &Counts,
     fan: u8,
 ) -> Result<Rest, AllocError>
     requires full { IsFull closed.now.words }
-    requires width { slots_len closed.now.words ≡ word_count counts.now }
+    requires width { word_count counts.now ≤ slots_len closed.now.words }
     requires fan { IsFan fan }
     requires tree { KeepsSomeTree counts.now (slots_items closed.now.words) fan }
     ensures fan { IfOk result (λ rest. rest.fan ≡ fan) }
@@ -126,7 +133,7 @@ fn tree_at_end(
 // The prime block that the words hold.
 fn prime_at(closed: &Closed<u8, Global>, counts: &Counts) -> Prime
     requires full { IsFull closed.now.words }
-    requires width { slots_len closed.now.words ≡ word_count counts.now }
+    requires width { word_count counts.now ≤ slots_len closed.now.words }
     requires kept { (leftmost : List ℕ) × KeepsPrime counts.now (slots_items closed.now.words) leftmost }
     ensures { (leftmost : List ℕ) → KeepsPrime counts.now (slots_items closed.now.words) leftmost
         → result ≡ leftmost }
@@ -149,7 +156,7 @@ fn gather(
     prime: &Prime,
 ) -> Result<Rest, AllocError>
     requires full { IsFull closed.now.words }
-    requires width { slots_len closed.now.words ≡ word_count counts.now }
+    requires width { word_count counts.now ≤ slots_len closed.now.words }
     requires fan { IsFan fan }
     requires rest { KeepsTreeAtRest counts.now (slots_items closed.now.words) fan prime.now }
     ensures fan { IfOk result (λ rest. rest.fan ≡ fan) }
@@ -184,7 +191,7 @@ fn store_of_leaves(
     leftmost: u32,
 ) -> Result<Store, AllocError>
     requires full { IsFull closed.now.words }
-    requires width { slots_len closed.now.words ≡ word_count counts.now }
+    requires width { word_count counts.now ≤ slots_len closed.now.words }
     requires fan { IsFan fan }
     requires leaves { HasLeavesToCome counts.now (slots_items closed.now.words) fan leftmost }
     ensures fan { IfOk result (λ store. store.fan ≡ fan) }
@@ -211,7 +218,7 @@ fn add_pages(
     first_child: u32,
 ) -> Result<(), AllocError>
     requires full { IsFull closed.now.words }
-    requires width { slots_len closed.now.words ≡ word_count counts.now }
+    requires width { word_count counts.now ≤ slots_len closed.now.words }
     requires pages { HasPagesToCome counts.now (slots_items closed.now.words)
         store.old.fan from (length store.old.pages) first_child }
     ensures fan { store.new.fan ≡ store.old.fan }
@@ -249,7 +256,7 @@ fn add(store: &mut Store, page: Page) -> Result<(), AllocError>
 // The page that the words hold under `number`.
 fn page_at(closed: &Closed<u8, Global>, counts: &Counts, number: u32) -> Page
     requires full { IsFull closed.now.words }
-    requires width { slots_len closed.now.words ≡ word_count counts.now }
+    requires width { word_count counts.now ≤ slots_len closed.now.words }
     requires kept { HasPageAt counts.now (slots_items closed.now.words) number }
     ensures { IsPageAt counts.now (slots_items closed.now.words) number result }
 {

@@ -100,7 +100,7 @@ impl Live {
 
     // Splits the keeper's seat. The new seat gets the keys and the first rows and page numbers; the keeper's seat keeps the
     // rest.
-    fn split<B: Dealt>(
+    pub fn split<B: Dealt>(
         &self,
         seat: &mut Seat<u8, View>,
         keys: &[u64],

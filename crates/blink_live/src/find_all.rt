@@ -37,7 +37,7 @@ const STEPS: [u8; 6] = [16, 8, 4, 2, 1, 1];
 
 /// Where a scout saw a key lead: for each level the place of the entry, in the page that it came to.
 #[derive(Clone, Copy)]
-pub(crate) struct Trail {
+pub struct Trail {
     pub places: [u8; LEVELS],
 }
 

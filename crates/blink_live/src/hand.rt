@@ -6,7 +6,7 @@ ghost use Rattle.blink_live.specs.Handing.{AllAreYours, IsFirstForeign, IsHandRe
 ghost use Rattle.blink_live.specs.Handles.{IsPassOf, keys_of};
 ghost use Rattle.blink_live.specs.Parcels.{HaveMoved, parcel_of, parts_with, receives};
 ghost use Rattle.blink_live.specs.Seats.{HasSameNumber, IsIdleIn, IsPassSeat};
-ghost use Rattle.blink_live.specs.Views.{plan_of};
+ghost use Rattle.blink_live.specs.Views.{IsOwned, plan_of};
 
 use crate::deal::{Met, ascends, is_among, merged};
 use crate::error::HandError;
@@ -86,6 +86,7 @@ impl Live {
     )
         requires giver { IsPassSeat self.now giver.old.table_id giver.old.me }
         requires taker { IsPassSeat self.now taker.old.table_id taker.old.me }
+        requires owned { IsOwned giver.old.me.0.plan }
         requires yours { (key : ℕ) → Contains keys.now key → Contains giver.old.me.0.share.keys key }
         requires all { (key : ℕ) → Contains all.now key
             → Contains taker.old.me.0.share.keys key ⊎ Contains keys.now key }
@@ -102,6 +103,7 @@ impl Live {
     // The pass's seat parts with these keys, which become a seat of their own, beside what the pass has seen.
     fn part_with<B: Handed>(&self, seat: &mut Seat<u8, View>, keys: &[u64]) -> Seat<u8, View>
         requires seat { IsPassSeat self.now seat.old.table_id seat.old.me }
+        requires owned { IsOwned seat.old.me.0.plan }
         requires picked { keys.now ≡ B.keys }
         requires yours { (key : ℕ) → Contains keys.now key → Contains seat.old.me.0.share.keys key }
         ensures left { HasSameNumber seat.old seat.new
@@ -115,6 +117,7 @@ impl Live {
     // The pass's seat takes the keys that another has parted with. `keys` are all that it has then.
     fn receive<B: Received>(&self, seat: &mut Seat<u8, View>, parcel: Seat<u8, View>, keys: &[u64])
         requires seat { IsPassSeat self.now seat.old.table_id seat.old.me }
+        requires owned { IsOwned seat.old.me.0.plan }
         requires same_table { parcel.table_id ≡ self.now.table.shared.table_id }
         requires picked { (keys.now ≡ B.keys) × (B.plan ≡ plan_of self.now.table.shared.key) }
         requires parcel { IsIdleIn Spent parcel.me }

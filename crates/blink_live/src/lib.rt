@@ -3,6 +3,7 @@
 
 mod advance;
 mod close;
+mod common;
 mod deal;
 mod error;
 mod find_all;
@@ -10,6 +11,7 @@ mod hand;
 mod live;
 mod open;
 mod operations;
+mod place;
 mod read;
 mod retire;
 mod room;
@@ -20,3 +22,10 @@ mod view;
 
 pub use error::{HandError, LiveError, PassError};
 pub use live::{Keeper, Live, Pass, Pending};
+
+// What a map is made of, in the crate above: the seats of a table, and what their calls are made of.
+pub use common::{CloseRefusal, Extent};
+pub use find_all::Trail;
+pub use room::Room;
+pub use rule::{Dealt, InvariantOfTree};
+pub use view::{Call, Change, Opened, Plan, Role, Share, View};

@@ -1,13 +1,14 @@
 //! The types of a table: `Live` holds the tree, `Keeper` deals the passes, and with a `Pass` a thread reads and changes some
 //! keys. A `Pending` is a pass's operation under way. These types stand apart from their calls, since the calls' contracts name
 //! them.
-ghost use Rattle.std.specs.Prelude.{◌≡◌, ◌≤◌, [], None};
+ghost use Rattle.std.specs.Prelude.{◌≡◌, ◌+◌, ◌*◌, ◌≤◌, [], IsSorted, None};
+ghost use Rattle.std.specs.Ordering.{nat_cmp};
 ghost use Rattle.std.specs.List.Sorted.{IsStrictlyIncreasing};
 ghost use Rattle.blink_page.specs.{IsFan};
 ghost use Rattle.blink_live.specs.Words.{word_count};
 ghost use Rattle.blink_live.specs.declared.view.Role.TheVariants.{Keeper, Pass};
 ghost use Rattle.blink_live.specs.Allowed.{AreForChanges};
-ghost use Rattle.blink_live.specs.Views.{SawItsOwn};
+ghost use Rattle.blink_live.specs.Views.{IsOwned, SawItsOwn};
 
 use crate::room::Room;
 use crate::rule::InvariantOfTree;
@@ -28,11 +29,14 @@ pub struct Live {
     pub(crate) table: Table<u8, View, Opened, InvariantOfTree, Global>,
     pub(crate) counts: Counts,
     pub(crate) fan: u8,
+    // 0 where passes own the keys; else the number of places for sessions.
+    pub(crate) places: u64,
     ghost counts_are: { counts ≡ table.shared.key.counts },
     ghost fan_is: { (fan ≡ table.shared.key.index.value.fan) × IsFan fan },
     ghost some_number: { 1 ≤ counts.numbers },
     ghost no_slot: { table.shared.table_id.slots ≡ 0 },
-    ghost width: { table.shared.table_id.words ≡ word_count counts },
+    ghost places_are: { places ≡ table.shared.key.places },
+    ghost width: { table.shared.table_id.words ≡ word_count counts + 8 * places },
 }
 
 /// The right to deal a table's passes, to take them back, and to close the table when all are back. It holds the keys of the
@@ -54,6 +58,7 @@ pub struct Keeper {
     ghost ascending: { IsStrictlyIncreasing taken.items },
     ghost role_is: { seat.me.0.role ≡ Keeper dealt back },
     ghost counted: { back ≤ dealt },
+    ghost owned: { IsOwned seat.me.0.plan },
     ghost no_slot: { seat.me.1 ≡ [] },
 }
 
@@ -72,6 +77,7 @@ pub struct Pass {
     ghost in_order: { (rows.next ≤ rows.stop) × (pages.next ≤ pages.stop) },
     ghost for_changes: { AreForChanges pages rows },
     ghost role_is: { seat.me.0.role ≡ Pass },
+    ghost owned: { IsOwned seat.me.0.plan },
     ghost own_seen: { SawItsOwn seat.me.0 },
     ghost none_told: { seat.me.0.told ≡ [] },
     ghost idle: { seat.me.0.operation ≡ None },

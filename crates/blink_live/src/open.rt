@@ -46,6 +46,7 @@ impl Live {
         };
         let opened = Opened {
             counts,
+            places: 0,
             index: Snapshot::of(index),
         };
         let Ok((table, seat)) = Table::<u8, View, Opened, InvariantOfTree, Global>::of_words(
@@ -68,7 +69,13 @@ impl Live {
             back: 0,
         };
         let fan = store.fan();
-        Ok((Live { table, counts, fan }, keeper))
+        let live = Live {
+            table,
+            counts,
+            fan,
+            places: 0,
+        };
+        Ok((live, keeper))
     }
 
     /// Returns the greatest number of entries in a page.
@@ -89,7 +96,7 @@ impl Live {
     pub fn word_count(&self) -> usize
         ensures { result ≡ word_count (counts_of self.now) }
     {
-        self.table.word_count()
+        word_count(&self.counts)
     }
 
     /// Returns a word of the table as it is now, for a look into the layout; `None` from `word_count` on. Other threads may
@@ -117,14 +124,14 @@ fn laid_words(alloc: Global, counts: &Counts, store: &Store) -> Result<Vec<u64>,
 }
 
 // The number of words of a table.
-fn word_count(counts: &Counts) -> usize
+pub(crate) fn word_count(counts: &Counts) -> usize
     ensures { result ≡ word_count counts.now }
 {
     2 * counts.numbers as usize + ROW_WORDS * counts.rows as usize
 }
 
 // Lays the prime block and the pages into words that are all 0 before.
-fn lay_tree(words: &mut [u64], counts: &Counts, store: &Store)
+pub(crate) fn lay_tree(words: &mut [u64], counts: &Counts, store: &Store)
     requires numbers { length store.now.pages < counts.now.numbers }
     requires rows { length store.now.pages < counts.now.rows }
     requires blank { words.old ≡ replicate (word_count counts.now) 0 }

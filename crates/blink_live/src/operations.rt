@@ -121,12 +121,7 @@ impl Live {
     // Answers a find of the key by the state of the key after the changes that the seat has seen by the end of the call. Of the
     // operation it has only the page that comes next; its machine is in the seat's view, for the proofs. With a trail the search
     // in each page begins where the trail says, if that is right.
-    pub(crate) fn search(
-        &self,
-        seat: &mut Seat<u8, View>,
-        key: u64,
-        trail: Option<&Trail>,
-    ) -> Answer
+    pub fn search(&self, seat: &mut Seat<u8, View>, key: u64, trail: Option<&Trail>) -> Answer
         requires seat { IsPassSeat self.now seat.old.table_id seat.old.me }
         requires idle { seat.old.me.0.operation ≡ None }
         requires can_begin { CanBegin seat.old.me.0 (Find key) }

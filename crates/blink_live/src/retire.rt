@@ -9,7 +9,7 @@ ghost use Rattle.blink_live.specs.Deals.{HasRetired};
 ghost use Rattle.blink_live.specs.Handles.{IsKeeperOf, IsPassOf};
 ghost use Rattle.blink_live.specs.Retiring.{HaveTold, IsReached, without};
 ghost use Rattle.blink_live.specs.Seats.{HasSameNumber, IsIdleIn, IsPassSeat};
-ghost use Rattle.blink_live.specs.Views.{SawItsOwn, plan_of, retires};
+ghost use Rattle.blink_live.specs.Views.{IsOwned, SawItsOwn, plan_of, retires};
 
 use crate::live::{Keeper, Live, Pass};
 use crate::rule::{LookAround, Retire, Retired};
@@ -52,6 +52,7 @@ impl Live {
     fn tell_each_other(&self, seat: &mut Seat<u8, View>, other: &mut Seat<u8, View>)
         requires table { seat.old.table_id ≡ self.now.table.shared.table_id }
         requires keeper { (dealt : ℕ) × (back : ℕ) × (seat.old.me.0.role ≡ KeeperRole dealt back) }
+        requires owned { IsOwned seat.old.me.0.plan }
         requires pass { IsPassSeat self.now other.old.table_id other.old.me }
         ensures same { HasSameNumber seat.old seat.new × HasSameNumber other.old other.new }
         ensures told { HaveTold seat.old.me other.old.me seat.new.me other.new.me }
@@ -67,6 +68,7 @@ impl Live {
     fn look_around(&self, seat: &mut Seat<u8, View>)
         requires table { seat.old.table_id ≡ self.now.table.shared.table_id }
         requires keeper { (dealt : ℕ) × (back : ℕ) × (seat.old.me.0.role ≡ KeeperRole dealt back) }
+        requires owned { IsOwned seat.old.me.0.plan }
         ensures same { HasSameNumber seat.old seat.new }
         ensures around { LooksAround seat.old.me seat.new.me }
     {
@@ -79,6 +81,7 @@ impl Live {
             × (other.table_id ≡ self.now.table.shared.table_id) }
         requires picked { (taken.now ≡ B.taken) × (B.plan ≡ plan_of self.now.table.shared.key) }
         requires keeper { (dealt : ℕ) × (back : ℕ) × (seat.old.me.0.role ≡ KeeperRole dealt back) }
+        requires owned { IsOwned seat.old.me.0.plan }
         requires pass { IsIdleIn PassRole other.me }
         requires saw { SawItsOwn other.me.0 × IsPrefix seat.old.me.0.seen other.me.0.seen }
         requires free { (key : ℕ) → ¬ Contains taken.now key

@@ -11,7 +11,7 @@ use blink_rows::{MAX_NEW_PAGES_PER_INSERT, MAX_ROWS_PER_INSERT, Span};
 /// The rows and the page numbers that one operation may still use, and its pass's latch number, which it puts into the latch
 /// words of pages.
 #[derive(Clone, Copy)]
-pub(crate) struct Room {
+pub struct Room {
     pub rows: Span,
     pub pages: Span,
     pub latch_number: u64,

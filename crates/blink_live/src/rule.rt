@@ -5,7 +5,7 @@ use atomic_table::{Join, Play, Split, TableRule};
 use std::marker::{Brand, PhantomData};
 
 /// The rule: words and views represent a tree state for which the invariant holds.
-pub(crate) struct InvariantOfTree;
+pub struct InvariantOfTree;
 
 impl TableRule<u8, View, Opened> for InvariantOfTree {
     ghost use Rattle.std.specs.Prelude.{length};
@@ -18,7 +18,7 @@ impl TableRule<u8, View, Opened> for InvariantOfTree {
 }
 
 /// The operation that a call begins. Each call picks it.
-pub(crate) trait Begun {
+pub trait Begun {
     ghost use Rattle.blink_batch.specs.declared.Op.{Op};
 
     ghost op: { Op };
@@ -31,7 +31,7 @@ impl Begun for Brand {
 }
 
 /// The load of the prime block's page word by an operation that begins.
-pub(crate) struct Begin<B> {
+pub struct Begin<B> {
     of: PhantomData<B>,
 }
 
@@ -42,7 +42,7 @@ impl<B: Begun> Play<u8, View> for Begin<B> {
 }
 
 /// The load of a page word by an operation under way.
-pub(crate) struct LoadPage;
+pub struct LoadPage;
 
 impl Play<u8, View> for LoadPage {
     ghost use Rattle.blink_live.specs.AtomicSteps.{loads_page};
@@ -51,7 +51,7 @@ impl Play<u8, View> for LoadPage {
 }
 
 /// The load of the prime block's page word by an operation under way.
-pub(crate) struct LoadPrime;
+pub struct LoadPrime;
 
 impl Play<u8, View> for LoadPrime {
     ghost use Rattle.blink_live.specs.AtomicSteps.{loads_prime};
@@ -60,7 +60,7 @@ impl Play<u8, View> for LoadPrime {
 }
 
 /// The load of the prime block's page word by a pass that holds a note. After it the pass has seen the note's changes too.
-pub(crate) struct LookUp;
+pub struct LookUp;
 
 impl Play<u8, View> for LookUp {
     ghost use Rattle.blink_live.specs.AtomicSteps.{looks_up};
@@ -69,7 +69,7 @@ impl Play<u8, View> for LookUp {
 }
 
 /// The load of the prime block's page word by a pass that holds a note. After it the pass has seen no more than before.
-pub(crate) struct LookBack;
+pub struct LookBack;
 
 impl Play<u8, View> for LookBack {
     ghost use Rattle.blink_live.specs.AtomicSteps.{looks_back};
@@ -79,7 +79,7 @@ impl Play<u8, View> for LookBack {
 
 /// The load of the prime block's page word by the keeper, which may hold a note. After it the keeper has seen no more than
 /// before.
-pub(crate) struct LookAround;
+pub struct LookAround;
 
 impl Play<u8, View> for LookAround {
     ghost use Rattle.blink_live.specs.AtomicSteps.{looks_around};
@@ -88,7 +88,7 @@ impl Play<u8, View> for LookAround {
 }
 
 /// The load of a word of the row that a page word named.
-pub(crate) struct LoadWord;
+pub struct LoadWord;
 
 impl Play<u8, View> for LoadWord {
     ghost use Rattle.blink_live.specs.AtomicSteps.{loads_word};
@@ -97,7 +97,7 @@ impl Play<u8, View> for LoadWord {
 }
 
 /// The compare-and-exchange in a latch word of 0 for the seat's own number.
-pub(crate) struct TryLatch;
+pub struct TryLatch;
 
 impl Play<u8, View> for TryLatch {
     ghost use Rattle.blink_live.specs.AtomicSteps.{tries_latch};
@@ -106,7 +106,7 @@ impl Play<u8, View> for TryLatch {
 }
 
 /// The store of 0 in a latch word that holds the seat's number.
-pub(crate) struct LetGo;
+pub struct LetGo;
 
 impl Play<u8, View> for LetGo {
     ghost use Rattle.blink_live.specs.AtomicSteps.{lets_go};
@@ -115,7 +115,7 @@ impl Play<u8, View> for LetGo {
 }
 
 /// The store of a word of the first row that the seat's call may use.
-pub(crate) struct StoreWord;
+pub struct StoreWord;
 
 impl Play<u8, View> for StoreWord {
     ghost use Rattle.blink_live.specs.AtomicSteps.{stores_word};
@@ -124,7 +124,7 @@ impl Play<u8, View> for StoreWord {
 }
 
 /// The store of a page's word, which names that row from then on.
-pub(crate) struct Publish;
+pub struct Publish;
 
 impl Play<u8, View> for Publish {
     ghost use Rattle.blink_live.specs.AtomicSteps.{publishes_page};
@@ -133,7 +133,7 @@ impl Play<u8, View> for Publish {
 }
 
 /// The store of a new page's word, which names that row from then on.
-pub(crate) struct PublishNew;
+pub struct PublishNew;
 
 impl Play<u8, View> for PublishNew {
     ghost use Rattle.blink_live.specs.AtomicSteps.{publishes_new};
@@ -142,7 +142,7 @@ impl Play<u8, View> for PublishNew {
 }
 
 /// The store of the prime block's page word, which names that row from then on.
-pub(crate) struct PublishPrime;
+pub struct PublishPrime;
 
 impl Play<u8, View> for PublishPrime {
     ghost use Rattle.blink_live.specs.AtomicSteps.{publishes_prime};
@@ -150,8 +150,44 @@ impl Play<u8, View> for PublishPrime {
     ghost then = { publishes_prime };
 }
 
+/// The store of a session's mark into its place's word: 0 while the session is idle.
+pub struct MarkPlace;
+
+impl Play<u8, View> for MarkPlace {
+    ghost use Rattle.blink_live.specs.AtomicSteps.{marks_place};
+
+    ghost then = { marks_place };
+}
+
+/// The compare-and-exchange in the pool's first word of a row for a later one: the seat has the rows between.
+pub struct DrawRows;
+
+impl Play<u8, View> for DrawRows {
+    ghost use Rattle.blink_live.specs.AtomicSteps.{draws_rows};
+
+    ghost then = { draws_rows };
+}
+
+/// The compare-and-exchange in the pool's second word of a page number for a later one: the seat has the numbers between.
+pub struct DrawPages;
+
+impl Play<u8, View> for DrawPages {
+    ghost use Rattle.blink_live.specs.AtomicSteps.{draws_pages};
+
+    ghost then = { draws_pages };
+}
+
+/// The load of the prime block's page word by a seat that takes back what its last call hasn't used.
+pub struct GiveBack;
+
+impl Play<u8, View> for GiveBack {
+    ghost use Rattle.blink_live.specs.GivingBack.{giving_back};
+
+    ghost then = { giving_back };
+}
+
 /// What a deal gives to a new pass, and which keys are taken after it. Each call picks them.
-pub(crate) trait Dealt {
+pub trait Dealt {
     ghost use Rattle.std.specs.Prelude.{ℕ, List};
 
     ghost rows: { ℕ };
@@ -176,7 +212,7 @@ impl Dealt for Brand {
 }
 
 /// A deal: the new seat gets the first rows and page numbers, and the keeper keeps the rest.
-pub(crate) struct Deal<B> {
+pub struct Deal<B> {
     of: PhantomData<B>,
 }
 
@@ -189,7 +225,7 @@ impl<B: Dealt> Split<View> for Deal<B> {
 }
 
 /// The plan of the table that a pass comes back to. Each call picks it.
-pub(crate) trait Planned {
+pub trait Planned {
     ghost use Rattle.blink_live.specs.declared.view.Plan.{Plan};
 
     ghost plan: { Plan };
@@ -202,7 +238,7 @@ impl Planned for Brand {
 }
 
 /// The keeper takes back a pass when the table closes. Its seat is spent.
-pub(crate) struct TakeBack<B> {
+pub struct TakeBack<B> {
     of: PhantomData<B>,
 }
 
@@ -215,7 +251,7 @@ impl<B: Planned> Join<View> for TakeBack<B> {
 }
 
 /// The keys that are taken once a pass has come back, and the plan of the table. Each call picks them.
-pub(crate) trait Retired {
+pub trait Retired {
     ghost use Rattle.std.specs.Prelude.{ℕ, List};
     ghost use Rattle.blink_live.specs.declared.view.Plan.{Plan};
 
@@ -234,7 +270,7 @@ impl Retired for Brand {
 }
 
 /// The keeper takes back a pass while the table lives. Its keys are free, and its seat is spent.
-pub(crate) struct Retire<B> {
+pub struct Retire<B> {
     of: PhantomData<B>,
 }
 
@@ -247,7 +283,7 @@ impl<B: Retired> Join<View> for Retire<B> {
 }
 
 /// A note: what a pass or the keeper has seen becomes a seat of its own, for another to take.
-pub(crate) struct Note;
+pub struct Note;
 
 impl Split<View> for Note {
     ghost use Rattle.blink_live.specs.Views.{note_of};
@@ -258,7 +294,7 @@ impl Split<View> for Note {
 }
 
 /// A pass or the keeper takes a note, whose seat is spent by that.
-pub(crate) struct Hear<B> {
+pub struct Hear<B> {
     of: PhantomData<B>,
 }
 
@@ -271,7 +307,7 @@ impl<B: Planned> Join<View> for Hear<B> {
 }
 
 /// The keys that a pass hands over. Each call picks them.
-pub(crate) trait Handed {
+pub trait Handed {
     ghost use Rattle.std.specs.Prelude.{ℕ, List};
 
     ghost keys: { List ℕ };
@@ -284,7 +320,7 @@ impl Handed for Brand {
 }
 
 /// A pass parts with some of its keys: they become a seat of their own, for another pass to take.
-pub(crate) struct Part<B> {
+pub struct Part<B> {
     of: PhantomData<B>,
 }
 
@@ -297,7 +333,7 @@ impl<B: Handed> Split<View> for Part<B> {
 }
 
 /// All keys of a pass once it has taken some more, and the plan of the table. Each call picks them.
-pub(crate) trait Received {
+pub trait Received {
     ghost use Rattle.std.specs.Prelude.{ℕ, List};
     ghost use Rattle.blink_live.specs.declared.view.Plan.{Plan};
 
@@ -316,7 +352,7 @@ impl Received for Brand {
 }
 
 /// A pass takes the keys that another has parted with. The seat that they were is spent.
-pub(crate) struct Receive<B> {
+pub struct Receive<B> {
     of: PhantomData<B>,
 }
 

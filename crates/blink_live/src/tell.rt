@@ -71,7 +71,7 @@ impl Live {
     }
 
     // Hands the seat `to` a note of what the seat `from` has seen.
-    pub(crate) fn pass_on(&self, from: &mut Seat<u8, View>, to: &mut Seat<u8, View>)
+    pub fn pass_on(&self, from: &mut Seat<u8, View>, to: &mut Seat<u8, View>)
         requires tables { (from.old.table_id ≡ self.now.table.shared.table_id)
             × (to.old.table_id ≡ self.now.table.shared.table_id) }
         ensures from { IsSameSeat from.old from.new }
@@ -83,7 +83,7 @@ impl Live {
     }
 
     // The seat sees all changes so far.
-    pub(crate) fn look_up(&self, seat: &mut Seat<u8, View>)
+    pub fn look_up(&self, seat: &mut Seat<u8, View>)
         requires seat { IsPassSeat self.now seat.old.table_id seat.old.me }
         ensures same { HasSameNumber seat.old seat.new }
         ensures up { LooksUp seat.old.me seat.new.me }
@@ -93,7 +93,7 @@ impl Live {
 
     // The seat sees no more changes. After the load it knows that its note shows of its own keys only changes that its own
     // operations made.
-    pub(crate) fn look_back(&self, seat: &mut Seat<u8, View>)
+    pub fn look_back(&self, seat: &mut Seat<u8, View>)
         requires seat { IsPassSeat self.now seat.old.table_id seat.old.me }
         ensures same { HasSameNumber seat.old seat.new }
         ensures back { LooksBack seat.old.me seat.new.me }

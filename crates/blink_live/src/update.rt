@@ -1,6 +1,6 @@
 //! How an operation changes the tree after its descent. To change a page it latches the page and stores the page's next version
 //! word by word in a row of its own. Then it names that row in the page word, and releases the latch.
-ghost use Rattle.std.specs.Prelude.{◌≡◌, ◌≢◌, ◌↔◌, ℕ, ◌+◌, ◌-◌, None, Contains, ◌<◌, ◌≤◌, Some, suc, List, IsTrue, IfSome, IfNone};
+ghost use Rattle.std.specs.Prelude.{◌≡◌, ◌≢◌, ℕ, ◌+◌, None, ◌<◌, ◌≤◌, Some, suc, List, IsTrue, IfSome, ◌↔◌, ◌-◌, Contains, IfNone};
 ghost use Rattle.std.specs.Bool.{OnFalse};
 ghost use Rattle.atomic_table.specs.declared.Seat.{Seat};
 ghost use Rattle.blink_batch.specs.{FitsWords, key_of};
@@ -12,9 +12,9 @@ ghost use Rattle.blink_machine.specs.declared.machine.State.TheVariants.{Ended};
 ghost use Rattle.blink_machine.specs.{IsUpdate, fresh, done, PrimeOut, page_out, NeedsNew, NeedsPrimeWrite, NeedsWrite, NeedsLatch, NeedsUnlatch, latch, latch_of, unlatch};
 ghost use Rattle.blink_live.specs.declared.view.View.{View};
 ghost use Rattle.blink_live.specs.Seats.{HasSameNumber, IsPassSeat, IsFirst};
+ghost use Rattle.blink_live.specs.Updating.{HasEnded, IsUnderWay, room_in, ComesNearer, IsPastDescent};
+ghost use Rattle.blink_live.specs.Views.{CanBegin, MayChange, is_staged, latch_number_by, no_words, stage_word};
 ghost use Rattle.blink_live.specs.Pendings.{IsWaiting};
-ghost use Rattle.blink_live.specs.Updating.{ComesNearer, HasEnded, IsPastDescent, IsUnderWay, room_for};
-ghost use Rattle.blink_live.specs.Views.{CanBegin, is_staged, no_words, stage_word};
 ghost use Rattle.blink_live.specs.AtomicSteps.{PublishesNew, PublishesPage, PublishesPrime, GoesOn};
 ghost use Rattle.blink_live.specs.Words.{IsRowNumber};
 
@@ -36,7 +36,7 @@ const LINE_WORDS: usize = 8;
 const ROW_LINES: usize = 9;
 
 impl Live {
-    // Changes the tree by an operation of one of the seat's keys, with the rows and page numbers of `room`. The call retries a
+    // Changes the tree by an operation of a key that the seat may change, with the rows and page numbers of `room`. The call retries a
     // latch that another seat has, and a level to post to that isn't there yet.
     pub(crate) fn update<R: Wait>(
         &self,
@@ -50,8 +50,8 @@ impl Live {
         requires fits { FitsWords op }
         requires updates { IsUpdate op }
         requires can_begin { CanBegin seat.old.me.0 op }
-        requires room { room ≡ room_for op seat.old.me.0.rows seat.old.me.0.pages }
-        requires own_key { Contains seat.old.me.0.share.keys (key_of op) }
+        requires room { room ≡ room_in op seat.old.me.0 }
+        requires may { MayChange seat.old.me.0 (key_of op) }
         ensures ended { HasEnded op seat.old seat.new result }
     {
         let mut machine = Machine::new(op, self.fan);
@@ -66,21 +66,15 @@ impl Live {
     }
 
     // Takes a new operation to the leaf of its key. The operation stays where its caller made it, since it is large.
-    pub(crate) fn set_out(
-        &self,
-        seat: &mut Seat<u8, View>,
-        machine: &mut Machine,
-        room: &Room,
-        op: Op,
-    )
+    pub fn set_out(&self, seat: &mut Seat<u8, View>, machine: &mut Machine, room: &Room, op: Op)
         requires seat { IsPassSeat self.now seat.old.table_id seat.old.me }
         requires fresh { machine.old ≡ fresh self.now.fan op }
         requires idle { seat.old.me.0.operation ≡ None }
         requires fits { FitsWords op }
         requires updates { IsUpdate op }
         requires can_begin { CanBegin seat.old.me.0 op }
-        requires room { room.now ≡ room_for op seat.old.me.0.rows seat.old.me.0.pages }
-        requires own_key { Contains seat.old.me.0.share.keys (key_of op) }
+        requires room { room.now ≡ room_in op seat.old.me.0 }
+        requires may { MayChange seat.old.me.0 (key_of op) }
         ensures under_way { IsUnderWay self.now op seat.old seat.new machine.new room.now }
         ensures waits { IsWaiting machine.new }
     {
@@ -102,7 +96,7 @@ impl Live {
 
     // Takes steps of the operation until it has ended, and returns its answer; or `None` after so many steps in vain, at least
     // one. It waits for nobody, and never stops while the operation holds a latch.
-    pub(crate) fn take_steps(
+    pub fn take_steps(
         &self,
         seat: &mut Seat<u8, View>,
         machine: &mut Machine,
@@ -207,7 +201,7 @@ impl Live {
         requires in_range { (1 ≤ number) × (number < self.now.counts.numbers) }
         requires row { IsFirst row seat.old.me.0.call.rows × IsRowNumber self.now.counts row }
         requires blank { seat.old.me.0.call.staged ≡ no_words }
-        requires among { Contains seat.old.me.0.share.keys (key_of machine.old.op) }
+        requires may { MayChange seat.old.me.0 (key_of machine.old.op) }
         ensures same { HasSameNumber seat.old seat.new }
         ensures machine { machine.new ≡ done machine.old 0 }
         ensures published { PublishesPage number machine.old seat.old.me seat.new.me }
@@ -228,7 +222,7 @@ impl Live {
         requires in_range { IsPageNumber number × (number < self.now.counts.numbers) }
         requires row { IsFirst row seat.old.me.0.call.rows × IsRowNumber self.now.counts row }
         requires blank { seat.old.me.0.call.staged ≡ no_words }
-        requires among { Contains seat.old.me.0.share.keys (key_of machine.old.op) }
+        requires may { MayChange seat.old.me.0 (key_of machine.old.op) }
         ensures same { HasSameNumber seat.old seat.new }
         ensures machine { machine.new ≡ done machine.old number }
         ensures published { PublishesNew machine.old seat.old.me seat.new.me }
@@ -247,7 +241,7 @@ impl Live {
         requires needs { NeedsPrimeWrite machine.old }
         requires row { IsFirst row seat.old.me.0.call.rows × IsRowNumber self.now.counts row }
         requires blank { seat.old.me.0.call.staged ≡ no_words }
-        requires among { Contains seat.old.me.0.share.keys (key_of machine.old.op) }
+        requires may { MayChange seat.old.me.0 (key_of machine.old.op) }
         ensures same { HasSameNumber seat.old seat.new }
         ensures machine { machine.new ≡ done machine.old 0 }
         ensures published { PublishesPrime machine.old seat.old.me seat.new.me }
@@ -283,8 +277,8 @@ impl Live {
         self.counts.numbers as usize + number as usize
     }
 
-    // Tries to latch the page, and returns whether the seat has the latch now. The seat's own number is that of the last of its
-    // rows.
+    // Tries to latch the page, and returns whether the seat has the latch now. A pass's own number is that of the last of its rows,
+    // and a session's is 1.
     fn try_latch(
         &self,
         seat: &mut Seat<u8, View>,
@@ -297,7 +291,7 @@ impl Live {
         requires fits { FitsWords machine.old.op }
         requires needs { NeedsLatch machine.old number }
         requires in_range { number < self.now.counts.numbers }
-        requires own { (own ≡ seat.old.me.0.rows.stop - 1) × (1 ≤ own) }
+        requires own { (own ≡ latch_number_by seat.old.me.0) × (1 ≤ own) }
         ensures same { HasSameNumber seat.old seat.new }
         ensures moved { IsTrue result → machine.new ≡ done machine.old 0 }
         ensures got { IsTrue result → GoesOn (latch number) machine.old seat.old.me seat.new.me }
@@ -357,7 +351,7 @@ impl Live {
         requires in_range { (1 ≤ number) × (number < self.now.counts.numbers) }
         requires row { IsFirst row seat.old.me.0.call.rows }
         requires staged { IsRowOf seat.old.me.0.call.staged (page_words (page_out machine.old 0)) }
-        requires among { Contains seat.old.me.0.share.keys (key_of machine.old.op) }
+        requires may { MayChange seat.old.me.0 (key_of machine.old.op) }
         ensures same { HasSameNumber seat.old seat.new }
         ensures machine { machine.new ≡ done machine.old 0 }
         ensures published { PublishesPage number machine.old seat.old.me seat.new.me }
@@ -378,7 +372,7 @@ impl Live {
         requires in_range { IsPageNumber number × (number < self.now.counts.numbers) }
         requires row { IsFirst row seat.old.me.0.call.rows }
         requires staged { IsRowOf seat.old.me.0.call.staged (page_words (page_out machine.old number)) }
-        requires among { Contains seat.old.me.0.share.keys (key_of machine.old.op) }
+        requires may { MayChange seat.old.me.0 (key_of machine.old.op) }
         ensures same { HasSameNumber seat.old seat.new }
         ensures machine { machine.new ≡ done machine.old number }
         ensures published { PublishesNew machine.old seat.old.me seat.new.me }
@@ -398,7 +392,7 @@ impl Live {
         requires row { IsFirst row seat.old.me.0.call.rows }
         requires staged { (prime : List ℕ) × PrimeOut machine.old prime
             × IsRowOf seat.old.me.0.call.staged (prime_words prime) }
-        requires among { Contains seat.old.me.0.share.keys (key_of machine.old.op) }
+        requires may { MayChange seat.old.me.0 (key_of machine.old.op) }
         ensures same { HasSameNumber seat.old seat.new }
         ensures machine { machine.new ≡ done machine.old 0 }
         ensures published { PublishesPrime machine.old seat.old.me seat.new.me }

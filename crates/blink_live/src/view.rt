@@ -1,4 +1,5 @@
-//! What the seats of a table know. Of these types a run makes values of `Opened` alone; the others are for proofs.
+//! What the seats of a table know. Of these types a run makes values of `Opened` alone; the others are for proofs. They are public
+//! for the crate of maps, whose sessions are such seats too.
 
 use blink_batch::Entry;
 use blink_index::Index;
@@ -9,57 +10,64 @@ use std::snapshot::Snapshot;
 
 /// The index and the counts that a table is made from.
 #[derive(Drop)]
-pub(crate) struct Opened {
+pub struct Opened {
     pub counts: Counts,
+    /// 0 in a table whose keys passes own. In others, which any session changes at any key, the number of places for sessions.
+    pub places: u64,
     pub index: Snapshot<Index>,
 }
 
 /// The same as plain data. Every seat knows it.
-pub(crate) struct Plan {
+pub struct Plan {
     pub fan: u8,
     pub counts: Counts,
+    pub places: u64,
     pub opening: LinkedList<Entry>,
 }
 
 /// A change of one key: it got a pointer, or lost the one that it had.
-pub(crate) struct Change {
+pub struct Change {
     pub key: u64,
     pub pointer: Option<u64>,
 }
 
 /// A pass's part of the map: its keys, their entries as its own operations leave them, and the changes of these operations.
-/// Before them stand the changes of its keys by the passes that had them earlier.
-pub(crate) struct Share {
+/// Before them stand the changes of its keys by the passes that had them earlier. A session's share has no keys and no entries;
+/// its changes are those that the session made.
+pub struct Share {
     pub keys: LinkedList<u64>,
     pub entries: LinkedList<Entry>,
     pub changes: LinkedList<Change>,
 }
 
 /// The role of a seat.
-pub(crate) enum Role {
+pub enum Role {
     /// The keeper's seat, with the number of passes dealt and the number of passes that came back.
     Keeper(u64, u64),
-    /// A pass's seat.
+    /// A pass's seat, or a session's.
     Pass,
     /// A seat whose view another seat has taken or is to take: a note, or keys on their way.
     Spent,
 }
 
 /// What one call may use: rows and page numbers, and the words that it has staged so far in the first of these rows.
-pub(crate) struct Call {
+pub struct Call {
     pub rows: Span,
     pub pages: Span,
     pub staged: LinkedList<u64>,
 }
 
 /// What a seat knows.
-pub(crate) struct View {
+pub struct View {
     pub plan: Plan,
     pub role: Role,
     /// The rows and the page numbers that the seat may still use.
     pub rows: Span,
     pub pages: Span,
     pub share: Share,
+    /// Of a session: its place, and the place's word, which isn't 0 while the session may be at an operation.
+    pub place: u64,
+    pub busy: u64,
     /// What the call under way, or the last one made, may use.
     pub call: Call,
     /// Of the keeper: the keys that were dealt, and the shares that came back.

@@ -1,5 +1,5 @@
 -- A latch that is got is the tree's step, and keeps the rule.
-use Rattle.std.proofs.Common.{◌≡◌, ℕ, suc, ◌+◌, ◌-◌, ◌<◌, ◌≤◌, Option, Some, None, List, set, refl, sym, ap, ◌∙◌, subst, get_or-set_same, get_or-set_other, arith}
+use Rattle.std.proofs.Common.{◌≡◌, ℕ, suc, ◌+◌, ◌<◌, ◌≤◌, Option, Some, None, List, set, refl, sym, ap, ◌∙◌, subst, get_or-set_same, get_or-set_other, arith}
 use Rattle.std.specs.Prelude.{slice_index}
 use mathlib.Core.Option.{some, none}
 use mathlib.Core.Logic.{dite}
@@ -19,13 +19,15 @@ use Rattle.blink_machine.specs.TreeState.{TreeState}
 use Rattle.blink_machine.specs.Invariant.{Invariant}
 use Rattle.blink_machine.proofs.Offered.{step_law, has_answer_at_end}
 use Rattle.blink_live.specs.declared.view.Plan.{Plan}
-use Rattle.blink_live.specs.declared.view.Role.TheVariants.{Pass}
+use Rattle.blink_live.specs.declared.view.Role.TheVariants.{Keeper, Pass}
 use Rattle.blink_live.specs.declared.view.View.{View}
 use Rattle.blink_live.specs.Changes.{put}
 use Rattle.blink_live.specs.Rule.{Owners, PageWordIs, latch_word, IsInRole, IsBoundedWay, Knows, IsTableAt, IsTable}
 use Rattle.blink_live.specs.AtomicSteps.{GoesOn, CanGoOn, tries_latch, lets_go}
-use Rattle.blink_live.specs.Views.{SeatState, going_on}
+use Rattle.blink_live.specs.Views.{SeatState, going_on, latch_number_by}
+use Rattle.blink_live.specs.Words.{place_word, word_count}
 use Rattle.blink_live.proofs.found.OperationBegins.{goes_on_as}
+use Rattle.blink_live.proofs.table.PoolStays.{pool_stays}
 use Rattle.blink_live.proofs.table.MapsWithOneChange.{put_here, put_else}
 use Rattle.blink_live.proofs.table.NextPageIsThere.{next_page_is_there}
 use Rattle.blink_live.proofs.table.OthersKnowTheSame.{LeavesOthers, RowStays, page_word_still, reads_still}
@@ -40,7 +42,7 @@ nobody_has owners (Some seat) some_number zero_is = absurd (let least = some_num
 abbrev pub passed : TreeState → ℕ → Option ℕ → ℕ → Option PlainMachine → TreeState
 passed tree_state number holder worker operation = record tree_state { holder = put tree_state.holder number holder; machines = put tree_state.machines worker operation }
 
-module _ (plan : Plan) (s : State ℕ View) (tree_state : TreeState) (h : IsTableAt plan s tree_state) (id number x way : ℕ) (v : View) (after : PlainMachine) (holder : Option ℕ) (at : get_elem? s.views id ≡ some v) (role : v.role ≡ Pass)
+module _ (plan : Plan) (s : State ℕ View) (tree_state : TreeState) (h : IsTableAt plan s tree_state) (id number x way : ℕ) (v : View) (after : PlainMachine) (holder : Option ℕ) (at : get_elem? s.views id ≡ some v) (role : v.role ≡ Pass) (under : (m : PlainMachine) × (v.operation ≡ Some m))
     (in_range : number < plan.counts.numbers) where
   abbrev pub then : TreeState
   then = passed tree_state number holder id (goes_on after after.state)
@@ -51,13 +53,24 @@ module _ (plan : Plan) (s : State ℕ View) (tree_state : TreeState) (h : IsTabl
   abbrev pub w : View
   w = going_on v after way
 
+  behind : (n : ℕ) → slice_index words (word_count plan.counts + n) ≡ slice_index s.words (word_count plan.counts + n)
+  behind n = get_or-set_other s.words (plan.counts.numbers + number) (word_count plan.counts + n) x 0 (λ e. omega (arith, e, in_range))
+
+  -- the words of places stand behind
+  other_place : (place : ℕ) → slice_index words (place_word plan.counts place) ≡ slice_index s.words (place_word plan.counts place)
+  other_place place = get_or-set_other s.words (plan.counts.numbers + number) (place_word plan.counts place) x 0 (λ e. omega (arith, e, in_range))
+
   leaves : LeavesOthers plan s tree_state then h id words h.owners h.log
   leaves = record {
     machines = λ seat other. put_else tree_state.machines id seat (goes_on after after.state) other;
     ways = λ seat m other is. refl;
-    rows = λ row least apart. (refl, row_stays plan s.words (plan.counts.numbers + number) x row (omega (arith, in_range)));
-    numbers = λ n apart. (refl, λ free. free);
-    keys = λ key apart. (refl, refl, refl);
+    rows = λ row least most apart shared. (refl, row_stays plan s.words (plan.counts.numbers + number) x row (omega (arith, in_range)));
+    numbers = λ n apart shared. (refl, λ free. free);
+    keys = λ owned key apart. (refl, refl, refl);
+    nobodys = h.nobodys;
+    pool = λ common. pool_stays plan h.owners h.owners s.words words tree_state then (behind 1) (behind 2) (λ row least most own. (own, row_stays plan s.words (plan.counts.numbers + number) x row (omega (arith, in_range)))) (λ n own. (own, λ free. free)) (h.pool common);
+    places = λ place. refl;
+    place_words = λ place inside apart. other_place place;
     latch_numbers = λ seat. refl;
     longer = λ seen is. is;
   }
@@ -67,7 +80,7 @@ module _ (plan : Plan) (s : State ℕ View) (tree_state : TreeState) (h : IsTabl
   knows bounded =
       let known = h.views id v at in
       let kept = subst (IsInRole plan h.owners h.log id v) role known.in_role in
-      let stays : (row : ℕ) → RowStays plan s.words words row = λ row. row_stays plan s.words (plan.counts.numbers + number) x row (omega (arith, in_range)) in record {
+      let stays : (row : ℕ) → 1 ≤ row → row ≤ plan.counts.rows → RowStays plan s.words words row = λ row least most. row_stays plan s.words (plan.counts.numbers + number) x row (omega (arith, in_range)) in record {
         same_plan = known.same_plan;
         operation = put_here tree_state.machines id (goes_on after after.state);
         bounded = bounded;
@@ -79,6 +92,9 @@ module _ (plan : Plan) (s : State ℕ View) (tree_state : TreeState) (h : IsTabl
         saw = known.saw;
         heard = known.heard;
         in_role = subst (IsInRole plan h.owners h.log id w) (sym role) kept;
+        placed = λ common is. let p = known.placed common is in record { in_range = p.in_range; own = p.own; word = other_place v.place ∙ p.word; busy = λ m goes. p.busy under.0 under.1 };
+        places_left = λ dealt back is. absurd (let e : Pass ≡ Keeper dealt back = sym role ∙ is in cc);
+        nothing = λ common dealt back is. absurd (let e : Pass ≡ Keeper dealt back = sym role ∙ is in cc);
       }
 
   -- the words and the tree afterwards
@@ -118,19 +134,19 @@ module _ (plan : Plan) (s : State ℕ View) (tree_state : TreeState) (h : IsTabl
       → IsTable plan record { words = words; homes = s.homes; views = set s.views id w }
   passes_latch invariant bounded is some_number =
       let kept = subst (IsInRole plan h.owners h.log id v) role (h.views id v at).in_role in
-      store_keeps plan s tree_state then h id (plan.counts.numbers + number) x kept.0 v w at h.owners h.log h.now leaves (stored invariant is some_number) refl (knows bounded)
+      store_keeps plan s tree_state then h id (plan.counts.numbers + number) x kept.0 v w at h.owners h.log h.now leaves (stored invariant is some_number) refl refl (knows bounded)
 
 -- ---- the latch is got, or not
 
-pub latch_is_tried : (plan : Plan) (slots id number : ℕ) (me : SeatState) (m : PlainMachine) → me.0.role ≡ Pass → me.0.operation ≡ Some m → FitsWords m.op → NeedsLatch m number → number < plan.counts.numbers → 2 ≤ me.0.rows.stop
-    → Allows (IsTable plan) slots id me (plan.counts.numbers + number) (λ n. either (eqb n 0) (me.0.rows.stop - 1) n)
-    (tries_latch (step slots (plan.counts.numbers + number) 0 (me.0.rows.stop - 1) none) me)
-latch_is_tried plan slots id number me m role at_m fits needs in_range some_row s table homes at small =
+pub latch_is_tried : (plan : Plan) (slots id number : ℕ) (me : SeatState) (m : PlainMachine) → me.0.role ≡ Pass → me.0.operation ≡ Some m → FitsWords m.op → NeedsLatch m number → number < plan.counts.numbers → 1 ≤ latch_number_by me.0
+    → Allows (IsTable plan) slots id me (plan.counts.numbers + number) (λ n. either (eqb n 0) (latch_number_by me.0) n)
+    (tries_latch (step slots (plan.counts.numbers + number) 0 (latch_number_by me.0) none) me)
+latch_is_tried plan slots id number me m role at_m fits needs in_range some_latch s table homes at small =
     let tree_state : TreeState = table.0 in
     let h : IsTableAt plan s tree_state = table.1 in
     let known = h.views id me.0 at in
     let place : ℕ = plan.counts.numbers + number in
-    let x : ℕ = me.0.rows.stop - 1 in
+    let x : ℕ = latch_number_by me.0 in
     let found : ℕ = slice_index s.words place in
     let after : PlainMachine = done m 0 in
     let under : tree_state.machines id ≡ Some m = known.operation ∙ at_m in
@@ -148,8 +164,8 @@ latch_is_tried plan slots id number me m role at_m fits needs in_range some_row 
       going_on me.0 after way,
       keeps,
       tt,
-      passes_latch plan s tree_state h id number x way me.0 after (Some id) at role in_range invariant (λ other is. ap (descent_bound tree_state.pages) (sym (goes_on_as after after.state other is))) (sym kept.1)
-          (λ seat is. let same : id ≡ seat = cc in let its_number : h.owners.latch_number id ≡ me.0.rows.stop - 1 = kept.1 in subst (λ (j : ℕ). 1 ≤ h.owners.latch_number j) same (omega (arith, its_number, some_row))),
+      passes_latch plan s tree_state h id number x way me.0 after (Some id) at role (m, at_m) in_range invariant (λ other is. ap (descent_bound tree_state.pages) (sym (goes_on_as after after.state other is))) (sym kept.1)
+          (λ seat is. let same : id ≡ seat = cc in subst (λ (j : ℕ). 1 ≤ h.owners.latch_number j) same (subst (λ (n : ℕ). 1 ≤ n) (sym kept.1) some_latch)),
       λ k n at_k needs_k is. record {
         got = λ none_found.
             let same : m ≡ k = cc in
@@ -159,7 +175,7 @@ latch_is_tried plan slots id number me m role at_m fits needs in_range some_row 
             (record {
               way = way;
               is = refl;
-              next = next_there plan s tree_state h id number x way me.0 after (Some id) at role in_range invariant;
+              next = next_there plan s tree_state h id number x way me.0 after (Some id) at role (m, at_m) in_range invariant;
               uses = step_law.allowance_is_used_up.by_step tree_state new id m after (Moved (kind.Latch number)) h.invariant fits its stepped_so;
               answers_at_end = λ ends. has_answer_at_end tree_state h.invariant id m after its ends (Moved (kind.Latch number)) new stepped_so;
             });
@@ -194,7 +210,7 @@ latch_is_let_go plan slots id number me m role at_m fits needs in_range s table 
       going_on me.0 after way,
       keeps,
       tt,
-      passes_latch plan s tree_state h id number 0 way me.0 after None at role in_range invariant (λ other is. ap (descent_bound tree_state.pages) (sym (goes_on_as after after.state other is))) refl (λ seat is. absurd (cc)),
+      passes_latch plan s tree_state h id number 0 way me.0 after None at role (m, at_m) in_range invariant (λ other is. ap (descent_bound tree_state.pages) (sym (goes_on_as after after.state other is))) refl (λ seat is. absurd (cc)),
       λ k n at_k needs_k is.
           let same : m ≡ k = cc in
           let one : Unlatch number ≡ Unlatch n = sym needs ∙ (ap (λ (j : PlainMachine). need_at j.state) same ∙ needs_k) in
@@ -203,7 +219,7 @@ latch_is_let_go plan slots id number me m role at_m fits needs in_range s table 
           (record {
             way = way;
             is = refl;
-            next = next_there plan s tree_state h id number 0 way me.0 after None at role in_range invariant;
+            next = next_there plan s tree_state h id number 0 way me.0 after None at role (m, at_m) in_range invariant;
             uses = step_law.allowance_is_used_up.by_step tree_state new id m after (Moved (kind.Unlatch number)) h.invariant fits its stepped_so;
             answers_at_end = λ ends. has_answer_at_end tree_state h.invariant id m after its ends (Moved (kind.Unlatch number)) new stepped_so;
           }),

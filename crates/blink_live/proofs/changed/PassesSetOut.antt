@@ -1,5 +1,5 @@
 -- A pass that has a change of the operation's kind left can begin an operation of one of its keys.
-use Rattle.std.proofs.Common.{◌≡◌, ◌≢◌, ℕ, ◌+◌, ◌≤◌, List, subst}
+use Rattle.std.proofs.Common.{◌≡◌, ◌≢◌, inl, ℕ, ◌+◌, ◌≤◌, List, sym, ◌∙◌, subst, arith}
 use Rattle.std.specs.Prelude.{Contains}
 use Rattle.blink_batch.specs.{key_of}
 use Rattle.blink_batch.specs.declared.Op.{Op}
@@ -7,11 +7,12 @@ use Rattle.blink_machine.specs.{IsUpdate}
 use Rattle.blink_rows.specs.declared.span.Span.{Span}
 use Rattle.blink_live.specs.declared.live.Live.{Live}
 use Rattle.blink_live.specs.declared.live.Pass.{Pass}
+use Rattle.blink_live.specs.declared.view.View.{View}
 use Rattle.blink_live.specs.Allowed.{changes_left}
 use Rattle.blink_live.specs.Handles.{IsPassOf, keys_of}
 use Rattle.blink_live.specs.Seats.{IsPassSeat}
-use Rattle.blink_live.specs.Updating.{room_for}
-use Rattle.blink_live.specs.Views.{CanBegin, rows_of, pages_of}
+use Rattle.blink_live.specs.Updating.{room_for, room_in}
+use Rattle.blink_live.specs.Views.{CanBegin, IsOwned, MayChange, latch_in, rows_of, pages_of, span}
 use Rattle.blink_live.proofs.dealt.ChangesLeft.{takes_some}
 
 -- the pass has what the operation takes, and its seat can begin the operation
@@ -21,8 +22,16 @@ pub record CanSetOut (live : Live) (op : Op) (pass : Pass) : Type 0 where
   pub some_row : 1 ≤ pass.rows.stop
   pub seat : IsPassSeat live pass.seat.table_id pass.seat.me
   pub can_begin : CanBegin pass.seat.me.0 op
-  pub same_room : room_for op pass.rows pass.pages ≡ room_for op pass.seat.me.0.rows pass.seat.me.0.pages
-  pub own_key : Contains pass.seat.me.0.share.keys (key_of op)
+  pub same_room : room_for op pass.rows pass.pages ≡ room_in op pass.seat.me.0
+  pub may : MayChange pass.seat.me.0 (key_of op)
+
+-- a pass's latch number is that of its last row
+in_room : (op : Op) (v : View) → IsOwned v.plan → room_for op v.rows v.pages ≡ room_in op v
+in_room op v owned = λ i. record {
+  rows = span v.rows.next (v.rows.next + rows_of op);
+  pages = span v.pages.next (v.pages.next + pages_of op);
+  latch_number = latch_in (sym owned i) v.rows.stop;
+}
 
 pub can_set_out : (live : Live) (op : Op) (pass : Pass) → IsPassOf live pass → IsUpdate op → Contains (keys_of pass) (key_of op) → changes_left op pass.pages pass.rows ≢ 0 → CanSetOut live op pass
 can_set_out live op pass its_own updates own some =
@@ -34,7 +43,8 @@ can_set_out live op pass its_own updates own some =
       can_begin = record {
         rows = subst (λ (s : Span). s.next + rows_of op ≤ s.stop) pass.rows_are takes.enough_rows;
         pages = subst (λ (s : Span). s.next + pages_of op ≤ s.stop) pass.pages_are takes.enough_pages;
+        announced = λ common. absurd (let none = pass.owned in omega (arith, none, common));
       };
-      same_room = λ i. room_for op (pass.rows_are i) (pass.pages_are i);
-      own_key = subst (λ (keys : List ℕ). Contains keys (key_of op)) pass.keys_are own;
+      same_room = (λ i. room_for op (pass.rows_are i) (pass.pages_are i)) ∙ in_room op pass.seat.me.0 pass.owned;
+      may = inl (subst (λ (keys : List ℕ). Contains keys (key_of op)) pass.keys_are own);
     }

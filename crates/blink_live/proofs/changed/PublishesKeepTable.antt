@@ -1,5 +1,5 @@
 -- A page word that names a row of one's own is the tree's write of a page, old or new, or of the prime block, and keeps the rule.
-use Rattle.std.proofs.Common.{◌≡◌, ◌≢◌, ℕ, suc, ◌<◌, ◌≤◌, Option, Some, None, List, [], ◌++◌, set, refl, sym, ap, ◌∙◌, subst, append_assoc, arith}
+use Rattle.std.proofs.Common.{◌≡◌, ◌≢◌, ⊎_elim, ℕ, suc, ◌<◌, ◌≤◌, Option, Some, None, List, [], ◌++◌, set, refl, sym, ap, ◌∙◌, subst, append_assoc, arith}
 use Rattle.std.specs.Prelude.{Contains, IsSome}
 use mathlib.Core.Option.{some, none}
 use mathlib.Core.List.{IsPrefix, append-nil}
@@ -23,9 +23,9 @@ use Rattle.blink_live.specs.declared.view.Role.TheVariants.{Pass}
 use Rattle.blink_live.specs.declared.view.Share.{Share}
 use Rattle.blink_live.specs.declared.view.View.{View}
 use Rattle.blink_live.specs.Changes.{put, after, states_of, changes_made, Learns}
-use Rattle.blink_live.specs.AtomicSteps.{Decided, CanGoOn, EndsWithOwn, PublishesPage, PublishesNew, PublishesPrime, publishes_page, publishes_new, publishes_prime}
-use Rattle.blink_live.specs.Rule.{IsOwnKey, IsShare, HasNumbers, IsTableAt, IsTable}
-use Rattle.blink_live.specs.Views.{SeatState, KnowsItsOwn, span, changed_by, publishes}
+use Rattle.blink_live.specs.AtomicSteps.{AnswersInOrder, Decided, CanGoOn, EndsWithOwn, PublishesPage, PublishesNew, PublishesPrime, publishes_page, publishes_new, publishes_prime}
+use Rattle.blink_live.specs.Rule.{IsOwnKey, IsShare, HasNumbers, Knows, IsTableAt, IsTable}
+use Rattle.blink_live.specs.Views.{IsCommon, IsOwned, MayChange, SeatState, KnowsItsOwn, adds, span, changed_by, publishes}
 use Rattle.blink_live.proofs.changed.ChangesAreTheMaps.{states_of-append, none_of_other, other_stays, map_is_changed}
 use Rattle.blink_live.proofs.changed.RowsArePublished.{gives_row, IsStepOfTree, ChangesOwn, publish_keeps}
 use Rattle.blink_live.proofs.found.OperationBegins.{goes_on_as}
@@ -46,7 +46,7 @@ pub record BecomesPublished (plan : Plan) (s : State ℕ View) (id number : ℕ)
   pub seen : List Change
   pub table : IsTable plan record { words = set s.words number me.0.call.rows.next; homes = s.homes; views = set s.views id (publishes me.0 after_it way pages share seen) }
   pub learns : Learns me.0 seen
-  pub decided : Decided m after_it me.0.share share
+  pub decided : Decided m after_it me.0 share seen
   pub next : CanGoOn me.0.plan after_it
   pub uses : UsesUp m (Moved kind) after_it
   pub answers_at_end : after_it.state ≡ Ended → IsSome after_it.answer
@@ -55,45 +55,98 @@ pub record BecomesPublished (plan : Plan) (s : State ℕ View) (id number : ℕ)
   pub longest : IsLongest (set s.views id (publishes me.0 after_it way pages share seen)) seen
 
 module _ (plan : Plan) (s : State ℕ View) (tree_state then : TreeState) (h : IsTableAt plan s tree_state) (id number : ℕ) (kind : Kind) (pages : Span) (me : SeatState) (m after_it : PlainMachine) (content : List ℕ)
-    (at : get_elem? s.views id ≡ some me.0) (role : me.0.role ≡ Pass) (its : IsItsOperation tree_state id m) (fits : FitsWords m.op) (stepped : Steps tree_state id m (Moved kind) after_it then)
+    (at : get_elem? s.views id ≡ some me.0) (role : me.0.role ≡ Pass) (under : (k : PlainMachine) × (me.0.operation ≡ Some k)) (its : IsItsOperation tree_state id m) (fits : FitsWords m.op) (stepped : Steps tree_state id m (Moved kind) after_it then)
     (tree : IsStepOfTree plan s tree_state then h id number (descent_bound then.pages after_it) me.0 after_it content pages at role)
-    (in_range : number < plan.counts.numbers) (room : me.0.call.rows.next < me.0.call.rows.stop) (is_row : IsRowOf me.0.call.staged content) (among : Contains me.0.share.keys (key_of m.op)) where
-  own_key : IsOwnKey plan h.owners h.log (suc id) me.0.share (key_of m.op)
-  own_key = (h.views id me.0 at).share (key_of m.op) among
+    (in_range : number < plan.counts.numbers) (room : me.0.call.rows.next < me.0.call.rows.stop) (is_row : IsRowOf me.0.call.staged content) (may : MayChange me.0 (key_of m.op)) where
+  known : Knows plan h.owners s.words tree_state h.log id me.0
+  known = h.views id me.0 at
 
   abbrev kept_before : Option ℕ
-  kept_before = pointer_of me.0.share.entries (key_of m.op)
-
-  in_map : pointer_of h.now (key_of m.op) ≡ kept_before
-  in_map = h.kept (key_of m.op) ∙ sym own_key.kept
-
-  its_key : (key : ℕ) → h.owners.key key ≢ suc id → key_of m.op ≢ key
-  its_key key apart same = apart (ap h.owners.key (sym same) ∙ own_key.own)
+  kept_before = after (pointer_of plan.opening) h.log (key_of m.op)
 
   abbrev its_changes : List Change
   its_changes = changes_made m.op kept_before
 
-  -- the changes where the step decides the operation
-  decides_here : HasEntries then (map_after h.now m.op)
-      → ChangesOwn plan s tree_state then h id number (descent_bound then.pages after_it) me.0 after_it content pages at role tree in_range room is_row its_changes (map_after h.now m.op) (changed_by m.op me.0.share)
-  decides_here has_entries = record {
-    other_changes = λ key apart. none_of_other m.op kept_before key (its_key key apart);
-    other_kept = λ key apart. other_stays (after (pointer_of plan.opening) h.log) m.op kept_before key (its_key key apart);
-    own_share = λ key mine.
-        let own = (h.views id me.0 at).share key mine in record {
+  -- in a common table the seat has no key
+  no_key : IsCommon plan → (key : ℕ) → ¬ Contains me.0.share.keys key
+  no_key common key mine =
+      let own : h.owners.key key ≡ suc id = (known.share key mine).own in
+      let none : h.owners.key key ≡ 0 = h.nobodys common key in
+      omega (arith, own, none)
+
+  common_plan : IsCommon me.0.plan → IsCommon plan
+  common_plan common = subst IsCommon known.same_plan common
+
+  -- where passes own the keys, nobody else has this one
+  its_key : IsOwned plan → (key : ℕ) → h.owners.key key ≢ suc id → key_of m.op ≢ key
+  its_key owned key apart same = ⊎_elim
+      (λ (mine : Contains me.0.share.keys (key_of m.op)). apart (ap h.owners.key (sym same) ∙ (known.share (key_of m.op) mine).own))
+      (λ (common : IsCommon me.0.plan). let some = common_plan common in omega (arith, some, owned)) may
+
+  -- the share where the step decides the operation
+  record IsShareThen (share : Share) : Type 0 where
+    pub keys : share.keys ≡ me.0.share.keys
+    pub changes : share.changes ≡ me.0.share.changes ++ its_changes
+    pub own : Contains me.0.share.keys (key_of m.op) → (kept_before ≡ pointer_of me.0.share.entries (key_of m.op)) × (share ≡ changed_by m.op me.0.share)
+    pub is_share : IsShare plan (gives_row h.owners me.0.call.rows.next) (h.log ++ its_changes) (suc id) share
+
+  own_share_then : Contains me.0.share.keys (key_of m.op) → IsShareThen (changed_by m.op me.0.share)
+  own_share_then mine =
+      let own_key : IsOwnKey plan h.owners h.log (suc id) me.0.share (key_of m.op) = known.share (key_of m.op) mine in
+      let made : changes_made m.op (pointer_of me.0.share.entries (key_of m.op)) ≡ its_changes = ap (changes_made m.op) own_key.kept in record {
+        keys = refl;
+        changes = ap (λ (l : List Change). me.0.share.changes ++ l) made;
+        own = λ has. (sym own_key.kept, refl);
+        is_share = λ key has. let own = known.share key has in record {
           own = own.own;
-          kept = map_is_changed (pointer_of plan.opening) h.log me.0.share.entries m.op kept_before refl (sym own_key.kept) key own.kept;
-          changes = states_of-append key h.log its_changes ∙ (ap (λ (l : List (Option ℕ)). l ++ states_of key its_changes) own.changes ∙ sym (states_of-append key me.0.share.changes its_changes));
+          kept = map_is_changed (pointer_of plan.opening) h.log me.0.share.entries m.op kept_before own_key.kept refl key own.kept;
+          changes =
+              states_of-append key h.log its_changes
+              ∙ (ap (λ (l : List (Option ℕ)). l ++ states_of key its_changes) own.changes
+              ∙ (sym (states_of-append key me.0.share.changes its_changes)
+              ∙ ap (λ (l : List Change). states_of key (me.0.share.changes ++ l)) (sym made)));
         };
-    is_map = record { ascending = IsAscending-map_after h.now m.op h.is_map.ascending; kept = has_entries };
-    kept_now = λ key. map_is_changed (pointer_of plan.opening) h.log h.now m.op kept_before in_map (sym own_key.kept) key (h.kept key);
+      }
+
+  common_share_then : IsCommon plan → IsShareThen (adds its_changes me.0.share)
+  common_share_then common = record {
+    keys = refl;
+    changes = refl;
+    own = λ mine. absurd (no_key common (key_of m.op) mine);
+    is_share = λ key mine. absurd (no_key common key mine);
   }
 
+  share_then : (share : Share) × IsShareThen share
+  share_then = ⊎_elim
+      (λ (mine : Contains me.0.share.keys (key_of m.op)). (changed_by m.op me.0.share, own_share_then mine))
+      (λ (common : IsCommon me.0.plan). (adds its_changes me.0.share, common_share_then (common_plan common))) may
+
+  -- the changes where the step decides the operation
+  decides_here : (share : Share) → IsShareThen share → HasEntries then (map_after h.now m.op)
+      → ChangesOwn plan s tree_state then h id number (descent_bound then.pages after_it) me.0 after_it content pages at role under tree in_range room is_row its_changes (map_after h.now m.op) share
+  decides_here share is has_entries = record {
+    other_changes = λ owned key apart. none_of_other m.op kept_before key (its_key owned key apart);
+    other_kept = λ owned key apart. other_stays (after (pointer_of plan.opening) h.log) m.op kept_before key (its_key owned key apart);
+    own_share = is.is_share;
+    is_map = record { ascending = IsAscending-map_after h.now m.op h.is_map.ascending; kept = has_entries };
+    kept_now = λ key. map_is_changed (pointer_of plan.opening) h.log h.now m.op kept_before (h.kept (key_of m.op)) refl key (h.kept key);
+  }
+
+  -- the operation answers by the changes so far
+  in_order : (share : Share) → IsShareThen share → after_it.answer ≡ Some (answer_at m.op (pointer_of h.now (key_of m.op))) → AnswersInOrder m.op me.0 after_it.answer share (h.log ++ its_changes)
+  in_order share is answers = subst (λ (p : Plan). (after_it.answer ≡ Some (answer_at m.op (after (pointer_of p.opening) h.log (key_of m.op))))
+      × IsPrefix (h.log ++ changes_made m.op (after (pointer_of p.opening) h.log (key_of m.op))) (h.log ++ its_changes)
+      × (share.changes ≡ me.0.share.changes ++ changes_made m.op (after (pointer_of p.opening) h.log (key_of m.op)))
+      × (Contains me.0.share.keys (key_of m.op) → (after (pointer_of p.opening) h.log (key_of m.op) ≡ pointer_of me.0.share.entries (key_of m.op)) × (share ≡ changed_by m.op me.0.share))
+      → AnswersInOrder m.op me.0 after_it.answer share (h.log ++ its_changes)) known.same_plan
+      (λ t. record { before = h.log; saw = known.saw; answers = t.0; goes_on = t.1; keys = is.keys; changes = t.2; own = t.3 })
+      (answers ∙ ap (λ (k : Option ℕ). Some (answer_at m.op k)) (h.kept (key_of m.op)), ([], append-nil (h.log ++ its_changes)), is.changes, is.own)
+
   -- and where it doesn't
-  decides_nothing : HasEntries then h.now → ChangesOwn plan s tree_state then h id number (descent_bound then.pages after_it) me.0 after_it content pages at role tree in_range room is_row [] h.now me.0.share
+  decides_nothing : HasEntries then h.now → ChangesOwn plan s tree_state then h id number (descent_bound then.pages after_it) me.0 after_it content pages at role under tree in_range room is_row [] h.now me.0.share
   decides_nothing has_entries = record {
-    other_changes = λ key apart. refl;
-    other_kept = λ key apart. refl;
+    other_changes = λ owned key apart. refl;
+    other_kept = λ owned key apart. refl;
     own_share = λ key mine.
         let own = (h.views id me.0 at).share key mine in record {
           own = own.own;
@@ -115,8 +168,8 @@ module _ (plan : Plan) (s : State ℕ View) (tree_state then : TreeState) (h : I
 
   pub becomes_published : BecomesPublished plan s id number kind pages me m after_it
   becomes_published =
-      let known = h.views id me.0 at in
       let way : ℕ = descent_bound then.pages after_it in
+      let decided_share = share_then in
       let ends : EndsAt plan then = record { no_page = tree.no_other_page; no_latch = λ n beyond. tree.same_holder n ∙ h.no_other_latch n beyond } in
       let next = next_page_is_there plan then ends me.0.plan id after_it known.same_plan tree.invariant tree.own in
       let uses = step_law.allowance_is_used_up.by_step tree_state then id m after_it (Moved kind) h.invariant fits its stepped in
@@ -130,23 +183,23 @@ module _ (plan : Plan) (s : State ℕ View) (tree_state then : TreeState) (h : I
       elim (step_law.step_decides tree_state then id m after_it (Moved kind) h.now h.invariant fits its stepped h.is_map.ascending h.is_map.kept) as (λ d. BecomesPublished plan s id number kind pages me m after_it) [
         | deciding none_yet answers has_entries ↦ record {
           way = way;
-          share = changed_by m.op me.0.share;
+          share = decided_share.0;
           seen = h.log ++ its_changes;
-          table = publish_keeps plan s tree_state then h id number way me.0 after_it content pages at role tree in_range room is_row its_changes (map_after h.now m.op) (changed_by m.op me.0.share) (decides_here has_entries) bounded;
+          table = publish_keeps plan s tree_state then h id number way me.0 after_it content pages at role under tree in_range room is_row its_changes (map_after h.now m.op) decided_share.0 (decides_here decided_share.0 decided_share.1 has_entries) bounded;
           learns = learns its_changes;
-          decided = Decided.deciding none_yet (answers ∙ ap (λ (k : Option ℕ). Some (answer_at m.op k)) in_map) refl;
+          decided = Decided.deciding none_yet (in_order decided_share.0 decided_share.1 answers);
           next = next;
           uses = uses;
           answers_at_end = answers_at_end;
-          knows_own = own_known its_changes (changed_by m.op me.0.share) (decides_here has_entries).own_share;
-          ends_with_own = record { before = h.log; made = its_changes; learns = learns_before; own = refl; last = refl };
-          longest = is_longest its_changes (changed_by m.op me.0.share);
+          knows_own = own_known its_changes decided_share.0 decided_share.1.is_share;
+          ends_with_own = record { before = h.log; made = its_changes; learns = learns_before; own = decided_share.1.changes; last = refl };
+          longest = is_longest its_changes decided_share.0;
         }
         | other same_answer has_entries ↦ record {
           way = way;
           share = me.0.share;
           seen = h.log ++ [];
-          table = publish_keeps plan s tree_state then h id number way me.0 after_it content pages at role tree in_range room is_row [] h.now me.0.share (decides_nothing has_entries) bounded;
+          table = publish_keeps plan s tree_state then h id number way me.0 after_it content pages at role under tree in_range room is_row [] h.now me.0.share (decides_nothing has_entries) bounded;
           learns = learns [];
           decided = Decided.other same_answer refl;
           next = next;
@@ -201,9 +254,9 @@ module _ (plan : Plan) (s : State ℕ View) (tree_state : TreeState) (h : IsTabl
 
 -- in a page's place
 page_becomes_published : (plan : Plan) (s : State ℕ View) (table : IsTable plan s) (id number : ℕ) (me : SeatState) (m : PlainMachine) → get_elem? s.views id ≡ some me.0 → me.0.role ≡ Pass → me.0.operation ≡ Some m → FitsWords m.op
-    → NeedsWrite m number → 1 ≤ number → number < plan.counts.numbers → me.0.call.rows.next < me.0.call.rows.stop → IsRowOf me.0.call.staged (page_words (page_out m 0)) → Contains me.0.share.keys (key_of m.op)
+    → NeedsWrite m number → 1 ≤ number → number < plan.counts.numbers → me.0.call.rows.next < me.0.call.rows.stop → IsRowOf me.0.call.staged (page_words (page_out m 0)) → MayChange me.0 (key_of m.op)
     → BecomesPublished plan s id number (write_page number) me.0.call.pages me m (done m 0)
-page_becomes_published plan s table id number me m at role at_m fits needs some_number in_range room is_row among =
+page_becomes_published plan s table id number me m at role at_m fits needs some_number in_range room is_row may =
     let tree_state : TreeState = table.0 in
     let h : IsTableAt plan s tree_state = table.1 in
     let known = h.views id me.0 at in
@@ -224,13 +277,13 @@ page_becomes_published plan s table id number me m at role at_m fits needs some_
     (numbers_else plan s tree_state h id number way me.0 after_it page me.0.call.pages at role some_number in_range me.0.pages (λ n low high. differs n (known.numbers.free n low high)) known.numbers)
     (numbers_else plan s tree_state h id number way me.0 after_it page me.0.call.pages at role some_number in_range me.0.call.pages (λ n low high. differs n (known.for_call.numbers.free n low high)) known.for_call.numbers)
     known.for_call.before.1 in
-    becomes_published plan s tree_state then h id number (kinds.WritePage number) me.0.call.pages me m after_it (page_words page) at role its fits stepped tree in_range room is_row among
+    becomes_published plan s tree_state then h id number (kinds.WritePage number) me.0.call.pages me m after_it (page_words page) at role (m, at_m) its fits stepped tree in_range room is_row may
 
 pub page_is_published : (plan : Plan) (slots id number : ℕ) (me : SeatState) (m : PlainMachine) → me.0.role ≡ Pass → me.0.operation ≡ Some m → FitsWords m.op → NeedsWrite m number
-    → 1 ≤ number → number < plan.counts.numbers → me.0.call.rows.next < me.0.call.rows.stop → IsRowOf me.0.call.staged (page_words (page_out m 0)) → Contains me.0.share.keys (key_of m.op)
+    → 1 ≤ number → number < plan.counts.numbers → me.0.call.rows.next < me.0.call.rows.stop → IsRowOf me.0.call.staged (page_words (page_out m 0)) → MayChange me.0 (key_of m.op)
     → Allows (IsTable plan) slots id me number (λ n. me.0.call.rows.next) (λ n. publishes_page (step slots number me.0.call.rows.next 0 none) me n)
-page_is_published plan slots id number me m role at_m fits needs some_number in_range room is_row among s table homes at small =
-    let to = page_becomes_published plan s table id number me m at role at_m fits needs some_number in_range room is_row among in
+page_is_published plan slots id number me m role at_m fits needs some_number in_range room is_row may s table homes at small =
+    let to = page_becomes_published plan s table id number me m at role at_m fits needs some_number in_range room is_row may in
     let then : SeatState = (publishes me.0 (done m 0) to.way me.0.call.pages to.share to.seen, me.1) in (
       then.0,
       keeps,
@@ -245,9 +298,9 @@ page_is_published plan slots id number me m role at_m fits needs some_number in_
 -- ---- a new page
 
 new_becomes_published : (plan : Plan) (s : State ℕ View) (table : IsTable plan s) (id : ℕ) (me : SeatState) (m : PlainMachine) → get_elem? s.views id ≡ some me.0 → me.0.role ≡ Pass → me.0.operation ≡ Some m → FitsWords m.op → NeedsNew m
-    → me.0.call.pages.next < me.0.call.pages.stop → me.0.call.rows.next < me.0.call.rows.stop → IsRowOf me.0.call.staged (page_words (page_out m me.0.call.pages.next)) → Contains me.0.share.keys (key_of m.op)
+    → me.0.call.pages.next < me.0.call.pages.stop → me.0.call.rows.next < me.0.call.rows.stop → IsRowOf me.0.call.staged (page_words (page_out m me.0.call.pages.next)) → MayChange me.0 (key_of m.op)
     → BecomesPublished plan s id me.0.call.pages.next (write_page me.0.call.pages.next) (span (suc me.0.call.pages.next) me.0.call.pages.stop) me m (done m me.0.call.pages.next)
-new_becomes_published plan s table id me m at role at_m fits needs number_left room is_row among =
+new_becomes_published plan s table id me m at role at_m fits needs number_left room is_row may =
     let tree_state : TreeState = table.0 in
     let h : IsTableAt plan s tree_state = table.1 in
     let known = h.views id me.0 at in
@@ -276,13 +329,13 @@ new_becomes_published plan s table id me m at role at_m fits needs number_left r
     (numbers_else plan s tree_state h id number way me.0 after_it page rest at role some_number in_range rest (λ n low high same. omega (arith, low, same))
     (record { in_range = (omega arith, last); own = λ n low high. numbers.own n (omega (arith, low)) high; free = λ n low high. numbers.free n (omega (arith, low)) high }))
     before in
-    becomes_published plan s tree_state then h id number (kinds.WritePage number) rest me m after_it (page_words page) at role its fits stepped tree in_range room is_row among
+    becomes_published plan s tree_state then h id number (kinds.WritePage number) rest me m after_it (page_words page) at role (m, at_m) its fits stepped tree in_range room is_row may
 
 pub new_is_published : (plan : Plan) (slots id : ℕ) (me : SeatState) (m : PlainMachine) → me.0.role ≡ Pass → me.0.operation ≡ Some m → FitsWords m.op → NeedsNew m
-    → me.0.call.pages.next < me.0.call.pages.stop → me.0.call.rows.next < me.0.call.rows.stop → IsRowOf me.0.call.staged (page_words (page_out m me.0.call.pages.next)) → Contains me.0.share.keys (key_of m.op)
+    → me.0.call.pages.next < me.0.call.pages.stop → me.0.call.rows.next < me.0.call.rows.stop → IsRowOf me.0.call.staged (page_words (page_out m me.0.call.pages.next)) → MayChange me.0 (key_of m.op)
     → Allows (IsTable plan) slots id me me.0.call.pages.next (λ n. me.0.call.rows.next) (λ n. publishes_new (step slots me.0.call.pages.next me.0.call.rows.next 0 none) me n)
-new_is_published plan slots id me m role at_m fits needs number_left room is_row among s table homes at small =
-    let to = new_becomes_published plan s table id me m at role at_m fits needs number_left room is_row among in
+new_is_published plan slots id me m role at_m fits needs number_left room is_row may s table homes at small =
+    let to = new_becomes_published plan s table id me m at role at_m fits needs number_left room is_row may in
     let then : SeatState = (publishes me.0 (done m me.0.call.pages.next) to.way (span (suc me.0.call.pages.next) me.0.call.pages.stop) to.share to.seen, me.1) in (
       then.0,
       keeps,
@@ -301,9 +354,9 @@ abbrev grown : TreeState → List ℕ → ℕ → Option PlainMachine → TreeSt
 grown tree_state prime worker operation = record tree_state { prime = prime; machines = put tree_state.machines worker operation }
 
 prime_becomes_published : (plan : Plan) (s : State ℕ View) (table : IsTable plan s) (id : ℕ) (me : SeatState) (m : PlainMachine) (prime : List ℕ) → get_elem? s.views id ≡ some me.0 → me.0.role ≡ Pass → me.0.operation ≡ Some m → FitsWords m.op
-    → NeedsPrimeWrite m → PrimeOut m prime → 1 ≤ plan.counts.numbers → me.0.call.rows.next < me.0.call.rows.stop → IsRowOf me.0.call.staged (prime_words prime) → Contains me.0.share.keys (key_of m.op)
+    → NeedsPrimeWrite m → PrimeOut m prime → 1 ≤ plan.counts.numbers → me.0.call.rows.next < me.0.call.rows.stop → IsRowOf me.0.call.staged (prime_words prime) → MayChange me.0 (key_of m.op)
     → BecomesPublished plan s id 0 write_prime me.0.call.pages me m (done m 0)
-prime_becomes_published plan s table id me m prime at role at_m fits needs out some_number room is_row among =
+prime_becomes_published plan s table id me m prime at role at_m fits needs out some_number room is_row may =
     let tree_state : TreeState = table.0 in
     let h : IsTableAt plan s tree_state = table.1 in
     let known = h.views id me.0 at in
@@ -333,13 +386,13 @@ prime_becomes_published plan s table id me m prime at role at_m fits needs out s
       call_before = known.for_call.before.1;
       no_other_page = h.no_other_page;
     } in
-    becomes_published plan s tree_state then h id 0 kinds.WritePrime me.0.call.pages me m after_it (prime_words prime) at role its fits stepped tree (omega (arith, some_number)) room is_row among
+    becomes_published plan s tree_state then h id 0 kinds.WritePrime me.0.call.pages me m after_it (prime_words prime) at role (m, at_m) its fits stepped tree (omega (arith, some_number)) room is_row may
 
 pub prime_is_published : (plan : Plan) (slots id : ℕ) (me : SeatState) (m : PlainMachine) (prime : List ℕ) → me.0.role ≡ Pass → me.0.operation ≡ Some m → FitsWords m.op → NeedsPrimeWrite m → PrimeOut m prime
-    → 1 ≤ plan.counts.numbers → me.0.call.rows.next < me.0.call.rows.stop → IsRowOf me.0.call.staged (prime_words prime) → Contains me.0.share.keys (key_of m.op)
+    → 1 ≤ plan.counts.numbers → me.0.call.rows.next < me.0.call.rows.stop → IsRowOf me.0.call.staged (prime_words prime) → MayChange me.0 (key_of m.op)
     → Allows (IsTable plan) slots id me 0 (λ n. me.0.call.rows.next) (λ n. publishes_prime (step slots 0 me.0.call.rows.next 0 none) me n)
-prime_is_published plan slots id me m prime role at_m fits needs out some_number room is_row among s table homes at small =
-    let to = prime_becomes_published plan s table id me m prime at role at_m fits needs out some_number room is_row among in
+prime_is_published plan slots id me m prime role at_m fits needs out some_number room is_row may s table homes at small =
+    let to = prime_becomes_published plan s table id me m prime at role at_m fits needs out some_number room is_row may in
     let then : SeatState = (publishes me.0 (done m 0) to.way me.0.call.pages to.share to.seen, me.1) in (
       then.0,
       keeps,

@@ -23,14 +23,15 @@ use Rattle.blink_machine.specs.Invariant.{Invariant}
 use Rattle.blink_machine.proofs.Offered.{step_law, descent_bound_stays}
 use Rattle.blink_live.specs.declared.view.Change.{Change}
 use Rattle.blink_live.specs.declared.view.Plan.{Plan}
-use Rattle.blink_live.specs.declared.view.Role.TheVariants.{Pass}
+use Rattle.blink_live.specs.declared.view.Role.TheVariants.{Keeper, Pass}
 use Rattle.blink_live.specs.declared.view.Share.{Share}
 use Rattle.blink_live.specs.declared.view.View.{View}
 use Rattle.blink_live.specs.Changes.{put, after, states_of}
 use Rattle.blink_live.specs.Rule.{Owners, IsPublished, PageWordIs, latch_word, HasRows, HasNumbers, IsShare, IsInRole, IsBoundedWay, Knows, IsTableAt, IsTable}
-use Rattle.blink_live.specs.Views.{span, publishes}
-use Rattle.blink_live.specs.Words.{RowIs}
+use Rattle.blink_live.specs.Views.{IsOwned, span, publishes}
+use Rattle.blink_live.specs.Words.{place_word, word_count, RowIs}
 use Rattle.blink_live.proofs.changed.ChangesAreTheMaps.{after-append, states_of-append}
+use Rattle.blink_live.proofs.table.PoolStays.{pool_stays}
 use Rattle.blink_live.proofs.table.MapsWithOneChange.{put_here, put_else}
 use Rattle.blink_live.proofs.table.OthersKnowTheSame.{LeavesOthers, RowStays, row_is_still, page_word_still, reads_still}
 use Rattle.blink_live.proofs.table.StoresKeepTable.{row_stays, IsStored, prime_still, store_keeps}
@@ -69,7 +70,7 @@ module _ (plan : Plan) (s : State ℕ View) (tree_state then : TreeState) (h : I
     pub call_before : pages.stop ≤ v.pages.next
     pub no_other_page : (n : ℕ) → plan.counts.numbers ≤ n → then.pages n ≡ None
 
-  module _ (step : IsStepOfTree) (in_range : number < plan.counts.numbers) (room : v.call.rows.next < v.call.rows.stop) (is_row : IsRowOf v.call.staged content) (made : List Change) (now : List Entry) (share : Share) where
+  module _ (under : (m : PlainMachine) × (v.operation ≡ Some m)) (step : IsStepOfTree) (in_range : number < plan.counts.numbers) (room : v.call.rows.next < v.call.rows.stop) (is_row : IsRowOf v.call.staged content) (made : List Change) (now : List Entry) (share : Share) where
     abbrev pub words : List ℕ
     words = set s.words number v.call.rows.next
 
@@ -91,10 +92,21 @@ module _ (plan : Plan) (s : State ℕ View) (tree_state then : TreeState) (h : I
     stays : (row : ℕ) → RowStays plan s.words words row
     stays row = row_stays plan s.words number v.call.rows.next row (omega (arith, in_range))
 
+    -- the pool has another owner
+    apart_from_pool : suc 0 ≢ suc id
+    apart_from_pool e = let later = kept.0 in omega (arith, e, later)
+
+    behind : (n : ℕ) → slice_index words (word_count plan.counts + n) ≡ slice_index s.words (word_count plan.counts + n)
+    behind n = get_or-set_other s.words number (word_count plan.counts + n) v.call.rows.next 0 (λ e. omega (arith, e, in_range))
+
+    -- the words of places stand behind
+    other_place : (place : ℕ) → slice_index words (place_word plan.counts place) ≡ slice_index s.words (place_word plan.counts place)
+    other_place place = get_or-set_other s.words number (place_word plan.counts place) v.call.rows.next 0 (λ e. omega (arith, e, in_range))
+
     -- what the write changes of keys: its own alone
     pub record ChangesOwn : Type 0 where
-      pub other_changes : (key : ℕ) → h.owners.key key ≢ suc id → states_of key made ≡ []
-      pub other_kept : (key : ℕ) → h.owners.key key ≢ suc id → after (after (pointer_of plan.opening) h.log) made key ≡ after (pointer_of plan.opening) h.log key
+      pub other_changes : IsOwned plan → (key : ℕ) → h.owners.key key ≢ suc id → states_of key made ≡ []
+      pub other_kept : IsOwned plan → (key : ℕ) → h.owners.key key ≢ suc id → after (after (pointer_of plan.opening) h.log) made key ≡ after (pointer_of plan.opening) h.log key
       pub own_share : IsShare plan new log (suc id) share
       pub is_map : IsMapAt then now
       pub kept_now : (key : ℕ) → pointer_of now key ≡ after (pointer_of plan.opening) log key
@@ -104,13 +116,19 @@ module _ (plan : Plan) (s : State ℕ View) (tree_state then : TreeState) (h : I
       leaves = record {
         machines = step.others;
         ways = λ seat m apart is. ways_stay tree_state then.pages seat m h.invariant step.places is;
-        rows = λ row least apart. (put_else h.owners.row v.call.rows.next row 0 (λ same. apart (ap h.owners.row same ∙ (known.for_call.first_own room).1)), stays row);
-        numbers = λ n apart. (refl, step.others_free n apart);
-        keys = λ key apart. (
+        rows = λ row least most apart shared. (put_else h.owners.row v.call.rows.next row 0 (λ same. apart (ap h.owners.row same ∙ (known.for_call.first_own room).1)), stays row);
+        numbers = λ n apart shared. (refl, step.others_free n apart);
+        keys = λ owned key apart. (
           refl,
-          states_of-append key h.log made ∙ (ap (λ (l : List (Option ℕ)). states_of key h.log ++ l) (own.other_changes key apart) ∙ append-nil (states_of key h.log)),
-          after-append (pointer_of plan.opening) h.log made key ∙ own.other_kept key apart,
+          states_of-append key h.log made ∙ (ap (λ (l : List (Option ℕ)). states_of key h.log ++ l) (own.other_changes owned key apart) ∙ append-nil (states_of key h.log)),
+          after-append (pointer_of plan.opening) h.log made key ∙ own.other_kept owned key apart,
         );
+        nobodys = h.nobodys;
+        pool = λ common. pool_stays plan h.owners new s.words words tree_state then (behind 1) (behind 2)
+            (λ row least most its. (put_else h.owners.row v.call.rows.next row 0 (λ same. apart_from_pool (sym its ∙ (ap h.owners.row same ∙ (known.for_call.first_own room).1))) ∙ its, stays row))
+            (λ n its. (its, step.others_free n (λ e. apart_from_pool (sym its ∙ e)))) (h.pool common);
+        places = λ place. refl;
+        place_words = λ place inside apart. other_place place;
         latch_numbers = λ seat. refl;
         longer = λ seen is. (is.0 ++ made, sym (append_assoc seen is.0 made) ∙ ap (λ (l : List Change). l ++ made) is.1);
       }
@@ -156,6 +174,9 @@ module _ (plan : Plan) (s : State ℕ View) (tree_state then : TreeState) (h : I
             saw = ([], append-nil log);
             heard = leaves.longer v.told known.heard;
             in_role = subst (IsInRole plan new log id w) (sym role) kept;
+            placed = λ common is. let p = known.placed common is in record { in_range = p.in_range; own = p.own; word = other_place v.place ∙ p.word; busy = λ m goes. p.busy under.0 under.1 };
+            places_left = λ dealt back is. absurd (let e : Pass ≡ Keeper dealt back = sym role ∙ is in cc);
+            nothing = λ common dealt back is. absurd (let e : Pass ≡ Keeper dealt back = sym role ∙ is in cc);
           }
 
       -- the row is published, and has the words
@@ -209,4 +230,4 @@ module _ (plan : Plan) (s : State ℕ View) (tree_state then : TreeState) (h : I
       }
 
       pub publish_keeps : IsTable plan record { words = words; homes = s.homes; views = set s.views id w }
-      publish_keeps = store_keeps plan s tree_state then h id number v.call.rows.next kept.0 v w at new log now leaves stored refl knows
+      publish_keeps = store_keeps plan s tree_state then h id number v.call.rows.next kept.0 v w at new log now leaves stored refl refl knows

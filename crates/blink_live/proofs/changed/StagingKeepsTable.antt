@@ -10,12 +10,13 @@ use Rattle.blink_rows.specs.declared.limits.TheConstants.{ROW_WORDS}
 use Rattle.blink_rows.specs.declared.span.Span.{Span}
 use Rattle.blink_machine.specs.TreeState.{TreeState}
 use Rattle.blink_live.specs.declared.view.Plan.{Plan}
-use Rattle.blink_live.specs.declared.view.Role.TheVariants.{Pass}
+use Rattle.blink_live.specs.declared.view.Role.TheVariants.{Pass, Keeper}
 use Rattle.blink_live.specs.declared.view.View.{View}
 use Rattle.blink_live.specs.AtomicSteps.{stores_word}
 use Rattle.blink_live.specs.Rule.{PageWordIs, HasRows, IsInRole, Knows, IsTableAt, IsTable}
 use Rattle.blink_live.specs.Views.{SeatState, span, stage_word}
-use Rattle.blink_live.specs.Words.{row_start, RowIs}
+use Rattle.blink_live.specs.Words.{row_start, RowIs, place_word, word_count}
+use Rattle.blink_live.proofs.table.PoolStays.{pool_stays}
 use Rattle.blink_live.proofs.table.OthersKnowTheSame.{LeavesOthers, RowStays, row_is_still, page_word_still, reads_still}
 use Rattle.blink_live.proofs.table.StoresKeepTable.{prime_still, store_keeps}
 
@@ -45,13 +46,26 @@ module _ (plan : Plan) (s : State ℕ View) (tree_state : TreeState) (h : IsTabl
   some_row : 1 ≤ row
   some_row = (known.for_call.first_own room).0
 
+  behind : (n : ℕ) → slice_index words (word_count plan.counts + n) ≡ slice_index s.words (word_count plan.counts + n)
+  behind n = let high = known.for_call.others.in_range.1 in get_or-set_other s.words place (word_count plan.counts + n) x 0 (λ e. omega (arith, e, high, room, inside, some_row))
+
+  -- the words of places stand behind the rows
+  other_place : (other : ℕ) → slice_index words (place_word plan.counts other) ≡ slice_index s.words (place_word plan.counts other)
+  other_place other = let high = known.for_call.others.in_range.1 in get_or-set_other s.words place (place_word plan.counts other) x 0 (λ e. omega (arith, e, high, room, inside, some_row))
+
   leaves : LeavesOthers plan s tree_state tree_state h id words h.owners h.log
   leaves = record {
     machines = λ seat other. refl;
     ways = λ seat m other is. refl;
-    rows = λ r least apart. (refl, other_row_stays plan s.words row r i x some_row least (λ same. apart (ap h.owners.row same ∙ (known.for_call.first_own room).1)) inside);
-    numbers = λ n apart. (refl, λ free. free);
-    keys = λ key apart. (refl, refl, refl);
+    rows = λ r least most apart shared. (refl, other_row_stays plan s.words row r i x some_row least (λ same. apart (ap h.owners.row same ∙ (known.for_call.first_own room).1)) inside);
+    numbers = λ n apart shared. (refl, λ free. free);
+    keys = λ owned key apart. (refl, refl, refl);
+    nobodys = h.nobodys;
+    pool = λ common. pool_stays plan h.owners h.owners s.words words tree_state tree_state (behind 1) (behind 2)
+        (λ r least most its. (its, other_row_stays plan s.words row r i x some_row least (λ same. let later = kept.0 in let one : suc 0 ≡ suc id = sym its ∙ (ap h.owners.row same ∙ (known.for_call.first_own room).1) in omega (arith, one, later)) inside))
+        (λ n its. (its, λ free. free)) (h.pool common);
+    places = λ other. refl;
+    place_words = λ other inside apart. other_place other;
     latch_numbers = λ seat. refl;
     longer = λ seen is. is;
   }
@@ -96,6 +110,9 @@ module _ (plan : Plan) (s : State ℕ View) (tree_state : TreeState) (h : IsTabl
     saw = known.saw;
     heard = known.heard;
     in_role = subst (IsInRole plan h.owners h.log id w) (sym role) kept;
+    placed = λ common is. let p = known.placed common is in record { in_range = p.in_range; own = p.own; word = other_place v.place ∙ p.word; busy = p.busy };
+    places_left = λ dealt back is. absurd (let e : Pass ≡ Keeper dealt back = sym role ∙ is in cc);
+    nothing = λ common dealt back is. absurd (let e : Pass ≡ Keeper dealt back = sym role ∙ is in cc);
   }
 
   before_rows : (n : ℕ) → n < 2 * plan.counts.numbers → slice_index words n ≡ slice_index s.words n
@@ -115,7 +132,7 @@ module _ (plan : Plan) (s : State ℕ View) (tree_state : TreeState) (h : IsTabl
     holders = h.holders;
     is_map = h.is_map;
     kept = h.kept;
-  } refl knows
+  } refl refl knows
 
 pub word_is_staged : (plan : Plan) (slots id i x : ℕ) (me : SeatState) → me.0.role ≡ Pass → me.0.call.rows.next < me.0.call.rows.stop → i < ROW_WORDS → 1 ≤ plan.counts.numbers
     → Allows (IsTable plan) slots id me (row_start plan.counts me.0.call.rows.next + i) (λ n. x) (λ n. stores_word (step slots (row_start plan.counts me.0.call.rows.next + i) x 0 none) me x)

@@ -21,8 +21,9 @@ use Rattle.blink_machine.specs.declared.step.Kind.{Kind}
 use Rattle.blink_machine.specs.{PlainMachine, need_at, goes_on, SeesPrime, SeesPage, SeesOnItsWay, SeesUnderLatch, decided_with, done, done_at, leaves_for, sets_out}
 use Rattle.blink_live.specs.declared.view.Change.{Change as MapChange}
 use Rattle.blink_live.specs.declared.view.Share.{Share}
-use Rattle.blink_live.specs.Changes.{after as after_changes, changes_made, has_changed}
-use Rattle.blink_live.specs.AtomicSteps.{AnswersAfter, AsksPrime, CanGoOn, Decided, deciding, other, GoesOn, LoadsPage, LoadsPrime, Publishes}
+use Rattle.blink_live.specs.declared.view.View.{View}
+use Rattle.blink_live.specs.Changes.{changes_made, has_changed}
+use Rattle.blink_live.specs.AtomicSteps.{AnswersAfter, AsksPrime, state_after, CanGoOn, Decided, deciding, other, GoesOn, LoadsPage, LoadsPrime, Publishes}
 use Rattle.blink_live.specs.Updating.{SameBesideCall, IsPastDescent}
 use Rattle.blink_live.proofs.changed.ChangesAreTheMaps.{map_unchanged, none_made}
 use Rattle.blink_live.specs.Views.{SeatState, KnowsItsOwn, changed_by, reading}
@@ -35,7 +36,7 @@ pub record Takes (m after : PlainMachine) (me then : SeatState) : Type 0 where
   pub operation : then.0.operation ≡ goes_on after after.state
   pub same_op : after.op ≡ m.op
   pub next : CanGoOn me.0.plan after
-  pub decides : Decided m after me.0.share then.0.share
+  pub decides : Decided m after me.0 then.0.share then.0.seen
   pub past_descent : IsPastDescent after.state
   pub answers_at_end : after.state ≡ Ended → IsSome after.answer
 
@@ -97,31 +98,42 @@ changes_nothing op share none =
     let changes : share.changes ≡ share.changes ++ changes_made op kept = sym (append-nil share.changes) ∙ ap (λ (l : List MapChange). share.changes ++ l) (sym (none_made op kept none)) in
     λ i. record { keys = share.keys; entries = entries i; changes = changes i }
 
--- where a read under the latch answers, it answers by the share, which stays
-answers_by_share : (m after : PlainMachine) (share : Share) (kept : ℕ → Option ℕ) (op : Op) (answer : Answer) → m.op ≡ op → kept (key_of m.op) ≡ pointer_of share.entries (key_of m.op) → after.answer ≡ Some answer
-    → has_changed answer ≡ false → AnswersAfter kept m after → Decided m after share share
-answers_by_share m after share kept op answer same own is unchanged (inl stays) = other stays refl
-answers_by_share m after share kept op answer same own is unchanged (inr (none, given)) =
-    let by_share : after.answer ≡ Some (answer_of share.entries m.op) = given ∙ ap (λ (x : Option ℕ). Some (answer_at m.op x)) own in
-    let answers : answer_of share.entries op ≡ answer = let e = sym (ap (λ (o : Op). Some (answer_of share.entries o)) same) ∙ (sym by_share ∙ is) in cc in
-    deciding none by_share (changes_nothing op share (ap has_changed answers ∙ unchanged) ∙ ap (λ (o : Op). changed_by o share) (sym same))
+-- where a read under the latch answers, it answers by all changes that the seat has seen then, and changes nothing
+answers_by_seen : (m after : PlainMachine) (v : View) (seen : List MapChange) (answer : Answer) → IsPrefix v.seen seen → (Contains v.share.keys (key_of m.op) → state_after v seen (key_of m.op) ≡ pointer_of v.share.entries (key_of m.op))
+    → after.answer ≡ Some answer → has_changed answer ≡ false → AnswersAfter (state_after v seen) m after → Decided m after v v.share seen
+answers_by_seen m after v seen answer saw own is unchanged (inl stays) = other stays refl
+answers_by_seen m after v seen answer saw own is unchanged (inr (none, given)) =
+    let kept : Option ℕ = state_after v seen (key_of m.op) in
+    let answers : answer_at m.op kept ≡ answer = let e = sym given ∙ is in cc in
+    let no_change : has_changed (answer_at m.op kept) ≡ false = ap has_changed answers ∙ unchanged in
+    let none_at_all : changes_made m.op kept ≡ [] = none_made m.op kept no_change in
+    deciding none record {
+      before = seen;
+      saw = saw;
+      answers = given;
+      goes_on = ([], append-nil (seen ++ changes_made m.op kept) ∙ (ap (λ (l : List MapChange). seen ++ l) none_at_all ∙ append-nil seen));
+      keys = refl;
+      changes = sym (append-nil v.share.changes) ∙ ap (λ (l : List MapChange). v.share.changes ++ l) (sym none_at_all);
+      own = λ mine. (own mine, changes_nothing m.op v.share (ap (λ (k : Option ℕ). has_changed (answer_at m.op k)) (sym (own mine)) ∙ no_change));
+    }
 
-module _ (m after : PlainMachine) (number : ℕ) (page : PlainPage) (share : Share) (kept : ℕ → Option ℕ) (own : kept (key_of m.op) ≡ pointer_of share.entries (key_of m.op)) (answers : AnswersAfter kept m after) where
+module _ (m after : PlainMachine) (number : ℕ) (page : PlainPage) (v : View) (seen : List MapChange) (saw : IsPrefix v.seen seen)
+    (own : Contains v.share.keys (key_of m.op) → state_after v seen (key_of m.op) ≡ pointer_of v.share.entries (key_of m.op)) (answers : AnswersAfter (state_after v seen) m after) where
   abbrev Reads : Type 0
-  Reads = Decided m after share share × IsPastDescent after.state
+  Reads = Decided m after v v.share seen × IsPastDescent after.state
 
   under_latch : SeesUnderLatch m number page after → Reads
   under_latch (SeesUnderLatch.is_above_high_key next above right is) = (other (ap (λ (x : PlainMachine). x.answer) is) refl, subst (λ (x : PlainMachine). IsPastDescent x.state) (sym is) tt)
   under_latch (SeesUnderLatch.insertion_finds_key key pointer there below job is_op value is) = (
-    answers_by_share m after share kept _ (Exists there) is_op own (ap (λ (x : PlainMachine). x.answer) is) refl answers,
+    answers_by_seen m after v seen (Exists there) saw own (ap (λ (x : PlainMachine). x.answer) is) refl answers,
     subst (λ (x : PlainMachine). IsPastDescent x.state) (sym is) tt,
   )
   under_latch (SeesUnderLatch.deletion_finds_none key below job is_op value is) = (
-    answers_by_share m after share kept _ Absent is_op own (ap (λ (x : PlainMachine). x.answer) is) refl answers,
+    answers_by_seen m after v seen Absent saw own (ap (λ (x : PlainMachine). x.answer) is) refl answers,
     subst (λ (x : PlainMachine). IsPastDescent x.state) (sym is) tt,
   )
   under_latch (SeesUnderLatch.replacement_finds_none key pointer below job is_op value is) = (
-    answers_by_share m after share kept _ Absent is_op own (ap (λ (x : PlainMachine). x.answer) is) refl answers,
+    answers_by_seen m after v seen Absent saw own (ap (λ (x : PlainMachine). x.answer) is) refl answers,
     subst (λ (x : PlainMachine). IsPastDescent x.state) (sym is) tt,
   )
   under_latch (SeesUnderLatch.posting_finds_separator debt child below job value is) = (other (ap (λ (x : PlainMachine). x.answer) is) refl, subst (λ (x : PlainMachine). IsPastDescent x.state) (sym is) tt)
@@ -139,18 +151,18 @@ module _ (m after : PlainMachine) (number : ℕ) (page : PlainPage) (share : Sha
   page_decides past (SeesPage.on_its_way sees) = absurd (on_no_way past sees)
   page_decides past (SeesPage.under_latch held sees) = under_latch sees
 
-pub page_takes : (m after : PlainMachine) (number row : ℕ) (me then : SeatState) → IsPastDescent m.state → Contains me.0.share.keys (key_of m.op) → LoadsPage m number me row after then → Takes m after me then
-page_takes m after number row me then past own loads =
+pub page_takes : (m after : PlainMachine) (number row : ℕ) (me then : SeatState) → IsPastDescent m.state → LoadsPage m number me row after then → Takes m after me then
+page_takes m after number row me then past loads =
     let is : then ≡ (reading me.0 after loads.way row (page_words loads.page) loads.seen, me.1) = loads.is in
     let known : KnowsItsOwn (reading me.0 after loads.way row (page_words loads.page) loads.seen) = subst (λ (x : SeatState). KnowsItsOwn x.0) is loads.knows_own in
-    let reads = page_decides m after number loads.page me.0.share (after_changes (pointer_of me.0.plan.opening) loads.seen) (known.state (key_of m.op) own) loads.answers past loads.sees in record {
+    let reads = page_decides m after number loads.page me.0 loads.seen loads.learns.saw (known.state (key_of m.op)) loads.answers past loads.sees in record {
       same = (subst (λ (x : SeatState). SameBesideCall me.0 x.0) (sym is) refl, ap (λ (x : SeatState). x.1) is);
       saw = subst (λ (x : SeatState). IsPrefix me.0.seen x.0.seen) (sym is) loads.learns.saw;
       knows_own = loads.knows_own;
       operation = ap (λ (x : SeatState). x.0.operation) is;
       same_op = loads.uses.same_op;
       next = loads.next;
-      decides = subst (λ (x : SeatState). Decided m after me.0.share x.0.share) (sym is) reads.0;
+      decides = subst (λ (x : SeatState). Decided m after me.0 x.0.share x.0.seen) (sym is) reads.0;
       past_descent = reads.1;
       answers_at_end = loads.answers_at_end;
     }
@@ -204,7 +216,7 @@ publish_takes kind pages m new me then past does =
       operation = ap (λ (x : SeatState). x.0.operation) is;
       same_op = does.uses.same_op;
       next = does.next;
-      decides = subst (λ (x : SeatState). Decided m (done m new) me.0.share x.0.share) (sym is) does.decided;
+      decides = subst (λ (x : SeatState). Decided m (done m new) me.0 x.0.share x.0.seen) (sym is) does.decided;
       past_descent = done_past m m.state new past past;
       answers_at_end = does.answers_at_end;
     }

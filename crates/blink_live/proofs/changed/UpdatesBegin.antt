@@ -1,6 +1,5 @@
 -- An update begins where its way down ends, with all that it may need left.
-use Rattle.std.proofs.Common.{◌≡◌, ℕ, Option, ◌+◌, ◌≤◌, ap, sym, ◌∙◌, subst, refl, arith}
-use Rattle.std.specs.Prelude.{Contains}
+use Rattle.std.proofs.Common.{◌≡◌, ℕ, zero, suc, Option, ◌+◌, ◌≤◌, ap, sym, ◌∙◌, subst, refl, arith}
 use Rattle.atomic_table.specs.declared.Seat.{Seat}
 use Rattle.blink_batch.specs.{FitsWords, key_of}
 use Rattle.blink_batch.specs.declared.Op.{Op}
@@ -13,9 +12,9 @@ use Rattle.blink_live.specs.declared.room.Room.{Room}
 use Rattle.blink_live.specs.declared.view.Call.{Call}
 use Rattle.blink_live.specs.declared.view.View.{View}
 use Rattle.blink_live.specs.Seats.{HasRead, HasSameNumber, IsAtLeaf, IsPassSeat, found, wants as wants_leaf}
+use Rattle.blink_live.specs.Updating.{SameBesideCall, not_yet, HasLeft, IsUpdating, IsPastDescent, CanUpdate, IsUnderWay, room_in}
+use Rattle.blink_live.specs.Views.{SeatState, CanBegin, MayChange, SameBesideReads, latch_in, rows_of, pages_of, for_call, known_of}
 use Rattle.blink_live.specs.Pendings.{IsWaiting, for_latch}
-use Rattle.blink_live.specs.Updating.{SameBesideCall, not_yet, HasLeft, IsUpdating, IsPastDescent, CanUpdate, IsUnderWay, room_for}
-use Rattle.blink_live.specs.Views.{SeatState, CanBegin, SameBesideReads, rows_of, pages_of, for_call, known_of}
 use Rattle.blink_live.specs.Words.{AreNumbersIn, AreRowsIn}
 
 within_call : (v w : View) → SameBesideReads v w → SameBesideCall v w
@@ -73,16 +72,21 @@ takes_a_row : (op : Op) → IsUpdate op → 1 ≤ rows_of op
 takes_a_row (Find key) updates = absurd updates
 takes_a_row op updates = omega arith
 
-pub can_update : (live : Live) (op : Op) (first : Seat ℕ View) → IsPassSeat live first.table_id first.me → IsUpdate op → FitsWords op → Contains first.me.0.share.keys (key_of op) → CanBegin first.me.0 op
+-- so it can latch pages
+some_latch : (places stop : ℕ) → 2 ≤ stop → 1 ≤ latch_in places stop
+some_latch zero stop enough = omega (arith, enough)
+some_latch (suc places) stop enough = omega arith
+
+pub can_update : (live : Live) (op : Op) (first : Seat ℕ View) → IsPassSeat live first.table_id first.me → IsUpdate op → FitsWords op → MayChange first.me.0 (key_of op) → CanBegin first.me.0 op
     → AreRowsIn live.counts first.me.0.rows → AreNumbersIn live.counts first.me.0.pages → CanUpdate live op first
-can_update live op first seat updates fits own_key can rows pages =
+can_update live op first seat updates fits may can rows pages =
     let enough = can.rows in
     let some = takes_a_row op updates in record {
       seat = seat;
       updates = updates;
       fits = fits;
-      some_row = omega (arith, enough, some, rows);
-      own_key = own_key;
+      some_latch = some_latch first.me.0.plan.places first.me.0.rows.stop (omega (arith, enough, some, rows));
+      may_change = may;
       can_begin = can;
       rows = rows;
       pages = pages;
@@ -90,7 +94,7 @@ can_update live op first seat updates fits own_key can rows pages =
 
 pub is_under_way : (live : Live) (op : Op) (first seat : Seat ℕ View) (m : PlainMachine) (room : Room) → CanUpdate live op first → HasSameNumber first seat
     → HasRead op (for_call first.me.0 op, first.me.1) seat.me m → IsAtLeaf op (known_of seat.me.0 (key_of op)) m
-    → room ≡ room_for op first.me.0.rows first.me.0.pages → IsUnderWay live op first seat m room
+    → room ≡ room_in op first.me.0 → IsUnderWay live op first seat m room
 is_under_way live op first seat m room can same read at_leaf takes =
     let call : seat.me.0.call ≡ (for_call first.me.0 op).call = ap (λ (v : View). v.call) read.same.0 in record {
       can = can;

@@ -1,8 +1,9 @@
 -- What is so of an update under way is so after each of its turns too.
-use Rattle.std.proofs.Common.{◌≡◌, ◌≢◌, ℕ, suc, ◌+◌, ◌-◌, ◌<◌, ◌≤◌, Bool, true, false, Some, List, ap, sym, ◌∙◌, subst, refl, arith}
+use Rattle.std.proofs.Common.{◌≡◌, ◌≢◌, ◌⊎◌, ℕ, suc, ◌+◌, ◌<◌, ◌≤◌, Bool, true, false, Option, Some, List, ◌++◌, ap, sym, ◌∙◌, subst, refl, arith}
 use Rattle.std.specs.Prelude.{IsTrue, Contains}
+use mathlib.Core.List.{IsPrefix}
 use Rattle.atomic_table.specs.declared.Seat.{Seat}
-use Rattle.blink_batch.specs.{FitsWords, answer_of, key_of}
+use Rattle.blink_batch.specs.{FitsWords, answer_at, answer_of, key_of, pointer_of}
 use Rattle.blink_batch.specs.declared.Answer.{Answer}
 use Rattle.blink_batch.specs.declared.Op.{Op}
 use Rattle.blink_page.specs.{IsPageNumber}
@@ -20,10 +21,11 @@ use Rattle.blink_live.specs.declared.view.Call.{Call}
 use Rattle.blink_live.specs.declared.view.Plan.{Plan}
 use Rattle.blink_live.specs.declared.view.Share.{Share}
 use Rattle.blink_live.specs.declared.view.View.{View}
-use Rattle.blink_live.specs.AtomicSteps.{CanGoOn, Decided, deciding, other, GoesOn, LoadsPage, LoadsPrime, Publishes, PublishesNew, PublishesPage, PublishesPrime}
+use Rattle.blink_live.specs.AtomicSteps.{AnswersInOrder, CanGoOn, Decided, deciding, other, state_after, GoesOn, LoadsPage, LoadsPrime, Publishes, PublishesNew, PublishesPage, PublishesPrime}
+use Rattle.blink_live.specs.Changes.{changes_made}
 use Rattle.blink_live.specs.Seats.{HasSameNumber, IsFirst, IsPassSeat}
 use Rattle.blink_live.specs.Updating.{SameBesideCall, HasDecided, not_yet, decided, HasLeft, IsUpdating, HasEnded, IsUnderWay}
-use Rattle.blink_live.specs.Views.{SeatState, changed_by, for_call, no_words, pages_of, rows_of, span}
+use Rattle.blink_live.specs.Views.{IsCommon, MayChange, SeatState, changed_by, for_call, latch_number_by, no_words, pages_of, rows_of, span}
 use Rattle.blink_live.specs.Words.{IsRowNumber}
 use Rattle.blink_live.proofs.told.PrefixesOfOneList.{prefix_of_prefix}
 use Rattle.blink_live.proofs.changed.StepsOfUpdates.{Takes, latch_answers, unlatch_answers, goes_on_takes, page_takes, prime_takes, publish_takes}
@@ -35,12 +37,45 @@ same_call_trans u v w first second =
     second ∙ ap (λ (x : View). record x { operation = w.operation; descent_bound = w.descent_bound; reads = w.reads; seen = w.seen; share = w.share; call = w.call }) first
 
 -- it has decided once
-decided_on : (op : Op) (before now share : Share) (m after : PlainMachine) → m.op ≡ op → HasDecided op before now m → Decided m after now share → HasDecided op before share after
-decided_on op before now share m after same (not_yet none is) (deciding was answers changed) =
-    decided (answers ∙ (λ i. Some (answer_of (is i).entries (same i)))) (changed ∙ (λ i. changed_by (same i) (is i)))
-decided_on op before now share m after same (not_yet none is) (other kept stays) = not_yet (kept ∙ none) (stays ∙ is)
-decided_on op before now share m after same (decided given is) (deciding was answers changed) = absurd (cc)
-decided_on op before now share m after same (decided given is) (other kept stays) = decided (kept ∙ given) (stays ∙ is)
+module _ (op : Op) (first now then : View) (m after : PlainMachine) (same : m.op ≡ op) (same_plan : now.plan ≡ first.plan) (saw : IsPrefix first.seen now.seen) where
+  -- where the share is that of the beginning, it answers in the order from the beginning on
+  from_first : now.share ≡ first.share → AnswersInOrder m.op now after.answer then.share then.seen → AnswersInOrder op first after.answer then.share then.seen
+  from_first is answers =
+      let from : AnswersInOrder op (record now { plan = first.plan; share = first.share }) after.answer then.share then.seen = subst (λ (x : Op × (Plan × Share)). AnswersInOrder x.0 (record now { plan = x.1.0; share = x.1.1 }) after.answer then.share then.seen) (λ i. (same i, (same_plan i, is i))) (record {
+        before = answers.before;
+        saw = answers.saw;
+        answers = answers.answers;
+        goes_on = answers.goes_on;
+        keys = answers.keys;
+        changes = answers.changes;
+        own = answers.own;
+      }) in record {
+        before = from.before;
+        saw = prefix_of_prefix first.seen now.seen from.before saw from.saw;
+        answers = from.answers;
+        goes_on = from.goes_on;
+        keys = from.keys;
+        changes = from.changes;
+        own = from.own;
+      }
+
+  -- and it has seen all that it had seen
+  still_in_order : after.answer ≡ m.answer → then.share ≡ now.share → IsPrefix now.seen then.seen → AnswersInOrder op first m.answer now.share now.seen → AnswersInOrder op first after.answer then.share then.seen
+  still_in_order kept stays more answers = subst (λ (x : Option Answer × Share). AnswersInOrder op first x.0 x.1 then.seen) (λ i. (sym kept i, sym stays i)) record {
+    before = answers.before;
+    saw = answers.saw;
+    answers = answers.answers;
+    goes_on = prefix_of_prefix (answers.before ++ changes_made op (state_after first answers.before (key_of op))) now.seen then.seen answers.goes_on more;
+    keys = answers.keys;
+    changes = answers.changes;
+    own = answers.own;
+  }
+
+  decided_on : IsPrefix now.seen then.seen → HasDecided op first now m → Decided m after now then.share then.seen → HasDecided op first then after
+  decided_on more (not_yet none is) (deciding was answers) = decided (from_first is answers)
+  decided_on more (not_yet none is) (other kept stays) = not_yet (kept ∙ none) (stays ∙ is)
+  decided_on more (decided given) (deciding was answers) = absurd (let once = given.answers in cc)
+  decided_on more (decided given) (other kept stays) = decided (still_in_order kept stays more given)
 
 updating_on : (op : Op) (first me then : SeatState) (m after : PlainMachine) → IsUpdating op first me m → Takes m after me then → HasLeft first.0.call then.0.call after → IsUpdating op first then after
 updating_on op first me then m after is takes left = record {
@@ -51,7 +86,7 @@ updating_on op first me then m after is takes left = record {
   same_op = takes.same_op ∙ is.same_op;
   next = subst (λ (p : Plan). CanGoOn p after) (ap (λ (v : View). v.plan) is.same.0) takes.next;
   left = left;
-  has_decided = decided_on op first.0.share me.0.share then.0.share m after is.same_op is.has_decided takes.decides;
+  has_decided = decided_on op first.0 me.0 then.0 m after is.same_op (ap (λ (v : View). v.plan) is.same.0) is.saw takes.saw is.has_decided takes.decides;
   past_descent = takes.past_descent;
   answers_at_end = takes.answers_at_end;
 }
@@ -134,15 +169,16 @@ module _ {live : Live} {op : Op} {first seat : Seat ℕ View} {m : PlainMachine}
   pub its_words_fit : FitsWords m.op
   its_words_fit = subst FitsWords (sym is.updating.same_op) is.can.fits
 
-  pub is_its_key : Contains seat.me.0.share.keys (key_of m.op)
-  is_its_key = subst (λ (o : Op). Contains seat.me.0.share.keys (key_of o)) (sym is.updating.same_op) (subst (λ (keys : List ℕ). Contains keys (key_of op)) (sym (same_keys is.updating.has_decided)) is.can.own_key)
+  pub may_change : MayChange seat.me.0 (key_of m.op)
+  may_change = subst (λ (x : Op × (List ℕ × Plan)). Contains x.1.0 (key_of x.0) ⊎ IsCommon x.1.1)
+      (λ i. (sym is.updating.same_op i, (sym (same_keys is.updating.has_decided) i, sym (ap (λ (v : View). v.plan) is.updating.same.0) i))) is.can.may_change
     where
-      same_keys : HasDecided op first.me.0.share seat.me.0.share m → seat.me.0.share.keys ≡ first.me.0.share.keys
+      same_keys : HasDecided op (for_call first.me.0 op) seat.me.0 m → seat.me.0.share.keys ≡ first.me.0.share.keys
       same_keys (not_yet none same) = ap (λ (s : Share). s.keys) same
-      same_keys (decided given same) = ap (λ (s : Share). s.keys) same
+      same_keys (decided given) = given.keys
 
-  pub is_its_number : (room.latch_number ≡ seat.me.0.rows.stop - 1) × (1 ≤ room.latch_number)
-  is_its_number = (is.latch_number ∙ ap (λ (v : View). v.rows.stop - 1) (sym is.updating.same.0), subst (λ (n : ℕ). 1 ≤ n) (sym is.latch_number) is.can.some_row)
+  pub is_its_number : (room.latch_number ≡ latch_number_by seat.me.0) × (1 ≤ room.latch_number)
+  is_its_number = (is.latch_number ∙ ap latch_number_by (sym is.updating.same.0), subst (λ (n : ℕ). 1 ≤ n) (sym is.latch_number) is.can.some_latch)
 
   in_range : (number : ℕ) → (1 ≤ number) × (number < first.me.0.plan.counts.numbers) → (1 ≤ number) × (number < live.counts.numbers)
   in_range number there = (there.0, subst (λ (counts : PlainCounts). number < counts.numbers) same_counts there.1)
@@ -222,7 +258,7 @@ module _ {live : Live} {op : Op} {first seat : Seat ℕ View} {m : PlainMachine}
         let pages = loads.uses.numbers in
         let writes = loads.uses.page_writes in
         let primes = loads.uses.prime_writes in
-        in_its_room (page_takes m after number row seat.me next.me is.updating.past_descent is_its_key loads) (ap (λ (x : SeatState). x.0.call) loads.is) (omega (arith, writes)) (omega (arith, primes)) (omega (arith, pages))
+        in_its_room (page_takes m after number row seat.me next.me is.updating.past_descent loads) (ap (λ (x : SeatState). x.0.call) loads.is) (omega (arith, writes)) (omega (arith, primes)) (omega (arith, pages))
 
     pub after_prime : (row : ℕ) → LoadsPrime m seat.me row after next.me → IsUnderWay live op first next after room
     after_prime row loads =
@@ -294,22 +330,30 @@ module _ {live : Live} {op : Op} {first seat : Seat ℕ View} {m : PlainMachine}
 
 -- ---- its end
 
-pub as_decided : (op : Op) (before share : Share) (m : PlainMachine) (answer : Answer) → HasDecided op before share m → m.answer ≡ Some answer → (answer ≡ answer_of before.entries op) × (share ≡ changed_by op before)
-as_decided op before share m answer (not_yet none is) some = absurd (cc)
-as_decided op before share m answer (decided given is) some = (cc, is)
+as_decided : (op : Op) (first v : View) (m : PlainMachine) (answer : Answer) → HasDecided op first v m → m.answer ≡ Some answer → AnswersInOrder op first (Some answer) v.share v.seen
+as_decided op first v m answer (not_yet none is) some = absurd (cc)
+as_decided op first v m answer (decided given) some = subst (λ (x : Option Answer). AnswersInOrder op first x v.share v.seen) some given
 
 pub at_end : (live : Live) (op : Op) (first seat : Seat ℕ View) (m : PlainMachine) (room : Room) (answer : Answer) → IsUnderWay live op first seat m room → m.state ≡ Ended → m.answer ≡ Some answer → HasEnded op first seat answer
 at_end live op first seat m room answer is ends given =
-    let told = as_decided op first.me.0.share seat.me.0.share m answer is.updating.has_decided given in record {
-      answers = told.0;
+    let told = as_decided op (for_call first.me.0 op) seat.me.0 m answer is.updating.has_decided given in record {
+      answers = record { before = told.before; saw = told.saw; answers = told.answers; goes_on = told.goes_on; keys = told.keys; changes = told.changes; own = told.own };
       idle = is.updating.operation ∙ ap (goes_on m) ends;
       same_number = is.same_number;
-      share = told.1;
       knows_own = is.updating.knows_own;
       saw = is.updating.saw;
       same = is.updating.same.0;
       same_slots = is.updating.same.1;
     }
+
+-- an operation of one of the seat's own keys has answered by the share, and has changed it as it changes a map
+pub of_own_key : (op : Op) (first seat : Seat ℕ View) (answer : Answer) → HasEnded op first seat answer → Contains first.me.0.share.keys (key_of op)
+    → (answer ≡ answer_of first.me.0.share.entries op) × (seat.me.0.share ≡ changed_by op first.me.0.share)
+of_own_key op first seat answer ended mine =
+    let answers = ended.answers in
+    let own = answers.own mine in
+    let given : Some answer ≡ Some (answer_at op (pointer_of first.me.0.share.entries (key_of op))) = answers.answers ∙ ap (λ (k : Option ℕ). Some (answer_at op k)) own.0 in
+    (cc, own.1)
 
 -- the seat has used what the operation takes
 pub record IsAfterCall (op : Op) (v w : View) : Type 0 where

@@ -20,6 +20,7 @@ use Rattle.blink_live.specs.declared.view.View.{View}
 use Rattle.blink_live.specs.Changes.{after}
 use Rattle.blink_live.specs.Merge.{KeepsTree}
 use Rattle.blink_live.specs.Rule.{PageWordIs, IsInRole, IsTableAt, IsTable}
+use Rattle.blink_live.specs.Views.{IsOwned}
 use Rattle.blink_live.specs.Words.{KeepsPage}
 use Rattle.blink_live.proofs.closed.AllBack.{all_back}
 use Rattle.blink_live.proofs.told.EntriesAfterChanges.{after-same_states}
@@ -42,7 +43,7 @@ module _ (plan : Plan) (s : State ℕ View) (tree_state : TreeState) (h : IsTabl
       let word : PageWordIs plan h.owners s.words (slice_index s.words number) (Some page) = subst (PageWordIs plan h.owners s.words (slice_index s.words number)) there (h.pages number some_number in_range) in
       record { number_in_range = (some_number, in_range); row_in_range = word.0.0; row_is = word.1 }
 
-  keeps_tree : KeepsTree plan.counts s.words plan.fan h.now
+  pub keeps_tree : KeepsTree plan.counts s.words plan.fan h.now
   keeps_tree =
       let order = step_law.invariant_gives_order tree_state h.invariant in record {
         prime = tree_state.prime;
@@ -58,14 +59,14 @@ module _ (plan : Plan) (s : State ℕ View) (tree_state : TreeState) (h : IsTabl
         are = subst (λ fan. AreEntries fan tree_state.prime tree_state.pages (pairs_of h.now)) h.same_fan h.is_map.kept;
       }
 
-  at_end_with : (id : ℕ) (v : View) (dealt back : ℕ) → get_elem? s.views id ≡ some v → v.role ≡ Keeper dealt back → IsAtEnd plan s.words v
-  at_end_with id v dealt back at role =
+  at_end_with : (id : ℕ) (v : View) (dealt back : ℕ) → get_elem? s.views id ≡ some v → v.role ≡ Keeper dealt back → IsOwned v.plan → IsAtEnd plan s.words v
+  at_end_with id v dealt back at role owned =
       let known = h.views id v at in
       let kept = subst (IsInRole plan h.owners h.log id v) role known.in_role in record {
         now = h.now;
         tree = keeps_tree;
         shares = λ share key came its. h.kept key ∙ sym ((kept.3 share came key its).kept);
-        others = λ key free. h.kept key ∙ sym (after-same_states (pointer_of plan.opening) v.seen h.log key (kept.2 key free).saw_all);
+        others = λ key free. h.kept key ∙ sym (after-same_states (pointer_of plan.opening) v.seen h.log key ((kept.2 key free).saw_all owned));
       }
 
 back_of : Role → ℕ
@@ -77,9 +78,9 @@ dealt_of (Keeper dealt back) = dealt
 dealt_of role = 0
 
 -- where as many came back as were dealt, all are back
-pub at_end : (plan : Plan) (id : ℕ) (v : View) (dealt back : ℕ) (words slots : List ℕ) → v.role ≡ Keeper dealt back → dealt ≤ back → Final (Seen (IsTable plan) id v) words slots → IsAtEnd plan words v
+pub at_end : (plan : Plan) (id : ℕ) (v : View) (dealt back : ℕ) (words slots : List ℕ) → v.role ≡ Keeper dealt back → IsOwned v.plan → dealt ≤ back → Final (Seen (IsTable plan) id v) words slots → IsAtEnd plan words v
 unfolding back_of dealt_of
-at_end plan id v dealt back words slots role enough final =
+at_end plan id v dealt back words slots role owned enough final =
     let s : State ℕ View = final.0 in
     let tree_state : TreeState = final.1.0.0 in
     let h : IsTableAt plan s tree_state = final.1.0.1 in
@@ -90,7 +91,7 @@ at_end plan id v dealt back words slots role enough final =
     let roles : Keeper dealt back ≡ Keeper counted.dealt counted.back = sym role ∙ (ap (λ (x : View). x.role) same ∙ counted.role) in
     let same_back : back ≡ counted.back = ap back_of roles in
     let same_dealt : dealt ≡ counted.dealt = ap dealt_of roles in
-    let count = counted.counted in
+    let count = counted.counted (ap (λ (x : View). x.plan.places) (sym same) ∙ owned) in
     let all : back ≡ dealt = omega (arith, same_back, same_dealt, count, enough) in
-    let idle = all_back plan s tree_state h id v dealt at (role ∙ ap (λ (n : ℕ). let r : Role = Keeper dealt n in r) all) in
-    subst (λ (ws : List ℕ). IsAtEnd plan ws v) final.2 (at_end_with plan s tree_state h idle id v dealt back at role)
+    let idle = all_back plan s tree_state h id v dealt at (role ∙ ap (λ (n : ℕ). let r : Role = Keeper dealt n in r) all) owned in
+    subst (λ (ws : List ℕ). IsAtEnd plan ws v) final.2 (at_end_with plan s tree_state h idle id v dealt back at role owned)

@@ -1,6 +1,6 @@
 -- A deal keeps the rule: the keeper's first rows and page numbers, and keys that nobody has, become a new seat's.
-use Rattle.std.proofs.Common.{◌≡◌, ◌≢◌, ℕ, suc, ◌+◌, ◌-◌, ◌<◌, Bool, true, false, Some, None, List, [], ◌∷◌, ◌++◌, length, set, refl, sym, ap, ◌∙◌, subst, inl, inr, ⊎_elim, length-set, length-append, arith}
-use Rattle.std.specs.Prelude.{if◌then◌else◌, Contains}
+use Rattle.std.proofs.Common.{◌≡◌, ◌≢◌, ℕ, suc, ◌+◌, ◌<◌, Bool, true, false, Some, None, List, [], ◌∷◌, ◌++◌, length, set, refl, sym, ap, ◌∙◌, subst, inl, inr, ⊎_elim, length-set, length-append, arith}
+use Rattle.std.specs.Prelude.{if◌then◌else◌, slice_index, Contains}
 use mathlib.Core.Option.{some, some-injective}
 use lib.ListN.{get_elem?}
 use Rattle.atomic_table.specs.Table.{State, Splits}
@@ -8,12 +8,13 @@ use Rattle.atomic_table.proofs.Lists.{at_longer}
 use Rattle.blink_batch.specs.{pointer_of}
 use Rattle.blink_machine.specs.TreeState.{TreeState}
 use Rattle.blink_live.specs.declared.view.Plan.{Plan}
-use Rattle.blink_live.specs.declared.view.Role.TheVariants.{Keeper}
+use Rattle.blink_live.specs.declared.view.Role.TheVariants.{Keeper, Pass}
 use Rattle.blink_live.specs.declared.view.View.{View}
 use Rattle.blink_live.specs.Changes.{put, after, entries_after, states_of}
 use Rattle.blink_live.specs.Dealing.{CanDeal}
-use Rattle.blink_live.specs.Rule.{Owners, IsFree, IsShare, IsInRole, Knows, pass_count, passes_in, AreCounted, IsTableAt, IsTable}
-use Rattle.blink_live.specs.Views.{is_among, share_of_keys, deals_one, keeps_rest, gets_first}
+use Rattle.blink_live.specs.Rule.{HasPool, Owners, IsFree, IsShare, IsInRole, Knows, pass_count, passes_in, AreCounted, IsTableAt, IsTable}
+use Rattle.blink_live.specs.Views.{is_among, share_of_keys, deals_one, dealt_in, keeps_rest, gets_first, latch_in, IsCommon}
+use Rattle.blink_live.specs.Words.{place_word}
 use Rattle.blink_live.proofs.dealt.KeysOfShare.{among_from_contains, contains_from_among, entries_of_keep, changes_of_keep}
 use Rattle.blink_live.proofs.told.EntriesAfterChanges.{after-same_states, entries_after-state}
 use Rattle.blink_live.proofs.table.MapsWithOneChange.{put_here, put_else}
@@ -29,7 +30,8 @@ owners_after old seat v rows pages keys = record {
   row = ranged v.rows.next (v.rows.next + rows) (suc seat) old.row;
   page = ranged v.pages.next (v.pages.next + pages) (suc seat) old.page;
   key = λ key. if is_among keys key then suc seat else old.key key;
-  latch_number = put old.latch_number seat (v.rows.next + rows - 1);
+  latch_number = put old.latch_number seat (latch_in v.plan.places (v.rows.next + rows));
+  place = put old.place (dealt_in v.role) (suc seat);
 }
 
 module _ (plan : Plan) (s : State ℕ View) (tree_state : TreeState) (h : IsTableAt plan s tree_state) (id : ℕ) (v : View) (at : get_elem? s.views id ≡ some v)
@@ -79,7 +81,7 @@ module _ (plan : Plan) (s : State ℕ View) (tree_state : TreeState) (h : IsTabl
   published row is = row_else row 0 is (λ e. absurd (omega (arith, e)))
 
   latch_else : (seat : ℕ) → seat ≢ new_seat → new.latch_number seat ≡ old.latch_number seat
-  latch_else seat other = put_else old.latch_number new_seat seat (v.rows.next + rows - 1) other
+  latch_else seat other = put_else old.latch_number new_seat seat (latch_in v.plan.places (v.rows.next + rows)) other
 
   -- whoever holds a latch has an operation, and the new seat has none
   holder_else : (number seat : ℕ) → tree_state.holder number ≡ Some seat → new.latch_number seat ≡ old.latch_number seat
@@ -89,12 +91,22 @@ module _ (plan : Plan) (s : State ℕ View) (tree_state : TreeState) (h : IsTabl
       let under : tree_state.machines seat ≡ Some its.0 = its.1 in
       absurd (cc))
 
+  -- the place is nobody's before
+  place_left : (old.place (dealt_in v.role) ≡ 0) × (dealt_in v.role < plan.places → slice_index s.words (place_word plan.counts (dealt_in v.role)) ≡ 0)
+  place_left =
+      let same : can.dealt ≡ dealt_in v.role = ap dealt_in (sym can.role) in
+      subst (λ (p : ℕ). (old.place p ≡ 0) × (p < plan.places → slice_index s.words (place_word plan.counts p) ≡ 0)) same (known.places_left can.dealt can.back can.role can.dealt (omega arith))
+
+  place_else : (place : ℕ) → place ≢ dealt_in v.role → new.place place ≡ old.place place
+  place_else place other = put_else old.place (dealt_in v.role) place (suc new_seat) other
+
   still_owns : (seat : ℕ) → seat ≢ id → seat < new_seat → StillOwns old new seat
   still_owns seat other inside = record {
     row = λ row is. row_else row (suc seat) is (λ e. other (omega (arith, e)));
     page = λ number is. page_else number (suc seat) is (λ e. other (omega (arith, e)));
     key = λ key is. key_else key (suc seat) is (λ e. absurd (omega (arith, e)));
     latch_number = latch_else seat (λ e. absurd (omega (arith, e, inside)));
+    place = λ place is. place_else place (λ e. let zero_is : suc seat ≡ 0 = sym is ∙ (ap old.place e ∙ place_left.0) in absurd (omega (arith, zero_is))) ∙ is;
   }
 
   -- ---- the keeper
@@ -143,6 +155,14 @@ module _ (plan : Plan) (s : State ℕ View) (tree_state : TreeState) (h : IsTabl
     saw = known.saw;
     heard = known.heard;
     in_role = left_in_role;
+    placed = λ common is. absurd (let e : Keeper (suc can.dealt) can.back ≡ Pass = sym left_role ∙ is in cc);
+    nothing = λ common d b is. let none = known.nothing common can.dealt can.back can.role in (omega (arith, none), omega (arith, none), none.2, none.3);
+    places_left = λ d b is place from.
+        let e : Keeper (suc can.dealt) can.back ≡ Keeper d b = sym left_role ∙ is in
+        let same : suc can.dealt ≡ d = cc in
+        let first : can.dealt ≡ dealt_in v.role = ap dealt_in (sym can.role) in
+        let was = known.places_left can.dealt can.back can.role place (omega (arith, same, from)) in
+        (place_else place (λ here. omega (arith, here, first, same, from)) ∙ was.0, was.1);
   }
 
   -- ---- the new pass
@@ -152,7 +172,7 @@ module _ (plan : Plan) (s : State ℕ View) (tree_state : TreeState) (h : IsTabl
 
   new_share : IsShare plan new h.log (suc new_seat) (share_of_keys keys v.plan.opening v.seen)
   new_share key has =
-      let saw_all : states_of key v.seen ≡ states_of key h.log = (in_role.2 key (can.free_keys key has)).saw_all in
+      let saw_all : states_of key v.seen ≡ states_of key h.log = (in_role.2 key (can.free_keys key has)).saw_all (can.owned key has) in
       let among : is_among keys key ≡ true = among_from_contains keys key has in
       record {
         own = new_key key has;
@@ -182,7 +202,16 @@ module _ (plan : Plan) (s : State ℕ View) (tree_state : TreeState) (h : IsTabl
     share = new_share;
     saw = known.saw;
     heard = (h.log, refl);
-    in_role = (let inside : id < new_seat = at_inside s.views id v at in omega (arith, inside), put_here old.latch_number new_seat (v.rows.next + rows - 1));
+    in_role = (let inside : id < new_seat = at_inside s.views id v at in omega (arith, inside), put_here old.latch_number new_seat (latch_in v.plan.places (v.rows.next + rows)));
+    placed = λ common is.
+        let in_range : dealt_in v.role < plan.places =
+        let there : can.dealt < v.plan.places = can.place_left (subst IsCommon (sym known.same_plan) common) in
+        let same_places : v.plan.places ≡ plan.places = ap (λ (p : Plan). p.places) known.same_plan in
+        let first : can.dealt ≡ dealt_in v.role = ap dealt_in (sym can.role) in
+        omega (arith, there, same_places, first) in
+        record { in_range = in_range; own = put_here old.place (dealt_in v.role) (suc new_seat); word = place_left.1 in_range; busy = λ m goes. absurd (cc) };
+    places_left = λ d b is. absurd (cc);
+    nothing = λ common d b is. absurd (cc);
   }
 
   -- ---- all seats
@@ -220,14 +249,42 @@ module _ (plan : Plan) (s : State ℕ View) (tree_state : TreeState) (h : IsTabl
         back = was.back;
         first = at_longer (set s.views id left) (right ∷ []) 0 left (subst (λ (i : ℕ). get_elem? (set s.views id left) i ≡ some left) first (at_put s.views id v left at));
         role = role_then;
-        counted = omega (arith, changed, no_pass, no_pass_then, more, counted);
+        counted = λ owned. let count = counted (ap (λ (y : View). y.plan.places) (sym is) ∙ owned) in omega (arith, changed, no_pass, no_pass_then, more, count);
+      }
+
+  -- in a common table no key is dealt
+  nobodys_then : IsCommon plan → (key : ℕ) → new.key key ≡ 0
+  nobodys_then common key = go (is_among keys key) refl
+    where
+      go : (b : Bool) → is_among keys key ≡ b → (if b then suc new_seat else old.key key) ≡ 0
+      go true has = absurd (let none : plan.places ≡ 0 = ap (λ (p : Plan). p.places) (sym known.same_plan) ∙ can.owned key (contains_from_among keys key has) in omega (arith, none, common))
+      go false has = h.nobodys common key
+
+  -- nor does anything come from the pool
+  pool_then : IsCommon plan → HasPool plan new s.words tree_state
+  pool_then common =
+      let pool = h.pool common in
+      let none = known.nothing common can.dealt can.back can.role in
+      let enough_rows = can.enough_rows in
+      let enough_pages = can.enough_pages in record {
+        rows = record {
+          in_range = pool.rows.in_range;
+          own = λ row low high. ranged_out v.rows.next (v.rows.next + rows) (suc new_seat) old.row row (λ a c. absurd (omega (arith, a, c, none, enough_rows))) ∙ pool.rows.own row low high;
+          blank = pool.rows.blank;
+        };
+        pages = record {
+          in_range = pool.pages.in_range;
+          own = λ number low high. ranged_out v.pages.next (v.pages.next + pages) (suc new_seat) old.page number (λ a c. absurd (omega (arith, a, c, none, enough_pages))) ∙ pool.pages.own number low high;
+          free = pool.pages.free;
+        };
       }
 
   deals_at : IsTableAt plan record { words = s.words; homes = s.homes; views = views_then } tree_state
   deals_at = owners_change plan s tree_state h new views_then published holder_else all_know
       (let same : length (set s.views id left) ≡ length s.views = length-set s.views id left in
       let longer : length views_then ≡ length (set s.views id left) + 1 = length-append (set s.views id left) (right ∷ []) in
-      omega (arith, same, longer)) counted_then
+      omega (arith, same, longer))
+      nobodys_then pool_then counted_then
 
 pub deals_keep_table : (plan : Plan) (id : ℕ) (v : View) (rows pages : ℕ) (keys taken : List ℕ) → CanDeal v rows pages keys taken
     → Splits (IsTable plan) id v (keeps_rest v rows pages taken) (gets_first v rows pages keys)

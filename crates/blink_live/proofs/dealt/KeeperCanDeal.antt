@@ -51,6 +51,8 @@ module _ (keeper : Keeper) (keys others taken_now : List ℕ) (inserts deletes :
         dealt = keeper.dealt;
         back = keeper.back;
         role = keeper.role_is;
+        owned = λ key has. keeper.owned;
+        place_left = λ common. absurd (let none = keeper.owned in omega (arith, none, common));
         enough_rows = subst (λ (s : Span). s.next + rows_for inserts deletes ≤ s.stop) keeper.rows_are rows;
         enough_pages = subst (λ (s : Span). s.next + MAX_NEW_PAGES_PER_INSERT * inserts ≤ s.stop) keeper.pages_are pages;
         free_keys = λ key has was. not_taken (taken_of keeper) keys none key (there key has) (subst (λ (l : List ℕ). Contains l key) (sym keeper.taken_are) was);

@@ -9,14 +9,22 @@ use Rattle.blink_batch.specs.declared.Op.TheVariants.{Find}
 use Rattle.blink_batch.specs.{answer_at}
 use Rattle.blink_rows.specs.declared.span.Span.{Span}
 use Rattle.blink_live.specs.declared.live.Live.{Live}
+use Rattle.blink_live.specs.declared.live.Pass.{Pass}
 use Rattle.blink_live.specs.declared.view.View.{View}
 use Rattle.blink_live.specs.Finding.{HasSearched, IsIdle}
 use Rattle.blink_live.specs.Seats.{IsPassSeat}
-use Rattle.blink_live.specs.Views.{CanBegin, KnowsItsOwn, SameBesideReads, SeatState, for_call, span}
+use Rattle.blink_live.specs.Views.{IsCommon, CanBegin, KnowsItsOwn, SameBesideReads, SeatState, for_call, span}
 use Rattle.blink_live.proofs.told.PrefixesOfOneList.{prefix_of_prefix}
 
 pub can_find : (key : ℕ) (v : View) → IsIdle v → CanBegin v (Find key)
-can_find key v idle = let rows = idle.rows in let pages = idle.pages in record { rows = omega (arith, rows); pages = omega (arith, pages) }
+can_find key v idle = let rows = idle.rows in let pages = idle.pages in record { rows = omega (arith, rows); pages = omega (arith, pages); announced = idle.announced }
+
+-- a pass can begin a find at any time
+pub pass_can_find : (pass : Pass) (key : ℕ) → CanBegin pass.seat.me.0 (Find key)
+pass_can_find pass key =
+    let rows : pass.seat.me.0.rows.next ≤ pass.seat.me.0.rows.stop = subst (λ (s : Span). s.next ≤ s.stop) pass.rows_are pass.in_order.0 in
+    let pages : pass.seat.me.0.pages.next ≤ pass.seat.me.0.pages.stop = subst (λ (s : Span). s.next ≤ s.stop) pass.pages_are pass.in_order.1 in
+    record { rows = omega (arith, rows); pages = omega (arith, pages); announced = λ common. absurd (let none = pass.owned in omega (arith, none, common)) }
 
 pub searched_none : (me : SeatState) → IsIdle me.0 → HasSearched me me
 searched_none me idle = record {
@@ -58,6 +66,7 @@ searched_once key me new was saw own ended same slots =
         rows = subst (λ (s : Span). s.next ≤ s.stop) (sym rows) was.rows;
         pages = subst (λ (s : Span). s.next ≤ s.stop) (sym pages) was.pages;
         knows_own = own;
+        announced = λ common. subst (λ (v : View). 1 ≤ v.busy) (sym same) (was.announced (subst (λ (v : View). IsCommon v.plan) same common));
       };
       same_plan = ap (λ (v : View). v.plan) same;
       same_role = ap (λ (v : View). v.role) same;

@@ -20,11 +20,11 @@ use Rattle.blink_machine.specs.{ReadsPrimeWell, PlainMachine, NeedsPrime, fresh,
 use Rattle.blink_machine.specs.TreeState.{TreeState}
 use Rattle.blink_machine.proofs.Offered.{step_law}
 use Rattle.blink_live.specs.declared.view.Plan.{Plan}
-use Rattle.blink_live.specs.declared.view.Role.TheVariants.{Pass}
+use Rattle.blink_live.specs.declared.view.Role.TheVariants.{Pass, Keeper}
 use Rattle.blink_live.specs.declared.view.View.{View}
 use Rattle.blink_live.specs.AtomicSteps.{begins}
 use Rattle.blink_live.specs.Rule.{ReadsRow, IsInRole, IsBoundedWay, Knows, IsTable, IsTableAt}
-use Rattle.blink_live.specs.Views.{SeatState, CanBegin, for_call, reading}
+use Rattle.blink_live.specs.Views.{IsCommon, SeatState, CanBegin, for_call, reading}
 use Rattle.blink_live.proofs.table.LoadsKeepTable.{moved, load_keeps_with}
 use Rattle.blink_live.proofs.table.SharesAreKnown.{share_is_known}
 use Rattle.blink_live.proofs.table.MapsWithOneChange.{put_here, put_else}
@@ -99,6 +99,9 @@ module _ (plan : Plan) (s : State ℕ View) (tree_state : TreeState) (h : IsTabl
         saw = ([], append-nil h.log);
         heard = known.heard;
         in_role = subst (IsInRole plan h.owners h.log id w) (sym role) kept;
+        placed = λ common is. let p = known.placed common is in record { in_range = p.in_range; own = p.own; word = p.word; busy = λ m goes. can.announced (subst IsCommon (sym known.same_plan) common) };
+        places_left = λ dealt back is. absurd (let e : Pass ≡ Keeper dealt back = sym role ∙ is in cc);
+        nothing = λ common dealt back is. absurd (let e : Pass ≡ Keeper dealt back = sym role ∙ is in cc);
       }
 
 pub begins_operation : (plan : Plan) (slots id : ℕ) (me : SeatState) (op : Op) → me.0.role ≡ Pass → me.0.operation ≡ None → FitsWords op → CanBegin me.0 op
@@ -122,7 +125,7 @@ begins_operation plan slots id me op role idle fits enough s table homes at smal
       w,
       keeps,
       tt,
-      load_keeps_with plan s tree_state h id 0 me.0 w at invariant refl
+      load_keeps_with plan s tree_state h id 0 me.0 w at invariant refl refl
           (begin_knows plan s tree_state h id me.0 after row way (prime_words tree_state.prime) at role op enough (λ other is. ap (descent_bound tree_state.pages) (sym (goes_on_as after after.state other is))) h.prime),
       (
         after,

@@ -76,7 +76,7 @@ reads_page_word plan slots id number me m role at_m fits needs some_number in_ra
       w,
       keeps,
       tt,
-      load_keeps plan s tree_state h id number me.0 w at role invariant refl
+      load_keeps plan s tree_state h id number me.0 w at role (m, at_m) invariant refl
           (λ some_other is. ap (descent_bound tree_state.pages) (sym (goes_on_as then then.state some_other is)))
           is_page
           ([], append-nil h.log),

@@ -20,6 +20,7 @@ keys_moved old moved owner = record {
   page = old.page;
   key = λ key. if moved key then owner else old.key key;
   latch_number = old.latch_number;
+  place = old.place;
 }
 
 module _ (plan : Plan) (old : Owners) (words : List ℕ) (tree_state : TreeState) (log : List Change) (moved : ℕ → Bool) (owner giver : ℕ) (some_pass : 1 ≤ giver) (only : (key : ℕ) → moved key ≡ true → old.key key ≡ suc giver) where
@@ -65,6 +66,9 @@ module _ (plan : Plan) (old : Owners) (words : List ℕ) (tree_state : TreeState
     saw = known.saw;
     heard = heard;
     in_role = role_then seat v share told v.role known.in_role;
+    placed = λ common is. let p = known.placed common is in record { in_range = p.in_range; own = p.own; word = p.word; busy = p.busy };
+    places_left = known.places_left;
+    nothing = known.nothing;
   }
 
   -- any other seat

@@ -1,5 +1,5 @@
 -- A pass that parts with some keys keeps the rule: a new seat has them, and what the pass's share says of them.
-use Rattle.std.proofs.Common.{◌≡◌, ℕ, suc, ◌+◌, ◌≤◌, true, List, [], ◌∷◌, ◌++◌, length, set, refl, sym, ◌∙◌, subst, ⊎_elim, length-set, length-append, arith}
+use Rattle.std.proofs.Common.{◌≡◌, ℕ, suc, ◌+◌, ◌≤◌, true, List, [], ◌∷◌, ◌++◌, length, set, refl, sym, ap, ◌∙◌, subst, ⊎_elim, length-set, length-append, arith}
 use Rattle.std.specs.Prelude.{Contains}
 use mathlib.Core.Option.{some}
 use lib.ListN.{get_elem?}
@@ -12,7 +12,7 @@ use Rattle.blink_live.specs.declared.view.View.{View}
 use Rattle.blink_live.specs.Parcels.{parcel_of, part_of, parts_with}
 use Rattle.blink_live.specs.Retiring.{without}
 use Rattle.blink_live.specs.Rule.{Owners, IsShare, IsInRole, Knows, passes_in, AreCounted, IsTableAt, IsTable}
-use Rattle.blink_live.specs.Views.{is_among, spent}
+use Rattle.blink_live.specs.Views.{IsOwned, is_among, spent}
 use Rattle.blink_live.proofs.dealt.KeysOfShare.{among_from_contains, contains_from_among, entries_of_keep, changes_of_keep}
 use Rattle.blink_live.proofs.handed.KeysMove.{keys_moved, key_moved, key_stays, knows_then, others_know}
 use Rattle.blink_live.proofs.retired.KeysWithout.{not_among, stays}
@@ -22,7 +22,7 @@ use Rattle.blink_live.proofs.table.SeatsThatStay.{counted_stays, views_stay}
 use Rattle.blink_live.proofs.told.NotesKeepTable.{told_knows}
 
 module _ (plan : Plan) (some_number : 1 ≤ plan.counts.numbers) (s : State ℕ View) (tree_state : TreeState) (h : IsTableAt plan s tree_state) (id : ℕ) (v : View) (at : get_elem? s.views id ≡ some v)
-    (keys : List ℕ) (role : v.role ≡ Pass) (yours : (key : ℕ) → Contains keys key → Contains v.share.keys key) where
+    (keys : List ℕ) (role : v.role ≡ Pass) (owned : IsOwned v.plan) (yours : (key : ℕ) → Contains keys key → Contains v.share.keys key) where
   abbrev new_seat : ℕ
   new_seat = length s.views
 
@@ -91,7 +91,7 @@ module _ (plan : Plan) (some_number : 1 ≤ plan.counts.numbers) (s : State ℕ 
 
   counted_then : AreCounted views_then
   counted_then =
-      let was : AreCounted (set s.views id (parts_with v keys)) = counted_stays s.views id v (parts_with v keys) at refl h.counted in
+      let was : AreCounted (set s.views id (parts_with v keys)) = counted_stays s.views id v (parts_with v keys) at refl refl h.counted in
       let more : passes_in views_then ≡ passes_in (set s.views id (parts_with v keys)) + 0 = passes_more (set s.views id (parts_with v keys)) (parcel_of v keys) in
       let counted = was.counted in
       record {
@@ -100,15 +100,17 @@ module _ (plan : Plan) (some_number : 1 ≤ plan.counts.numbers) (s : State ℕ 
         back = was.back;
         first = at_longer (set s.views id (parts_with v keys)) (parcel_of v keys ∷ []) 0 was.keeper was.first;
         role = was.role;
-        counted = omega (arith, more, counted);
+        counted = λ passes. let count = counted passes in omega (arith, more, count);
       }
 
   parts_at : IsTableAt plan record { words = s.words; homes = s.homes; views = views_then } tree_state
   parts_at = owners_change plan s tree_state h new views_then (λ row is. is) (λ number seat holds. refl) all_know
       (let same : length (set s.views id (parts_with v keys)) ≡ length s.views = length-set s.views id (parts_with v keys) in
       let longer : length views_then ≡ length (set s.views id (parts_with v keys)) + 1 = length-append (set s.views id (parts_with v keys)) (parcel_of v keys ∷ []) in
-      omega (arith, same, longer)) counted_then
+      omega (arith, same, longer))
+      (λ common. absurd (let none : plan.places ≡ 0 = ap (λ (p : Plan). p.places) (sym known.same_plan) ∙ owned in omega (arith, none, common)))
+      (λ common. absurd (let none : plan.places ≡ 0 = ap (λ (p : Plan). p.places) (sym known.same_plan) ∙ owned in omega (arith, none, common))) counted_then
 
-pub parting_keeps_table : (plan : Plan) (id : ℕ) (v : View) (keys : List ℕ) → 1 ≤ plan.counts.numbers → v.role ≡ Pass → ((key : ℕ) → Contains keys key → Contains v.share.keys key)
+pub parting_keeps_table : (plan : Plan) (id : ℕ) (v : View) (keys : List ℕ) → 1 ≤ plan.counts.numbers → v.role ≡ Pass → IsOwned v.plan → ((key : ℕ) → Contains keys key → Contains v.share.keys key)
     → Splits (IsTable plan) id v (parts_with v keys) (parcel_of v keys)
-parting_keeps_table plan id v keys some_number role yours s table at = (table.0, parts_at plan some_number s table.0 table.1 id v at keys role yours)
+parting_keeps_table plan id v keys some_number role owned yours s table at = (table.0, parts_at plan some_number s table.0 table.1 id v at keys role owned yours)

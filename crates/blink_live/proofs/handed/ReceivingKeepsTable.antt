@@ -12,7 +12,7 @@ use Rattle.blink_live.specs.declared.view.Role.TheVariants.{Keeper, Spent}
 use Rattle.blink_live.specs.declared.view.View.{View}
 use Rattle.blink_live.specs.Parcels.{receives, with_share}
 use Rattle.blink_live.specs.Rule.{Owners, IsShare, IsOwnKey, Knows, IsTableAt, IsTable}
-use Rattle.blink_live.specs.Views.{is_among, no_share, spent}
+use Rattle.blink_live.specs.Views.{IsOwned, is_among, no_share, spent}
 use Rattle.blink_live.proofs.dealt.KeysOfShare.{among_from_contains, contains_from_among}
 use Rattle.blink_live.proofs.handed.KeysMove.{keys_moved, key_moved, key_stays, knows_then, others_know}
 use Rattle.blink_live.proofs.handed.SharesOfKeys.{states_mine, states_theirs, with_those-other, with_those-own}
@@ -26,7 +26,7 @@ not_first dealt back e = cc
 
 module _ (plan : Plan) (some_number : 1 ≤ plan.counts.numbers) (s : State ℕ View) (tree_state : TreeState) (h : IsTableAt plan s tree_state) (id other : ℕ) (v w : View) (keys : List ℕ)
     (at : get_elem? s.views id ≡ some v) (apart : ¬ (other ≡ id)) (there : get_elem? (set s.views id (receives v keys w)) other ≡ some w)
-    (its_role : w.role ≡ Spent) (idle : w.operation ≡ None) (either : (key : ℕ) → Contains keys key → Contains v.share.keys key ⊎ Contains w.share.keys key) where
+    (owned : IsOwned v.plan) (its_role : w.role ≡ Spent) (idle : w.operation ≡ None) (either : (key : ℕ) → Contains keys key → Contains v.share.keys key ⊎ Contains w.share.keys key) where
   abbrev new : Owners
   new = keys_moved h.owners (is_among w.share.keys) (suc id)
 
@@ -102,9 +102,11 @@ module _ (plan : Plan) (some_number : 1 ≤ plan.counts.numbers) (s : State ℕ 
       (let one : length (set s.views id both) ≡ length s.views = length-set s.views id both in
       let two : length views_then ≡ length (set s.views id both) = length-set (set s.views id both) other (spent plan) in
       omega (arith, one, two))
-      (counted_stays (set s.views id both) other w (spent plan) there (sym its_role) (counted_stays s.views id v both at refl h.counted))
+      (λ common. absurd (let none : plan.places ≡ 0 = ap (λ (p : Plan). p.places) (sym known.same_plan) ∙ owned in omega (arith, none, common)))
+      (λ common. absurd (let none : plan.places ≡ 0 = ap (λ (p : Plan). p.places) (sym known.same_plan) ∙ owned in omega (arith, none, common)))
+      (counted_stays (set s.views id both) other w (spent plan) there (sym its_role) (sym its.same_plan) (counted_stays s.views id v both at refl refl h.counted))
 
-pub receiving_keeps_table : (plan : Plan) (id other : ℕ) (v w : View) (keys : List ℕ) → 1 ≤ plan.counts.numbers → w.role ≡ Spent → w.operation ≡ None
+pub receiving_keeps_table : (plan : Plan) (id other : ℕ) (v w : View) (keys : List ℕ) → 1 ≤ plan.counts.numbers → IsOwned v.plan → w.role ≡ Spent → w.operation ≡ None
     → ((key : ℕ) → Contains keys key → Contains v.share.keys key ⊎ Contains w.share.keys key) → Joins (IsTable plan) id v other w (receives v keys w) (spent plan)
-receiving_keeps_table plan id other v w keys some_number its_role idle either s table at apart there =
-    (table.0, receives_at plan some_number s table.0 table.1 id other v w keys at apart there its_role idle either)
+receiving_keeps_table plan id other v w keys some_number owned its_role idle either s table at apart there =
+    (table.0, receives_at plan some_number s table.0 table.1 id other v w keys at apart there owned its_role idle either)

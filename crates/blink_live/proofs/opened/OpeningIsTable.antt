@@ -18,15 +18,15 @@ use Rattle.blink_machine.specs.{IsOpening, IsMapOf}
 use Rattle.blink_machine.proofs.Offered.{step_law}
 use Rattle.blink_live.specs.declared.view.Plan.{Plan}
 use Rattle.blink_live.specs.declared.view.View.{View}
-use Rattle.blink_live.specs.Laid.{IsLaid}
-use Rattle.blink_live.specs.Rule.{Owners, IsPublished, PageWordIs, Knows, IsTable}
-use Rattle.blink_live.specs.Views.{first_view}
+use Rattle.blink_live.specs.Laid.{IsLaidWith}
+use Rattle.blink_live.specs.Rule.{HasNumbers, HasPool, HasRows, Owners, IsPublished, PageWordIs, Knows, IsTable}
+use Rattle.blink_live.specs.Views.{IsCommon, first_span, first_view, span}
 use Rattle.blink_live.specs.Words.{RowIs}
 use Rattle.blink_live.proofs.table.CallsOfSeats.{nothing_for_call}
 
 -- the plan of a table that opens
-abbrev pub plan_over : PlainStore → PlainCounts → Plan
-plan_over store counts = record { fan = store.fan; counts = counts; opening = map_of store }
+abbrev pub plan_over : PlainStore → PlainCounts → ℕ → Plan
+plan_over store counts places = record { fan = store.fan; counts = counts; places = places; opening = map_of store }
 
 -- nobody is at work on the tree
 abbrev pub tree_state_over : PlainStore → TreeState
@@ -61,12 +61,22 @@ owners_over count = record {
   page = owner_from (count + 1);
   key = λ key. 0;
   latch_number = λ seat. 0;
+  place = λ place. 0;
 }
 
 -- no page has a number behind the last
 no_page_past : (store : PlainStore) (number : ℕ) → length store.pages < number → page_of store number ≡ None
 no_page_past store zero late = refl
 no_page_past store (suc n) late = slice_get_past store.pages n (omega arith)
+
+-- the keeper's first span, or an empty one
+some_first : (n next stop : ℕ) → 1 ≤ next → 1 ≤ (first_span n next stop).next
+some_first zero next stop least = least
+some_first (suc n) next stop least = omega arith
+
+none_first : (n next stop : ℕ) → 1 ≤ n → (first_span n next stop).stop ≤ (first_span n next stop).next
+none_first zero next stop least = absurd (omega (arith, least))
+none_first (suc n) next stop least = omega arith
 
 one_view : (K : ℕ → View → Type 0) (v : View) → K 0 v → (seat : ℕ) (u : View) → get_elem? (v ∷ []) seat ≡ some u → K seat u
 one_view K v known zero u is = subst (K 0) (some-injective v u is) known
@@ -86,11 +96,11 @@ opening_tree_state store at_rest lawful = step_law.opening_has_invariant (tree_s
       all_idle = λ worker. refl;
     }
 
-module _ (store : PlainStore) (counts : PlainCounts) (words : List ℕ) (numbers : length store.pages < counts.numbers) (rows : length store.pages < counts.rows) (laid : IsLaid counts store words) where
+module _ (store : PlainStore) (counts : PlainCounts) (places : ℕ) (words : List ℕ) (numbers : length store.pages < counts.numbers) (rows : length store.pages < counts.rows) (laid : IsLaidWith counts places store words) where
   -- each page word names its page's row
-  page_words_are : (number : ℕ) → 1 ≤ number → number < counts.numbers → PageWordIs (plan_over store counts) (owners_over (length store.pages)) words (slice_index words number) (page_of store number)
+  page_words_are : (number : ℕ) → 1 ≤ number → number < counts.numbers → PageWordIs (plan_over store counts places) (owners_over (length store.pages)) words (slice_index words number) (page_of store number)
   page_words_are number least early =
-      let plan = plan_over store counts in
+      let plan = plan_over store counts places in
       let owners = owners_over (length store.pages) in
       elim (cases_lt number (length store.pages + 1)) [
         | inl less ↦
@@ -102,35 +112,66 @@ module _ (store : PlainStore) (counts : PlainCounts) (words : List ℕ) (numbers
         | inr more ↦ subst (PageWordIs plan owners words (slice_index words number)) (sym (no_page_past store number (omega arith))) (laid.no_more number (omega arith) (omega arith))
       ]
 
+  -- the rows and page numbers that no page has
+  all_rows : HasRows (plan_over store counts places) (owners_over (length store.pages)) words 1 (span (length store.pages + 2) (counts.rows + 1))
+  all_rows = record {
+    in_range = (omega arith, omega arith);
+    own = λ row late early. owner_on (length store.pages + 2) row late;
+    blank = λ row late early. laid.blank_rows row late (omega arith);
+  }
+
+  all_numbers : HasNumbers (plan_over store counts places) (owners_over (length store.pages)) (tree_state_over store) 1 (span (length store.pages + 1) counts.numbers)
+  all_numbers = record {
+    in_range = (omega arith, omega arith);
+    own = λ number late early. owner_on (length store.pages + 1) number late;
+    free = λ number late early. no_page_past store number (omega arith);
+  }
+
+  -- are the keeper's, or the pool's
+  first_rows : (n : ℕ) → HasRows (plan_over store counts places) (owners_over (length store.pages)) words 1 (first_span n (length store.pages + 2) (counts.rows + 1))
+  first_rows zero = all_rows
+  first_rows (suc n) = record { in_range = (omega arith, omega arith); own = λ row low high. absurd (omega (arith, low, high)); blank = λ row low high. absurd (omega (arith, low, high)) }
+
+  first_numbers : (n : ℕ) → HasNumbers (plan_over store counts places) (owners_over (length store.pages)) (tree_state_over store) 1 (first_span n (length store.pages + 1) counts.numbers)
+  first_numbers zero = all_numbers
+  first_numbers (suc n) = record { in_range = (omega arith, omega arith); own = λ number low high. absurd (omega (arith, low, high)); free = λ number low high. absurd (omega (arith, low, high)) }
+
+  first_pool : IsCommon (plan_over store counts places) → HasPool (plan_over store counts places) (owners_over (length store.pages)) words (tree_state_over store)
+  first_pool common = record {
+    rows = subst (λ (n : ℕ). HasRows (plan_over store counts places) (owners_over (length store.pages)) words 1 (span n (counts.rows + 1))) (sym (laid.pool_rows common)) all_rows;
+    pages = subst (λ (n : ℕ). HasNumbers (plan_over store counts places) (owners_over (length store.pages)) (tree_state_over store) 1 (span n counts.numbers)) (sym (laid.pool_pages common)) all_numbers;
+  }
+
   -- the keeper knows what is so
-  keeper_knows : Knows (plan_over store counts) (owners_over (length store.pages)) words (tree_state_over store) [] 0 (first_view (length store.pages) (plan_over store counts))
+  keeper_knows : Knows (plan_over store counts places) (owners_over (length store.pages)) words (tree_state_over store) [] 0 (first_view (length store.pages) (plan_over store counts places))
   keeper_knows = record {
     same_plan = refl;
     operation = refl;
     bounded = λ m is. absurd (cc);
     reads = tt;
-    rows = record {
-      in_range = (omega arith, omega arith);
-      own = λ row late early. owner_on (length store.pages + 2) row late;
-      blank = λ row late early. laid.blank_rows row late (omega arith);
-    };
-    numbers = record {
-      in_range = (omega arith, omega arith);
-      own = λ number late early. owner_on (length store.pages + 1) number late;
-      free = λ number late early. no_page_past store number (omega arith);
-    };
-    for_call = nothing_for_call (plan_over store counts) (owners_over (length store.pages)) words (tree_state_over store) 1 (length store.pages + 2) (length store.pages + 1) (omega arith) (omega arith) (omega arith);
+    rows = first_rows places;
+    numbers = first_numbers places;
+    for_call = nothing_for_call (plan_over store counts places) (owners_over (length store.pages)) words (tree_state_over store) 1 (first_span places (length store.pages + 2) (counts.rows + 1)).next (first_span places (length store.pages + 1) counts.numbers).next
+        (some_first places (length store.pages + 2) (counts.rows + 1) (omega arith)) (some_first places (length store.pages + 1) counts.numbers (omega arith)) (omega arith);
     share = λ key among. absurd (omega (arith, among.1));
     saw = ([], refl);
     heard = ([], refl);
-    in_role = (refl, refl, (λ key not. record { own = refl; saw_all = refl }), (λ share among. absurd (omega (arith, among.1))));
+    in_role = (refl, refl, (λ key not. record { own = refl; saw_all = λ owned. refl }), (λ share among. absurd (omega (arith, among.1))));
+    placed = λ common is. absurd (cc);
+    nothing = λ common dealt back is. (
+      none_first places (length store.pages + 2) (counts.rows + 1) common,
+      none_first places (length store.pages + 1) counts.numbers common,
+      omega arith,
+      omega arith,
+    );
+    places_left = λ dealt back is place from. (refl, λ inside. laid.blank_places place inside);
   }
 
   -- the table of a tree at rest, as it opens
   pub opens : IsStoreAtRest store → IsLawfulStore store → IsMapOf store (map_of store) → AreBounded counts
-      → IsTable (plan_over store counts) (opening words [] (first_view (length store.pages) (plan_over store counts)))
+      → IsTable (plan_over store counts places) (opening words [] (first_view (length store.pages) (plan_over store counts places)))
   opens at_rest lawful is_map bounded =
-      let plan = plan_over store counts in
+      let plan = plan_over store counts places in
       let owners = owners_over (length store.pages) in
       let named : slice_index words 0 ≡ 1 = laid.page_words_named 0 (omega arith) in (
         tree_state_over store,
@@ -152,8 +193,10 @@ module _ (store : PlainStore) (counts : PlainCounts) (words : List ℕ) (numbers
           holders = λ number seat is. absurd (cc);
           is_map = record { ascending = is_map.ascending; kept = is_map.kept };
           kept = λ key. refl;
+          nobodys = λ common key. refl;
+          pool = first_pool;
           views = one_view (Knows plan owners words (tree_state_over store) []) (first_view (length store.pages) plan) keeper_knows;
           others_idle = λ seat late. refl;
-          counted = record { keeper = first_view (length store.pages) plan; dealt = 0; back = 0; first = refl; role = refl; counted = refl };
+          counted = record { keeper = first_view (length store.pages) plan; dealt = 0; back = 0; first = refl; role = refl; counted = λ owned. refl };
         },
       )

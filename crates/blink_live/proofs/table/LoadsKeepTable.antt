@@ -1,5 +1,5 @@
 -- A load keeps the rule: the words stay, and one seat's operation takes a step of the tree that only reads.
-use Rattle.std.proofs.Common.{◌≡◌, ℕ, suc, Option, List, length, get_or, set, sym, ap, ◌∙◌, subst, length-set, arith}
+use Rattle.std.proofs.Common.{◌≡◌, ◌≤◌, ℕ, suc, Option, List, length, get_or, set, sym, ap, ◌∙◌, subst, length-set, arith, Some}
 use mathlib.Core.Option.{some}
 use mathlib.Core.List.{IsPrefix}
 use lib.ListN.{get_elem?}
@@ -13,7 +13,7 @@ use Rattle.blink_live.specs.declared.view.Role.TheVariants.{Pass}
 use Rattle.blink_live.specs.declared.view.View.{View}
 use Rattle.blink_live.specs.Changes.{put}
 use Rattle.blink_live.specs.Rule.{ReadsRow, IsInRole, IsBoundedWay, Knows, IsTableAt, IsTable}
-use Rattle.blink_live.specs.Views.{SameBesideReads}
+use Rattle.blink_live.specs.Views.{IsCommon, SameBesideReads}
 use Rattle.blink_live.proofs.table.MapsWithOneChange.{put_here, put_else}
 use Rattle.blink_live.proofs.table.SeatsThatStay.{at_inside, views_stay, counted_stays}
 use Rattle.blink_live.proofs.table.CallsOfSeats.{call_still}
@@ -27,9 +27,9 @@ module _ (plan : Plan) (s : State ℕ View) (tree_state : TreeState) (h : IsTabl
   loaded = record v { operation = w.operation; descent_bound = w.descent_bound; reads = w.reads; seen = w.seen }
 
   -- the seat knows what it knew, but for its operation, what it reads and what it has seen
-  pub load_knows_in : IsInRole plan h.owners h.log id loaded v.role → SameBesideReads v w → IsBoundedWay tree_state w → ReadsRow plan h.owners s.words w.reads → IsPrefix w.seen h.log
+  pub load_knows_in : IsInRole plan h.owners h.log id loaded v.role → (IsCommon plan → v.role ≡ Pass → (m : PlainMachine) → w.operation ≡ Some m → 1 ≤ v.busy) → SameBesideReads v w → IsBoundedWay tree_state w → ReadsRow plan h.owners s.words w.reads → IsPrefix w.seen h.log
       → Knows plan h.owners s.words (moved tree_state id w.operation) h.log id w
-  load_knows_in in_role same bounded reads saw =
+  load_knows_in in_role busy same bounded reads saw =
       let known = h.views id v at in
       let knows : Knows plan h.owners s.words (moved tree_state id w.operation) h.log id loaded = record {
         same_plan = known.same_plan;
@@ -44,12 +44,15 @@ module _ (plan : Plan) (s : State ℕ View) (tree_state : TreeState) (h : IsTabl
         saw = saw;
         heard = known.heard;
         in_role = in_role;
+        placed = λ common is. let p = known.placed common is in record { in_range = p.in_range; own = p.own; word = p.word; busy = busy common is };
+        places_left = known.places_left;
+        nothing = known.nothing;
       } in
       subst (Knows plan h.owners s.words (moved tree_state id w.operation) h.log id) (sym same) knows
 
-  pub load_keeps_with : Invariant (moved tree_state id w.operation) → w.role ≡ v.role → Knows plan h.owners s.words (moved tree_state id w.operation) h.log id w
+  pub load_keeps_with : Invariant (moved tree_state id w.operation) → w.role ≡ v.role → w.plan ≡ v.plan → Knows plan h.owners s.words (moved tree_state id w.operation) h.log id w
       → IsTable plan record { words = set s.words word (get_or s.words word 0); homes = s.homes; views = set s.views id w }
-  load_keeps_with invariant same_role knows = subst (λ (words : List ℕ). IsTable plan record { words = words; homes = s.homes; views = set s.views id w }) (sym (set-get_or s.words word 0)) (
+  load_keeps_with invariant same_role same_plan knows = subst (λ (words : List ℕ). IsTable plan record { words = words; homes = s.homes; views = set s.views id w }) (sym (set-get_or s.words word 0)) (
     moved tree_state id w.operation,
     record {
       owners = h.owners;
@@ -68,6 +71,8 @@ module _ (plan : Plan) (s : State ℕ View) (tree_state : TreeState) (h : IsTabl
       holders = h.holders;
       is_map = record { ascending = h.is_map.ascending; kept = h.is_map.kept };
       kept = h.kept;
+      nobodys = h.nobodys;
+      pool = λ common. let pool = h.pool common in record { rows = pool.rows; pages = record { in_range = pool.pages.in_range; own = pool.pages.own; free = pool.pages.free } };
       views = views_stay (Knows plan h.owners s.words (moved tree_state id w.operation) h.log) s.views id w knows
           (λ j u other there. let known = h.views j u there in record {
             same_plan = known.same_plan;
@@ -82,22 +87,25 @@ module _ (plan : Plan) (s : State ℕ View) (tree_state : TreeState) (h : IsTabl
             saw = known.saw;
             heard = known.heard;
             in_role = known.in_role;
+            placed = known.placed;
+            places_left = known.places_left;
+            nothing = known.nothing;
           });
       others_idle = λ seat beyond.
           let inside = at_inside s.views id v at in
           let longer : length (set s.views id w) ≡ length s.views = length-set s.views id w in
           put_else tree_state.machines id seat w.operation (λ e. omega (arith, e, inside, longer, beyond)) ∙ h.others_idle seat (omega (arith, beyond, longer));
-      counted = counted_stays s.views id v w at same_role h.counted;
+      counted = counted_stays s.views id v w at same_role same_plan h.counted;
     },
   )
 
 module _ (plan : Plan) (s : State ℕ View) (tree_state : TreeState) (h : IsTableAt plan s tree_state) (id word : ℕ) (v w : View) (at : get_elem? s.views id ≡ some v) (role : v.role ≡ Pass) where
-  pub load_knows : SameBesideReads v w → IsBoundedWay tree_state w → ReadsRow plan h.owners s.words w.reads → IsPrefix w.seen h.log
+  pub load_knows : ((k : PlainMachine) × (v.operation ≡ Some k)) → SameBesideReads v w → IsBoundedWay tree_state w → ReadsRow plan h.owners s.words w.reads → IsPrefix w.seen h.log
       → Knows plan h.owners s.words (moved tree_state id w.operation) h.log id w
-  load_knows =
+  load_knows under =
       let kept = subst (IsInRole plan h.owners h.log id v) role (h.views id v at).in_role in
-      load_knows_in plan s tree_state h id word v w at (subst (IsInRole plan h.owners h.log id (loaded plan s tree_state h id word v w at)) (sym role) kept)
+      load_knows_in plan s tree_state h id word v w at (subst (IsInRole plan h.owners h.log id (loaded plan s tree_state h id word v w at)) (sym role) kept) (λ common is m goes. ((h.views id v at).placed common is).busy under.0 under.1)
 
-  pub load_keeps : Invariant (moved tree_state id w.operation) → SameBesideReads v w → IsBoundedWay tree_state w → ReadsRow plan h.owners s.words w.reads → IsPrefix w.seen h.log
+  pub load_keeps : ((k : PlainMachine) × (v.operation ≡ Some k)) → Invariant (moved tree_state id w.operation) → SameBesideReads v w → IsBoundedWay tree_state w → ReadsRow plan h.owners s.words w.reads → IsPrefix w.seen h.log
       → IsTable plan record { words = set s.words word (get_or s.words word 0); homes = s.homes; views = set s.views id w }
-  load_keeps invariant same bounded reads saw = load_keeps_with plan s tree_state h id word v w at invariant (ap (λ (x : View). x.role) same) (load_knows same bounded reads saw)
+  load_keeps under invariant same bounded reads saw = load_keeps_with plan s tree_state h id word v w at invariant (ap (λ (x : View). x.role) same) (ap (λ (x : View). x.plan) same) (load_knows under same bounded reads saw)

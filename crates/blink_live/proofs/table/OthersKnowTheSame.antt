@@ -1,7 +1,8 @@
 -- A step of one seat leaves what the others know.
-use Rattle.std.proofs.Common.{◌≡◌, ◌≢◌, ℕ, suc, ◌+◌, ◌<◌, ◌≤◌, Option, Some, None, List, sym, ◌∙◌, arith, []}
+use Rattle.std.proofs.Common.{◌≡◌, ◌≢◌, ℕ, suc, ◌+◌, ◌<◌, ◌≤◌, Option, Some, None, List, sym, ap, ◌∙◌, arith, []}
 use Rattle.std.specs.Prelude.{slice_index}
-use mathlib.Core.Option.{some}
+use mathlib.Core.Option.{some, some-injective}
+use native.Mathlib.Decide.{dec_le}
 use mathlib.Core.List.{IsPrefix}
 use lib.ListN.{get_elem?}
 use Rattle.atomic_table.specs.Table.{State}
@@ -19,9 +20,9 @@ use Rattle.blink_live.specs.declared.view.Role.TheVariants.{Keeper, Pass, Spent}
 use Rattle.blink_live.specs.declared.view.Share.{Share}
 use Rattle.blink_live.specs.declared.view.View.{View}
 use Rattle.blink_live.specs.Changes.{after, states_of}
-use Rattle.blink_live.specs.Rule.{Owners, IsPublished, PageWordIs, ReadsRow, HasRows, HasNumbers, HasForCall, IsShare, IsInRole, Knows, IsTableAt}
-use Rattle.blink_live.specs.Views.{span}
-use Rattle.blink_live.specs.Words.{row_start, RowIs}
+use Rattle.blink_live.specs.Rule.{HasNothing, HasPool, Owners, IsPublished, PageWordIs, ReadsRow, HasRows, HasNumbers, HasForCall, IsShare, IsInRole, Knows, IsTableAt}
+use Rattle.blink_live.specs.Views.{IsCommon, IsOwned, span}
+use Rattle.blink_live.specs.Words.{place_word, row_start, RowIs}
 
 -- the words of a row stay
 abbrev pub RowStays : Plan → List ℕ → List ℕ → ℕ → Type 0
@@ -34,10 +35,14 @@ row_is_still plan old new row content stays is i inside = stays i inside ∙ is 
 pub record LeavesOthers (plan : Plan) (s : State ℕ View) (tree_state then : TreeState) (h : IsTableAt plan s tree_state) (id : ℕ) (words : List ℕ) (new : Owners) (log : List Change) : Type 0 where
   pub machines : (seat : ℕ) → seat ≢ id → then.machines seat ≡ tree_state.machines seat
   pub ways : (seat : ℕ) (m : PlainMachine) → seat ≢ id → tree_state.machines seat ≡ Some m → descent_bound then.pages m ≡ descent_bound tree_state.pages m
-  pub rows : (row : ℕ) → 1 ≤ row → h.owners.row row ≢ suc id → (new.row row ≡ h.owners.row row) × RowStays plan s.words words row
-  pub numbers : (number : ℕ) → h.owners.page number ≢ suc id → (new.page number ≡ h.owners.page number) × (tree_state.pages number ≡ None → then.pages number ≡ None)
-  pub keys : (key : ℕ) → h.owners.key key ≢ suc id
+  pub rows : (row : ℕ) → 1 ≤ row → row ≤ plan.counts.rows → h.owners.row row ≢ suc id → (IsCommon plan → h.owners.row row ≢ suc 0) → (new.row row ≡ h.owners.row row) × RowStays plan s.words words row
+  pub numbers : (number : ℕ) → h.owners.page number ≢ suc id → (IsCommon plan → h.owners.page number ≢ suc 0) → (new.page number ≡ h.owners.page number) × (tree_state.pages number ≡ None → then.pages number ≡ None)
+  pub keys : IsOwned plan → (key : ℕ) → h.owners.key key ≢ suc id
       → (new.key key ≡ h.owners.key key) × (states_of key log ≡ states_of key h.log) × (after (pointer_of plan.opening) log key ≡ after (pointer_of plan.opening) h.log key)
+  pub nobodys : IsCommon plan → (key : ℕ) → new.key key ≡ 0
+  pub pool : IsCommon plan → HasPool plan new words then
+  pub places : (place : ℕ) → new.place place ≡ h.owners.place place
+  pub place_words : (place : ℕ) → place < plan.places → h.owners.place place ≢ suc id → slice_index words (place_word plan.counts place) ≡ slice_index s.words (place_word plan.counts place)
   pub latch_numbers : (seat : ℕ) → new.latch_number seat ≡ h.owners.latch_number seat
   pub longer : (seen : List Change) → IsPrefix seen h.log → IsPrefix seen log
 
@@ -45,7 +50,7 @@ module _ (plan : Plan) (s : State ℕ View) (tree_state then : TreeState) (h : I
     (leaves : LeavesOthers plan s tree_state then h id words new log) where
   pub still_published : (row : ℕ) → IsPublished plan h.owners row → IsPublished plan new row × RowStays plan s.words words row
   still_published row is =
-      let t = leaves.rows row is.0.0 (λ e. let zero_is : 0 ≡ suc id = sym is.1 ∙ e in absurd (omega (arith, zero_is))) in
+      let t = leaves.rows row is.0.0 is.0.1 (λ e. let zero_is : 0 ≡ suc id = sym is.1 ∙ e in absurd (omega (arith, zero_is))) (λ common e. let zero_is : 0 ≡ suc 0 = sym is.1 ∙ e in absurd (omega (arith, zero_is))) in
       ((is.0, t.0 ∙ is.1), t.1)
 
   pub page_word_still : (word : ℕ) (page : Option PlainPage) → PageWordIs plan h.owners s.words word page → PageWordIs plan new words word page
@@ -60,65 +65,105 @@ module _ (plan : Plan) (s : State ℕ View) (tree_state then : TreeState) (h : I
     apart : suc seat ≢ suc id
     apart e = other (omega (arith, e))
 
-    rows_still : (rows : Span) → HasRows plan h.owners s.words (suc seat) rows → HasRows plan new words (suc seat) rows
-    rows_still rows has = record {
+    -- the pool is nobody's
+    not_pools : (low high n whose : ℕ) → (IsCommon plan → seat ≡ 0 → high ≤ low) → low ≤ n → n < high → whose ≡ suc seat → IsCommon plan → whose ≢ suc 0
+    not_pools low high n whose none from to is common pools = let empty = none common (let one : suc seat ≡ suc 0 = sym is ∙ pools in omega (arith, one)) in omega (arith, empty, from, to)
+
+    rows_still : (rows : Span) → (IsCommon plan → seat ≡ 0 → rows.stop ≤ rows.next) → HasRows plan h.owners s.words (suc seat) rows → HasRows plan new words (suc seat) rows
+    rows_still rows none has = record {
       in_range = has.in_range;
-      own = λ row low high. let least = has.in_range.0 in (leaves.rows row (omega (arith, least, low)) (λ e. apart (sym (has.own row low high) ∙ e))).0 ∙ has.own row low high;
+      own = λ row low high. let least = has.in_range.0 in let most = has.in_range.1 in (leaves.rows row (omega (arith, least, low)) (omega (arith, high, most)) (λ e. apart (sym (has.own row low high) ∙ e)) (not_pools rows.next rows.stop row (h.owners.row row) none low high (has.own row low high))).0 ∙ has.own row low high;
       blank = λ row low high.
           let least = has.in_range.0 in
-          row_is_still plan s.words words row [] (leaves.rows row (omega (arith, least, low)) (λ e. apart (sym (has.own row low high) ∙ e))).1 (has.blank row low high);
+          let most = has.in_range.1 in
+          row_is_still plan s.words words row [] (leaves.rows row (omega (arith, least, low)) (omega (arith, high, most)) (λ e. apart (sym (has.own row low high) ∙ e)) (not_pools rows.next rows.stop row (h.owners.row row) none low high (has.own row low high))).1 (has.blank row low high);
     }
 
-    numbers_still : (pages : Span) → HasNumbers plan h.owners tree_state (suc seat) pages → HasNumbers plan new then (suc seat) pages
-    numbers_still pages has = record {
+    numbers_still : (pages : Span) → (IsCommon plan → seat ≡ 0 → pages.stop ≤ pages.next) → HasNumbers plan h.owners tree_state (suc seat) pages → HasNumbers plan new then (suc seat) pages
+    numbers_still pages none has = record {
       in_range = has.in_range;
-      own = λ number low high. (leaves.numbers number (λ e. apart (sym (has.own number low high) ∙ e))).0 ∙ has.own number low high;
-      free = λ number low high. (leaves.numbers number (λ e. apart (sym (has.own number low high) ∙ e))).1 (has.free number low high);
+      own = λ number low high. (leaves.numbers number (λ e. apart (sym (has.own number low high) ∙ e)) (not_pools pages.next pages.stop number (h.owners.page number) none low high (has.own number low high))).0 ∙ has.own number low high;
+      free = λ number low high. (leaves.numbers number (λ e. apart (sym (has.own number low high) ∙ e)) (not_pools pages.next pages.stop number (h.owners.page number) none low high (has.own number low high))).1 (has.free number low high);
     }
 
-    call_stays : (v : View) → HasForCall plan h.owners s.words tree_state (suc seat) v.call v.rows.next v.pages.next → HasForCall plan new words then (suc seat) v.call v.rows.next v.pages.next
-    call_stays v has = record {
+    call_stays : (v : View) → (IsCommon plan → seat ≡ 0 → HasNothing v) → HasForCall plan h.owners s.words tree_state (suc seat) v.call v.rows.next v.pages.next → HasForCall plan new words then (suc seat) v.call v.rows.next v.pages.next
+    call_stays v none has = record {
       before = has.before;
       width = has.width;
-      first_own = λ some_row. let own = has.first_own some_row in (own.0, (leaves.rows v.call.rows.next own.0 (λ e. apart (sym own.1 ∙ e))).0 ∙ own.1);
+      first_own = λ some_row. let own = has.first_own some_row in let most = has.others.in_range.1 in (own.0, (leaves.rows v.call.rows.next own.0 (omega (arith, some_row, most)) (λ e. apart (sym own.1 ∙ e)) (not_pools v.call.rows.next v.call.rows.stop v.call.rows.next (h.owners.row v.call.rows.next) (λ common first. (none common first).2) (omega arith) some_row own.1)).0 ∙ own.1);
       staged = λ some_row.
           let own = has.first_own some_row in
-          row_is_still plan s.words words v.call.rows.next v.call.staged (leaves.rows v.call.rows.next own.0 (λ e. apart (sym own.1 ∙ e))).1 (has.staged some_row);
-      others = rows_still (span (suc v.call.rows.next) v.call.rows.stop) has.others;
-      numbers = numbers_still v.call.pages has.numbers;
+          let most = has.others.in_range.1 in
+          row_is_still plan s.words words v.call.rows.next v.call.staged (leaves.rows v.call.rows.next own.0 (omega (arith, some_row, most)) (λ e. apart (sym own.1 ∙ e)) (not_pools v.call.rows.next v.call.rows.stop v.call.rows.next (h.owners.row v.call.rows.next) (λ common first. (none common first).2) (omega arith) some_row own.1)).1 (has.staged some_row);
+      others = rows_still (span (suc v.call.rows.next) v.call.rows.stop) (λ common first. let empty = (none common first).2 in omega (arith, empty)) has.others;
+      numbers = numbers_still v.call.pages (λ common first. (none common first).3) has.numbers;
     }
 
-  share_still : (owner : ℕ) (share : Share) → owner ≢ suc id → IsShare plan h.owners h.log owner share → IsShare plan new log owner share
-  share_still owner share apart has key among =
+  -- where a seat owns a key, passes own the keys
+  owned : (owner key : ℕ) → 1 ≤ owner → h.owners.key key ≡ owner → IsOwned plan
+  owned owner key some_owner own = elim (dec_le 1 plan.places) [
+    | yes common ↦ let zero_is : 0 ≡ owner = sym (h.nobodys common key) ∙ own in absurd (omega (arith, zero_is, some_owner))
+    | no none ↦ omega (arith, none)
+  ]
+
+  share_still : (owner : ℕ) (share : Share) → 1 ≤ owner → owner ≢ suc id → IsShare plan h.owners h.log owner share → IsShare plan new log owner share
+  share_still owner share some_owner apart has key among =
       let own = has key among in
-      let t = leaves.keys key (λ e. apart (sym own.own ∙ e)) in
+      let t = leaves.keys (owned owner key some_owner own.own) key (λ e. apart (sym own.own ∙ e)) in
       record { own = t.0 ∙ own.own; kept = own.kept ∙ sym t.2; changes = t.1 ∙ own.changes }
 
-  role_still : (seat : ℕ) (v : View) (role : Role) → IsInRole plan h.owners h.log seat v role → IsInRole plan new log seat v role
-  role_still seat v (Keeper dealt back) is = (
+  -- a key that nobody owned is nobody's
+  still_free : (key : ℕ) → h.owners.key key ≡ 0 → h.owners.key key ≢ suc id → new.key key ≡ 0
+  still_free key none not_own = elim (dec_le 1 plan.places) [
+    | yes common ↦ leaves.nobodys common key
+    | no passes ↦ (leaves.keys (omega (arith, passes)) key not_own).0 ∙ none
+  ]
+
+  role_still : (seat : ℕ) (v : View) (role : Role) → v.plan ≡ plan → IsInRole plan h.owners h.log seat v role → IsInRole plan new log seat v role
+  role_still seat v (Keeper dealt back) same_plan is = (
     is.0,
     is.1,
     λ key untaken.
         let free = is.2 key untaken in
-        let t = leaves.keys key (λ e. let zero_is : 0 ≡ suc id = sym free.own ∙ e in absurd (omega (arith, zero_is))) in
-        record { own = t.0 ∙ free.own; saw_all = free.saw_all ∙ sym t.1 },
-    λ share came. share_still 1 share (λ e. omega (arith, e, some_pass)) (is.3 share came),
+        let not_own : h.owners.key key ≢ suc id = λ e. let zero_is : 0 ≡ suc id = sym free.own ∙ e in absurd (omega (arith, zero_is)) in
+        record {
+          own = still_free key free.own not_own;
+          saw_all = λ passes. free.saw_all passes ∙ sym (leaves.keys (sym (ap (λ (p : Plan). p.places) same_plan) ∙ passes) key not_own).1;
+        },
+    λ share came. share_still 1 share (omega arith) (λ e. omega (arith, e, some_pass)) (is.3 share came),
   )
-  role_still seat v Pass is = (is.0, leaves.latch_numbers seat ∙ is.1)
-  role_still seat v Spent is = is
+  role_still seat v Pass same_plan is = (is.0, leaves.latch_numbers seat ∙ is.1)
+  role_still seat v Spent same_plan is = is
 
   pub other_knows : (seat : ℕ) (v : View) → seat ≢ id → get_elem? s.views seat ≡ some v → Knows plan new words then log seat v
   other_knows seat v other at =
-      let known = h.views seat v at in record {
+      let known = h.views seat v at in
+      -- the first seat is the host's
+      let none : IsCommon plan → seat ≡ 0 → HasNothing v =
+      λ common first.
+      let is : v ≡ h.counted.keeper = some-injective v h.counted.keeper (sym at ∙ (ap (get_elem? s.views) first ∙ h.counted.first)) in
+      known.nothing common h.counted.dealt h.counted.back (ap (λ (y : View). y.role) is ∙ h.counted.role) in
+      record {
         same_plan = known.same_plan;
         operation = leaves.machines seat other ∙ known.operation;
         bounded = λ m is. leaves.ways seat m other (known.operation ∙ is) ∙ known.bounded m is;
         reads = reads_still v.reads known.reads;
-        rows = rows_still seat other v.rows known.rows;
-        numbers = numbers_still seat other v.pages known.numbers;
-        for_call = call_stays seat other v known.for_call;
-        share = share_still (suc seat) v.share (λ e. other (omega (arith, e))) known.share;
+        rows = rows_still seat other v.rows (λ common first. (none common first).0) known.rows;
+        numbers = numbers_still seat other v.pages (λ common first. (none common first).1) known.numbers;
+        for_call = call_stays seat other v none known.for_call;
+        share = share_still (suc seat) v.share (omega arith) (λ e. other (omega (arith, e))) known.share;
         saw = leaves.longer v.seen known.saw;
         heard = leaves.longer v.told known.heard;
-        in_role = role_still seat v v.role known.in_role;
+        in_role = role_still seat v v.role known.same_plan known.in_role;
+        placed = λ common role. let p = known.placed common role in record {
+          in_range = p.in_range;
+          own = leaves.places v.place ∙ p.own;
+          word = leaves.place_words v.place p.in_range (λ e. let one : suc seat ≡ suc id = sym p.own ∙ e in other (omega (arith, one))) ∙ p.word;
+          busy = p.busy;
+        };
+        nothing = known.nothing;
+        places_left = λ dealt back role place from. let left = known.places_left dealt back role place from in (
+          leaves.places place ∙ left.0,
+          λ inside. leaves.place_words place inside (λ e. let zero_is : 0 ≡ suc id = sym left.0 ∙ e in absurd (omega (arith, zero_is))) ∙ left.1 inside,
+        );
       }

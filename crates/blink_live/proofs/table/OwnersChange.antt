@@ -1,5 +1,5 @@
 -- Rows, page numbers and keys get other owners; the words and the tree state stay as they are.
-use Rattle.std.proofs.Common.{◌≡◌, ℕ, suc, ◌≤◌, Option, Some, None, List, length, refl, sym, ◌∙◌, arith}
+use Rattle.std.proofs.Common.{◌≡◌, ℕ, suc, ◌≤◌, Option, Some, None, List, length, refl, sym, ◌∙◌, arith, subst}
 use Rattle.std.specs.Prelude.{slice_index}
 use mathlib.Core.Option.{some}
 use lib.ListN.{get_elem?}
@@ -12,7 +12,8 @@ use Rattle.blink_live.specs.declared.view.Role.{Role}
 use Rattle.blink_live.specs.declared.view.Role.TheVariants.{Keeper, Pass, Spent}
 use Rattle.blink_live.specs.declared.view.Share.{Share}
 use Rattle.blink_live.specs.declared.view.View.{View}
-use Rattle.blink_live.specs.Rule.{Owners, PageWordIs, latch_word, ReadsRow, IsShare, IsInRole, Knows, AreCounted, IsTableAt}
+use Rattle.blink_live.specs.Rule.{HasPool, Owners, PageWordIs, latch_word, ReadsRow, IsShare, IsInRole, Knows, AreCounted, IsTableAt}
+use Rattle.blink_live.specs.Views.{IsCommon}
 use Rattle.blink_live.proofs.table.CallsOfSeats.{call_still}
 
 -- what was published is
@@ -25,6 +26,7 @@ pub record StillOwns (old new : Owners) (seat : ℕ) : Type 0 where
   pub page : (number : ℕ) → old.page number ≡ suc seat → new.page number ≡ suc seat
   pub key : (key : ℕ) → old.key key ≡ suc seat → new.key key ≡ suc seat
   pub latch_number : new.latch_number seat ≡ old.latch_number seat
+  pub place : (place : ℕ) → old.place place ≡ suc seat → new.place place ≡ suc seat
 
 module _ (plan : Plan) (old new : Owners) (words : List ℕ) (log : List Change) (published : StaysPublished old new) where
   page_still : (word : ℕ) (page : Option PlainPage) → PageWordIs plan old words word page → PageWordIs plan new words word page
@@ -58,6 +60,9 @@ module _ (plan : Plan) (old new : Owners) (words : List ℕ) (log : List Change)
     saw = known.saw;
     heard = known.heard;
     in_role = role_still seat v v.role later owns.latch_number known.in_role;
+    placed = λ common is. let p = known.placed common is in record { in_range = p.in_range; own = owns.place v.place p.own; word = p.word; busy = p.busy };
+    places_left = λ dealt back is. absurd (let first = (subst (IsInRole plan old log seat v) is known.in_role).0 in omega (arith, first, later));
+    nothing = λ common dealt back is. absurd (let first = (subst (IsInRole plan old log seat v) is known.in_role).0 in omega (arith, first, later));
   }
 
 latch_still : (old new : Owners) (holder : Option ℕ) → ((seat : ℕ) → holder ≡ Some seat → new.latch_number seat ≡ old.latch_number seat) → latch_word old holder ≡ latch_word new holder
@@ -69,9 +74,9 @@ pub owners_change : (plan : Plan) (s : State ℕ View) (tree_state : TreeState) 
     → StaysPublished h.owners new
     → ((number seat : ℕ) → tree_state.holder number ≡ Some seat → new.latch_number seat ≡ h.owners.latch_number seat)
     → ((seat : ℕ) (v : View) → get_elem? views seat ≡ some v → Knows plan new s.words tree_state h.log seat v)
-    → length s.views ≤ length views → AreCounted views
+    → length s.views ≤ length views → (IsCommon plan → (key : ℕ) → new.key key ≡ 0) → (IsCommon plan → HasPool plan new s.words tree_state) → AreCounted views
     → IsTableAt plan record { words = s.words; homes = s.homes; views = views } tree_state
-owners_change plan s tree_state h new views published same_latch knows longer counted = record {
+owners_change plan s tree_state h new views published same_latch knows longer nobodys pool counted = record {
   owners = new;
   log = h.log;
   now = h.now;
@@ -88,6 +93,8 @@ owners_change plan s tree_state h new views published same_latch knows longer co
   holders = λ number seat holds. let same = same_latch number seat holds in let some_number = h.holders number seat holds in omega (arith, same, some_number);
   is_map = record { ascending = h.is_map.ascending; kept = h.is_map.kept };
   kept = h.kept;
+  nobodys = nobodys;
+  pool = pool;
   views = knows;
   others_idle = λ seat beyond. h.others_idle seat (omega (arith, longer, beyond));
   counted = counted;

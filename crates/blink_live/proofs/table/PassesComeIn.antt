@@ -12,8 +12,8 @@ use Rattle.blink_live.specs.declared.view.Plan.{Plan}
 use Rattle.blink_live.specs.declared.view.Role.TheVariants.{Keeper, Pass}
 use Rattle.blink_live.specs.declared.view.Share.{Share}
 use Rattle.blink_live.specs.declared.view.View.{View}
-use Rattle.blink_live.specs.Rule.{Owners, IsFree, IsShare, IsInRole, Knows, pass_count, passes_in, AreCounted, IsTableAt}
-use Rattle.blink_live.specs.Views.{spent, takes_one}
+use Rattle.blink_live.specs.Rule.{ArePlacesLeft, Owners, IsFree, IsShare, IsInRole, Knows, pass_count, passes_in, AreCounted, IsTableAt}
+use Rattle.blink_live.specs.Views.{IsOwned, spent, takes_one}
 use Rattle.blink_live.proofs.table.OwnersChange.{StaysPublished, StillOwns, reads_still, share_still, knows_still, owners_change}
 use Rattle.blink_live.proofs.table.PassesOut.{passes_role}
 use Rattle.blink_live.proofs.table.SeatsThatStay.{at_put, views_stay}
@@ -30,11 +30,12 @@ owners_after old other owner = record {
   page = old.page;
   key = λ key. if old.key key == suc other then owner else old.key key;
   latch_number = old.latch_number;
+  place = old.place;
 }
 
 module _ (plan : Plan) (some_number : 1 ≤ plan.counts.numbers) (s : State ℕ View) (tree_state : TreeState) (h : IsTableAt plan s tree_state) (id other : ℕ) (v w : View) (taken : List ℕ) (shares : List Share) (seen : List Change) (owner : ℕ)
     (at : get_elem? s.views id ≡ some v) (apart : ¬ (other ≡ id)) (there : get_elem? (set s.views id (takes_in v taken shares seen)) other ≡ some w)
-    (dealt back : ℕ) (role : v.role ≡ Keeper dealt back) (its_role : w.role ≡ Pass) (idle : w.operation ≡ None) where
+    (dealt back : ℕ) (role : v.role ≡ Keeper dealt back) (owned : IsOwned v.plan) (its_role : w.role ≡ Pass) (idle : w.operation ≡ None) where
   abbrev old : Owners
   old = h.owners
 
@@ -96,6 +97,9 @@ module _ (plan : Plan) (some_number : 1 ≤ plan.counts.numbers) (s : State ℕ 
     saw = (h.log, refl);
     heard = (h.log, refl);
     in_role = refl;
+    placed = λ common is. absurd (cc);
+    places_left = λ d b is. absurd (cc);
+    nothing = λ common d b is. absurd (cc);
   }
 
   -- ---- all seats
@@ -106,6 +110,7 @@ module _ (plan : Plan) (some_number : 1 ≤ plan.counts.numbers) (s : State ℕ 
     page = λ number is. is;
     key = λ key is. key_else key (suc seat) is (λ e. ne (omega (arith, e)));
     latch_number = refl;
+    place = λ place is. is;
   }
 
   abbrev views_then : List View
@@ -131,7 +136,7 @@ module _ (plan : Plan) (some_number : 1 ≤ plan.counts.numbers) (s : State ℕ 
         first = set_else (set s.views id both) other 0 (spent plan) (λ e. apart (sym e ∙ sym first))
             ∙ subst (λ (i : ℕ). get_elem? (set s.views id both) i ≡ some both) first (at_put s.views id v both at);
         role = role_then;
-        counted = omega (arith, one, two, no_pass, no_pass_then, a_pass, counted);
+        counted = λ passes. let count = counted (ap (λ (y : View). y.plan.places) (sym is) ∙ passes) in omega (arith, one, two, no_pass, no_pass_then, a_pass, count);
       }
 
   module _ (saw : IsPrefix seen h.log) (free : (key : ℕ) → ¬ Contains taken key → IsFree new h.log both key) (came : (share : Share) → Contains shares share → IsShare plan new h.log 1 share) where
@@ -149,6 +154,9 @@ module _ (plan : Plan) (some_number : 1 ≤ plan.counts.numbers) (s : State ℕ 
       saw = saw;
       heard = known.heard;
       in_role = subst (IsInRole plan new h.log id both) (sym both_role) (in_role.0, in_role.1, free, came);
+      placed = λ common is. absurd (let e : Keeper dealt (suc back) ≡ Pass = sym both_role ∙ is in cc);
+      places_left = λ d b is. let e : Keeper dealt (suc back) ≡ Keeper d b = sym both_role ∙ is in let same : dealt ≡ d = cc in subst (ArePlacesLeft plan new s.words) same (known.places_left dealt back role);
+      nothing = λ common d b is. known.nothing common dealt back role;
     }
 
     all_know : (seat : ℕ) (u : View) → get_elem? views_then seat ≡ some u → Knows plan new s.words tree_state h.log seat u
@@ -164,4 +172,6 @@ module _ (plan : Plan) (some_number : 1 ≤ plan.counts.numbers) (s : State ℕ 
     takes_in_at = owners_change plan s tree_state h new views_then published (λ number seat holds. refl) all_know
         (let one : length (set s.views id both) ≡ length s.views = length-set s.views id both in
         let two : length views_then ≡ length (set s.views id both) = length-set (set s.views id both) other (spent plan) in
-        omega (arith, one, two)) counted_then
+        omega (arith, one, two))
+        (λ common. absurd (let none : plan.places ≡ 0 = ap (λ (p : Plan). p.places) (sym known.same_plan) ∙ owned in omega (arith, none, common)))
+        (λ common. absurd (let none : plan.places ≡ 0 = ap (λ (p : Plan). p.places) (sym known.same_plan) ∙ owned in omega (arith, none, common))) counted_then

@@ -5,6 +5,7 @@ use mathlib.Core.Logic.{dite}
 use native.Mathlib.Decide.{ℕ_discrete}
 use lib.ListN.{get_elem?}
 use Rattle.atomic_table.proofs.Lists.{at_set, set_here, set_else}
+use Rattle.blink_live.specs.declared.view.Plan.{Plan}
 use Rattle.blink_live.specs.declared.view.Role.{Role}
 use Rattle.blink_live.specs.declared.view.View.{View}
 use Rattle.blink_live.specs.Rule.{pass_count, passes_in, AreCounted}
@@ -28,9 +29,9 @@ passes_set [] i v w at same = refl
 passes_set (x ∷ vs) zero v w at same = ap (λ (r : Role). pass_count r + passes_in vs) (same ∙ ap (λ (y : View). y.role) (sym (some-injective x v at)))
 passes_set (x ∷ vs) (suc i) v w at same = ap (λ (k : ℕ). pass_count x.role + k) (passes_set vs i v w at same)
 
--- a seat with another view of the same role
-pub counted_stays : (vs : List View) (i : ℕ) (v w : View) → get_elem? vs i ≡ some v → w.role ≡ v.role → AreCounted vs → AreCounted (set vs i w)
-counted_stays vs i v w at same h = dite (ℕ_discrete 0 i)
+-- a seat with another view of the same role and plan
+pub counted_stays : (vs : List View) (i : ℕ) (v w : View) → get_elem? vs i ≡ some v → w.role ≡ v.role → w.plan ≡ v.plan → AreCounted vs → AreCounted (set vs i w)
+counted_stays vs i v w at same same_plan h = dite (ℕ_discrete 0 i)
     (λ e.
     let is : v ≡ h.keeper = some-injective v h.keeper (sym at ∙ (sym (ap (get_elem? vs) e) ∙ h.first)) in
     record {
@@ -39,7 +40,7 @@ counted_stays vs i v w at same h = dite (ℕ_discrete 0 i)
       back = h.back;
       first = ap (get_elem? (set vs i w)) e ∙ at_put vs i v w at;
       role = same ∙ (ap (λ (y : View). y.role) is ∙ h.role);
-      counted = ap (λ (k : ℕ). k + h.back) (passes_set vs i v w at same) ∙ h.counted;
+      counted = λ owned. ap (λ (k : ℕ). k + h.back) (passes_set vs i v w at same) ∙ h.counted (ap (λ (p : Plan). p.places) (sym (same_plan ∙ ap (λ (y : View). y.plan) is)) ∙ owned);
     })
     (λ ne. record {
       keeper = h.keeper;
@@ -47,5 +48,5 @@ counted_stays vs i v w at same h = dite (ℕ_discrete 0 i)
       back = h.back;
       first = set_else vs i 0 w ne ∙ h.first;
       role = h.role;
-      counted = ap (λ (k : ℕ). k + h.back) (passes_set vs i v w at same) ∙ h.counted;
+      counted = λ owned. ap (λ (k : ℕ). k + h.back) (passes_set vs i v w at same) ∙ h.counted owned;
     })

@@ -28,9 +28,9 @@ pub row_stays : (plan : Plan) (words : List ℕ) (place x row : ℕ) → place <
 row_stays plan words place x row before i inside = get_or-set_other words place _ x 0 (λ e. omega (arith, e, before))
 
 -- so whoever stores there has the same rows
-module _ (plan : Plan) (owners : Owners) (old new : List ℕ) (stays : (row : ℕ) → RowStays plan old new row) where
+module _ (plan : Plan) (owners : Owners) (old new : List ℕ) (stays : (row : ℕ) → 1 ≤ row → row ≤ plan.counts.rows → RowStays plan old new row) where
   pub rows_kept : (owner : ℕ) (rows : Span) → HasRows plan owners old owner rows → HasRows plan owners new owner rows
-  rows_kept owner rows has = record { in_range = has.in_range; own = has.own; blank = λ row low high. row_is_still plan old new row [] (stays row) (has.blank row low high) }
+  rows_kept owner rows has = record { in_range = has.in_range; own = has.own; blank = λ row low high. let least = has.in_range.0 in let most = has.in_range.1 in row_is_still plan old new row [] (stays row (omega (arith, least, low)) (omega (arith, high, most))) (has.blank row low high) }
 
   pub call_kept : (tree_state then : TreeState) (owner : ℕ) (call : Call) (row page : ℕ) → ((number : ℕ) → owners.page number ≡ owner → tree_state.pages number ≡ None → then.pages number ≡ None)
       → HasForCall plan owners old tree_state owner call row page → HasForCall plan owners new then owner call row page
@@ -38,7 +38,7 @@ module _ (plan : Plan) (owners : Owners) (old new : List ℕ) (stays : (row : �
     before = has.before;
     width = has.width;
     first_own = has.first_own;
-    staged = λ some_row. row_is_still plan old new call.rows.next call.staged (stays call.rows.next) (has.staged some_row);
+    staged = λ some_row. let most = has.others.in_range.1 in row_is_still plan old new call.rows.next call.staged (stays call.rows.next (has.first_own some_row).0 (omega (arith, some_row, most))) (has.staged some_row);
     others = rows_kept owner (span (suc call.rows.next) call.rows.stop) has.others;
     numbers = record { in_range = has.numbers.in_range; own = has.numbers.own; free = λ number low high. free number (has.numbers.own number low high) (has.numbers.free number low high) };
   }
@@ -67,9 +67,9 @@ prime_still plan s tree_state then h id some_pass words new log leaves same_word
     (published.0, row_is_still plan s.words words (slice_index s.words 0) content published.1 h.prime.1)
 
 module _ (plan : Plan) (s : State ℕ View) (tree_state then : TreeState) (h : IsTableAt plan s tree_state) (id place x : ℕ) (some_pass : 1 ≤ id) (v w : View) (at : get_elem? s.views id ≡ some v) (new : Owners) (log : List Change) (now : List Entry) where
-  pub store_keeps : LeavesOthers plan s tree_state then h id (set s.words place x) new log → IsStored plan s tree_state then h (set s.words place x) new log now → w.role ≡ v.role
+  pub store_keeps : LeavesOthers plan s tree_state then h id (set s.words place x) new log → IsStored plan s tree_state then h (set s.words place x) new log now → w.role ≡ v.role → w.plan ≡ v.plan
       → Knows plan new (set s.words place x) then log id w → IsTable plan record { words = set s.words place x; homes = s.homes; views = set s.views id w }
-  store_keeps leaves stored same_role knows =
+  store_keeps leaves stored same_role same_plan knows =
       let words : List ℕ = set s.words place x in (
         then,
         record {
@@ -89,11 +89,13 @@ module _ (plan : Plan) (s : State ℕ View) (tree_state then : TreeState) (h : I
           holders = stored.holders;
           is_map = stored.is_map;
           kept = stored.kept;
+          nobodys = leaves.nobodys;
+          pool = leaves.pool;
           views = views_stay (Knows plan new words then log) s.views id w knows (λ j u other there. other_knows plan s tree_state then h id some_pass words new log leaves j u other there);
           others_idle = λ seat beyond.
               let inside = at_inside s.views id v at in
               let longer : length (set s.views id w) ≡ length s.views = length-set s.views id w in
               leaves.machines seat (λ e. omega (arith, e, inside, longer, beyond)) ∙ h.others_idle seat (omega (arith, beyond, longer));
-          counted = counted_stays s.views id v w at same_role h.counted;
+          counted = counted_stays s.views id v w at same_role same_plan h.counted;
         },
       )

@@ -13,7 +13,7 @@ use Rattle.blink_live.specs.declared.view.View.{View}
 use Rattle.blink_live.specs.AtomicSteps.{looks_around, looks_back, looks_up}
 use Rattle.blink_live.specs.Changes.{states_of}
 use Rattle.blink_live.specs.Rule.{Owners, IsInRole, Knows, passes_in, IsTable, IsTableAt}
-use Rattle.blink_live.specs.Views.{SeatState, forgets_told, learns_of_others}
+use Rattle.blink_live.specs.Views.{IsCommon, IsOwned, SeatState, forgets_told, learns_of_others}
 use Rattle.blink_live.proofs.table.LoadsKeepTable.{moved, load_knows_in, load_keeps_with}
 use Rattle.blink_live.proofs.table.MapsWithOneChange.{put_same}
 use Rattle.blink_live.proofs.table.SharesAreKnown.{share_is_known}
@@ -36,6 +36,9 @@ forgets plan owners words tree_state log id v known = record {
   saw = known.saw;
   heard = (log, refl);
   in_role = told_in_role plan owners log id v [] v.role known.in_role;
+  placed = λ common role. let p = known.placed common role in record { in_range = p.in_range; own = p.own; word = p.word; busy = p.busy };
+  places_left = known.places_left;
+  nothing = known.nothing;
 }
 
 -- and may have seen any prefix of the changes that agrees with its role
@@ -51,8 +54,8 @@ looks plan s tree_state h id v at seen saw in_role =
       same_holder = λ number. refl;
       same_machines = put_same tree_state.machines id v.operation known.operation;
     }) h.invariant in
-    load_keeps_with plan s tree_state h id 0 v (learns_of_others v seen) at still refl
-    (forgets plan h.owners s.words (moved tree_state id v.operation) h.log id (record v { seen = seen }) (load_knows_in plan s tree_state h id 0 v (record v { seen = seen }) at in_role refl known.bounded known.reads saw))
+    load_keeps_with plan s tree_state h id 0 v (learns_of_others v seen) at still refl refl
+    (forgets plan h.owners s.words (moved tree_state id v.operation) h.log id (record v { seen = seen }) (load_knows_in plan s tree_state h id 0 v (record v { seen = seen }) at in_role (λ common role m goes. (known.placed common role).busy m goes) refl known.bounded known.reads saw))
 
 -- a pass's role says nothing of what it has seen
 pass_in_role : (plan : Plan) (owners : Owners) (log : List Change) (id : ℕ) (v : View) (seen : List Change) → v.role ≡ Pass → IsInRole plan owners log id v v.role → IsInRole plan owners log id (record v { seen = seen }) v.role
@@ -69,6 +72,21 @@ looks_up_prime plan slots id me role s table homes at small =
       keeps,
       tt,
       looks plan s table.0 h id me.0 at h.log ([], append-nil h.log) (pass_in_role plan h.owners h.log id me.0 h.log role known.in_role),
+      record { seen = h.log; is = refl; learns = record { saw = known.saw; heard = known.heard }; knows_own = share_is_known plan h.owners (suc id) (learns_of_others me.0 h.log) known.same_plan known.share },
+    )
+
+-- so does the host of a common table
+pub host_looks_up_prime : (plan : Plan) (slots id : ℕ) (me : SeatState) (dealt back : ℕ) → me.0.role ≡ Keeper dealt back → IsCommon me.0.plan → Allows (IsTable plan) slots id me 0 (λ k. k) (looks_up (step slots 0 0 0 none) me)
+host_looks_up_prime plan slots id me dealt back role common s table homes at small =
+    let h : IsTableAt plan s table.0 = table.1 in
+    let known = h.views id me.0 at in
+    let kept : IsInRole plan h.owners h.log id me.0 (Keeper dealt back) = subst (IsInRole plan h.owners h.log id me.0) role known.in_role in
+    let then : IsInRole plan h.owners h.log id (record me.0 { seen = h.log }) (Keeper dealt back) =
+    (kept.0, kept.1, (λ key untaken. let free = kept.2 key untaken in record { own = free.own; saw_all = λ owned. absurd (omega (arith, owned, common)) }), kept.3) in (
+      learns_of_others me.0 h.log,
+      keeps,
+      tt,
+      looks plan s table.0 h id me.0 at h.log ([], append-nil h.log) (subst (IsInRole plan h.owners h.log id (record me.0 { seen = h.log })) (sym role) then),
       record { seen = h.log; is = refl; learns = record { saw = known.saw; heard = known.heard }; knows_own = share_is_known plan h.owners (suc id) (learns_of_others me.0 h.log) known.same_plan known.share },
     )
 
@@ -89,8 +107,8 @@ looks_back_at_prime plan slots id me role s table homes at small =
     )
 
 -- nor was the keeper told more of the keys that it can deal than it has seen; and each pass that is back was dealt
-pub looks_around_at_prime : (plan : Plan) (slots id : ℕ) (me : SeatState) (dealt back : ℕ) → me.0.role ≡ Keeper dealt back → Allows (IsTable plan) slots id me 0 (λ k. k) (looks_around (step slots 0 0 0 none) me)
-looks_around_at_prime plan slots id me dealt back role s table homes at small =
+pub looks_around_at_prime : (plan : Plan) (slots id : ℕ) (me : SeatState) (dealt back : ℕ) → me.0.role ≡ Keeper dealt back → IsOwned me.0.plan → Allows (IsTable plan) slots id me 0 (λ k. k) (looks_around (step slots 0 0 0 none) me)
+looks_around_at_prime plan slots id me dealt back role owned s table homes at small =
     let h : IsTableAt plan s table.0 = table.1 in
     let known = h.views id me.0 at in
     let kept : IsInRole plan h.owners h.log id me.0 (Keeper dealt back) = subst (IsInRole plan h.owners h.log id me.0) role known.in_role in (
@@ -100,7 +118,7 @@ looks_around_at_prime plan slots id me dealt back role s table homes at small =
       looks plan s table.0 h id me.0 at me.0.seen known.saw known.in_role,
       record {
         is = refl;
-        no_more = λ key untaken. subst (λ (states : List (Option ℕ)). IsPrefix (states_of key me.0.told) states) (sym (kept.2 key untaken).saw_all) (states_of-prefix key me.0.told h.log known.heard);
-        counted = λ d b is. let count : passes_in s.views + b ≡ d = keeper_counts plan s table.0 h id me.0 d b at is in omega (arith, count);
+        no_more = λ key untaken. subst (λ (states : List (Option ℕ)). IsPrefix (states_of key me.0.told) states) (sym ((kept.2 key untaken).saw_all owned)) (states_of-prefix key me.0.told h.log known.heard);
+        counted = λ d b is. let count : passes_in s.views + b ≡ d = keeper_counts plan s table.0 h id me.0 d b at is owned in omega (arith, count);
       },
     )

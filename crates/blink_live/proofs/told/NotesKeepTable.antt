@@ -47,6 +47,9 @@ module _ (plan : Plan) (some_number : 1 ≤ plan.counts.numbers) (s : State ℕ 
     saw = (h.log, refl);
     heard = heard;
     in_role = refl;
+    placed = λ common is. absurd (cc);
+    places_left = λ dealt back is. absurd (cc);
+    nothing = λ common d b is. absurd (cc);
   }
 
   -- ---- a note
@@ -78,12 +81,12 @@ module _ (plan : Plan) (some_number : 1 ≤ plan.counts.numbers) (s : State ℕ 
           back = was.back;
           first = at_longer s.views (note_of v ∷ []) 0 was.keeper was.first;
           role = was.role;
-          counted = omega (arith, more, counted);
+          counted = λ owned. let count = counted owned in omega (arith, more, count);
         }
 
     recorded : IsTableAt plan record { words = s.words; homes = s.homes; views = views_then } tree_state
     recorded = owners_change plan s tree_state h h.owners views_then (λ row is. is) (λ number seat holds. refl) all_know
-        (let longer : length views_then ≡ length s.views + 1 = length-append s.views (note_of v ∷ []) in omega (arith, longer)) counted_then
+        (let longer : length views_then ≡ length s.views + 1 = length-append s.views (note_of v ∷ []) in omega (arith, longer)) h.nobodys h.pool counted_then
 
   -- ---- it is taken
 
@@ -110,6 +113,9 @@ module _ (plan : Plan) (some_number : 1 ≤ plan.counts.numbers) (s : State ℕ 
           saw = was.saw;
           heard = its.heard;
           in_role = told_in_role plan h.owners h.log id v w.told v.role was.in_role;
+          placed = λ common is. let p = was.placed common is in record { in_range = p.in_range; own = p.own; word = p.word; busy = p.busy };
+          places_left = was.places_left;
+          nothing = was.nothing;
         }
 
     abbrev taken : List View
@@ -126,8 +132,8 @@ module _ (plan : Plan) (some_number : 1 ≤ plan.counts.numbers) (s : State ℕ 
     heard = owners_change plan s tree_state h h.owners taken (λ row is. is) (λ number seat holds. refl) taken_know
         (let one : length (set s.views id both) ≡ length s.views = length-set s.views id both in
         let two : length taken ≡ length (set s.views id both) = length-set (set s.views id both) other (spent plan) in
-        omega (arith, one, two))
-        (counted_stays (set s.views id both) other w (spent plan) there (sym its_role) (counted_stays s.views id v both at refl h.counted))
+        omega (arith, one, two)) h.nobodys h.pool
+        (counted_stays (set s.views id both) other w (spent plan) there (sym its_role) (sym its.same_plan) (counted_stays s.views id v both at refl refl h.counted))
 
 pub note_keeps_table : (plan : Plan) (id : ℕ) (v : View) → 1 ≤ plan.counts.numbers → Splits (IsTable plan) id v v (note_of v)
 note_keeps_table plan id v some_number s table at = subst (λ (views : List View). IsTable plan record { words = s.words; homes = s.homes; views = views ++ note_of v ∷ [] }) (sym (set_again s.views id v at))

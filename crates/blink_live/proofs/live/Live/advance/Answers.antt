@@ -1,10 +1,11 @@
 use Rattle.std.proofs.Common.{sym, subst, refl}
 use Rattle.std.specs.List.Sorted.{IsStrictlyIncreasing}
 use Rattle.blink_batch.specs.declared.Op.{Op}
+use Rattle.blink_batch.specs.{key_of}
 use Rattle.blink_live.specs.Pendings.{HasRest, op_of, pass_of}
 use Rattle.blink_live.specs.Updating.{IsUnderWay}
+use Rattle.blink_live.proofs.changed.PassesComeBack.{answers_by_share, is_changed, is_whole, knows_its_keys, own_of_may}
 use Rattle.blink_live.proofs.changed.LatchesAreLeft.{no_latch_waiting}
-use Rattle.blink_live.proofs.changed.PassesComeBack.{is_changed, is_whole, knows_its_keys}
 use Rattle.blink_live.proofs.changed.UpdatesGoOn.{at_end}
 use Rattle.blink_live.proofs.live.Live.advance.Goals as goal
 
@@ -23,11 +24,20 @@ invariant_of-pass c =
       in_order = whole.in_order;
       for_changes = whole.for_changes;
       role_is = whole.role_is;
+      owned = whole.owned;
       own_seen = ended.knows_own.changes;
       none_told = whole.none_told;
       idle = ended.idle;
       no_slot = whole.no_slot;
     }
+
+pub returns-in-Some-clause-answer : goal.returns-in-Some-clause-answer
+returns-in-Some-clause-answer c =
+    let pending = c.args.pending in
+    let its_own = c.requires.its_own in
+    let ends = c.in-Some.ensures.ended in
+    let ended = at_end c.args.self.now (op_of pending) (pass_of pending).seat c.take_steps.new.seat c.take_steps.new.machine c.take_steps.new.room c.in-Some.answer (c.take_steps.ensures.under_way (op_of pending) (pass_of pending).seat its_own.under_way) ends.0 ends.1 in
+    (answers_by_share (op_of pending) (pass_of pending) c.take_steps.new.seat c.in-Some.answer (own_of_may (pass_of pending) (key_of (op_of pending)) its_own.under_way.can.may_change) ended).0
 
 pub returns-in-Some-clause-changed : goal.returns-in-Some-clause-changed
 returns-in-Some-clause-changed c =
@@ -35,7 +45,7 @@ returns-in-Some-clause-changed c =
     let its_own = c.requires.its_own in
     let ends = c.in-Some.ensures.ended in
     let ended = at_end c.args.self.now (op_of pending) (pass_of pending).seat c.take_steps.new.seat c.take_steps.new.machine c.take_steps.new.room c.in-Some.answer (c.take_steps.ensures.under_way (op_of pending) (pass_of pending).seat its_own.under_way) ends.0 ends.1 in
-    is_changed (op_of pending) (pass_of pending) _ c.in-Some.answer ended its_own.rest.same_keys its_own.rest.rows_are its_own.rest.pages_are
+    is_changed (op_of pending) (pass_of pending) _ c.in-Some.answer (own_of_may (pass_of pending) (key_of (op_of pending)) its_own.under_way.can.may_change) ended its_own.rest.same_keys its_own.rest.rows_are its_own.rest.pages_are
 
 pub returns-in-Some-clause-knows : goal.returns-in-Some-clause-knows
 returns-in-Some-clause-knows c =
@@ -43,7 +53,7 @@ returns-in-Some-clause-knows c =
     let its_own = c.requires.its_own in
     let ends = c.in-Some.ensures.ended in
     let ended = at_end c.args.self.now (op_of pending) (pass_of pending).seat c.take_steps.new.seat c.take_steps.new.machine c.take_steps.new.room c.in-Some.answer (c.take_steps.ensures.under_way (op_of pending) (pass_of pending).seat its_own.under_way) ends.0 ends.1 in
-    knows_its_keys (op_of pending) (pass_of pending) _ c.in-Some.answer ended c.args.self.now its_own.its_own
+    knows_its_keys (op_of pending) (pass_of pending) _ c.in-Some.answer (own_of_may (pass_of pending) (key_of (op_of pending)) its_own.under_way.can.may_change) ended c.args.self.now its_own.its_own
 
 pub returns-in-None-clause-goes_on : goal.returns-in-None-clause-goes_on
 returns-in-None-clause-goes_on c =

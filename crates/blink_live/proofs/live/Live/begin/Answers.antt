@@ -57,9 +57,9 @@ set_out-requires-clause-room c =
     let can = can_set_out c.args.self.now c.args.op c.args.pass c.requires.its_own c.requires.updates c.in_default.ensures.own_key c.in_default.ensures.some_left in
     c.next_of-room.ensures.room ∙ can.same_room
 
-pub set_out-requires-clause-own_key : goal.set_out-requires-clause-own_key
-set_out-requires-clause-own_key c =
-    (can_set_out c.args.self.now c.args.op c.args.pass c.requires.its_own c.requires.updates c.in_default.ensures.own_key c.in_default.ensures.some_left).own_key
+pub set_out-requires-clause-may : goal.set_out-requires-clause-may
+set_out-requires-clause-may c =
+    (can_set_out c.args.self.now c.args.op c.args.pass c.requires.its_own c.requires.updates c.in_default.ensures.own_key c.in_default.ensures.some_left).may
 
 pub returns-clause-begun : goal.returns-clause-begun
 returns-clause-begun c = has_begun c.args.self.now c.args.op c.args.pass _ c.of-begun.ensures c.requires.its_own c.set_out.ensures.under_way record {

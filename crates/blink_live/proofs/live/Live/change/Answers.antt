@@ -1,6 +1,6 @@
 use Rattle.std.proofs.Common.{Err, ◌∙◌, refl, sym, ap}
 use Rattle.std.proofs.lemmas.Result.{err_from_is_err_and}
-use Rattle.blink_live.proofs.changed.PassesComeBack.{is_changed, is_whole, knows_its_keys}
+use Rattle.blink_live.proofs.changed.PassesComeBack.{answers_by_share, is_changed, is_whole, knows_its_keys}
 use Rattle.blink_live.proofs.changed.PassesSetOut.{can_set_out}
 use Rattle.blink_live.proofs.table.RefusalsTold.{no_refusal, passed_on}
 use Rattle.blink_live.proofs.live.Live.change.Goals as goal
@@ -40,9 +40,9 @@ update-requires-clause-room g c =
     let can = can_set_out c.args.self.now c.args.op c.args.pass.now c.requires.its_own c.requires.updates c.in_ok-accepts.ensures.own_key c.in_ok-accepts.ensures.some_left in
     c.next_of-room.ensures.room ∙ can.same_room
 
-pub update-requires-clause-own_key : goal.update-requires-clause-own_key
-update-requires-clause-own_key g c =
-    (can_set_out c.args.self.now c.args.op c.args.pass.now c.requires.its_own c.requires.updates c.in_ok-accepts.ensures.own_key c.in_ok-accepts.ensures.some_left).own_key
+pub update-requires-clause-may : goal.update-requires-clause-may
+update-requires-clause-may g c =
+    (can_set_out c.args.self.now c.args.op c.args.pass.now c.requires.its_own c.requires.updates c.in_ok-accepts.ensures.own_key c.in_ok-accepts.ensures.some_left).may
 
 pub invariant_of-pass : goal.invariant_of-pass
 invariant_of-pass g c =
@@ -57,6 +57,7 @@ invariant_of-pass g c =
       in_order = whole.in_order;
       for_changes = whole.for_changes;
       role_is = whole.role_is;
+      owned = whole.owned;
       own_seen = ended.knows_own.changes;
       none_told = whole.none_told;
       idle = ended.idle;
@@ -64,13 +65,13 @@ invariant_of-pass g c =
     }
 
 pub returns-clause-answer : goal.returns-clause-answer
-returns-clause-answer g c = c.update.ensures.ended.answers
+returns-clause-answer g c = (answers_by_share c.args.op c.args.pass.now c.update.new.seat c.update.result c.in_ok-accepts.ensures.own_key c.update.ensures.ended).0
 
 pub returns-clause-changed : goal.returns-clause-changed
-returns-clause-changed g c = is_changed c.args.op c.args.pass.now _ c.update.result c.update.ensures.ended refl c.next_of-room.ensures.rows c.next_of-room.ensures.pages
+returns-clause-changed g c = is_changed c.args.op c.args.pass.now _ c.update.result c.in_ok-accepts.ensures.own_key c.update.ensures.ended refl c.next_of-room.ensures.rows c.next_of-room.ensures.pages
 
 pub returns-clause-knows : goal.returns-clause-knows
-returns-clause-knows g c = knows_its_keys c.args.op c.args.pass.now _ c.update.result c.update.ensures.ended c.args.self.now c.requires.its_own
+returns-clause-knows g c = knows_its_keys c.args.op c.args.pass.now _ c.update.result c.in_ok-accepts.ensures.own_key c.update.ensures.ended c.args.self.now c.requires.its_own
 
 pub returns-clause-not_yours : goal.returns-clause-not_yours
 returns-clause-not_yours g c = no_refusal _ _ (λ foreign. foreign c.in_ok-accepts.ensures.own_key)

@@ -4,10 +4,8 @@ use Rattle.std.specs.Mem.Slots.{slots_items}
 use Rattle.blink_batch.specs.declared.Entry.{Entry}
 use Rattle.blink_batch.specs.{pointer_of}
 use Rattle.blink_index.specs.{map_of}
-use Rattle.blink_index.proofs.Offered.{map_of-entries}
 use Rattle.blink_rows.specs.{PlainCounts}
-use Rattle.blink_machine.specs.{IsMapOf, pairs_of}
-use Rattle.blink_machine.proofs.Offered.{entries_from-pairs_of}
+use Rattle.blink_machine.specs.{IsMapOf}
 use Rattle.blink_store.specs.{PlainStore}
 use Rattle.blink_live.specs.declared.live.Pass.{Pass}
 use Rattle.blink_live.specs.declared.view.Role.{Role}
@@ -22,13 +20,10 @@ use Rattle.blink_live.specs.declared.view.View.{View}
 use Rattle.blink_live.specs.Handles.{opening_of, passes_out, seen_by}
 use Rattle.blink_live.specs.Merge.{KeepsTree, IsMerge, shares_of}
 use Rattle.blink_live.specs.Views.{SeatState, plan_of, takes_more, takes_all_back}
+use Rattle.blink_live.proofs.closed.EntriesOfStore.{map_is}
 use Rattle.blink_live.proofs.closed.TableAtTheEnd.{IsAtEnd, at_end}
 use Rattle.blink_live.proofs.told.EntriesAfterChanges.{entries_after-state}
 use Rattle.blink_live.proofs.live.Live.close.Goals as goal
-
--- the map of a store with these entries
-map_is : (store : PlainStore) (entries : List Entry) → IsMapOf store entries → map_of store ≡ entries
-map_is store entries is = map_of-entries store (pairs_of entries) is.kept ∙ entries_from-pairs_of entries
 
 -- facts on plain numbers, since passes and keepers have many fields to read
 some : (count : ℕ) → 0 < suc count
@@ -61,7 +56,7 @@ its_end live keeper passes id me words slots is all final =
     let same : me.0 ≡ view_at_end keeper passes = ap (λ (x : SeatState). x.0) is in
     let long : length (shares_of passes) ≡ length passes = length-map passes (λ (pass : Pass). pass.seat.me.0.share) in
     let role : (view_at_end keeper passes).role ≡ KeeperRole keeper.dealt (keeper.back + length (shares_of passes)) = ap (λ (r : Role). takes_more r (length (shares_of passes))) keeper.role_is in
-    at_end (plan_of live.table.shared.key) id (view_at_end keeper passes) keeper.dealt (keeper.back + length (shares_of passes)) words slots role (enough_back keeper.dealt keeper.back (length passes) (length (shares_of passes)) all long)
+    at_end (plan_of live.table.shared.key) id (view_at_end keeper passes) keeper.dealt (keeper.back + length (shares_of passes)) words slots role keeper.owned (enough_back keeper.dealt keeper.back (length passes) (length (shares_of passes)) all long)
     (subst (λ (v : View). Final (Seen (IsTable (plan_of live.table.shared.key)) id v) words slots) same final)
 
 -- in the words of the table's own counts and fan

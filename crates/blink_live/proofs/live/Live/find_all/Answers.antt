@@ -1,4 +1,4 @@
-use Rattle.std.proofs.Common.{◌≡◌, ◌≤◌, ℕ, List, Contains, map, refl, sym, ap, ◌∙◌, subst}
+use Rattle.std.proofs.Common.{◌≡◌, ◌≤◌, ℕ, List, Contains, map, refl, sym, ap, ◌∙◌, subst, arith}
 use mathlib.Core.List.{IsPrefix}
 use Rattle.blink_batch.specs.{pointer_of}
 use Rattle.blink_rows.specs.declared.span.Span.{Span}
@@ -54,6 +54,7 @@ search_all-requires-clause-idle c =
       rows = subst (λ (s : Span). s.next ≤ s.stop) (pass.rows_are ∙ sym (ap (λ (x : SeatState). x.0.rows) up.is)) pass.in_order.0;
       pages = subst (λ (s : Span). s.next ≤ s.stop) (pass.pages_are ∙ sym (ap (λ (x : SeatState). x.0.pages) up.is)) pass.in_order.1;
       knows_own = up.knows_own;
+      announced = λ common. absurd (let none : c.look_up.new.seat.me.0.plan.places ≡ 0 = ap (λ (x : SeatState). x.0.plan.places) up.is ∙ pass.owned in omega (arith, none, common));
     }
 
 pub invariant_of-pass : goal.invariant_of-pass
@@ -68,6 +69,7 @@ invariant_of-pass c =
       in_order = pass.in_order;
       for_changes = pass.for_changes;
       role_is = searched.same_role ∙ (ap (λ (x : SeatState). x.0.role) up.is ∙ pass.role_is);
+      owned = ap (λ (p : Plan). p.places) (searched.same_plan ∙ ap (λ (x : SeatState). x.0.plan) up.is) ∙ pass.owned;
       own_seen = searched.idle.knows_own.changes;
       none_told = searched.same_told ∙ ap (λ (x : SeatState). x.0.told) up.is;
       idle = searched.idle.idle;

@@ -104,6 +104,7 @@ invariant_of-keeper c =
       ascending = c.requires.ascending;
       role_is = ap (λ (me : SeatState). me.0.role) left ∙ one_more_dealt keeper.seat.me.0.role keeper.dealt keeper.back keeper.role_is;
       counted = no_fewer keeper.dealt keeper.back keeper.counted;
+      owned = ap (λ (me : SeatState). me.0.plan.places) left ∙ keeper.owned;
       no_slot = ap (λ (me : SeatState). me.1) left ∙ keeper.no_slot;
     }
 
@@ -133,6 +134,7 @@ invariant_of-result c =
       in_order = (in_order keeper.rows.next _ c.first_of.result c.first_of.ensures.first, in_order keeper.pages.next _ c.first_of-2.result c.first_of-2.ensures.first);
       for_changes = subst (λ (s : Span × Span). AreForChanges s.0 s.1) (λ i. (sym pages i, sym rows i)) (dealt_for_changes keeper.pages.next keeper.rows.next c.args.inserts c.args.deletes);
       role_is = ap (λ (me : SeatState). me.0.role) right;
+      owned = ap (λ (me : SeatState). me.0.plan.places) right ∙ keeper.owned;
       own_seen = subst SawItsOwn (sym (ap (λ (me : SeatState). me.0) right)) (new_saw_its_own keeper.seat.me.0 0 0 _);
       none_told = ap (λ (me : SeatState). me.0.told) right;
       idle = ap (λ (me : SeatState). me.0.operation) right;

@@ -35,6 +35,7 @@ invariant_of-from c =
       in_order = from.in_order;
       for_changes = from.for_changes;
       role_is = ap (λ (x : SeatState). x.0.role) moved.gave ∙ from.role_is;
+      owned = ap (λ (x : SeatState). x.0.plan.places) moved.gave ∙ from.owned;
       own_seen = giver_saw live from to c.requires.to_its_own keys all rest giver taker moved c.remove_all.ensures.rest;
       none_told = ap (λ (x : SeatState). x.0.told) moved.gave;
       idle = ap (λ (x : SeatState). x.0.operation) moved.gave ∙ from.idle;

@@ -6,9 +6,11 @@ use Rattle.blink_rows.specs.{PlainCounts, AreBounded}
 use Rattle.blink_store.specs.{PlainStore, IsLawfulStore}
 use Rattle.blink_live.specs.Laid.{IsLaid}
 use Rattle.blink_live.specs.Rule.{IsTable}
+use Rattle.blink_live.specs.Words.{word_count}
 use Rattle.blink_live.specs.declared.view.Opened.{Opened}
 use Rattle.blink_live.specs.Views.{SeatState, first_view, span}
 use Rattle.blink_live.proofs.dealt.ChangesLeft.{opened_for_changes}
+use Rattle.blink_live.proofs.opened.PlacesAreLaid.{laid_alone}
 use Rattle.blink_live.proofs.opened.OpeningIsTable.{plan_over, opens}
 use Rattle.blink_live.proofs.live.Live.open.Goals as goal
 
@@ -24,22 +26,23 @@ of_words-requires c =
     let laid : IsLaid counts store words = subst (λ (s : PlainStore). IsLaid counts s words) (c.store-store.ensures.store ∙ tree) c.in-Ok.ensures in
     let at_rest : IsStoreAtRest store = subst IsStoreAtRest tree c.store-store.ensures.at_rest in
     let lawful : IsLawfulStore store = subst IsLawfulStore tree c.store-store.ensures.lawful in
-    let opened = opens store counts words numbers rows laid at_rest lawful c.rest.ensures.map bounded in
-    let T : PlainStore → List ℕ → Type 0 = λ s ws. IsTable (plan_over s counts) (opening ws [] (first_view (length s.pages) (plan_over s counts))) in
+    let opened = opens store counts 0 words numbers rows (laid_alone counts store words numbers rows laid) at_rest lawful c.rest.ensures.map bounded in
+    let T : PlainStore → List ℕ → Type 0 = λ s ws. IsTable (plan_over s counts 0) (opening ws [] (first_view (length s.pages) (plan_over s counts 0))) in
     subst (λ (s : PlainStore). T s c.deref.result.now) (sym c.of.ensures) (subst (T store) (sym c.deref.ensures.value) opened)
 
 at_least_one : (numbers count more : ℕ) → numbers ≡ 1 + count + more → 1 ≤ numbers
 at_least_one numbers count more is = omega (arith, is)
 
-pub invariant_of-result : goal.invariant_of-result
-invariant_of-result c =
+pub invariant_of-live : goal.invariant_of-live
+invariant_of-live c =
     let made = c.in-Ok-of_words.ensures in
     let store = c.store-store.ensures.store ∙ (c.rest.ensures.tree ∙ sym c.of.ensures) in record {
       counts_are = sym (ap (λ (o : Opened). o.counts) made.5);
       fan_is = (c.fan-fan.ensures.fan ∙ (ap (λ (s : PlainStore). s.fan) store ∙ sym (ap (λ (o : Opened). o.index.value.fan) made.5)), c.fan-fan.ensures.in_range);
       some_number = at_least_one c.of-counts.result.numbers c.page_count-count.result (22 * c.args.allowance.inserts) c.of-counts.ensures.numbers;
       no_slot = made.1;
-      width = made.0 ∙ (ap length c.deref.ensures.value ∙ c.in-Ok.ensures.width);
+      places_are = sym (ap (λ (o : Opened). o.places) made.5);
+      width = let wide : c.in-Ok-of_words.table.shared.table_id.words ≡ word_count c.of-counts.result = made.0 ∙ (ap length c.deref.ensures.value ∙ c.in-Ok.ensures.width) in omega (arith, wide);
     }
 
 none_in_order : (keys : List ℕ) → keys ≡ [] → IsStrictlyIncreasing keys
@@ -61,5 +64,6 @@ invariant_of-keeper c =
       ascending = none_in_order c.new.result.items c.new.ensures.items;
       role_is = ap (λ (x : SeatState). x.0.role) made.4;
       counted = omega arith;
+      owned = ap (λ (x : SeatState). x.0.plan.places) made.4;
       no_slot = ap (λ (x : SeatState). x.1) made.4;
     }

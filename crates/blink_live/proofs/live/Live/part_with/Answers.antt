@@ -18,5 +18,5 @@ split_seat-requires g c =
       c.requires.seat.same_table,
       omega (arith, live.width, live.some_number),
       subst (λ (keys : List ℕ). Splits (IsTable (plan_of key)) seat.id v (parts_with v keys) (parcel_of v keys)) c.requires.picked
-          (parting_keeps_table (plan_of key) seat.id v c.args.keys.now some_number c.requires.seat.role c.requires.yours),
+          (parting_keeps_table (plan_of key) seat.id v c.args.keys.now some_number c.requires.seat.role c.requires.owned c.requires.yours),
     )

@@ -20,5 +20,5 @@ store-requires c =
       subst (λ (x : ℕ). Allows (IsTable plan) slots c.args.seat.now.id me c.args.number (λ n. x) (λ n. publishes_page (step slots c.args.number x 0 none) me n)) (sym c.requires.row.0)
           (page_is_published plan slots c.args.seat.now.id c.args.number me c.args.machine.now c.requires.seat.role c.requires.at c.requires.fits c.requires.needs in_range.0
           (subst (λ (counts : PlainCounts). c.args.number < counts.numbers) c.args.self.now.counts_are in_range.1)
-          (subst (λ (x : ℕ). x < me.0.call.rows.stop) c.requires.row.0 c.requires.row.1) c.requires.staged c.requires.among),
+          (subst (λ (x : ℕ). x < me.0.call.rows.stop) c.requires.row.0 c.requires.row.1) c.requires.staged c.requires.may),
     )

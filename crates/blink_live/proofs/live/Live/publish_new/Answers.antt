@@ -24,5 +24,5 @@ store-requires c =
           (new_is_published plan slots c.args.seat.now.id me c.args.machine.now c.requires.seat.role c.requires.at c.requires.fits c.requires.needs
           (subst (λ (x : ℕ). x < me.0.call.pages.stop) number.0 number.1)
           (subst (λ (x : ℕ). x < me.0.call.rows.stop) row.0 row.1)
-          (subst (λ (x : ℕ). IsRowOf me.0.call.staged (page_words (page_out c.args.machine.now x))) number.0 c.requires.staged) c.requires.among),
+          (subst (λ (x : ℕ). IsRowOf me.0.call.staged (page_words (page_out c.args.machine.now x))) number.0 c.requires.staged) c.requires.may),
     )

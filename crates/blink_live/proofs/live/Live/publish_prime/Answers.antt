@@ -21,5 +21,5 @@ store-requires c =
       subst (λ (x : ℕ). Allows (IsTable plan) slots c.args.seat.now.id me 0 (λ n. x) (λ n. publishes_prime (step slots 0 x 0 none) me n)) (sym row.0)
           (prime_is_published plan slots c.args.seat.now.id me c.args.machine.now c.requires.staged.0 c.requires.seat.role c.requires.at c.requires.fits c.requires.needs c.requires.staged.1
           (subst (λ (counts : PlainCounts). 1 ≤ counts.numbers) c.args.self.now.counts_are some_number)
-          (subst (λ (x : ℕ). x < me.0.call.rows.stop) row.0 row.1) c.requires.staged.2 c.requires.among),
+          (subst (λ (x : ℕ). x < me.0.call.rows.stop) row.0 row.1) c.requires.staged.2 c.requires.may),
     )

@@ -22,5 +22,5 @@ join_seat-requires g c =
       parcel.2,
       omega (arith, c.args.self.now.width, c.args.self.now.some_number),
       subst (λ (x : List ℕ × Plan). Joins (IsTable (plan_of key)) c.args.seat.now.id v c.args.parcel.id w (receives v x.0 w) (spent x.1)) (λ i. (picked.0 i, sym picked.1 i))
-          (receiving_keeps_table (plan_of key) c.args.seat.now.id c.args.parcel.id v w c.args.keys.now some_number parcel.0 parcel.1 c.requires.keys),
+          (receiving_keeps_table (plan_of key) c.args.seat.now.id c.args.parcel.id v w c.args.keys.now some_number c.requires.owned parcel.0 parcel.1 c.requires.keys),
     )

@@ -22,5 +22,5 @@ join_seat-requires g c =
       pass.2,
       omega (arith, c.args.self.now.width, c.args.self.now.some_number),
       subst (λ (x : List ℕ × Plan). Joins (IsTable (plan_of key)) c.args.seat.now.id v c.args.other.id w (retires v x.0 w) (spent x.1)) (λ i. (picked.0 i, sym picked.1 i))
-          (retiring_keeps_table (plan_of key) c.args.seat.now.id c.args.other.id v w c.args.taken.now keeper.0 keeper.1 some_number keeper.2 pass.0 pass.1 c.requires.saw.0 c.requires.saw.1 c.requires.free),
+          (retiring_keeps_table (plan_of key) c.args.seat.now.id c.args.other.id v w c.args.taken.now keeper.0 keeper.1 some_number keeper.2 c.requires.owned pass.0 pass.1 c.requires.saw.0 c.requires.saw.1 c.requires.free),
     )

@@ -18,5 +18,5 @@ join_seat-requires g c =
       pass.2,
       omega (arith, c.args.self.now.width, c.args.self.now.some_number),
       subst (λ (p : Plan). Joins (IsTable (plan_of key)) c.args.seat.now.id c.args.seat.now.me.0 c.args.other.id c.args.other.me.0 (takes_back c.args.seat.now.me.0 c.args.other.me.0) (spent p)) (sym c.requires.picked)
-          (taking_back_keeps_table (plan_of key) c.args.seat.now.id c.args.other.id c.args.seat.now.me.0 c.args.other.me.0 keeper.0 keeper.1 some_number keeper.2 pass.0 pass.1),
+          (taking_back_keeps_table (plan_of key) c.args.seat.now.id c.args.other.id c.args.seat.now.me.0 c.args.other.me.0 keeper.0 keeper.1 some_number keeper.2 c.requires.owned pass.0 pass.1),
     )

@@ -1,4 +1,4 @@
-use Rattle.std.proofs.Common.{◌≡◌, ℕ, ◌+◌, ◌<◌, sym, ap, ◌∙◌, subst, refl, arith}
+use Rattle.std.proofs.Common.{◌≡◌, ℕ, ◌+◌, ◌<◌, ◌≤◌, sym, ap, ◌∙◌, subst, refl, arith}
 use mathlib.Core.Option.{none}
 use prog.Atomic.{either}
 use Rattle.std.proofs.Common.{eqb}
@@ -25,7 +25,7 @@ compare_exchange-requires c =
       c.requires.seat.same_table,
       omega (arith, c.args.self.now.width, in_range, c.latch_place-word.ensures),
       subst (λ (t : ℕ × ℕ). Allows (IsTable plan) slots c.args.seat.now.id me t.0 (λ n. either (eqb n 0) t.1 n) (tries_latch (step slots t.0 0 t.1 none) me)) (λ i. (at_place c.args.number c.latch_place-word.result c.args.self.now.counts plan.counts counts_are c.latch_place-word.ensures i, sym own.0 i))
-          (latch_is_tried plan slots c.args.seat.now.id c.args.number me c.args.machine.now c.requires.seat.role c.requires.at c.requires.fits c.requires.needs (subst (λ (counts : PlainCounts). c.args.number < counts.numbers) counts_are in_range) (omega (arith, own))),
+          (latch_is_tried plan slots c.args.seat.now.id c.args.number me c.args.machine.now c.requires.seat.role c.requires.at c.requires.fits c.requires.needs (subst (λ (counts : PlainCounts). c.args.number < counts.numbers) counts_are in_range) (subst (λ (n : ℕ). 1 ≤ n) own.0 own.1)),
     )
 
 tried : (number place : ℕ) (counts other : PlainCounts) → counts ≡ other → place ≡ counts.numbers + number → place ≡ other.numbers + number

@@ -58,7 +58,7 @@ write_page-requires c =
       in_range = on.write_in_range is c.in-WritePage.number needs;
       row = on.row_for_page is c.in-WritePage.number needs;
       blank = is.updating.left.blank;
-      among = on.is_its_key is;
+      may = on.may_change is;
     }
 
 pub write_prime-requires : goal.write_prime-requires
@@ -71,7 +71,7 @@ write_prime-requires c =
       needs = needs;
       row = on.row_for_prime is needs;
       blank = is.updating.left.blank;
-      among = on.is_its_key is;
+      may = on.may_change is;
     }
 
 pub write_new-requires : goal.write_new-requires
@@ -87,7 +87,7 @@ write_new-requires c =
       in_range = (number.1, number.2);
       row = on.row_for_new is needs;
       blank = is.updating.left.blank;
-      among = on.is_its_key is;
+      may = on.may_change is;
     }
 
 pub overflow_cast-room : goal.overflow_cast-room

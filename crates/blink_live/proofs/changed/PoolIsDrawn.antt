@@ -1,0 +1,251 @@
+-- A session that draws rows or page numbers from the pool takes no step of the tree, and keeps the rule.
+use Rattle.std.proofs.Common.{◌≡◌, ◌≢◌, ℕ, zero, suc, ◌+◌, ◌*◌, ◌<◌, ◌≤◌, Option, Some, None, List, [], set, refl, sym, ap, ◌∙◌, subst, get_or-set_same, get_or-set_other, eqb, arith}
+use Rattle.std.specs.Prelude.{slice_index}
+use mathlib.Core.Option.{some, none}
+use lib.ListN.{get_elem?}
+use lib.Seq.{set-get_or}
+use prog.Atomic.{either}
+use Rattle.atomic_table.specs.Table.{State, Act, Valid, stepped, carried_after, step, keeps, Allows}
+use Rattle.atomic_table.proofs.Lists.{exchanged, set_again}
+use Rattle.blink_machine.specs.TreeState.{TreeState}
+use Rattle.blink_live.specs.declared.view.Plan.{Plan}
+use Rattle.blink_live.specs.declared.view.Role.TheVariants.{Keeper, Pass}
+use Rattle.blink_live.specs.declared.view.View.{View}
+use Rattle.blink_live.specs.AtomicSteps.{draws_pages, draws_rows}
+use Rattle.blink_live.specs.Rule.{latch_word, HasNumbers, HasRows, Owners, PageWordIs, IsInRole, Knows, IsTableAt, IsTable}
+use Rattle.blink_live.specs.Views.{IsCommon, SeatState, has_pages, has_rows, latch_in, span}
+use Rattle.blink_live.specs.Words.{place_word, pool_page, pool_row, row_start, word_count}
+use Rattle.blink_live.proofs.table.CallsOfSeats.{nothing_for_call}
+use Rattle.blink_live.proofs.table.OthersKnowTheSame.{LeavesOthers, RowStays, page_word_still, reads_still, row_is_still}
+use Rattle.blink_live.proofs.table.OwnersInRange.{ranged, ranged_in, ranged_out}
+use Rattle.blink_live.proofs.table.StoresKeepTable.{rows_kept, prime_still, store_keeps}
+
+-- in a common table a latch number doesn't depend on rows
+-- the latch words are those of the same numbers
+latch_word_still : (new old : Owners) (holder : Option ℕ) → new.latch_number ≡ old.latch_number → latch_word old holder ≡ latch_word new holder
+latch_word_still new old None same = refl
+latch_word_still new old (Some seat) same = ap (λ (f : ℕ → ℕ). f seat) (sym same)
+
+latch_still : (places one other : ℕ) → 1 ≤ places → latch_in places one ≡ latch_in places other
+latch_still zero one other some_place = absurd (omega (arith, some_place))
+latch_still (suc places) one other some_place = refl
+
+module _ (plan : Plan) (s : State ℕ View) (tree_state : TreeState) (h : IsTableAt plan s tree_state) (id old new : ℕ) (v : View) (at : get_elem? s.views id ≡ some v) (role : v.role ≡ Pass) (common : IsCommon plan) (some_number : 1 ≤ plan.counts.numbers)
+    (further : old ≤ new) where
+  known : Knows plan h.owners s.words tree_state h.log id v
+  known = h.views id v at
+
+  kept : IsInRole plan h.owners h.log id v Pass
+  kept = subst (IsInRole plan h.owners h.log id v) role known.in_role
+
+  module _ (n : ℕ) (inside : 1 ≤ n) (early : n < 3) where
+    abbrev words : List ℕ
+    words = set s.words (word_count plan.counts + n) new
+
+    stays : (row : ℕ) → 1 ≤ row → row ≤ plan.counts.rows → RowStays plan s.words words row
+    stays row least most i below = get_or-set_other s.words (word_count plan.counts + n) (row_start plan.counts row + i) new 0 (λ e. omega (arith, e, least, most, below))
+
+    before : (k : ℕ) → k < 2 * plan.counts.numbers → slice_index words k ≡ slice_index s.words k
+    before k below = get_or-set_other s.words (word_count plan.counts + n) k new 0 (λ e. omega (arith, e, below))
+
+    other_place : (place : ℕ) → slice_index words (place_word plan.counts place) ≡ slice_index s.words (place_word plan.counts place)
+    other_place place = get_or-set_other s.words (word_count plan.counts + n) (place_word plan.counts place) new 0 (λ e. omega (arith, e, inside, early))
+
+    other_pool : (k : ℕ) → k ≢ n → slice_index words (word_count plan.counts + k) ≡ slice_index s.words (word_count plan.counts + k)
+    other_pool k differ = get_or-set_other s.words (word_count plan.counts + n) (word_count plan.counts + k) new 0 (λ e. differ (omega (arith, e)))
+
+    here : slice_index words (word_count plan.counts + n) ≡ new
+    here = let wide = h.width in get_or-set_same s.words (word_count plan.counts + n) new 0 (omega (arith, wide, common, early))
+
+    -- the seat's new view, and the owners: the pool alone has other rows or page numbers
+    module _ (owners : Owners) (w : View) (leaves : LeavesOthers plan s tree_state tree_state h id words owners h.log) (same_latch : owners.latch_number ≡ h.owners.latch_number) (same_role : w.role ≡ v.role) (same_plan : w.plan ≡ v.plan)
+        (knows : Knows plan owners words tree_state h.log id w) where
+      draw_keeps : IsTable plan record { words = words; homes = s.homes; views = set s.views id w }
+      draw_keeps = store_keeps plan s tree_state tree_state h id (word_count plan.counts + n) new kept.0 v w at owners h.log h.now leaves record {
+        same_fan = refl;
+        invariant = h.invariant;
+        prime_numbers = h.prime_numbers;
+        prime = prime_still plan s tree_state tree_state h id kept.0 words owners h.log leaves (before 0 (omega (arith, some_number))) refl;
+        pages = λ number least below. subst (λ (word : ℕ). PageWordIs plan owners words word (tree_state.pages number)) (sym (before number (omega (arith, below))))
+            (page_word_still plan s tree_state tree_state h id kept.0 words owners h.log leaves (slice_index s.words number) (tree_state.pages number) (h.pages number least below));
+        no_other_page = h.no_other_page;
+        no_other_latch = h.no_other_latch;
+        latches = λ number below. before (plan.counts.numbers + number) (omega (arith, below)) ∙ (h.latches number below ∙ latch_word_still owners h.owners (tree_state.holder number) same_latch);
+        holders = λ number seat holds. subst (λ (f : ℕ → ℕ). 1 ≤ f seat) (sym same_latch) (h.holders number seat holds);
+        is_map = h.is_map;
+        kept = h.kept;
+      } same_role same_plan knows
+
+  -- ---- rows
+
+  module _ (found : slice_index s.words (pool_row plan.counts) ≡ old) (end : new ≤ plan.counts.rows + 1) where
+    pool_rows : HasRows plan h.owners s.words (suc 0) (span old (plan.counts.rows + 1))
+    pool_rows = subst (λ (n : ℕ). HasRows plan h.owners s.words (suc 0) (span n (plan.counts.rows + 1))) found (h.pool common).rows
+
+    abbrev row_owners : Owners
+    row_owners = record h.owners { row = ranged old new (suc id) h.owners.row }
+
+    row_else : (row : ℕ) → h.owners.row row ≢ suc 0 → row_owners.row row ≡ h.owners.row row
+    row_else row other = ranged_out old new (suc id) h.owners.row row (λ low high. other (pool_rows.own row low (omega (arith, high, end))))
+
+    rows_leave : LeavesOthers plan s tree_state tree_state h id (words 1 (omega arith) (omega arith)) row_owners h.log
+    rows_leave = record {
+      machines = λ seat other. refl;
+      ways = λ seat m other is. refl;
+      rows = λ row least most apart shared. (row_else row (shared common), stays 1 (omega arith) (omega arith) row least most);
+      numbers = λ number apart shared. (refl, λ free. free);
+      keys = λ owned key apart. (refl, refl, refl);
+      nobodys = h.nobodys;
+      pool = λ is_common. record {
+        rows = subst (λ (n : ℕ). HasRows plan row_owners (words 1 (omega arith) (omega arith)) (suc 0) (span n (plan.counts.rows + 1))) (sym (here 1 (omega arith) (omega arith))) record {
+          in_range = (let low = pool_rows.in_range.0 in omega (arith, low, further), pool_rows.in_range.1);
+          own = λ row low high. ranged_out old new (suc id) h.owners.row row (λ a c. omega (arith, low, c)) ∙ pool_rows.own row (omega (arith, low, further)) high;
+          blank = λ row low high.
+              let least = pool_rows.in_range.0 in
+              row_is_still plan s.words (words 1 (omega arith) (omega arith)) row [] (stays 1 (omega arith) (omega arith) row (omega (arith, least, further, low)) (omega (arith, high))) (pool_rows.blank row (omega (arith, low, further)) high);
+        };
+        pages = let pages = (h.pool common).pages in
+            subst (λ (n : ℕ). HasNumbers plan row_owners tree_state (suc 0) (span n plan.counts.numbers)) (sym (other_pool 1 (omega arith) (omega arith) 2 (λ e. omega (arith, e)))) record { in_range = pages.in_range; own = pages.own; free = pages.free };
+      };
+      places = λ place. refl;
+      place_words = λ place within apart. other_place 1 (omega arith) (omega arith) place;
+      latch_numbers = λ seat. refl;
+      longer = λ seen is. is;
+    }
+
+    rows_knows : Knows plan row_owners (words 1 (omega arith) (omega arith)) tree_state h.log id (has_rows v (span old new))
+    rows_knows = record {
+      same_plan = known.same_plan;
+      operation = known.operation;
+      bounded = known.bounded;
+      reads = reads_still plan s tree_state tree_state h id kept.0 (words 1 (omega arith) (omega arith)) row_owners h.log rows_leave v.reads known.reads;
+      rows = record {
+        in_range = (pool_rows.in_range.0, end);
+        own = λ row low high. ranged_in old new (suc id) h.owners.row row low high;
+        blank = λ row low high.
+            let least = pool_rows.in_range.0 in
+            row_is_still plan s.words (words 1 (omega arith) (omega arith)) row [] (stays 1 (omega arith) (omega arith) row (omega (arith, least, low)) (omega (arith, high, end))) (pool_rows.blank row low (omega (arith, high, end)));
+      };
+      numbers = record { in_range = known.numbers.in_range; own = known.numbers.own; free = known.numbers.free };
+      for_call = nothing_for_call plan row_owners (words 1 (omega arith) (omega arith)) tree_state (suc id) old v.pages.next pool_rows.in_range.0 known.numbers.in_range.0 some_number;
+      share = λ key has. let own = known.share key has in record { own = own.own; kept = own.kept; changes = own.changes };
+      saw = known.saw;
+      heard = known.heard;
+      in_role = subst (IsInRole plan row_owners h.log id (has_rows v (span old new))) (sym role)
+          (kept.0, kept.1 ∙ latch_still v.plan.places v.rows.stop new (subst IsCommon (sym known.same_plan) common));
+      placed = λ is_common is. let p = known.placed is_common is in record { in_range = p.in_range; own = p.own; word = other_place 1 (omega arith) (omega arith) v.place ∙ p.word; busy = p.busy };
+      nothing = λ is_common dealt back is. absurd (let e : Pass ≡ Keeper dealt back = sym role ∙ is in cc);
+      places_left = λ dealt back is. absurd (let e : Pass ≡ Keeper dealt back = sym role ∙ is in cc);
+    }
+
+    rows_drawn : IsTable plan record { words = words 1 (omega arith) (omega arith); homes = s.homes; views = set s.views id (has_rows v (span old new)) }
+    rows_drawn = draw_keeps 1 (omega arith) (omega arith) row_owners (has_rows v (span old new)) rows_leave refl refl refl rows_knows
+
+  -- ---- page numbers
+
+  module _ (found : slice_index s.words (pool_page plan.counts) ≡ old) (end : new ≤ plan.counts.numbers) where
+    pool_pages : HasNumbers plan h.owners tree_state (suc 0) (span old plan.counts.numbers)
+    pool_pages = subst (λ (n : ℕ). HasNumbers plan h.owners tree_state (suc 0) (span n plan.counts.numbers)) found (h.pool common).pages
+
+    abbrev page_owners : Owners
+    page_owners = record h.owners { page = ranged old new (suc id) h.owners.page }
+
+    page_else : (number : ℕ) → h.owners.page number ≢ suc 0 → page_owners.page number ≡ h.owners.page number
+    page_else number other = ranged_out old new (suc id) h.owners.page number (λ low high. other (pool_pages.own number low (omega (arith, high, end))))
+
+    pages_leave : LeavesOthers plan s tree_state tree_state h id (words 2 (omega arith) (omega arith)) page_owners h.log
+    pages_leave = record {
+      machines = λ seat other. refl;
+      ways = λ seat m other is. refl;
+      rows = λ row least most apart shared. (refl, stays 2 (omega arith) (omega arith) row least most);
+      numbers = λ number apart shared. (page_else number (shared common), λ free. free);
+      keys = λ owned key apart. (refl, refl, refl);
+      nobodys = h.nobodys;
+      pool = λ is_common. record {
+        rows = let rows = (h.pool common).rows in
+            let least = rows.in_range.0 in
+            subst (λ (n : ℕ). HasRows plan page_owners (words 2 (omega arith) (omega arith)) (suc 0) (span n (plan.counts.rows + 1))) (sym (other_pool 2 (omega arith) (omega arith) 1 (λ e. omega (arith, e)))) record {
+              in_range = rows.in_range;
+              own = rows.own;
+              blank = λ row low high. row_is_still plan s.words (words 2 (omega arith) (omega arith)) row [] (stays 2 (omega arith) (omega arith) row (omega (arith, least, low)) (omega (arith, high))) (rows.blank row low high);
+            };
+        pages = subst (λ (n : ℕ). HasNumbers plan page_owners tree_state (suc 0) (span n plan.counts.numbers)) (sym (here 2 (omega arith) (omega arith))) record {
+          in_range = (let low = pool_pages.in_range.0 in omega (arith, low, further), pool_pages.in_range.1);
+          own = λ number low high. ranged_out old new (suc id) h.owners.page number (λ a c. omega (arith, low, c)) ∙ pool_pages.own number (omega (arith, low, further)) high;
+          free = λ number low high. pool_pages.free number (omega (arith, low, further)) high;
+        };
+      };
+      places = λ place. refl;
+      place_words = λ place within apart. other_place 2 (omega arith) (omega arith) place;
+      latch_numbers = λ seat. refl;
+      longer = λ seen is. is;
+    }
+
+    pages_knows : Knows plan page_owners (words 2 (omega arith) (omega arith)) tree_state h.log id (has_pages v (span old new))
+    pages_knows = record {
+      same_plan = known.same_plan;
+      operation = known.operation;
+      bounded = known.bounded;
+      reads = reads_still plan s tree_state tree_state h id kept.0 (words 2 (omega arith) (omega arith)) page_owners h.log pages_leave v.reads known.reads;
+      rows =
+          let its = rows_kept plan h.owners s.words (words 2 (omega arith) (omega arith)) (stays 2 (omega arith) (omega arith)) (suc id) v.rows known.rows in
+          record { in_range = its.in_range; own = its.own; blank = its.blank };
+      numbers = record {
+        in_range = (pool_pages.in_range.0, end);
+        own = λ number low high. ranged_in old new (suc id) h.owners.page number low high;
+        free = λ number low high. pool_pages.free number low (omega (arith, high, end));
+      };
+      for_call = nothing_for_call plan page_owners (words 2 (omega arith) (omega arith)) tree_state (suc id) v.rows.next old known.rows.in_range.0 pool_pages.in_range.0 some_number;
+      share = λ key has. let own = known.share key has in record { own = own.own; kept = own.kept; changes = own.changes };
+      saw = known.saw;
+      heard = known.heard;
+      in_role = subst (IsInRole plan page_owners h.log id (has_pages v (span old new))) (sym role) kept;
+      placed = λ is_common is. let p = known.placed is_common is in record { in_range = p.in_range; own = p.own; word = other_place 2 (omega arith) (omega arith) v.place ∙ p.word; busy = p.busy };
+      nothing = λ is_common dealt back is. absurd (let e : Pass ≡ Keeper dealt back = sym role ∙ is in cc);
+      places_left = λ dealt back is. absurd (let e : Pass ≡ Keeper dealt back = sym role ∙ is in cc);
+    }
+
+    pages_drawn : IsTable plan record { words = words 2 (omega arith) (omega arith); homes = s.homes; views = set s.views id (has_pages v (span old new)) }
+    pages_drawn = draw_keeps 2 (omega arith) (omega arith) page_owners (has_pages v (span old new)) pages_leave refl refl refl pages_knows
+
+-- ---- the steps
+
+pub rows_are_drawn : (plan : Plan) (slots id old new : ℕ) (me : SeatState) → me.0.role ≡ Pass → IsCommon plan → 1 ≤ plan.counts.numbers → old ≤ new → new ≤ plan.counts.rows + 1
+    → Allows (IsTable plan) slots id me (pool_row plan.counts) (λ n. either (eqb n old) new n) (draws_rows (step slots (pool_row plan.counts) old new none) me)
+rows_are_drawn plan slots id old new me role common some_number further end s table homes at small =
+    let found : ℕ = slice_index s.words (pool_row plan.counts) in
+    exchanged found old new (λ (k : ℕ). (w : View) × (a : Act ℕ) × Valid s.homes me.1 a × IsTable plan (stepped s (pool_row plan.counts) k id me.1 w a) × draws_rows (step slots (pool_row plan.counts) old new none) me found (w, carried_after me.1 a))
+    (λ hit. (
+      has_rows me.0 (span old new),
+      keeps,
+      tt,
+      rows_drawn plan s table.0 table.1 id old new me.0 at role common some_number further hit end,
+      record { got = λ is. refl; lost = λ other. absurd (other hit) },
+    ))
+    (λ miss. (
+      me.0,
+      keeps,
+      tt,
+      subst (λ (t : List ℕ × List View). IsTable plan record { words = t.0; homes = s.homes; views = t.1 }) (λ i. (sym (set-get_or s.words (pool_row plan.counts) 0) i, sym (set_again s.views id me.0 at) i)) table,
+      record { got = λ is. absurd (miss is); lost = λ other. refl },
+    ))
+
+pub pages_are_drawn : (plan : Plan) (slots id old new : ℕ) (me : SeatState) → me.0.role ≡ Pass → IsCommon plan → 1 ≤ plan.counts.numbers → old ≤ new → new ≤ plan.counts.numbers
+    → Allows (IsTable plan) slots id me (pool_page plan.counts) (λ n. either (eqb n old) new n) (draws_pages (step slots (pool_page plan.counts) old new none) me)
+pages_are_drawn plan slots id old new me role common some_number further end s table homes at small =
+    let found : ℕ = slice_index s.words (pool_page plan.counts) in
+    exchanged found old new (λ (k : ℕ). (w : View) × (a : Act ℕ) × Valid s.homes me.1 a × IsTable plan (stepped s (pool_page plan.counts) k id me.1 w a) × draws_pages (step slots (pool_page plan.counts) old new none) me found (w, carried_after me.1 a))
+    (λ hit. (
+      has_pages me.0 (span old new),
+      keeps,
+      tt,
+      pages_drawn plan s table.0 table.1 id old new me.0 at role common some_number further hit end,
+      record { got = λ is. refl; lost = λ other. absurd (other hit) },
+    ))
+    (λ miss. (
+      me.0,
+      keeps,
+      tt,
+      subst (λ (t : List ℕ × List View). IsTable plan record { words = t.0; homes = s.homes; views = t.1 }) (λ i. (sym (set-get_or s.words (pool_page plan.counts) 0) i, sym (set_again s.views id me.0 at) i)) table,
+      record { got = λ is. absurd (miss is); lost = λ other. refl },
+    ))

@@ -1,0 +1,4 @@
+mod PlacesKept
+mod ChangesOfMembers
+mod HeardAll
+mod MembersDealt

@@ -1,0 +1,11 @@
+-- The code of each refusal.
+use Rattle.std.specs.Prelude.{ℕ}
+use Rattle.blink_map.specs.declared.error.MapError.{MapError}
+use Rattle.blink_map.specs.declared.error.MapError.TheVariants.{OutOfMemory, TooLarge, Sessions, NoPlace, UnderWay}
+
+abbrev pub code_of : MapError → ℕ
+code_of OutOfMemory = 60
+code_of TooLarge = 61
+code_of Sessions = 62
+code_of NoPlace = 63
+code_of UnderWay = 64

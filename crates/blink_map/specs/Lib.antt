@@ -1,0 +1,15 @@
+-- What a caller of `blink_map` reads, in this order; then the files themselves.
+
+-- a map and its sessions
+pub use Rattle.blink_map.specs.Sessions.{HasRoom, IsAnswered, IsClosedWith, IsOpenedWith, IsTooLarge, IsSameBesideRoom, IsSameBesideSeen, IsSameSession, IsSessionOf, LacksRoom, made_by, opening_of, seen_by}
+-- the code of each refusal
+pub use Rattle.blink_map.specs.Codes.{code_of}
+-- ---- the files
+pub mod Codes
+pub mod Finding
+pub mod Changing
+pub mod Telling
+pub mod Closing
+pub mod Opening
+pub mod Places
+pub mod Sessions

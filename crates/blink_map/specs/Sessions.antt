@@ -1,0 +1,125 @@
+-- A map and its sessions, as contracts see them.
+use Rattle.std.specs.Prelude.{◌≡◌, ℕ, ◌+◌, ◌≤◌, ◌<◌, List, ◌++◌, length, All}
+use mathlib.Core.List.{IsPrefix}
+use Rattle.blink_batch.specs.declared.Answer.{Answer}
+use Rattle.blink_batch.specs.declared.Entry.{Entry}
+use Rattle.blink_batch.specs.declared.Op.{Op}
+use Rattle.blink_batch.specs.{answer_at, key_of, pointer_of}
+use Rattle.blink_index.specs.{map_of}
+use Rattle.blink_page.specs.declared.limits.TheConstants.{MAX_PAGE}
+use Rattle.blink_rows.specs.declared.span.Span.{Span}
+use Rattle.blink_store.specs.{PlainStore}
+use Rattle.blink_live.specs.declared.view.Change.{Change}
+use Rattle.blink_live.specs.Allowed.{length_of}
+use Rattle.blink_live.specs.Changes.{after, changes_made}
+use Rattle.blink_live.specs.Handles.{opening_of as opening_of_table}
+use Rattle.blink_live.specs.Views.{pages_of, rows_of}
+use Rattle.blink_map.specs.declared.map.Map.{Map}
+use Rattle.blink_map.specs.declared.map.Room.{Room}
+use Rattle.blink_map.specs.declared.map.Session.{Session}
+use Rattle.blink_map.specs.declared.member.Member.{Member}
+use Rattle.blink_map.specs.Places.{IsMemberOf}
+
+-- the entries that the map was opened with
+abbrev pub opening_of : Map → List Entry
+opening_of map = opening_of_table map.live
+
+-- ---- a session
+
+-- the session is one of this map's
+pub record IsSessionOf (map : Map) (session : Session) : Type 0 where
+  pub member : IsMemberOf map.live session.member
+  pub same_places : session.claim.table_id ≡ map.places.shared.table_id
+
+abbrev pub seen_of_member : Member → List Change
+seen_of_member member = member.seat.me.0.seen
+
+abbrev pub made_by_member : Member → List Change
+made_by_member member = member.seat.me.0.share.changes
+
+-- the changes of all keys that the session has seen, in the order in which they happened
+abbrev pub seen_by : Session → List Change
+seen_by session = seen_of_member session.member
+
+-- the changes that operations at the session's place have made, in their order: those of the session, behind those of the sessions
+-- that had the place before
+abbrev pub made_by : Session → List Change
+made_by session = made_by_member session.member
+
+-- the session has the rows and page numbers that the operation may need
+pub record HasRoom (op : Op) (rows pages : Span) : Type 0 where
+  pub enough_rows : rows_of op ≤ length_of rows
+  pub enough_pages : pages_of op ≤ length_of pages
+
+-- ---- what a call makes of it
+
+-- the member is that of the same seat, in the same table
+pub record IsSameMember (old new : Member) : Type 0 where
+  pub same_table : new.seat.table_id ≡ old.seat.table_id
+  pub same_plan : new.seat.me.0.plan ≡ old.seat.me.0.plan
+
+-- the session is as it was, except that it may have seen more
+pub record IsSameBesideSeen (old new : Session) : Type 0 where
+  pub saw : IsPrefix (seen_by old) (seen_by new)
+  pub made : made_by new ≡ made_by old
+  pub rows : new.member.rows ≡ old.member.rows
+  pub pages : new.member.pages ≡ old.member.pages
+  pub same_member : IsSameMember old.member new.member
+  pub same_places : new.claim.table_id ≡ old.claim.table_id
+
+-- the session is as it was
+pub record IsSameSession (old new : Session) : Type 0 where
+  pub seen : seen_by new ≡ seen_by old
+  pub made : made_by new ≡ made_by old
+  pub rows : new.member.rows ≡ old.member.rows
+  pub pages : new.member.pages ≡ old.member.pages
+  pub same_member : IsSameMember old.member new.member
+  pub same_places : new.claim.table_id ≡ old.claim.table_id
+
+-- what an operation of a member has answered: there is a list of changes that goes on from all that the member had seen. The answer
+-- is that of the operation on the opening entries after this list, and the operation's own change follows the list at once. The
+-- member has seen both now, and has made this change and no other
+pub record AnswersInOrder (opening : List Entry) (op : Op) (old new : Member) (answer : Answer) : Type 0 where
+  pub before : List Change
+  pub saw : IsPrefix (seen_of_member old) before
+  pub answers : answer ≡ answer_at op (after (pointer_of opening) before (key_of op))
+  pub goes_on : IsPrefix (before ++ changes_made op (after (pointer_of opening) before (key_of op))) (seen_of_member new)
+  pub made : made_by_member new ≡ made_by_member old ++ changes_made op (after (pointer_of opening) before (key_of op))
+
+-- the same of a session
+pub record IsAnswered (map : Map) (op : Op) (old new : Session) (answer : Answer) : Type 0 where
+  pub in_order : AnswersInOrder (opening_of map) op old.member new.member answer
+  pub same_member : IsSameMember old.member new.member
+  pub same_places : new.claim.table_id ≡ old.claim.table_id
+
+-- the session had fewer rows or page numbers than the operation may need, and has fewer still, though it drew what it could
+pub record LacksRoom (op : Op) (old new : Session) : Type 0 where
+  pub before : ¬ HasRoom op old.member.rows old.member.pages
+  pub still : ¬ HasRoom op new.member.rows new.member.pages
+
+-- the session is as it was, but for its rows and page numbers
+pub record IsSameBesideRoom (old new : Session) : Type 0 where
+  pub seen : seen_by new ≡ seen_by old
+  pub made : made_by new ≡ made_by old
+  pub same_member : IsSameMember old.member new.member
+  pub same_places : new.claim.table_id ≡ old.claim.table_id
+
+-- ---- how a map opens and closes
+
+-- the map is over this index, with such room
+pub record IsOpenedWith (store : PlainStore) (room : Room) (map : Map) : Type 0 where
+  pub same_opening : opening_of map ≡ map_of store
+  pub same_fan : map.live.fan ≡ store.fan
+  pub numbers : map.live.counts.numbers ≡ 1 + length store.pages + room.pages
+  pub rows : map.live.counts.rows ≡ 1 + length store.pages + room.rows
+  pub sessions : map.places.shared.table_id.slots ≡ room.sessions
+
+-- the index needs more page numbers than there are
+abbrev pub IsTooLarge : ℕ → Room → Type 0
+IsTooLarge count room = MAX_PAGE < count + room.pages
+
+-- the entries are the opening ones after one list of changes, which goes on from all that each of these sessions had seen
+pub record IsClosedWith (map : Map) (sessions : List Session) (entries : List Entry) : Type 0 where
+  pub final : List Change
+  pub saw : All (λ (session : Session). IsPrefix (seen_by session) final) sessions
+  pub kept : (key : ℕ) → pointer_of entries key ≡ after (pointer_of (opening_of map)) final key

@@ -1,0 +1,262 @@
+//! The operations that change a map: insert, delete and replace, by any session, at any key.
+ghost use Rattle.std.specs.Prelude.{◌≡◌, ◌↔◌, ◌+◌, ◌≤◌, ℕ, Some, IfOk, IsTrue, OnErr};
+ghost use Rattle.atomic_table.specs.declared.Seat.{Seat};
+ghost use Rattle.blink_batch.specs.{FitsWords};
+ghost use Rattle.blink_batch.specs.declared.Op.{Op};
+ghost use Rattle.blink_batch.specs.declared.Op.TheVariants.{Delete, Insert, Replace};
+ghost use Rattle.blink_machine.specs.{IsUpdate};
+ghost use Rattle.blink_machine.specs.declared.machine.State.TheVariants.{Ended};
+ghost use Rattle.blink_live.specs.declared.view.View.{View};
+ghost use Rattle.blink_live.specs.Pendings.{IsWaiting};
+ghost use Rattle.blink_live.specs.Updating.{IsUnderWay};
+ghost use Rattle.blink_live.specs.Views.{pages_of, rows_of, span};
+ghost use Rattle.blink_map.specs.Changing.{HasChanged, HasDrawn};
+ghost use Rattle.blink_map.specs.Places.{IsMemberOf};
+ghost use Rattle.blink_map.specs.Sessions.{HasRoom, IsAnswered, IsSameBesideRoom, IsSessionOf, LacksRoom};
+
+use crate::error::Full;
+use crate::map::{Map, Session};
+use crate::member::Member;
+use atomic_table::Seat;
+use blink_batch::{Answer, Op};
+use blink_live::{Live, Room, View};
+use blink_machine::Machine;
+use blink_page::MAX_NEW_PAGES_PER_INSERT;
+use blink_rows::{MAX_ROWS_PER_INSERT, Span};
+use std::sync::Wait;
+use std::thread;
+
+// What each session puts into the latch words of pages.
+const LATCH: u64 = 1;
+
+// The number of rows that a session draws at once, and of page numbers.
+const ROW_CHUNK: u64 = 1024;
+
+const PAGE_CHUNK: u64 = 512;
+
+impl Map {
+    /// Adds an entry. It answers `Inserted`, or `Exists` with the pointer that the key has, which stays. The call takes no memory.
+    /// It waits for a page's latch that another session has, and for a new root that another session is about to make.
+    ///
+    /// The call is refused if the session has fewer than 44 rows or 22 page numbers, and the pool has fewer too. Then it changes
+    /// nothing, but for what the session has drawn.
+    pub fn insert<R: Wait>(
+        &self,
+        rt: &R,
+        session: &mut Session,
+        key: u64,
+        pointer: u64,
+    ) -> Result<Answer, Full>
+        requires its_own { IsSessionOf self.now session.old }
+        ensures answered { IfOk result (IsAnswered self.now (Insert key pointer) session.old session.new) }
+        ensures full { OnErr result (LacksRoom (Insert key pointer) session.old session.new) }
+        ensures unchanged { OnErr result (IsSameBesideRoom session.old session.new) }
+    {
+        self.change(rt, session, Op::Insert(key, pointer))
+    }
+
+    /// Removes a key. It answers `Removed` with the key's pointer, or `Absent`. The call takes no memory. It waits for a page's
+    /// latch that another session has.
+    ///
+    /// The call is refused if the session has no row left, and the pool has none. Then it changes nothing.
+    pub fn delete<R: Wait>(&self, rt: &R, session: &mut Session, key: u64) -> Result<Answer, Full>
+        requires its_own { IsSessionOf self.now session.old }
+        ensures answered { IfOk result (IsAnswered self.now (Delete key) session.old session.new) }
+        ensures full { OnErr result (LacksRoom (Delete key) session.old session.new) }
+        ensures unchanged { OnErr result (IsSameBesideRoom session.old session.new) }
+    {
+        self.change(rt, session, Op::Delete(key))
+    }
+
+    /// Replaces a key's pointer. It answers `Replaced` with the pointer before, also if both are the same, or `Absent`. The call
+    /// takes no memory. It waits for a page's latch that another session has.
+    ///
+    /// The call is refused if the session has no row left, and the pool has none. Then it changes nothing.
+    pub fn replace<R: Wait>(
+        &self,
+        rt: &R,
+        session: &mut Session,
+        key: u64,
+        pointer: u64,
+    ) -> Result<Answer, Full>
+        requires its_own { IsSessionOf self.now session.old }
+        ensures answered { IfOk result (IsAnswered self.now (Replace key pointer) session.old session.new) }
+        ensures full { OnErr result (LacksRoom (Replace key pointer) session.old session.new) }
+        ensures unchanged { OnErr result (IsSameBesideRoom session.old session.new) }
+    {
+        self.change(rt, session, Op::Replace(key, pointer))
+    }
+
+    // Runs an operation that changes the tree.
+    fn change<R: Wait>(&self, rt: &R, session: &mut Session, op: Op) -> Result<Answer, Full>
+        requires its_own { IsSessionOf self.now session.old }
+        requires updates { IsUpdate op }
+        requires fits { FitsWords op }
+        ensures answered { IfOk result (IsAnswered self.now op session.old session.new) }
+        ensures full { OnErr result (LacksRoom op session.old session.new) }
+        ensures unchanged { OnErr result (IsSameBesideRoom session.old session.new) }
+    {
+        let Session {
+            member,
+            claim: _,
+            place: _,
+        } = session;
+        if !member.draw(&self.live, op) {
+            return Err(Full);
+        }
+        Ok(member.change(rt, &self.live, op))
+    }
+}
+
+impl Member {
+    // Draws rows or page numbers from the pool, if the member has fewer than the operation may need, and returns whether it has
+    // enough then. What it had before of a kind that it draws is lost.
+    fn draw(&mut self, live: &Live, op: Op) -> bool
+        requires its_own { IsMemberOf live.now self.old }
+        ensures drawn { HasDrawn self.old self.new }
+        ensures enough { IsTrue result → HasRoom op self.new.rows self.new.pages }
+        ensures lacks { ¬ IsTrue result → (¬ HasRoom op self.old.rows self.old.pages)
+            × (¬ HasRoom op self.new.rows self.new.pages) }
+    {
+        if self.has_room(op) {
+            return true;
+        }
+        let (rows, pages) = needed_by(op);
+        self.draw_rows(live, rows);
+        self.draw_pages(live, pages);
+        self.has_room(op)
+    }
+
+    // Draws rows, if the member has fewer than these.
+    fn draw_rows(&mut self, live: &Live, least: u64)
+        requires its_own { IsMemberOf live.now self.old }
+        requires few { least ≤ ROW_CHUNK }
+        ensures { HasDrawn self.old self.new }
+    {
+        let Member {
+            seat,
+            rows,
+            pages: _,
+            place: _,
+        } = self;
+        if rows.len() < least {
+            if let Some(drawn) = live.draw_rows(seat, least, ROW_CHUNK) {
+                *rows = drawn;
+            }
+        }
+    }
+
+    // Draws page numbers, if the member has fewer than these.
+    fn draw_pages(&mut self, live: &Live, least: u64)
+        requires its_own { IsMemberOf live.now self.old }
+        requires few { least ≤ PAGE_CHUNK }
+        ensures { HasDrawn self.old self.new }
+    {
+        let Member {
+            seat,
+            rows: _,
+            pages,
+            place: _,
+        } = self;
+        if pages.len() < least {
+            if let Some(drawn) = live.draw_pages(seat, least, PAGE_CHUNK) {
+                *pages = drawn;
+            }
+        }
+    }
+
+    // Whether the member has the rows and page numbers that the operation may need.
+    fn has_room(&self, op: Op) -> bool
+        ensures { IsTrue result ↔ HasRoom op self.now.rows self.now.pages }
+    {
+        let (rows, pages) = needed_by(op);
+        rows <= self.rows.len() && pages <= self.pages.len()
+    }
+
+    // Runs an operation that changes the tree. While it does, the member's place is marked. What it hasn't used of its rows and
+    // page numbers is the member's again.
+    fn change<R: Wait>(&mut self, rt: &R, live: &Live, op: Op) -> Answer
+        requires its_own { IsMemberOf live.now self.old }
+        requires updates { IsUpdate op }
+        requires fits { FitsWords op }
+        requires room { HasRoom op self.old.rows self.old.pages }
+        ensures { HasChanged live.now op self.old self.new result }
+    {
+        let Member {
+            seat,
+            rows,
+            pages,
+            place,
+        } = self;
+        live.mark(seat, *place, 1);
+        let mut room = room_of(op, rows, pages);
+        let mut machine = Machine::new(op, live.fan());
+        live.set_out(seat, &mut machine, &room, op);
+        let answer = to_end(rt, live, seat, &mut machine, &mut room);
+        live.give_back(seat);
+        rows.next = room.rows.next;
+        pages.next = room.pages.next;
+        live.mark(seat, *place, 0);
+        answer
+    }
+}
+
+// The number of rows that an operation may need, and of page numbers.
+fn needed_by(op: Op) -> (u64, u64)
+    ensures { (result.0 ≡ rows_of op) × (result.1 ≡ pages_of op) }
+{
+    match op {
+        Op::Find(_) => (0, 0),
+        Op::Insert(..) => (MAX_ROWS_PER_INSERT, MAX_NEW_PAGES_PER_INSERT),
+        _ => (1, 0),
+    }
+}
+
+// The first of these rows and page numbers, for an operation.
+fn room_of(op: Op, rows: &Span, pages: &Span) -> Room
+    requires in_order { (rows.now.next ≤ rows.now.stop) × (pages.now.next ≤ pages.now.stop) }
+    requires room { HasRoom op rows.now pages.now }
+    ensures rows { result.rows ≡ span rows.now.next (rows.now.next + rows_of op) }
+    ensures pages { result.pages ≡ span pages.now.next (pages.now.next + pages_of op) }
+    ensures latch { result.latch_number ≡ 1 }
+{
+    let (row_count, page_count) = needed_by(op);
+    let _row_stop = rows.stop;
+    let _page_stop = pages.stop;
+    Room {
+        rows: Span {
+            next: rows.next,
+            stop: rows.next + row_count,
+        },
+        pages: Span {
+            next: pages.next,
+            stop: pages.next + page_count,
+        },
+        latch_number: LATCH,
+    }
+}
+
+// Takes steps of the operation until it has ended, and returns its answer.
+fn to_end<R: Wait>(
+    rt: &R,
+    live: &Live,
+    seat: &mut Seat<u8, View>,
+    machine: &mut Machine,
+    room: &mut Room,
+) -> Answer
+    requires under_way { (op : Op) × (first : Seat ℕ View)
+        × IsUnderWay live.now op first seat.old machine.old room.old }
+    requires waits { IsWaiting machine.old }
+    ensures under_way { (op : Op) (first : Seat ℕ View)
+        → IsUnderWay live.now op first seat.old machine.old room.old
+        → IsUnderWay live.now op first seat.new machine.new room.new }
+    ensures ended { (machine.new.state ≡ Ended) × (machine.new.answer ≡ Some result) }
+{
+    for _ in rt.forever() {
+        if let Some(answer) = live.take_steps(seat, machine, room, 1) {
+            return answer;
+        }
+        thread::yield_now();
+    }
+    unreachable!()
+}

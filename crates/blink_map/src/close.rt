@@ -1,0 +1,81 @@
+//! Closing a map.
+ghost use Rattle.std.specs.Prelude.{◌≡◌, ◌⊎◌, All, IfErr, IfOk};
+ghost use mathlib.Core.List.{IsPrefix};
+ghost use Rattle.blink_index.specs.{map_of};
+ghost use Rattle.blink_live.specs.Common.{IsHost};
+ghost use Rattle.blink_live.specs.{IsNumberedInOrder};
+ghost use Rattle.blink_map.specs.Closing.{HasHeard};
+ghost use Rattle.blink_map.specs.Places.{IsMemberOf};
+ghost use Rattle.blink_map.specs.Sessions.{IsClosedWith, IsSessionOf, seen_by};
+
+use crate::error::MapError;
+use crate::map::{Map, Session};
+use crate::member::Member;
+use atomic_table::Seat;
+use blink_index::Index;
+use blink_live::{CloseRefusal, Live, View};
+use std::alloc::Global;
+
+impl Map {
+    /// Closes the map, and returns the index of its tree, with its pages numbered anew. The entries are those that the map was
+    /// opened with, after one list of changes. The list goes on from all that each of these sessions has seen. Sessions needn't
+    /// come back.
+    ///
+    /// The call refuses with `UnderWay`, if an operation is under way in a session; then with `OutOfMemory`, if memory was refused.
+    /// The map is given up either way. The index that was opened stays as it was.
+    pub fn close(self, alloc: Global, sessions: Vec<Session>) -> Result<Index, MapError>
+        requires its_own { All (IsSessionOf self) sessions.items }
+        ensures fan { IfOk result (λ index. index.fan ≡ self.live.fan) }
+        ensures entries { IfOk result (λ index. IsClosedWith self sessions.items (map_of index)) }
+        ensures numbered { IfOk result IsNumberedInOrder }
+        ensures refused { IfErr result
+            (λ refusal. (refusal ≡ MapError.UnderWay) ⊎ (refusal ≡ MapError.OutOfMemory)) }
+    {
+        let Map {
+            live,
+            mut host,
+            places: _places,
+        } = self;
+        hear_all(&live, &mut host, sessions);
+        match live.close_common(alloc, host) {
+            Ok(index) => Ok(index),
+            Err(CloseRefusal::UnderWay) => Err(MapError::UnderWay),
+            Err(CloseRefusal::OutOfMemory) => Err(MapError::OutOfMemory),
+        }
+    }
+}
+
+// The host's seat hears what all these sessions have seen.
+fn hear_all(live: &Live, host: &mut Seat<u8, View>, mut sessions: Vec<Session>)
+    requires host { IsHost live.now host.old }
+    requires its_own { All (λ (session : Session). IsMemberOf live.now session.member) sessions.items }
+    ensures host { IsHost live.now host.new }
+    ensures heard { HasHeard sessions.items host.new }
+{
+    while let Some(session) = sessions.pop() {
+        let Session {
+            member,
+            claim: _claim,
+            place: _,
+        } = session;
+        hear(live, host, member);
+    }
+}
+
+// The host's seat hears what the member has seen.
+fn hear(live: &Live, host: &mut Seat<u8, View>, member: Member)
+    requires host { IsHost live.now host.old }
+    requires its_own { IsMemberOf live.now member }
+    ensures host { IsHost live.now host.new }
+    ensures saw { IsPrefix host.old.me.0.seen host.new.me.0.seen }
+    ensures heard { IsPrefix member.seat.me.0.seen host.new.me.0.seen }
+{
+    let Member {
+        mut seat,
+        rows: _,
+        pages: _,
+        place: _,
+    } = member;
+    live.pass_on(&mut seat, host);
+    live.host_looks_up(host);
+}

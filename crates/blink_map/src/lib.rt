@@ -1,0 +1,17 @@
+//! A map that any thread changes at any key: a B-link tree in one table of words, and sessions that threads work by.
+#![tactic(auto)]
+
+mod change;
+mod close;
+mod error;
+mod find;
+mod map;
+mod member;
+mod open;
+mod places;
+mod room;
+mod sessions;
+mod tell;
+
+pub use error::{Full, MapError};
+pub use map::{Map, Room, Session};

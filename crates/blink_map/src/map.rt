@@ -1,0 +1,40 @@
+//! The types of a map: `Map` holds the tree, and with a `Session` a thread reads and changes any key.
+ghost use Rattle.std.specs.Prelude.{◌≡◌, ◌<◌, ◌≤◌, [], ◌∷◌, None};
+ghost use Rattle.blink_live.specs.Common.{IsHost};
+ghost use Rattle.blink_map.specs.Places.{claim_of};
+
+use crate::member::Member;
+use crate::places::{Claim, RuleOfPlaces, Stand};
+use atomic_table::{Seat, Table};
+use blink_live::{Live, View};
+use std::alloc::Global;
+
+/// What a map has beside its entries: page numbers and rows for the changes to come, and places for sessions.
+#[derive(Clone, Copy)]
+pub struct Room {
+    pub pages: u32,
+    pub rows: u32,
+    pub sessions: u32,
+}
+
+/// A map from `u64` to `u64`, which any number of threads read and change without a lock, each by sessions of its own.
+#[derive(Drop)]
+pub struct Map {
+    pub(crate) live: Live,
+    pub(crate) host: Seat<u8, View>,
+    pub(crate) places: Table<Option<Member>, Claim, Stand, RuleOfPlaces, Global>,
+    ghost its_host: { IsHost live host },
+    ghost its_places: { places.shared.key.live.value ≡ live },
+    ghost words: { places.shared.table_id.words ≡ places.shared.table_id.slots },
+    ghost some_place: { 1 ≤ places.shared.table_id.slots },
+}
+
+/// The right of one thread to read and change a map. A session that is dropped costs its place, until the map is closed.
+#[derive(Drop)]
+pub struct Session {
+    pub(crate) member: Member,
+    pub(crate) claim: Seat<Option<Member>, Claim>,
+    pub(crate) place: usize,
+    ghost has_place: { claim.me ≡ (claim_of place, (place, None) ∷ []) },
+    ghost in_range: { place < claim.table_id.slots },
+}

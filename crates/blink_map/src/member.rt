@@ -1,0 +1,28 @@
+//! What a session has beside its place: a seat of the tree's table, and the rows and page numbers that it may still use.
+ghost use Rattle.std.specs.Prelude.{◌≡◌, ◌<◌, ◌≤◌, [], None};
+ghost use Rattle.blink_live.specs.declared.view.Role.TheVariants.{Pass};
+ghost use Rattle.blink_live.specs.Views.{IsCommon};
+
+use atomic_table::Seat;
+use blink_live::View;
+use blink_rows::Span;
+
+/// It rests at its place while no session has the place, and keeps what the last session left.
+#[derive(Drop)]
+pub(crate) struct Member {
+    pub seat: Seat<u8, View>,
+    pub rows: Span,
+    pub pages: Span,
+    // The number of its place in the tree's table.
+    pub place: u64,
+    ghost rows_are: { rows ≡ seat.me.0.rows },
+    ghost pages_are: { pages ≡ seat.me.0.pages },
+    ghost place_is: { (place ≡ seat.me.0.place) × (place < seat.me.0.plan.places) },
+    ghost in_order: { (rows.next ≤ rows.stop) × (pages.next ≤ pages.stop) },
+    ghost role_is: { seat.me.0.role ≡ Pass },
+    ghost common: { IsCommon seat.me.0.plan },
+    ghost no_key: { seat.me.0.share.keys ≡ [] },
+    ghost none_told: { seat.me.0.told ≡ [] },
+    ghost idle: { seat.me.0.operation ≡ None },
+    ghost no_slot: { seat.me.1 ≡ [] },
+}

@@ -1,0 +1,122 @@
+//! Opening a map over an index.
+ghost use Rattle.std.specs.Prelude.{◌≡◌, ◌⊎◌, ◌↔◌, ◌+◌, ◌++◌, ◌<◌, ◌≤◌, [], ◌∷◌, Some, replicate, IfOk, OnOk, IsErrOf, length};
+ghost use Rattle.blink_live.specs.Common.{IsHost};
+ghost use Rattle.blink_map.specs.Opening.{AreMembers, IsHostWith};
+ghost use Rattle.blink_map.specs.Places.{IsMemberOf};
+ghost use Rattle.blink_map.specs.Sessions.{IsOpenedWith, IsTooLarge};
+
+use crate::error::MapError;
+use crate::map::{Map, Room};
+use crate::member::Member;
+use crate::places::{Claim, RuleOfPlaces, Stand};
+use atomic_table::{Seat, Table};
+use blink_index::Index;
+use blink_live::{Dealt, Extent, Live, View};
+use blink_page::MAX_PAGE;
+use blink_rows::Span;
+use std::alloc::{AllocError, Global};
+use std::marker::Brand;
+use std::snapshot::Snapshot;
+
+/// The greatest number of sessions of a map.
+pub const MAX_SESSIONS: u32 = 256;
+
+impl Map {
+    /// Opens a map over the index's tree. The index stays as it is. Sessions draw the rows and page numbers of `room` from a pool.
+    ///
+    /// The call refuses with `Sessions` exactly if there are to be none or more than 256; then with `TooLarge`, before it asks for
+    /// memory, exactly if there aren't so many page numbers. It refuses with `OutOfMemory`, if memory was refused.
+    pub fn open(alloc: Global, index: &Index, room: Room) -> Result<Map, MapError>
+        ensures opened { IfOk result (IsOpenedWith index.now room) }
+        ensures sessions { IsErrOf result MapError.Sessions
+            ↔ ((room.sessions ≡ 0) ⊎ (256 < room.sessions)) }
+        ensures too_large { IsErrOf result MapError.TooLarge
+            ↔ ((1 ≤ room.sessions) × (room.sessions ≤ 256) × IsTooLarge (length index.now.pages) room) }
+    {
+        if room.sessions == 0 || room.sessions > MAX_SESSIONS {
+            return Err(MapError::Sessions);
+        }
+        if u64::from(index.page_count()) + u64::from(room.pages) > u64::from(MAX_PAGE) {
+            return Err(MapError::TooLarge);
+        }
+        let extent = Extent {
+            pages: room.pages,
+            rows: room.rows,
+            places: room.sessions,
+        };
+        let Ok((live, mut host)) = Live::open_common(alloc, index, extent) else {
+            return Err(MapError::OutOfMemory);
+        };
+        let Ok(members) = members(alloc, &live, &mut host, room.sessions) else {
+            return Err(MapError::OutOfMemory);
+        };
+        let Ok(words) = zeros(alloc, room.sessions) else {
+            return Err(MapError::OutOfMemory);
+        };
+        let stand = Stand {
+            live: Snapshot::of(&live),
+        };
+        let Ok((places, _first)) = Table::<Option<Member>, Claim, Stand, RuleOfPlaces, Global>::new(
+            alloc, &words, members, &stand,
+        ) else {
+            return Err(MapError::OutOfMemory);
+        };
+        Ok(Map { live, host, places })
+    }
+}
+
+// Deals the members of all places. None has a row or a page number yet.
+fn members(
+    alloc: Global,
+    live: &Live,
+    host: &mut Seat<u8, View>,
+    sessions: u32,
+) -> Result<Vec<Option<Member>>, AllocError>
+    requires host { IsHostWith live.now host.old 0 }
+    requires places { live.now.places ≡ sessions }
+    ensures host { IsHost live.now host.new }
+    ensures members { IfOk result (λ members. AreMembers live.now sessions members.items) }
+{
+    let mut members = Vec::with_capacity(alloc, sessions as usize)?;
+    for place in 0..u64::from(sessions) {
+        let member = admit::<Brand>(live, host, place);
+        let Ok(()) = push(&mut members, member) else {
+            return Err(AllocError);
+        };
+    }
+    Ok(members)
+}
+
+// So many words of free places.
+fn zeros(alloc: Global, count: u32) -> Result<Vec<u64>, AllocError>
+    ensures { IfOk result (λ words. words.items ≡ replicate count 0) }
+{
+    vec![in alloc; 0u64; count as usize]
+}
+
+// Adds a member at the end.
+fn push(members: &mut Vec<Option<Member>>, member: Member) -> Result<(), AllocError>
+    ensures { OnOk result (members.new.items ≡ members.old.items ++ Some member ∷ []) }
+{
+    match members.push(Some(member)) {
+        Ok(()) => Ok(()),
+        Err(_) => Err(AllocError),
+    }
+}
+
+// Deals one more member, of the next place.
+fn admit<B: Dealt>(live: &Live, host: &mut Seat<u8, View>, place: u64) -> Member
+    requires host { IsHostWith live.now host.old place }
+    requires picked { ([] ≡ B.keys) × ([] ≡ B.taken) × (0 ≡ B.rows) × (0 ≡ B.pages) }
+    requires in_range { place < live.now.places }
+    ensures host { IsHostWith live.now host.new (place + 1) }
+    ensures member { IsMemberOf live.now result }
+{
+    let seat = live.split::<B>(host, &[], &[], 0, 0);
+    Member {
+        seat,
+        rows: Span { next: 1, stop: 1 },
+        pages: Span { next: 1, stop: 1 },
+        place,
+    }
+}
