@@ -9,7 +9,7 @@ work=$(mktemp -d) || exit 1
 trap 'rm -rf "$work"' EXIT
 
 documents="README.md docs/*.md bench/README.md examples/README.md crates/*/README.md"
-most_words=25000
+most_words=24000
 
 # Names of code that were renamed, and words of prose that the field has others for.
 old='IsSound|Sound|SoundRun|SoundTree|SoundStatements|StepKeepsSound|TurnKeepsSoundRun|sound'
@@ -31,7 +31,9 @@ done >"$work/found"
 # Every .md file, without what a build leaves; of each the lines outside code blocks.
 find . \( -name .git -o -name out \) -prune -o -name '*.md' -print | sed 's|^\./||' | sort >"$work/pages"
 
-words=$(xargs awk '{ words += NF } END { print words }' <"$work/pages")
+# Tables that a benchmark has written aren't read word by word.
+words=$(xargs awk '/^<!-- begin of what/ { table = 1 } { if (!table) words += NF } /^<!-- end of what/ { table = 0 } END { print words }' \
+    <"$work/pages")
 [ "$words" -lt $most_words ] || echo "all documents have $words words, and $most_words are too many" >>"$work/found"
 
 prose() {
