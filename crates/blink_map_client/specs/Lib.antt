@@ -1,0 +1,6 @@
+-- What a caller of `blink_map_client` reads, in this order; then the files themselves.
+
+-- what was shown
+pub use Rattle.blink_map_client.specs.Shown.{IsShown}
+-- ---- the files
+pub mod Shown

@@ -1,0 +1,9 @@
+-- What was shown.
+use Rattle.std.specs.Prelude.{◌≡◌, ℕ, Option, Some, None, List, [], ◌∷◌, ◌++◌}
+use Rattle.blink_live.specs.declared.view.Change.{Change}
+use Rattle.blink_live.specs.{states_of}
+
+-- nothing; or the pointer, unless among the changes that the session has seen a later one of the key stands behind the insertion
+abbrev pub IsShown : List Change → ℕ → ℕ → Option (Option ℕ) → Type 0
+IsShown seen key pointer None = Unit {0}
+IsShown seen key pointer (Some shown) = (before : List Change) × (later : List Change) × (seen ≡ (before ++ record { key = key; pointer = Some pointer } ∷ []) ++ later) × (states_of key later ≡ [] → shown ≡ Some pointer)

@@ -1,0 +1,7 @@
+//! Tests of the calls that `blink_map` offers.
+#![tactic(auto)]
+
+#[cfg(test)]
+mod sessions;
+#[cfg(test)]
+mod shared;

@@ -1,0 +1,81 @@
+//! What sessions of one map see of each other.
+use crate::shared::Two;
+use blink_batch::Answer;
+use blink_index::Index;
+use blink_map::{Full, Map, MapError, Room};
+use std::process::Abort;
+
+#[test]
+fn sessions_change_one_key(rt: HostRuntime) {
+    let alloc = rt.alloc();
+    let mut two = Two::open(&rt, alloc, 200, 2000);
+    assert_eq!(&rt; two.insert(&rt, 7, 70), Ok(Answer::Inserted));
+    assert_eq!(&rt; two.find(7), Some(70));
+    let mut two = two.turn();
+    assert_eq!(&rt; two.insert(&rt, 7, 71), Ok(Answer::Exists(70)));
+    assert_eq!(&rt; two.replace(&rt, 7, 72), Ok(Answer::Replaced(70)));
+    let mut two = two.turn();
+    two.tell();
+    assert_eq!(&rt; two.find(7), Some(72));
+    assert_eq!(&rt; two.delete(&rt, 7), Ok(Answer::Removed(72)));
+    assert_eq!(&rt; two.delete(&rt, 7), Ok(Answer::Absent));
+    assert_eq!(&rt; two.replace(&rt, 7, 1), Ok(Answer::Absent));
+    assert_eq!(&rt; two.find(7), None);
+}
+
+#[test]
+fn what_sessions_inserted_is_in_the_index(rt: HostRuntime) {
+    let alloc = rt.alloc();
+    let mut two = Two::open(&rt, alloc, 2000, 4000);
+    for key in 0..300u64 {
+        assert_eq!(&rt; two.insert(&rt, key * 37 % 301, key), Ok(Answer::Inserted));
+        two = two.turn();
+    }
+    let index = two.close(alloc).expect(&rt, "not closed");
+    let mut two = Two::over(&rt, alloc, &index, 0, 0);
+    for key in 0..300u64 {
+        assert_eq!(&rt; two.find(key * 37 % 301), Some(key));
+    }
+    assert_eq!(&rt; two.insert(&rt, 1000, 1), Err(Full));
+}
+
+#[test]
+fn a_third_session_finds_no_place(rt: HostRuntime) {
+    let alloc = rt.alloc();
+    let two = Two::open(&rt, alloc, 200, 2000);
+    assert_eq!(&rt; two.refusal(), Some(MapError::NoPlace));
+    let mut two = two.leave_and_join(&rt);
+    assert_eq!(&rt; two.refusal(), Some(MapError::NoPlace));
+    assert_eq!(&rt; two.insert(&rt, 1, 2), Ok(Answer::Inserted));
+}
+
+#[test]
+fn a_small_pool_is_used_up(rt: HostRuntime) {
+    let alloc = rt.alloc();
+    let mut two = Two::open(&rt, alloc, 22, 44);
+    assert_eq!(&rt; two.insert(&rt, 1, 10), Ok(Answer::Inserted));
+    assert_eq!(&rt; two.insert(&rt, 2, 20), Err(Full));
+    assert_eq!(&rt; two.delete(&rt, 1), Ok(Answer::Removed(10)));
+    let mut two = two.turn();
+    assert_eq!(&rt; two.delete(&rt, 1), Err(Full));
+    assert_eq!(&rt; two.find(1), None);
+}
+
+#[test]
+fn rooms_are_refused(rt: HostRuntime) {
+    let alloc = rt.alloc();
+    let index = Index::new(alloc, 4).expect(&rt, "no index");
+    for (pages, sessions, expected) in [
+        (0, 0, MapError::Sessions),
+        (0, 257, MapError::Sessions),
+        (1_048_575, 1, MapError::TooLarge),
+        (u32::MAX, 256, MapError::TooLarge),
+    ] {
+        let room = Room {
+            pages,
+            rows: 0,
+            sessions,
+        };
+        assert_eq!(&rt; Map::open(alloc, &index, room).err(), Some(expected));
+    }
+}
