@@ -7,8 +7,9 @@
 # - `blink run` on a script of 40,000 rows in ten batches with a scan after each, against a program on a BTreeMap (beside/src/script.rs)
 # - ways to search the entries of one page
 #
-# It proves and builds the program first, over copies of the crates that take along what checks of them kept in out/, which takes two to
-# five minutes; where nothing was kept, each is proved from nothing first, which takes far longer. It needs cargo and out/libblink.a too.
+# It proves and builds the program first, over copies of the crates that take along what checks of them kept in out/, which takes some
+# twelve processor minutes; where nothing was kept, each is proved from nothing first, which takes far longer. It needs cargo and
+# out/libblink.a too.
 # Run it while no check runs, on a machine that has little else to do.
 set -eu
 here=$(cd "$(dirname "$0")" && pwd)
