@@ -143,8 +143,8 @@ nothing_of line to_read before between stays read written known known_before =
 -- what was written before the flush
 prefix_written : (line : Line) (to_read before between : Option (List ℕ)) (outcome : Result (Option PlainStore) ServeError) → (outcome ≡ Err serve.Output → ⊥) → OnOk outcome (Writes line to_read (append_known before []) between)
     → IfErr outcome (λ error. Leaves line to_read error (append_known before []) between) → (read written : List ℕ) → to_read ≡ Some read → before ≡ Some written → PrefixWritten line (records_of read) written between
-prefix_written (Run settings) to_read before between (Ok done) not_output writes left = whole_of (Run settings) to_read before between writes
-prefix_written (Replay settings schedule) to_read before between (Ok done) not_output writes left = whole_of (Replay settings schedule) to_read before between writes
+prefix_written (Run settings) to_read before between (Ok index) not_output writes left = whole_of (Run settings) to_read before between writes
+prefix_written (Replay settings schedule) to_read before between (Ok index) not_output writes left = whole_of (Replay settings schedule) to_read before between writes
 prefix_written (Run settings) to_read before between (Err (serve.Script error)) not_output writes left = nothing_of (Run settings) to_read before between left
 prefix_written (Run settings) to_read before between (Err (serve.Run number error)) not_output writes left = λ read written known known_before.
     let wrote = left read written known (with_nothing before ∙ known_before) in
@@ -180,5 +180,5 @@ module _ (line : Line) (to_read before after : Option (List ℕ)) (begins : Begi
     refusals_left keeps = by_outcome outcome not_output left
       where
         by_outcome : (r : Result (Option PlainStore) ServeError) → (r ≡ Err serve.Output → ⊥) → IfErr r (λ error. Leaves line to_read error (append_known before []) between) → IfErr r (λ error. LetsOut line to_read error before after)
-        by_outcome (Ok done) not_output left = tt
+        by_outcome (Ok index) not_output left = tt
         by_outcome (Err error) not_output left = refusal_left before between after keeps line to_read error (λ same. not_output (ap Err same)) left

@@ -63,7 +63,7 @@ LetsOut line to_read serve.OutOfMemory before after = Leaves line to_read serve.
 
 -- nothing is left in the buffer, unless the writer failed
 abbrev pub HasLeft : Result (Option PlainStore) ServeError → List ℕ → Type 0
-HasLeft (Ok done) buffer = buffer ≡ []
+HasLeft (Ok index) buffer = buffer ≡ []
 HasLeft (Err (serve.Script error)) buffer = buffer ≡ []
 HasLeft (Err (serve.Run number error)) buffer = buffer ≡ []
 HasLeft (Err (serve.Step error)) buffer = buffer ≡ []
