@@ -2,3 +2,4 @@ mod PlacesKept
 mod ChangesOfMembers
 mod HeardAll
 mod MembersDealt
+mod PutsAreChanges

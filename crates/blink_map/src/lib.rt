@@ -9,6 +9,7 @@ mod map;
 mod member;
 mod open;
 mod places;
+mod put;
 mod room;
 mod sessions;
 mod tell;
