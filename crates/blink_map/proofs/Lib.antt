@@ -3,3 +3,4 @@ mod ChangesOfMembers
 mod HeardAll
 mod MembersDealt
 mod PutsAreChanges
+mod HostRests

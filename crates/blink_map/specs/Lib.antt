@@ -8,6 +8,7 @@ pub use Rattle.blink_map.specs.Putting.{HasTried, IsPut}
 pub use Rattle.blink_map.specs.Codes.{code_of}
 -- ---- the files
 pub mod Codes
+pub mod Hosting
 pub mod Finding
 pub mod Changing
 pub mod Telling

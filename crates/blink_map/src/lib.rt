@@ -10,6 +10,7 @@ mod member;
 mod open;
 mod places;
 mod put;
+mod rest;
 mod room;
 mod sessions;
 mod tell;
