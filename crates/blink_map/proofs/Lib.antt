@@ -2,3 +2,5 @@ mod PlacesKept
 mod ChangesOfMembers
 mod HeardAll
 mod MembersDealt
+mod PutsAreChanges
+mod HostRests

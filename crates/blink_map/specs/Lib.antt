@@ -2,14 +2,18 @@
 
 -- a map and its sessions
 pub use Rattle.blink_map.specs.Sessions.{HasRoom, IsAnswered, IsClosedWith, IsOpenedWith, IsTooLarge, IsSameBesideRoom, IsSameBesideSeen, IsSameSession, IsSessionOf, LacksRoom, made_by, opening_of, seen_by}
+-- an entry that is put
+pub use Rattle.blink_map.specs.Putting.{HasTried, IsPut}
 -- the code of each refusal
 pub use Rattle.blink_map.specs.Codes.{code_of}
 -- ---- the files
 pub mod Codes
+pub mod Hosting
 pub mod Finding
 pub mod Changing
 pub mod Telling
 pub mod Closing
 pub mod Opening
+pub mod Putting
 pub mod Places
 pub mod Sessions

@@ -11,6 +11,7 @@ ghost use Rattle.blink_map.specs.Sessions.{IsClosedWith, IsSessionOf, seen_by};
 use crate::error::MapError;
 use crate::map::{Map, Session};
 use crate::member::Member;
+use crate::rest::take_host;
 use atomic_table::Seat;
 use blink_index::Index;
 use blink_live::{CloseRefusal, Live, View};
@@ -33,9 +34,10 @@ impl Map {
     {
         let Map {
             live,
-            mut host,
+            host,
             places: _places,
         } = self;
+        let mut host = take_host(host);
         hear_all(&live, &mut host, sessions);
         match live.close_common(alloc, host) {
             Ok(index) => Ok(index),

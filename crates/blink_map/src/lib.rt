@@ -9,6 +9,8 @@ mod map;
 mod member;
 mod open;
 mod places;
+mod put;
+mod rest;
 mod room;
 mod sessions;
 mod tell;

@@ -1,10 +1,10 @@
 //! The types of a map: `Map` holds the tree, and with a `Session` a thread reads and changes any key.
 ghost use Rattle.std.specs.Prelude.{◌≡◌, ◌<◌, ◌≤◌, [], ◌∷◌, None};
-ghost use Rattle.blink_live.specs.Common.{IsHost};
 ghost use Rattle.blink_map.specs.Places.{claim_of};
 
 use crate::member::Member;
 use crate::places::{Claim, RuleOfPlaces, Stand};
+use crate::rest::RuleOfHost;
 use atomic_table::{Seat, Table};
 use blink_live::{Live, View};
 use std::alloc::Global;
@@ -21,9 +21,10 @@ pub struct Room {
 #[derive(Drop)]
 pub struct Map {
     pub(crate) live: Live,
-    pub(crate) host: Seat<u8, View>,
+    pub(crate) host: Table<Seat<u8, View>, Claim, Stand, RuleOfHost, Global>,
     pub(crate) places: Table<Option<Member>, Claim, Stand, RuleOfPlaces, Global>,
-    ghost its_host: { IsHost live host },
+    ghost its_host: { (host.shared.table_id.slots ≡ 1) × (host.shared.key.live.value ≡ live) },
+    ghost common: { 1 ≤ live.places },
     ghost its_places: { places.shared.key.live.value ≡ live },
     ghost words: { places.shared.table_id.words ≡ places.shared.table_id.slots },
     ghost some_place: { 1 ≤ places.shared.table_id.slots },

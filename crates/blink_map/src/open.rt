@@ -9,6 +9,7 @@ use crate::error::MapError;
 use crate::map::{Map, Room};
 use crate::member::Member;
 use crate::places::{Claim, RuleOfPlaces, Stand};
+use crate::rest::lay_host;
 use atomic_table::{Seat, Table};
 use blink_index::Index;
 use blink_live::{Dealt, Extent, Live, View};
@@ -59,6 +60,9 @@ impl Map {
         let Ok((places, _first)) = Table::<Option<Member>, Claim, Stand, RuleOfPlaces, Global>::new(
             alloc, &words, members, &stand,
         ) else {
+            return Err(MapError::OutOfMemory);
+        };
+        let Ok(host) = lay_host(alloc, &stand, host) else {
             return Err(MapError::OutOfMemory);
         };
         Ok(Map { live, host, places })

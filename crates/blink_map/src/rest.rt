@@ -1,0 +1,50 @@
+//! The rest of the host's seat while a map is open: a table of its own, since threads can't share a seat.
+ghost use Rattle.std.specs.Prelude.{◌≡◌, IfOk};
+ghost use Rattle.blink_live.specs.Common.{IsHost};
+
+use crate::places::{Claim, Stand};
+use atomic_table::{Seat, Table, TableRule};
+use blink_live::View;
+use std::alloc::{AllocError, Global};
+
+/// The rule of the host's table: its seat is in the one slot.
+pub(crate) struct RuleOfHost;
+
+impl TableRule<Seat<u8, View>, Claim, Stand> for RuleOfHost {
+    ghost use Rattle.blink_map.specs.Hosting.{HoldsHost};
+    ghost use Rattle.blink_map.specs.Places.{no_claim};
+
+    ghost holds = { λ stand. HoldsHost stand.live.value };
+
+    ghost first = { λ stand. no_claim };
+}
+
+// Lays the host's seat to rest.
+pub(crate) fn lay_host(
+    alloc: Global,
+    stand: &Stand,
+    host: Seat<u8, View>,
+) -> Result<Table<Seat<u8, View>, Claim, Stand, RuleOfHost, Global>, AllocError>
+    requires host { IsHost stand.now.live.value host }
+    ensures { IfOk result (λ rest. (rest.shared.table_id.slots ≡ 1) × (rest.shared.key ≡ stand.now)) }
+{
+    let mut slots = Vec::with_capacity(alloc, 1)?;
+    slots.push_reserved(host);
+    match Table::<Seat<u8, View>, Claim, Stand, RuleOfHost, Global>::new(alloc, &[], slots, stand) {
+        Ok((rest, _first)) => Ok(rest),
+        Err(_) => Err(AllocError),
+    }
+}
+
+// Takes the host's seat back.
+pub(crate) fn take_host(
+    rest: Table<Seat<u8, View>, Claim, Stand, RuleOfHost, Global>,
+) -> Seat<u8, View>
+    requires slot { rest.shared.table_id.slots ≡ 1 }
+    ensures { IsHost rest.shared.key.live.value result }
+{
+    let mut closed = rest.close();
+    let host = closed.take(0);
+    closed.free();
+    host
+}
