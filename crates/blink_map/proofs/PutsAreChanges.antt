@@ -12,7 +12,7 @@ use Rattle.blink_live.proofs.Offered.{prefix_of_prefix}
 use Rattle.blink_map.specs.declared.map.Map.{Map}
 use Rattle.blink_map.specs.declared.map.Session.{Session}
 use Rattle.blink_map.specs.Putting.{HasTried, IsPut}
-use Rattle.blink_map.specs.Sessions.{IsAnswered, IsSameBesideRoom, IsSameMember, IsSessionOf, made_by, opening_of, seen_by}
+use Rattle.blink_map.specs.Sessions.{IsAnswered, IsSameBesideRoom, IsSessionOf, made_by, opening_of, seen_by}
 
 abbrev change_to : ℕ → ℕ → Change
 change_to key pointer = record { key = key; pointer = Some pointer }

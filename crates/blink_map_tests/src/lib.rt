@@ -5,3 +5,5 @@
 mod sessions;
 #[cfg(test)]
 mod shared;
+#[cfg(test)]
+mod threads;
