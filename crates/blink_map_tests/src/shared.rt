@@ -26,7 +26,13 @@ impl Two {
         Two::over(rt, alloc, &index, pages, rows)
     }
 
-    pub(crate) fn over(rt: &impl Abort, alloc: Global, index: &Index, pages: u32, rows: u32) -> Two {
+    pub(crate) fn over(
+        rt: &impl Abort,
+        alloc: Global,
+        index: &Index,
+        pages: u32,
+        rows: u32,
+    ) -> Two {
         let room = Room {
             pages,
             rows,
@@ -38,7 +44,12 @@ impl Two {
         Two { map, one, other }
     }
 
-    pub(crate) fn insert<R: Wait>(&mut self, rt: &R, key: u64, pointer: u64) -> Result<Answer, Full> {
+    pub(crate) fn insert<R: Wait>(
+        &mut self,
+        rt: &R,
+        key: u64,
+        pointer: u64,
+    ) -> Result<Answer, Full> {
         let Two { map, one, other: _ } = self;
         map.insert(rt, one, key, pointer)
     }
@@ -48,7 +59,12 @@ impl Two {
         map.delete(rt, one, key)
     }
 
-    pub(crate) fn replace<R: Wait>(&mut self, rt: &R, key: u64, pointer: u64) -> Result<Answer, Full> {
+    pub(crate) fn replace<R: Wait>(
+        &mut self,
+        rt: &R,
+        key: u64,
+        pointer: u64,
+    ) -> Result<Answer, Full> {
         let Two { map, one, other: _ } = self;
         map.replace(rt, one, key, pointer)
     }

@@ -10,6 +10,7 @@ use std::thread::{self, Threads};
 
 // The keys that all threads change, and how many operations each thread does.
 const KEYS: u64 = 61;
+
 const TURNS: u64 = 30_000;
 
 // How many operations were answered so, of all threads.
@@ -91,14 +92,18 @@ fn run_two<R: Threads + Wait + Sync>(
             requires other { IsSessionOf map.now other }
         {
             let first = scope
-                .spawn(move || -> bool
-                    requires one { IsSessionOf map.now one }
-                { work(rt, map, one, counts, 7) })
+                .spawn(
+                    move || -> bool
+                        requires one { IsSessionOf map.now one }
+                    { work(rt, map, one, counts, 7) },
+                )
                 .is_ok();
             let second = scope
-                .spawn(move || -> bool
-                    requires other { IsSessionOf map.now other }
-                { work(rt, map, other, counts, 11) })
+                .spawn(
+                    move || -> bool
+                        requires other { IsSessionOf map.now other }
+                    { work(rt, map, other, counts, 11) },
+                )
                 .is_ok();
             first && second
         },
