@@ -4,8 +4,8 @@
 #
 #     build.sh CRATE NAME             a program as crates/CRATE/out/CRATE, a static library as libCRATE.a there, another library as
 #                                     rlib/CRATE.rlib there; NAME is what the lines begin with
-#     build.sh --after-ci CRATE NAME  the same over the libraries that `rt ci` left, so that CRATE alone is proved; where one of them
-#                                     isn't there, or is older than its sources, as without the word
+#     build.sh --after-ci CRATE NAME  the same over the libraries that `rt ci` left, which has just passed here with the same sources, so that
+#                                     CRATE alone is proved; where one of them isn't there, as without the word
 #
 # It calls `rattle` and not `rt lib`, for one flag: with --statements a library holds what it states and not its proofs, as under `rt ci`,
 # and what stands above it loads a fraction.
@@ -181,11 +181,10 @@ stop() {
     kill "$1" 2>/dev/null || true
 }
 
-# Whether each library below a crate is there, and no source of it is newer.
+# Whether each library below a crate is there. Their times say nothing: what `rt ci` kept from an earlier run is older than a new clone.
 is_proved_below() {
     for it in $(all_below "$1"); do
-        if [ ! -e "$it/out/rlib/$it.rlib/format" ] ||
-            [ -n "$(find "$it/src" "$it/specs" "$it/proofs" -type f -newer "$it/out/rlib/$it.rlib/format" 2>/dev/null | head -n 1)" ]; then
+        if [ ! -e "$it/out/rlib/$it.rlib/format" ]; then
             return 1
         fi
     done
