@@ -552,54 +552,50 @@ def row():
     picture.save("row.svg")
 
 
-def prefixes():
-    picture = Picture(640, 252)
-    changes = [("5 → 50", "by B"), ("7 → 70", "by C"), ("9 → 90", "by B"), ("5 is gone", "by B"), ("7 → 71", "by C")]
-    left, wide = 110, 92
+# ---- lists of changes, and what has been seen of them
+
+LIST_LEFT, CHANGE_WIDTH = 110, 92
+
+
+def list_of_changes(picture, changes):
     picture.text(14, 46, "the list", anchor="start", bold=True)
     for at, (what, by) in enumerate(changes):
-        picture.box(left + at * wide, 22, wide, 40, fill=HEAD)
-        picture.text(left + at * wide + wide / 2, 39, what, bold=True)
-        picture.text(left + at * wide + wide / 2, 55, by, size=10.5, fill=SOFT)
-    picture.line([(left + 5 * wide + 4, 42), (left + 5 * wide + 40, 42)], arrow=True, stroke=SOFT)
+        left = LIST_LEFT + at * CHANGE_WIDTH
+        picture.box(left, 22, CHANGE_WIDTH, 40, fill=HEAD)
+        picture.text(left + CHANGE_WIDTH / 2, 39, what, bold=True)
+        picture.text(left + CHANGE_WIDTH / 2, 55, by, size=10.5, fill=SOFT)
+    end = LIST_LEFT + len(changes) * CHANGE_WIDTH
+    picture.line([(end + 4, 42), (end + 40, 42)], arrow=True, stroke=SOFT)
 
-    def bracket(y, name, count, words, stroke):
-        end = left + count * wide
-        picture.text(14, y + 5, name, anchor="start", bold=True, fill=stroke)
-        picture.line([(left + 3, y - 8), (left + 3, y + 1), (end - 3, y + 1), (end - 3, y - 8)], stroke=stroke, width=2)
-        picture.text(left + 6, y + 17, words, size=11, fill=SOFT, anchor="start")
 
-    bracket(88, "A has seen", 2, "glance at 5: 50", RED)
-    bracket(134, "B has seen", 4, "glance at 5: none; glance at 7: 70", BLUE)
+def bracket(picture, y, name, count, words, stroke, own=None):
+    """What somebody has seen: so many changes. A dot marks the own change at this place."""
+    end = LIST_LEFT + count * CHANGE_WIDTH
+    picture.text(14, y + 5, name, anchor="start", bold=True, fill=stroke)
+    picture.line([(LIST_LEFT + 3, y - 8), (LIST_LEFT + 3, y + 1), (end - 3, y + 1), (end - 3, y - 8)], stroke=stroke, width=2)
+    if own is not None:
+        picture.dot(LIST_LEFT + own * CHANGE_WIDTH + CHANGE_WIDTH / 2, y + 1, radius=4, fill=stroke)
+    picture.text(LIST_LEFT + 6, y + 17, words, size=11, fill=SOFT, anchor="start")
+
+
+def prefixes():
+    picture = Picture(640, 252)
+    list_of_changes(picture, [("5 → 50", "by B"), ("7 → 70", "by C"), ("9 → 90", "by B"), ("5 is gone", "by B"), ("7 → 71", "by C")])
+    bracket(picture, 88, "A has seen", 2, "glance at 5: 50", RED)
+    bracket(picture, 134, "B has seen", 4, "glance at 5: none; glance at 7: 70", BLUE)
     picture.line([(14, 166), (626, 166)], stroke="#d5d9dc", width=1)
-    picture.text(left + 6, 184, "B tells A", size=12, anchor="start", bold=True)
-    bracket(212, "A has seen", 4, "at least what B had seen, and nothing less than before", RED)
+    picture.text(LIST_LEFT + 6, 184, "B tells A", size=12, anchor="start", bold=True)
+    bracket(picture, 212, "A has seen", 4, "at least what B had seen, and nothing less than before", RED)
     picture.save("prefixes.svg")
 
 
 def one_list():
     picture = Picture(640, 244)
-    changes = [("7 → 70", "by A"), ("9 → 90", "by B"), ("7 → 71", "by B"), ("9 is gone", "by A"), ("5 → 50", "by C")]
-    left, wide = 110, 92
-    picture.text(14, 46, "the list", anchor="start", bold=True)
-    for at, (what, by) in enumerate(changes):
-        picture.box(left + at * wide, 22, wide, 40, fill=HEAD)
-        picture.text(left + at * wide + wide / 2, 39, what, bold=True)
-        picture.text(left + at * wide + wide / 2, 55, by, size=10.5, fill=SOFT)
-    picture.line([(left + 5 * wide + 4, 42), (left + 5 * wide + 40, 42)], arrow=True, stroke=SOFT)
-
-    def bracket(y, name, count, words, stroke, own=None):
-        end = left + count * wide
-        picture.text(14, y + 5, name, anchor="start", bold=True, fill=stroke)
-        picture.line([(left + 3, y - 8), (left + 3, y + 1), (end - 3, y + 1), (end - 3, y - 8)], stroke=stroke, width=2)
-        if own is not None:
-            picture.dot(left + own * wide + wide / 2, y + 1, radius=4, fill=stroke)
-        picture.text(left + 6, y + 17, words, size=11, fill=SOFT, anchor="start")
-
-    bracket(88, "A, before", 3, "what A has seen when it deletes 9", RED)
-    bracket(134, "A, then", 4, "answered: removed 90, since the list before says so; its change follows at once", RED, own=3)
-    bracket(182, "B", 3, "B's replacement of 7 answered: replaced 70", BLUE, own=2)
-    picture.text(left + 6, 228, "After the list so far the map is 5 → 50, 7 → 71: of each key what its last change says.", size=11, fill=SOFT, anchor="start")
+    list_of_changes(picture, [("7 → 70", "by A"), ("9 → 90", "by B"), ("7 → 71", "by B"), ("9 is gone", "by A"), ("5 → 50", "by C")])
+    bracket(picture, 88, "A, before", 3, "what A has seen when it deletes 9", RED)
+    bracket(picture, 134, "A, then", 4, "answered: removed 90, since the list before says so; its change follows at once", RED, own=3)
+    bracket(picture, 182, "B", 3, "B's replacement of 7 answered: replaced 70", BLUE, own=2)
+    picture.text(LIST_LEFT + 6, 228, "After the list so far the map is 5 → 50, 7 → 71: of each key what its last change says.", size=11, fill=SOFT, anchor="start")
     picture.save("one-list.svg")
 
 
