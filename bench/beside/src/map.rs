@@ -61,15 +61,6 @@ impl Handle for &Map {
     fn find(&mut self, key: u64) -> Option<u64> {
         self.get(&key).copied()
     }
-    fn insert(&mut self, _: u64, _: u64) -> bool {
-        unreachable!()
-    }
-    fn delete(&mut self, _: u64) -> Option<u64> {
-        unreachable!()
-    }
-    fn replace(&mut self, _: u64, _: u64) -> Option<u64> {
-        unreachable!()
-    }
     fn scan(&mut self, from: u64, count: usize) -> u64 {
         scan(self, from, count)
     }

@@ -28,15 +28,6 @@ impl<const FAN: u8> Handle for &mut ByIndex<FAN> {
     fn find(&mut self, key: u64) -> Option<u64> {
         self.index.find(key)
     }
-    fn insert(&mut self, _: u64, _: u64) -> bool {
-        unreachable!()
-    }
-    fn delete(&mut self, _: u64) -> Option<u64> {
-        unreachable!()
-    }
-    fn replace(&mut self, _: u64, _: u64) -> Option<u64> {
-        unreachable!()
-    }
     fn scan(&mut self, from: u64, count: usize) -> u64 {
         let scan = self.index.scan(from..).take(count);
         scan.fold(0, |sum, entry| sum.wrapping_add(entry.key ^ entry.pointer))
@@ -126,9 +117,6 @@ impl Handle for Own {
     fn replace(&mut self, key: u64, pointer: u64) -> Option<u64> {
         self.0.replace(key, pointer).ok()?.pointer()
     }
-    fn scan(&mut self, _: u64, _: usize) -> u64 {
-        unreachable!()
-    }
 }
 
 // A thread's pass that has no keys, and glances at all.
@@ -137,18 +125,6 @@ struct Any(Pass);
 impl Handle for Any {
     fn find(&mut self, key: u64) -> Option<u64> {
         self.0.glance(key)
-    }
-    fn insert(&mut self, _: u64, _: u64) -> bool {
-        unreachable!()
-    }
-    fn delete(&mut self, _: u64) -> Option<u64> {
-        unreachable!()
-    }
-    fn replace(&mut self, _: u64, _: u64) -> Option<u64> {
-        unreachable!()
-    }
-    fn scan(&mut self, _: u64, _: usize) -> u64 {
-        unreachable!()
     }
 }
 

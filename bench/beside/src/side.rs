@@ -10,12 +10,20 @@ use std::time::Instant;
 /// What one thread calls. An answer is the pointer that was found, removed or replaced, where the key was there.
 pub trait Handle: Send {
     fn find(&mut self, key: u64) -> Option<u64>;
-    /// Whether the key was new.
-    fn insert(&mut self, key: u64, pointer: u64) -> bool;
-    fn delete(&mut self, key: u64) -> Option<u64>;
-    fn replace(&mut self, key: u64, pointer: u64) -> Option<u64>;
-    /// The sum of `key ^ pointer` of so many entries from a key on.
-    fn scan(&mut self, from: u64, count: usize) -> u64;
+    /// Whether the key was new. A handle that only looks up has none of the calls that change, and nobody asks it for one.
+    fn insert(&mut self, _key: u64, _pointer: u64) -> bool {
+        unreachable!()
+    }
+    fn delete(&mut self, _key: u64) -> Option<u64> {
+        unreachable!()
+    }
+    fn replace(&mut self, _key: u64, _pointer: u64) -> Option<u64> {
+        unreachable!()
+    }
+    /// The sum of `key ^ pointer` of so many entries from a key on, where the side has scans.
+    fn scan(&mut self, _from: u64, _count: usize) -> u64 {
+        unreachable!()
+    }
     /// Looks keys up by one call, where there is such a call. The sum of what was found.
     fn find_many(&mut self, keys: &[Step]) -> u64 {
         keys.iter().fold(0, |sum, step| sum.wrapping_add(self.find(step.key).unwrap_or(ABSENT)))
