@@ -49,8 +49,9 @@ impl Live {
         requires common { 1 ≤ self.now.places }
         requires counts { (1 ≤ least) × (least ≤ most) }
         ensures same { HasSameNumber seat.old seat.new }
-        ensures drawn { IfSome result (λ rows. (seat.new.me ≡ (has_rows seat.old.me.0 rows, seat.old.me.1))
-            × (rows.next + least ≤ rows.stop)) }
+        ensures drawn { IfSome result (λ rows.
+            seat.new.me ≡ (has_rows seat.old.me.0 rows, seat.old.me.1)) }
+        ensures enough { IfSome result (λ rows. rows.next + least ≤ rows.stop) }
         ensures none { IfNone result (seat.new.me ≡ seat.old.me) }
     {
         let word = word_count(&self.counts) + POOL_ROW;
@@ -90,8 +91,9 @@ impl Live {
         requires common { 1 ≤ self.now.places }
         requires counts { (1 ≤ least) × (least ≤ most) }
         ensures same { HasSameNumber seat.old seat.new }
-        ensures drawn { IfSome result (λ pages. (seat.new.me ≡ (has_pages seat.old.me.0 pages, seat.old.me.1))
-            × (pages.next + least ≤ pages.stop)) }
+        ensures drawn { IfSome result (λ pages.
+            seat.new.me ≡ (has_pages seat.old.me.0 pages, seat.old.me.1)) }
+        ensures enough { IfSome result (λ pages. pages.next + least ≤ pages.stop) }
         ensures none { IfNone result (seat.new.me ≡ seat.old.me) }
     {
         // Read for the proof: there are few numbers and rows.

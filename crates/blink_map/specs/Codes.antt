@@ -4,8 +4,8 @@ use Rattle.blink_map.specs.declared.error.MapError.{MapError}
 use Rattle.blink_map.specs.declared.error.MapError.TheVariants.{OutOfMemory, TooLarge, Sessions, NoPlace, UnderWay}
 
 abbrev pub code_of : MapError → ℕ
-code_of OutOfMemory = 60
-code_of TooLarge = 61
-code_of Sessions = 62
-code_of NoPlace = 63
-code_of UnderWay = 64
+code_of OutOfMemory = 100
+code_of TooLarge = 101
+code_of Sessions = 102
+code_of NoPlace = 103
+code_of UnderWay = 104

@@ -1,5 +1,5 @@
 -- A map and its sessions, as contracts see them.
-use Rattle.std.specs.Prelude.{◌≡◌, ℕ, ◌+◌, ◌≤◌, ◌<◌, List, ◌++◌, length, All}
+use Rattle.std.specs.Prelude.{◌≡◌, ℕ, ◌+◌, ◌≤◌, ◌<◌, Option, List, ◌++◌, length, All}
 use mathlib.Core.List.{IsPrefix}
 use Rattle.blink_batch.specs.declared.Answer.{Answer}
 use Rattle.blink_batch.specs.declared.Entry.{Entry}
@@ -9,6 +9,7 @@ use Rattle.blink_index.specs.{map_of}
 use Rattle.blink_page.specs.declared.limits.TheConstants.{MAX_PAGE}
 use Rattle.blink_rows.specs.declared.span.Span.{Span}
 use Rattle.blink_store.specs.{PlainStore}
+use Rattle.blink_live.specs.declared.live.Live.{Live}
 use Rattle.blink_live.specs.declared.view.Change.{Change}
 use Rattle.blink_live.specs.Allowed.{length_of}
 use Rattle.blink_live.specs.Changes.{after, changes_made}
@@ -40,6 +41,10 @@ made_by_member member = member.seat.me.0.share.changes
 -- the changes of all keys that the session has seen, in the order in which they happened
 abbrev pub seen_by : Session → List Change
 seen_by session = seen_of_member session.member
+
+-- what the opening entries of a table and all that the member has seen say of a key
+abbrev pub state_seen : Live → Member → ℕ → Option ℕ
+state_seen live member key = after (pointer_of (opening_of_table live)) (seen_of_member member) key
 
 -- the changes that operations at the session's place have made, in their order: those of the session, behind those of the sessions
 -- that had the place before

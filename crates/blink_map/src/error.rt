@@ -30,11 +30,11 @@ impl MapError {
         ensures { result ≡ code_of self.now }
     {
         match self {
-            MapError::OutOfMemory => 60,
-            MapError::TooLarge => 61,
-            MapError::Sessions => 62,
-            MapError::NoPlace => 63,
-            MapError::UnderWay => 64,
+            MapError::OutOfMemory => 100,
+            MapError::TooLarge => 101,
+            MapError::Sessions => 102,
+            MapError::NoPlace => 103,
+            MapError::UnderWay => 104,
         }
     }
 }

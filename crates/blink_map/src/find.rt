@@ -3,10 +3,9 @@ ghost use Rattle.std.specs.Prelude.{◌≡◌};
 ghost use mathlib.Core.List.{IsPrefix};
 ghost use Rattle.blink_batch.specs.{pointer_of};
 ghost use Rattle.blink_live.specs.Changes.{after};
-ghost use Rattle.blink_live.specs.Handles.{opening_of as opening_of_table};
 ghost use Rattle.blink_map.specs.Finding.{HasLooked};
 ghost use Rattle.blink_map.specs.Places.{IsMemberOf};
-ghost use Rattle.blink_map.specs.Sessions.{IsSameBesideSeen, IsSessionOf, opening_of, seen_by, seen_of_member};
+ghost use Rattle.blink_map.specs.Sessions.{IsSameBesideSeen, IsSessionOf, opening_of, seen_by, state_seen};
 
 use crate::map::{Map, Session};
 use crate::member::Member;
@@ -35,7 +34,7 @@ impl Member {
     // Looks up a key of the tree. While it does, its place is marked.
     fn look(&mut self, live: &Live, key: u64) -> Option<u64>
         requires its_own { IsMemberOf live.now self.old }
-        ensures state { result ≡ after (pointer_of (opening_of_table live.now)) (seen_of_member self.new) key }
+        ensures state { result ≡ state_seen live.now self.new key }
         ensures looked { HasLooked self.old self.new }
     {
         let Member {
