@@ -4,4 +4,5 @@ pub mod TableAtTheEnd
 pub mod SharesComeBack
 pub mod EntriesOfMerge
 pub mod CommonTableAtTheEnd
+pub mod AccountsComeBack
 pub mod EntriesOfStore

@@ -1,6 +1,7 @@
 pub mod MapsWithOneChange
 pub mod SeatsThatStay
 pub mod CallsOfSeats
+pub mod SpentSeats
 pub mod LoadsKeepTable
 pub mod NextPageIsThere
 pub mod OwnersInRange
@@ -9,6 +10,7 @@ pub mod PassesOut
 pub mod KeepersCount
 pub mod PassesComeIn
 pub mod OthersKnowTheSame
+pub mod LedgerStays
 pub mod StoresKeepTable
 pub mod SharesAreKnown
 pub mod RefusalsTold

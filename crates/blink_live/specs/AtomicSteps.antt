@@ -20,6 +20,7 @@ use Rattle.blink_live.specs.declared.view.Role.TheVariants.{Keeper}
 use Rattle.blink_live.specs.declared.view.Share.{Share}
 use Rattle.blink_live.specs.declared.view.View.{View}
 use Rattle.blink_live.specs.Changes.{after, changes_made, states_of, Learns}
+use Rattle.blink_live.specs.Ledger.{HasSeenItsOwn}
 use Rattle.blink_live.specs.Views.{SeatState, KnowsItsOwn, ShowsNoMore, for_call, going_on, has_pages, has_rows, is_busy, stage_word, changed_by, publishes, reading, forgets_told, learns_of_others, span, SawItsOwn}
 use Rattle.blink_live.specs.Words.{AreNumbersIn, AreRowsIn, IsRowNumber, row_start}
 
@@ -186,8 +187,13 @@ lets_go st me found then = (m : PlainMachine) (number : ℕ) → me.0.operation 
 
 -- ---- the word of a session's place
 
+-- the session knows by it that it has seen its own changes
+pub record MarksPlace (busy : ℕ) (me then : SeatState) : Type 0 where
+  pub is : then ≡ (is_busy me.0 busy, me.1)
+  pub saw_own : HasSeenItsOwn me.0
+
 abbrev pub marks_place : Step ℕ → SeatState → ℕ → SeatState → Type 0
-marks_place st me found then = then ≡ (is_busy me.0 st.first, me.1)
+marks_place st me found then = MarksPlace st.first me then
 
 -- ---- a word of the pool, where a number of it becomes a greater one: the seat has the rows, or page numbers, between
 
@@ -219,10 +225,10 @@ pub record AnswersInOrder (op : Op) (v : View) (answer : Option Answer) (share :
   pub before : List Change
   pub saw : IsPrefix v.seen before
   pub answers : answer ≡ Some (answer_at op (state_after v before (key_of op)))
-  pub goes_on : IsPrefix (before ++ changes_made op (state_after v before (key_of op))) seen
+  pub goes_on : IsPrefix (before ++ changes_made v.place op (state_after v before (key_of op))) seen
   pub keys : share.keys ≡ v.share.keys
-  pub changes : share.changes ≡ v.share.changes ++ changes_made op (state_after v before (key_of op))
-  pub own : Contains v.share.keys (key_of op) → (state_after v before (key_of op) ≡ pointer_of v.share.entries (key_of op)) × (share ≡ changed_by op v.share)
+  pub changes : share.changes ≡ v.share.changes ++ changes_made v.place op (state_after v before (key_of op))
+  pub own : Contains v.share.keys (key_of op) → (state_after v before (key_of op) ≡ pointer_of v.share.entries (key_of op)) × (share ≡ changed_by v.place op v.share)
 
 -- the step decides the operation; or the operation was decided before, and the share stays
 pub data Decided (m after : PlainMachine) (v : View) (share : Share) (seen : List Change) : Type 0 where

@@ -46,9 +46,9 @@ has_changed (Removed kept) = true
 has_changed (Replaced kept) = true
 has_changed answer = false
 
--- the changes that an operation makes if its key has this state
-abbrev pub changes_made : Op → Option ℕ → List Change
-changes_made op kept = if has_changed (answer_at op kept) then record { key = key_of op; pointer = cell_after op kept } ∷ [] else []
+-- the changes that an operation of this author makes if its key has this state
+abbrev pub changes_made : ℕ → Op → Option ℕ → List Change
+changes_made author op kept = if has_changed (answer_at op kept) then record { author = author; key = key_of op; pointer = cell_after op kept } ∷ [] else []
 
 -- a view that has seen `seen` has seen all that it saw before and all of the note that it held
 pub record Learns (v : View) (seen : List Change) : Type 0 where

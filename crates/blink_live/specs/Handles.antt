@@ -62,6 +62,10 @@ own_changes_of pass key = states_of key (changes_by pass)
 abbrev pub seen_changes_of : Pass → ℕ → List (Option ℕ)
 seen_changes_of pass key = states_of key (seen_of pass)
 
+-- the pass's place: its number among those that the keeper has dealt, by which its changes are known
+abbrev pub place_of : Pass → ℕ
+place_of pass = pass.seat.me.0.place
+
 -- the number that the pass puts into the latch words of pages: that of the last row that it was dealt; a pass without rows
 -- latches no page
 abbrev pub latch_number_of : Pass → ℕ
@@ -114,7 +118,7 @@ pub record IsChangedBy (op : Op) (old new : Pass) : Type 0 where
   pub same_plan : new.seat.me.0.plan ≡ old.seat.me.0.plan
   pub same_keys : keys_of new ≡ keys_of old
   pub share : share_of new ≡ map_after (share_of old) op
-  pub changes : changes_by new ≡ changes_by old ++ changes_made op (pointer_of (share_of old) (key_of op))
+  pub changes : changes_by new ≡ changes_by old ++ changes_made (place_of old) op (pointer_of (share_of old) (key_of op))
   pub rows : new.rows ≡ span (old.rows.next + rows_of op) old.rows.stop
   pub pages : new.pages ≡ span (old.pages.next + pages_of op) old.pages.stop
 

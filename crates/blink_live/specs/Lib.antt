@@ -25,13 +25,14 @@ pub use Rattle.blink_live.specs.Words.{word_count}
 -- the tree at rest that words hold, and the store that it is copied into
 pub use Rattle.blink_live.specs.Gathered.{IsNumberedInOrder}
 -- ---- for proofs above
-pub use Rattle.blink_live.specs.Handles.{seen_changes_of}
+pub use Rattle.blink_live.specs.Handles.{place_of, seen_changes_of}
 pub use Rattle.blink_live.specs.Changes.{changes_made, last_state, states_of}
 pub use Rattle.blink_live.specs.Deals.{rows_for}
 pub use Rattle.blink_live.specs.Views.{span}
 -- ---- the files
 pub mod Handles
 pub mod Changes
+pub mod Ledger
 pub mod Allowed
 pub mod Deals
 pub mod Merge

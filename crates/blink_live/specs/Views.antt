@@ -55,6 +55,7 @@ seat_for plan role rows pages share = record {
   share = share;
   taken = [];
   back = [];
+  accounts = [];
   operation = None;
   descent_bound = 0;
   reads = None;
@@ -180,12 +181,12 @@ stage_word v place word = is_staged v (slice_set v.call.staged place word)
 abbrev pub adds : List Change → Share → Share
 adds made share = record { keys = share.keys; entries = share.entries; changes = share.changes ++ made }
 
--- the share is changed as the operation changes a map
-abbrev pub changed_by : Op → Share → Share
-changed_by op share = record {
+-- the share is changed as the operation of this author changes a map
+abbrev pub changed_by : ℕ → Op → Share → Share
+changed_by author op share = record {
   keys = share.keys;
   entries = map_after share.entries op;
-  changes = share.changes ++ changes_made op (pointer_of share.entries (key_of op));
+  changes = share.changes ++ changes_made author op (pointer_of share.entries (key_of op));
 }
 
 -- the seat has published that row, its call may still use these page numbers, and its operation is `after` now
@@ -279,6 +280,10 @@ note_of v = record (spent v.plan) { told = v.seen }
 -- a pass that holds such a note
 abbrev pub hears : View → View → View
 hears v w = record v { told = w.told }
+
+-- a host that has a session's account, and is told what the session has seen
+abbrev pub takes_account : View → View → View
+takes_account v w = record v { accounts = record { place = w.place; changes = w.share.changes } ∷ v.accounts; told = w.seen }
 
 -- the seat has seen these changes now, and its note is used up
 abbrev pub learns_of_others : View → List Change → View

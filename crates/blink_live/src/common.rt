@@ -1,24 +1,30 @@
 //! Tables whose keys any seat changes: how they open, and how they close. The crate of maps makes its calls of these.
-ghost use Rattle.std.specs.Prelude.{◌≡◌, ◌+◌, ◌<◌, ◌≤◌, ◌++◌, ◌*◌, ℕ, List, IfOk, IsTrue, drop, length, replicate, set, slice_index};
+ghost use Rattle.std.specs.Prelude.{◌≡◌, ◌+◌, ◌<◌, ◌≤◌, ◌++◌, ◌∷◌, ◌*◌, ℕ, List, IfOk, IsTrue, drop, length, replicate, set, slice_index};
 ghost use Rattle.std.specs.Mem.Slots.{slots_items, slots_len, IsFull};
+ghost use mathlib.Core.List.{IsPrefix};
 ghost use Rattle.blink_index.specs.{map_of};
 ghost use Rattle.blink_page.specs.declared.limits.TheConstants.{MAX_PAGE};
 ghost use Rattle.blink_live.specs.Common.{HasAllChanges, IsOpenedCommon, IsHost};
 ghost use Rattle.blink_live.specs.Gathered.{IsNumberedInOrder};
 ghost use Rattle.blink_live.specs.Handles.{fan_of};
 ghost use Rattle.blink_live.specs.Laid.{IsLaid};
+ghost use Rattle.blink_live.specs.Ledger.{account_of};
+ghost use Rattle.blink_live.specs.Seats.{HasSameNumber, IsIdleIn, IsPassSeat};
+ghost use Rattle.blink_live.specs.Views.{plan_of, takes_account};
+ghost use Rattle.blink_live.specs.declared.view.Role.TheVariants.{Pass};
 ghost use Rattle.blink_live.specs.Words.{place_word, pool_page, pool_row, word_count};
 
 use crate::close::tree_at_end;
 use crate::live::Live;
 use crate::open::{lay_tree, word_count};
-use crate::rule::InvariantOfTree;
+use crate::rule::{InvariantOfTree, Planned, TakeAccount};
 use crate::view::{Opened, View};
 use atomic_table::{Closed, Seat, Table};
 use blink_index::Index;
 use blink_rows::Counts;
 use blink_store::Store;
 use std::alloc::{AllocError, Global};
+use std::marker::Brand;
 use std::snapshot::Snapshot;
 
 /// The number of words in the line of a place, as many as in a line of the processor's cache.
@@ -81,8 +87,35 @@ impl Live {
         Ok((live, seat))
     }
 
+    /// The host's seat takes the account of a session's seat, and has then seen all that the session has seen.
+    pub fn settle_with(&self, host: &mut Seat<u8, View>, seat: Seat<u8, View>)
+        requires host { IsHost self.now host.old }
+        requires seat { IsPassSeat self.now seat.table_id seat.me }
+        requires idle { IsIdleIn Pass seat.me }
+        ensures host { IsHost self.now host.new }
+        ensures saw { IsPrefix host.old.me.0.seen host.new.me.0.seen }
+        ensures heard { IsPrefix seat.me.0.seen host.new.me.0.seen }
+        ensures taken { host.new.me.0.accounts ≡ account_of seat.me.0 ∷ host.old.me.0.accounts }
+    {
+        self.take_account::<Brand>(host, seat);
+        self.host_looks_up(host);
+    }
+
+    // The host's seat takes the account of a session's seat, and is told what the session has seen.
+    fn take_account<B: Planned>(&self, host: &mut Seat<u8, View>, seat: Seat<u8, View>)
+        requires host { IsHost self.now host.old }
+        requires picked { B.plan ≡ plan_of self.now.table.shared.key }
+        requires seat { IsPassSeat self.now seat.table_id seat.me }
+        requires idle { IsIdleIn Pass seat.me }
+        ensures same { HasSameNumber host.old host.new }
+        ensures taken { host.new.me ≡ (takes_account host.old.me.0 seat.me.0, host.old.me.1) }
+    {
+        self.table.shared.join_seat::<TakeAccount<B>>(host, seat);
+    }
+
     /// Closes a common table, and returns the index of its tree, with its pages numbered anew. The entries are the opening ones
-    /// after one list of changes, which goes on from all that the host's seat has seen.
+    /// after one list of changes, which goes on from all that the host's seat has seen. Each change was made at one of the places,
+    /// and of each account that the host has taken the list has exactly the changes.
     ///
     /// The table is given up either way.
     pub fn close_common(self, alloc: Global, seat: Seat<u8, View>) -> Result<Index, CloseRefusal>

@@ -3,6 +3,7 @@ ghost use Rattle.std.specs.Prelude.{◌≡◌, ◌⊎◌, ◌+◌, ◌<◌, ◌�
 ghost use Rattle.blink_live.specs.AtomicSteps.{LooksUp};
 ghost use Rattle.blink_live.specs.Common.{IsHost};
 ghost use Rattle.blink_live.specs.GivingBack.{CanGiveBack, gives_back};
+ghost use Rattle.blink_live.specs.Ledger.{HasSeenItsOwn};
 ghost use Rattle.blink_live.specs.Seats.{HasSameNumber, IsPassSeat};
 ghost use Rattle.blink_live.specs.Views.{has_pages, has_rows, is_busy, span};
 ghost use Rattle.blink_live.specs.Words.{pool_page, pool_row};
@@ -17,13 +18,14 @@ use blink_rows::Span;
 
 impl Live {
     /// Stores the mark of a session's seat into the word of its place: 0 if it is idle. It isn't 0 while the seat has an operation
-    /// under way.
+    /// under way. The call also shows that the seat has seen all changes of its own.
     pub fn mark(&self, seat: &mut Seat<u8, View>, place: u64, busy: u64)
         requires seat { IsPassSeat self.now seat.old.table_id seat.old.me }
         requires place { (place ≡ seat.old.me.0.place) × (place < self.now.places) }
         requires idle { (seat.old.me.0.operation ≡ None) ⊎ (1 ≤ busy) }
         ensures same { HasSameNumber seat.old seat.new }
         ensures marked { seat.new.me ≡ (is_busy seat.old.me.0 busy, seat.old.me.1) }
+        ensures saw_own { HasSeenItsOwn seat.old.me.0 }
     {
         // Called for the proof: a place in the table is a `usize`.
         let _count = self.table.word_count();

@@ -306,6 +306,19 @@ impl<B: Planned> Join<View> for Hear<B> {
     ghost spent = { spent B.plan };
 }
 
+/// The host takes a session's account as the table closes. Its seat is spent.
+pub struct TakeAccount<B> {
+    of: PhantomData<B>,
+}
+
+impl<B: Planned> Join<View> for TakeAccount<B> {
+    ghost use Rattle.blink_live.specs.Views.{spent, takes_account};
+
+    ghost both = { takes_account };
+
+    ghost spent = { spent B.plan };
+}
+
 /// The keys that a pass hands over. Each call picks them.
 pub trait Handed {
     ghost use Rattle.std.specs.Prelude.{ℕ, List};

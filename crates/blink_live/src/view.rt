@@ -25,8 +25,10 @@ pub struct Plan {
     pub opening: LinkedList<Entry>,
 }
 
-/// A change of one key: it got a pointer, or lost the one that it had.
+/// A change of one key: it got a pointer, or lost the one that it had. Its author is the place of the seat that made it: passes
+/// have places in the order in which they were dealt.
 pub struct Change {
+    pub author: u64,
     pub key: u64,
     pub pointer: Option<u64>,
 }
@@ -37,6 +39,12 @@ pub struct Change {
 pub struct Share {
     pub keys: LinkedList<u64>,
     pub entries: LinkedList<Entry>,
+    pub changes: LinkedList<Change>,
+}
+
+/// The changes that operations at one place of a common table have made, in their order.
+pub struct Account {
+    pub place: u64,
     pub changes: LinkedList<Change>,
 }
 
@@ -73,6 +81,8 @@ pub struct View {
     /// Of the keeper: the keys that were dealt, and the shares that came back.
     pub taken: LinkedList<u64>,
     pub back: LinkedList<Share>,
+    /// Of the host of a common table: the accounts of the places whose sessions came back as it closes.
+    pub accounts: LinkedList<Account>,
     /// The operation under way, after its last step of the tree.
     pub operation: Option<Machine>,
     /// A bound of the pages that the operation's descent still reads.

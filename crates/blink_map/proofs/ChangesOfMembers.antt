@@ -20,7 +20,7 @@ use Rattle.blink_live.specs.Views.{is_busy, latch_in, pages_of, plan_of, rows_of
 use Rattle.blink_live.proofs.Offered.{IsAfterCall, after_call}
 use Rattle.blink_map.specs.declared.member.Member.{Member}
 use Rattle.blink_map.specs.Places.{IsMemberOf}
-use Rattle.blink_map.specs.Sessions.{AnswersInOrder}
+use Rattle.blink_map.specs.Sessions.{AnswersInOrder, place_of_member}
 
 -- a session's latch number
 pub latch_common : (places stop : ℕ) → 1 ≤ places → latch_in places stop ≡ 1
@@ -75,17 +75,18 @@ module _ {live : Live} {op : Op} {first last : Seat ℕ View} {m : PlainMachine}
   in_order answer old new ended its begun now =
       let told = ended.answers in
       let same_plan : first.me.0.plan ≡ plan_of live.table.shared.key = ap (λ (v : View). v.plan) begun ∙ its.same_plan in
-      subst (λ (p : Plan). (Some answer ≡ Some (answer_at op (after (pointer_of p.opening) told.before (key_of op))))
-      × IsPrefix (told.before ++ changes_made op (after (pointer_of p.opening) told.before (key_of op))) last.me.0.seen
-      × (last.me.0.share.changes ≡ first.me.0.share.changes ++ changes_made op (after (pointer_of p.opening) told.before (key_of op)))
-      → AnswersInOrder (opening_of live) op old new answer) (sym same_plan)
+      let same_place : first.me.0.place ≡ place_of_member old = ap (λ (v : View). v.place) begun in
+      subst (λ (p : Plan × ℕ). (Some answer ≡ Some (answer_at op (after (pointer_of p.0.opening) told.before (key_of op))))
+      × IsPrefix (told.before ++ changes_made p.1 op (after (pointer_of p.0.opening) told.before (key_of op))) last.me.0.seen
+      × (last.me.0.share.changes ≡ first.me.0.share.changes ++ changes_made p.1 op (after (pointer_of p.0.opening) told.before (key_of op)))
+      → AnswersInOrder (opening_of live) op old new answer) (λ i. (sym same_plan i, sym same_place i))
       (λ t. record {
         before = told.before;
         saw = subst (λ (seen : List Change). IsPrefix seen told.before) (ap (λ (v : View). v.seen) begun) told.saw;
         answers = let same = t.0 in cc;
-        goes_on = subst (λ (seen : List Change). IsPrefix (told.before ++ changes_made op (after (pointer_of (opening_of live)) told.before (key_of op))) seen) (sym (ap (λ (v : View). v.seen) now)) t.1;
+        goes_on = subst (λ (seen : List Change). IsPrefix (told.before ++ changes_made (place_of_member old) op (after (pointer_of (opening_of live)) told.before (key_of op))) seen) (sym (ap (λ (v : View). v.seen) now)) t.1;
         made =
             ap (λ (v : View). v.share.changes) now
-            ∙ (t.2 ∙ ap (λ (v : View). v.share.changes ++ changes_made op (after (pointer_of (opening_of live)) told.before (key_of op))) begun);
+            ∙ (t.2 ∙ ap (λ (v : View). v.share.changes ++ changes_made (place_of_member old) op (after (pointer_of (opening_of live)) told.before (key_of op))) begun);
       })
       (told.answers, told.goes_on, told.changes)

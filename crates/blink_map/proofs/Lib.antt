@@ -1,6 +1,6 @@
 mod PlacesKept
 mod ChangesOfMembers
-mod HeardAll
+mod AllSettled
 mod MembersDealt
 mod PutsAreChanges
 mod HostRests

@@ -1,9 +1,9 @@
 -- What a caller of `blink_map` reads, in this order; then the files themselves.
 
 -- a map and its sessions
-pub use Rattle.blink_map.specs.Sessions.{HasRoom, IsAnswered, IsClosedWith, IsOpenedWith, IsTooLarge, IsSameBesideRoom, IsSameBesideSeen, IsSameSession, IsSessionOf, LacksRoom, made_by, opening_of, seen_by}
+pub use Rattle.blink_map.specs.Sessions.{HasRoom, IsAnswered, IsClosedWith, IsOpenedWith, IsTooLarge, IsSameBesideRoom, IsSameBesideSeen, IsSameSession, IsSessionOf, LacksRoom, made_by, opening_of, place_of, places_of, seen_by}
 -- an entry that is put
-pub use Rattle.blink_map.specs.Putting.{HasTried, IsPut}
+pub use Rattle.blink_map.specs.Putting.{HasTried, IsPut, change_to}
 -- the code of each refusal
 pub use Rattle.blink_map.specs.Codes.{code_of}
 -- ---- the files

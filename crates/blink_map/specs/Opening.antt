@@ -18,6 +18,7 @@ pub record IsHostWith (live : Live) (seat : Seat ℕ View) (dealt : ℕ) : Type 
   pub rows_are : seat.me.0.rows ≡ span 1 1
   pub pages_are : seat.me.0.pages ≡ span 1 1
   pub none_taken : seat.me.0.taken ≡ []
+  pub none_seen : seat.me.0.seen ≡ []
 
 -- these are members of this table, so many
 pub record AreMembers (live : Live) (count : ℕ) (members : List (Option Member)) : Type 0 where

@@ -7,7 +7,7 @@ use Rattle.blink_live.specs.Changes.{after}
 use Rattle.blink_map.specs.declared.error.Full.{Full}
 use Rattle.blink_map.specs.declared.map.Map.{Map}
 use Rattle.blink_map.specs.declared.map.Session.{Session}
-use Rattle.blink_map.specs.Sessions.{IsSameMember, made_by, opening_of, seen_by}
+use Rattle.blink_map.specs.Sessions.{IsSameMember, made_by, opening_of, place_of, seen_by}
 
 -- the session has made no change, and may have seen more
 pub record HasTried (old new : Session) : Type 0 where
@@ -16,14 +16,18 @@ pub record HasTried (old new : Session) : Type 0 where
   pub same_member : IsSameMember old.member new.member
   pub same_places : new.claim.table_id ≡ old.claim.table_id
 
+-- a change at a place by which the key has the pointer
+abbrev pub change_to : ℕ → ℕ → ℕ → Change
+change_to author key pointer = record { author = author; key = key; pointer = Some pointer }
+
 -- there is a list of changes that goes on from all that the session had seen; `was` is what they left of the key. The session's
 -- change follows the list at once: the key has the pointer. The session has made this change and no other
 pub record IsPut (map : Map) (key pointer : ℕ) (old new : Session) (was : Option ℕ) : Type 0 where
   pub before : List Change
   pub saw : IsPrefix (seen_by old) before
   pub was_there : was ≡ after (pointer_of (opening_of map)) before key
-  pub goes_on : IsPrefix (before ++ record { key = key; pointer = Some pointer } ∷ []) (seen_by new)
-  pub made : made_by new ≡ made_by old ++ record { key = key; pointer = Some pointer } ∷ []
+  pub goes_on : IsPrefix (before ++ change_to (place_of old) key pointer ∷ []) (seen_by new)
+  pub made : made_by new ≡ made_by old ++ change_to (place_of old) key pointer ∷ []
   pub same_member : IsSameMember old.member new.member
   pub same_places : new.claim.table_id ≡ old.claim.table_id
 

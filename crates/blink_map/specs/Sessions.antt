@@ -1,5 +1,5 @@
 -- A map and its sessions, as contracts see them.
-use Rattle.std.specs.Prelude.{◌≡◌, ℕ, ◌+◌, ◌≤◌, ◌<◌, Option, List, ◌++◌, length, All}
+use Rattle.std.specs.Prelude.{◌≡◌, ◌≢◌, ℕ, ◌+◌, ◌≤◌, ◌<◌, Option, List, ◌++◌, length, All, AllPairs}
 use mathlib.Core.List.{IsPrefix}
 use Rattle.blink_batch.specs.declared.Answer.{Answer}
 use Rattle.blink_batch.specs.declared.Entry.{Entry}
@@ -14,6 +14,7 @@ use Rattle.blink_live.specs.declared.view.Change.{Change}
 use Rattle.blink_live.specs.Allowed.{length_of}
 use Rattle.blink_live.specs.Changes.{after, changes_made}
 use Rattle.blink_live.specs.Handles.{opening_of as opening_of_table}
+use Rattle.blink_live.specs.Ledger.{HaveAuthors, made_at}
 use Rattle.blink_live.specs.Views.{pages_of, rows_of}
 use Rattle.blink_map.specs.declared.map.Map.{Map}
 use Rattle.blink_map.specs.declared.map.Room.{Room}
@@ -24,6 +25,10 @@ use Rattle.blink_map.specs.Places.{IsMemberOf}
 -- the entries that the map was opened with
 abbrev pub opening_of : Map → List Entry
 opening_of map = opening_of_table map.live
+
+-- the number of places for sessions
+abbrev pub places_of : Map → ℕ
+places_of map = map.live.places
 
 -- ---- a session
 
@@ -37,6 +42,13 @@ seen_of_member member = member.seat.me.0.seen
 
 abbrev pub made_by_member : Member → List Change
 made_by_member member = member.seat.me.0.share.changes
+
+-- the number of the member's place, by which its changes are known
+abbrev pub place_of_member : Member → ℕ
+place_of_member member = member.seat.me.0.place
+
+abbrev pub place_of : Session → ℕ
+place_of session = place_of_member session.member
 
 -- the changes of all keys that the session has seen, in the order in which they happened
 abbrev pub seen_by : Session → List Change
@@ -62,6 +74,7 @@ pub record HasRoom (op : Op) (rows pages : Span) : Type 0 where
 pub record IsSameMember (old new : Member) : Type 0 where
   pub same_table : new.seat.table_id ≡ old.seat.table_id
   pub same_plan : new.seat.me.0.plan ≡ old.seat.me.0.plan
+  pub same_place : place_of_member new ≡ place_of_member old
 
 -- the session is as it was, except that it may have seen more
 pub record IsSameBesideSeen (old new : Session) : Type 0 where
@@ -88,8 +101,8 @@ pub record AnswersInOrder (opening : List Entry) (op : Op) (old new : Member) (a
   pub before : List Change
   pub saw : IsPrefix (seen_of_member old) before
   pub answers : answer ≡ answer_at op (after (pointer_of opening) before (key_of op))
-  pub goes_on : IsPrefix (before ++ changes_made op (after (pointer_of opening) before (key_of op))) (seen_of_member new)
-  pub made : made_by_member new ≡ made_by_member old ++ changes_made op (after (pointer_of opening) before (key_of op))
+  pub goes_on : IsPrefix (before ++ changes_made (place_of_member old) op (after (pointer_of opening) before (key_of op))) (seen_of_member new)
+  pub made : made_by_member new ≡ made_by_member old ++ changes_made (place_of_member old) op (after (pointer_of opening) before (key_of op))
 
 -- the same of a session
 pub record IsAnswered (map : Map) (op : Op) (old new : Session) (answer : Answer) : Type 0 where
@@ -118,13 +131,19 @@ pub record IsOpenedWith (store : PlainStore) (room : Room) (map : Map) : Type 0 
   pub numbers : map.live.counts.numbers ≡ 1 + length store.pages + room.pages
   pub rows : map.live.counts.rows ≡ 1 + length store.pages + room.rows
   pub sessions : map.places.shared.table_id.slots ≡ room.sessions
+  pub places : places_of map ≡ room.sessions
 
 -- the index needs more page numbers than there are
 abbrev pub IsTooLarge : ℕ → Room → Type 0
 IsTooLarge count room = MAX_PAGE < count + room.pages
 
--- the entries are the opening ones after one list of changes, which goes on from all that each of these sessions had seen
+-- the entries are the opening ones after one list of changes, which goes on from all that each of these sessions had seen. Each
+-- change was made at one of the map's places: at those of these sessions, no two of which have one place, exactly what is counted
+-- as theirs
 pub record IsClosedWith (map : Map) (sessions : List Session) (entries : List Entry) : Type 0 where
   pub final : List Change
   pub saw : All (λ (session : Session). IsPrefix (seen_by session) final) sessions
+  pub authors : HaveAuthors (places_of map) final
+  pub made : All (λ (session : Session). made_at (place_of session) final ≡ made_by session) sessions
+  pub apart : AllPairs (λ (one other : Session). place_of one ≢ place_of other) sessions
   pub kept : (key : ℕ) → pointer_of entries key ≡ after (pointer_of (opening_of map)) final key

@@ -1,10 +1,11 @@
 //! Closing a map.
-ghost use Rattle.std.specs.Prelude.{◌≡◌, ◌⊎◌, All, IfErr, IfOk};
+ghost use Rattle.std.specs.Prelude.{◌≡◌, ◌⊎◌, ◌∷◌, All, IfErr, IfOk};
 ghost use mathlib.Core.List.{IsPrefix};
 ghost use Rattle.blink_index.specs.{map_of};
 ghost use Rattle.blink_live.specs.Common.{IsHost};
+ghost use Rattle.blink_live.specs.Ledger.{account_of};
 ghost use Rattle.blink_live.specs.{IsNumberedInOrder};
-ghost use Rattle.blink_map.specs.Closing.{HasHeard};
+ghost use Rattle.blink_map.specs.Closing.{HasSettled};
 ghost use Rattle.blink_map.specs.Places.{IsMemberOf};
 ghost use Rattle.blink_map.specs.Sessions.{IsClosedWith, IsSessionOf, seen_by};
 
@@ -19,8 +20,9 @@ use std::alloc::Global;
 
 impl Map {
     /// Closes the map, and returns the index of its tree, with its pages numbered anew. The entries are those that the map was
-    /// opened with, after one list of changes. The list goes on from all that each of these sessions has seen. Sessions needn't
-    /// come back.
+    /// opened with, after one list of changes. The list goes on from all that each of these sessions has seen. Each change in it
+    /// was made at one of the map's places; those at the places of these sessions are exactly the changes that are counted as
+    /// theirs. Sessions needn't come back.
     ///
     /// The call refuses with `UnderWay`, if an operation is under way in a session; then with `OutOfMemory`, if memory was refused.
     /// The map is given up either way. The index that was opened stays as it was.
@@ -38,7 +40,7 @@ impl Map {
             places: _places,
         } = self;
         let mut host = take_host(host);
-        hear_all(&live, &mut host, sessions);
+        settle_all(&live, &mut host, sessions);
         match live.close_common(alloc, host) {
             Ok(index) => Ok(index),
             Err(CloseRefusal::UnderWay) => Err(MapError::UnderWay),
@@ -47,12 +49,12 @@ impl Map {
     }
 }
 
-// The host's seat hears what all these sessions have seen.
-fn hear_all(live: &Live, host: &mut Seat<u8, View>, mut sessions: Vec<Session>)
+// The host's seat takes the accounts of all these sessions, and has seen then what they have seen.
+fn settle_all(live: &Live, host: &mut Seat<u8, View>, mut sessions: Vec<Session>)
     requires host { IsHost live.now host.old }
     requires its_own { All (λ (session : Session). IsMemberOf live.now session.member) sessions.items }
     ensures host { IsHost live.now host.new }
-    ensures heard { HasHeard sessions.items host.new }
+    ensures settled { HasSettled sessions.items host.old host.new }
 {
     while let Some(session) = sessions.pop() {
         let Session {
@@ -60,24 +62,24 @@ fn hear_all(live: &Live, host: &mut Seat<u8, View>, mut sessions: Vec<Session>)
             claim: _claim,
             place: _,
         } = session;
-        hear(live, host, member);
+        settle(live, host, member);
     }
 }
 
-// The host's seat hears what the member has seen.
-fn hear(live: &Live, host: &mut Seat<u8, View>, member: Member)
+// The host's seat takes the member's account, and has seen then what the member has seen.
+fn settle(live: &Live, host: &mut Seat<u8, View>, member: Member)
     requires host { IsHost live.now host.old }
     requires its_own { IsMemberOf live.now member }
     ensures host { IsHost live.now host.new }
     ensures saw { IsPrefix host.old.me.0.seen host.new.me.0.seen }
     ensures heard { IsPrefix member.seat.me.0.seen host.new.me.0.seen }
+    ensures taken { host.new.me.0.accounts ≡ account_of member.seat.me.0 ∷ host.old.me.0.accounts }
 {
     let Member {
-        mut seat,
+        seat,
         rows: _,
         pages: _,
         place: _,
     } = member;
-    live.pass_on(&mut seat, host);
-    live.host_looks_up(host);
+    live.settle_with(host, seat);
 }

@@ -1,6 +1,7 @@
 //! What a session has beside its place: a seat of the tree's table, and the rows and page numbers that it may still use.
 ghost use Rattle.std.specs.Prelude.{◌≡◌, ◌<◌, ◌≤◌, [], None};
 ghost use Rattle.blink_live.specs.declared.view.Role.TheVariants.{Pass};
+ghost use Rattle.blink_live.specs.Ledger.{HasSeenItsOwn};
 ghost use Rattle.blink_live.specs.Views.{IsCommon};
 
 use atomic_table::Seat;
@@ -24,5 +25,6 @@ pub(crate) struct Member {
     ghost no_key: { seat.me.0.share.keys ≡ [] },
     ghost none_told: { seat.me.0.told ≡ [] },
     ghost idle: { seat.me.0.operation ≡ None },
+    ghost saw_own: { HasSeenItsOwn seat.me.0 },
     ghost no_slot: { seat.me.1 ≡ [] },
 }

@@ -56,9 +56,11 @@ impl Member {
             seat,
             rows: _,
             pages: _,
-            place: _,
+            place,
         } = other;
         live.pass_on(teller, seat);
         live.look_up(seat);
+        // Stored for the proof: it shows that the member has seen its own changes.
+        live.mark(seat, *place, 0);
     }
 }

@@ -1,5 +1,5 @@
 -- The change that an operation makes does to the entries, key by key, what the operation does to the map.
-use Rattle.std.proofs.Common.{◌≡◌, ◌≢◌, ℕ, Bool, true, false, Option, Some, None, List, [], ◌∷◌, ◌++◌, refl, sym, ap, ◌∙◌, subst, eq-eqb, ne_eqb}
+use Rattle.std.proofs.Common.{◌≡◌, ◌≢◌, ℕ, zero, suc, Bool, true, false, Option, Some, None, List, [], ◌∷◌, ◌++◌, refl, sym, ap, ◌∙◌, subst, eq-eqb, ne_eqb, arith}
 use Rattle.std.specs.Prelude.{if◌then◌else◌}
 use mathlib.Core.Logic.{dite}
 use native.Mathlib.Decide.{ℕ_discrete}
@@ -10,6 +10,7 @@ use Rattle.blink_batch.specs.{answer_at, cell_after, key_of, map_after, map_at, 
 use Rattle.blink_batch.proofs.Offered.{pointer_of-map_after_own, pointer_of-map_after_other}
 use Rattle.blink_live.specs.declared.view.Change.{Change}
 use Rattle.blink_live.specs.Changes.{put, after, states_of, changes_made, has_changed}
+use Rattle.blink_live.proofs.table.LedgerStays.{AreBy}
 use Rattle.blink_live.proofs.table.MapsWithOneChange.{put_here, put_else}
 
 pub after-append : (f : ℕ → Option ℕ) (xs ys : List Change) (key : ℕ) → after f (xs ++ ys) key ≡ after (after f xs) ys key
@@ -57,28 +58,37 @@ module _ (change : Change) where
   becomes_here f false is = is refl
 
 -- what an operation changes, where it changes something
-abbrev change_of : Op → Option ℕ → Change
-change_of op kept = record { key = key_of op; pointer = cell_after op kept }
+abbrev change_of : ℕ → Op → Option ℕ → Change
+change_of author op kept = record { author = author; key = key_of op; pointer = cell_after op kept }
 
-pub none_made : (op : Op) (kept : Option ℕ) → has_changed (answer_at op kept) ≡ false → changes_made op kept ≡ []
-none_made op kept none = ap (at_most (change_of op kept)) none
+pub none_made : (author : ℕ) (op : Op) (kept : Option ℕ) → has_changed (answer_at op kept) ≡ false → changes_made author op kept ≡ []
+none_made author op kept none = ap (at_most (change_of author op kept)) none
+
+-- its author is the operation's
+by_author : (change : Change) (is_made : Bool) → AreBy change.author (at_most change is_made)
+by_author change true zero d inside = refl
+by_author change true (suc k) d inside = absurd (omega (arith, inside))
+by_author change false k d inside = absurd (omega (arith, inside))
+
+pub all_by_author : (author : ℕ) (op : Op) (kept : Option ℕ) → AreBy author (changes_made author op kept)
+all_by_author author op kept = by_author (change_of author op kept) (has_changed (answer_at op kept))
 
 -- of another key nothing is changed
-pub none_of_other : (op : Op) (kept : Option ℕ) (key : ℕ) → key_of op ≢ key → states_of key (changes_made op kept) ≡ []
-none_of_other op kept key differ = none_else (change_of op kept) (has_changed (answer_at op kept)) key differ
+pub none_of_other : (author : ℕ) (op : Op) (kept : Option ℕ) (key : ℕ) → key_of op ≢ key → states_of key (changes_made author op kept) ≡ []
+none_of_other author op kept key differ = none_else (change_of author op kept) (has_changed (answer_at op kept)) key differ
 
-pub other_stays : (f : ℕ → Option ℕ) (op : Op) (kept : Option ℕ) (key : ℕ) → key_of op ≢ key → after f (changes_made op kept) key ≡ f key
-other_stays f op kept key differ = stays_else (change_of op kept) f (has_changed (answer_at op kept)) key differ
+pub other_stays : (author : ℕ) (f : ℕ → Option ℕ) (op : Op) (kept : Option ℕ) (key : ℕ) → key_of op ≢ key → after f (changes_made author op kept) key ≡ f key
+other_stays author f op kept key differ = stays_else (change_of author op kept) f (has_changed (answer_at op kept)) key differ
 
 -- and of its own key as the cell is
-own_becomes : (f : ℕ → Option ℕ) (op : Op) (kept : Option ℕ) → f (key_of op) ≡ kept → after f (changes_made op kept) (key_of op) ≡ cell_after op kept
-own_becomes f op kept is = becomes_here (change_of op kept) f (has_changed (answer_at op kept)) (λ none. is ∙ sym (stays_unchanged op kept none))
+own_becomes : (author : ℕ) (f : ℕ → Option ℕ) (op : Op) (kept : Option ℕ) → f (key_of op) ≡ kept → after f (changes_made author op kept) (key_of op) ≡ cell_after op kept
+own_becomes author f op kept is = becomes_here (change_of author op kept) f (has_changed (answer_at op kept)) (λ none. is ∙ sym (stays_unchanged op kept none))
 
 -- so where a map maps the operation's key and this one to what the changes leave, the map after the operation maps it to what they leave with its own
-pub map_is_changed : (opening : ℕ → Option ℕ) (log : List Change) (map : List Entry) (op : Op) (kept : Option ℕ) → pointer_of map (key_of op) ≡ kept → after opening log (key_of op) ≡ kept
-    → (key : ℕ) → pointer_of map key ≡ after opening log key → pointer_of (map_after map op) key ≡ after opening (log ++ changes_made op kept) key
-map_is_changed opening log map op kept in_map in_log key is =
-    sym (after-append opening log (changes_made op kept) key ∙ dite (ℕ_discrete (key_of op) key)
-    (λ own. subst (λ (k : ℕ). after (after opening log) (changes_made op kept) k ≡ pointer_of (map_after map op) k) own
-    (own_becomes (after opening log) op kept in_log ∙ (ap (cell_after op) (sym in_map) ∙ sym (pointer_of-map_after_own map op (key_of op) refl))))
-    (λ differ. other_stays (after opening log) op kept key differ ∙ (sym is ∙ sym (pointer_of-map_after_other map op key differ))))
+pub map_is_changed : (author : ℕ) (opening : ℕ → Option ℕ) (log : List Change) (map : List Entry) (op : Op) (kept : Option ℕ) → pointer_of map (key_of op) ≡ kept → after opening log (key_of op) ≡ kept
+    → (key : ℕ) → pointer_of map key ≡ after opening log key → pointer_of (map_after map op) key ≡ after opening (log ++ changes_made author op kept) key
+map_is_changed author opening log map op kept in_map in_log key is =
+    sym (after-append opening log (changes_made author op kept) key ∙ dite (ℕ_discrete (key_of op) key)
+    (λ own. subst (λ (k : ℕ). after (after opening log) (changes_made author op kept) k ≡ pointer_of (map_after map op) k) own
+    (own_becomes author (after opening log) op kept in_log ∙ (ap (cell_after op) (sym in_map) ∙ sym (pointer_of-map_after_own map op (key_of op) refl))))
+    (λ differ. other_stays author (after opening log) op kept key differ ∙ (sym is ∙ sym (pointer_of-map_after_other map op key differ))))

@@ -15,7 +15,7 @@ use Rattle.blink_live.specs.declared.view.Share.{Share}
 use Rattle.blink_live.specs.declared.view.View.{View}
 use Rattle.blink_live.specs.Allowed.{AreForChanges, changes_left}
 use Rattle.blink_live.specs.Changes.{after}
-use Rattle.blink_live.specs.Handles.{IsChangedBy, IsPassOf, KnowsItsKeys, keys_of, share_of}
+use Rattle.blink_live.specs.Handles.{IsChangedBy, IsPassOf, KnowsItsKeys, keys_of, place_of, share_of}
 use Rattle.blink_live.specs.Updating.{HasEnded}
 use Rattle.blink_live.specs.Views.{IsCommon, IsOwned, MayChange, changed_by, span, rows_of, pages_of}
 use Rattle.blink_live.proofs.changed.UpdatesGoOn.{after_call, of_own_key}
@@ -56,11 +56,11 @@ is_whole op pass seat answer keys rows pages updates some ended same_keys rows_a
     }
 
 pub answers_by_share : (op : Op) (pass : Pass) (seat : Seat ℕ View) (answer : Answer) → Contains (keys_of pass) (key_of op) → HasEnded op pass.seat seat answer
-    → (answer ≡ answer_of (share_of pass) op) × (seat.me.0.share ≡ changed_by op pass.seat.me.0.share)
+    → (answer ≡ answer_of (share_of pass) op) × (seat.me.0.share ≡ changed_by (place_of pass) op pass.seat.me.0.share)
 answers_by_share op pass seat answer own ended = of_own_key op pass.seat seat answer ended (subst (λ (keys : List ℕ). Contains keys (key_of op)) pass.keys_are own)
 
 module _ (op : Op) (pass new : Pass) (answer : Answer) (own : Contains (keys_of pass) (key_of op)) (ended : HasEnded op pass.seat new.seat answer) where
-  by_share : (answer ≡ answer_of (share_of pass) op) × (new.seat.me.0.share ≡ changed_by op pass.seat.me.0.share)
+  by_share : (answer ≡ answer_of (share_of pass) op) × (new.seat.me.0.share ≡ changed_by (place_of pass) op pass.seat.me.0.share)
   by_share = answers_by_share op pass new.seat answer own ended
 
   pub is_changed : keys_of new ≡ keys_of pass → new.rows ≡ span (pass.rows.next + rows_of op) pass.rows.stop → new.pages ≡ span (pass.pages.next + pages_of op) pass.pages.stop → IsChangedBy op pass new

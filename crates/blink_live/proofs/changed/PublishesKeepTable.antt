@@ -26,7 +26,7 @@ use Rattle.blink_live.specs.Changes.{put, after, states_of, changes_made, Learns
 use Rattle.blink_live.specs.AtomicSteps.{AnswersInOrder, Decided, CanGoOn, EndsWithOwn, PublishesPage, PublishesNew, PublishesPrime, publishes_page, publishes_new, publishes_prime}
 use Rattle.blink_live.specs.Rule.{IsOwnKey, IsShare, HasNumbers, Knows, IsTableAt, IsTable}
 use Rattle.blink_live.specs.Views.{IsCommon, IsOwned, MayChange, SeatState, KnowsItsOwn, adds, span, changed_by, publishes}
-use Rattle.blink_live.proofs.changed.ChangesAreTheMaps.{states_of-append, none_of_other, other_stays, map_is_changed}
+use Rattle.blink_live.proofs.changed.ChangesAreTheMaps.{all_by_author, states_of-append, none_of_other, other_stays, map_is_changed}
 use Rattle.blink_live.proofs.changed.RowsArePublished.{gives_row, IsStepOfTree, ChangesOwn, publish_keeps}
 use Rattle.blink_live.proofs.found.OperationBegins.{goes_on_as}
 use Rattle.blink_live.proofs.table.MapsWithOneChange.{put_here, put_else}
@@ -65,7 +65,7 @@ module _ (plan : Plan) (s : State ℕ View) (tree_state then : TreeState) (h : I
   kept_before = after (pointer_of plan.opening) h.log (key_of m.op)
 
   abbrev its_changes : List Change
-  its_changes = changes_made m.op kept_before
+  its_changes = changes_made me.0.place m.op kept_before
 
   -- in a common table the seat has no key
   no_key : IsCommon plan → (key : ℕ) → ¬ Contains me.0.share.keys key
@@ -87,19 +87,19 @@ module _ (plan : Plan) (s : State ℕ View) (tree_state then : TreeState) (h : I
   record IsShareThen (share : Share) : Type 0 where
     pub keys : share.keys ≡ me.0.share.keys
     pub changes : share.changes ≡ me.0.share.changes ++ its_changes
-    pub own : Contains me.0.share.keys (key_of m.op) → (kept_before ≡ pointer_of me.0.share.entries (key_of m.op)) × (share ≡ changed_by m.op me.0.share)
+    pub own : Contains me.0.share.keys (key_of m.op) → (kept_before ≡ pointer_of me.0.share.entries (key_of m.op)) × (share ≡ changed_by me.0.place m.op me.0.share)
     pub is_share : IsShare plan (gives_row h.owners me.0.call.rows.next) (h.log ++ its_changes) (suc id) share
 
-  own_share_then : Contains me.0.share.keys (key_of m.op) → IsShareThen (changed_by m.op me.0.share)
+  own_share_then : Contains me.0.share.keys (key_of m.op) → IsShareThen (changed_by me.0.place m.op me.0.share)
   own_share_then mine =
       let own_key : IsOwnKey plan h.owners h.log (suc id) me.0.share (key_of m.op) = known.share (key_of m.op) mine in
-      let made : changes_made m.op (pointer_of me.0.share.entries (key_of m.op)) ≡ its_changes = ap (changes_made m.op) own_key.kept in record {
+      let made : changes_made me.0.place m.op (pointer_of me.0.share.entries (key_of m.op)) ≡ its_changes = ap (changes_made me.0.place m.op) own_key.kept in record {
         keys = refl;
         changes = ap (λ (l : List Change). me.0.share.changes ++ l) made;
         own = λ has. (sym own_key.kept, refl);
         is_share = λ key has. let own = known.share key has in record {
           own = own.own;
-          kept = map_is_changed (pointer_of plan.opening) h.log me.0.share.entries m.op kept_before own_key.kept refl key own.kept;
+          kept = map_is_changed me.0.place (pointer_of plan.opening) h.log me.0.share.entries m.op kept_before own_key.kept refl key own.kept;
           changes =
               states_of-append key h.log its_changes
               ∙ (ap (λ (l : List (Option ℕ)). l ++ states_of key its_changes) own.changes
@@ -118,26 +118,27 @@ module _ (plan : Plan) (s : State ℕ View) (tree_state then : TreeState) (h : I
 
   share_then : (share : Share) × IsShareThen share
   share_then = ⊎_elim
-      (λ (mine : Contains me.0.share.keys (key_of m.op)). (changed_by m.op me.0.share, own_share_then mine))
+      (λ (mine : Contains me.0.share.keys (key_of m.op)). (changed_by me.0.place m.op me.0.share, own_share_then mine))
       (λ (common : IsCommon me.0.plan). (adds its_changes me.0.share, common_share_then (common_plan common))) may
 
   -- the changes where the step decides the operation
   decides_here : (share : Share) → IsShareThen share → HasEntries then (map_after h.now m.op)
       → ChangesOwn plan s tree_state then h id number (descent_bound then.pages after_it) me.0 after_it content pages at role under tree in_range room is_row its_changes (map_after h.now m.op) share
   decides_here share is has_entries = record {
-    other_changes = λ owned key apart. none_of_other m.op kept_before key (its_key owned key apart);
-    other_kept = λ owned key apart. other_stays (after (pointer_of plan.opening) h.log) m.op kept_before key (its_key owned key apart);
+    other_changes = λ owned key apart. none_of_other me.0.place m.op kept_before key (its_key owned key apart);
+    other_kept = λ owned key apart. other_stays me.0.place (after (pointer_of plan.opening) h.log) m.op kept_before key (its_key owned key apart);
     own_share = is.is_share;
     is_map = record { ascending = IsAscending-map_after h.now m.op h.is_map.ascending; kept = has_entries };
-    kept_now = λ key. map_is_changed (pointer_of plan.opening) h.log h.now m.op kept_before (h.kept (key_of m.op)) refl key (h.kept key);
+    kept_now = λ key. map_is_changed me.0.place (pointer_of plan.opening) h.log h.now m.op kept_before (h.kept (key_of m.op)) refl key (h.kept key);
+    accounted = (is.changes, all_by_author me.0.place m.op kept_before);
   }
 
   -- the operation answers by the changes so far
   in_order : (share : Share) → IsShareThen share → after_it.answer ≡ Some (answer_at m.op (pointer_of h.now (key_of m.op))) → AnswersInOrder m.op me.0 after_it.answer share (h.log ++ its_changes)
   in_order share is answers = subst (λ (p : Plan). (after_it.answer ≡ Some (answer_at m.op (after (pointer_of p.opening) h.log (key_of m.op))))
-      × IsPrefix (h.log ++ changes_made m.op (after (pointer_of p.opening) h.log (key_of m.op))) (h.log ++ its_changes)
-      × (share.changes ≡ me.0.share.changes ++ changes_made m.op (after (pointer_of p.opening) h.log (key_of m.op)))
-      × (Contains me.0.share.keys (key_of m.op) → (after (pointer_of p.opening) h.log (key_of m.op) ≡ pointer_of me.0.share.entries (key_of m.op)) × (share ≡ changed_by m.op me.0.share))
+      × IsPrefix (h.log ++ changes_made me.0.place m.op (after (pointer_of p.opening) h.log (key_of m.op))) (h.log ++ its_changes)
+      × (share.changes ≡ me.0.share.changes ++ changes_made me.0.place m.op (after (pointer_of p.opening) h.log (key_of m.op)))
+      × (Contains me.0.share.keys (key_of m.op) → (after (pointer_of p.opening) h.log (key_of m.op) ≡ pointer_of me.0.share.entries (key_of m.op)) × (share ≡ changed_by me.0.place m.op me.0.share))
       → AnswersInOrder m.op me.0 after_it.answer share (h.log ++ its_changes)) known.same_plan
       (λ t. record { before = h.log; saw = known.saw; answers = t.0; goes_on = t.1; keys = is.keys; changes = t.2; own = t.3 })
       (answers ∙ ap (λ (k : Option ℕ). Some (answer_at m.op k)) (h.kept (key_of m.op)), ([], append-nil (h.log ++ its_changes)), is.changes, is.own)
@@ -155,6 +156,7 @@ module _ (plan : Plan) (s : State ℕ View) (tree_state then : TreeState) (h : I
         };
     is_map = record { ascending = h.is_map.ascending; kept = has_entries };
     kept_now = λ key. h.kept key ∙ ap (λ (l : List Change). after (pointer_of plan.opening) l key) (sym (append-nil h.log));
+    accounted = (sym (append-nil me.0.share.changes), λ k d inside. absurd (omega (arith, inside)));
   }
 
   -- of its own keys the seat knows what its share says of them

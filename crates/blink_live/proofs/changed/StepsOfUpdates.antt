@@ -91,11 +91,11 @@ goes_on_takes kind m me then past knows answer goes =
 -- ---- reads
 
 -- an operation that doesn't answer that it made a change leaves the share
-changes_nothing : (op : Op) (share : Share) → has_changed (answer_of share.entries op) ≡ false → share ≡ changed_by op share
-changes_nothing op share none =
+changes_nothing : (author : ℕ) (op : Op) (share : Share) → has_changed (answer_of share.entries op) ≡ false → share ≡ changed_by author op share
+changes_nothing author op share none =
     let kept : Option ℕ = pointer_of share.entries (key_of op) in
     let entries : share.entries ≡ map_at op kept share.entries = sym (map_unchanged op kept share.entries none) in
-    let changes : share.changes ≡ share.changes ++ changes_made op kept = sym (append-nil share.changes) ∙ ap (λ (l : List MapChange). share.changes ++ l) (sym (none_made op kept none)) in
+    let changes : share.changes ≡ share.changes ++ changes_made author op kept = sym (append-nil share.changes) ∙ ap (λ (l : List MapChange). share.changes ++ l) (sym (none_made author op kept none)) in
     λ i. record { keys = share.keys; entries = entries i; changes = changes i }
 
 -- where a read under the latch answers, it answers by all changes that the seat has seen then, and changes nothing
@@ -106,15 +106,15 @@ answers_by_seen m after v seen answer saw own is unchanged (inr (none, given)) =
     let kept : Option ℕ = state_after v seen (key_of m.op) in
     let answers : answer_at m.op kept ≡ answer = let e = sym given ∙ is in cc in
     let no_change : has_changed (answer_at m.op kept) ≡ false = ap has_changed answers ∙ unchanged in
-    let none_at_all : changes_made m.op kept ≡ [] = none_made m.op kept no_change in
+    let none_at_all : changes_made v.place m.op kept ≡ [] = none_made v.place m.op kept no_change in
     deciding none record {
       before = seen;
       saw = saw;
       answers = given;
-      goes_on = ([], append-nil (seen ++ changes_made m.op kept) ∙ (ap (λ (l : List MapChange). seen ++ l) none_at_all ∙ append-nil seen));
+      goes_on = ([], append-nil (seen ++ changes_made v.place m.op kept) ∙ (ap (λ (l : List MapChange). seen ++ l) none_at_all ∙ append-nil seen));
       keys = refl;
       changes = sym (append-nil v.share.changes) ∙ ap (λ (l : List MapChange). v.share.changes ++ l) (sym none_at_all);
-      own = λ mine. (own mine, changes_nothing m.op v.share (ap (λ (k : Option ℕ). has_changed (answer_at m.op k)) (sym (own mine)) ∙ no_change));
+      own = λ mine. (own mine, changes_nothing v.place m.op v.share (ap (λ (k : Option ℕ). has_changed (answer_at m.op k)) (sym (own mine)) ∙ no_change));
     }
 
 module _ (m after : PlainMachine) (number : ℕ) (page : PlainPage) (v : View) (seen : List MapChange) (saw : IsPrefix v.seen seen)

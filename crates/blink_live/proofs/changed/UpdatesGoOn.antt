@@ -37,11 +37,11 @@ same_call_trans u v w first second =
     second ∙ ap (λ (x : View). record x { operation = w.operation; descent_bound = w.descent_bound; reads = w.reads; seen = w.seen; share = w.share; call = w.call }) first
 
 -- it has decided once
-module _ (op : Op) (first now then : View) (m after : PlainMachine) (same : m.op ≡ op) (same_plan : now.plan ≡ first.plan) (saw : IsPrefix first.seen now.seen) where
+module _ (op : Op) (first now then : View) (m after : PlainMachine) (same : m.op ≡ op) (same_plan : now.plan ≡ first.plan) (same_place : now.place ≡ first.place) (saw : IsPrefix first.seen now.seen) where
   -- where the share is that of the beginning, it answers in the order from the beginning on
   from_first : now.share ≡ first.share → AnswersInOrder m.op now after.answer then.share then.seen → AnswersInOrder op first after.answer then.share then.seen
   from_first is answers =
-      let from : AnswersInOrder op (record now { plan = first.plan; share = first.share }) after.answer then.share then.seen = subst (λ (x : Op × (Plan × Share)). AnswersInOrder x.0 (record now { plan = x.1.0; share = x.1.1 }) after.answer then.share then.seen) (λ i. (same i, (same_plan i, is i))) (record {
+      let from : AnswersInOrder op (record now { plan = first.plan; place = first.place; share = first.share }) after.answer then.share then.seen = subst (λ (x : Op × (Plan × (ℕ × Share))). AnswersInOrder x.0 (record now { plan = x.1.0; place = x.1.1.0; share = x.1.1.1 }) after.answer then.share then.seen) (λ i. (same i, (same_plan i, (same_place i, is i)))) (record {
         before = answers.before;
         saw = answers.saw;
         answers = answers.answers;
@@ -65,7 +65,7 @@ module _ (op : Op) (first now then : View) (m after : PlainMachine) (same : m.op
     before = answers.before;
     saw = answers.saw;
     answers = answers.answers;
-    goes_on = prefix_of_prefix (answers.before ++ changes_made op (state_after first answers.before (key_of op))) now.seen then.seen answers.goes_on more;
+    goes_on = prefix_of_prefix (answers.before ++ changes_made first.place op (state_after first answers.before (key_of op))) now.seen then.seen answers.goes_on more;
     keys = answers.keys;
     changes = answers.changes;
     own = answers.own;
@@ -86,7 +86,7 @@ updating_on op first me then m after is takes left = record {
   same_op = takes.same_op ∙ is.same_op;
   next = subst (λ (p : Plan). CanGoOn p after) (ap (λ (v : View). v.plan) is.same.0) takes.next;
   left = left;
-  has_decided = decided_on op first.0 me.0 then.0 m after is.same_op (ap (λ (v : View). v.plan) is.same.0) is.saw takes.saw is.has_decided takes.decides;
+  has_decided = decided_on op first.0 me.0 then.0 m after is.same_op (ap (λ (v : View). v.plan) is.same.0) (ap (λ (v : View). v.place) is.same.0) is.saw takes.saw is.has_decided takes.decides;
   past_descent = takes.past_descent;
   answers_at_end = takes.answers_at_end;
 }
@@ -348,7 +348,7 @@ at_end live op first seat m room answer is ends given =
 
 -- an operation of one of the seat's own keys has answered by the share, and has changed it as it changes a map
 pub of_own_key : (op : Op) (first seat : Seat ℕ View) (answer : Answer) → HasEnded op first seat answer → Contains first.me.0.share.keys (key_of op)
-    → (answer ≡ answer_of first.me.0.share.entries op) × (seat.me.0.share ≡ changed_by op first.me.0.share)
+    → (answer ≡ answer_of first.me.0.share.entries op) × (seat.me.0.share ≡ changed_by first.me.0.place op first.me.0.share)
 of_own_key op first seat answer ended mine =
     let answers = ended.answers in
     let own = answers.own mine in

@@ -1,6 +1,6 @@
 -- The words of a common table whose places are all idle keep a tree at rest, whose entries are those of all changes.
 use Rattle.std.proofs.Common.{◌≡◌, ℕ, ◌<◌, ◌≤◌, Option, Some, None, List, length, sym, ◌∙◌, subst, ⊎_elim, refl, arith}
-use Rattle.std.specs.Prelude.{slice_index}
+use Rattle.std.specs.Prelude.{Contains, slice_index}
 use mathlib.Core.Option.{some}
 use mathlib.Core.List.{IsPrefix}
 use lib.ListN.{get_elem?}
@@ -9,12 +9,14 @@ use Rattle.blink_batch.specs.declared.Entry.{Entry}
 use Rattle.blink_batch.specs.{pointer_of}
 use Rattle.blink_machine.specs.{PlainMachine}
 use Rattle.blink_machine.specs.TreeState.{TreeState}
+use Rattle.blink_live.specs.declared.view.Account.{Account}
 use Rattle.blink_live.specs.declared.view.Change.{Change}
 use Rattle.blink_live.specs.declared.view.Plan.{Plan}
 use Rattle.blink_live.specs.declared.view.Role.{Role}
 use Rattle.blink_live.specs.declared.view.Role.TheVariants.{Keeper, Pass, Spent}
 use Rattle.blink_live.specs.declared.view.View.{View}
 use Rattle.blink_live.specs.Changes.{after}
+use Rattle.blink_live.specs.Ledger.{AreApart, HaveAuthors, accounts_of, made_at}
 use Rattle.blink_live.specs.Merge.{KeepsTree}
 use Rattle.blink_live.specs.Rule.{HasPlace, IsInRole, Knows, IsTableAt, IsTable}
 use Rattle.blink_live.specs.Views.{IsCommon}
@@ -32,6 +34,9 @@ pub record IsAtEndOfAll (plan : Plan) (words : List ℕ) (v : View) : Type 0 whe
   pub tree : KeepsTree plan.counts words plan.fan now
   pub final : List Change
   pub saw : IsPrefix v.seen final
+  pub authors : HaveAuthors plan.places final
+  pub accounts : (account : Account) → Contains (accounts_of v) account → made_at account.place final ≡ account.changes
+  pub apart : AreApart (accounts_of v)
   pub kept : (key : ℕ) → pointer_of now key ≡ after (pointer_of plan.opening) final key
 
 module _ (plan : Plan) (s : State ℕ View) (tree_state : TreeState) (h : IsTableAt plan s tree_state) (common : IsCommon plan) (idle : AreIdle plan s.words) where
@@ -63,6 +68,9 @@ module _ (plan : Plan) (s : State ℕ View) (tree_state : TreeState) (h : IsTabl
     tree = keeps_tree plan s tree_state h nobody_at_work;
     final = h.log;
     saw = (h.views id v at).saw;
+    authors = (h.ledger common).authors;
+    accounts = λ account has. ((h.ledger common).accounts id v at account has).all;
+    apart = (h.ledger common).apart id v at;
     kept = h.kept;
   }
 

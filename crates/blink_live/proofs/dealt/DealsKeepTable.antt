@@ -7,16 +7,20 @@ use Rattle.atomic_table.specs.Table.{State, Splits}
 use Rattle.atomic_table.proofs.Lists.{at_longer}
 use Rattle.blink_batch.specs.{pointer_of}
 use Rattle.blink_machine.specs.TreeState.{TreeState}
+use Rattle.blink_live.specs.declared.view.Change.{Change}
 use Rattle.blink_live.specs.declared.view.Plan.{Plan}
+use Rattle.blink_live.specs.declared.view.Role.{Role}
 use Rattle.blink_live.specs.declared.view.Role.TheVariants.{Keeper, Pass}
 use Rattle.blink_live.specs.declared.view.View.{View}
 use Rattle.blink_live.specs.Changes.{put, after, entries_after, states_of}
 use Rattle.blink_live.specs.Dealing.{CanDeal}
+use Rattle.blink_live.specs.Ledger.{IsAccount, IsLedger, made_at, account_of, accounts_in, accounts_of}
 use Rattle.blink_live.specs.Rule.{HasPool, Owners, IsFree, IsShare, IsInRole, Knows, pass_count, passes_in, AreCounted, IsTableAt, IsTable}
-use Rattle.blink_live.specs.Views.{is_among, share_of_keys, deals_one, dealt_in, keeps_rest, gets_first, latch_in, IsCommon}
+use Rattle.blink_live.specs.Views.{is_among, changes_of, share_of_keys, deals_one, dealt_in, keeps_rest, gets_first, latch_in, IsCommon}
 use Rattle.blink_live.specs.Words.{place_word}
 use Rattle.blink_live.proofs.dealt.KeysOfShare.{among_from_contains, contains_from_among, entries_of_keep, changes_of_keep}
 use Rattle.blink_live.proofs.told.EntriesAfterChanges.{after-same_states, entries_after-state}
+use Rattle.blink_live.proofs.table.LedgerStays.{ledger_longer, ledger_stays, ledger_with_place, nothing_more, one_apart, only_account, prefix_made}
 use Rattle.blink_live.proofs.table.MapsWithOneChange.{put_here, put_else}
 use Rattle.blink_live.proofs.table.OwnersChange.{StaysPublished, StillOwns, reads_still, share_still, knows_still, owners_change}
 use Rattle.blink_live.proofs.table.OwnersInRange.{ranged, ranged_in, ranged_out}
@@ -33,6 +37,11 @@ owners_after old seat v rows pages keys = record {
   latch_number = put old.latch_number seat (latch_in v.plan.places (v.rows.next + rows));
   place = put old.place (dealt_in v.role) (suc seat);
 }
+
+-- the changes of no key
+none_of_these : (keys : List ℕ) (changes : List Change) → ((key : ℕ) → is_among keys key ≡ false) → changes_of keys changes ≡ []
+none_of_these keys [] none = refl
+none_of_these keys (change ∷ rest) none = ap (λ (b : Bool). if b then change ∷ changes_of keys rest else changes_of keys rest) (none change.key) ∙ none_of_these keys rest none
 
 module _ (plan : Plan) (s : State ℕ View) (tree_state : TreeState) (h : IsTableAt plan s tree_state) (id : ℕ) (v : View) (at : get_elem? s.views id ≡ some v)
     (rows pages : ℕ) (keys taken : List ℕ) (can : CanDeal v rows pages keys taken) where
@@ -279,12 +288,49 @@ module _ (plan : Plan) (s : State ℕ View) (tree_state : TreeState) (h : IsTabl
         };
       }
 
+  -- the new seat's place was nobody's, and its account is empty
+  ledger_then : IsCommon plan → IsLedger plan new.place h.log views_then
+  ledger_then common =
+      let ledger = h.ledger common in
+      let place : ℕ = dealt_in v.role in
+      let same : length (set s.views id left) ≡ length s.views = length-set s.views id left in
+      let back : IsLedger plan old.place h.log (set s.views id left) = ledger_stays plan old.place h.log s.views id v left at ledger host_accounts (λ is. absurd (let e : Keeper (suc can.dealt) can.back ≡ Pass = sym left_role ∙ is in cc)) in
+      let with_place : IsLedger plan new.place h.log (set s.views id left) =
+      ledger_with_place plan old.place new.place h.log (set s.views id left) place new_seat place_left.0 (put_here old.place place (suc new_seat)) place_else back in
+      let right_account : IsAccount new.place h.log (suc (length (set s.views id left))) (account_of right) = record {
+        own = put_here old.place place (suc new_seat) ∙ ap suc (sym same);
+        all = ledger.nobodys place place_left.0 ∙ sym (no_changes common);
+      } in
+      ledger_longer plan new.place h.log (set s.views id left) right
+      (λ account has. subst (IsAccount new.place h.log (suc (length (set s.views id left)))) (only_account (account_of right) account has) right_account)
+      (one_apart (account_of right)) (λ is. none_seen (ledger.nobodys place place_left.0) ∙ sym (no_changes common)) with_place
+    where
+      host_accounts : accounts_of left ≡ accounts_of v
+      host_accounts =
+          ap (λ (r : Role). accounts_in r (account_of left) left.accounts) left_role
+          ∙ sym (ap (λ (r : Role). accounts_in r (account_of v) v.accounts) can.role)
+
+      -- no key is dealt, so no change of one comes along
+      none_among : IsCommon plan → (key : ℕ) → is_among keys key ≡ false
+      none_among common key = go (is_among keys key) refl
+        where
+          go : (b : Bool) → is_among keys key ≡ b → b ≡ false
+          go true has = absurd (let none : plan.places ≡ 0 = ap (λ (p : Plan). p.places) (sym known.same_plan) ∙ can.owned key (contains_from_among keys key has) in omega (arith, none, common))
+          go false has = refl
+
+      -- nor has the host seen a change at the place
+      none_seen : made_at (dealt_in v.role) h.log ≡ [] → made_at (dealt_in v.role) v.seen ≡ []
+      none_seen none = let seen = prefix_made (dealt_in v.role) v.seen h.log known.saw in nothing_more (made_at (dealt_in v.role) v.seen) seen.0 (seen.1 ∙ none)
+
+      no_changes : IsCommon plan → changes_of keys v.seen ≡ []
+      no_changes common = none_of_these keys v.seen (none_among common)
+
   deals_at : IsTableAt plan record { words = s.words; homes = s.homes; views = views_then } tree_state
   deals_at = owners_change plan s tree_state h new views_then published holder_else all_know
       (let same : length (set s.views id left) ≡ length s.views = length-set s.views id left in
       let longer : length views_then ≡ length (set s.views id left) + 1 = length-append (set s.views id left) (right ∷ []) in
       omega (arith, same, longer))
-      nobodys_then pool_then counted_then
+      nobodys_then pool_then ledger_then counted_then
 
 pub deals_keep_table : (plan : Plan) (id : ℕ) (v : View) (rows pages : ℕ) (keys taken : List ℕ) → CanDeal v rows pages keys taken
     → Splits (IsTable plan) id v (keeps_rest v rows pages taken) (gets_first v rows pages keys)

@@ -79,7 +79,8 @@ reads_page_word plan slots id number me m role at_m fits needs some_number in_ra
       load_keeps plan s tree_state h id number me.0 w at role (m, at_m) invariant refl
           (λ some_other is. ap (descent_bound tree_state.pages) (sym (goes_on_as then then.state some_other is)))
           is_page
-          ([], append-nil h.log),
+          ([], append-nil h.log)
+          (h.views id me.0 at).saw,
       λ same at_same needed. subst (λ (k : PlainMachine). (machine : PlainMachine) × LoadsPage k number me row machine (w, me.1)) (let e : m ≡ same = cc in e) (
         then,
         record {

@@ -82,7 +82,7 @@ reads_prime_word plan slots id me m role at_m fits needs s table homes at small 
       w,
       keeps,
       tt,
-      load_keeps plan s tree_state h id 0 me.0 w at role (m, at_m) comes.invariant refl (λ some_other is. ap (descent_bound tree_state.pages) (sym (goes_on_as then then.state some_other is))) h.prime ([], append-nil h.log),
+      load_keeps plan s tree_state h id 0 me.0 w at role (m, at_m) comes.invariant refl (λ some_other is. ap (descent_bound tree_state.pages) (sym (goes_on_as then then.state some_other is))) h.prime ([], append-nil h.log) (h.views id me.0 at).saw,
       λ same at_same needed. subst (λ (k : PlainMachine). (machine : PlainMachine) × LoadsPrime k me row machine (w, me.1)) (let e : m ≡ same = cc in e) (
         then,
         record {

@@ -109,6 +109,7 @@ module _ (plan : Plan) (some_number : 1 ≤ plan.counts.numbers) (s : State ℕ 
       let longer : length views_then ≡ length (set s.views id (parts_with v keys)) + 1 = length-append (set s.views id (parts_with v keys)) (parcel_of v keys ∷ []) in
       omega (arith, same, longer))
       (λ common. absurd (let none : plan.places ≡ 0 = ap (λ (p : Plan). p.places) (sym known.same_plan) ∙ owned in omega (arith, none, common)))
+      (λ common. absurd (let none : plan.places ≡ 0 = ap (λ (p : Plan). p.places) (sym known.same_plan) ∙ owned in omega (arith, none, common)))
       (λ common. absurd (let none : plan.places ≡ 0 = ap (λ (p : Plan). p.places) (sym known.same_plan) ∙ owned in omega (arith, none, common))) counted_then
 
 pub parting_keeps_table : (plan : Plan) (id : ℕ) (v : View) (keys : List ℕ) → 1 ≤ plan.counts.numbers → v.role ≡ Pass → IsOwned v.plan → ((key : ℕ) → Contains keys key → Contains v.share.keys key)

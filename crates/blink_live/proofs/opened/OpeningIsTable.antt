@@ -1,6 +1,6 @@
 -- The words of a table that opens are a table: the tree at rest, with its keeper alone.
 use Rattle.std.proofs.Common.{◌≡◌, ℕ, zero, suc, ◌+◌, ◌<◌, ◌≤◌, Option, None, List, [], ◌∷◌, length, refl, sym, subst, inl, inr, arith}
-use Rattle.std.specs.Prelude.{slice_index}
+use Rattle.std.specs.Prelude.{Contains, slice_index}
 use Rattle.std.proofs.lemmas.Bool.{cases_lt}
 use Rattle.std.proofs.lemmas.Option.{slice_get_past}
 use mathlib.Core.Option.{some, some-ne-none, some-injective}
@@ -16,13 +16,17 @@ use Rattle.blink_machine.specs.TreeState.{TreeState}
 use Rattle.blink_machine.specs.Invariant.{Invariant}
 use Rattle.blink_machine.specs.{IsOpening, IsMapOf}
 use Rattle.blink_machine.proofs.Offered.{step_law}
+use Rattle.blink_live.specs.declared.view.Account.{Account}
 use Rattle.blink_live.specs.declared.view.Plan.{Plan}
+use Rattle.blink_live.specs.declared.view.Role.TheVariants.{Pass}
 use Rattle.blink_live.specs.declared.view.View.{View}
 use Rattle.blink_live.specs.Laid.{IsLaidWith}
+use Rattle.blink_live.specs.Ledger.{AreApart, HasSeenItsOwn, IsAccount, accounts_of}
 use Rattle.blink_live.specs.Rule.{HasNumbers, HasPool, HasRows, Owners, IsPublished, PageWordIs, Knows, IsTable}
 use Rattle.blink_live.specs.Views.{IsCommon, first_span, first_view, span}
 use Rattle.blink_live.specs.Words.{RowIs}
 use Rattle.blink_live.proofs.table.CallsOfSeats.{nothing_for_call}
+use Rattle.blink_live.proofs.table.LedgerStays.{none_apart}
 
 -- the plan of a table that opens
 abbrev pub plan_over : PlainStore → PlainCounts → ℕ → Plan
@@ -195,6 +199,13 @@ module _ (store : PlainStore) (counts : PlainCounts) (places : ℕ) (words : Lis
           kept = λ key. refl;
           nobodys = λ common key. refl;
           pool = first_pool;
+          ledger = λ common. record {
+            authors = λ k d inside. absurd (omega (arith, inside));
+            nobodys = λ place none. refl;
+            accounts = one_view (λ seat v. (account : Account) → Contains (accounts_of v) account → IsAccount owners.place [] (suc seat) account) (first_view (length store.pages) plan) (λ account has. let inside = has.1 in absurd (omega (arith, inside)));
+            apart = one_view (λ seat v. AreApart (accounts_of v)) (first_view (length store.pages) plan) none_apart;
+            saw_own = one_view (λ seat v. v.role ≡ Pass → HasSeenItsOwn v) (first_view (length store.pages) plan) (λ is. absurd (cc));
+          };
           views = one_view (Knows plan owners words (tree_state_over store) []) (first_view (length store.pages) plan) keeper_knows;
           others_idle = λ seat late. refl;
           counted = record { keeper = first_view (length store.pages) plan; dealt = 0; back = 0; first = refl; role = refl; counted = λ owned. refl };

@@ -1,5 +1,5 @@
 -- The keeper takes the view of a pass: its keys get another owner, and its seat is spent.
-use Rattle.std.proofs.Common.{◌≡◌, ◌≢◌, ℕ, suc, ◌+◌, ◌≤◌, Bool, None, List, length, set, refl, sym, ap, ◌∙◌, subst, ⊎_elim, length-set, eq-eqb, ne_eqb, arith}
+use Rattle.std.proofs.Common.{◌≡◌, ◌≢◌, ℕ, suc, ◌+◌, ◌≤◌, Bool, None, List, [], length, set, refl, sym, ap, ◌∙◌, subst, ⊎_elim, length-set, eq-eqb, ne_eqb, arith}
 use Rattle.std.specs.Prelude.{if◌then◌else◌, ◌==◌, Contains}
 use mathlib.Core.Option.{some, some-injective}
 use lib.ListN.{get_elem?}
@@ -17,7 +17,8 @@ use Rattle.blink_live.specs.Views.{IsOwned, spent, takes_one}
 use Rattle.blink_live.proofs.table.OwnersChange.{StaysPublished, StillOwns, reads_still, share_still, knows_still, owners_change}
 use Rattle.blink_live.proofs.table.PassesOut.{passes_role}
 use Rattle.blink_live.proofs.table.SeatsThatStay.{at_put, views_stay}
-use Rattle.blink_live.proofs.table.CallsOfSeats.{call_still, nothing_for_call}
+use Rattle.blink_live.proofs.table.CallsOfSeats.{call_still}
+use Rattle.blink_live.proofs.table.SpentSeats.{spent_knows}
 
 -- the keeper with one more pass back, and with these keys taken, these shares and these changes seen
 abbrev pub takes_in : View → List ℕ → List Share → List Change → View
@@ -76,31 +77,8 @@ module _ (plan : Plan) (some_number : 1 ≤ plan.counts.numbers) (s : State ℕ 
 
   -- ---- the seat that is left
 
-  spent_knows : Knows plan new s.words tree_state h.log other (spent plan)
-  spent_knows = record {
-    same_plan = refl;
-    operation = its.operation ∙ idle;
-    bounded = λ m is. absurd (cc);
-    reads = tt;
-    rows = record {
-      in_range = (omega arith, omega arith);
-      own = λ row low high. absurd (omega (arith, low, high));
-      blank = λ row low high. absurd (omega (arith, low, high));
-    };
-    numbers = record {
-      in_range = (omega arith, some_number);
-      own = λ number low high. absurd (omega (arith, low, high));
-      free = λ number low high. absurd (omega (arith, low, high));
-    };
-    for_call = nothing_for_call plan new s.words tree_state (suc other) 1 1 (omega arith) (omega arith) some_number;
-    share = λ key has. absurd (let inside = has.1 in omega (arith, inside));
-    saw = (h.log, refl);
-    heard = (h.log, refl);
-    in_role = refl;
-    placed = λ common is. absurd (cc);
-    places_left = λ d b is. absurd (cc);
-    nothing = λ common d b is. absurd (cc);
-  }
+  left_knows : Knows plan new s.words tree_state h.log other (spent plan)
+  left_knows = spent_knows plan new s.words tree_state h.log other [] some_number (its.operation ∙ idle) (h.log, refl)
 
   -- ---- all seats
 
@@ -160,7 +138,7 @@ module _ (plan : Plan) (some_number : 1 ≤ plan.counts.numbers) (s : State ℕ 
     }
 
     all_know : (seat : ℕ) (u : View) → get_elem? views_then seat ≡ some u → Knows plan new s.words tree_state h.log seat u
-    all_know = views_stay (Knows plan new s.words tree_state h.log) (set s.views id both) other (spent plan) spent_knows
+    all_know = views_stay (Knows plan new s.words tree_state h.log) (set s.views id both) other (spent plan) left_knows
         (λ seat u not_spent at_seat. ⊎_elim
         (λ (t : (seat ≡ id) × (both ≡ u)). subst (λ (x : ℕ × View). Knows plan new s.words tree_state h.log x.0 x.1) (λ i. (sym t.0 i, t.1 i)) both_knows)
         (λ (t : (seat ≢ id) × (get_elem? s.views seat ≡ some u)). knows_still plan old new s.words h.log published tree_state seat u
@@ -173,5 +151,6 @@ module _ (plan : Plan) (some_number : 1 ≤ plan.counts.numbers) (s : State ℕ 
         (let one : length (set s.views id both) ≡ length s.views = length-set s.views id both in
         let two : length views_then ≡ length (set s.views id both) = length-set (set s.views id both) other (spent plan) in
         omega (arith, one, two))
+        (λ common. absurd (let none : plan.places ≡ 0 = ap (λ (p : Plan). p.places) (sym known.same_plan) ∙ owned in omega (arith, none, common)))
         (λ common. absurd (let none : plan.places ≡ 0 = ap (λ (p : Plan). p.places) (sym known.same_plan) ∙ owned in omega (arith, none, common)))
         (λ common. absurd (let none : plan.places ≡ 0 = ap (λ (p : Plan). p.places) (sym known.same_plan) ∙ owned in omega (arith, none, common))) counted_then

@@ -14,6 +14,7 @@ use Rattle.blink_live.specs.AtomicSteps.{looks_around, looks_back, looks_up}
 use Rattle.blink_live.specs.Changes.{states_of}
 use Rattle.blink_live.specs.Rule.{Owners, IsInRole, Knows, passes_in, IsTable, IsTableAt}
 use Rattle.blink_live.specs.Views.{IsCommon, IsOwned, SeatState, forgets_told, learns_of_others}
+use Rattle.blink_live.proofs.table.LedgerStays.{account, still_saw}
 use Rattle.blink_live.proofs.table.LoadsKeepTable.{moved, load_knows_in, load_keeps_with}
 use Rattle.blink_live.proofs.table.MapsWithOneChange.{put_same}
 use Rattle.blink_live.proofs.table.SharesAreKnown.{share_is_known}
@@ -42,10 +43,10 @@ forgets plan owners words tree_state log id v known = record {
 }
 
 -- and may have seen any prefix of the changes that agrees with its role
-looks : (plan : Plan) (s : State ℕ View) (tree_state : TreeState) (h : IsTableAt plan s tree_state) (id : ℕ) (v : View) → get_elem? s.views id ≡ some v → (seen : List Change) → IsPrefix seen h.log
+looks : (plan : Plan) (s : State ℕ View) (tree_state : TreeState) (h : IsTableAt plan s tree_state) (id : ℕ) (v : View) → get_elem? s.views id ≡ some v → (seen : List Change) → IsPrefix seen h.log → IsPrefix v.seen seen
     → IsInRole plan h.owners h.log id (record v { seen = seen }) v.role
     → IsTable plan record { words = set s.words 0 (get_or s.words 0 0); homes = s.homes; views = set s.views id (learns_of_others v seen) }
-looks plan s tree_state h id v at seen saw in_role =
+looks plan s tree_state h id v at seen saw more in_role =
     let known = h.views id v at in
     let still = step_law.idle_workers_dont_matter tree_state (moved tree_state id v.operation) (record {
       same_fan = refl;
@@ -54,7 +55,8 @@ looks plan s tree_state h id v at seen saw in_role =
       same_holder = λ number. refl;
       same_machines = put_same tree_state.machines id v.operation known.operation;
     }) h.invariant in
-    load_keeps_with plan s tree_state h id 0 v (learns_of_others v seen) at still refl refl
+    load_keeps_with plan s tree_state h id 0 v (learns_of_others v seen) at still refl refl refl
+    (λ common role. still_saw plan h.owners.place h.log s.views id v (learns_of_others v seen) at (h.ledger common) (account plan h.owners.place h.log s.views id v (learns_of_others v seen) at (h.ledger common) role) seen more saw role)
     (forgets plan h.owners s.words (moved tree_state id v.operation) h.log id (record v { seen = seen }) (load_knows_in plan s tree_state h id 0 v (record v { seen = seen }) at in_role (λ common role m goes. (known.placed common role).busy m goes) refl known.bounded known.reads saw))
 
 -- a pass's role says nothing of what it has seen
@@ -71,7 +73,7 @@ looks_up_prime plan slots id me role s table homes at small =
       learns_of_others me.0 h.log,
       keeps,
       tt,
-      looks plan s table.0 h id me.0 at h.log ([], append-nil h.log) (pass_in_role plan h.owners h.log id me.0 h.log role known.in_role),
+      looks plan s table.0 h id me.0 at h.log ([], append-nil h.log) known.saw (pass_in_role plan h.owners h.log id me.0 h.log role known.in_role),
       record { seen = h.log; is = refl; learns = record { saw = known.saw; heard = known.heard }; knows_own = share_is_known plan h.owners (suc id) (learns_of_others me.0 h.log) known.same_plan known.share },
     )
 
@@ -86,7 +88,7 @@ host_looks_up_prime plan slots id me dealt back role common s table homes at sma
       learns_of_others me.0 h.log,
       keeps,
       tt,
-      looks plan s table.0 h id me.0 at h.log ([], append-nil h.log) (subst (IsInRole plan h.owners h.log id (record me.0 { seen = h.log })) (sym role) then),
+      looks plan s table.0 h id me.0 at h.log ([], append-nil h.log) known.saw (subst (IsInRole plan h.owners h.log id (record me.0 { seen = h.log })) (sym role) then),
       record { seen = h.log; is = refl; learns = record { saw = known.saw; heard = known.heard }; knows_own = share_is_known plan h.owners (suc id) (learns_of_others me.0 h.log) known.same_plan known.share },
     )
 
@@ -98,7 +100,7 @@ looks_back_at_prime plan slots id me role s table homes at small =
       forgets_told me.0,
       keeps,
       tt,
-      looks plan s table.0 h id me.0 at me.0.seen known.saw known.in_role,
+      looks plan s table.0 h id me.0 at me.0.seen known.saw ([], append-nil me.0.seen) known.in_role,
       record {
         is = refl;
         no_more = prefix_shows_no_more plan h.owners h.log (suc id) me.0.share me.0.told known.share known.heard;
@@ -115,7 +117,7 @@ looks_around_at_prime plan slots id me dealt back role owned s table homes at sm
       forgets_told me.0,
       keeps,
       tt,
-      looks plan s table.0 h id me.0 at me.0.seen known.saw known.in_role,
+      looks plan s table.0 h id me.0 at me.0.seen known.saw ([], append-nil me.0.seen) known.in_role,
       record {
         is = refl;
         no_more = λ key untaken. subst (λ (states : List (Option ℕ)). IsPrefix (states_of key me.0.told) states) (sym ((kept.2 key untaken).saw_all owned)) (states_of-prefix key me.0.told h.log known.heard);

@@ -13,10 +13,11 @@ use Rattle.blink_live.specs.declared.view.Change.{Change}
 use mathlib.Core.List.{IsPrefix}
 use Rattle.blink_live.specs.Rule.{Owners, IsInRole, Knows, passes_in, AreCounted, IsTableAt, IsTable}
 use Rattle.blink_live.specs.Views.{hears, note_of, spent}
+use Rattle.blink_live.proofs.table.LedgerStays.{ledger_longer, ledger_stays, no_accounts, none_apart}
 use Rattle.blink_live.proofs.table.OwnersChange.{owners_change}
 use Rattle.blink_live.proofs.table.PassesOut.{at_end, passes_more}
 use Rattle.blink_live.proofs.table.SeatsThatStay.{views_stay, counted_stays}
-use Rattle.blink_live.proofs.table.CallsOfSeats.{nothing_for_call}
+use Rattle.blink_live.proofs.table.SpentSeats.{spent_knows}
 
 -- a seat's role says nothing of the note that it holds
 pub told_in_role : (plan : Plan) (owners : Owners) (log : List Change) (seat : ℕ) (v : View) (told : List Change) (role : Role) → IsInRole plan owners log seat v role → IsInRole plan owners log seat (record v { told = told }) role
@@ -27,30 +28,7 @@ told_in_role plan owners log seat v told Spent is = is
 module _ (plan : Plan) (some_number : 1 ≤ plan.counts.numbers) (s : State ℕ View) (tree_state : TreeState) (h : IsTableAt plan s tree_state) where
   -- a seat that has nothing knows what it was told
   pub told_knows : (seat : ℕ) (told : List Change) → tree_state.machines seat ≡ None → IsPrefix told h.log → Knows plan h.owners s.words tree_state h.log seat (record (spent plan) { told = told })
-  told_knows seat told idle heard = record {
-    same_plan = refl;
-    operation = idle;
-    bounded = λ m is. absurd (cc);
-    reads = tt;
-    rows = record {
-      in_range = (omega arith, omega arith);
-      own = λ row low high. absurd (omega (arith, low, high));
-      blank = λ row low high. absurd (omega (arith, low, high));
-    };
-    numbers = record {
-      in_range = (omega arith, some_number);
-      own = λ number low high. absurd (omega (arith, low, high));
-      free = λ number low high. absurd (omega (arith, low, high));
-    };
-    for_call = nothing_for_call plan h.owners s.words tree_state (suc seat) 1 1 (omega arith) (omega arith) some_number;
-    share = λ key has. absurd (let inside = has.1 in omega (arith, inside));
-    saw = (h.log, refl);
-    heard = heard;
-    in_role = refl;
-    placed = λ common is. absurd (cc);
-    places_left = λ dealt back is. absurd (cc);
-    nothing = λ common d b is. absurd (cc);
-  }
+  told_knows seat told idle heard = spent_knows plan h.owners s.words tree_state h.log seat told some_number idle heard
 
   -- ---- a note
 
@@ -86,7 +64,8 @@ module _ (plan : Plan) (some_number : 1 ≤ plan.counts.numbers) (s : State ℕ 
 
     recorded : IsTableAt plan record { words = s.words; homes = s.homes; views = views_then } tree_state
     recorded = owners_change plan s tree_state h h.owners views_then (λ row is. is) (λ number seat holds. refl) all_know
-        (let longer : length views_then ≡ length s.views + 1 = length-append s.views (note_of v ∷ []) in omega (arith, longer)) h.nobodys h.pool counted_then
+        (let longer : length views_then ≡ length s.views + 1 = length-append s.views (note_of v ∷ []) in omega (arith, longer)) h.nobodys h.pool
+        (λ common. ledger_longer plan h.owners.place h.log s.views (note_of v) (λ account has. let none = has.1 in absurd (omega (arith, none))) none_apart (λ is. absurd (cc)) (h.ledger common)) counted_then
 
   -- ---- it is taken
 
@@ -133,6 +112,7 @@ module _ (plan : Plan) (some_number : 1 ≤ plan.counts.numbers) (s : State ℕ 
         (let one : length (set s.views id both) ≡ length s.views = length-set s.views id both in
         let two : length taken ≡ length (set s.views id both) = length-set (set s.views id both) other (spent plan) in
         omega (arith, one, two)) h.nobodys h.pool
+        (λ common. ledger_stays plan h.owners.place h.log (set s.views id both) other w (spent plan) there (ledger_stays plan h.owners.place h.log s.views id v both at (h.ledger common) refl ((h.ledger common).saw_own id v at)) (no_accounts w its_role) (λ is. absurd (cc)))
         (counted_stays (set s.views id both) other w (spent plan) there (sym its_role) (sym its.same_plan) (counted_stays s.views id v both at refl refl h.counted))
 
 pub note_keeps_table : (plan : Plan) (id : ℕ) (v : View) → 1 ≤ plan.counts.numbers → Splits (IsTable plan) id v v (note_of v)

@@ -1,5 +1,6 @@
-use Rattle.std.proofs.Common.{◌≡◌, ℕ, ◌<◌, ◌≤◌, List, sym, ap, ◌∙◌, subst}
-use Rattle.std.specs.Prelude.{slice_index}
+use Rattle.std.proofs.Common.{◌≡◌, ℕ, ◌<◌, ◌≤◌, List, get_or, sym, ap, ◌∙◌, subst}
+use Rattle.std.specs.Prelude.{Contains, slice_index}
+use Rattle.std.proofs.lemmas.List.Elements.{Contains-get_or}
 use Rattle.std.specs.Mem.Slots.{slots_items}
 use Rattle.atomic_table.specs.Table.{Final, Seen}
 use Rattle.atomic_table.specs.declared.Seat.{Seat}
@@ -10,8 +11,11 @@ use Rattle.blink_machine.specs.{IsMapOf}
 use Rattle.blink_rows.specs.{PlainCounts}
 use Rattle.blink_store.specs.{PlainStore}
 use Rattle.blink_live.specs.declared.live.Live.{Live}
+use Rattle.blink_live.specs.declared.view.Account.{Account}
+use Rattle.blink_live.specs.declared.view.Role.{Role}
 use Rattle.blink_live.specs.declared.view.View.{View}
 use Rattle.blink_live.specs.Common.{HasAllChanges, IsHost}
+use Rattle.blink_live.specs.Ledger.{AreApart, HaveAuthors, account_of, accounts_in, accounts_of}
 use Rattle.blink_live.specs.Merge.{KeepsTree}
 use Rattle.blink_live.specs.Rule.{IsTable}
 use Rattle.blink_live.specs.Views.{IsCommon, plan_of}
@@ -32,10 +36,16 @@ module _ (live : Live) (seat : Seat ℕ View) (host : IsHost live seat) (words s
   tree : KeepsTree live.counts words live.fan ends.now
   tree = subst (λ (x : PlainCounts × ℕ). KeepsTree x.0 words x.1 ends.now) (λ i. (sym live.counts_are i, sym live.fan_is.0 i)) ends.tree
 
+  host_has : accounts_of seat.me.0 ≡ seat.me.0.accounts
+  host_has = ap (λ (r : Role). accounts_in r (account_of seat.me.0) seat.me.0.accounts) host.role
+
   all_changes : (store : PlainStore) → IsMapOf store ends.now → HasAllChanges live seat (map_of store)
   all_changes store is = record {
     final = ends.final;
     saw = ends.saw;
+    authors = subst (λ (n : ℕ). HaveAuthors n ends.final) (sym live.places_are) ends.authors;
+    accounts = λ k d inside. ends.accounts (get_or seat.me.0.accounts k d) (subst (λ (l : List Account). Contains l (get_or seat.me.0.accounts k d)) (sym host_has) (Contains-get_or seat.me.0.accounts k d inside));
+    apart = subst AreApart host_has ends.apart;
     kept = λ key. ap (λ (entries : List Entry). pointer_of entries key) (map_is store ends.now is) ∙ ends.kept key;
   }
 

@@ -1,4 +1,4 @@
-use Rattle.std.proofs.Common.{◌≡◌, ℕ, ◌+◌, ◌≤◌, inl, refl, sym, ap, ◌∙◌, arith}
+use Rattle.std.proofs.Common.{◌≡◌, ℕ, ◌+◌, ◌≤◌, inl, refl, sym, ap, ◌∙◌, subst, arith}
 use Rattle.atomic_table.specs.declared.Seat.{Seat}
 use Rattle.blink_batch.specs.declared.Op.{Op}
 use Rattle.blink_rows.specs.declared.span.Span.{Span}
@@ -8,6 +8,7 @@ use Rattle.blink_live.specs.declared.room.Room.{Room as CallRoom}
 use Rattle.blink_live.specs.declared.view.Plan.{Plan}
 use Rattle.blink_live.specs.declared.view.View.{View}
 use Rattle.blink_live.specs.GivingBack.{gives_back}
+use Rattle.blink_live.specs.Ledger.{HasSeenItsOwn}
 use Rattle.blink_live.specs.Updating.{IsUnderWay}
 use Rattle.blink_live.specs.Views.{SeatState, is_busy, span}
 use Rattle.blink_live.proofs.Offered.{at_end, is_its_seat}
@@ -139,6 +140,7 @@ invariant_of-self g c =
       no_key = ap (λ (v : View). v.share.keys) end ∙ (ended.answers.keys ∙ (ap (λ (v : View). v.share.keys) start ∙ old.no_key));
       none_told = ap (λ (v : View). v.told) end ∙ ((used is).told ∙ (ap (λ (v : View). v.told) start ∙ old.none_told));
       idle = ap (λ (v : View). v.operation) end ∙ ended.idle;
+      saw_own = subst HasSeenItsOwn (sym (ap (λ (x : SeatState). x.0) is_idle)) c.mark-2.ensures.saw_own;
       no_slot = ap (λ (x : SeatState). x.1) is_idle ∙ (ap (λ (x : SeatState). x.1) is_back ∙ (ended.same_slots ∙ (ap (λ (x : SeatState). x.1) begun ∙ old.no_slot)));
     }
 
@@ -165,5 +167,6 @@ returns g c =
       same_member = record {
         same_table = c.mark-2.ensures.same.0 ∙ (c.give_back.ensures.same.0 ∙ (is.same_number.0 ∙ c.mark.ensures.same.0));
         same_plan = ap (λ (v : View). v.plan) (now live c.args.op old c.requires.its_own first last back idle m room begun is is_back is_idle) ∙ last_plan live c.args.op old c.requires.its_own first last back idle m room begun is is_back is_idle;
+        same_place = sym (place_now live c.args.op old c.requires.its_own first last back idle m room begun is is_back is_idle ∙ sym (ap (λ (x : SeatState). x.0.place) is_idle)) ∙ old.place_is.0;
       };
     }

@@ -1,0 +1,42 @@
+-- The host settles with one session more, and what a closed map says of all of them.
+use Rattle.std.proofs.Common.{◌≡◌, ◌≢◌, ℕ, zero, suc, ◌<◌, List, [], ◌∷◌, ◌++◌, get_or, length, map, ap, ◌∙◌, subst, length-append, arith}
+use Rattle.std.specs.Prelude.{All, AllPairs}
+use Rattle.std.proofs.lemmas.List.{get_or-map, get_or_append_left, length-map}
+use mathlib.Core.List.{IsPrefix}
+use Rattle.atomic_table.specs.declared.Seat.{Seat}
+use Rattle.blink_live.specs.declared.view.Account.{Account}
+use Rattle.blink_live.specs.declared.view.Change.{Change}
+use Rattle.blink_live.specs.declared.view.View.{View}
+use Rattle.blink_live.specs.Ledger.{AreApart, made_at}
+use Rattle.blink_live.proofs.Offered.{prefix_of_prefix}
+use Rattle.blink_map.specs.declared.map.Session.{Session}
+use Rattle.blink_map.specs.Closing.{HasSettled, account_of_session}
+use Rattle.blink_map.specs.Sessions.{made_by, place_of, seen_by}
+
+pub one_more_settled : (sessions : List Session) (session : Session) (first old new : Seat ℕ View) → HasSettled sessions first old → IsPrefix old.me.0.seen new.me.0.seen → IsPrefix (seen_by session) new.me.0.seen
+    → new.me.0.accounts ≡ account_of_session session ∷ old.me.0.accounts → HasSettled (session ∷ sessions) first new
+one_more_settled sessions session first old new settled saw its taken = record { saw = all; accounts = taken ∙ ap (λ (l : List Account). account_of_session session ∷ l) settled.accounts }
+  where
+    all : All (λ (one : Session). IsPrefix (seen_by one) new.me.0.seen) (session ∷ sessions)
+    all zero d inside = its
+    all (suc k) d inside = prefix_of_prefix (seen_by (get_or sessions k d)) old.me.0.seen new.me.0.seen (settled.saw k d (omega (arith, inside))) saw
+
+-- a session at its place in the list has its account there
+account_at : (sessions : List Session) (others : List Account) (k : ℕ) (d : Session) → k < length sessions → (get_or (map account_of_session sessions ++ others) k (account_of_session d) ≡ account_of_session (get_or sessions k d)) × (k < length (map account_of_session sessions ++ others))
+account_at sessions others k d inside =
+    let mapped : k < length (map account_of_session sessions) = let same = length-map sessions account_of_session in omega (arith, inside, same) in (
+      get_or_append_left (map account_of_session sessions) others (account_of_session d) k mapped ∙ get_or-map account_of_session sessions k d (account_of_session d) inside,
+      let longer = length-append (map account_of_session sessions) others in omega (arith, mapped, longer),
+    )
+
+pub made_of_all : (sessions : List Session) (others : List Account) (final : List Change) → All (λ (account : Account). made_at account.place final ≡ account.changes) (map account_of_session sessions ++ others)
+    → All (λ (session : Session). made_at (place_of session) final ≡ made_by session) sessions
+made_of_all sessions others final all k d inside =
+    let at = account_at sessions others k d inside in
+    subst (λ (account : Account). made_at account.place final ≡ account.changes) at.0 (all k (account_of_session d) at.1)
+
+pub all_apart : (sessions : List Session) (others : List Account) → AreApart (map account_of_session sessions ++ others) → AllPairs (λ (one other : Session). place_of one ≢ place_of other) sessions
+all_apart sessions others apart i j d before inside =
+    let one = account_at sessions others i d (omega (arith, before, inside)) in
+    let other = account_at sessions others j d inside in
+    subst (λ (t : Account × Account). t.0.place ≢ t.1.place) (λ n. (one.0 n, other.0 n)) (apart i j (account_of_session d) before other.1)
