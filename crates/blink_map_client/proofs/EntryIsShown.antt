@@ -8,23 +8,21 @@ use Rattle.blink_batch.specs.{answer_at}
 use Rattle.blink_live.specs.declared.view.Change.{Change}
 use Rattle.blink_live.specs.Changes.{after, changes_made, last_state, states_of}
 use Rattle.blink_live.proofs.Offered.{after-append, after-last_state}
-
-abbrev pub entry_of : ℕ → ℕ → Change
-entry_of key pointer = record { key = key; pointer = Some pointer }
+use Rattle.blink_map.specs.{change_to}
 
 -- an insertion that is answered so has made this change
-pub insertion_made : (key pointer : ℕ) (kept : Option ℕ) → Inserted ≡ answer_at (Insert key pointer) kept → changes_made (Insert key pointer) kept ≡ entry_of key pointer ∷ []
-insertion_made key pointer None is = refl
-insertion_made key pointer (Some there) is = absurd (cc)
+pub insertion_made : (author key pointer : ℕ) (kept : Option ℕ) → Inserted ≡ answer_at (Insert key pointer) kept → changes_made author (Insert key pointer) kept ≡ change_to author key pointer ∷ []
+insertion_made author key pointer None is = refl
+insertion_made author key pointer (Some there) is = absurd (cc)
 
 -- and where no later change of the key is seen, the key maps to the pointer
-pub still_there : (f : ℕ → Option ℕ) (key pointer : ℕ) (before later : List Change) → states_of key later ≡ [] → after f ((before ++ entry_of key pointer ∷ []) ++ later) key ≡ Some pointer
-still_there f key pointer before later none =
-    let first : List Change = before ++ entry_of key pointer ∷ [] in
+pub still_there : (f : ℕ → Option ℕ) (author key pointer : ℕ) (before later : List Change) → states_of key later ≡ [] → after f ((before ++ change_to author key pointer ∷ []) ++ later) key ≡ Some pointer
+still_there f author key pointer before later none =
+    let first : List Change = before ++ change_to author key pointer ∷ [] in
     after-append f first later key
     ∙ (after-last_state (after f first) later key
     ∙ (ap (last_state (after f first key)) none
-    ∙ (after-append f before (entry_of key pointer ∷ []) key
+    ∙ (after-append f before (change_to author key pointer ∷ []) key
     ∙ ap (λ (b : Bool). if b then Some pointer else after f before key) (eq-eqb key key refl))))
 
 -- what a longer list goes on with

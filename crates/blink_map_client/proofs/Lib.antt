@@ -1,1 +1,2 @@
 mod EntryIsShown
+mod OneIsFirst

@@ -2,5 +2,8 @@
 
 -- what was shown
 pub use Rattle.blink_map_client.specs.Shown.{IsShown}
+-- two insertions of one key
+pub use Rattle.blink_map_client.specs.Racing.{OneIsInserted}
 -- ---- the files
 pub mod Shown
+pub mod Racing

@@ -1,11 +1,14 @@
 //! What callers of a map know from its contracts alone.
 #![tactic(auto)]
 
-ghost use Rattle.blink_map.specs.{IsSessionOf, seen_by};
+ghost use Rattle.std.specs.Prelude.{◌≡◌, [], ◌∷◌, IfSome};
+ghost use Rattle.blink_map.specs.{IsSessionOf, place_of, places_of, seen_by};
+ghost use Rattle.blink_map_client.specs.Racing.{OneIsInserted};
 ghost use Rattle.blink_map_client.specs.Shown.{IsShown};
 
 use blink_batch::Answer;
 use blink_map::{Map, Session};
+use std::alloc::Global;
 use std::sync::Wait;
 
 /// One session inserts an entry and tells another session, which looks the key up. It finds the entry, unless it has seen a later
@@ -21,7 +24,7 @@ pub fn insert_and_show<R: Wait>(
 ) -> Option<Option<u64>>
     requires ones { IsSessionOf map.now one.old }
     requires others { IsSessionOf map.now other.old }
-    ensures shown { IsShown (seen_by other.new) key pointer result }
+    ensures shown { IsShown (seen_by other.new) (place_of one.old) key pointer result }
 {
     match map.insert(rt, one, key, pointer) {
         Ok(Answer::Inserted) => {}
@@ -29,4 +32,43 @@ pub fn insert_and_show<R: Wait>(
     }
     map.tell(one, other);
     Some(map.find(other, key))
+}
+
+/// Two sessions of a map with no third insert one key, and exactly one of them is answered `Inserted`. The other one is answered
+/// that the key has the first one's pointer. Which is which the contracts leave open: they say nothing of time. The call returns
+/// nothing, if the key was there, an insertion was refused, or the map can't be closed.
+pub fn insert_by_two<R: Wait>(
+    rt: &R,
+    alloc: Global,
+    map: Map,
+    mut one: Session,
+    mut other: Session,
+    key: u64,
+    pointers: (u64, u64),
+) -> Option<(Answer, Answer)>
+    requires ones { IsSessionOf map one }
+    requires others { IsSessionOf map other }
+    requires no_third { places_of map ≡ 2 }
+    ensures { IfSome result (λ answers. OneIsInserted pointers.0 pointers.1 answers.0 answers.1) }
+{
+    map.tell(&mut other, &mut one);
+    if map.find(&mut one, key).is_some() {
+        return None;
+    }
+    map.tell(&mut one, &mut other);
+    let first = map.insert(rt, &mut one, key, pointers.0).ok()?;
+    let second = map.insert(rt, &mut other, key, pointers.1).ok()?;
+    let sessions = pair(alloc, one, other)?;
+    map.close(alloc, sessions).ok()?;
+    Some((first, second))
+}
+
+// The two sessions in a list; nothing, if memory was refused.
+fn pair(alloc: Global, one: Session, other: Session) -> Option<Vec<Session>>
+    ensures { IfSome result (λ sessions. sessions.items ≡ one ∷ other ∷ []) }
+{
+    let mut sessions = Vec::with_capacity(alloc, 2).ok()?;
+    sessions.push(one).ok()?;
+    sessions.push(other).ok()?;
+    Some(sessions)
 }
