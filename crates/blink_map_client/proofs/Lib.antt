@@ -1,2 +1,3 @@
 mod EntryIsShown
 mod OneIsFirst
+mod TwoInsert

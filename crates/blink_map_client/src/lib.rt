@@ -52,15 +52,23 @@ pub fn insert_by_two<R: Wait>(
     ensures { IfSome result (λ answers. OneIsInserted pointers.0 pointers.1 answers.0 answers.1) }
 {
     map.tell(&mut other, &mut one);
-    if map.find(&mut one, key).is_some() {
+    let None = map.find(&mut one, key) else {
         return None;
-    }
+    };
     map.tell(&mut one, &mut other);
-    let first = map.insert(rt, &mut one, key, pointers.0).ok()?;
-    let second = map.insert(rt, &mut other, key, pointers.1).ok()?;
-    let sessions = pair(alloc, one, other)?;
-    map.close(alloc, sessions).ok()?;
-    Some((first, second))
+    let Ok(first) = map.insert(rt, &mut one, key, pointers.0) else {
+        return None;
+    };
+    let Ok(second) = map.insert(rt, &mut other, key, pointers.1) else {
+        return None;
+    };
+    let Some(sessions) = pair(alloc, one, other) else {
+        return None;
+    };
+    match map.close(alloc, sessions) {
+        Ok(_index) => Some((first, second)),
+        Err(_) => None,
+    }
 }
 
 // The two sessions in a list; nothing, if memory was refused.
