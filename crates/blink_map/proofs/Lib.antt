@@ -1,5 +1,8 @@
 mod PlacesKept
 mod ChangesOfMembers
+mod MembersComeBack
+mod PendingsGoOn
+mod LooksOver
 mod HeardAll
 mod MembersDealt
 mod PutsAreChanges
