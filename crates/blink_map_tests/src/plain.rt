@@ -1,6 +1,7 @@
 //! A map by one thread, measured by the plain map.
 use crate::shared::Two;
 use blink_batch::{Answer, Op, Plain};
+use blink_map::Full;
 use std::process::Abort;
 use std::sync::Wait;
 
@@ -27,13 +28,12 @@ fn operation(drawn: u64) -> Op {
     }
 }
 
-// Runs the operation by a call or in steps. A find has no steps.
-fn run<R: Wait + Abort>(rt: &R, mut two: Two, op: Op, in_steps: bool) -> (Two, Answer) {
-    if in_steps && !matches!(op, Op::Find(_)) {
-        let (two, answer) = two.apply_in_steps(rt, op);
-        return (two, answer.expect(rt, "refused"));
+// Runs the operation by a call or in steps.
+fn run<R: Wait>(rt: &R, mut two: Two, op: Op, in_steps: bool) -> (Two, Result<Answer, Full>) {
+    if in_steps {
+        return two.apply_in_steps(rt, op);
     }
-    let answer = two.apply(rt, op).expect(rt, "full");
+    let answer = two.apply(rt, op);
     (two, answer)
 }
 
@@ -47,7 +47,8 @@ fn a_map_answers_as_the_plain_map(rt: HostRuntime) {
         drawn = next(drawn);
         let op = operation(drawn);
         let (then, answer) = run(&rt, two, op, turn % 3 == 0);
-        assert_eq!(&rt; Ok(answer), plain.apply(op), "{op:?}");
+        let expected = plain.apply(op).expect(&rt, "no memory");
+        assert_eq!(&rt; answer, Ok(expected), "{op:?}");
         two = if turn % 5 == 0 { then.turn() } else { then };
     }
     let index = two.close(alloc).expect(&rt, "not closed");

@@ -21,21 +21,28 @@ struct Half {
     ghost others: { IsSessionOf map other },
 }
 
-// Begins the operation. A find has no steps, and isn't begun.
-fn begin(map: &Map, session: Session, op: Op) -> Result<Pending, (Session, Option<Full>)>
+// Begins the operation. A find has no steps, and is answered at once.
+fn begin(
+    map: &Map,
+    mut session: Session,
+    op: Op,
+) -> Result<Pending, (Session, Result<Answer, Full>)>
     requires { IsSessionOf map.now session }
     ensures begun { IfOk result (IsPendingOf map.now) }
     ensures refused { IfErr result (λ refused. IsSessionOf map.now refused.0) }
 {
     let begun = match op {
-        Op::Find(_) => return Err((session, None)),
+        Op::Find(key) => {
+            let answer = op.answer(map.find(&mut session, key));
+            return Err((session, Ok(answer)));
+        }
         Op::Insert(key, pointer) => map.begin_insert(session, key, pointer),
         Op::Delete(key) => map.begin_delete(session, key),
         Op::Replace(key, pointer) => map.begin_replace(session, key, pointer),
     };
     match begun {
         Ok(pending) => Ok(pending),
-        Err((session, full)) => Err((session, Some(full))),
+        Err((session, full)) => Err((session, Err(full))),
     }
 }
 
@@ -55,33 +62,38 @@ fn end<R: Wait>(rt: &R, map: &Map, begun: Pending) -> (Session, Answer)
     unreachable!()
 }
 
-impl Two {
-    // The first session begins the operation.
-    fn begin(self, op: Op) -> Result<Half, (Two, Option<Full>)> {
-        let Two { map, one, other } = self;
-        match begin(&map, one, op) {
-            Ok(begun) => Ok(Half { map, begun, other }),
-            Err((one, full)) => Err((Two { map, one, other }, full)),
+// Runs the operation in steps.
+pub(crate) fn apply_in_steps<R: Wait>(
+    rt: &R,
+    map: &Map,
+    session: Session,
+    op: Op,
+) -> (Session, Result<Answer, Full>)
+    requires { IsSessionOf map.now session }
+    ensures { IsSessionOf map.now result.0 }
+{
+    match begin(map, session, op) {
+        Ok(begun) => {
+            let (session, answer) = end(rt, map, begun);
+            (session, Ok(answer))
         }
+        Err((session, answer)) => (session, answer),
     }
+}
 
-    fn expect_begun(self, rt: &impl Abort, op: Op) -> Half {
-        self.begin(op).ok().expect(rt, "refused")
+impl Two {
+    // The first session begins the operation, which isn't refused.
+    fn begin(self, rt: &impl Abort, op: Op) -> Half {
+        let Two { map, one, other } = self;
+        let begun = begin(&map, one, op).ok().expect(rt, "refused");
+        Half { map, begun, other }
     }
 
     // The first session runs the operation in steps.
-    pub(crate) fn apply_in_steps<R: Wait>(
-        self,
-        rt: &R,
-        op: Op,
-    ) -> (Two, Result<Answer, Option<Full>>) {
-        match self.begin(op) {
-            Ok(half) => {
-                let (two, answer) = half.end(rt);
-                (two, Ok(answer))
-            }
-            Err((two, full)) => (two, Err(full)),
-        }
+    pub(crate) fn apply_in_steps<R: Wait>(self, rt: &R, op: Op) -> (Two, Result<Answer, Full>) {
+        let Two { map, one, other } = self;
+        let (one, answer) = apply_in_steps(rt, &map, one, op);
+        (Two { map, one, other }, answer)
     }
 }
 
@@ -165,7 +177,7 @@ fn a_pending_operation_sees_what_was_done_to_its_key_meanwhile(rt: HostRuntime) 
     let alloc = rt.alloc();
     let mut two = Two::open(&rt, alloc, 200, 2000);
     for case in &OF_ONE_KEY {
-        let mut half = two.expect_begun(&rt, case.begun);
+        let mut half = two.begin(&rt, case.begun);
         assert_eq!(&rt; half.apply(&rt, case.other), Ok(case.others));
         let (then, answer) = half.end(&rt);
         assert_eq!(&rt; answer, case.ends);
@@ -181,7 +193,7 @@ fn a_pending_insertion_lets_another_session_split_its_leaf(rt: HostRuntime) {
     for key in 1..5u64 {
         assert_eq!(&rt; two.insert(&rt, key, key), Ok(Answer::Inserted));
     }
-    let mut half = two.expect_begun(&rt, Op::Insert(5, 5));
+    let mut half = two.begin(&rt, Op::Insert(5, 5));
     assert_eq!(&rt; half.apply(&rt, Op::Insert(6, 6)), Ok(Answer::Inserted));
     assert_eq!(&rt; half.apply(&rt, Op::Insert(7, 7)), Ok(Answer::Inserted));
     assert_eq!(&rt; half.apply(&rt, Op::Find(5)), Ok(Answer::Absent));
@@ -198,7 +210,7 @@ fn a_dropped_operation_leaves_no_latch_and_the_map_is_not_closed(rt: HostRuntime
     let alloc = rt.alloc();
     let mut two = Two::open(&rt, alloc, 200, 2000);
     assert_eq!(&rt; two.insert(&rt, 1, 10), Ok(Answer::Inserted));
-    let mut half = two.expect_begun(&rt, Op::Insert(2, 20));
+    let mut half = two.begin(&rt, Op::Insert(2, 20));
     assert_eq!(&rt; half.apply(&rt, Op::Insert(3, 30)), Ok(Answer::Inserted));
     assert_eq!(&rt; half.apply(&rt, Op::Find(2)), Ok(Answer::Absent));
     assert_eq!(&rt; half.close(alloc).err(), Some(MapError::UnderWay));
@@ -212,11 +224,11 @@ fn begun_operations_are_refused_as_calls_are(rt: HostRuntime) {
     let (two, answer) = two.apply_in_steps(&rt, Op::Insert(1, 10));
     assert_eq!(&rt; answer, Ok(Answer::Inserted));
     let (two, answer) = two.apply_in_steps(&rt, Op::Insert(2, 20));
-    assert_eq!(&rt; answer, Err(Some(Full)));
+    assert_eq!(&rt; answer, Err(Full));
     let (two, answer) = two.apply_in_steps(&rt, Op::Replace(1, 11));
     assert_eq!(&rt; answer, Ok(Answer::Replaced(10)));
     let (two, answer) = two.turn().apply_in_steps(&rt, Op::Delete(1));
-    assert_eq!(&rt; answer, Err(Some(Full)));
+    assert_eq!(&rt; answer, Err(Full));
     let (mut two, answer) = two.turn().apply_in_steps(&rt, Op::Delete(1));
     assert_eq!(&rt; answer, Ok(Answer::Removed(11)));
     assert_eq!(&rt; two.find(1), None);
