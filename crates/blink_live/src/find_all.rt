@@ -80,12 +80,7 @@ impl Live {
     }
 
     /// Answers a find of each of these keys, one after another. Before each group of finds it sends a scout.
-    pub fn search_all(
-        &self,
-        seat: &mut Seat<u8, View>,
-        keys: &[u64],
-        answers: &mut [Option<u64>],
-    )
+    pub fn search_all(&self, seat: &mut Seat<u8, View>, keys: &[u64], answers: &mut [Option<u64>])
         requires seat { IsPassSeat self.now seat.old.table_id seat.old.me }
         requires idle { IsIdle seat.old.me.0 }
         requires places { length answers.old ≡ length keys.now }

@@ -1,4 +1,4 @@
-use Rattle.std.proofs.Common.{◌≡◌, ◌+◌, ◌<◌, ◌≤◌, ℕ, List, Option, length, get_or, set, take, refl, sym, ap, ◌∙◌, subst, arith, length-set}
+use Rattle.std.proofs.Common.{◌<◌, ◌≤◌, ℕ, List, Option, length, get_or, take, refl, sym, ◌∙◌, subst, arith, length-set}
 use Rattle.std.proofs.lemmas.List.{take_all, take_more, take_more_set}
 use Rattle.blink_live.specs.Finding.{AreFound}
 use Rattle.blink_live.proofs.found.FindsOfSeveral.{found_one_more, searched_more, searched_none, searched_seat}
