@@ -1,21 +1,14 @@
 -- Finds of several keys by a member.
-use Rattle.std.proofs.Common.{◌≡◌, ◌<◌, ◌≤◌, ℕ, Option, None, List, [], ◌∷◌, Contains, refl, sym, ap, ◌∙◌, subst, arith}
-use mathlib.Core.List.{IsPrefix}
-use Rattle.atomic_table.specs.declared.Seat.{Seat}
+use Rattle.std.proofs.Common.{◌≡◌, ◌≤◌, ℕ, Option, List, [], ◌∷◌, Contains, sym, ap, ◌∙◌, subst, arith}
 use Rattle.blink_batch.specs.{pointer_of}
 use Rattle.blink_batch.specs.declared.Entry.{Entry}
 use Rattle.blink_rows.specs.declared.span.Span.{Span}
-use Rattle.blink_live.specs.declared.live.Live.{Live}
 use Rattle.blink_live.specs.declared.view.Plan.{Plan}
-use Rattle.blink_live.specs.declared.view.Share.{Share}
 use Rattle.blink_live.specs.declared.view.View.{View}
 use Rattle.blink_live.specs.Changes.{after}
-use Rattle.blink_live.specs.Finding.{AreFound, HasSearched, IsIdle}
-use Rattle.blink_live.specs.Handles.{opening_of}
-use Rattle.blink_live.specs.Seats.{HasSameNumber, IsPassSeat}
+use Rattle.blink_live.specs.Finding.{AreFound, IsIdle}
 use Rattle.blink_live.specs.Views.{SeatState, is_busy}
 use Rattle.blink_map.specs.declared.member.Member.{Member}
-use Rattle.blink_map.specs.Places.{IsMemberOf}
 use Rattle.blink_map.specs.Sessions.{AnswersAsSeen}
 
 no_key_in : (keys : List ℕ) (key : ℕ) → keys ≡ [] → Contains keys key → ⊥

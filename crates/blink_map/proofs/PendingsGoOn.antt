@@ -1,16 +1,12 @@
 -- An operation of a session that is under way.
-use Rattle.std.proofs.Common.{◌≡◌, ℕ, Some, None, List, ◌++◌, refl, sym, ap, ◌∙◌, subst}
+use Rattle.std.proofs.Common.{◌≡◌, None, List, ◌++◌, sym, ap, ◌∙◌, subst}
 use mathlib.Core.List.{IsPrefix}
-use Rattle.atomic_table.specs.declared.Seat.{Seat}
 use Rattle.blink_batch.specs.declared.Answer.{Answer}
-use Rattle.blink_batch.specs.declared.Entry.{Entry}
 use Rattle.blink_batch.specs.declared.Op.{Op}
 use Rattle.blink_batch.specs.{key_of, pointer_of}
 use Rattle.blink_machine.specs.{PlainMachine, latch_at, latch_of}
 use Rattle.blink_live.specs.declared.live.Live.{Live}
-use Rattle.blink_live.specs.declared.room.Room.{Room as CallRoom}
 use Rattle.blink_live.specs.declared.view.Change.{Change}
-use Rattle.blink_live.specs.declared.view.View.{View}
 use Rattle.blink_live.specs.Changes.{after, changes_made}
 use Rattle.blink_live.specs.Pendings.{IsWaiting, for_latch, for_level}
 use Rattle.blink_live.specs.Updating.{IsUnderWay}
@@ -19,10 +15,10 @@ use Rattle.blink_map.specs.declared.map.Pending.{Pending}
 use Rattle.blink_map.specs.declared.map.Session.{Session}
 use Rattle.blink_map.specs.declared.member.Member.{Member}
 use Rattle.blink_map.specs.declared.member.UnderWay.{UnderWay}
-use Rattle.blink_map.specs.Changing.{HasChanged, HasDrawn, HasSetOut, IsAtWork}
-use Rattle.blink_map.specs.Pendings.{HasBegun, IsPendingOf, op_of, session_of}
+use Rattle.blink_map.specs.Changing.{HasChanged, HasDrawn, IsAtWork}
+use Rattle.blink_map.specs.Pendings.{HasBegun, op_of, session_of}
 use Rattle.blink_map.specs.Places.{IsMemberOf}
-use Rattle.blink_map.specs.Sessions.{AnswersInOrder, IsAnswered, IsSessionOf, made_by_member, opening_of, seen_of_member}
+use Rattle.blink_map.specs.Sessions.{IsAnswered, IsSessionOf, opening_of}
 
 no_latch_waiting : (m : PlainMachine) → IsWaiting m → latch_of m ≡ None
 no_latch_waiting m (for_latch page at) = ap latch_at at

@@ -15,7 +15,10 @@ fn a_map_is_filled_to_its_last_row(rt: HostRuntime) {
     assert_eq!(&rt; two.insert(&rt, 3, 30), Err(Full));
     assert_eq!(&rt; two.find(3), None);
     for pointer in 0..43u64 {
-        assert_eq!(&rt; two.replace(&rt, 2, pointer.wrapping_add(1)), Ok(Answer::Replaced(pointer)));
+        assert_eq!(&rt;
+            two.replace(&rt, 2, pointer.wrapping_add(1)),
+            Ok(Answer::Replaced(pointer))
+        );
     }
     assert_eq!(&rt; two.replace(&rt, 2, 99), Err(Full));
     assert_eq!(&rt; two.delete(&rt, 1), Err(Full));

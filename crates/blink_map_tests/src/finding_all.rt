@@ -19,7 +19,10 @@ impl Two {
 fn fourteen<R: Abort + Wait>(rt: &R, alloc: Global) -> Two {
     let mut two = Two::open(rt, alloc, 2000, 4000);
     for key in 1..15u64 {
-        assert_eq!(rt; two.insert(rt, key, key.wrapping_mul(10)), Ok(Answer::Inserted));
+        assert_eq!(rt;
+            two.insert(rt, key, key.wrapping_mul(10)),
+            Ok(Answer::Inserted)
+        );
     }
     assert_eq!(rt; two.delete(rt, 2), Ok(Answer::Removed(20)));
     two
@@ -62,5 +65,8 @@ fn find_all_shows_what_the_session_was_told(rt: HostRuntime) {
     assert_eq!(&rt; two.replace(&rt, 1, 11), Ok(Answer::Replaced(10)));
     two.tell();
     let mut two = two.turn();
-    assert_eq!(&rt; two.find_all(&[1, 9, 20, 8]), [Some(11), None, Some(200), Some(80)]);
+    assert_eq!(&rt;
+        two.find_all(&[1, 9, 20, 8]),
+        [Some(11), None, Some(200), Some(80)]
+    );
 }

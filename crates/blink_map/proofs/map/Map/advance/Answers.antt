@@ -33,7 +33,7 @@ returns-in-Some-clause-answered c =
     let work = its_own.at_work in
     let then = c.take_steps.ensures.under_way (op_of pending) work.set_out.first work.set_out.under_way in
     let changed = c.end-member.ensures (op_of pending) its_own.drawn c.in-Some.answer (its_member live (session_of pending).member its_own.drawn its_own.its_own.member its_own.has_drawn)
-        (goes_on live (op_of pending) its_own.drawn pending.now _ work then refl refl refl) c.in-Some.ensures.ended.1 in
+    (goes_on live (op_of pending) its_own.drawn pending.now _ work then refl refl refl) c.in-Some.ensures.ended.1 in
     answered c.args.self.now (op_of pending) (session_of pending) _ its_own.drawn c.in-Some.answer its_own.has_drawn changed its_own.same_places
 
 pub returns-in-None-clause-goes_on : goal.returns-in-None-clause-goes_on

@@ -1,4 +1,4 @@
-use Rattle.std.proofs.Common.{◌≡◌, ◌<◌, ◌≤◌, ℕ, List, Option, inl, refl, sym, ap, ◌∙◌, subst, arith}
+use Rattle.std.proofs.Common.{◌≡◌, List, inl, refl, sym, ap, ◌∙◌, subst, arith}
 use mathlib.Core.List.{IsPrefix}
 use Rattle.blink_live.specs.declared.view.Change.{Change}
 use Rattle.blink_live.specs.declared.view.Plan.{Plan}
@@ -58,7 +58,7 @@ returns-clause-answers c =
     let live = c.args.live.now in
     let opening = ap (λ (x : SeatState). x.0.plan.opening) marked ∙ ap (λ (p : Plan). p.opening) c.requires.its_own.same_plan in
     subst (λ (x : List Change × List Change). AnswersAsSeen (opening_of live) x.0 c.args.keys.now c.search_all.new.answers x.1) (λ i. (ap (λ (x : SeatState). x.0.seen) marked i, sym (ap (λ (x : SeatState). x.0.seen) c.mark-2.ensures.marked) i))
-        (found_as_seen (opening_of live) c.args.keys.now c.search_all.new.answers c.mark.new.seat.me c.search_all.new.seat.me opening c.search_all.ensures.found)
+    (found_as_seen (opening_of live) c.args.keys.now c.search_all.new.answers c.mark.new.seat.me c.search_all.new.seat.me opening c.search_all.ensures.found)
 
 pub returns-clause-looked : goal.returns-clause-looked
 returns-clause-looked c =
