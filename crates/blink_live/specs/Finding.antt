@@ -1,8 +1,8 @@
 -- Finds of several keys by one call.
-use Rattle.std.specs.Prelude.{◌≡◌, ℕ, ◌≤◌, List, None, Contains}
+use Rattle.std.specs.Prelude.{◌≡◌, ℕ, ◌≤◌, Option, None, List, [], ◌∷◌, Contains}
 use mathlib.Core.List.{IsPrefix}
 use Rattle.blink_live.specs.declared.view.View.{View}
-use Rattle.blink_live.specs.Views.{IsCommon, SeatState, KnowsItsOwn}
+use Rattle.blink_live.specs.Views.{IsCommon, SeatState, KnowsItsOwn, known_of}
 
 -- each of these keys is one of the pass's own
 abbrev pub AllAreOwn : List ℕ → List ℕ → Type 0
@@ -26,8 +26,15 @@ pub record HasSearched (first me : SeatState) : Type 0 where
   pub idle : IsIdle me.0
   pub same_plan : me.0.plan ≡ first.0.plan
   pub same_role : me.0.role ≡ first.0.role
+  pub same_place : me.0.place ≡ first.0.place
   pub same_rows : me.0.rows ≡ first.0.rows
   pub same_pages : me.0.pages ≡ first.0.pages
   pub same_share : me.0.share ≡ first.0.share
   pub same_told : me.0.told ≡ first.0.told
   pub same_slots : me.1 ≡ first.1
+
+-- finds of these keys, one after another, have answered so: each by the state of its key after all that the seat had seen by then
+abbrev pub AreFound : SeatState → List ℕ → List (Option ℕ) → SeatState → Type 0
+AreFound first [] [] last = HasSearched first last
+AreFound first (key ∷ keys) (answer ∷ answers) last = (then : SeatState) × HasSearched first then × (answer ≡ known_of then.0 key) × AreFound then keys answers last
+AreFound first keys answers last = ⊥

@@ -9,9 +9,10 @@ ghost use Rattle.std.specs.Prelude.{◌≡◌, ◌≤◌, ◌↔◌, IsTrue, IsF
 ghost use Rattle.std.specs.List.Sorted.{IsStrictlyIncreasing};
 ghost use Rattle.blink_batch.specs.{pointer_of};
 ghost use Rattle.blink_page.specs.declared.limits.TheConstants.{LEVELS};
-ghost use Rattle.blink_live.specs.Finding.{AllAreOwn, HasForeign, HasSearched, IsIdle};
+ghost use Rattle.blink_live.specs.Finding.{AllAreOwn, AreFound, HasForeign, HasSearched, IsIdle};
 ghost use Rattle.blink_live.specs.Handles.{IsPassOf, IsSameBesideSeen, KnowsItsKeys, keys_of, share_of};
 ghost use Rattle.blink_live.specs.Seats.{HasSameNumber, IsPassSeat};
+ghost use Rattle.blink_live.specs.Views.{known_of};
 
 use crate::deal::is_among;
 use crate::error::PassError;
@@ -78,15 +79,14 @@ impl Live {
         Ok(())
     }
 
-    // Answers a find of each of these keys, which are the pass's. Before each group of finds it sends a scout.
-    fn search_all(&self, seat: &mut Seat<u8, View>, keys: &[u64], answers: &mut [Option<u64>])
+    /// Answers a find of each of these keys, one after another. Before each group of finds it sends a scout.
+    pub fn search_all(&self, seat: &mut Seat<u8, View>, keys: &[u64], answers: &mut [Option<u64>])
         requires seat { IsPassSeat self.now seat.old.table_id seat.old.me }
         requires idle { IsIdle seat.old.me.0 }
-        requires own { AllAreOwn seat.old.me.0.share.keys keys.now }
         requires places { length answers.old ≡ length keys.now }
         ensures same_table { HasSameNumber seat.old seat.new }
         ensures searched { HasSearched seat.old.me seat.new.me }
-        ensures answers { answers.new ≡ map (pointer_of seat.old.me.0.share.entries) keys.now }
+        ensures found { AreFound seat.old.me keys.now answers.new seat.new.me }
     {
         let mut trails = [no_trail(); GROUP];
         for place in 0..keys.len() {
@@ -98,14 +98,13 @@ impl Live {
         }
     }
 
-    // Looks a key up of the pass's own.
+    // Looks up a key.
     fn pointer(&self, seat: &mut Seat<u8, View>, key: u64, trail: &Trail) -> Option<u64>
         requires seat { IsPassSeat self.now seat.old.table_id seat.old.me }
         requires idle { IsIdle seat.old.me.0 }
-        requires own { Contains seat.old.me.0.share.keys key }
         ensures same_table { HasSameNumber seat.old seat.new }
         ensures searched { HasSearched seat.old.me seat.new.me }
-        ensures pointer { result ≡ pointer_of seat.old.me.0.share.entries key }
+        ensures pointer { result ≡ known_of seat.new.me.0 key }
     {
         match self.search(seat, key, Some(trail)) {
             Answer::Found(pointer) => Some(pointer),

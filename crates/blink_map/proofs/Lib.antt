@@ -1,5 +1,8 @@
 mod PlacesKept
 mod ChangesOfMembers
+mod MembersComeBack
+mod PendingsGoOn
+mod LooksOver
 mod AllSettled
 mod MembersDealt
 mod PutsAreChanges

@@ -1,11 +1,18 @@
 -- What an operation that changes the tree makes of a member.
-use Rattle.std.specs.Prelude.{◌≡◌, ◌+◌, ◌≤◌}
+use Rattle.std.specs.Prelude.{◌≡◌, ℕ, ◌+◌, ◌≤◌}
+use Rattle.atomic_table.specs.declared.Seat.{Seat}
 use Rattle.blink_batch.specs.declared.Answer.{Answer}
 use Rattle.blink_batch.specs.declared.Op.{Op}
+use Rattle.blink_machine.specs.{PlainMachine}
 use Rattle.blink_live.specs.declared.live.Live.{Live}
+use Rattle.blink_live.specs.declared.room.Room.{Room as CallRoom}
+use Rattle.blink_live.specs.declared.view.View.{View}
 use Rattle.blink_live.specs.Handles.{opening_of}
-use Rattle.blink_live.specs.Views.{pages_of, rows_of}
+use Rattle.blink_live.specs.Seats.{HasSameNumber}
+use Rattle.blink_live.specs.Updating.{IsUnderWay}
+use Rattle.blink_live.specs.Views.{is_busy, pages_of, rows_of}
 use Rattle.blink_map.specs.declared.member.Member.{Member}
+use Rattle.blink_map.specs.declared.member.UnderWay.{UnderWay}
 use Rattle.blink_map.specs.Sessions.{AnswersInOrder, IsSameMember, made_by_member, seen_of_member}
 
 -- the operation has answered, and the member has used no more rows and page numbers than it may need
@@ -20,3 +27,17 @@ pub record HasDrawn (old new : Member) : Type 0 where
   pub seen : seen_of_member new ≡ seen_of_member old
   pub made : made_by_member new ≡ made_by_member old
   pub same_member : IsSameMember old new
+
+-- the operation of a member, which was `old` before, is under way at this seat: it began where the member's place had been marked
+pub record HasSetOut (live : Live) (op : Op) (old : Member) (seat : Seat ℕ View) (m : PlainMachine) (room : CallRoom) : Type 0 where
+  pub first : Seat ℕ View
+  pub marked : first.me ≡ (is_busy old.seat.me.0 1, old.seat.me.1)
+  pub same_number : HasSameNumber old.seat first
+  pub under_way : IsUnderWay live op first seat m room
+
+-- and what the member has beside its seat is as it was
+pub record IsAtWork (live : Live) (op : Op) (old : Member) (now : UnderWay) : Type 0 where
+  pub set_out : HasSetOut live op old now.seat now.machine now.room
+  pub rows : now.rows ≡ old.rows
+  pub pages : now.pages ≡ old.pages
+  pub place : now.place ≡ old.place

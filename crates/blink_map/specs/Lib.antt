@@ -1,7 +1,9 @@
 -- What a caller of `blink_map` reads, in this order; then the files themselves.
 
 -- a map and its sessions
-pub use Rattle.blink_map.specs.Sessions.{HasRoom, IsAnswered, IsClosedWith, IsOpenedWith, IsTooLarge, IsSameBesideRoom, IsSameBesideSeen, IsSameSession, IsSessionOf, LacksRoom, made_by, opening_of, place_of, places_of, seen_by}
+pub use Rattle.blink_map.specs.Sessions.{AnswersAsSeen, HasRoom, IsAnswered, IsClosedWith, IsOpenedWith, IsTooLarge, IsSameBesideRoom, IsSameBesideSeen, IsSameSession, IsSessionOf, LacksRoom, made_by, opening_of, place_of, places_of, seen_by}
+-- an operation under way: which one it is, and the session before it
+pub use Rattle.blink_map.specs.Pendings.{HasBegun, IsPendingOf, op_of, session_of}
 -- an entry that is put
 pub use Rattle.blink_map.specs.Putting.{HasTried, IsPut, change_to}
 -- the code of each refusal
@@ -11,6 +13,7 @@ pub mod Codes
 pub mod Hosting
 pub mod Finding
 pub mod Changing
+pub mod Pendings
 pub mod Telling
 pub mod Closing
 pub mod Opening

@@ -1,5 +1,5 @@
 -- A map and its sessions, as contracts see them.
-use Rattle.std.specs.Prelude.{◌≡◌, ◌≢◌, ℕ, ◌+◌, ◌≤◌, ◌<◌, Option, List, ◌++◌, length, All, AllPairs}
+use Rattle.std.specs.Prelude.{◌≡◌, ◌≢◌, ℕ, ◌+◌, ◌≤◌, ◌<◌, Option, List, [], ◌∷◌, ◌++◌, length, All, AllPairs}
 use mathlib.Core.List.{IsPrefix}
 use Rattle.blink_batch.specs.declared.Answer.{Answer}
 use Rattle.blink_batch.specs.declared.Entry.{Entry}
@@ -109,6 +109,13 @@ pub record IsAnswered (map : Map) (op : Op) (old new : Session) (answer : Answer
   pub in_order : AnswersInOrder (opening_of map) op old.member new.member answer
   pub same_member : IsSameMember old.member new.member
   pub same_places : new.claim.table_id ≡ old.claim.table_id
+
+-- these are the answers to these keys, one after another, of a session that had seen `old` and has seen `new` now: each is what the
+-- opening entries say of its key after all that the session had seen by then
+abbrev pub AnswersAsSeen : List Entry → List Change → List ℕ → List (Option ℕ) → List Change → Type 0
+AnswersAsSeen opening old [] [] new = IsPrefix old new
+AnswersAsSeen opening old (key ∷ keys) (answer ∷ answers) new = (seen : List Change) × IsPrefix old seen × (answer ≡ after (pointer_of opening) seen key) × AnswersAsSeen opening seen keys answers new
+AnswersAsSeen opening old keys answers new = ⊥
 
 -- the session had fewer rows or page numbers than the operation may need, and has fewer still, though it drew what it could
 pub record LacksRoom (op : Op) (old new : Session) : Type 0 where

@@ -1,5 +1,5 @@
 //! The operations that change a map: insert, delete and replace, by any session, at any key.
-ghost use Rattle.std.specs.Prelude.{◌≡◌, ◌↔◌, ◌+◌, ◌≤◌, ℕ, Some, IfOk, IsTrue, OnErr};
+ghost use Rattle.std.specs.Prelude.{◌≡◌, ◌↔◌, ◌+◌, ◌<◌, ◌≤◌, ℕ, None, Some, IfOk, IsTrue, OnErr};
 ghost use Rattle.atomic_table.specs.declared.Seat.{Seat};
 ghost use Rattle.blink_batch.specs.{FitsWords};
 ghost use Rattle.blink_batch.specs.declared.Op.{Op};
@@ -7,9 +7,12 @@ ghost use Rattle.blink_batch.specs.declared.Op.TheVariants.{Delete, Insert, Repl
 ghost use Rattle.blink_machine.specs.{IsUpdate};
 ghost use Rattle.blink_machine.specs.declared.machine.State.TheVariants.{Ended};
 ghost use Rattle.blink_live.specs.declared.view.View.{View};
+ghost use Rattle.blink_live.specs.GivingBack.{CanGiveBack, gives_back};
+ghost use Rattle.blink_live.specs.Ledger.{HasSeenItsOwn};
 ghost use Rattle.blink_live.specs.Pendings.{IsWaiting};
+ghost use Rattle.blink_live.specs.Seats.{HasSameNumber, IsPassSeat};
 ghost use Rattle.blink_live.specs.Updating.{IsUnderWay};
-ghost use Rattle.blink_live.specs.Views.{pages_of, rows_of, span};
+ghost use Rattle.blink_live.specs.Views.{is_busy, pages_of, rows_of, span};
 ghost use Rattle.blink_map.specs.Changing.{HasChanged, HasDrawn};
 ghost use Rattle.blink_map.specs.Places.{IsMemberOf};
 ghost use Rattle.blink_map.specs.Sessions.{HasRoom, IsAnswered, IsSameBesideRoom, IsSessionOf, LacksRoom};
@@ -111,7 +114,7 @@ impl Map {
 impl Member {
     // Draws rows or page numbers from the pool, if the member has fewer than the operation may need, and returns whether it has
     // enough then. What it had before of a kind that it draws is lost.
-    fn draw(&mut self, live: &Live, op: Op) -> bool
+    pub(crate) fn draw(&mut self, live: &Live, op: Op) -> bool
         requires its_own { IsMemberOf live.now self.old }
         ensures drawn { HasDrawn self.old self.new }
         ensures enough { IsTrue result → HasRoom op self.new.rows self.new.pages }
@@ -193,10 +196,9 @@ impl Member {
         let mut machine = Machine::new(op, live.fan());
         live.set_out(seat, &mut machine, &room, op);
         let answer = to_end(rt, live, seat, &mut machine, &mut room);
-        live.give_back(seat);
+        come_back(live, seat, *place);
         rows.next = room.rows.next;
         pages.next = room.pages.next;
-        live.mark(seat, *place, 0);
         answer
     }
 }
@@ -213,7 +215,7 @@ fn needed_by(op: Op) -> (u64, u64)
 }
 
 // The first of these rows and page numbers, for an operation.
-fn room_of(op: Op, rows: &Span, pages: &Span) -> Room
+pub(crate) fn room_of(op: Op, rows: &Span, pages: &Span) -> Room
     requires in_order { (rows.now.next ≤ rows.now.stop) × (pages.now.next ≤ pages.now.stop) }
     requires room { HasRoom op rows.now pages.now }
     ensures rows { result.rows ≡ span rows.now.next (rows.now.next + rows_of op) }
@@ -259,4 +261,18 @@ fn to_end<R: Wait>(
         thread::yield_now();
     }
     unreachable!()
+}
+
+// The seat takes back what its operation, which has ended, hasn't used of its rows and page numbers. Its place is idle again.
+pub(crate) fn come_back(live: &Live, seat: &mut Seat<u8, View>, place: u64)
+    requires seat { IsPassSeat live.now seat.old.table_id seat.old.me }
+    requires can { CanGiveBack seat.old.me.0 }
+    requires ended { seat.old.me.0.operation ≡ None }
+    requires place { (place ≡ seat.old.me.0.place) × (place < live.now.places) }
+    ensures same { HasSameNumber seat.old seat.new }
+    ensures idle { seat.new.me ≡ (is_busy (gives_back seat.old.me.0) 0, seat.old.me.1) }
+    ensures saw_own { HasSeenItsOwn seat.new.me.0 }
+{
+    live.give_back(seat);
+    live.mark(seat, place, 0);
 }

@@ -1,10 +1,12 @@
 //! A map that any thread changes at any key: a B-link tree in one table of words, and sessions that threads work by.
 #![tactic(auto)]
 
+mod advance;
 mod change;
 mod close;
 mod error;
 mod find;
+mod find_all;
 mod map;
 mod member;
 mod open;
@@ -16,4 +18,4 @@ mod sessions;
 mod tell;
 
 pub use error::{Full, MapError};
-pub use map::{Map, Room, Session};
+pub use map::{Map, Pending, Room, Session};

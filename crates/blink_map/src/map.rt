@@ -1,13 +1,15 @@
-//! The types of a map: `Map` holds the tree, and with a `Session` a thread reads and changes any key.
+//! The types of a map: `Map` holds the tree, and with a `Session` a thread reads and changes any key. A `Pending` is a session's
+//! operation under way.
 ghost use Rattle.std.specs.Prelude.{◌≡◌, ◌<◌, ◌≤◌, [], ◌∷◌, None};
 ghost use Rattle.blink_map.specs.Places.{claim_of};
 
-use crate::member::Member;
+use crate::member::{Member, UnderWay};
 use crate::places::{Claim, RuleOfPlaces, Stand};
 use crate::rest::RuleOfHost;
 use atomic_table::{Seat, Table};
 use blink_live::{Live, View};
 use std::alloc::Global;
+use std::snapshot::Snapshot;
 
 /// What a map has beside its entries: page numbers and rows for the changes to come, and places for sessions.
 #[derive(Clone, Copy)]
@@ -36,6 +38,22 @@ pub struct Session {
     pub(crate) member: Member,
     pub(crate) claim: Seat<Option<Member>, Claim>,
     pub(crate) place: usize,
+    ghost has_place: { claim.me ≡ (claim_of place, (place, None) ∷ []) },
+    ghost in_range: { place < claim.table_id.slots },
+}
+
+/// An insertion, a deletion or a replacement that has begun, with the session that makes it. `Map::advance` takes its next steps.
+///
+/// The session comes back when the operation has ended. Until then its place stays marked. So a `Pending` that is dropped makes
+/// `Map::close` refuse with `UnderWay`, and costs the session's place. What the operation has written stays, its change too, if
+/// it has made it. An operation waits only while it holds no page's latch, so no latch stays held and nobody waits for it.
+#[derive(Drop)]
+pub struct Pending {
+    pub(crate) now: UnderWay,
+    pub(crate) claim: Seat<Option<Member>, Claim>,
+    pub(crate) place: usize,
+    // The session before the operation.
+    pub(crate) begun: Snapshot<Session>,
     ghost has_place: { claim.me ≡ (claim_of place, (place, None) ∷ []) },
     ghost in_range: { place < claim.table_id.slots },
 }

@@ -1,11 +1,13 @@
-//! What a session has beside its place: a seat of the tree's table, and the rows and page numbers that it may still use.
+//! What a session has beside its place: a seat of the tree's table, and the rows and page numbers that it may still use; also
+//! while an operation is under way.
 ghost use Rattle.std.specs.Prelude.{◌≡◌, ◌<◌, ◌≤◌, [], None};
 ghost use Rattle.blink_live.specs.declared.view.Role.TheVariants.{Pass};
 ghost use Rattle.blink_live.specs.Ledger.{HasSeenItsOwn};
 ghost use Rattle.blink_live.specs.Views.{IsCommon};
 
 use atomic_table::Seat;
-use blink_live::View;
+use blink_live::{Room, View};
+use blink_machine::Machine;
 use blink_rows::Span;
 
 /// It rests at its place while no session has the place, and keeps what the last session left.
@@ -27,4 +29,16 @@ pub(crate) struct Member {
     ghost idle: { seat.me.0.operation ≡ None },
     ghost saw_own: { HasSeenItsOwn seat.me.0 },
     ghost no_slot: { seat.me.1 ≡ [] },
+}
+
+/// An operation of a member that has begun, and what the member has. The operation may still use what is in `room`.
+#[derive(Drop)]
+pub(crate) struct UnderWay {
+    pub seat: Seat<u8, View>,
+    // What the member had when the operation began: the first of these are the operation's.
+    pub rows: Span,
+    pub pages: Span,
+    pub place: u64,
+    pub machine: Machine,
+    pub room: Room,
 }

@@ -2,8 +2,18 @@
 #![tactic(auto)]
 
 #[cfg(test)]
+mod filling;
+#[cfg(test)]
+mod finding_all;
+#[cfg(test)]
+mod memory;
+#[cfg(test)]
+mod plain;
+#[cfg(test)]
 mod sessions;
 #[cfg(test)]
 mod shared;
+#[cfg(test)]
+mod stepping;
 #[cfg(test)]
 mod threads;

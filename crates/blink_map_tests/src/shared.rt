@@ -2,7 +2,7 @@
 ghost use Rattle.std.specs.Prelude.{◌≡◌, All};
 ghost use Rattle.blink_map.specs.{IsSessionOf};
 
-use blink_batch::Answer;
+use blink_batch::{Answer, Op};
 use blink_index::Index;
 use blink_map::{Full, Map, MapError, Room, Session};
 use std::alloc::Global;
@@ -69,6 +69,11 @@ impl Two {
         map.replace(rt, one, key, pointer)
     }
 
+    pub(crate) fn apply<R: Wait>(&mut self, rt: &R, op: Op) -> Result<Answer, Full> {
+        let Two { map, one, other: _ } = self;
+        apply(rt, map, one, op)
+    }
+
     pub(crate) fn find(&mut self, key: u64) -> Option<u64> {
         let Two { map, one, other: _ } = self;
         map.find(one, key)
@@ -103,6 +108,11 @@ impl Two {
         self.map.join().err()
     }
 
+    // The number of rows that the pool has left, and of page numbers.
+    pub(crate) fn room(&self) -> (u64, u64) {
+        self.map.room()
+    }
+
     pub(crate) fn close(self, alloc: Global) -> Result<Index, MapError> {
         let Two {
             map,
@@ -110,5 +120,23 @@ impl Two {
             other: _other,
         } = self;
         map.close(alloc, Vec::new(alloc))
+    }
+}
+
+// Runs the operation by this session.
+pub(crate) fn apply<R: Wait>(
+    rt: &R,
+    map: &Map,
+    session: &mut Session,
+    op: Op,
+) -> Result<Answer, Full>
+    requires { IsSessionOf map.now session.old }
+    ensures { IsSessionOf map.now session.new }
+{
+    match op {
+        Op::Find(key) => Ok(op.answer(map.find(session, key))),
+        Op::Insert(key, pointer) => map.insert(rt, session, key, pointer),
+        Op::Delete(key) => map.delete(rt, session, key),
+        Op::Replace(key, pointer) => map.replace(rt, session, key, pointer),
     }
 }

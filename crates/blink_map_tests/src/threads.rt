@@ -1,8 +1,9 @@
 //! Threads, each with a session of one map.
 ghost use Rattle.blink_map.specs.{IsSessionOf};
 
-use crate::shared::Two;
-use blink_batch::Answer;
+use crate::shared::{Two, apply};
+use crate::stepping::apply_in_steps;
+use blink_batch::{Answer, Op};
 use blink_map::{Full, Map, Session};
 use std::sync::Wait;
 use std::sync::atomic::{AtomicU64, Ordering};
@@ -110,18 +111,38 @@ fn run_two<R: Threads + Wait + Sync>(
     )
 }
 
+// Runs each second operation in steps, and the others by calls.
 fn work<R: Wait>(rt: &R, map: &Map, mut session: Session, counts: &Counts, step: u64) -> bool
     requires its { IsSessionOf map.now session }
 {
     for turn in 0..TURNS {
         let drawn = turn.wrapping_mul(step);
         let key = drawn % KEYS;
-        let answer = match drawn / KEYS % 3 {
-            0 => map.insert(rt, &mut session, key, turn),
-            1 => map.replace(rt, &mut session, key, turn),
-            _ => map.delete(rt, &mut session, key),
+        let op = match drawn / KEYS % 3 {
+            0 => Op::Insert(key, turn),
+            1 => Op::Replace(key, turn),
+            _ => Op::Delete(key),
         };
+        let (then, answer) = run(rt, map, session, op, turn % 2 == 0);
+        session = then;
         counts.count(answer);
     }
     true
+}
+
+fn run<R: Wait>(
+    rt: &R,
+    map: &Map,
+    mut session: Session,
+    op: Op,
+    in_steps: bool,
+) -> (Session, Result<Answer, Full>)
+    requires { IsSessionOf map.now session }
+    ensures { IsSessionOf map.now result.0 }
+{
+    if in_steps {
+        return apply_in_steps(rt, map, session, op);
+    }
+    let answer = apply(rt, map, &mut session, op);
+    (session, answer)
 }

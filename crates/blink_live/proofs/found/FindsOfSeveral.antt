@@ -1,19 +1,20 @@
 -- Several finds by one call: what the seat knows between them.
-use Rattle.std.proofs.Common.{◌≡◌, ◌≢◌, ◌+◌, ◌<◌, ◌≤◌, ℕ, List, [], Option, Some, None, length, get_or, map, refl, sym, ap, ◌∙◌, subst, arith, append-nil}
-use Rattle.std.proofs.lemmas.List.{ext_get_or, get_or-map, length-map}
+use Rattle.std.proofs.Common.{◌≡◌, ◌≢◌, ◌+◌, ◌≤◌, ℕ, List, [], ◌∷◌, ◌++◌, Option, Some, None, Contains, map, refl, sym, ap, ◌∙◌, subst, arith, append-nil}
+use Rattle.std.proofs.lemmas.List.Elements.{Contains-append_right}
 use mathlib.Core.List.{IsPrefix}
 use Rattle.atomic_table.specs.Seated.{TableId}
 use Rattle.blink_batch.specs.declared.Answer.{Answer}
 use Rattle.blink_batch.specs.declared.Answer.TheVariants.{Found}
 use Rattle.blink_batch.specs.declared.Op.TheVariants.{Find}
-use Rattle.blink_batch.specs.{answer_at}
+use Rattle.blink_batch.specs.{answer_at, pointer_of}
 use Rattle.blink_rows.specs.declared.span.Span.{Span}
 use Rattle.blink_live.specs.declared.live.Live.{Live}
 use Rattle.blink_live.specs.declared.live.Pass.{Pass}
+use Rattle.blink_live.specs.declared.view.Share.{Share}
 use Rattle.blink_live.specs.declared.view.View.{View}
-use Rattle.blink_live.specs.Finding.{HasSearched, IsIdle}
+use Rattle.blink_live.specs.Finding.{AllAreOwn, AreFound, HasSearched, IsIdle}
 use Rattle.blink_live.specs.Seats.{IsPassSeat}
-use Rattle.blink_live.specs.Views.{IsCommon, CanBegin, KnowsItsOwn, SameBesideReads, SeatState, for_call, span}
+use Rattle.blink_live.specs.Views.{IsCommon, CanBegin, KnowsItsOwn, SameBesideReads, SeatState, for_call, known_of, span}
 use Rattle.blink_live.proofs.told.PrefixesOfOneList.{prefix_of_prefix}
 
 pub can_find : (key : ℕ) (v : View) → IsIdle v → CanBegin v (Find key)
@@ -32,6 +33,7 @@ searched_none me idle = record {
   idle = idle;
   same_plan = refl;
   same_role = refl;
+  same_place = refl;
   same_rows = refl;
   same_pages = refl;
   same_share = refl;
@@ -45,6 +47,7 @@ searched_more u v w first second = record {
   idle = second.idle;
   same_plan = second.same_plan ∙ first.same_plan;
   same_role = second.same_role ∙ first.same_role;
+  same_place = second.same_place ∙ first.same_place;
   same_rows = second.same_rows ∙ first.same_rows;
   same_pages = second.same_pages ∙ first.same_pages;
   same_share = second.same_share ∙ first.same_share;
@@ -70,6 +73,7 @@ searched_once key me new was saw own ended same slots =
       };
       same_plan = ap (λ (v : View). v.plan) same;
       same_role = ap (λ (v : View). v.role) same;
+      same_place = ap (λ (v : View). v.place) same;
       same_rows = rows;
       same_pages = pages;
       same_share = ap (λ (v : View). v.share) same;
@@ -94,8 +98,24 @@ pub none_found : (key : ℕ) (answer : Answer) (kept : Option ℕ) → ((pointer
 none_found key answer None other is = refl
 none_found key answer (Some pointer) other is = absurd (other pointer is)
 
--- answers in their places are the answers
-pub answered_all : (f : ℕ → Option ℕ) (keys : List ℕ) (answers : List (Option ℕ)) → length answers ≡ length keys → ((n : ℕ) → n < length keys → get_or answers n None ≡ f (get_or keys n 0)) → answers ≡ map f keys
-answered_all f keys answers many each = ext_get_or None answers (map f keys) (many ∙ sym (length-map keys f)) (λ n inside.
-    let within : n < length keys = omega (arith, many, inside) in
-    each n within ∙ sym (get_or-map f keys n 0 None within))
+-- one find more
+pub found_one_more : (keys : List ℕ) (answers : List (Option ℕ)) (first last then : SeatState) (key : ℕ) (answer : Option ℕ) → AreFound first keys answers last → HasSearched last then → answer ≡ known_of then.0 key
+    → AreFound first (keys ++ key ∷ []) (answers ++ answer ∷ []) then
+found_one_more [] [] first last then key answer are more is = (then, searched_more first last then are more, is, searched_none then more.idle)
+found_one_more (one ∷ keys) (its ∷ answers) first last then key answer are more is = (are.0, are.1, are.2, found_one_more keys answers are.0 last then key answer are.3 more is)
+found_one_more [] (its ∷ answers) first last then key answer are more is = absurd are
+found_one_more (one ∷ keys) [] first last then key answer are more is = absurd are
+
+-- finds of a seat's own keys have answered by its share
+pub own_found : (keys : List ℕ) (answers : List (Option ℕ)) (first last : SeatState) → AllAreOwn first.0.share.keys keys → AreFound first keys answers last → answers ≡ map (pointer_of first.0.share.entries) keys
+own_found [] [] first last own are = refl
+own_found (key ∷ keys) (answer ∷ answers) first last own are =
+    let then : SeatState = are.0 in
+    let share : then.0.share ≡ first.0.share = are.1.same_share in
+    let here : Contains (key ∷ keys) key = (0, omega arith, refl) in
+    let own_then : AllAreOwn then.0.share.keys (key ∷ keys) = subst (λ (s : Share). AllAreOwn s.keys (key ∷ keys)) (sym share) own in
+    let now : answer ≡ pointer_of first.0.share.entries key = are.2 ∙ (are.1.idle.knows_own.state key (own_then key here) ∙ ap (λ (s : Share). pointer_of s.entries key) share) in
+    let rest : answers ≡ map (pointer_of first.0.share.entries) keys = own_found keys answers then last (λ other has. own_then other (Contains-append_right (key ∷ []) keys other has)) are.3 ∙ ap (λ (s : Share). map (pointer_of s.entries) keys) share in
+    λ i. now i ∷ rest i
+own_found [] (answer ∷ answers) first last own are = absurd are
+own_found (key ∷ keys) [] first last own are = absurd are

@@ -12,6 +12,7 @@ use Rattle.blink_live.specs.Changes.{after}
 use Rattle.blink_live.specs.Finding.{AllAreOwn, HasSearched}
 use Rattle.blink_live.specs.Handles.{IsPassOf, IsSameBesideSeen, KnowsItsKeys, keys_of}
 use Rattle.blink_live.specs.Views.{SeatState}
+use Rattle.blink_live.proofs.found.FindsOfSeveral.{own_found}
 use Rattle.blink_live.proofs.told.PrefixesOfOneList.{prefix_of_prefix}
 use Rattle.blink_live.proofs.table.RefusalsTold.{no_refusal}
 use Rattle.blink_live.proofs.live.Live.find_all.Goals as goal
@@ -39,12 +40,6 @@ module _ (pass new : Pass) (looked : SeatState) (up : LooksUp pass.seat.me looke
             ap (λ (p : Plan). after (pointer_of p.opening) new.seat.me.0.seen key) (sym same_plan) ∙ own.state key (subst (λ (keys : List ℕ). Contains keys key) new.keys_are among);
         changes = λ key among. own.changes key (subst (λ (keys : List ℕ). Contains keys key) new.keys_are among);
       }
-
-pub search_all-requires-clause-own : goal.search_all-requires-clause-own
-search_all-requires-clause-own c key has =
-    let own : Contains (keys_of c.args.pass.now) key = subst (λ (own : List ℕ). AllAreOwn own c.args.keys.now) c.deref.ensures.value (c.are_among.ensures.all c.if-not-are_among.false) key has in
-    let its : Contains c.args.pass.now.seat.me.0.share.keys key = subst (λ (keys : List ℕ). Contains keys key) c.args.pass.now.keys_are own in
-    subst (λ (s : Share). Contains s.keys key) (sym (ap (λ (x : SeatState). x.0.share) c.look_up.ensures.up.is)) its
 
 pub search_all-requires-clause-idle : goal.search_all-requires-clause-idle
 search_all-requires-clause-idle c =
@@ -77,7 +72,11 @@ invariant_of-pass c =
     }
 
 pub returns-clause-answers : goal.returns-clause-answers
-returns-clause-answers c = c.search_all.ensures.answers ∙ ap (λ (x : SeatState). map (pointer_of x.0.share.entries) c.args.keys.now) c.look_up.ensures.up.is
+returns-clause-answers c =
+    let share = ap (λ (x : SeatState). x.0.share) c.look_up.ensures.up.is in
+    let all : AllAreOwn (keys_of c.args.pass.now) c.args.keys.now = subst (λ (own : List ℕ). AllAreOwn own c.args.keys.now) c.deref.ensures.value (c.are_among.ensures.all c.if-not-are_among.false) in
+    let own : AllAreOwn c.look_up.new.seat.me.0.share.keys c.args.keys.now = subst (λ (keys : List ℕ). AllAreOwn keys c.args.keys.now) (c.args.pass.now.keys_are ∙ sym (ap (λ (s : Share). s.keys) share)) all in
+    own_found c.args.keys.now _ c.look_up.new.seat.me _ own c.search_all.ensures.found ∙ ap (λ (s : Share). map (pointer_of s.entries) c.args.keys.now) share
 
 pub returns-clause-knows : goal.returns-clause-knows
 returns-clause-knows c = knows c.args.pass.now _ c.look_up.new.seat.me c.look_up.ensures.up c.search_all.ensures.searched c.args.self.now c.requires.its_own

@@ -1,10 +1,7 @@
-use Rattle.std.proofs.Common.{◌≡◌, ◌<◌, ℕ, List, Option, None, length, get_or, set, refl, sym, ap, ◌∙◌, subst, inl, inr, arith, length-set, get_or-set_other, get_or-set_same}
-use Rattle.std.specs.Prelude.{Contains}
-use Rattle.std.proofs.lemmas.Bool.{cases_lt}
-use Rattle.std.proofs.lemmas.List.Elements.{Contains-get_or}
-use Rattle.blink_batch.specs.{pointer_of}
-use Rattle.blink_live.specs.declared.view.Share.{Share}
-use Rattle.blink_live.proofs.found.FindsOfSeveral.{answered_all, searched_more, searched_none, searched_seat}
+use Rattle.std.proofs.Common.{◌<◌, ◌≤◌, ℕ, List, Option, length, get_or, take, refl, sym, ◌∙◌, subst, arith, length-set}
+use Rattle.std.proofs.lemmas.List.{take_all, take_more, take_more_set}
+use Rattle.blink_live.specs.Finding.{AreFound}
+use Rattle.blink_live.proofs.found.FindsOfSeveral.{found_one_more, searched_more, searched_none, searched_seat}
 use Rattle.blink_live.proofs.live.Live.search_all.Goals as goal
 
 pub loop-place-init : goal.loop-place-init
@@ -12,7 +9,7 @@ loop-place-init c = record {
   same_table = (refl, refl);
   searched = searched_none c.args.seat.now.me c.requires.idle;
   many = c.requires.places;
-  answered = λ n none. absurd (omega (arith, none));
+  found = searched_none c.args.seat.now.me c.requires.idle;
 }
 
 pub pointer-requires : goal.pointer-requires
@@ -20,7 +17,6 @@ pointer-requires c =
     let before = c.loop-place.invariant in record {
       seat = searched_seat c.args.self.now c.args.seat.now.table_id c.loop-place.seat.table_id c.args.seat.now.me c.loop-place.seat.me before.same_table.0 before.searched c.requires.seat;
       idle = before.searched.idle;
-      own = subst (λ (s : Share). Contains s.keys (get_or c.args.keys.now c.loop-place.place 0)) (sym before.searched.same_share) (c.requires.own (get_or c.args.keys.now c.loop-place.place 0) (Contains-get_or c.args.keys.now c.loop-place.place 0 c.loop-place-test.true));
     }
 
 pub loop-place-preserved : goal.loop-place-preserved
@@ -31,21 +27,22 @@ loop-place-preserved c =
     let keys : List ℕ = c.args.keys.now in
     let answers : List (Option ℕ) = c.loop-place.answers in
     let inside : place < length answers = omega (arith, before.many, c.loop-place-test.true) in
-    let now : c.pointer.result ≡ pointer_of c.args.seat.now.me.0.share.entries (get_or keys place 0) = one.pointer ∙ ap (λ (s : Share). pointer_of s.entries (get_or keys place 0)) before.searched.same_share in record {
+    let more = found_one_more (take place keys) (take place answers) c.args.seat.now.me c.loop-place.seat.me c.pointer.new.seat.me (get_or keys place 0) c.pointer.result before.found one.searched one.pointer in record {
       same_table = (one.same_table.0 ∙ before.same_table.0, one.same_table.1 ∙ before.same_table.1);
       searched = searched_more c.args.seat.now.me c.loop-place.seat.me c.pointer.new.seat.me before.searched one.searched;
       many = length-set answers place c.pointer.result ∙ before.many;
-      answered = λ n less. elim (cases_lt n place) [
-        | inl earlier ↦ get_or-set_other answers place n c.pointer.result None (omega (arith, earlier)) ∙ before.answered n earlier
-        | inr behind ↦ let last : place ≡ n = omega (arith, behind, less) in
-            subst (λ (k : ℕ). get_or (set answers place c.pointer.result) k None ≡ pointer_of c.args.seat.now.me.0.share.entries (get_or keys k 0)) last (get_or-set_same answers place c.pointer.result None inside ∙ now)
-      ];
+      found = subst (λ (x : List ℕ × List (Option ℕ)). AreFound c.args.seat.now.me x.0 x.1 c.pointer.new.seat.me) (λ i. (sym (take_more keys place 0 c.loop-place-test.true) i, sym (take_more_set answers place c.pointer.result inside) i)) more;
     }
 
 pub returns : goal.returns
 returns c =
-    let before = c.loop-place.invariant in record {
+    let before = c.loop-place.invariant in
+    let keys : List ℕ = c.args.keys.now in
+    let answers : List (Option ℕ) = c.loop-place.answers in
+    let place : ℕ = c.loop-place.place in
+    let over : length keys ≤ place = c.loop-place-test.false in
+    let over_answers : length answers ≤ place = omega (arith, over, before.many) in record {
       same_table = before.same_table;
       searched = before.searched;
-      answers = answered_all (pointer_of c.args.seat.now.me.0.share.entries) c.args.keys.now c.loop-place.answers before.many (λ n inside. before.answered n (omega (arith, inside, c.loop-place-test.false)));
+      found = subst (λ (x : List ℕ × List (Option ℕ)). AreFound c.args.seat.now.me x.0 x.1 c.loop-place.seat.me) (λ i. (take_all place keys over i, take_all place answers over_answers i)) before.found;
     }

@@ -1,0 +1,40 @@
+-- Finds of several keys by a member.
+use Rattle.std.proofs.Common.{◌≡◌, ◌≤◌, ℕ, Option, List, [], ◌∷◌, Contains, sym, ap, ◌∙◌, subst, arith}
+use Rattle.blink_batch.specs.{pointer_of}
+use Rattle.blink_batch.specs.declared.Entry.{Entry}
+use Rattle.blink_rows.specs.declared.span.Span.{Span}
+use Rattle.blink_live.specs.declared.view.Plan.{Plan}
+use Rattle.blink_live.specs.declared.view.View.{View}
+use Rattle.blink_live.specs.Changes.{after}
+use Rattle.blink_live.specs.Finding.{AreFound, IsIdle}
+use Rattle.blink_live.specs.Views.{SeatState, is_busy}
+use Rattle.blink_map.specs.declared.member.Member.{Member}
+use Rattle.blink_map.specs.Sessions.{AnswersAsSeen}
+
+no_key_in : (keys : List ℕ) (key : ℕ) → keys ≡ [] → Contains keys key → ⊥
+no_key_in keys key none has = let has_none : Contains [] key = subst (λ (l : List ℕ). Contains l key) none has in let inside = has_none.1 in omega (arith, inside)
+
+-- a member may find where its place is marked
+pub can_look : (old : Member) (me : SeatState) → me ≡ (is_busy old.seat.me.0 1, old.seat.me.1) → IsIdle me.0
+can_look old me marked =
+    let view = ap (λ (x : SeatState). x.0) marked in
+    let no_key : me.0.share.keys ≡ [] = ap (λ (v : View). v.share.keys) view ∙ old.no_key in record {
+      idle = ap (λ (v : View). v.operation) view ∙ old.idle;
+      rows = subst (λ (s : Span). s.next ≤ s.stop) (old.rows_are ∙ sym (ap (λ (v : View). v.rows) view)) old.in_order.0;
+      pages = subst (λ (s : Span). s.next ≤ s.stop) (old.pages_are ∙ sym (ap (λ (v : View). v.pages) view)) old.in_order.1;
+      knows_own = record {
+        state = λ key has. absurd (no_key_in me.0.share.keys key no_key has);
+        changes = λ key has. absurd (no_key_in me.0.share.keys key no_key has);
+      };
+      announced = λ common. subst (λ (v : View). 1 ≤ v.busy) (sym view) (omega arith);
+    }
+
+-- what a seat has found is what it had seen
+pub found_as_seen : (opening : List Entry) (keys : List ℕ) (answers : List (Option ℕ)) (first last : SeatState) → first.0.plan.opening ≡ opening → AreFound first keys answers last → AnswersAsSeen opening first.0.seen keys answers last.0.seen
+found_as_seen opening [] [] first last same are = are.saw
+found_as_seen opening (key ∷ keys) (answer ∷ answers) first last same are =
+    let then : SeatState = are.0 in
+    let same_then : then.0.plan.opening ≡ opening = ap (λ (p : Plan). p.opening) are.1.same_plan ∙ same in
+    (then.0.seen, are.1.saw, are.2 ∙ ap (λ (entries : List Entry). after (pointer_of entries) then.0.seen key) same_then, found_as_seen opening keys answers then last same_then are.3)
+found_as_seen opening [] (answer ∷ answers) first last same are = absurd are
+found_as_seen opening (key ∷ keys) [] first last same are = absurd are

@@ -1,0 +1,80 @@
+-- An operation of a session that is under way.
+use Rattle.std.proofs.Common.{◌≡◌, ℕ, None, List, ◌++◌, sym, ap, ◌∙◌, subst}
+use mathlib.Core.List.{IsPrefix}
+use Rattle.blink_batch.specs.declared.Answer.{Answer}
+use Rattle.blink_batch.specs.declared.Op.{Op}
+use Rattle.blink_batch.specs.{key_of, pointer_of}
+use Rattle.blink_machine.specs.{PlainMachine, latch_at, latch_of}
+use Rattle.blink_live.specs.declared.live.Live.{Live}
+use Rattle.blink_live.specs.declared.view.Change.{Change}
+use Rattle.blink_live.specs.Changes.{after, changes_made}
+use Rattle.blink_live.specs.Pendings.{IsWaiting, for_latch, for_level}
+use Rattle.blink_live.specs.Updating.{IsUnderWay}
+use Rattle.blink_map.specs.declared.map.Map.{Map}
+use Rattle.blink_map.specs.declared.map.Pending.{Pending}
+use Rattle.blink_map.specs.declared.map.Session.{Session}
+use Rattle.blink_map.specs.declared.member.Member.{Member}
+use Rattle.blink_map.specs.declared.member.UnderWay.{UnderWay}
+use Rattle.blink_map.specs.Changing.{HasChanged, HasDrawn, IsAtWork}
+use Rattle.blink_map.specs.Pendings.{HasBegun, op_of, session_of}
+use Rattle.blink_map.specs.Places.{IsMemberOf}
+use Rattle.blink_map.specs.Sessions.{IsAnswered, IsSessionOf, made_by_member, opening_of, place_of_member, seen_by}
+
+no_latch_waiting : (m : PlainMachine) → IsWaiting m → latch_of m ≡ None
+no_latch_waiting m (for_latch page at) = ap latch_at at
+no_latch_waiting m (for_level at) = ap latch_at at
+
+pub its_member : (live : Live) (old drawn : Member) → IsMemberOf live old → HasDrawn old drawn → IsMemberOf live drawn
+its_member live old drawn its has_drawn = record {
+  same_table = has_drawn.same_member.same_table ∙ its.same_table;
+  same_plan = has_drawn.same_member.same_plan ∙ its.same_plan;
+}
+
+-- the operation has begun, where its member may have drawn before
+pub has_begun : (map : Map) (op : Op) (session : Session) (drawn : Member) (pending : Pending) → IsSessionOf map session → session_of pending ≡ session → HasDrawn session.member drawn → IsAtWork map.live op drawn pending.now
+    → pending.claim.table_id ≡ session.claim.table_id → IsWaiting pending.now.machine → HasBegun map op session pending
+has_begun map op session drawn pending its same_session has_drawn at_work same_places waits =
+    let same_op : op_of pending ≡ op = at_work.set_out.under_way.updating.same_op in record {
+      its_own = record {
+        its_own = subst (IsSessionOf map) (sym same_session) its;
+        drawn = drawn;
+        has_drawn = subst (λ (s : Session). HasDrawn s.member drawn) (sym same_session) has_drawn;
+        at_work = subst (λ (o : Op). IsAtWork map.live o drawn pending.now) (sym same_op) at_work;
+        same_places = same_places ∙ ap (λ (s : Session). s.claim.table_id) (sym same_session);
+        waits = waits;
+        no_latch = no_latch_waiting pending.now.machine waits;
+      };
+      same_op = same_op;
+      same_session = same_session;
+    }
+
+-- what is so of the operation is so after more of its steps
+pub goes_on : (live : Live) (op : Op) (old : Member) (now next : UnderWay) → (work : IsAtWork live op old now) → IsUnderWay live op work.set_out.first next.seat next.machine next.room
+    → next.rows ≡ now.rows → next.pages ≡ now.pages → next.place ≡ now.place → IsAtWork live op old next
+goes_on live op old now next work under_way rows pages place = record {
+  set_out = record { first = work.set_out.first; marked = work.set_out.marked; same_number = work.set_out.same_number; under_way = under_way };
+  rows = rows ∙ work.rows;
+  pages = pages ∙ work.pages;
+  place = place ∙ work.place;
+}
+
+-- the answer of an operation before which its member may have drawn
+pub answered : (map : Map) (op : Op) (old new : Session) (drawn : Member) (answer : Answer) → HasDrawn old.member drawn → HasChanged map.live op drawn new.member answer → new.claim.table_id ≡ old.claim.table_id → IsAnswered map op old new answer
+answered map op old new drawn answer has_drawn changed same_places =
+    let told = changed.in_order in
+    let place = has_drawn.same_member.same_place in
+    let made : ℕ → List Change = λ author. changes_made author op (after (pointer_of (opening_of map)) told.before (key_of op)) in record {
+      in_order = record {
+        before = told.before;
+        saw = subst (λ (seen : List Change). IsPrefix seen told.before) has_drawn.seen told.saw;
+        answers = told.answers;
+        goes_on = subst (λ (author : ℕ). IsPrefix (told.before ++ made author) (seen_by new)) place told.goes_on;
+        made = told.made ∙ (ap (λ (l : List Change). l ++ made (place_of_member drawn)) has_drawn.made ∙ ap (λ (author : ℕ). made_by_member old.member ++ made author) place);
+      };
+      same_member = record {
+        same_table = changed.same_member.same_table ∙ has_drawn.same_member.same_table;
+        same_plan = changed.same_member.same_plan ∙ has_drawn.same_member.same_plan;
+        same_place = changed.same_member.same_place ∙ place;
+      };
+      same_places = same_places;
+    }

@@ -1,0 +1,79 @@
+use Rattle.std.proofs.Common.{◌≡◌, List, inl, refl, sym, ap, ◌∙◌, subst, arith}
+use mathlib.Core.List.{IsPrefix}
+use Rattle.blink_live.specs.declared.view.Change.{Change}
+use Rattle.blink_live.specs.declared.view.Plan.{Plan}
+use Rattle.blink_live.specs.declared.view.Share.{Share}
+use Rattle.blink_live.specs.Handles.{opening_of}
+use Rattle.blink_live.specs.Ledger.{HasSeenItsOwn}
+use Rattle.blink_live.specs.Views.{SeatState}
+use Rattle.blink_map.specs.Sessions.{AnswersAsSeen}
+use Rattle.blink_map.proofs.LooksOver.{can_look, found_as_seen}
+use Rattle.blink_map.proofs.member.Member.look_over.Goals as goal
+
+pub search_all-requires-clause-idle : goal.search_all-requires-clause-idle
+search_all-requires-clause-idle c = can_look c.args.self.now c.mark.new.seat.me c.mark.ensures.marked
+
+pub mark-requires-2 : goal.mark-requires-2
+mark-requires-2 c =
+    let old = c.args.self.now in
+    let live = c.args.live.now in
+    let its = c.requires.its_own in
+    let marked = c.mark.ensures.marked in
+    let found = c.search_all.ensures.searched in
+    let inside = old.place_is.1 in
+    let same : old.seat.me.0.plan.places ≡ live.places = ap (λ (p : Plan). p.places) its.same_plan ∙ sym live.places_are in record {
+      seat = record {
+        same_table = c.search_all.ensures.same_table.0 ∙ (c.mark.ensures.same.0 ∙ its.same_table);
+        same_plan = found.same_plan ∙ (ap (λ (x : SeatState). x.0.plan) marked ∙ its.same_plan);
+        role = found.same_role ∙ (ap (λ (x : SeatState). x.0.role) marked ∙ old.role_is);
+      };
+      place = (old.place_is.0 ∙ sym (found.same_place ∙ ap (λ (x : SeatState). x.0.place) marked), omega (arith, inside, same));
+      idle = inl found.idle.idle;
+    }
+
+pub invariant_of-self : goal.invariant_of-self
+invariant_of-self c =
+    let old = c.args.self.now in
+    let marked = c.mark.ensures.marked in
+    let found = c.search_all.ensures.searched in
+    let now = c.mark-2.ensures.marked in
+    let plan = ap (λ (x : SeatState). x.0.plan) now ∙ (found.same_plan ∙ ap (λ (x : SeatState). x.0.plan) marked) in
+    let inside = old.place_is.1 in
+    let common = old.common in
+    let same : c.mark-2.new.seat.me.0.plan.places ≡ old.seat.me.0.plan.places = ap (λ (p : Plan). p.places) plan in record {
+      rows_are = old.rows_are ∙ sym (ap (λ (x : SeatState). x.0.rows) now ∙ (found.same_rows ∙ ap (λ (x : SeatState). x.0.rows) marked));
+      pages_are = old.pages_are ∙ sym (ap (λ (x : SeatState). x.0.pages) now ∙ (found.same_pages ∙ ap (λ (x : SeatState). x.0.pages) marked));
+      place_is = (old.place_is.0 ∙ sym (ap (λ (x : SeatState). x.0.place) now ∙ (found.same_place ∙ ap (λ (x : SeatState). x.0.place) marked)), omega (arith, inside, same));
+      in_order = old.in_order;
+      role_is = ap (λ (x : SeatState). x.0.role) now ∙ (found.same_role ∙ (ap (λ (x : SeatState). x.0.role) marked ∙ old.role_is));
+      common = omega (arith, common, same);
+      no_key = ap (λ (x : SeatState). x.0.share.keys) now ∙ (ap (λ (s : Share). s.keys) (found.same_share ∙ ap (λ (x : SeatState). x.0.share) marked) ∙ old.no_key);
+      none_told = ap (λ (x : SeatState). x.0.told) now ∙ (found.same_told ∙ (ap (λ (x : SeatState). x.0.told) marked ∙ old.none_told));
+      idle = ap (λ (x : SeatState). x.0.operation) now ∙ found.idle.idle;
+      saw_own = subst HasSeenItsOwn (sym (ap (λ (x : SeatState). x.0) now)) c.mark-2.ensures.saw_own;
+      no_slot = ap (λ (x : SeatState). x.1) now ∙ (found.same_slots ∙ (ap (λ (x : SeatState). x.1) marked ∙ old.no_slot));
+    }
+
+pub returns-clause-answers : goal.returns-clause-answers
+returns-clause-answers c =
+    let marked = c.mark.ensures.marked in
+    let live = c.args.live.now in
+    let opening = ap (λ (x : SeatState). x.0.plan.opening) marked ∙ ap (λ (p : Plan). p.opening) c.requires.its_own.same_plan in
+    subst (λ (x : List Change × List Change). AnswersAsSeen (opening_of live) x.0 c.args.keys.now c.search_all.new.answers x.1) (λ i. (ap (λ (x : SeatState). x.0.seen) marked i, sym (ap (λ (x : SeatState). x.0.seen) c.mark-2.ensures.marked) i))
+    (found_as_seen (opening_of live) c.args.keys.now c.search_all.new.answers c.mark.new.seat.me c.search_all.new.seat.me opening c.search_all.ensures.found)
+
+pub returns-clause-looked : goal.returns-clause-looked
+returns-clause-looked c =
+    let marked = c.mark.ensures.marked in
+    let found = c.search_all.ensures.searched in
+    let now = c.mark-2.ensures.marked in record {
+      saw = subst (λ (x : List Change × List Change). IsPrefix x.0 x.1) (λ i. (ap (λ (x : SeatState). x.0.seen) marked i, sym (ap (λ (x : SeatState). x.0.seen) now) i)) found.saw;
+      made = ap (λ (x : SeatState). x.0.share.changes) now ∙ ap (λ (s : Share). s.changes) (found.same_share ∙ ap (λ (x : SeatState). x.0.share) marked);
+      rows = refl;
+      pages = refl;
+      same_member = record {
+        same_table = c.mark-2.ensures.same.0 ∙ (c.search_all.ensures.same_table.0 ∙ c.mark.ensures.same.0);
+        same_plan = ap (λ (x : SeatState). x.0.plan) now ∙ (found.same_plan ∙ ap (λ (x : SeatState). x.0.plan) marked);
+        same_place = ap (λ (x : SeatState). x.0.place) now ∙ (found.same_place ∙ ap (λ (x : SeatState). x.0.place) marked);
+      };
+    }

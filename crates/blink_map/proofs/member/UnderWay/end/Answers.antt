@@ -1,0 +1,41 @@
+use Rattle.std.proofs.Common.{◌<◌, ◌≤◌, ℕ, sym, ap, subst, ◌∙◌}
+use Rattle.blink_rows.specs.declared.span.Span.{Span}
+use Rattle.blink_live.specs.Views.{span}
+use Rattle.blink_map.proofs.MembersComeBack.{gives, has_changed, is_idle_again, its_end, its_place, its_seat}
+use Rattle.blink_map.proofs.member.UnderWay.end.Goals as goal
+
+pub come_back-requires : goal.come_back-requires
+come_back-requires c =
+    let work = c.requires.at_work in
+    let ended = c.requires.ended in
+    let out = work.3.set_out in
+    let place = its_place out work.2 in record {
+      seat = its_seat out;
+      can = gives out;
+      ended = (its_end out ended.0 ended.1 ended.2).idle;
+      place = (work.3.place ∙ place.0, subst (λ (n : ℕ). n < c.args.live.now.places) (sym work.3.place) place.1);
+    }
+
+pub invariant_of-result : goal.invariant_of-result
+invariant_of-result c =
+    let work = c.requires.at_work in
+    let ended = c.requires.ended in
+    let out = work.3.set_out in
+    let again = is_idle_again out ended.0 c.come_back.new.seat (its_end out ended.0 ended.1 ended.2) c.come_back.ensures.idle in record {
+      rows_are = ap (λ (s : Span). span c.args.self.room.rows.next s.stop) work.3.rows ∙ again.rows_are;
+      pages_are = ap (λ (s : Span). span c.args.self.room.pages.next s.stop) work.3.pages ∙ again.pages_are;
+      place_is = (work.3.place ∙ again.place_is.0, subst (λ (n : ℕ). n < c.come_back.new.seat.me.0.plan.places) (sym work.3.place) again.place_is.1);
+      in_order = (subst (λ (s : Span). c.args.self.room.rows.next ≤ s.stop) (sym work.3.rows) again.in_order.0, subst (λ (s : Span). c.args.self.room.pages.next ≤ s.stop) (sym work.3.pages) again.in_order.1);
+      role_is = again.role_is;
+      common = again.common;
+      no_key = again.no_key;
+      none_told = again.none_told;
+      idle = again.idle;
+      saw_own = c.come_back.ensures.saw_own;
+      no_slot = again.no_slot;
+    }
+
+pub returns : goal.returns
+returns c op old answer its work given =
+    let ended = c.requires.ended in
+    has_changed work.set_out answer _ its (its_end work.set_out answer ended.1 given) c.come_back.ensures.same c.come_back.ensures.idle (ap (λ (s : Span). span c.args.self.room.rows.next s.stop) work.rows) (ap (λ (s : Span). span c.args.self.room.pages.next s.stop) work.pages)

@@ -1,0 +1,215 @@
+//! The operations that change a map, for a thread that waits for nobody: each begins as a `Pending`, and takes some steps at each
+//! call of `advance`.
+ghost use Rattle.std.specs.Prelude.{◌≡◌, Some, IfErr, IfOk};
+ghost use Rattle.blink_batch.specs.{FitsWords};
+ghost use Rattle.blink_batch.specs.declared.Answer.{Answer};
+ghost use Rattle.blink_batch.specs.declared.Op.{Op};
+ghost use Rattle.blink_batch.specs.declared.Op.TheVariants.{Delete, Insert, Replace};
+ghost use Rattle.blink_machine.specs.{IsUpdate};
+ghost use Rattle.blink_machine.specs.declared.machine.State.TheVariants.{Ended};
+ghost use Rattle.blink_live.specs.Pendings.{IsWaiting};
+ghost use Rattle.blink_map.specs.declared.member.Member.{Member};
+ghost use Rattle.blink_map.specs.Changing.{HasChanged, IsAtWork};
+ghost use Rattle.blink_map.specs.Pendings.{HasBegun, IsPendingOf, op_of, session_of};
+ghost use Rattle.blink_map.specs.Places.{IsMemberOf};
+ghost use Rattle.blink_map.specs.Sessions.{HasRoom, IsAnswered, IsSameBesideRoom, IsSessionOf, LacksRoom};
+
+use crate::change::{come_back, room_of};
+use crate::error::Full;
+use crate::map::{Map, Pending, Session};
+use crate::member::{Member, UnderWay};
+use blink_batch::{Answer, Op};
+use blink_live::Live;
+use blink_machine::Machine;
+use blink_rows::Span;
+use std::snapshot::Snapshot;
+
+impl Map {
+    /// Begins an insertion: what `insert` does, with no wait. The call reads the tree down to the key's leaf. It takes no memory,
+    /// waits for nobody, and returns. The insertion goes on by `advance`.
+    ///
+    /// The call refuses as `insert` does, and gives the session back.
+    pub fn begin_insert(
+        &self,
+        session: Session,
+        key: u64,
+        pointer: u64,
+    ) -> Result<Pending, (Session, Full)>
+        requires its_own { IsSessionOf self.now session }
+        ensures begun { IfOk result (HasBegun self.now (Insert key pointer) session) }
+        ensures full { IfErr result (λ refused. LacksRoom (Insert key pointer) session refused.0) }
+        ensures unchanged { IfErr result (λ refused. IsSameBesideRoom session refused.0) }
+    {
+        self.begin(session, Op::Insert(key, pointer))
+    }
+
+    /// Begins a deletion: what `delete` does, with no wait. The call reads the tree down to the key's leaf. It takes no memory,
+    /// waits for nobody, and returns. The deletion goes on by `advance`.
+    ///
+    /// The call refuses as `delete` does, and gives the session back.
+    pub fn begin_delete(&self, session: Session, key: u64) -> Result<Pending, (Session, Full)>
+        requires its_own { IsSessionOf self.now session }
+        ensures begun { IfOk result (HasBegun self.now (Delete key) session) }
+        ensures full { IfErr result (λ refused. LacksRoom (Delete key) session refused.0) }
+        ensures unchanged { IfErr result (λ refused. IsSameBesideRoom session refused.0) }
+    {
+        self.begin(session, Op::Delete(key))
+    }
+
+    /// Begins a replacement: what `replace` does, with no wait. The call reads the tree down to the key's leaf. It takes no
+    /// memory, waits for nobody, and returns. The replacement goes on by `advance`.
+    ///
+    /// The call refuses as `replace` does, and gives the session back.
+    pub fn begin_replace(
+        &self,
+        session: Session,
+        key: u64,
+        pointer: u64,
+    ) -> Result<Pending, (Session, Full)>
+        requires its_own { IsSessionOf self.now session }
+        ensures begun { IfOk result (HasBegun self.now (Replace key pointer) session) }
+        ensures full { IfErr result (λ refused. LacksRoom (Replace key pointer) session refused.0) }
+        ensures unchanged { IfErr result (λ refused. IsSameBesideRoom session refused.0) }
+    {
+        self.begin(session, Op::Replace(key, pointer))
+    }
+
+    /// Takes the operation's next steps. It returns the session and the operation's answer once the operation has ended, exactly
+    /// those of `insert`, `delete` or `replace`. It gives the operation back, whole and with its session, after `tries` steps in
+    /// vain, at least one: another session had the latch of the page that it wants, or was about to make the root of a new level
+    /// that it posts to. Then it holds no page's latch. The next call goes on from there. The call takes no memory, waits for
+    /// nobody, and returns.
+    pub fn advance(&self, pending: Pending, tries: u32) -> Result<(Session, Answer), Pending>
+        requires its_own { IsPendingOf self.now pending }
+        ensures answered { IfOk result
+            (λ ended. IsAnswered self.now (op_of pending) (session_of pending) ended.0 ended.1) }
+        ensures goes_on { IfErr result (HasBegun self.now (op_of pending) (session_of pending)) }
+        ensures waits { IfErr result (λ pending. IsWaiting pending.now.machine) }
+    {
+        let Pending {
+            mut now,
+            claim,
+            place,
+            begun,
+        } = pending;
+        match self
+            .live
+            .take_steps(&mut now.seat, &mut now.machine, &mut now.room, tries)
+        {
+            Some(answer) => {
+                let member = now.end(&self.live);
+                let session = Session {
+                    member,
+                    claim,
+                    place,
+                };
+                Ok((session, answer))
+            }
+            None => Err(Pending {
+                now,
+                claim,
+                place,
+                begun,
+            }),
+        }
+    }
+
+    /// Begins an insertion, a deletion or a replacement, as the three calls above do.
+    pub fn begin(&self, session: Session, op: Op) -> Result<Pending, (Session, Full)>
+        requires its_own { IsSessionOf self.now session }
+        requires updates { IsUpdate op }
+        requires fits { FitsWords op }
+        ensures begun { IfOk result (HasBegun self.now op session) }
+        ensures full { IfErr result (λ refused. LacksRoom op session refused.0) }
+        ensures unchanged { IfErr result (λ refused. IsSameBesideRoom session refused.0) }
+    {
+        let begun = Snapshot::of(&session);
+        let Session {
+            mut member,
+            claim,
+            place,
+        } = session;
+        if !member.draw(&self.live, op) {
+            let session = Session {
+                member,
+                claim,
+                place,
+            };
+            return Err((session, Full));
+        }
+        let now = member.begin(&self.live, op);
+        Ok(Pending {
+            now,
+            claim,
+            place,
+            begun,
+        })
+    }
+}
+
+impl Member {
+    // Begins an operation that changes the tree. The member's place stays marked until it has ended.
+    fn begin(self, live: &Live, op: Op) -> UnderWay
+        requires its_own { IsMemberOf live.now self }
+        requires updates { IsUpdate op }
+        requires fits { FitsWords op }
+        requires room { HasRoom op self.rows self.pages }
+        ensures at_work { IsAtWork live.now op self result }
+        ensures waits { IsWaiting result.machine }
+    {
+        let Member {
+            mut seat,
+            rows,
+            pages,
+            place,
+        } = self;
+        live.mark(&mut seat, place, 1);
+        let room = room_of(op, &rows, &pages);
+        let mut machine = Machine::new(op, live.fan());
+        live.set_out(&mut seat, &mut machine, &room, op);
+        UnderWay {
+            seat,
+            rows,
+            pages,
+            place,
+            machine,
+            room,
+        }
+    }
+}
+
+impl UnderWay {
+    // The member when its operation has ended. What the operation hasn't used of its rows and page numbers is the member's again.
+    fn end(self, live: &Live) -> Member
+        requires at_work { (op : Op) × (old : Member) × IsMemberOf live.now old
+            × IsAtWork live.now op old self }
+        requires ended { (answer : Answer) × (self.machine.state ≡ Ended)
+            × (self.machine.answer ≡ Some answer) }
+        ensures { (op : Op) (old : Member) (answer : Answer) → IsMemberOf live.now old
+            → IsAtWork live.now op old self
+            → self.machine.answer ≡ Some answer
+            → HasChanged live.now op old result answer }
+    {
+        let UnderWay {
+            mut seat,
+            rows,
+            pages,
+            place,
+            machine: _machine,
+            room,
+        } = self;
+        come_back(live, &mut seat, place);
+        Member {
+            seat,
+            rows: Span {
+                next: room.rows.next,
+                stop: rows.stop,
+            },
+            pages: Span {
+                next: room.pages.next,
+                stop: pages.stop,
+            },
+            place,
+        }
+    }
+}
