@@ -22,4 +22,4 @@ pub use Rattle.blink_live.proofs.told.PrefixesOfOneList.{prefixes_of_one_list}
 -- the state that more changes leave of a key
 pub use Rattle.blink_live.proofs.changed.ChangesAreTheMaps.{after-append}
 -- changes by one author, and the changes made at a place
-pub use Rattle.blink_live.proofs.table.LedgerStays.{AreBy, made_at-append, made_elsewhere, made_between, made_here, nothing_more, prefix_made}
+pub use Rattle.blink_live.proofs.table.AccountsStay.{AreBy, made_at-append, made_elsewhere, made_between, made_here, nothing_more, prefix_made}

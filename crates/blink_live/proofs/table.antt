@@ -10,7 +10,7 @@ pub mod PassesOut
 pub mod KeepersCount
 pub mod PassesComeIn
 pub mod OthersKnowTheSame
-pub mod LedgerStays
+pub mod AccountsStay
 pub mod StoresKeepTable
 pub mod SharesAreKnown
 pub mod RefusalsTold

@@ -13,7 +13,7 @@ use Rattle.blink_live.specs.declared.view.Change.{Change}
 use Rattle.blink_live.specs.declared.view.Role.TheVariants.{Keeper}
 use Rattle.blink_live.specs.declared.view.View.{View}
 use Rattle.blink_live.specs.Changes.{after}
-use Rattle.blink_live.specs.Ledger.{AreApart, HaveAuthors, made_at}
+use Rattle.blink_live.specs.Accounts.{AreApart, HaveAuthors, made_at}
 use Rattle.blink_live.specs.Handles.{counts_of, fan_of, opening_of}
 use Rattle.blink_live.specs.Views.{back_in, dealt_in, first_view, plan_of}
 

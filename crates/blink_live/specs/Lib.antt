@@ -32,7 +32,7 @@ pub use Rattle.blink_live.specs.Views.{span}
 -- ---- the files
 pub mod Handles
 pub mod Changes
-pub mod Ledger
+pub mod Accounts
 pub mod Allowed
 pub mod Deals
 pub mod Merge

@@ -8,7 +8,7 @@ ghost use Rattle.blink_live.specs.Common.{HasAllChanges, IsOpenedCommon, IsHost}
 ghost use Rattle.blink_live.specs.Gathered.{IsNumberedInOrder};
 ghost use Rattle.blink_live.specs.Handles.{fan_of};
 ghost use Rattle.blink_live.specs.Laid.{IsLaid};
-ghost use Rattle.blink_live.specs.Ledger.{account_of};
+ghost use Rattle.blink_live.specs.Accounts.{account_of};
 ghost use Rattle.blink_live.specs.Seats.{HasSameNumber, IsIdleIn, IsPassSeat};
 ghost use Rattle.blink_live.specs.Views.{plan_of, takes_account};
 ghost use Rattle.blink_live.specs.declared.view.Role.TheVariants.{Pass};

@@ -3,7 +3,7 @@ ghost use Rattle.std.specs.Prelude.{◌≡◌, ◌⊎◌, ◌+◌, ◌<◌, ◌�
 ghost use Rattle.blink_live.specs.AtomicSteps.{LooksUp};
 ghost use Rattle.blink_live.specs.Common.{IsHost};
 ghost use Rattle.blink_live.specs.GivingBack.{CanGiveBack, gives_back};
-ghost use Rattle.blink_live.specs.Ledger.{HasSeenItsOwn};
+ghost use Rattle.blink_live.specs.Accounts.{HasSeenItsOwn};
 ghost use Rattle.blink_live.specs.Seats.{HasSameNumber, IsPassSeat};
 ghost use Rattle.blink_live.specs.Views.{has_pages, has_rows, is_busy, span};
 ghost use Rattle.blink_live.specs.Words.{pool_page, pool_row};

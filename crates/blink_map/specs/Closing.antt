@@ -4,7 +4,7 @@ use mathlib.Core.List.{IsPrefix}
 use Rattle.atomic_table.specs.declared.Seat.{Seat}
 use Rattle.blink_live.specs.declared.view.Account.{Account}
 use Rattle.blink_live.specs.declared.view.View.{View}
-use Rattle.blink_live.specs.Ledger.{account_of}
+use Rattle.blink_live.specs.Accounts.{account_of}
 use Rattle.blink_map.specs.declared.map.Session.{Session}
 use Rattle.blink_map.specs.Sessions.{seen_by}
 

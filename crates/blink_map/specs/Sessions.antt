@@ -14,7 +14,7 @@ use Rattle.blink_live.specs.declared.view.Change.{Change}
 use Rattle.blink_live.specs.Allowed.{length_of}
 use Rattle.blink_live.specs.Changes.{after, changes_made}
 use Rattle.blink_live.specs.Handles.{opening_of as opening_of_table}
-use Rattle.blink_live.specs.Ledger.{HaveAuthors, made_at}
+use Rattle.blink_live.specs.Accounts.{HaveAuthors, made_at}
 use Rattle.blink_live.specs.Views.{pages_of, rows_of}
 use Rattle.blink_map.specs.declared.map.Map.{Map}
 use Rattle.blink_map.specs.declared.map.Room.{Room}

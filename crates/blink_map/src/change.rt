@@ -8,7 +8,7 @@ ghost use Rattle.blink_machine.specs.{IsUpdate};
 ghost use Rattle.blink_machine.specs.declared.machine.State.TheVariants.{Ended};
 ghost use Rattle.blink_live.specs.declared.view.View.{View};
 ghost use Rattle.blink_live.specs.GivingBack.{CanGiveBack, gives_back};
-ghost use Rattle.blink_live.specs.Ledger.{HasSeenItsOwn};
+ghost use Rattle.blink_live.specs.Accounts.{HasSeenItsOwn};
 ghost use Rattle.blink_live.specs.Pendings.{IsWaiting};
 ghost use Rattle.blink_live.specs.Seats.{HasSameNumber, IsPassSeat};
 ghost use Rattle.blink_live.specs.Updating.{IsUnderWay};

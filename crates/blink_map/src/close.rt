@@ -3,7 +3,7 @@ ghost use Rattle.std.specs.Prelude.{◌≡◌, ◌⊎◌, ◌∷◌, All, IfErr,
 ghost use mathlib.Core.List.{IsPrefix};
 ghost use Rattle.blink_index.specs.{map_of};
 ghost use Rattle.blink_live.specs.Common.{IsHost};
-ghost use Rattle.blink_live.specs.Ledger.{account_of};
+ghost use Rattle.blink_live.specs.Accounts.{account_of};
 ghost use Rattle.blink_live.specs.{IsNumberedInOrder};
 ghost use Rattle.blink_map.specs.Closing.{HasSettled};
 ghost use Rattle.blink_map.specs.Places.{IsMemberOf};

@@ -2,7 +2,7 @@
 //! while an operation is under way.
 ghost use Rattle.std.specs.Prelude.{◌≡◌, ◌<◌, ◌≤◌, [], None};
 ghost use Rattle.blink_live.specs.declared.view.Role.TheVariants.{Pass};
-ghost use Rattle.blink_live.specs.Ledger.{HasSeenItsOwn};
+ghost use Rattle.blink_live.specs.Accounts.{HasSeenItsOwn};
 ghost use Rattle.blink_live.specs.Views.{IsCommon};
 
 use atomic_table::Seat;

@@ -10,7 +10,7 @@ use Rattle.blink_batch.specs.{answer_at, cell_after, key_of, map_after, map_at, 
 use Rattle.blink_batch.proofs.Offered.{pointer_of-map_after_own, pointer_of-map_after_other}
 use Rattle.blink_live.specs.declared.view.Change.{Change}
 use Rattle.blink_live.specs.Changes.{put, after, states_of, changes_made, has_changed}
-use Rattle.blink_live.proofs.table.LedgerStays.{AreBy}
+use Rattle.blink_live.proofs.table.AccountsStay.{AreBy}
 use Rattle.blink_live.proofs.table.MapsWithOneChange.{put_here, put_else}
 
 pub after-append : (f : ℕ → Option ℕ) (xs ys : List Change) (key : ℕ) → after f (xs ++ ys) key ≡ after (after f xs) ys key

@@ -14,7 +14,7 @@ use Rattle.blink_live.specs.Rule.{HasPlace, PageWordIs, IsInRole, Knows, IsTable
 use Rattle.blink_live.specs.Views.{IsCommon, SeatState, is_busy}
 use Rattle.blink_live.specs.Words.{place_word, row_start, word_count}
 use Rattle.blink_live.proofs.table.PoolStays.{pool_stays}
-use Rattle.blink_live.proofs.table.LedgerStays.{ledger_stays}
+use Rattle.blink_live.proofs.table.AccountsStay.{accounts_stay}
 use Rattle.blink_live.proofs.table.OthersKnowTheSame.{LeavesOthers, RowStays, page_word_still, reads_still}
 use Rattle.blink_live.proofs.table.StoresKeepTable.{rows_kept, call_kept, prime_still, store_keeps}
 
@@ -101,7 +101,7 @@ module _ (plan : Plan) (s : State ℕ View) (tree_state : TreeState) (h : IsTabl
     holders = h.holders;
     is_map = h.is_map;
     kept = h.kept;
-  } refl refl (λ is_common. ledger_stays plan h.owners.place h.log s.views id v w at (h.ledger is_common) refl ((h.ledger is_common).saw_own id v at)) knows
+  } refl refl (λ is_common. accounts_stay plan h.owners.place h.log s.views id v w at (h.accounted is_common) refl ((h.accounted is_common).saw_own id v at)) knows
 
 pub place_is_marked : (plan : Plan) (slots id x : ℕ) (me : SeatState) → me.0.role ≡ Pass → IsCommon plan → 1 ≤ plan.counts.numbers → (me.0.operation ≡ None) ⊎ (1 ≤ x)
     → Allows (IsTable plan) slots id me (place_word plan.counts me.0.place) (λ n. x) (λ n. marks_place (step slots (place_word plan.counts me.0.place) x 0 none) me x)
@@ -110,5 +110,5 @@ place_is_marked plan slots id x me role common some_number idle s table homes at
   keeps,
   tt,
   mark_keeps plan s table.0 table.1 id x me.0 at role common some_number (λ m goes. ⊎_elim (λ (none : me.0.operation ≡ None). absurd (cc)) (λ (some_x : 1 ≤ x). some_x) idle),
-  record { is = refl; saw_own = (table.1.ledger common).saw_own id me.0 at role },
+  record { is = refl; saw_own = (table.1.accounted common).saw_own id me.0 at role },
 )

@@ -130,7 +130,7 @@ module _ (plan : Plan) (s : State ℕ View) (tree_state then : TreeState) (h : I
     own_share = is.is_share;
     is_map = record { ascending = IsAscending-map_after h.now m.op h.is_map.ascending; kept = has_entries };
     kept_now = λ key. map_is_changed me.0.place (pointer_of plan.opening) h.log h.now m.op kept_before (h.kept (key_of m.op)) refl key (h.kept key);
-    accounted = (is.changes, all_by_author me.0.place m.op kept_before);
+    its_account = (is.changes, all_by_author me.0.place m.op kept_before);
   }
 
   -- the operation answers by the changes so far
@@ -156,7 +156,7 @@ module _ (plan : Plan) (s : State ℕ View) (tree_state then : TreeState) (h : I
         };
     is_map = record { ascending = h.is_map.ascending; kept = has_entries };
     kept_now = λ key. h.kept key ∙ ap (λ (l : List Change). after (pointer_of plan.opening) l key) (sym (append-nil h.log));
-    accounted = (sym (append-nil me.0.share.changes), λ k d inside. absurd (omega (arith, inside)));
+    its_account = (sym (append-nil me.0.share.changes), λ k d inside. absurd (omega (arith, inside)));
   }
 
   -- of its own keys the seat knows what its share says of them

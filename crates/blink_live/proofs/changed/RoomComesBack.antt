@@ -92,7 +92,7 @@ module _ (plan : Plan) (some_number : 1 ≤ plan.counts.numbers) (s : State ℕ 
         same_holder = λ number. refl;
         same_machines = put_same tree_state.machines id v.operation known.operation;
       }) h.invariant in
-      load_keeps_with plan s tree_state h id 0 v (gives_back v) at still refl refl refl (λ common. (h.ledger common).saw_own id v at) knows
+      load_keeps_with plan s tree_state h id 0 v (gives_back v) at still refl refl refl (λ common. (h.accounted common).saw_own id v at) knows
 
 pub room_comes_back : (plan : Plan) (slots id : ℕ) (me : SeatState) → 1 ≤ plan.counts.numbers → me.0.role ≡ Pass → CanGiveBack me.0
     → Allows (IsTable plan) slots id me 0 (λ k. k) (giving_back (step slots 0 0 0 none) me)

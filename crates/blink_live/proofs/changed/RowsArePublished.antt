@@ -27,7 +27,7 @@ use Rattle.blink_live.specs.declared.view.Role.TheVariants.{Keeper, Pass}
 use Rattle.blink_live.specs.declared.view.Share.{Share}
 use Rattle.blink_live.specs.declared.view.View.{View}
 use Rattle.blink_live.specs.Changes.{put, after, states_of}
-use Rattle.blink_live.specs.Ledger.{IsLedger}
+use Rattle.blink_live.specs.Accounts.{AreAccounts}
 use Rattle.blink_live.specs.Rule.{Owners, IsPublished, PageWordIs, latch_word, HasRows, HasNumbers, IsShare, IsInRole, IsBoundedWay, Knows, IsTableAt, IsTable}
 use Rattle.blink_live.specs.Views.{IsCommon, IsOwned, span, publishes}
 use Rattle.blink_live.specs.Words.{place_word, word_count, RowIs}
@@ -35,7 +35,7 @@ use Rattle.blink_live.proofs.changed.ChangesAreTheMaps.{after-append, states_of-
 use Rattle.blink_live.proofs.table.PoolStays.{pool_stays}
 use Rattle.blink_live.proofs.table.MapsWithOneChange.{put_here, put_else}
 use Rattle.blink_live.proofs.table.OthersKnowTheSame.{LeavesOthers, RowStays, row_is_still, page_word_still, reads_still}
-use Rattle.blink_live.proofs.table.LedgerStays.{AreBy, ledger_grows}
+use Rattle.blink_live.proofs.table.AccountsStay.{AreBy, accounts_grow}
 use Rattle.blink_live.proofs.table.StoresKeepTable.{row_stays, IsStored, prime_still, store_keeps}
 
 -- a step that keeps pages in their places leaves the ways of operations as they are
@@ -112,7 +112,7 @@ module _ (plan : Plan) (s : State ℕ View) (tree_state then : TreeState) (h : I
       pub own_share : IsShare plan new log (suc id) share
       pub is_map : IsMapAt then now
       pub kept_now : (key : ℕ) → pointer_of now key ≡ after (pointer_of plan.opening) log key
-      pub accounted : (share.changes ≡ v.share.changes ++ made) × AreBy v.place made
+      pub its_account : (share.changes ≡ v.share.changes ++ made) × AreBy v.place made
 
     module _ (own : ChangesOwn) (bounded : IsBoundedWay then w) where
       leaves : LeavesOthers plan s tree_state then h id words new log
@@ -232,10 +232,10 @@ module _ (plan : Plan) (s : State ℕ View) (tree_state then : TreeState) (h : I
         kept = own.kept_now;
       }
 
-      ledger : IsCommon plan → IsLedger plan new.place log (set s.views id w)
-      ledger common =
+      accounted : IsCommon plan → AreAccounts plan new.place log (set s.views id w)
+      accounted common =
           let placed = known.placed common role in
-          ledger_grows plan h.owners.place h.log s.views id v w at (h.ledger common) made role placed.own placed.in_range own.accounted.1 refl refl own.accounted.0 refl
+          accounts_grow plan h.owners.place h.log s.views id v w at (h.accounted common) made role placed.own placed.in_range own.its_account.1 refl refl own.its_account.0 refl
 
       pub publish_keeps : IsTable plan record { words = words; homes = s.homes; views = set s.views id w }
-      publish_keeps = store_keeps plan s tree_state then h id number v.call.rows.next kept.0 v w at new log now leaves stored refl refl ledger knows
+      publish_keeps = store_keeps plan s tree_state then h id number v.call.rows.next kept.0 v w at new log now leaves stored refl refl accounted knows

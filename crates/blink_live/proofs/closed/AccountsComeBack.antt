@@ -14,12 +14,12 @@ use Rattle.blink_live.specs.declared.view.Role.{Role}
 use Rattle.blink_live.specs.declared.view.Role.TheVariants.{Keeper, Pass}
 use Rattle.blink_live.specs.declared.view.View.{View}
 use Rattle.blink_live.specs.Changes.{put}
-use Rattle.blink_live.specs.Ledger.{AreApart, HasSeenItsOwn, IsAccount, IsLedger, account_of, accounts_in, accounts_of}
+use Rattle.blink_live.specs.Accounts.{AreApart, HasSeenItsOwn, IsAccount, AreAccounts, account_of, accounts_in, accounts_of}
 use Rattle.blink_live.specs.Rule.{ArePlacesLeft, HasPlace, HasPool, Owners, IsInRole, Knows, AreCounted, IsTableAt, IsTable}
 use Rattle.blink_live.specs.Views.{IsCommon, IsOwned, spent, takes_account}
 use Rattle.blink_live.proofs.dealt.FirstOrOneOfRest.{contains_case}
 use Rattle.blink_live.proofs.table.CallsOfSeats.{call_still}
-use Rattle.blink_live.proofs.table.LedgerStays.{none_apart}
+use Rattle.blink_live.proofs.table.AccountsStay.{none_apart}
 use Rattle.blink_live.proofs.table.MapsWithOneChange.{put_here, put_else}
 use Rattle.blink_live.proofs.table.OwnersChange.{StillOwns, reads_still, share_still, knows_still, owners_change}
 use Rattle.blink_live.proofs.table.SeatsThatStay.{at_put, views_stay}
@@ -126,8 +126,8 @@ module _ (plan : Plan) (some_number : 1 ≤ plan.counts.numbers) (s : State ℕ 
 
   -- ---- the accounts
 
-  abbrev before : IsLedger plan old.place h.log s.views
-  before = h.ledger common
+  abbrev before : AreAccounts plan old.place h.log s.views
+  before = h.accounted common
 
   host_accounts : (account : Account) → Contains v.accounts account → IsAccount old.place h.log (suc id) account
   host_accounts account has = before.accounts id v at account (subst (λ (r : Role). Contains (accounts_in r (account_of v) v.accounts) account) (sym role) has)
@@ -146,8 +146,8 @@ module _ (plan : Plan) (some_number : 1 ≤ plan.counts.numbers) (s : State ℕ 
       (λ is. subst (IsAccount new.place h.log (suc id)) is record { own = put_here old.place w.place (suc id); all = its_account.all })
       (λ came. let was = host_accounts account came in record { own = place_else account.place (suc id) was.own (λ e. apart (omega (arith, e))); all = was.all })
 
-  ledger_then : IsLedger plan new.place h.log views_then
-  ledger_then = record {
+  accounts_then : AreAccounts plan new.place h.log views_then
+  accounts_then = record {
     authors = before.authors;
     nobodys = λ place none.
         let differ : place ≢ w.place = λ e. let one : suc id ≡ 0 = sym (put_here old.place w.place (suc id)) ∙ (ap new.place (sym e) ∙ none) in absurd (omega (arith, one)) in
@@ -190,7 +190,7 @@ module _ (plan : Plan) (some_number : 1 ≤ plan.counts.numbers) (s : State ℕ 
       (let one : length (set s.views id both) ≡ length s.views = length-set s.views id both in
       let two : length views_then ≡ length (set s.views id both) = length-set (set s.views id both) other (spent plan) in
       omega (arith, one, two))
-      h.nobodys (λ is_common. pool_then) (λ is_common. ledger_then) counted_then
+      h.nobodys (λ is_common. pool_then) (λ is_common. accounts_then) counted_then
 
 pub taking_account_keeps_table : (plan : Plan) (id other : ℕ) (v w : View) (dealt back : ℕ) → 1 ≤ plan.counts.numbers → v.role ≡ Keeper dealt back → IsCommon plan → w.role ≡ Pass → w.operation ≡ None
     → Joins (IsTable plan) id v other w (takes_account v w) (spent plan)

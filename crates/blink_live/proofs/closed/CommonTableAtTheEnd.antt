@@ -16,7 +16,7 @@ use Rattle.blink_live.specs.declared.view.Role.{Role}
 use Rattle.blink_live.specs.declared.view.Role.TheVariants.{Keeper, Pass, Spent}
 use Rattle.blink_live.specs.declared.view.View.{View}
 use Rattle.blink_live.specs.Changes.{after}
-use Rattle.blink_live.specs.Ledger.{AreApart, HaveAuthors, accounts_of, made_at}
+use Rattle.blink_live.specs.Accounts.{AreApart, HaveAuthors, accounts_of, made_at}
 use Rattle.blink_live.specs.Merge.{KeepsTree}
 use Rattle.blink_live.specs.Rule.{HasPlace, IsInRole, Knows, IsTableAt, IsTable}
 use Rattle.blink_live.specs.Views.{IsCommon}
@@ -68,9 +68,9 @@ module _ (plan : Plan) (s : State ℕ View) (tree_state : TreeState) (h : IsTabl
     tree = keeps_tree plan s tree_state h nobody_at_work;
     final = h.log;
     saw = (h.views id v at).saw;
-    authors = (h.ledger common).authors;
-    accounts = λ account has. ((h.ledger common).accounts id v at account has).all;
-    apart = (h.ledger common).apart id v at;
+    authors = (h.accounted common).authors;
+    accounts = λ account has. ((h.accounted common).accounts id v at account has).all;
+    apart = (h.accounted common).apart id v at;
     kept = h.kept;
   }
 

@@ -14,13 +14,13 @@ use Rattle.blink_live.specs.declared.view.Role.TheVariants.{Keeper, Pass}
 use Rattle.blink_live.specs.declared.view.View.{View}
 use Rattle.blink_live.specs.Changes.{put, after, entries_after, states_of}
 use Rattle.blink_live.specs.Dealing.{CanDeal}
-use Rattle.blink_live.specs.Ledger.{IsAccount, IsLedger, made_at, account_of, accounts_in, accounts_of}
+use Rattle.blink_live.specs.Accounts.{IsAccount, AreAccounts, made_at, account_of, accounts_in, accounts_of}
 use Rattle.blink_live.specs.Rule.{HasPool, Owners, IsFree, IsShare, IsInRole, Knows, pass_count, passes_in, AreCounted, IsTableAt, IsTable}
 use Rattle.blink_live.specs.Views.{is_among, changes_of, share_of_keys, deals_one, dealt_in, keeps_rest, gets_first, latch_in, IsCommon}
 use Rattle.blink_live.specs.Words.{place_word}
 use Rattle.blink_live.proofs.dealt.KeysOfShare.{among_from_contains, contains_from_among, entries_of_keep, changes_of_keep}
 use Rattle.blink_live.proofs.told.EntriesAfterChanges.{after-same_states, entries_after-state}
-use Rattle.blink_live.proofs.table.LedgerStays.{ledger_longer, ledger_stays, ledger_with_place, nothing_more, one_apart, only_account, prefix_made}
+use Rattle.blink_live.proofs.table.AccountsStay.{accounts_longer, accounts_stay, accounts_with_place, nothing_more, one_apart, only_account, prefix_made}
 use Rattle.blink_live.proofs.table.MapsWithOneChange.{put_here, put_else}
 use Rattle.blink_live.proofs.table.OwnersChange.{StaysPublished, StillOwns, reads_still, share_still, knows_still, owners_change}
 use Rattle.blink_live.proofs.table.OwnersInRange.{ranged, ranged_in, ranged_out}
@@ -289,21 +289,21 @@ module _ (plan : Plan) (s : State ℕ View) (tree_state : TreeState) (h : IsTabl
       }
 
   -- the new seat's place was nobody's, and its account is empty
-  ledger_then : IsCommon plan → IsLedger plan new.place h.log views_then
-  ledger_then common =
-      let ledger = h.ledger common in
+  accounts_then : IsCommon plan → AreAccounts plan new.place h.log views_then
+  accounts_then common =
+      let accounted = h.accounted common in
       let place : ℕ = dealt_in v.role in
       let same : length (set s.views id left) ≡ length s.views = length-set s.views id left in
-      let back : IsLedger plan old.place h.log (set s.views id left) = ledger_stays plan old.place h.log s.views id v left at ledger host_accounts (λ is. absurd (let e : Keeper (suc can.dealt) can.back ≡ Pass = sym left_role ∙ is in cc)) in
-      let with_place : IsLedger plan new.place h.log (set s.views id left) =
-      ledger_with_place plan old.place new.place h.log (set s.views id left) place new_seat place_left.0 (put_here old.place place (suc new_seat)) place_else back in
+      let back : AreAccounts plan old.place h.log (set s.views id left) = accounts_stay plan old.place h.log s.views id v left at accounted host_accounts (λ is. absurd (let e : Keeper (suc can.dealt) can.back ≡ Pass = sym left_role ∙ is in cc)) in
+      let with_place : AreAccounts plan new.place h.log (set s.views id left) =
+      accounts_with_place plan old.place new.place h.log (set s.views id left) place new_seat place_left.0 (put_here old.place place (suc new_seat)) place_else back in
       let right_account : IsAccount new.place h.log (suc (length (set s.views id left))) (account_of right) = record {
         own = put_here old.place place (suc new_seat) ∙ ap suc (sym same);
-        all = ledger.nobodys place place_left.0 ∙ sym (no_changes common);
+        all = accounted.nobodys place place_left.0 ∙ sym (no_changes common);
       } in
-      ledger_longer plan new.place h.log (set s.views id left) right
+      accounts_longer plan new.place h.log (set s.views id left) right
       (λ account has. subst (IsAccount new.place h.log (suc (length (set s.views id left)))) (only_account (account_of right) account has) right_account)
-      (one_apart (account_of right)) (λ is. none_seen (ledger.nobodys place place_left.0) ∙ sym (no_changes common)) with_place
+      (one_apart (account_of right)) (λ is. none_seen (accounted.nobodys place place_left.0) ∙ sym (no_changes common)) with_place
     where
       host_accounts : accounts_of left ≡ accounts_of v
       host_accounts =
@@ -330,7 +330,7 @@ module _ (plan : Plan) (s : State ℕ View) (tree_state : TreeState) (h : IsTabl
       (let same : length (set s.views id left) ≡ length s.views = length-set s.views id left in
       let longer : length views_then ≡ length (set s.views id left) + 1 = length-append (set s.views id left) (right ∷ []) in
       omega (arith, same, longer))
-      nobodys_then pool_then ledger_then counted_then
+      nobodys_then pool_then accounts_then counted_then
 
 pub deals_keep_table : (plan : Plan) (id : ℕ) (v : View) (rows pages : ℕ) (keys taken : List ℕ) → CanDeal v rows pages keys taken
     → Splits (IsTable plan) id v (keeps_rest v rows pages taken) (gets_first v rows pages keys)

@@ -25,7 +25,7 @@ use Rattle.blink_live.specs.declared.view.View.{View}
 use Rattle.blink_live.specs.AtomicSteps.{begins}
 use Rattle.blink_live.specs.Rule.{ReadsRow, IsInRole, IsBoundedWay, Knows, IsTable, IsTableAt}
 use Rattle.blink_live.specs.Views.{IsCommon, SeatState, CanBegin, for_call, reading}
-use Rattle.blink_live.proofs.table.LedgerStays.{account, still_saw}
+use Rattle.blink_live.proofs.table.AccountsStay.{account, still_saw}
 use Rattle.blink_live.proofs.table.LoadsKeepTable.{moved, load_keeps_with}
 use Rattle.blink_live.proofs.table.SharesAreKnown.{share_is_known}
 use Rattle.blink_live.proofs.table.MapsWithOneChange.{put_here, put_else}
@@ -127,7 +127,7 @@ begins_operation plan slots id me op role idle fits enough s table homes at smal
       keeps,
       tt,
       load_keeps_with plan s tree_state h id 0 me.0 w at invariant refl refl refl
-          (λ common role. still_saw plan h.owners.place h.log s.views id me.0 w at (h.ledger common) (account plan h.owners.place h.log s.views id me.0 w at (h.ledger common) role) h.log known.saw ([], append-nil h.log) role)
+          (λ common role. still_saw plan h.owners.place h.log s.views id me.0 w at (h.accounted common) (account plan h.owners.place h.log s.views id me.0 w at (h.accounted common) role) h.log known.saw ([], append-nil h.log) role)
           (begin_knows plan s tree_state h id me.0 after row way (prime_words tree_state.prime) at role op enough (λ other is. ap (descent_bound tree_state.pages) (sym (goes_on_as after after.state other is))) h.prime),
       (
         after,

@@ -21,12 +21,12 @@ use Rattle.blink_live.specs.declared.view.Plan.{Plan}
 use Rattle.blink_live.specs.declared.view.Role.TheVariants.{Pass}
 use Rattle.blink_live.specs.declared.view.View.{View}
 use Rattle.blink_live.specs.Laid.{IsLaidWith}
-use Rattle.blink_live.specs.Ledger.{AreApart, HasSeenItsOwn, IsAccount, accounts_of}
+use Rattle.blink_live.specs.Accounts.{AreApart, HasSeenItsOwn, IsAccount, accounts_of}
 use Rattle.blink_live.specs.Rule.{HasNumbers, HasPool, HasRows, Owners, IsPublished, PageWordIs, Knows, IsTable}
 use Rattle.blink_live.specs.Views.{IsCommon, first_span, first_view, span}
 use Rattle.blink_live.specs.Words.{RowIs}
 use Rattle.blink_live.proofs.table.CallsOfSeats.{nothing_for_call}
-use Rattle.blink_live.proofs.table.LedgerStays.{none_apart}
+use Rattle.blink_live.proofs.table.AccountsStay.{none_apart}
 
 -- the plan of a table that opens
 abbrev pub plan_over : PlainStore → PlainCounts → ℕ → Plan
@@ -199,7 +199,7 @@ module _ (store : PlainStore) (counts : PlainCounts) (places : ℕ) (words : Lis
           kept = λ key. refl;
           nobodys = λ common key. refl;
           pool = first_pool;
-          ledger = λ common. record {
+          accounted = λ common. record {
             authors = λ k d inside. absurd (omega (arith, inside));
             nobodys = λ place none. refl;
             accounts = one_view (λ seat v. (account : Account) → Contains (accounts_of v) account → IsAccount owners.place [] (suc seat) account) (first_view (length store.pages) plan) (λ account has. let inside = has.1 in absurd (omega (arith, inside)));

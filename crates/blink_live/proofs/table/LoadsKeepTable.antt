@@ -12,11 +12,11 @@ use Rattle.blink_live.specs.declared.view.Plan.{Plan}
 use Rattle.blink_live.specs.declared.view.Role.TheVariants.{Pass}
 use Rattle.blink_live.specs.declared.view.View.{View}
 use Rattle.blink_live.specs.Changes.{put}
-use Rattle.blink_live.specs.Ledger.{HasSeenItsOwn, accounts_of}
+use Rattle.blink_live.specs.Accounts.{HasSeenItsOwn, accounts_of}
 use Rattle.blink_live.specs.Rule.{ReadsRow, IsInRole, IsBoundedWay, Knows, IsTableAt, IsTable}
 use Rattle.blink_live.specs.Views.{IsCommon, SameBesideReads}
 use Rattle.blink_live.proofs.table.MapsWithOneChange.{put_here, put_else}
-use Rattle.blink_live.proofs.table.LedgerStays.{account, ledger_stays, still_saw}
+use Rattle.blink_live.proofs.table.AccountsStay.{account, accounts_stay, still_saw}
 use Rattle.blink_live.proofs.table.SeatsThatStay.{at_inside, views_stay, counted_stays}
 use Rattle.blink_live.proofs.table.CallsOfSeats.{call_still}
 
@@ -75,7 +75,7 @@ module _ (plan : Plan) (s : State ℕ View) (tree_state : TreeState) (h : IsTabl
       kept = h.kept;
       nobodys = h.nobodys;
       pool = λ common. let pool = h.pool common in record { rows = pool.rows; pages = record { in_range = pool.pages.in_range; own = pool.pages.own; free = pool.pages.free } };
-      ledger = λ common. ledger_stays plan h.owners.place h.log s.views id v w at (h.ledger common) same_accounts (saw_own common);
+      accounted = λ common. accounts_stay plan h.owners.place h.log s.views id v w at (h.accounted common) same_accounts (saw_own common);
       views = views_stay (Knows plan h.owners s.words (moved tree_state id w.operation) h.log) s.views id w knows
           (λ j u other there. let known = h.views j u there in record {
             same_plan = known.same_plan;
@@ -112,4 +112,4 @@ module _ (plan : Plan) (s : State ℕ View) (tree_state : TreeState) (h : IsTabl
   pub load_keeps : ((k : PlainMachine) × (v.operation ≡ Some k)) → Invariant (moved tree_state id w.operation) → SameBesideReads v w → IsBoundedWay tree_state w → ReadsRow plan h.owners s.words w.reads → IsPrefix w.seen h.log → IsPrefix v.seen w.seen
       → IsTable plan record { words = set s.words word (get_or s.words word 0); homes = s.homes; views = set s.views id w }
   load_keeps under invariant same bounded reads saw more = load_keeps_with plan s tree_state h id word v w at invariant (ap (λ (x : View). x.role) same) (ap (λ (x : View). x.plan) same) (ap accounts_of same)
-      (λ common is. subst HasSeenItsOwn (sym same) (still_saw plan h.owners.place h.log s.views id v w at (h.ledger common) (account plan h.owners.place h.log s.views id v w at (h.ledger common) role) w.seen more saw role)) (load_knows under same bounded reads saw)
+      (λ common is. subst HasSeenItsOwn (sym same) (still_saw plan h.owners.place h.log s.views id v w at (h.accounted common) (account plan h.owners.place h.log s.views id v w at (h.accounted common) role) w.seen more saw role)) (load_knows under same bounded reads saw)

@@ -15,7 +15,7 @@ use Rattle.blink_live.specs.declared.view.Account.{Account}
 use Rattle.blink_live.specs.declared.view.Role.{Role}
 use Rattle.blink_live.specs.declared.view.View.{View}
 use Rattle.blink_live.specs.Common.{HasAllChanges, IsHost}
-use Rattle.blink_live.specs.Ledger.{AreApart, HaveAuthors, account_of, accounts_in, accounts_of}
+use Rattle.blink_live.specs.Accounts.{AreApart, HaveAuthors, account_of, accounts_in, accounts_of}
 use Rattle.blink_live.specs.Merge.{KeepsTree}
 use Rattle.blink_live.specs.Rule.{IsTable}
 use Rattle.blink_live.specs.Views.{IsCommon, plan_of}

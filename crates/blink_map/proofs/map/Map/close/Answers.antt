@@ -1,7 +1,7 @@
 use Rattle.std.proofs.Common.{◌≡◌, List, subst}
 use Rattle.std.specs.Prelude.{All}
 use Rattle.blink_live.specs.declared.view.Account.{Account}
-use Rattle.blink_live.specs.Ledger.{AreApart, made_at}
+use Rattle.blink_live.specs.Accounts.{AreApart, made_at}
 use Rattle.blink_live.proofs.Offered.{prefix_of_prefix}
 use Rattle.blink_map.proofs.AllSettled.{all_apart, made_of_all}
 use Rattle.blink_map.proofs.map.Map.close.Goals as goal

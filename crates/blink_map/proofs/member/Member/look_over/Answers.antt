@@ -4,7 +4,7 @@ use Rattle.blink_live.specs.declared.view.Change.{Change}
 use Rattle.blink_live.specs.declared.view.Plan.{Plan}
 use Rattle.blink_live.specs.declared.view.Share.{Share}
 use Rattle.blink_live.specs.Handles.{opening_of}
-use Rattle.blink_live.specs.Ledger.{HasSeenItsOwn}
+use Rattle.blink_live.specs.Accounts.{HasSeenItsOwn}
 use Rattle.blink_live.specs.Views.{SeatState}
 use Rattle.blink_map.specs.Sessions.{AnswersAsSeen}
 use Rattle.blink_map.proofs.LooksOver.{can_look, found_as_seen}

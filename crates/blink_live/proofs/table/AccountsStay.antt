@@ -1,4 +1,4 @@
--- Steps that change no account keep the ledger; a step that makes changes adds them to its own seat's account.
+-- Steps that change no account keep all of them right; a step that makes changes adds them to its own seat's account.
 use Rattle.std.proofs.Common.{◌≡◌, ◌≢◌, ⊎_elim, ℕ, zero, suc, ◌<◌, Bool, List, [], ◌∷◌, ◌++◌, set, length, refl, sym, ap, ◌∙◌, subst, append_assoc, eq-eqb, ne_eqb, arith}
 use Rattle.std.specs.Prelude.{All, Contains, ◌==◌, if◌then◌else◌}
 use Rattle.std.proofs.lemmas.List.{append_cancel_left}
@@ -12,7 +12,7 @@ use Rattle.blink_live.specs.declared.view.Plan.{Plan}
 use Rattle.blink_live.specs.declared.view.Role.{Role}
 use Rattle.blink_live.specs.declared.view.Role.TheVariants.{Pass, Spent}
 use Rattle.blink_live.specs.declared.view.View.{View}
-use Rattle.blink_live.specs.Ledger.{AreApart, HasSeenItsOwn, IsAccount, IsLedger, account_of, accounts_in, accounts_of, made_at}
+use Rattle.blink_live.specs.Accounts.{AreApart, HasSeenItsOwn, IsAccount, AreAccounts, account_of, accounts_in, accounts_of, made_at}
 use Rattle.blink_live.proofs.dealt.FirstOrOneOfRest.{contains_case}
 use Rattle.blink_live.proofs.table.PassesOut.{at_end}
 use Rattle.blink_live.proofs.table.SeatsThatStay.{views_stay}
@@ -71,25 +71,25 @@ none_apart i j d before inside = absurd (omega (arith, inside))
 pub no_accounts : (w : View) → w.role ≡ Spent → [] ≡ accounts_of w
 no_accounts w role = ap (λ (r : Role). accounts_in r (account_of w) w.accounts) (sym role)
 
-module _ (plan : Plan) (whose : ℕ → ℕ) (log : List Change) (views : List View) (id : ℕ) (v w : View) (at : get_elem? views id ≡ some v) (ledger : IsLedger plan whose log views) where
+module _ (plan : Plan) (whose : ℕ → ℕ) (log : List Change) (views : List View) (id : ℕ) (v w : View) (at : get_elem? views id ≡ some v) (accounted : AreAccounts plan whose log views) where
   -- a seat with the accounts that it had
-  pub ledger_stays : accounts_of w ≡ accounts_of v → (w.role ≡ Pass → HasSeenItsOwn w) → IsLedger plan whose log (set views id w)
-  ledger_stays same saw = record {
-    authors = ledger.authors;
-    nobodys = ledger.nobodys;
+  pub accounts_stay : accounts_of w ≡ accounts_of v → (w.role ≡ Pass → HasSeenItsOwn w) → AreAccounts plan whose log (set views id w)
+  accounts_stay same saw = record {
+    authors = accounted.authors;
+    nobodys = accounted.nobodys;
     accounts = views_stay (λ seat u. (account : Account) → Contains (accounts_of u) account → IsAccount whose log (suc seat) account) views id w
-        (subst (λ (l : List Account). (account : Account) → Contains l account → IsAccount whose log (suc id) account) (sym same) (ledger.accounts id v at))
-        (λ seat u other there. ledger.accounts seat u there);
-    apart = views_stay (λ seat u. AreApart (accounts_of u)) views id w (subst AreApart (sym same) (ledger.apart id v at)) (λ seat u other there. ledger.apart seat u there);
-    saw_own = views_stay (λ seat u. u.role ≡ Pass → HasSeenItsOwn u) views id w saw (λ seat u other there. ledger.saw_own seat u there);
+        (subst (λ (l : List Account). (account : Account) → Contains l account → IsAccount whose log (suc id) account) (sym same) (accounted.accounts id v at))
+        (λ seat u other there. accounted.accounts seat u there);
+    apart = views_stay (λ seat u. AreApart (accounts_of u)) views id w (subst AreApart (sym same) (accounted.apart id v at)) (λ seat u other there. accounted.apart seat u there);
+    saw_own = views_stay (λ seat u. u.role ≡ Pass → HasSeenItsOwn u) views id w saw (λ seat u other there. accounted.saw_own seat u there);
   }
 
   -- a session that has seen more
   pub still_saw : IsAccount whose log (suc id) (account_of v) → (seen : List Change) → IsPrefix v.seen seen → IsPrefix seen log → v.role ≡ Pass → made_at v.place seen ≡ v.share.changes
-  still_saw its seen more saw role = made_between v.place v.seen seen log v.share.changes more saw (ledger.saw_own id v at role) its.all
+  still_saw its seen more saw role = made_between v.place v.seen seen log v.share.changes more saw (accounted.saw_own id v at role) its.all
 
   pub account : v.role ≡ Pass → IsAccount whose log (suc id) (account_of v)
-  account role = ledger.accounts id v at (account_of v) (subst (λ (r : Role). Contains (accounts_in r (account_of v) v.accounts) (account_of v)) (sym role) (0, omega arith, refl))
+  account role = accounted.accounts id v at (account_of v) (subst (λ (r : Role). Contains (accounts_in r (account_of v) v.accounts) (account_of v)) (sym role) (0, omega arith, refl))
 
   -- a session that has made these changes
   module _ (made : List Change) (role : v.role ≡ Pass) (own : whose v.place ≡ suc id) (in_range : v.place < plan.places) (by : AreBy v.place made)
@@ -112,48 +112,48 @@ module _ (plan : Plan) (whose : ℕ → ℕ) (log : List Change) (views : List V
     alone : accounts_of w ≡ account_of w ∷ []
     alone = ap (λ (r : Role). accounts_in r (account_of w) w.accounts) (same_role ∙ role)
 
-    pub ledger_grows : IsLedger plan whose (log ++ made) (set views id w)
-    ledger_grows = record {
-      authors = All-append (λ (change : Change). change.author < plan.places) log made ledger.authors (λ k d inside. let is = by k d inside in omega (arith, is, in_range));
-      nobodys = λ place none. elsewhere place (λ e. let one : suc id ≡ 0 = sym own ∙ (ap whose (sym e) ∙ none) in absurd (omega (arith, one))) ∙ ledger.nobodys place none;
+    pub accounts_grow : AreAccounts plan whose (log ++ made) (set views id w)
+    accounts_grow = record {
+      authors = All-append (λ (change : Change). change.author < plan.places) log made accounted.authors (λ k d inside. let is = by k d inside in omega (arith, is, in_range));
+      nobodys = λ place none. elsewhere place (λ e. let one : suc id ≡ 0 = sym own ∙ (ap whose (sym e) ∙ none) in absurd (omega (arith, one))) ∙ accounted.nobodys place none;
       accounts = views_stay (λ seat u. (account : Account) → Contains (accounts_of u) account → IsAccount whose (log ++ made) (suc seat) account) views id w
           (λ account has. subst (IsAccount whose (log ++ made) (suc id)) (only_account (account_of w) account (subst (λ (l : List Account). Contains l account) alone has)) here)
           (λ seat u other there account has.
-          let was = ledger.accounts seat u there account has in
+          let was = accounted.accounts seat u there account has in
           record { own = was.own; all = elsewhere account.place (λ e. let one : suc seat ≡ suc id = sym was.own ∙ (ap whose e ∙ own) in other (omega (arith, one))) ∙ was.all });
-      apart = views_stay (λ seat u. AreApart (accounts_of u)) views id w (subst AreApart (sym alone) (one_apart (account_of w))) (λ seat u other there. ledger.apart seat u there);
-      saw_own = views_stay (λ seat u. u.role ≡ Pass → HasSeenItsOwn u) views id w (λ is_session. ap (made_at w.place) seen ∙ here.all) (λ seat u other there. ledger.saw_own seat u there);
+      apart = views_stay (λ seat u. AreApart (accounts_of u)) views id w (subst AreApart (sym alone) (one_apart (account_of w))) (λ seat u other there. accounted.apart seat u there);
+      saw_own = views_stay (λ seat u. u.role ≡ Pass → HasSeenItsOwn u) views id w (λ is_session. ap (made_at w.place) seen ∙ here.all) (λ seat u other there. accounted.saw_own seat u there);
     }
 
 -- one more seat
-pub ledger_longer : (plan : Plan) (whose : ℕ → ℕ) (log : List Change) (views : List View) (more : View) → ((account : Account) → Contains (accounts_of more) account → IsAccount whose log (suc (length views)) account) → AreApart (accounts_of more)
-    → (more.role ≡ Pass → HasSeenItsOwn more) → IsLedger plan whose log views → IsLedger plan whose log (views ++ more ∷ [])
-ledger_longer plan whose log views more right apart saw ledger = record {
-  authors = ledger.authors;
-  nobodys = ledger.nobodys;
-  accounts = λ seat u there. ⊎_elim (λ (t : get_elem? views seat ≡ some u). ledger.accounts seat u t)
+pub accounts_longer : (plan : Plan) (whose : ℕ → ℕ) (log : List Change) (views : List View) (more : View) → ((account : Account) → Contains (accounts_of more) account → IsAccount whose log (suc (length views)) account) → AreApart (accounts_of more)
+    → (more.role ≡ Pass → HasSeenItsOwn more) → AreAccounts plan whose log views → AreAccounts plan whose log (views ++ more ∷ [])
+accounts_longer plan whose log views more right apart saw accounted = record {
+  authors = accounted.authors;
+  nobodys = accounted.nobodys;
+  accounts = λ seat u there. ⊎_elim (λ (t : get_elem? views seat ≡ some u). accounted.accounts seat u t)
       (λ (t : (seat ≡ length views) × (more ≡ u)). subst (λ (x : ℕ × View). (account : Account) → Contains (accounts_of x.1) account → IsAccount whose log (suc x.0) account) (λ i. (sym t.0 i, t.1 i)) right)
       (at_end views more u seat there);
-  apart = λ seat u there. ⊎_elim (λ (t : get_elem? views seat ≡ some u). ledger.apart seat u t)
+  apart = λ seat u there. ⊎_elim (λ (t : get_elem? views seat ≡ some u). accounted.apart seat u t)
       (λ (t : (seat ≡ length views) × (more ≡ u)). subst (λ (x : View). AreApart (accounts_of x)) t.1 apart)
       (at_end views more u seat there);
-  saw_own = λ seat u there. ⊎_elim (λ (t : get_elem? views seat ≡ some u). ledger.saw_own seat u t)
+  saw_own = λ seat u there. ⊎_elim (λ (t : get_elem? views seat ≡ some u). accounted.saw_own seat u t)
       (λ (t : (seat ≡ length views) × (more ≡ u)). subst (λ (x : View). x.role ≡ Pass → HasSeenItsOwn x) t.1 saw)
       (at_end views more u seat there);
 }
 
 -- a place that nobody had is somebody's
-pub ledger_with_place : (plan : Plan) (whose after : ℕ → ℕ) (log : List Change) (views : List View) (place owner : ℕ) → whose place ≡ 0 → after place ≡ suc owner → ((other : ℕ) → other ≢ place → after other ≡ whose other)
-    → IsLedger plan whose log views → IsLedger plan after log views
-ledger_with_place plan whose after log views place owner free taken others ledger = record {
-  authors = ledger.authors;
+pub accounts_with_place : (plan : Plan) (whose after : ℕ → ℕ) (log : List Change) (views : List View) (place owner : ℕ) → whose place ≡ 0 → after place ≡ suc owner → ((other : ℕ) → other ≢ place → after other ≡ whose other)
+    → AreAccounts plan whose log views → AreAccounts plan after log views
+accounts_with_place plan whose after log views place owner free taken others accounted = record {
+  authors = accounted.authors;
   nobodys = λ other none.
       let apart : other ≢ place = λ e. let one : suc owner ≡ 0 = sym taken ∙ (ap after (sym e) ∙ none) in absurd (omega (arith, one)) in
-      ledger.nobodys other (sym (others other apart) ∙ none);
+      accounted.nobodys other (sym (others other apart) ∙ none);
   accounts = λ seat u there account has.
-      let was = ledger.accounts seat u there account has in
+      let was = accounted.accounts seat u there account has in
       let apart : account.place ≢ place = λ e. let one : suc seat ≡ 0 = sym was.own ∙ (ap whose e ∙ free) in absurd (omega (arith, one)) in
       record { own = others account.place apart ∙ was.own; all = was.all };
-  apart = ledger.apart;
-  saw_own = ledger.saw_own;
+  apart = accounted.apart;
+  saw_own = accounted.saw_own;
 }

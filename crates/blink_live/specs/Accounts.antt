@@ -44,7 +44,7 @@ AreApart accounts = AllPairs (λ (one other : Account). one.place ≢ other.plac
 
 -- every change was made at a place; at those that nobody has none was made, each seat's accounts are right, and each session has
 -- seen its own changes
-pub record IsLedger (plan : Plan) (whose : ℕ → ℕ) (log : List Change) (views : List View) : Type 0 where
+pub record AreAccounts (plan : Plan) (whose : ℕ → ℕ) (log : List Change) (views : List View) : Type 0 where
   pub authors : HaveAuthors plan.places log
   pub nobodys : (place : ℕ) → whose place ≡ 0 → made_at place log ≡ []
   pub accounts : (seat : ℕ) (v : View) → get_elem? views seat ≡ some v → (account : Account) → Contains (accounts_of v) account → IsAccount whose log (suc seat) account
