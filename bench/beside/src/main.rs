@@ -1,4 +1,4 @@
-//! The index and the table of libblink beside their peers: all workloads in one run, round by round, a process for each side.
+//! The index, the table and the map of libblink beside their peers: all workloads in one run, round by round, a process for each side.
 //!
 //! ```text
 //! beside                 measures all, and prints the tables as Markdown; out/bench has them, all figures and the plot
@@ -25,7 +25,7 @@ mod side;
 mod workload;
 
 use map::Map;
-use ours::{ByIndex, ByTable};
+use ours::{ByIndex, ByMap, ByTable};
 use plan::Scale;
 use report::Report;
 use rounds::{measure, room};
@@ -40,6 +40,7 @@ const END: &str = "<!-- end of what bench/beside wrote -->\n";
 
 fn side(name: &str, file: &Path) -> Result<(), Box<dyn Error>> {
     match name {
+        "map 32" => side::work::<ByMap<32>>(file)?,
         "table 32" => side::work::<ByTable<32>>(file)?,
         "table 16" => side::work::<ByTable<16>>(file)?,
         "index 32" => side::work::<ByIndex<32>>(file)?,

@@ -1,8 +1,8 @@
-//! The index and the table, with pages of at most `FAN` entries.
+//! The index, the table and the map, with pages of at most `FAN` entries.
 
 use crate::side::{timed, Handle, Side};
 use crate::workload::{Case, Mode, Phase, Step, ABSENT, DELETE, FIND, INSERT, INSERTED, REPLACE};
-use blink::{Answer, Index, Op, Pass, Table};
+use blink::{Answer, Index, Map, Op, Pass, Room, Session, Table};
 use std::sync::Arc;
 use std::time::Instant;
 
@@ -202,5 +202,63 @@ impl<const FAN: u8> Side for ByTable<FAN> {
 
     fn beside(&self) -> Vec<(&'static str, u64)> {
         vec![("open", self.opened), ("close", self.closed)]
+    }
+}
+
+/// The map: a session a thread, which changes any key.
+pub struct ByMap<const FAN: u8> {
+    // The index that it was opened over, and of which entries that is.
+    index: Index,
+    entries: Arc<Vec<(u64, u64)>>,
+    map: Option<Map>,
+}
+
+impl Handle for Session<'_> {
+    fn find(&mut self, key: u64) -> Option<u64> {
+        self.get(key)
+    }
+    fn insert(&mut self, key: u64, pointer: u64) -> bool {
+        Session::insert(self, key, pointer) == Ok(Answer::Inserted)
+    }
+    fn delete(&mut self, key: u64) -> Option<u64> {
+        self.remove(key).ok()?.pointer()
+    }
+    fn replace(&mut self, key: u64, pointer: u64) -> Option<u64> {
+        Session::replace(self, key, pointer).ok()?.pointer()
+    }
+}
+
+// A row for each change and for each page that is split, and what each session may have drawn and not used.
+fn room_for(case: &Case) -> Room {
+    let (inserts, deletes) = allowance(case.phases.iter().flat_map(|phase| &phase.threads).flatten());
+    let sessions = case.phases.iter().map(|phase| phase.threads.len()).max().unwrap_or(1) as u32;
+    Room { pages: inserts / 4 + 1_024 * sessions, rows: 2 * inserts + deletes + 2_048 * sessions, sessions }
+}
+
+impl<const FAN: u8> Side for ByMap<FAN> {
+    fn open(case: &Case, before: Option<Self>) -> Self {
+        let index = match before {
+            Some(before) if Arc::ptr_eq(&before.entries, &case.entries) => before.index,
+            _ => grown(FAN, &case.entries),
+        };
+        let map = Some(Map::open(&index, room_for(case)).expect("a map"));
+        ByMap { index, entries: case.entries.clone(), map }
+    }
+
+    fn run(&mut self, phase: &Phase) -> Option<(u64, u64)> {
+        match phase.mode {
+            Mode::Own | Mode::Any => {
+                let map = self.map.as_ref().expect("an open map");
+                let join = |_: &Vec<Step>| map.session().expect("a session");
+                let mut sessions: Vec<Session> = phase.threads.iter().map(join).collect();
+                Some(timed(&mut sessions, phase))
+            }
+            Mode::Many | Mode::Scan => None,
+        }
+    }
+
+    fn contents(&mut self, keys: &[u64]) -> Vec<Option<u64>> {
+        let index = self.map.take().expect("an open map").close().expect("an index");
+        index.find_many(keys)
     }
 }

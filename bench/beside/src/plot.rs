@@ -20,8 +20,9 @@ const APART: f64 = 16.0;
 // A side's colour, the width of its line and its dashes. Ours are the widest.
 fn style(name: &str) -> (&'static str, f64, &'static str) {
     match name {
-        "table 32" => ("#b3001b", 4.0, "none"),
-        "table 16" => ("#e8606f", 2.5, "none"),
+        "map 32" => ("#b3001b", 4.0, "none"),
+        "table 32" => ("#e8606f", 3.0, "none"),
+        "table 16" => ("#f0a0a8", 2.0, "none"),
         "Mutex" => ("#1f5fa8", 1.8, "none"),
         "RwLock" => ("#1f5fa8", 1.8, "6 4"),
         "TBB" => ("#7a4fa3", 1.8, "none"),
@@ -33,6 +34,7 @@ fn style(name: &str) -> (&'static str, f64, &'static str) {
 
 fn label(name: &str) -> String {
     match name {
+        "map 32" => "this map, fan 32".to_string(),
         "table 32" => "this table, fan 32".to_string(),
         "table 16" => "this table, fan 16".to_string(),
         "Mutex" | "RwLock" => format!("BTreeMap, {name}"),

@@ -5,9 +5,13 @@ use crate::rounds::Measured;
 use std::error::Error;
 use std::fmt::Write;
 
-/// The columns that are ours: tables, then indexes, the wider page first.
+/// The columns that are ours: maps, tables, then indexes, the wider page first.
+const MAPS: [&str; 1] = ["map 32"];
 const TABLES: [&str; 2] = ["table 32", "table 16"];
 const INDEXES: [&str; 2] = ["index 32", "index 16"];
+
+// What is compared, and the head of its column.
+const RATIOS: [(&str, &str); 3] = [("map", "map/best"), ("table", "table/best"), ("index", "index/BTreeMap")];
 
 /// What a column's rounds came to.
 #[derive(Clone, Copy)]
@@ -49,12 +53,12 @@ impl Line {
         of.filter_map(|(_, spread)| spread.map(|spread| spread.median)).min_by(f64::total_cmp)
     }
 
-    // The time of the best fan to that of the best peer: of the table to what threads may change together, and of the index to a map
-    // that one thread has.
-    fn ratios(&self, sides: &[String]) -> (Option<f64>, Option<f64>) {
+    // The time of the best fan to that of the best peer, in the order of `RATIOS`: of the map and of the table to what threads may
+    // change together, and of the index to a map that one thread has.
+    fn ratios(&self, sides: &[String]) -> [Option<f64>; 3] {
         let shared = ["Mutex", "RwLock", "TBB", "JDK", "libcds"];
         let ratio = |ours: &[&str], theirs: &[&str]| Some(self.best(sides, ours)? / self.best(sides, theirs)?);
-        (ratio(&TABLES, &shared), ratio(&INDEXES, &["BTreeMap"]))
+        [ratio(&MAPS, &shared), ratio(&TABLES, &shared), ratio(&INDEXES, &["BTreeMap"])]
     }
 }
 
@@ -131,27 +135,26 @@ fn table(text: &mut String, workload: &str, lines: &[&Line], sides: &[String]) {
     let has = |column: &usize| lines.iter().any(|line| line.columns[*column].is_some());
     let columns: Vec<usize> = (0..sides.len()).filter(has).collect();
     let ratios: Vec<_> = lines.iter().map(|line| line.ratios(sides)).collect();
-    let (table, index) = (ratios.iter().any(|it| it.0.is_some()), ratios.iter().any(|it| it.1.is_some()));
+    let told: Vec<usize> = (0..RATIOS.len()).filter(|&kind| ratios.iter().any(|it| it[kind].is_some())).collect();
     let mut head: Vec<&str> = vec![workload, "threads"];
     head.extend(columns.iter().map(|&column| sides[column].as_str()));
-    head.extend(["table/best", "index/BTreeMap"].iter().zip([table, index]).filter(|it| it.1).map(|it| it.0));
+    head.extend(told.iter().map(|&kind| RATIOS[kind].1));
     _ = writeln!(text, "{}\n{}", head.join("|"), "|---".repeat(head.len()) + "|");
     for (line, ratios) in lines.iter().zip(ratios) {
         let mut row = vec![line.entries.replace(" ascending", "&nbsp;ascending"), line.threads.to_string()];
         row.extend(columns.iter().map(|&column| line.columns[column].map_or(String::new(), |it| number(it.median))));
-        row.extend([ratios.0, ratios.1].into_iter().zip([table, index]).filter(|it| it.1).map(|it| cell(it.0)));
+        row.extend(told.iter().map(|&kind| cell(ratios[kind])));
         _ = writeln!(text, "{}", row.join("|"));
     }
     text.push('\n');
 }
 
-// Where the table or the index takes longer than the best peer: how many rows, and which are the worst.
+// Where the map, the table or the index takes longer than the best peer: how many rows, and which are the worst.
 fn losses(text: &mut String, lines: &[Line], sides: &[String]) {
-    for (name, pick) in [("table", 0), ("index", 1)] {
+    for (kind, (name, _)) in RATIOS.iter().enumerate() {
         let mut ratios: Vec<(f64, &Line)> = Vec::new();
         for line in lines {
-            let both = line.ratios(sides);
-            ratios.extend([both.0, both.1][pick].map(|ratio| (ratio, line)));
+            ratios.extend(line.ratios(sides)[kind].map(|ratio| (ratio, line)));
         }
         let all = ratios.len();
         ratios.retain(|it| it.0 > 1.0);
@@ -184,14 +187,14 @@ pub fn markdown(report: &Report) -> String {
 
 /// The ratios on 40,000 entries, inserted at random, of the workloads that most callers have.
 pub fn summary(report: &Report) -> String {
-    let mut text = String::from("To the best peer|table, 1 thread|2|4|8|index\n|---|---|---|---|---|---|\n");
+    let mut text = String::from("To the best peer|map, 1 thread|2|4|8|index\n|---|---|---|---|---|---|\n");
     for workload in [FIND, GLANCE, SCAN_1000, LOAD, MIXED_80, MIXED_90, REPLACE, LONG] {
         let of = |threads| {
             let is_it = |line: &&Line| line.workload == workload && line.entries == "40,000" && line.threads == threads;
-            report.lines.iter().find(is_it).map(|line| line.ratios(&report.sides)).unwrap_or((None, None))
+            report.lines.iter().find(is_it).map_or([None; 3], |line| line.ratios(&report.sides))
         };
-        let tables = [1, 2, 4, 8].map(|threads| cell(of(threads).0));
-        _ = writeln!(text, "{workload}|{}|{}", tables.join("|"), cell(of(1).1));
+        let maps = [1, 2, 4, 8].map(|threads| cell(of(threads)[0]));
+        _ = writeln!(text, "{workload}|{}|{}", maps.join("|"), cell(of(1)[2]));
     }
     text
 }
