@@ -4,3 +4,5 @@ mod HeardAll
 mod MembersDealt
 mod PutsAreChanges
 mod HostRests
+mod OperationsEnd
+mod DrawnBefore

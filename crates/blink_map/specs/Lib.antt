@@ -2,6 +2,8 @@
 
 -- a map and its sessions
 pub use Rattle.blink_map.specs.Sessions.{HasRoom, IsAnswered, IsClosedWith, IsOpenedWith, IsTooLarge, IsSameBesideRoom, IsSameBesideSeen, IsSameSession, IsSessionOf, LacksRoom, made_by, opening_of, seen_by}
+-- an operation that has begun and not ended
+pub use Rattle.blink_map.specs.Pendings.{GoesOn, HasBegun, IsPendingOf, op_of, session_of}
 -- an entry that is put
 pub use Rattle.blink_map.specs.Putting.{HasTried, IsPut}
 -- the code of each refusal
@@ -14,6 +16,7 @@ pub mod Changing
 pub mod Telling
 pub mod Closing
 pub mod Opening
+pub mod Pendings
 pub mod Putting
 pub mod Places
 pub mod Sessions

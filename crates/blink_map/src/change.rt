@@ -111,7 +111,7 @@ impl Map {
 impl Member {
     // Draws rows or page numbers from the pool, if the member has fewer than the operation may need, and returns whether it has
     // enough then. What it had before of a kind that it draws is lost.
-    fn draw(&mut self, live: &Live, op: Op) -> bool
+    pub(crate) fn draw(&mut self, live: &Live, op: Op) -> bool
         requires its_own { IsMemberOf live.now self.old }
         ensures drawn { HasDrawn self.old self.new }
         ensures enough { IsTrue result → HasRoom op self.new.rows self.new.pages }
@@ -213,7 +213,7 @@ fn needed_by(op: Op) -> (u64, u64)
 }
 
 // The first of these rows and page numbers, for an operation.
-fn room_of(op: Op, rows: &Span, pages: &Span) -> Room
+pub(crate) fn room_of(op: Op, rows: &Span, pages: &Span) -> Room
     requires in_order { (rows.now.next ≤ rows.now.stop) × (pages.now.next ≤ pages.now.stop) }
     requires room { HasRoom op rows.now pages.now }
     ensures rows { result.rows ≡ span rows.now.next (rows.now.next + rows_of op) }

@@ -8,6 +8,7 @@ mod find;
 mod map;
 mod member;
 mod open;
+mod pending;
 mod places;
 mod put;
 mod rest;
@@ -17,3 +18,4 @@ mod tell;
 
 pub use error::{Full, MapError};
 pub use map::{Map, Room, Session};
+pub use pending::Pending;
