@@ -1,5 +1,5 @@
 //! The exports of a map.
-ghost use Rattle.std.specs.Prelude.{◌≡◌, ◌≢◌, ◌↔◌, ◌⊎◌, None, Some, IfSome, IsSome, [], length};
+ghost use Rattle.std.specs.Prelude.{◌≡◌, ◌≢◌, ◌↔◌, ◌⊎◌, None, IfSome, IsSome, [], length};
 ghost use Rattle.blink_index.specs.{map_of};
 ghost use Rattle.blink_live.specs.{IsNumberedInOrder};
 ghost use Rattle.blink_map.specs.{IsClosedWith};
@@ -13,8 +13,7 @@ use crate::map_owner::MapOwner;
 use crate::map_slot::MapSlot;
 use crate::refusal::DONE;
 use crate::session_slot::SessionSlot;
-use blink_index::Index;
-use blink_map::{MapError, Room};
+use blink_map::Room;
 use std::alloc::Global;
 
 /// Opens a map over the index, with such room for changes and sessions. The caller gives the map a number that no other open map
@@ -97,24 +96,11 @@ pub extern "C" fn blink_map_close(alloc: Global, map: MapHandle, out: &mut Index
 {
     let owner = Box::into_inner(map.into_box());
     match owner.close(alloc) {
-        Ok(index) => give_map(alloc, index, out),
-        Err(refusal) => refusal.code(),
-    }
-}
-
-// Puts the index into a box, and its handle into the empty slot.
-fn give_map(alloc: Global, index: Index, out: &mut IndexSlot) -> u8
-    requires { out.old.value ≡ None }
-    ensures given { result ≡ 0 → out.new.value ≡ Some index }
-    ensures refused { result ≢ 0 → result ≡ 100 }
-    ensures unchanged { result ≢ 0 → out.new.value ≡ None }
-{
-    match Box::new(alloc, index) {
         Ok(index) => {
             *out = IndexSlot::of(index);
             DONE
         }
-        Err(_) => MapError::OutOfMemory.code(),
+        Err(refusal) => refusal.code(),
     }
 }
 

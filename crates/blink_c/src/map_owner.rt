@@ -94,11 +94,12 @@ impl MapOwner {
         }
     }
 
-    /// Closes the map, and returns the index of its tree. The map is given up either way.
-    pub(crate) fn close(self, alloc: Global) -> Result<Index, MapRefusal>
-        ensures entries { IfOk result (λ index. IsClosedWith (map_in self) [] (map_of index)) }
-        ensures fan { IfOk result (λ index. index.fan ≡ fan_in self) }
-        ensures numbered { IfOk result IsNumberedInOrder }
+    /// Closes the map, and returns the index of its tree, in a box. The map is given up either way.
+    pub(crate) fn close(self, alloc: Global) -> Result<Box<Index>, MapRefusal>
+        ensures entries { IfOk result
+            (λ index. IsClosedWith (map_in self) [] (map_of index.value)) }
+        ensures fan { IfOk result (λ index. index.value.fan ≡ fan_in self) }
+        ensures numbered { IfOk result (λ index. IsNumberedInOrder index.value) }
         ensures refused { IfErr result IsCloseFault }
     {
         let MapOwner { shared, number: _ } = self;
@@ -106,7 +107,10 @@ impl MapOwner {
             return Err(MapRefusal::Missing);
         };
         match map.close(alloc, Vec::new(alloc)) {
-            Ok(index) => Ok(index),
+            Ok(index) => match Box::new(alloc, index) {
+                Ok(index) => Ok(index),
+                Err(_) => Err(MapRefusal::Map(MapError::OutOfMemory)),
+            },
             Err(refusal) => Err(MapRefusal::Map(refusal)),
         }
     }
