@@ -2,7 +2,7 @@ mod PlacesKept
 mod ChangesOfMembers
 mod HeardAll
 mod MembersDealt
-mod PutsAreChanges
+pub mod PutsAreChanges
 mod HostRests
 mod OperationsEnd
 mod DrawnBefore

@@ -1,5 +1,5 @@
 -- A member's seat when its operation has ended: what it has is its own again, and its place is idle.
-use Rattle.std.proofs.Common.{◌≡◌, ◌+◌, ◌≤◌, sym, ap, ◌∙◌, arith}
+use Rattle.std.proofs.Common.{◌≡◌, ℕ, ◌+◌, ◌≤◌, sym, ap, ◌∙◌, arith}
 use Rattle.atomic_table.specs.declared.Seat.{Seat}
 use Rattle.blink_batch.specs.declared.Op.{Op}
 use Rattle.blink_rows.specs.declared.span.Span.{Span}

@@ -1,6 +1,7 @@
 //! A map that any thread changes at any key: a B-link tree in one table of words, and sessions that threads work by.
 #![tactic(auto)]
 
+mod advance;
 mod change;
 mod close;
 mod error;
