@@ -13,6 +13,8 @@ pub mod TableAsBox
 pub mod MapAsBox
 pub mod SessionAsBox
 pub mod SessionsCross
+pub mod SessionsGoOn
+pub mod AnswersOfPuts
 pub mod CodesOfMaps
 pub mod Codes
 pub mod CodesOfTables

@@ -184,10 +184,10 @@ IsPutRefusal key pointer old new refusal =
 -- ---- an operation or a put that goes on
 
 -- it has ended, with this answer
-abbrev pub Ends : HeldSession → SessionOwner → SessionOwner → RawAnswer → Type 0
-Ends (Busy pending) old new given = HasAnswered (op_of pending) (session_of pending) old new given
-Ends (Putting pending key pointer) old new given = HasPut key pointer (session_of pending) old new given
-Ends held old new given = ⊥
+abbrev pub EndsFrom : HeldSession → SessionOwner → SessionOwner → RawAnswer → Type 0
+EndsFrom (Busy pending) old new given = HasAnswered (op_of pending) (session_of pending) old new given
+EndsFrom (Putting pending key pointer) old new given = HasPut key pointer (session_of pending) old new given
+EndsFrom held old new given = ⊥
 
 -- the operation is under way still
 pub record StaysBusy (before : Pending) (old new : SessionOwner) : Type 0 where

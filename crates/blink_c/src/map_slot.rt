@@ -3,8 +3,8 @@ ghost use Rattle.std.specs.Prelude.{◌≡◌, Option, Some};
 ghost use Rattle.blink_c.specs.declared.map_owner.MapOwner.{MapOwner};
 ghost use Rattle.blink_c.specs.MapOwned.{slot_coded, slot_owns};
 
-use crate::parts::Parts;
 use crate::map_owner::MapOwner;
+use crate::parts::Parts;
 use std::alloc::Global;
 use std::marker::Model;
 

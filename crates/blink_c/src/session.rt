@@ -3,7 +3,7 @@ ghost use Rattle.std.specs.Prelude.{◌≡◌, ◌≢◌};
 ghost use Rattle.blink_batch.specs.declared.Op.TheVariants.{Delete, Insert, Replace};
 ghost use Rattle.blink_c.specs.Codes.{TellsWhy};
 ghost use Rattle.blink_c.specs.MapCodes.{code_of};
-ghost use Rattle.blink_c.specs.Sessions.{Answers, Ends, Finds, IsAdvanceRefusal, IsChangeRefusal, IsNotFree, IsOwnSession, IsPutRefusal, IsTellRefusal, Puts, TellsOn, in_map};
+ghost use Rattle.blink_c.specs.Sessions.{Answers, EndsFrom, Finds, IsAdvanceRefusal, IsChangeRefusal, IsNotFree, IsOwnSession, IsPutRefusal, IsTellRefusal, Puts, TellsOn, in_map};
 
 use crate::map_refusal::code_of;
 use crate::raw::RawAnswer;
@@ -46,7 +46,11 @@ pub extern "C" fn blink_session_insert(
         (IsChangeRefusal (Insert key pointer) session.old.value session.new.value) result }
     ensures unchanged { result ≢ 0 → answer.new ≡ answer.old }
 {
-    code_of(&session.get().change(Op::Insert(key, pointer), tries, answer))
+    code_of(
+        &session
+            .get()
+            .change(Op::Insert(key, pointer), tries, answer),
+    )
 }
 
 /// Removes a key. It may be under way then as an insertion.
@@ -85,7 +89,11 @@ pub extern "C" fn blink_session_replace(
         (IsChangeRefusal (Replace key pointer) session.old.value session.new.value) result }
     ensures unchanged { result ≢ 0 → answer.new ≡ answer.old }
 {
-    code_of(&session.get().change(Op::Replace(key, pointer), tries, answer))
+    code_of(
+        &session
+            .get()
+            .change(Op::Replace(key, pointer), tries, answer),
+    )
 }
 
 /// Maps a key to a pointer, whether the key is there or not. It may be under way then as an insertion, also where the key turned
@@ -118,7 +126,7 @@ pub extern "C" fn blink_session_advance(
     requires its_own { IsOwnSession session.old.value }
     ensures its_own { IsOwnSession session.new.value }
     ensures ended { result ≡ 0
-        → Ends session.old.value.held session.old.value session.new.value answer.new }
+        → EndsFrom session.old.value.held session.old.value session.new.value answer.new }
     ensures refused { TellsWhy code_of
         (IsAdvanceRefusal session.old.value.held session.old.value session.new.value) result }
     ensures unchanged { result ≢ 0 → answer.new ≡ answer.old }

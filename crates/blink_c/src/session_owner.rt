@@ -3,7 +3,7 @@ ghost use Rattle.std.specs.Prelude.{◌≡◌, ◌≢◌, IfErr, IfOk, OnErr, On
 ghost use Rattle.blink_batch.specs.{FitsWords};
 ghost use Rattle.blink_machine.specs.{IsUpdate};
 ghost use Rattle.blink_map.specs.{IsPendingOf, IsSessionOf, op_of, session_of};
-ghost use Rattle.blink_c.specs.Sessions.{Answers, Ends, Finds, HasAnswered, HasPut, IsAdvanceRefusal, IsChangeRefusal, IsFree, IsNotFree, IsNotPut, IsOfPut, IsOwnSession, IsPutRefusal, IsTellRefusal, Puts, StaysBusy, TellsOn, in_map};
+ghost use Rattle.blink_c.specs.Sessions.{Answers, EndsFrom, Finds, HasAnswered, HasPut, IsAdvanceRefusal, IsChangeRefusal, IsFree, IsNotFree, IsNotPut, IsOfPut, IsOwnSession, IsPutRefusal, IsTellRefusal, Puts, StaysBusy, TellsOn, in_map};
 
 use crate::map_refusal::MapRefusal;
 use crate::raw::RawAnswer;
@@ -125,7 +125,7 @@ impl SessionOwner {
     pub(crate) fn advance(&mut self, tries: u32, answer: &mut RawAnswer) -> Result<(), MapRefusal>
         requires its_own { IsOwnSession self.old }
         ensures its_own { IsOwnSession self.new }
-        ensures ended { OnOk result (Ends self.old.held self.old self.new answer.new) }
+        ensures ended { OnOk result (EndsFrom self.old.held self.old self.new answer.new) }
         ensures refused { IfErr result (IsAdvanceRefusal self.old.held self.old self.new) }
         ensures unchanged { OnErr result (answer.new ≡ answer.old) }
     {
@@ -195,7 +195,12 @@ impl SessionOwner {
                     *answer = RawAnswer::of(given);
                     Ok(())
                 }
-                Answer::Exists(_) => Err(self.put_by(session, key, pointer, Op::Replace(key, pointer))),
+                Answer::Exists(_) => Err(self.put_by(
+                    session,
+                    key,
+                    pointer,
+                    Op::Replace(key, pointer),
+                )),
                 _ => Err(self.put_by(session, key, pointer, Op::Insert(key, pointer))),
             },
             Err(pending) => {

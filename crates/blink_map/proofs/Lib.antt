@@ -4,5 +4,6 @@ mod HeardAll
 mod MembersDealt
 pub mod PutsAreChanges
 mod HostRests
+pub mod PendingsAreSent
 mod OperationsEnd
 mod DrawnBefore

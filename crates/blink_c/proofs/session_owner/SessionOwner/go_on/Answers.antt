@@ -1,7 +1,6 @@
-use Rattle.std.proofs.Common.{ap, refl, subst, ◌∙◌}
+use Rattle.std.proofs.Common.{refl, subst}
 use Rattle.blink_map.specs.declared.map.Map.{Map}
 use Rattle.blink_map.specs.{GoesOn, IsAnswered, op_of, session_of}
-use Rattle.blink_c.specs.Raw.{raw_answer}
 use Rattle.blink_c.proofs.session_owner.SessionOwner.go_on.Goals as goal
 
 pub returns-in-Ok-clause-ended : goal.returns-in-Ok-clause-ended
