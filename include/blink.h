@@ -1,22 +1,22 @@
 /*
- * blink.h: a proved B-link tree index, and a table that threads share without a lock, for C and C++.
+ * blink.h: a proved B-link tree index, and a table and a map that threads share without a lock, for C and C++.
  *
  * Link with libblink.a or libblink.so, which ./libblink builds. What the comment of a function says of its results, and of what
- * it changes, is proved in crates/blink_c, unless it says "tested". Of all functions it is tested alone that memory is refused only
- * where malloc or realloc gives none, that an operation gets on by blink_pass_advance, and that what is freed is free. What
- * follows is what the caller keeps.
+ * it changes, is proved in crates/blink_c, unless it says "tested". Of all functions it is tested alone that memory is refused
+ * only where malloc or realloc gives none, that an operation gets on by blink_pass_advance or blink_session_advance, and that
+ * what is freed is free. What follows is what the caller keeps.
  *
- * Handles. blink_index, blink_table and blink_pass are handles. A handle begins as {NULL}, and is then empty. A function with a
- * parameter `out` takes the place of an empty handle, and fills it if it returns BLINK_DONE. All other functions take a full one.
- * A handle is freed once: by its free function, or, of a table, by blink_table_close. Nothing looks whether a handle is empty,
- * full or freed: an empty or freed handle passed where a full one is asked for, or a full one as `out`, is undefined, as a wild
- * pointer is.
+ * Handles. blink_index, blink_table, blink_pass, blink_map and blink_session are handles. A handle begins as {NULL}, and is then
+ * empty. A function with a parameter `out` takes the place of an empty handle, and fills it if it returns BLINK_DONE. All other
+ * functions take a full one. A handle is freed once: by its free function, or, of a table or a map, by its close function.
+ * Nothing looks whether a handle is empty, full or freed: an empty or freed handle passed where a full one is asked for, or a
+ * full one as `out`, is undefined, as a wild pointer is.
  *
  * Threads. One call at a time uses a handle. Any thread may use it; one gives it to another by what orders memory between the
  * two: a lock, a start or join of a thread, or an atomic that one stores with release order, at least, and the other loads with
  * acquire order. Different handles may be used by different threads at the same time, also passes of one table, and the table
- * itself. No call waits for another thread. None may be called from a signal handler, or in a forked child of a process with
- * threads.
+ * itself, or sessions of one map, and the map itself. No call waits for another thread. None may be called from a signal handler,
+ * or in a forked child of a process with threads.
  *
  * Arrays. A pointer and the number of its elements follow one another. The pointer isn't NULL, also where that number is 0, and
  * no two arrays or results of one call overlap.
@@ -37,6 +37,8 @@ extern "C" {
 typedef struct { void *at; } blink_index;
 typedef struct { void *at; } blink_table;
 typedef struct { void *at; } blink_pass;
+typedef struct { void *at; } blink_map;
+typedef struct { void *at; } blink_session;
 
 /* A key with its record pointer. */
 typedef struct { uint64_t key, pointer; } blink_entry;
@@ -84,10 +86,17 @@ enum {
     BLINK_TABLE_TOO_LARGE = 57,    /* as 32, by the insertions that the table is to have room for */
     BLINK_HAND_NOT_YOURS = 58,     /* a key isn't one of the pass's that is to hand it over, or stands twice in the list */
     BLINK_HAND_NO_MEMORY = 59,     /* memory was refused, of a hand */
-    BLINK_FOREIGN = 63,            /* the pass is of another table: the two tables' numbers differ */
-    BLINK_PENDING = 90,            /* the pass has an operation under way */
-    BLINK_IDLE = 91,               /* the pass has no operation under way */
-    BLINK_RETURNED = 92            /* the pass was given back to its table */
+    BLINK_FOREIGN = 63,            /* the pass is of another table, or the session of another map: the numbers differ */
+    BLINK_PENDING = 90,            /* the pass or the session has an operation under way */
+    BLINK_IDLE = 91,               /* the pass or the session has no operation under way */
+    BLINK_RETURNED = 92,           /* the pass was given back to its table */
+    BLINK_MAP_NO_MEMORY = 100,     /* memory was refused, of a map */
+    BLINK_MAP_TOO_LARGE = 101,     /* the index's pages and the page numbers of the room are above 1,048,575 */
+    BLINK_BAD_SESSIONS = 102,      /* there are to be no sessions, or more than 256 */
+    BLINK_NO_PLACE = 103,          /* each place for a session was taken */
+    BLINK_LOST_UNDER_WAY = 104,    /* a session's handle was freed with an operation under way */
+    BLINK_FULL = 105,              /* the session has too few rows or page numbers left, and the map's pool too */
+    BLINK_SESSION_MISSING = 106    /* the handle of a session isn't freed */
 };
 
 /* The greatest number of operations that run at once. */
@@ -212,6 +221,75 @@ uint8_t blink_pass_advance(blink_pass *pass, uint32_t tries, blink_answer *answe
 
 /* Frees the handle. A pass that wasn't given back before is lost: blink_table_close is then refused with BLINK_MISSING. */
 void blink_pass_free(blink_pass pass);
+
+/* ---- The map: the index's entries, which threads change together at any key. ----
+ *
+ * A thread joins a map, and has a session then. By its session it finds, inserts, deletes, replaces and puts any key. There is one
+ * list of changes of all keys. Each call answers as on the entries after a part of the list, which goes on from all that the session
+ * had seen; a change of its own follows there at once, and then the session has seen both. A session never un-sees a change that it has
+ * seen. Tested: a call sees every change of a call that ended before it began. In the end every handle of a session is freed, and
+ * the map is closed to an index.
+ *
+ * Only blink_map_open, blink_map_join and blink_map_close take memory. Of one map's calls these and blink_map_room use the map's
+ * handle; those of sessions don't.
+ */
+
+/* Opens a map over the index, which stays as it is, with places for 1 to 256 sessions. A split of a page takes one of `pages` page
+ * numbers, and every write of a page one of `rows` rows. An insertion writes one page mostly, and has to have 22 numbers and 44 rows
+ * when it begins; a deletion or a replacement has to have one row. Sessions draw both from the map's pool, at most 512 numbers and
+ * 1,024 rows at once; what one draws no other gets, before its place is taken again. `number` is one that no other map of the
+ * process has while it or a session of it lives: by it sessions of two maps are told apart. Refused: BLINK_BAD_SESSIONS, exactly if
+ * there are to be none or more than 256; then BLINK_MAP_TOO_LARGE, exactly if the index's pages and `pages` are above 1,048,575;
+ * BLINK_MAP_NO_MEMORY. */
+uint8_t blink_map_open(blink_index *index, uint32_t pages, uint32_t rows, uint32_t sessions, uint64_t number, blink_map *out);
+
+/* Gives a session. It takes memory for the handle alone. Refused: BLINK_NO_PLACE; BLINK_MAP_NO_MEMORY. Tested: it is BLINK_NO_PLACE
+ * only if each place was taken. */
+uint8_t blink_map_join(blink_map *map, blink_session *out);
+
+/* Stores how many rows and page numbers the map's pool has left, for a look: sessions may draw at any time. */
+void blink_map_room(blink_map *map, uint64_t *rows, uint64_t *pages);
+
+/* Closes the map, and gives the index of its tree: the entries that it was opened with, after all changes of the list. The map is
+ * given up either way. Refused: BLINK_SESSION_MISSING; BLINK_LOST_UNDER_WAY; BLINK_MAP_NO_MEMORY. Tested: it is
+ * BLINK_SESSION_MISSING if the handle of a session isn't freed, and in no other case. */
+uint8_t blink_map_close(blink_map map, blink_index *out);
+
+/* Frees the map, without an index. The handles of its sessions may still be used, and are still to be freed. */
+void blink_map_free(blink_map map);
+
+/* Looks any key up: BLINK_FOUND or BLINK_ABSENT, after the changes that the session has seen by the end of the call. Refused:
+ * BLINK_PENDING; then nothing changes. */
+uint8_t blink_session_find(blink_session *session, uint64_t key, blink_answer *answer);
+
+/* Insert, delete or replace any key. It returns BLINK_DONE and the answer once the operation has ended, and BLINK_PENDING if it
+ * hasn't: then it goes on by blink_session_advance, and until it has ended the session can do nothing else. Tested: that is after
+ * `tries` steps in vain, since another session has the page that it wants. Refused: BLINK_FULL, and then nothing changes but what
+ * the session has drawn; BLINK_PENDING, if an operation was under way before, and then nothing changes. */
+uint8_t blink_session_insert(blink_session *session, uint64_t key, uint64_t pointer, uint32_t tries, blink_answer *answer);
+uint8_t blink_session_delete(blink_session *session, uint64_t key, uint32_t tries, blink_answer *answer);
+uint8_t blink_session_replace(blink_session *session, uint64_t key, uint64_t pointer, uint32_t tries, blink_answer *answer);
+
+/* Maps any key to the pointer: BLINK_INSERTED, if nothing was there, or BLINK_REPLACED and the pointer that was there. It inserts, and
+ * where the key is there it replaces; it begins anew where another session has deleted the key between. It goes on as an insertion
+ * does, and comes back with BLINK_PENDING also where it has still to replace. Refused: as an insertion, also when it goes on; then it
+ * has made no change. */
+uint8_t blink_session_put(blink_session *session, uint64_t key, uint64_t pointer, uint32_t tries, blink_answer *answer);
+
+/* Takes the next steps of the operation or the put that is under way. It returns BLINK_DONE and the answer once that has ended, and
+ * BLINK_PENDING if it hasn't: then it holds no page, so that no other session waits for it, and the thread may do something else,
+ * yield or wait as it likes, and calls again. It never waits itself. Refused: BLINK_IDLE, if nothing is under way; BLINK_FULL, of a
+ * put. */
+uint8_t blink_session_advance(blink_session *session, uint32_t tries, blink_answer *answer);
+
+/* Tells session `to` what session `from` has seen: then `to` has seen all that `from` has seen. The two handles are different.
+ * Refused, looked for in this order: BLINK_FOREIGN, if the sessions are of two maps; BLINK_PENDING, if `from` isn't free; the same, if
+ * `to` isn't. Then nothing changes. */
+uint8_t blink_session_tell(blink_session *from, blink_session *to);
+
+/* Frees the handle. Tested: a session leaves its map by it, and its place can be taken again. One with an operation under way is lost:
+ * blink_map_close is then refused with BLINK_LOST_UNDER_WAY. */
+void blink_session_free(blink_session session);
 
 #ifdef __cplusplus
 }

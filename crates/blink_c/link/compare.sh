@@ -32,7 +32,8 @@ sed 's/|/ | /g' "$work/exports" | awk -F ' [|] ' '
         c["u8"] = "uint8_t"; c["u32"] = "uint32_t"; c["u64"] = "uint64_t"; c["usize"] = "size_t"; c["bool"] = "bool"
         c["()"] = "void"; c["RawEntry"] = "blink_entry"; c["RawOperation"] = "blink_operation"; c["RawAnswer"] = "blink_answer"
         c["IndexHandle"] = c["IndexSlot"] = "blink_index"; c["TableHandle"] = c["TableSlot"] = "blink_table"
-        c["PassHandle"] = c["PassSlot"] = "blink_pass"
+        c["PassHandle"] = c["PassSlot"] = "blink_pass"; c["MapHandle"] = c["MapSlot"] = "blink_map"
+        c["SessionHandle"] = c["SessionSlot"] = "blink_session"
     }
     {
         n = split($3, parts, /, */)
@@ -52,7 +53,7 @@ sed 's/|/ | /g' "$work/exports" | awk -F ' [|] ' '
     }' >"$work/prototypes"
 
 # The names in the header.
-grep -oE '\bblink_(index|table|pass)_[a-z_]+\(' "$header/blink.h" | tr -d '(' | sort -u >"$work/declared"
+grep -oE '\bblink_(index|table|pass|map|session)_[a-z_]+\(' "$header/blink.h" | tr -d '(' | sort -u >"$work/declared"
 cut -d"|" -f1 "$work/exports" | sort >"$work/names"
 diff "$work/names" "$work/declared" | sed -n 's/^< \(.*\)/include\/blink.h: lacks \1/p; s/^> \(.*\)/include\/blink.h: no export \1/p' >>"$work/found"
 
@@ -98,6 +99,13 @@ FOREIGN specs/TableCodes.antt Foreign
 PENDING specs/TableCodes.antt UnderWay
 IDLE specs/TableCodes.antt Idle
 RETURNED specs/TableCodes.antt Returned
+MAP_NO_MEMORY ../blink_map/specs/Codes.antt OutOfMemory
+MAP_TOO_LARGE ../blink_map/specs/Codes.antt TooLarge
+BAD_SESSIONS ../blink_map/specs/Codes.antt Sessions
+NO_PLACE ../blink_map/specs/Codes.antt NoPlace
+LOST_UNDER_WAY ../blink_map/specs/Codes.antt UnderWay
+FULL specs/MapCodes.antt Full
+SESSION_MISSING specs/MapCodes.antt Missing
 WORDS
     # The structs of numbers, field by field.
     awk '/^pub struct Raw/ { name = $3; on = 1; print "struct " name " {"; next }

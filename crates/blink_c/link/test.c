@@ -1,5 +1,5 @@
-// Calls every export: what it gives, each refusal by its code, two threads at one table, and memory that is refused at each request
-// in turn. Link with -Wl,--wrap=malloc,--wrap=realloc.
+// Calls every export: what it gives, each refusal by its code, two threads at one table, eight at one map, and memory that is refused
+// at each request in turn. Link with -Wl,--wrap=malloc,--wrap=realloc.
 #include "blink.h"
 #include <pthread.h>
 #include <sched.h>
@@ -284,6 +284,156 @@ static void shares_a_table(void) {
     blink_index_free(index);
 }
 
+// Ends the operation that a call with this code has begun, if it is under way, yielding between the calls.
+static blink_answer answered(blink_session *session, uint8_t code, blink_answer answer) {
+    while (code == BLINK_PENDING) {
+        sched_yield();
+        code = blink_session_advance(session, 100, &answer);
+    }
+    CHECK(code == BLINK_DONE);
+    return answer;
+}
+
+enum { NONE = 100 }; // a pointer for the calls that take none
+
+// An operation by a session, to its end.
+static blink_answer changes(blink_session *session, uint64_t kind, uint64_t key, uint64_t pointer) {
+    blink_answer answer = {9, 9};
+    uint8_t code = kind == BLINK_FIND     ? blink_session_find(session, key, &answer)
+                   : kind == BLINK_INSERT ? blink_session_insert(session, key, pointer, 100, &answer)
+                   : kind == BLINK_DELETE ? blink_session_delete(session, key, 100, &answer)
+                                          : blink_session_replace(session, key, pointer, 100, &answer);
+    return answered(session, code, answer);
+}
+
+static blink_answer puts_so(blink_session *session, uint64_t key, uint64_t pointer) {
+    blink_answer answer = {9, 9};
+    return answered(session, blink_session_put(session, key, pointer, 100, &answer), answer);
+}
+
+static bool is(blink_answer answer, uint64_t kind, uint64_t pointer) { return answer.kind == kind && answer.pointer == pointer; }
+
+// Keys 1 to 5 map to 10 to 50. One session changes keys 2, 3, 6 and 7, and tells another; then both leave, and the map is closed.
+static void changes_a_map(void) {
+    blink_index index = index_of(4, five, 6), closed = {NULL};
+    blink_map map = {NULL};
+    blink_session one = {NULL}, other = {NULL};
+    uint64_t rows = 0, pages = 0, pointer;
+    CHECK(blink_map_open(&index, 300, 600, 2, 1, &map) == BLINK_DONE);
+    blink_map_room(&map, &rows, &pages);
+    CHECK(rows == 600 && pages == 300);
+    CHECK(blink_map_join(&map, &one) == BLINK_DONE && blink_map_join(&map, &other) == BLINK_DONE);
+    CHECK(is(changes(&one, BLINK_FIND, 3, NONE), BLINK_FOUND, 30) && is(changes(&one, BLINK_FIND, 6, NONE), BLINK_ABSENT, 0));
+    CHECK(is(changes(&one, BLINK_INSERT, 6, 60), BLINK_INSERTED, 0) && is(changes(&one, BLINK_INSERT, 6, 61), BLINK_EXISTS, 60));
+    CHECK(is(changes(&one, BLINK_REPLACE, 6, 62), BLINK_REPLACED, 60) && is(changes(&one, BLINK_REPLACE, 7, 70), BLINK_ABSENT, 0));
+    CHECK(is(changes(&one, BLINK_DELETE, 2, NONE), BLINK_REMOVED, 20) && is(changes(&one, BLINK_DELETE, 2, NONE), BLINK_ABSENT, 0));
+    CHECK(is(puts_so(&one, 7, 71), BLINK_INSERTED, 0) && is(puts_so(&one, 7, 72), BLINK_REPLACED, 71));
+    CHECK(is(puts_so(&one, 3, 33), BLINK_REPLACED, 30) && is(changes(&one, BLINK_FIND, 3, NONE), BLINK_FOUND, 33));
+    CHECK(blink_session_tell(&one, &other) == BLINK_DONE);
+    CHECK(is(changes(&other, BLINK_FIND, 7, NONE), BLINK_FOUND, 72) && is(changes(&other, BLINK_FIND, 2, NONE), BLINK_ABSENT, 0));
+    CHECK(is(changes(&other, BLINK_DELETE, 6, NONE), BLINK_REMOVED, 62));
+    blink_map_room(&map, &rows, &pages);
+    CHECK(rows < 600 && pages < 300);
+    blink_session_free(one), blink_session_free(other);
+    CHECK(blink_map_close(map, &closed) == BLINK_DONE);
+    CHECK(blink_index_len(&closed) == 5 && blink_index_fan(&closed) == 4 && blink_index_len(&index) == 5);
+    CHECK(blink_index_find(&closed, 3, &pointer) && pointer == 33 && blink_index_find(&closed, 7, &pointer) && pointer == 72);
+    CHECK(blink_index_find(&closed, 5, &pointer) && pointer == 50 && !blink_index_find(&closed, 2, &pointer));
+    blink_index_free(closed);
+    blink_index_free(index);
+}
+
+static void refuses_at_a_map(void) {
+    blink_index index = index_of(4, five, 6), closed = {NULL};
+    blink_map map = {NULL}, other = {NULL};
+    blink_session one = {NULL}, two = {NULL}, foreign = {NULL};
+    blink_answer answer = {9, 9};
+    // 3 pages and 1,048,572 numbers are as many as there may be; the sessions are looked at first
+    CHECK(blink_map_open(&index, 1048573, 0, 0, 1, &map) == BLINK_BAD_SESSIONS && map.at == NULL);
+    CHECK(blink_map_open(&index, 0, 0, 257, 1, &map) == BLINK_BAD_SESSIONS);
+    CHECK(blink_map_open(&index, 1048573, 0, 256, 1, &map) == BLINK_MAP_TOO_LARGE && map.at == NULL);
+    CHECK(blink_map_open(&index, 22, 46, 2, 1, &map) == BLINK_DONE && blink_map_open(&index, 0, 0, 256, 2, &other) == BLINK_DONE);
+    CHECK(blink_map_join(&map, &one) == BLINK_DONE && blink_map_join(&map, &two) == BLINK_DONE);
+    CHECK(blink_map_join(&map, &foreign) == BLINK_NO_PLACE && foreign.at == NULL);
+    CHECK(blink_map_join(&other, &foreign) == BLINK_DONE);
+    CHECK(blink_session_tell(&one, &foreign) == BLINK_FOREIGN && blink_session_tell(&foreign, &one) == BLINK_FOREIGN);
+    CHECK(blink_session_advance(&one, 1, &answer) == BLINK_IDLE && answer.kind == 9);
+    // the first session draws 44 rows and all 22 numbers, so there are 2 rows for the second, and no number
+    CHECK(is(changes(&one, BLINK_INSERT, 6, 60), BLINK_INSERTED, 0));
+    CHECK(blink_session_insert(&two, 7, 70, 100, &answer) == BLINK_FULL && blink_session_put(&two, 3, 33, 100, &answer) == BLINK_FULL);
+    CHECK(answer.kind == 9 && is(changes(&two, BLINK_FIND, 3, NONE), BLINK_FOUND, 30));
+    CHECK(is(changes(&two, BLINK_REPLACE, 3, 31), BLINK_REPLACED, 30) && is(changes(&two, BLINK_DELETE, 1, NONE), BLINK_REMOVED, 10));
+    CHECK(blink_session_delete(&two, 2, 100, &answer) == BLINK_FULL && blink_session_replace(&two, 2, 21, 100, &answer) == BLINK_FULL);
+    CHECK(blink_session_delete(&foreign, 2, 100, &answer) == BLINK_FULL);
+    // the place of a session that is freed can be taken again, with what it has drawn
+    blink_session_free(two);
+    two = (blink_session){NULL};
+    CHECK(blink_map_join(&map, &two) == BLINK_DONE && blink_session_delete(&two, 2, 100, &answer) == BLINK_FULL);
+    blink_session_free(two);
+    // a session that isn't freed: its map is lost, and it isn't
+    CHECK(blink_map_close(map, &closed) == BLINK_SESSION_MISSING && closed.at == NULL);
+    CHECK(is(changes(&one, BLINK_FIND, 6, NONE), BLINK_FOUND, 60));
+    blink_session_free(one);
+    blink_map_free(other);
+    CHECK(is(changes(&foreign, BLINK_FIND, 2, NONE), BLINK_FOUND, 20));
+    blink_session_free(foreign);
+    blink_index_free(index);
+}
+
+enum { SESSIONS = 8, TURNS = 4000, SHARED = 97 };
+
+// What the threads of a map share: the map, whose handle one thread at a time uses, and for each key how often it was inserted and
+// wasn't deleted.
+static struct {
+    blink_map map;
+    pthread_mutex_t joins;
+    long there[SHARED];
+} room;
+
+// Changes any key, and joins anew now and then. A pointer is its key, and in the upper half the thread that stored it.
+static void *changes_any_key(void *at) {
+    uint64_t self = (uint64_t)(uintptr_t)at, state = self;
+    blink_session session = {NULL};
+    blink_answer answer;
+    for (uint64_t turn = 0; turn < TURNS; turn++) {
+        if (turn % 500 == 0) {
+            if (turn) blink_session_free(session);
+            session.at = NULL;
+            pthread_mutex_lock(&room.joins);
+            CHECK(blink_map_join(&room.map, &session) == BLINK_DONE);
+            pthread_mutex_unlock(&room.joins);
+        }
+        state = state * 6364136223846793005u + 1442695040888963407u;
+        uint64_t key = (state >> 33) % SHARED, pointer = key | self << 32, kind = (state >> 20) % 5;
+        if (kind < 4) answer = changes(&session, kind, key, pointer);
+        else answer = puts_so(&session, key, pointer);
+        CHECK(answer.pointer % (1ull << 32) == (answer.kind == BLINK_ABSENT || answer.kind == BLINK_INSERTED ? 0 : key));
+        if (answer.kind == BLINK_INSERTED) __atomic_add_fetch(&room.there[key], 1, __ATOMIC_RELAXED);
+        if (answer.kind == BLINK_REMOVED) __atomic_sub_fetch(&room.there[key], 1, __ATOMIC_RELAXED);
+    }
+    blink_session_free(session);
+    return NULL;
+}
+
+static void shares_a_map(void) {
+    blink_index index = {NULL}, closed = {NULL};
+    pthread_t threads[SESSIONS];
+    CHECK(blink_index_new(4, &index) == BLINK_DONE);
+    CHECK(blink_map_open(&index, 40000, 80000, SESSIONS, 1, &room.map) == BLINK_DONE);
+    pthread_mutex_init(&room.joins, NULL);
+    for (uintptr_t i = 0; i < SESSIONS; i++)
+        CHECK(pthread_create(&threads[i], NULL, changes_any_key, (void *)(i + 1)) == 0);
+    for (int i = 0; i < SESSIONS; i++) CHECK(pthread_join(threads[i], NULL) == 0);
+    CHECK(blink_map_close(room.map, &closed) == BLINK_DONE);
+    uint64_t pointer;
+    for (uint64_t key = 0; key < SHARED; key++) {
+        CHECK(room.there[key] == (blink_index_find(&closed, key, &pointer) ? 1 : 0));
+        CHECK(room.there[key] == 0 || pointer % (1ull << 32) == key);
+    }
+    blink_index_free(closed);
+    blink_index_free(index);
+}
+
 // Hands the pass's key to a new pass, which takes memory: whether none was refused. A refusal leaves both passes as they were.
 static bool gives_up_its_key(blink_table *table, blink_pass *pass, uint64_t key) {
     blink_pass to = {NULL};
@@ -297,6 +447,30 @@ static bool gives_up_its_key(blink_table *table, blink_pass *pass, uint64_t key)
     CHECK(blink_pass_find(&to, key, &answer) == (code == BLINK_DONE ? BLINK_DONE : BLINK_NOT_YOURS));
     CHECK(blink_table_return(table, &to) == BLINK_DONE);
     blink_pass_free(to);
+    return code == BLINK_DONE;
+}
+
+// One use of all that takes memory at a map: whether none was refused. A refusal leaves the map and its places as they were.
+static bool uses_a_map(blink_index *index) {
+    blink_map map = {NULL};
+    blink_session session = {NULL};
+    blink_index closed = {NULL};
+    uint8_t code = blink_map_open(index, 22, 45, 1, 1, &map);
+    if (code != BLINK_DONE) return CHECK(code == BLINK_MAP_NO_MEMORY && map.at == NULL), false;
+    code = blink_map_join(&map, &session);
+    if (code != BLINK_DONE) {
+        CHECK(code == BLINK_MAP_NO_MEMORY && session.at == NULL);
+        refused_at = -1;
+        CHECK(blink_map_join(&map, &session) == BLINK_DONE);
+        blink_session_free(session);
+        blink_map_free(map);
+        return false;
+    }
+    CHECK(is(changes(&session, BLINK_INSERT, 7, 70), BLINK_INSERTED, 0));
+    blink_session_free(session);
+    code = blink_map_close(map, &closed);
+    CHECK(code == BLINK_DONE || code == BLINK_MAP_NO_MEMORY);
+    if (code == BLINK_DONE) blink_index_free(closed);
     return code == BLINK_DONE;
 }
 
@@ -332,6 +506,7 @@ static bool uses_memory(void) {
         CHECK(code == BLINK_DONE || code == BLINK_NO_MEMORY);
         all = all && code == BLINK_DONE;
         if (code == BLINK_DONE) blink_index_free(closed);
+        all = all && uses_a_map(&copy);
     }
     if (copy.at) blink_index_free(copy);
     blink_index_free(index);
@@ -346,6 +521,9 @@ int main(void) {
     refuses_in_order();
     hands_keys_over();
     shares_a_table();
+    changes_a_map();
+    refuses_at_a_map();
+    shares_a_map();
     long requests = 0;
     do refused_at = requests++;
     while (!uses_memory());

@@ -10,6 +10,12 @@ pub mod PassAsBox
 pub mod PassesCross
 pub mod KeysOfPasses
 pub mod TableAsBox
+pub mod MapAsBox
+pub mod SessionAsBox
+pub mod SessionsCross
+pub mod SessionsGoOn
+pub mod AnswersOfPuts
+pub mod CodesOfMaps
 pub mod Codes
 pub mod CodesOfTables
 pub mod DealFaults

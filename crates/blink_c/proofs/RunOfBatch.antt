@@ -1,5 +1,5 @@
 -- A run of one worker at its end: its answers and its map are those of one thread.
-use Rattle.std.proofs.Common.{◌≡◌, Option, Some, List, [], ◌∷◌, count_by, length, map, refl, ap, sym, ◌∙◌, subst, arith}
+use Rattle.std.proofs.Common.{◌≡◌, Option, Some, List, [], ◌∷◌, count_by, length, map, refl, ap, sym, ◌∙◌, subst}
 use Rattle.std.proofs.lemmas.List.{length-map}
 use Rattle.blink_batch.specs.declared.Answer.{Answer}
 use Rattle.blink_batch.specs.declared.Op.{Op}

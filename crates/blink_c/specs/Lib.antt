@@ -14,6 +14,10 @@ pub use Rattle.blink_c.specs.Filled.{overlaid, put_if_fits}
 pub use Rattle.blink_c.specs.Tables.{DealsTo, IsNewTable, IsOwnTable, IsReturnRefusal, TakesBack, TellsDealFault}
 -- a pass behind a handle likewise
 pub use Rattle.blink_c.specs.Passes.{Begins, Ends, Finds, Glances, Hands, IsAdvanceRefusal, IsBeginRefusal, IsFindRefusal, IsHandRefusal, IsOwn, IsTellRefusal, TellsHandFault, TellsOn}
+-- a map behind a handle: what the calls make of it, and why they are refused
+pub use Rattle.blink_c.specs.Maps.{HasBadSessions, IsNewMap, IsTooLargeMap, Joins}
+-- a session behind a handle likewise
+pub use Rattle.blink_c.specs.Sessions.{Answers, EndsFrom, Finds as SessionFinds, IsAdvanceRefusal as IsSessionAdvanceRefusal, IsChangeRefusal, IsOwnSession, IsPutRefusal, IsTellRefusal as IsSessionTellRefusal, Puts, TellsOn as SessionTellsOn}
 -- ---- the files
 pub mod Raw
 pub mod Runs
@@ -21,9 +25,12 @@ pub mod Found
 pub mod Filled
 pub mod Tables
 pub mod Passes
+pub mod Maps
+pub mod Sessions
 -- the codes of refusals
 pub mod Codes
 pub mod TableCodes
+pub mod MapCodes
 -- what each handle owns, and what it is once what it lent comes back
 pub mod IndexOwned
 pub mod IndexLending
@@ -31,3 +38,7 @@ pub mod TableOwned
 pub mod TableLending
 pub mod PassOwned
 pub mod PassLending
+pub mod MapOwned
+pub mod MapLending
+pub mod SessionOwned
+pub mod SessionLending

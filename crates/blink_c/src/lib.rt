@@ -1,5 +1,5 @@
-//! The index and the table for programs in C and Rust: a static library whose exports each call a call of `blink_index` or
-//! `blink_live`, and turn its answer into a code. `include/blink.h` declares them.
+//! The index, the table and the map for programs in C and Rust: a static library whose exports each call a call of `blink_index`,
+//! `blink_live` or `blink_map`, and turn its answer into a code. `include/blink.h` declares them.
 #![tactic(auto)]
 
 mod batch;
@@ -8,6 +8,11 @@ mod index;
 mod index_handle;
 mod index_slot;
 mod make;
+mod map;
+mod map_handle;
+mod map_owner;
+mod map_refusal;
+mod map_slot;
 mod parts;
 mod pass;
 mod pass_handle;
@@ -16,6 +21,10 @@ mod pass_slot;
 mod raw;
 mod refusal;
 mod scan;
+mod session;
+mod session_handle;
+mod session_owner;
+mod session_slot;
 mod table;
 mod table_handle;
 mod table_owner;

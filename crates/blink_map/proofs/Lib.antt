@@ -2,8 +2,9 @@ mod PlacesKept
 mod ChangesOfMembers
 mod MembersComeBack
 mod PendingsGoOn
+pub mod PendingsAreSent
 mod LooksOver
 mod AllSettled
 mod MembersDealt
-mod PutsAreChanges
+pub mod PutsAreChanges
 mod HostRests

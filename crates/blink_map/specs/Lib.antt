@@ -3,7 +3,7 @@
 -- a map and its sessions
 pub use Rattle.blink_map.specs.Sessions.{AnswersAsSeen, HasRoom, IsAnswered, IsClosedWith, IsOpenedWith, IsTooLarge, IsSameBesideRoom, IsSameBesideSeen, IsSameSession, IsSessionOf, LacksRoom, made_by, opening_of, place_of, places_of, seen_by}
 -- an operation under way: which one it is, and the session before it
-pub use Rattle.blink_map.specs.Pendings.{HasBegun, IsPendingOf, op_of, session_of}
+pub use Rattle.blink_map.specs.Pendings.{GoesOn, HasBegun, IsPendingOf, op_of, session_of}
 -- an entry that is put
 pub use Rattle.blink_map.specs.Putting.{HasTried, IsPut, change_to}
 -- the code of each refusal

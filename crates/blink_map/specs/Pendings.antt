@@ -34,3 +34,7 @@ pub record HasBegun (map : Map) (op : Op) (session : Session) (pending : Pending
   pub its_own : IsPendingOf map pending
   pub same_op : op_of pending ≡ op
   pub same_session : session_of pending ≡ session
+
+-- the operation is still under way
+abbrev pub GoesOn : Map → Pending → Pending → Type 0
+GoesOn map before now = HasBegun map (op_of before) (session_of before) now

@@ -10,7 +10,7 @@ ghost use Rattle.blink_machine.specs.declared.machine.State.TheVariants.{Ended};
 ghost use Rattle.blink_live.specs.Pendings.{IsWaiting};
 ghost use Rattle.blink_map.specs.declared.member.Member.{Member};
 ghost use Rattle.blink_map.specs.Changing.{HasChanged, IsAtWork};
-ghost use Rattle.blink_map.specs.Pendings.{HasBegun, IsPendingOf, op_of, session_of};
+ghost use Rattle.blink_map.specs.Pendings.{GoesOn, HasBegun, IsPendingOf, op_of, session_of};
 ghost use Rattle.blink_map.specs.Places.{IsMemberOf};
 ghost use Rattle.blink_map.specs.Sessions.{HasRoom, IsAnswered, IsSameBesideRoom, IsSessionOf, LacksRoom};
 
@@ -83,7 +83,7 @@ impl Map {
         requires its_own { IsPendingOf self.now pending }
         ensures answered { IfOk result
             (λ ended. IsAnswered self.now (op_of pending) (session_of pending) ended.0 ended.1) }
-        ensures goes_on { IfErr result (HasBegun self.now (op_of pending) (session_of pending)) }
+        ensures goes_on { IfErr result (GoesOn self.now pending) }
         ensures waits { IfErr result (λ pending. IsWaiting pending.now.machine) }
     {
         let Pending {

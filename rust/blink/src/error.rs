@@ -8,7 +8,8 @@ use std::fmt;
 pub enum Error {
     /// The fan isn't from 4 to 32.
     BadFan,
-    /// The insertions might need more page numbers than exist: 1 + pages + 22 for each insertion is above 1,048,576.
+    /// More page numbers might be needed than exist: 1 + pages + 22 for each insertion is above 1,048,576; or, of a map, the
+    /// index's pages and the page numbers of its room are above 1,048,575.
     TooLarge,
     /// Memory was refused.
     OutOfMemory,
@@ -22,24 +23,33 @@ pub enum Error {
     KeyNotYours(u64),
     /// The pass has no insertion, or no deletion, left.
     Spent,
-    /// A pass of the table is still held somewhere, or was dropped.
+    /// A pass of the table is still held somewhere, or was dropped; or a session of the map was leaked.
     Missing,
-    /// The pass is of another table.
+    /// The pass is of another table, or the session of another map.
     Foreign,
+    /// A map has 1 to 256 sessions.
+    BadSessions,
+    /// Each place for a session is taken.
+    NoPlace,
+    /// The session has too few rows or page numbers left for the change, and the map's pool too.
+    Full,
 }
 
 impl Error {
     // Codes that the types of this crate exclude don't come here.
     pub(crate) fn of(code: u8) -> Error {
         match code {
-            32 | 57 => Error::TooLarge,
+            32 | 57 | 101 => Error::TooLarge,
             40 => Error::BadFan,
-            41 | 50 | 53 | 59 => Error::OutOfMemory,
+            41 | 50 | 53 | 59 | 100 => Error::OutOfMemory,
             52 => Error::NoAllowance,
             54 => Error::NotYours,
             55 => Error::Spent,
-            56 => Error::Missing,
+            56 | 106 => Error::Missing,
             63 => Error::Foreign,
+            102 => Error::BadSessions,
+            103 => Error::NoPlace,
+            105 => Error::Full,
             _ => unreachable!("libblink returned code {code}"),
         }
     }
@@ -63,8 +73,11 @@ impl fmt::Display for Error {
             Error::NotYours => f.write_str("not yours"),
             Error::KeyNotYours(key) => write!(f, "key {key} is not yours"),
             Error::Spent => f.write_str("spent"),
-            Error::Missing => f.write_str("missing pass"),
-            Error::Foreign => f.write_str("a pass of another table"),
+            Error::Missing => f.write_str("missing pass or session"),
+            Error::Foreign => f.write_str("of another table or map"),
+            Error::BadSessions => f.write_str("1 to 256 sessions"),
+            Error::NoPlace => f.write_str("no place for a session"),
+            Error::Full => f.write_str("full"),
         }
     }
 }

@@ -44,6 +44,9 @@ impl RawAnswer {
 
 pub(crate) const BATCH_LIMIT: usize = 8192;
 
+/// The code of an operation that is under way.
+pub(crate) const PENDING: u8 = 90;
+
 extern "C" {
     pub(crate) fn blink_index_new(fan: u8, out: *mut Handle) -> u8;
     pub(crate) fn blink_index_from_entries(fan: u8, entries: *const crate::Entry, count: usize, out: *mut Handle) -> u8;
@@ -114,4 +117,44 @@ extern "C" {
     pub(crate) fn blink_pass_begin_replace(pass: *mut Handle, key: u64, pointer: u64) -> u8;
     pub(crate) fn blink_pass_advance(pass: *mut Handle, tries: u32, answer: *mut RawAnswer) -> u8;
     pub(crate) fn blink_pass_free(pass: Handle);
+
+    pub(crate) fn blink_map_open(
+        index: *mut Handle,
+        pages: u32,
+        rows: u32,
+        sessions: u32,
+        number: u64,
+        out: *mut Handle,
+    ) -> u8;
+    pub(crate) fn blink_map_join(map: *mut Handle, out: *mut Handle) -> u8;
+    pub(crate) fn blink_map_room(map: *mut Handle, rows: *mut u64, pages: *mut u64);
+    pub(crate) fn blink_map_close(map: Handle, out: *mut Handle) -> u8;
+    pub(crate) fn blink_map_free(map: Handle);
+
+    pub(crate) fn blink_session_find(session: *mut Handle, key: u64, answer: *mut RawAnswer) -> u8;
+    pub(crate) fn blink_session_insert(
+        session: *mut Handle,
+        key: u64,
+        pointer: u64,
+        tries: u32,
+        answer: *mut RawAnswer,
+    ) -> u8;
+    pub(crate) fn blink_session_delete(session: *mut Handle, key: u64, tries: u32, answer: *mut RawAnswer) -> u8;
+    pub(crate) fn blink_session_replace(
+        session: *mut Handle,
+        key: u64,
+        pointer: u64,
+        tries: u32,
+        answer: *mut RawAnswer,
+    ) -> u8;
+    pub(crate) fn blink_session_put(
+        session: *mut Handle,
+        key: u64,
+        pointer: u64,
+        tries: u32,
+        answer: *mut RawAnswer,
+    ) -> u8;
+    pub(crate) fn blink_session_advance(session: *mut Handle, tries: u32, answer: *mut RawAnswer) -> u8;
+    pub(crate) fn blink_session_tell(from: *mut Handle, to: *mut Handle) -> u8;
+    pub(crate) fn blink_session_free(session: Handle);
 }

@@ -160,7 +160,7 @@ pub struct Pass {
 unsafe impl Send for Pass {}
 
 // How many steps in vain an operation takes before its thread yields.
-const TRIES: u32 = 100;
+pub(crate) const TRIES: u32 = 100;
 
 impl Pass {
     /// Looks a key of the pass up: [`Answer::Found`] or [`Answer::Absent`], whatever other passes do.

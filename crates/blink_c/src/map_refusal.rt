@@ -1,0 +1,50 @@
+//! The refusals of the exports of maps and sessions.
+ghost use Rattle.std.specs.Prelude.{◌≡◌};
+ghost use Rattle.blink_c.specs.Codes.{code_of_outcome};
+ghost use Rattle.blink_c.specs.MapCodes.{code_of};
+
+use crate::refusal::DONE;
+use blink_map::MapError;
+
+/// Why a call on a map or a session is refused.
+#[derive(Clone, Copy, Debug, PartialEq, Eq)]
+pub(crate) enum MapRefusal {
+    /// A map can't be opened, joined or closed.
+    Map(MapError),
+    /// The session has too few rows or page numbers left, and the map's pool too.
+    Full,
+    /// The handle of a session isn't freed.
+    Missing,
+    /// The session is of another map.
+    Foreign,
+    /// The session has an operation under way.
+    UnderWay,
+    /// The session has no operation under way.
+    Idle,
+}
+
+impl MapRefusal {
+    /// The refusal's code: that of the call which refuses so, or one of this crate's own.
+    pub(crate) fn code(&self) -> u8
+        ensures { result ≡ code_of self.now }
+    {
+        match self {
+            MapRefusal::Map(refusal) => refusal.code(),
+            MapRefusal::Full => 105,
+            MapRefusal::Missing => 106,
+            MapRefusal::Foreign => 63,
+            MapRefusal::UnderWay => 90,
+            MapRefusal::Idle => 91,
+        }
+    }
+}
+
+/// The code that an export returns.
+pub(crate) fn code_of(outcome: &Result<(), MapRefusal>) -> u8
+    ensures { result ≡ code_of_outcome code_of outcome.now }
+{
+    match outcome {
+        Ok(()) => DONE,
+        Err(refusal) => refusal.code(),
+    }
+}

@@ -1,0 +1,169 @@
+//! The exports of a session.
+ghost use Rattle.std.specs.Prelude.{◌≡◌, ◌≢◌};
+ghost use Rattle.blink_batch.specs.declared.Op.TheVariants.{Delete, Insert, Replace};
+ghost use Rattle.blink_c.specs.Codes.{TellsWhy};
+ghost use Rattle.blink_c.specs.MapCodes.{code_of};
+ghost use Rattle.blink_c.specs.Sessions.{Answers, EndsFrom, Finds, IsAdvanceRefusal, IsChangeRefusal, IsNotFree, IsOwnSession, IsPutRefusal, IsTellRefusal, Puts, TellsOn, in_map};
+
+use crate::map_refusal::code_of;
+use crate::raw::RawAnswer;
+use crate::session_handle::SessionHandle;
+use crate::session_owner::{HeldSession, SessionOwner};
+use blink_batch::Op;
+
+/// Looks any key up, as the session has seen it by the end of the call.
+#[unsafe(no_mangle)]
+pub extern "C" fn blink_session_find(
+    session: &mut SessionHandle,
+    key: u64,
+    answer: &mut RawAnswer,
+) -> u8
+    requires its_own { IsOwnSession session.old.value }
+    ensures its_own { IsOwnSession session.new.value }
+    ensures found { result ≡ 0 → Finds key session.old.value session.new.value answer.new }
+    ensures refused { TellsWhy code_of (IsNotFree session.old.value.held) result }
+    ensures unchanged { result ≢ 0
+        → (session.new.value ≡ session.old.value) × (answer.new ≡ answer.old) }
+{
+    code_of(&session.get().find(key, answer))
+}
+
+/// Adds an entry. After `tries` steps in vain the call returns with the insertion under way, which goes on by
+/// `blink_session_advance`.
+#[unsafe(no_mangle)]
+pub extern "C" fn blink_session_insert(
+    session: &mut SessionHandle,
+    key: u64,
+    pointer: u64,
+    tries: u32,
+    answer: &mut RawAnswer,
+) -> u8
+    requires its_own { IsOwnSession session.old.value }
+    ensures its_own { IsOwnSession session.new.value }
+    ensures answered { result ≡ 0
+        → Answers (Insert key pointer) session.old.value session.new.value answer.new }
+    ensures refused { TellsWhy code_of
+        (IsChangeRefusal (Insert key pointer) session.old.value session.new.value) result }
+    ensures unchanged { result ≢ 0 → answer.new ≡ answer.old }
+{
+    code_of(
+        &session
+            .get()
+            .change(Op::Insert(key, pointer), tries, answer),
+    )
+}
+
+/// Removes a key. It may be under way then as an insertion.
+#[unsafe(no_mangle)]
+pub extern "C" fn blink_session_delete(
+    session: &mut SessionHandle,
+    key: u64,
+    tries: u32,
+    answer: &mut RawAnswer,
+) -> u8
+    requires its_own { IsOwnSession session.old.value }
+    ensures its_own { IsOwnSession session.new.value }
+    ensures answered { result ≡ 0
+        → Answers (Delete key) session.old.value session.new.value answer.new }
+    ensures refused { TellsWhy code_of
+        (IsChangeRefusal (Delete key) session.old.value session.new.value) result }
+    ensures unchanged { result ≢ 0 → answer.new ≡ answer.old }
+{
+    code_of(&session.get().change(Op::Delete(key), tries, answer))
+}
+
+/// Replaces a key's pointer. It may be under way then as an insertion.
+#[unsafe(no_mangle)]
+pub extern "C" fn blink_session_replace(
+    session: &mut SessionHandle,
+    key: u64,
+    pointer: u64,
+    tries: u32,
+    answer: &mut RawAnswer,
+) -> u8
+    requires its_own { IsOwnSession session.old.value }
+    ensures its_own { IsOwnSession session.new.value }
+    ensures answered { result ≡ 0
+        → Answers (Replace key pointer) session.old.value session.new.value answer.new }
+    ensures refused { TellsWhy code_of
+        (IsChangeRefusal (Replace key pointer) session.old.value session.new.value) result }
+    ensures unchanged { result ≢ 0 → answer.new ≡ answer.old }
+{
+    code_of(
+        &session
+            .get()
+            .change(Op::Replace(key, pointer), tries, answer),
+    )
+}
+
+/// Maps a key to a pointer, whether the key is there or not. It may be under way then as an insertion, also where the key turned
+/// out to be there.
+#[unsafe(no_mangle)]
+pub extern "C" fn blink_session_put(
+    session: &mut SessionHandle,
+    key: u64,
+    pointer: u64,
+    tries: u32,
+    answer: &mut RawAnswer,
+) -> u8
+    requires its_own { IsOwnSession session.old.value }
+    ensures its_own { IsOwnSession session.new.value }
+    ensures put { result ≡ 0 → Puts key pointer session.old.value session.new.value answer.new }
+    ensures refused { TellsWhy code_of
+        (IsPutRefusal key pointer session.old.value session.new.value) result }
+    ensures unchanged { result ≢ 0 → answer.new ≡ answer.old }
+{
+    code_of(&session.get().put(key, pointer, tries, answer))
+}
+
+/// Takes the next steps of the operation or the put that is under way.
+#[unsafe(no_mangle)]
+pub extern "C" fn blink_session_advance(
+    session: &mut SessionHandle,
+    tries: u32,
+    answer: &mut RawAnswer,
+) -> u8
+    requires its_own { IsOwnSession session.old.value }
+    ensures its_own { IsOwnSession session.new.value }
+    ensures ended { result ≡ 0
+        → EndsFrom session.old.value.held session.old.value session.new.value answer.new }
+    ensures refused { TellsWhy code_of
+        (IsAdvanceRefusal session.old.value.held session.old.value session.new.value) result }
+    ensures unchanged { result ≢ 0 → answer.new ≡ answer.old }
+{
+    code_of(&session.get().advance(tries, answer))
+}
+
+/// Tells session `to` what session `from` has seen. Sessions of two maps are told apart by the numbers that the caller gave these.
+/// The call is refused for two maps first, then for a `from` that isn't free, and then for a `to` that isn't.
+#[unsafe(no_mangle)]
+pub extern "C" fn blink_session_tell(from: &mut SessionHandle, to: &mut SessionHandle) -> u8
+    requires its_own { IsOwnSession from.old.value }
+    requires others_own { IsOwnSession to.old.value }
+    requires numbered { from.old.value.number ≡ to.old.value.number
+        → in_map from.old.value ≡ in_map to.old.value }
+    ensures its_own { IsOwnSession from.new.value }
+    ensures others_own { IsOwnSession to.new.value }
+    ensures told { result ≡ 0 → TellsOn from.old.value from.new.value to.old.value to.new.value }
+    ensures refused { TellsWhy code_of (IsTellRefusal from.old.value to.old.value) result }
+    ensures unchanged { result ≢ 0
+        → (from.new.value ≡ from.old.value) × (to.new.value ≡ to.old.value) }
+{
+    code_of(&from.get().tell(to.get()))
+}
+
+/// Frees the handle. A free session leaves its map, and its place can be taken again. The place of another is lost.
+#[unsafe(no_mangle)]
+pub extern "C" fn blink_session_free(session: SessionHandle)
+    requires its_own { IsOwnSession session.value }
+{
+    let owner = Box::into_inner(session.into_box());
+    let SessionOwner {
+        shared,
+        number: _,
+        held,
+    } = owner;
+    if let HeldSession::Free(session) = held {
+        shared.leave(session);
+    }
+}

@@ -1,0 +1,277 @@
+//! The map and its sessions.
+
+use crate::sys::{self, Handle, RawAnswer};
+use crate::table::TRIES;
+use crate::{Answer, Error, Index};
+use std::fmt;
+use std::marker::PhantomData;
+use std::sync::atomic::{AtomicU64, Ordering};
+use std::sync::{Mutex, MutexGuard, PoisonError};
+use std::thread;
+
+/// What a map has beside its entries, for changes and sessions to come.
+#[derive(Clone, Copy, Debug, PartialEq, Eq, Hash)]
+pub struct Room {
+    /// Page numbers. A split of a page takes one. An insertion has to have 22 when it begins, and uses none mostly.
+    pub pages: u32,
+    /// Rows, of 560 bytes. Each write of a page takes one. An insertion has to have 44 when it begins, and writes one page mostly;
+    /// a deletion or a replacement has to have one.
+    pub rows: u32,
+    /// Places for sessions, 1 to 256.
+    pub sessions: u32,
+}
+
+/// What a map's pool has left of its room.
+#[derive(Clone, Copy, Debug, PartialEq, Eq, Hash)]
+pub struct Left {
+    /// Page numbers.
+    pub pages: u64,
+    /// Rows.
+    pub rows: u64,
+}
+
+/// The entries of an index, which threads change together without a lock, each any key by a [`Session`].
+///
+/// There is one list of changes of all keys. Each call of a session answers as on the entries after a part of the list, which goes on
+/// from all that the session had seen; its own change follows there at once. A session never un-sees a change that it has seen.
+///
+/// ```
+/// use blink::{Answer, Index, Map, Room};
+///
+/// let room = Room { pages: 5_000, rows: 20_000, sessions: 8 };
+/// let map = Map::open(&Index::new(16)?, room)?;
+/// std::thread::scope(|scope| {
+///     for thread in 0..8 {
+///         let mut session = map.session().unwrap();
+///         scope.spawn(move || {
+///             // every thread puts every key
+///             for key in 0..1000 {
+///                 session.put(key, key * 10 + thread).unwrap();
+///             }
+///             assert_eq!(session.remove(5_000), Ok(Answer::Absent));
+///         });
+///     }
+/// });
+/// let index = map.close()?;
+/// assert_eq!(index.len(), 1000);
+/// assert_eq!(index.find(7).map(|pointer| pointer / 10), Some(7));
+/// # Ok::<(), blink::Error>(())
+/// ```
+pub struct Map {
+    // One thread at a time uses the handle. Sessions have their own.
+    handle: Mutex<Handle>,
+}
+
+// SAFETY: `MapHandle` of crates/blink_c is proved to be `Send`.
+unsafe impl Send for Map {}
+
+// SAFETY: a thread uses the handle under the lock alone, which hands it from one to the next.
+unsafe impl Sync for Map {}
+
+// The number of the next map, by which sessions of two maps are told apart. 64 bits don't run out.
+static NEXT: AtomicU64 = AtomicU64::new(0);
+
+impl Map {
+    /// Opens a map over the entries of an index, which stays as it is.
+    ///
+    /// It is refused with [`Error::BadSessions`] for no session or more than 256; then with [`Error::TooLarge`], if the index's pages
+    /// and those of the room are above 1,048,575.
+    ///
+    /// ```
+    /// use blink::{Error, Index, Map, Room};
+    ///
+    /// let index = Index::new(16)?;
+    /// let room = Room { pages: 22, rows: 44, sessions: 0 };
+    /// assert_eq!(Map::open(&index, room).unwrap_err(), Error::BadSessions);
+    /// assert_eq!(Map::open(&index, Room { pages: 1 << 20, sessions: 1, ..room }).unwrap_err(), Error::TooLarge);
+    /// # Ok::<(), Error>(())
+    /// ```
+    pub fn open(index: &Index, room: Room) -> Result<Map, Error> {
+        let number = NEXT.fetch_add(1, Ordering::Relaxed);
+        let mut handle = Handle::EMPTY;
+        // SAFETY: the index's handle is full, and this thread alone uses it; no other map has this number.
+        Error::check(unsafe {
+            sys::blink_map_open(index.handle(), room.pages, room.rows, room.sessions, number, &mut handle)
+        })?;
+        Ok(Map {
+            handle: Mutex::new(handle),
+        })
+    }
+
+    /// Joins the map. The session has a place until it is dropped. It is refused with [`Error::NoPlace`], if each place is taken.
+    ///
+    /// ```
+    /// use blink::{Error, Index, Map, Room};
+    ///
+    /// let map = Map::open(&Index::new(16)?, Room { pages: 0, rows: 0, sessions: 1 })?;
+    /// let session = map.session()?;
+    /// assert_eq!(map.session().unwrap_err(), Error::NoPlace);
+    /// drop(session);
+    /// assert!(map.session().is_ok());
+    /// # Ok::<(), Error>(())
+    /// ```
+    pub fn session(&self) -> Result<Session<'_>, Error> {
+        let mut handle = Handle::EMPTY;
+        // SAFETY: the map's handle is full, and locked; `handle` is empty.
+        Error::check(unsafe { sys::blink_map_join(&mut *self.lock(), &mut handle) })?;
+        Ok(Session {
+            handle,
+            map: PhantomData,
+        })
+    }
+
+    /// Returns what the map's pool has left, for a look: sessions may draw at any time. What they have drawn and haven't used isn't
+    /// counted.
+    pub fn room(&self) -> Left {
+        let mut left = Left { pages: 0, rows: 0 };
+        // SAFETY: the map's handle is full, and locked.
+        unsafe { sys::blink_map_room(&mut *self.lock(), &mut left.rows, &mut left.pages) };
+        left
+    }
+
+    /// Closes the map. The index that it returns has the entries that the map was opened with, after all changes. The map is given up
+    /// also where the call is refused: with [`Error::Missing`], if a session was leaked, as by [`std::mem::forget`].
+    pub fn close(self) -> Result<Index, Error> {
+        let handle = self.lock().take();
+        Index::filled(|out| {
+            // SAFETY: the handle was full, and is taken out, so it is given up once; `out` is empty.
+            unsafe { sys::blink_map_close(handle, out) }
+        })
+    }
+
+    // Nothing panics while it has the handle.
+    fn lock(&self) -> MutexGuard<'_, Handle> {
+        self.handle.lock().unwrap_or_else(PoisonError::into_inner)
+    }
+}
+
+impl Drop for Map {
+    fn drop(&mut self) {
+        let handle = self.lock().take();
+        if !handle.is_empty() {
+            // SAFETY: the handle is full, and is taken out, so it is freed once.
+            unsafe { sys::blink_map_free(handle) }
+        }
+    }
+}
+
+impl fmt::Debug for Map {
+    fn fmt(&self, f: &mut fmt::Formatter<'_>) -> fmt::Result {
+        f.debug_struct("Map").finish_non_exhaustive()
+    }
+}
+
+/// The right of one thread to read and change a map. A session that is dropped leaves the map, and its place can be taken again.
+///
+/// An operation that changes the map waits for a page that another session has just then, and yields its thread meanwhile.
+pub struct Session<'map> {
+    handle: Handle,
+    map: PhantomData<&'map Map>,
+}
+
+// SAFETY: `SessionHandle` of crates/blink_c is proved to be `Send`.
+unsafe impl Send for Session<'_> {}
+
+impl Session<'_> {
+    /// Looks a key up, after the changes that the session has seen by the end of the call.
+    ///
+    /// ```
+    /// use blink::{Entry, Index, Map, Room};
+    ///
+    /// let index = Index::from_entries(8, &[(1, 10), (2, 20)].map(Entry::from))?;
+    /// let map = Map::open(&index, Room { pages: 0, rows: 0, sessions: 1 })?;
+    /// let mut session = map.session()?;
+    /// assert_eq!((session.get(1), session.get(3)), (Some(10), None));
+    /// # Ok::<(), blink::Error>(())
+    /// ```
+    pub fn get(&mut self, key: u64) -> Option<u64> {
+        let mut answer = RawAnswer::NONE;
+        // SAFETY: the handle is full and borrowed for writing.
+        let code = unsafe { sys::blink_session_find(&mut self.handle, key, &mut answer) };
+        // No operation is under way between two calls; nothing else is refused.
+        assert_eq!(code, 0);
+        Answer::of(answer).pointer()
+    }
+
+    /// Maps a key to a pointer, unless the key is there: [`Answer::Inserted`] or [`Answer::Exists`].
+    ///
+    /// It is refused with [`Error::Full`], as [`Session::remove`], [`Session::replace`] and [`Session::put`] are, if the session has
+    /// too little room left and the map's pool too. Then the map is as it was.
+    pub fn insert(&mut self, key: u64, pointer: u64) -> Result<Answer, Error> {
+        // SAFETY: as in `get`.
+        self.ended(|handle, answer| unsafe { sys::blink_session_insert(handle, key, pointer, TRIES, answer) })
+    }
+
+    /// Takes a key away, if it is there: [`Answer::Removed`] or [`Answer::Absent`].
+    pub fn remove(&mut self, key: u64) -> Result<Answer, Error> {
+        // SAFETY: as in `get`.
+        self.ended(|handle, answer| unsafe { sys::blink_session_delete(handle, key, TRIES, answer) })
+    }
+
+    /// Maps a key to a pointer, if the key is there: [`Answer::Replaced`] or [`Answer::Absent`].
+    pub fn replace(&mut self, key: u64, pointer: u64) -> Result<Answer, Error> {
+        // SAFETY: as in `get`.
+        self.ended(|handle, answer| unsafe { sys::blink_session_replace(handle, key, pointer, TRIES, answer) })
+    }
+
+    /// Maps a key to a pointer, whether the key is there or not, and returns the pointer that was there.
+    ///
+    /// ```
+    /// use blink::{Index, Map, Room};
+    ///
+    /// let map = Map::open(&Index::new(16)?, Room { pages: 22, rows: 100, sessions: 1 })?;
+    /// let mut session = map.session()?;
+    /// assert_eq!(session.put(5, 50)?, None);
+    /// assert_eq!(session.put(5, 51)?, Some(50));
+    /// # Ok::<(), blink::Error>(())
+    /// ```
+    pub fn put(&mut self, key: u64, pointer: u64) -> Result<Option<u64>, Error> {
+        // SAFETY: as in `get`.
+        let put = self.ended(|handle, answer| unsafe { sys::blink_session_put(handle, key, pointer, TRIES, answer) })?;
+        Ok(put.pointer())
+    }
+
+    /// Tells the other session what this one has seen: then the other has seen all that this one has. It is refused with
+    /// [`Error::Foreign`] for a session of another map.
+    ///
+    /// ```
+    /// use blink::{Index, Map, Room};
+    ///
+    /// let map = Map::open(&Index::new(16)?, Room { pages: 22, rows: 44, sessions: 2 })?;
+    /// let (mut writer, mut reader) = (map.session()?, map.session()?);
+    /// writer.insert(5, 50)?;
+    /// writer.tell(&mut reader)?;
+    /// assert_eq!(reader.get(5), Some(50));
+    /// # Ok::<(), blink::Error>(())
+    /// ```
+    pub fn tell(&mut self, other: &mut Session<'_>) -> Result<(), Error> {
+        // SAFETY: both handles are full, and borrowed for writing, so they are two.
+        Error::check(unsafe { sys::blink_session_tell(&mut self.handle, &mut other.handle) })
+    }
+
+    // Begins an operation, and takes its steps to the end.
+    fn ended(&mut self, begin: impl FnOnce(*mut Handle, *mut RawAnswer) -> u8) -> Result<Answer, Error> {
+        let mut answer = RawAnswer::NONE;
+        let mut code = begin(&mut self.handle, &mut answer);
+        while code == sys::PENDING {
+            thread::yield_now();
+            // SAFETY: as in `get`; an operation is under way.
+            code = unsafe { sys::blink_session_advance(&mut self.handle, TRIES, &mut answer) };
+        }
+        Error::check(code)?;
+        Ok(Answer::of(answer))
+    }
+}
+
+impl Drop for Session<'_> {
+    fn drop(&mut self) {
+        // SAFETY: the handle is full, and is taken out, so it is freed once.
+        unsafe { sys::blink_session_free(self.handle.take()) }
+    }
+}
+
+impl fmt::Debug for Session<'_> {
+    fn fmt(&self, f: &mut fmt::Formatter<'_>) -> fmt::Result {
+        f.debug_struct("Session").finish_non_exhaustive()
+    }
+}

@@ -1,0 +1,285 @@
+//! Histories of eight threads at one map: for each key the calls have to be those of a register in some order that keeps real time.
+//!
+//! Each call is written down with the times before and after it. The keys are independent, so each is searched for by itself, as Wing and
+//! Gong do: a call may come next if no other that is left ended before it began. Every pointer is stored by one call alone, so that a value
+//! read tells which call stored it.
+
+use blink::{Answer, Entry, Index, Map, Room, Session};
+use std::collections::{BTreeSet, HashMap, HashSet};
+use std::thread;
+use std::time::Instant;
+
+const THREADS: u64 = 8;
+
+// The pointer that a key has, or none.
+type State = Option<u64>;
+
+/// A call: when it began and ended, what the key was by its answer, and what it left.
+#[derive(Clone, Copy, Debug)]
+struct Call {
+    thread: usize,
+    begin: u64,
+    end: u64,
+    key: u64,
+    saw: State,
+    left: State,
+}
+
+// ---- the search
+
+// The calls of one key, as far as they go to the next time when none is pending, by threads.
+type Window = Vec<Vec<Call>>;
+
+// Cuts the calls of a key at each time when none is pending.
+fn windows(mut calls: Vec<Call>) -> Vec<Window> {
+    calls.sort_by_key(|call| call.begin);
+    let mut windows: Vec<Window> = Vec::new();
+    let mut last = None;
+    for call in calls {
+        if last.map_or(true, |end| end < call.begin) {
+            windows.push(vec![Vec::new(); THREADS as usize]);
+        }
+        last = last.max(Some(call.end));
+        windows.last_mut().unwrap()[call.thread].push(call);
+    }
+    windows
+}
+
+// The states that a window may end with, where it begins with one of these: none, if its calls have no such order. A thread's calls come
+// one after another, so their numbers say which are done.
+fn ends(window: &Window, begins: &BTreeSet<State>) -> BTreeSet<State> {
+    let mut found = BTreeSet::new();
+    let mut seen = HashSet::new();
+    let mut stack: Vec<(Vec<usize>, State)> = begins.iter().map(|state| (vec![0; window.len()], *state)).collect();
+    while let Some((done, state)) = stack.pop() {
+        if !seen.insert((done.clone(), state)) {
+            continue;
+        }
+        let next = || window.iter().zip(&done).filter_map(|(calls, done)| calls.get(*done));
+        let Some(first_end) = next().map(|call| call.end).min() else {
+            found.insert(state);
+            continue;
+        };
+        let mut can_come: Vec<&Call> = next().filter(|call| call.begin <= first_end && call.saw == state).collect();
+        // one that changes nothing may come at once: wherever it comes later, it can come here
+        if let Some(look) = can_come.iter().position(|call| call.left == call.saw) {
+            can_come = vec![can_come[look]];
+        }
+        for call in can_come {
+            let mut done = done.clone();
+            done[call.thread] += 1;
+            stack.push((done, call.left));
+        }
+    }
+    found
+}
+
+// Whether the calls of each key have an order in which each saw what the one before it left.
+fn is_linearizable(history: &[Call], opening: &HashMap<u64, u64>) -> bool {
+    let mut by_key: HashMap<u64, Vec<Call>> = HashMap::new();
+    for call in history {
+        by_key.entry(call.key).or_default().push(*call);
+    }
+    by_key.into_iter().all(|(key, calls)| {
+        let begins = BTreeSet::from([opening.get(&key).copied()]);
+        !windows(calls).iter().fold(begins, |states, window| ends(window, &states)).is_empty()
+    })
+}
+
+// ---- the recording
+
+// What is done at a map.
+#[derive(Clone, Copy)]
+struct Plan {
+    keys: u64,
+    fan: u8,
+    calls: u64,
+}
+
+fn next_random(state: &mut u64) -> u64 {
+    *state ^= *state << 13;
+    *state ^= *state >> 7;
+    *state ^= *state << 17;
+    *state
+}
+
+// One call, by what it answers: what the key was, and what it is then.
+fn call_once(session: &mut Session, kind: u64, key: u64, pointer: u64) -> (State, State) {
+    match kind {
+        0 => match session.insert(key, pointer).unwrap() {
+            Answer::Inserted => (None, Some(pointer)),
+            Answer::Exists(there) => (Some(there), Some(there)),
+            other => panic!("an insertion answered {other:?}"),
+        },
+        1 => match session.remove(key).unwrap() {
+            Answer::Removed(was) => (Some(was), None),
+            Answer::Absent => (None, None),
+            other => panic!("a deletion answered {other:?}"),
+        },
+        2 => match session.replace(key, pointer).unwrap() {
+            Answer::Replaced(was) => (Some(was), Some(pointer)),
+            Answer::Absent => (None, None),
+            other => panic!("a replacement answered {other:?}"),
+        },
+        3 => (session.put(key, pointer).unwrap(), Some(pointer)),
+        _ => {
+            let found = session.get(key);
+            (found, found)
+        }
+    }
+}
+
+// A thread's calls. It leaves the map now and then, and joins it again.
+fn calls_of(map: &Map, plan: Plan, thread: usize, start: Instant) -> Vec<Call> {
+    let mut random = 0x9e37_79b9_7f4a_7c15 ^ ((thread as u64 + 1) << 32) ^ plan.keys;
+    let mut session = None;
+    let mut calls = Vec::with_capacity(plan.calls as usize);
+    for number in 0..plan.calls {
+        if number % 1_000 == 0 {
+            session = None;
+        }
+        let session = session.get_or_insert_with(|| map.session().unwrap());
+        let key = next_random(&mut random) % plan.keys;
+        let kind = next_random(&mut random) % 6;
+        let pointer = ((thread as u64 + 1) << 40) | number;
+        let begin = start.elapsed().as_nanos() as u64;
+        let (saw, left) = call_once(session, kind, key, pointer);
+        let end = start.elapsed().as_nanos() as u64;
+        calls.push(Call { thread, begin, end, key, saw, left });
+    }
+    calls
+}
+
+// Half of the keys are there at first; a key's first pointer is the key.
+fn opening(plan: Plan) -> HashMap<u64, u64> {
+    (0..plan.keys).step_by(2).map(|key| (key, key)).collect()
+}
+
+// What eight threads do, and the entries at the end.
+fn recorded(plan: Plan) -> (Vec<Call>, Index) {
+    let entries: Vec<Entry> = opening(plan).into_iter().map(Entry::from).collect();
+    let index = Index::from_entries(plan.fan, &entries).unwrap();
+    let calls = u32::try_from(plan.calls * THREADS).unwrap();
+    let room = Room {
+        pages: calls / 2 + 20_000,
+        rows: calls + 20_000,
+        sessions: 2 * THREADS as u32,
+    };
+    let map = Map::open(&index, room).unwrap();
+    let start = Instant::now();
+    let mut history = Vec::new();
+    thread::scope(|scope| {
+        let workers: Vec<_> = (0..THREADS as usize)
+            .map(|thread| {
+                let map = &map;
+                scope.spawn(move || calls_of(map, plan, thread, start))
+            })
+            .collect();
+        for worker in workers {
+            history.extend(worker.join().unwrap());
+        }
+    });
+    (history, map.close().unwrap())
+}
+
+// Adds a look at each key after all others, at what the closed index has.
+fn with_looks_at(mut history: Vec<Call>, index: &Index, keys: u64) -> Vec<Call> {
+    let last = history.iter().map(|call| call.end).max().unwrap_or(0);
+    history.extend((0..keys).map(|key| {
+        let found = index.find(key);
+        Call { thread: 0, begin: last + 1, end: last + 2, key, saw: found, left: found }
+    }));
+    history
+}
+
+fn check(plan: Plan) {
+    let (history, index) = recorded(plan);
+    let history = with_looks_at(history, &index, plan.keys);
+    assert!(is_linearizable(&history, &opening(plan)), "{} keys, fan {}", plan.keys, plan.fan);
+}
+
+// ---- a million calls
+
+const CALLS: u64 = 21_000;
+
+#[test]
+fn histories_at_4_keys() {
+    check(Plan { keys: 4, fan: 4, calls: CALLS });
+    check(Plan { keys: 4, fan: 32, calls: CALLS });
+}
+
+#[test]
+fn histories_at_64_keys() {
+    check(Plan { keys: 64, fan: 4, calls: CALLS });
+    check(Plan { keys: 64, fan: 8, calls: CALLS });
+}
+
+#[test]
+fn histories_at_100_000_keys() {
+    check(Plan { keys: 100_000, fan: 5, calls: CALLS });
+    check(Plan { keys: 100_000, fan: 16, calls: CALLS });
+}
+
+// ---- what the search refuses
+
+// Calls of one key, each as (thread, begin, end, saw, left).
+fn of_one_key(calls: &[(usize, u64, u64, State, State)]) -> Vec<Call> {
+    calls.iter().map(|&(thread, begin, end, saw, left)| Call { thread, begin, end, key: 0, saw, left }).collect()
+}
+
+fn is_so(calls: &[(usize, u64, u64, State, State)]) -> bool {
+    is_linearizable(&of_one_key(calls), &HashMap::new())
+}
+
+#[test]
+fn real_time_decides() {
+    let (put, put_over) = ((0, 0, 1, None, Some(1)), (0, 2, 5, Some(1), Some(2)));
+    // a look beside the second put sees either pointer; a look after it doesn't see the first
+    assert!(is_so(&[put, put_over, (1, 3, 4, Some(1), Some(1))]));
+    assert!(is_so(&[put, put_over, (1, 3, 4, Some(2), Some(2))]));
+    assert!(is_so(&[put, put_over, (1, 6, 7, Some(2), Some(2))]));
+    assert!(!is_so(&[put, put_over, (1, 6, 7, Some(1), Some(1))]));
+    assert!(!is_so(&[put, put_over, (1, 3, 4, None, None)]));
+    // beside one put two looks one after the other don't see it and then un-see it
+    assert!(is_so(&[put, put_over, (1, 3, 3, Some(1), Some(1)), (2, 4, 4, Some(2), Some(2))]));
+    assert!(!is_so(&[put, put_over, (1, 3, 3, Some(2), Some(2)), (2, 4, 4, Some(1), Some(1))]));
+    // two insertions of an absent key aren't both its first
+    assert!(!is_so(&[(0, 0, 5, None, Some(1)), (1, 1, 4, None, Some(2))]));
+    assert!(is_so(&[(0, 0, 5, None, Some(1)), (1, 1, 4, None, Some(2)), (2, 2, 3, Some(2), None)]));
+}
+
+const PLANTED: Plan = Plan { keys: 4, fan: 4, calls: 500 };
+
+#[test]
+fn a_planted_stale_read_is_found() {
+    let (mut history, _) = recorded(PLANTED);
+    assert!(is_linearizable(&history, &opening(PLANTED)));
+    // a look, and a pointer that was replaced or removed before the look began
+    let (look, stale) = (0..history.len())
+        .find_map(|look| {
+            let seen = history[look];
+            let is_over = |call: &&Call| call.key == seen.key && call.end < seen.begin && call.saw != call.left;
+            let over = history.iter().find(is_over).filter(|over| over.saw.is_some())?;
+            (seen.saw == seen.left && seen.saw != over.saw).then_some((look, over.saw))
+        })
+        .unwrap();
+    history[look].saw = stale;
+    history[look].left = stale;
+    assert!(!is_linearizable(&history, &opening(PLANTED)));
+}
+
+#[test]
+fn a_planted_lost_update_is_found() {
+    let (mut history, _) = recorded(PLANTED);
+    // one call has replaced a pointer, another that of the first; now both say that they have replaced the same
+    let (later, lost) = history
+        .iter()
+        .filter(|first| first.saw.is_some() && first.left.is_some() && first.saw != first.left)
+        .find_map(|first| {
+            let is_next = |call: &Call| call.key == first.key && call.saw == first.left && call.left != call.saw;
+            history.iter().position(is_next).map(|later| (later, first.saw))
+        })
+        .unwrap();
+    history[later].saw = lost;
+    assert!(!is_linearizable(&history, &opening(PLANTED)));
+}
