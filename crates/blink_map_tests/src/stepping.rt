@@ -11,16 +11,6 @@ use std::process::Abort;
 use std::sync::Wait;
 use std::thread;
 
-// A map whose first session has an operation under way.
-#[derive(Drop)]
-struct Half {
-    map: Map,
-    begun: Pending,
-    other: Session,
-    ghost begun_here: { IsPendingOf map begun },
-    ghost others: { IsSessionOf map other },
-}
-
 // Begins the operation. A find has no steps, and is answered at once.
 fn begin(
     map: &Map,
@@ -81,12 +71,56 @@ pub(crate) fn apply_in_steps<R: Wait>(
     }
 }
 
+// Runs these operations by the session, each of which has this answer.
+fn apply_all<R: Wait + Abort>(rt: &R, map: &Map, session: &mut Session, steps: &[(Op, Answer)])
+    requires { IsSessionOf map.now session.old }
+    ensures { IsSessionOf map.now session.new }
+{
+    for &(op, answer) in steps {
+        assert_eq!(rt; apply(rt, map, session, op), Ok(answer));
+    }
+}
+
+// An operation that rests half-way, what the other session does meanwhile with which answers, and the operation's own answer.
+struct Interrupted {
+    begun: Op,
+    meanwhile: &'static [(Op, Answer)],
+    answer: Answer,
+}
+
 impl Two {
-    // The first session begins the operation, which isn't refused.
-    fn begin(self, rt: &impl Abort, op: Op) -> Half {
-        let Two { map, one, other } = self;
-        let begun = begin(&map, one, op).ok().expect(rt, "refused");
-        Half { map, begun, other }
+    // The first session begins the operation, and goes on when the second has done its own.
+    fn interrupt<R: Wait + Abort>(self, rt: &R, case: &Interrupted) -> Two {
+        let Two {
+            map,
+            one,
+            mut other,
+        } = self;
+        let Ok(begun) = begin(&map, one, case.begun) else {
+            panic!(rt; "refused");
+        };
+        apply_all(rt, &map, &mut other, case.meanwhile);
+        let (one, answer) = end(rt, &map, begun);
+        assert_eq!(rt; answer, case.answer);
+        Two { map, one, other }
+    }
+
+    // The first session begins the operation, and is dropped with it. The second does its own, and the map is closed.
+    fn lose_one<R: Wait + Abort>(
+        self,
+        rt: &R,
+        alloc: Global,
+        op: Op,
+        meanwhile: &[(Op, Answer)],
+    ) -> Result<Index, MapError> {
+        let Two {
+            map,
+            one,
+            mut other,
+        } = self;
+        let _lost = begin(&map, one, op).ok().expect(rt, "refused");
+        apply_all(rt, &map, &mut other, meanwhile);
+        map.close(alloc, Vec::new(alloc))
     }
 
     // The first session runs the operation in steps.
@@ -97,94 +131,58 @@ impl Two {
     }
 }
 
-impl Half {
-    // The second session runs an operation meanwhile.
-    fn apply<R: Wait>(&mut self, rt: &R, op: Op) -> Result<Answer, Full> {
-        let Half {
-            map,
-            begun: _,
-            other,
-        } = self;
-        apply(rt, map, other, op)
-    }
-
-    fn end<R: Wait>(self, rt: &R) -> (Two, Answer) {
-        let Half { map, begun, other } = self;
-        let (one, answer) = end(rt, &map, begun);
-        (Two { map, one, other }, answer)
-    }
-
-    // Drops the operation with its session, and closes the map.
-    fn close(self, alloc: Global) -> Result<Index, MapError> {
-        let Half {
-            map,
-            begun: _begun,
-            other: _other,
-        } = self;
-        map.close(alloc, Vec::new(alloc))
-    }
-}
-
-// An operation that rests half-way, what the other session does meanwhile, and what each is answered.
-struct Meanwhile {
-    begun: Op,
-    other: Op,
-    others: Answer,
-    ends: Answer,
-}
-
-const OF_ONE_KEY: [Meanwhile; 6] = [
-    Meanwhile {
+const OF_ONE_KEY: [Interrupted; 6] = [
+    Interrupted {
         begun: Op::Insert(7, 70),
-        other: Op::Insert(7, 71),
-        others: Answer::Inserted,
-        ends: Answer::Exists(71),
+        meanwhile: &[(Op::Insert(7, 71), Answer::Inserted)],
+        answer: Answer::Exists(71),
     },
-    Meanwhile {
+    Interrupted {
         begun: Op::Replace(7, 72),
-        other: Op::Replace(7, 73),
-        others: Answer::Replaced(71),
-        ends: Answer::Replaced(73),
+        meanwhile: &[(Op::Replace(7, 73), Answer::Replaced(71))],
+        answer: Answer::Replaced(73),
     },
-    Meanwhile {
+    Interrupted {
         begun: Op::Delete(7),
-        other: Op::Replace(7, 74),
-        others: Answer::Replaced(72),
-        ends: Answer::Removed(74),
+        meanwhile: &[(Op::Replace(7, 74), Answer::Replaced(72))],
+        answer: Answer::Removed(74),
     },
-    Meanwhile {
+    Interrupted {
         begun: Op::Delete(7),
-        other: Op::Insert(7, 75),
-        others: Answer::Inserted,
-        ends: Answer::Removed(75),
+        meanwhile: &[(Op::Insert(7, 75), Answer::Inserted)],
+        answer: Answer::Removed(75),
     },
-    Meanwhile {
+    Interrupted {
         begun: Op::Replace(7, 76),
-        other: Op::Delete(7),
-        others: Answer::Absent,
-        ends: Answer::Absent,
+        meanwhile: &[(Op::Delete(7), Answer::Absent)],
+        answer: Answer::Absent,
     },
-    Meanwhile {
+    Interrupted {
         begun: Op::Insert(7, 77),
-        other: Op::Find(7),
-        others: Answer::Absent,
-        ends: Answer::Inserted,
+        meanwhile: &[(Op::Find(7), Answer::Absent)],
+        answer: Answer::Inserted,
     },
 ];
 
 #[test]
 fn a_pending_operation_sees_what_was_done_to_its_key_meanwhile(rt: HostRuntime) {
-    let alloc = rt.alloc();
-    let mut two = Two::open(&rt, alloc, 200, 2000);
+    let mut two = Two::open(&rt, rt.alloc(), 200, 2000);
     for case in &OF_ONE_KEY {
-        let mut half = two.begin(&rt, case.begun);
-        assert_eq!(&rt; half.apply(&rt, case.other), Ok(case.others));
-        let (then, answer) = half.end(&rt);
-        assert_eq!(&rt; answer, case.ends);
-        two = then;
+        two = two.interrupt(&rt, case);
     }
     assert_eq!(&rt; two.find(7), Some(77));
 }
+
+// The leaf of the keys 1 to 4 is full. It is split while the insertion rests.
+const SPLIT_MEANWHILE: Interrupted = Interrupted {
+    begun: Op::Insert(5, 5),
+    meanwhile: &[
+        (Op::Insert(6, 6), Answer::Inserted),
+        (Op::Insert(7, 7), Answer::Inserted),
+        (Op::Find(5), Answer::Absent),
+    ],
+    answer: Answer::Inserted,
+};
 
 #[test]
 fn a_pending_insertion_lets_another_session_split_its_leaf(rt: HostRuntime) {
@@ -193,12 +191,7 @@ fn a_pending_insertion_lets_another_session_split_its_leaf(rt: HostRuntime) {
     for key in 1..5u64 {
         assert_eq!(&rt; two.insert(&rt, key, key), Ok(Answer::Inserted));
     }
-    let mut half = two.begin(&rt, Op::Insert(5, 5));
-    assert_eq!(&rt; half.apply(&rt, Op::Insert(6, 6)), Ok(Answer::Inserted));
-    assert_eq!(&rt; half.apply(&rt, Op::Insert(7, 7)), Ok(Answer::Inserted));
-    assert_eq!(&rt; half.apply(&rt, Op::Find(5)), Ok(Answer::Absent));
-    let (two, answer) = half.end(&rt);
-    assert_eq!(&rt; answer, Answer::Inserted);
+    let two = two.interrupt(&rt, &SPLIT_MEANWHILE);
     let index = two.close(alloc).expect(&rt, "not closed");
     for key in 1..8u64 {
         assert_eq!(&rt; index.find(key), Some(key));
@@ -208,12 +201,13 @@ fn a_pending_insertion_lets_another_session_split_its_leaf(rt: HostRuntime) {
 #[test]
 fn a_dropped_operation_leaves_no_latch_and_the_map_is_not_closed(rt: HostRuntime) {
     let alloc = rt.alloc();
-    let mut two = Two::open(&rt, alloc, 200, 2000);
-    assert_eq!(&rt; two.insert(&rt, 1, 10), Ok(Answer::Inserted));
-    let mut half = two.begin(&rt, Op::Insert(2, 20));
-    assert_eq!(&rt; half.apply(&rt, Op::Insert(3, 30)), Ok(Answer::Inserted));
-    assert_eq!(&rt; half.apply(&rt, Op::Find(2)), Ok(Answer::Absent));
-    assert_eq!(&rt; half.close(alloc).err(), Some(MapError::UnderWay));
+    let two = Two::open(&rt, alloc, 200, 2000);
+    let meanwhile = [
+        (Op::Insert(3, 30), Answer::Inserted),
+        (Op::Find(2), Answer::Absent),
+    ];
+    let closed = two.lose_one(&rt, alloc, Op::Insert(2, 20), &meanwhile);
+    assert_eq!(&rt; closed.err(), Some(MapError::UnderWay));
 }
 
 // With 44 rows the first insertion leaves 43, which are too few for another.
