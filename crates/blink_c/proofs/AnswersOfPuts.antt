@@ -15,7 +15,7 @@ use Rattle.blink_c.specs.Raw.{raw_answer}
 use Rattle.blink_c.specs.Sessions.{IsOfPut, raw_put}
 
 pub tried_nothing : (session : Session) → HasTried session session
-tried_nothing session = tried_in_vain session session (record { seen = refl; made = refl; same_member = record { same_table = refl; same_plan = refl }; same_places = refl })
+tried_nothing session = tried_in_vain session session (record { seen = refl; made = refl; same_member = record { same_table = refl; same_plan = refl; same_place = refl }; same_places = refl })
 
 no_insertion_replaces : (key pointer was : ℕ) (there : Option ℕ) → Replaced was ≡ answer_at (Insert key pointer) there → ⊥
 no_insertion_replaces key pointer was None is = cc
