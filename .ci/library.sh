@@ -36,11 +36,12 @@ printf 'The cat sees the dog, the dog sees a cat.\n' >"$work/text"
 
 ends_well "$top/libblink" --after-ci
 ends_well sh "$top/crates/blink_c/link/test.sh" --quick
-for program in word_count csv_index; do
+for program in word_count csv_index session_cache; do
     ends_well "$cc" -std=c11 -O2 -pthread -I "$top/include" "$top/examples/c/$program.c" "$top/out/libblink.a" -o "$work/$program"
 done
 ends_with '10 words, 5 different, "the" 3 times' "$work/word_count" "$work/text"
 ends_with '5: insert,5,50' "$work/csv_index" "$top/examples/first.csv" 5
+ends_with '200000 requests: each login has ended, or is in the cache' "$work/session_cache"
 
 if ! command -v cargo >/dev/null 2>&1; then
     echo "$0: no cargo, so rust/blink wasn't tried" >&2
@@ -49,3 +50,5 @@ fi
 export CARGO_TARGET_DIR="$work/cargo" CARGO_NET_OFFLINE=true
 ends_well cargo test --quiet --manifest-path "$top/rust/blink/Cargo.toml"
 ends_with "    1 a" cargo run --quiet --manifest-path "$top/examples/rust/Cargo.toml" -- "$work/text"
+ends_with '200000 requests: each login has ended, or is in the cache' \
+    cargo run --quiet --manifest-path "$top/examples/rust/Cargo.toml" --bin session_cache

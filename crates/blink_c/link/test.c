@@ -380,6 +380,34 @@ static void refuses_at_a_map(void) {
     blink_index_free(index);
 }
 
+// A put of a key that is there comes back before it replaces. Then nothing else can be done by its session.
+static void refuses_under_way(void) {
+    blink_index index = index_of(4, five, 6), closed = {NULL};
+    blink_map map = {NULL};
+    blink_session one = {NULL}, other = {NULL};
+    blink_answer answer = {9, 9};
+    CHECK(blink_map_open(&index, 300, 600, 2, 1, &map) == BLINK_DONE);
+    CHECK(blink_map_join(&map, &one) == BLINK_DONE && blink_map_join(&map, &other) == BLINK_DONE);
+    CHECK(blink_session_put(&one, 3, 33, 100, &answer) == BLINK_PENDING);
+    CHECK(blink_session_find(&one, 3, &answer) == BLINK_PENDING && blink_session_insert(&one, 9, 90, 100, &answer) == BLINK_PENDING);
+    CHECK(blink_session_delete(&one, 3, 100, &answer) == BLINK_PENDING && blink_session_put(&one, 9, 90, 100, &answer) == BLINK_PENDING);
+    CHECK(blink_session_replace(&one, 3, 34, 100, &answer) == BLINK_PENDING);
+    CHECK(blink_session_tell(&one, &other) == BLINK_PENDING && blink_session_tell(&other, &one) == BLINK_PENDING);
+    CHECK(answer.kind == 9 && is(changes(&other, BLINK_FIND, 3, NONE), BLINK_FOUND, 30));
+    CHECK(blink_session_advance(&one, 1, &answer) == BLINK_DONE && is(answer, BLINK_REPLACED, 30));
+    CHECK(blink_session_advance(&one, 1, &answer) == BLINK_IDLE && is(changes(&one, BLINK_FIND, 9, NONE), BLINK_ABSENT, 0));
+    // where another session deletes the key between, the put inserts it; where it inserts it between, the put replaces once more
+    CHECK(blink_session_put(&one, 4, 44, 100, &answer) == BLINK_PENDING && is(changes(&other, BLINK_DELETE, 4, NONE), BLINK_REMOVED, 40));
+    CHECK(blink_session_advance(&one, 1, &answer) == BLINK_PENDING && is(changes(&other, BLINK_INSERT, 4, 45), BLINK_INSERTED, 0));
+    CHECK(blink_session_advance(&one, 1, &answer) == BLINK_PENDING && blink_session_advance(&one, 1, &answer) == BLINK_DONE);
+    CHECK(is(answer, BLINK_REPLACED, 45) && is(changes(&other, BLINK_FIND, 4, NONE), BLINK_FOUND, 44));
+    // a session that is freed under way
+    CHECK(blink_session_put(&one, 3, 35, 100, &answer) == BLINK_PENDING);
+    blink_session_free(one), blink_session_free(other);
+    CHECK(blink_map_close(map, &closed) == BLINK_LOST_UNDER_WAY && closed.at == NULL);
+    blink_index_free(index);
+}
+
 enum { SESSIONS = 8, TURNS = 4000, SHARED = 97 };
 
 // What the threads of a map share: the map, whose handle one thread at a time uses, and for each key how often it was inserted and
@@ -523,6 +551,7 @@ int main(void) {
     shares_a_table();
     changes_a_map();
     refuses_at_a_map();
+    refuses_under_way();
     shares_a_map();
     long requests = 0;
     do refused_at = requests++;

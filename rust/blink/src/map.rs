@@ -254,9 +254,11 @@ impl Session<'_> {
         let mut answer = RawAnswer::NONE;
         let mut code = begin(&mut self.handle, &mut answer);
         while code == sys::PENDING {
-            thread::yield_now();
             // SAFETY: as in `get`; an operation is under way.
             code = unsafe { sys::blink_session_advance(&mut self.handle, TRIES, &mut answer) };
+            if code == sys::PENDING {
+                thread::yield_now();
+            }
         }
         Error::check(code)?;
         Ok(Answer::of(answer))

@@ -1,0 +1,227 @@
+//! A map and its sessions: one thread beside a plain map, two threads, refusals, and a map that is full.
+
+use blink::{Answer, Entry, Error, Index, Left, Map, Room, Session};
+use std::collections::BTreeMap;
+use std::thread;
+
+fn map_over(index: &Index, pages: u32, rows: u32, sessions: u32) -> Map {
+    Map::open(index, Room { pages, rows, sessions }).unwrap()
+}
+
+fn next_random(state: &mut u64) -> u64 {
+    *state = state.wrapping_mul(6_364_136_223_846_793_005).wrapping_add(1_442_695_040_888_963_407);
+    *state >> 33
+}
+
+// One operation at the session and at the plain map, which answer alike.
+fn both(session: &mut Session, plain: &mut BTreeMap<u64, u64>, kind: u64, key: u64, pointer: u64) {
+    let kept = plain.get(&key).copied();
+    let expected = |some: fn(u64) -> Answer, none: Answer| Ok(kept.map_or(none, some));
+    match kind {
+        0 => {
+            assert_eq!(session.insert(key, pointer), expected(Answer::Exists, Answer::Inserted));
+            plain.entry(key).or_insert(pointer);
+        }
+        1 => {
+            assert_eq!(session.remove(key), expected(Answer::Removed, Answer::Absent));
+            plain.remove(&key);
+        }
+        2 => {
+            assert_eq!(session.replace(key, pointer), expected(Answer::Replaced, Answer::Absent));
+            plain.entry(key).and_modify(|there| *there = pointer);
+        }
+        3 => assert_eq!(session.put(key, pointer), Ok(plain.insert(key, pointer))),
+        _ => assert_eq!(session.get(key), kept),
+    }
+}
+
+#[test]
+fn one_thread_answers_as_a_plain_map() {
+    for fan in [4, 7, 32] {
+        let before: Vec<Entry> = (0..300).step_by(3).map(|key| Entry { key, pointer: key * 2 }).collect();
+        let index = Index::from_entries(fan, &before).unwrap();
+        let mut plain: BTreeMap<u64, u64> = before.iter().map(|entry| (entry.key, entry.pointer)).collect();
+        let map = map_over(&index, 10_000, 40_000, 3);
+        // three sessions by turns: each sees all that the others have done, since one call ends before the next begins
+        let mut sessions = [map.session().unwrap(), map.session().unwrap(), map.session().unwrap()];
+        let mut random = u64::from(fan);
+        for pointer in 0..20_000 {
+            let (which, kind) = (next_random(&mut random) % 3, next_random(&mut random) % 5);
+            let key = next_random(&mut random) % 300;
+            both(&mut sessions[which as usize], &mut plain, kind, key, pointer);
+        }
+        drop(sessions);
+        let closed = map.close().unwrap();
+        assert!(closed.scan(..).eq(plain.into_iter().map(Entry::from)));
+        assert_eq!(closed.fan(), fan);
+        assert!(index.scan(..).eq(before));
+    }
+}
+
+#[test]
+fn the_greatest_keys_and_pointers() {
+    let map = map_over(&Index::new(4).unwrap(), 100, 300, 1);
+    let mut session = map.session().unwrap();
+    for key in [0, u64::MAX, u64::MAX - 1] {
+        assert_eq!(session.put(key, u64::MAX), Ok(None));
+        assert_eq!(session.replace(key, 0), Ok(Answer::Replaced(u64::MAX)));
+        assert_eq!(session.put(key, key), Ok(Some(0)));
+    }
+    drop(session);
+    assert!(map.close().unwrap().scan(..).eq([0, u64::MAX - 1, u64::MAX].map(|key| Entry { key, pointer: key })));
+}
+
+#[test]
+fn two_threads_change_the_same_keys() {
+    const KEYS: u64 = 50;
+    const TURNS: u64 = 30_000;
+    let map = map_over(&Index::new(4).unwrap(), 70_000, 100_000, 2);
+    // how often each thread has inserted a key, less how often it has removed it
+    let work = |thread: u64| {
+        let mut session = map.session().unwrap();
+        let mut random = thread;
+        let mut there = vec![0i64; KEYS as usize];
+        for turn in 0..TURNS {
+            let key = next_random(&mut random) % KEYS;
+            match next_random(&mut random) % 4 {
+                0 => there[key as usize] += i64::from(session.insert(key, turn) == Ok(Answer::Inserted)),
+                1 => there[key as usize] += i64::from(session.put(key, turn) == Ok(None)),
+                2 => there[key as usize] -= i64::from(session.remove(key).unwrap() != Answer::Absent),
+                _ => _ = session.replace(key, turn).unwrap(),
+            }
+        }
+        there
+    };
+    let (one, other) = thread::scope(|scope| {
+        let workers = [1, 2].map(|thread| scope.spawn(move || work(thread)));
+        let [one, other] = workers.map(|worker| worker.join().unwrap());
+        (one, other)
+    });
+    let closed = map.close().unwrap();
+    for key in 0..KEYS {
+        assert_eq!(one[key as usize] + other[key as usize], i64::from(closed.find(key).is_some()), "key {key}");
+    }
+}
+
+// Inserts ascending keys by turns of all sessions until each is refused, and returns how many there are.
+fn fill(sessions: &mut [Session]) -> u64 {
+    let mut next = 0;
+    loop {
+        let before = next;
+        for session in &mut *sessions {
+            match session.insert(next, next + 7) {
+                Ok(answer) => {
+                    assert_eq!(answer, Answer::Inserted);
+                    next += 1;
+                }
+                Err(error) => assert_eq!(error, Error::Full),
+            }
+        }
+        if before == next {
+            return next;
+        }
+    }
+}
+
+// All entries are there, also after each session is full, and the refused change nothing.
+fn fills_and_loses_nothing(pages: u32, rows: u32) -> (u64, Left) {
+    let map = map_over(&Index::new(4).unwrap(), pages, rows, 3);
+    let mut sessions = [map.session().unwrap(), map.session().unwrap(), map.session().unwrap()];
+    let count = fill(&mut sessions);
+    for session in &mut sessions {
+        assert_eq!(session.insert(count, 0), Err(Error::Full));
+        assert_eq!(session.put(0, 0), Err(Error::Full));
+        assert_eq!((session.get(0), session.get(count)), (Some(7), None));
+    }
+    let left = map.room();
+    drop(sessions);
+    let closed = map.close().unwrap();
+    assert!(closed.scan(..).eq((0..count).map(|key| Entry { key, pointer: key + 7 })));
+    (count, left)
+}
+
+#[test]
+fn a_map_without_page_numbers_is_full() {
+    let (count, left) = fills_and_loses_nothing(3_000, 100_000);
+    assert!(count > 1_000 && left.pages < 22 && left.rows >= 44, "{count} {left:?}");
+}
+
+#[test]
+fn a_map_without_rows_is_full() {
+    let (count, left) = fills_and_loses_nothing(100_000, 3_000);
+    assert!(count > 300 && left.rows < 44 && left.pages >= 22, "{count} {left:?}");
+}
+
+#[test]
+fn a_full_map_is_changed_until_its_last_row() {
+    let index = Index::from_entries(4, &[(1, 10), (2, 20)].map(Entry::from)).unwrap();
+    let map = map_over(&index, 0, 3, 1);
+    let mut session = map.session().unwrap();
+    assert_eq!(session.insert(3, 30), Err(Error::Full));
+    assert_eq!(session.replace(1, 11), Ok(Answer::Replaced(10)));
+    assert_eq!(session.remove(2), Ok(Answer::Removed(20)));
+    assert_eq!(session.replace(1, 12), Ok(Answer::Replaced(11)));
+    assert_eq!(session.remove(1), Err(Error::Full));
+    assert_eq!(session.replace(1, 13), Err(Error::Full));
+    assert_eq!((session.get(1), session.get(2), map.room()), (Some(12), None, Left { pages: 0, rows: 0 }));
+    drop(session);
+    assert!(map.close().unwrap().scan(..).eq([(1, 12)].map(Entry::from)));
+}
+
+#[test]
+fn a_session_of_another_map_is_refused() {
+    let index = Index::new(4).unwrap();
+    let (one, other) = (map_over(&index, 22, 44, 2), map_over(&index, 22, 44, 2));
+    let (mut ones, mut others) = (one.session().unwrap(), other.session().unwrap());
+    ones.insert(1, 10).unwrap();
+    assert_eq!(ones.tell(&mut others), Err(Error::Foreign));
+    assert_eq!(ones.tell(&mut one.session().unwrap()), Ok(()));
+    assert_eq!(others.get(1), None);
+}
+
+#[test]
+fn a_place_is_taken_again() {
+    let map = map_over(&Index::new(4).unwrap(), 22, 44, 2);
+    let one = map.session().unwrap();
+    let mut other = map.session().unwrap();
+    assert_eq!(map.session().unwrap_err(), Error::NoPlace);
+    drop(one);
+    let mut again = map.session().unwrap();
+    // the session before had drawn nothing, so this one draws what there is
+    assert_eq!(again.insert(1, 10), Ok(Answer::Inserted));
+    assert_eq!(other.insert(2, 20), Err(Error::Full));
+    // the next session at the place goes on with what was drawn
+    drop(again);
+    assert_eq!(map.session().unwrap().remove(1), Ok(Answer::Removed(10)));
+}
+
+#[test]
+fn rooms_that_are_refused() {
+    let index = Index::from_entries(4, &[(1, 10)].map(Entry::from)).unwrap();
+    let open = |pages, sessions| Map::open(&index, Room { pages, rows: 0, sessions }).map(drop);
+    assert_eq!(open(u32::MAX, 0), Err(Error::BadSessions));
+    assert_eq!(open(0, 257), Err(Error::BadSessions));
+    assert_eq!(open(1_048_575, 256), Err(Error::TooLarge));
+    assert_eq!(open(0, 256), Ok(()));
+}
+
+#[test]
+fn a_leaked_session_is_missing() {
+    let map = map_over(&Index::new(4).unwrap(), 0, 0, 1);
+    std::mem::forget(map.session().unwrap());
+    assert_eq!(map.close().unwrap_err(), Error::Missing);
+}
+
+#[test]
+fn a_session_moves_to_another_thread() {
+    let map = map_over(&Index::new(4).unwrap(), 44, 88, 2);
+    let mut session = map.session().unwrap();
+    let mut moved = map.session().unwrap();
+    thread::scope(|scope| {
+        scope.spawn(move || assert_eq!(moved.insert(1, 10), Ok(Answer::Inserted)));
+        scope.spawn(|| assert!(map.session().is_ok() || map.room().rows <= 88));
+    });
+    assert_eq!(session.get(1), Some(10));
+    drop(session);
+    assert_eq!(map.close().unwrap().len(), 1);
+}
