@@ -219,7 +219,8 @@ fn a_session_moves_to_another_thread() {
     let mut moved = map.session().unwrap();
     thread::scope(|scope| {
         scope.spawn(move || assert_eq!(moved.insert(1, 10), Ok(Answer::Inserted)));
-        scope.spawn(|| assert!(map.session().is_ok() || map.room().rows <= 88));
+        // meanwhile another thread asks for a place: there is one, or there is none
+        scope.spawn(|| assert!(matches!(map.session(), Ok(_) | Err(Error::NoPlace))));
     });
     assert_eq!(session.get(1), Some(10));
     drop(session);
