@@ -4,11 +4,26 @@
 //! contract (crates/blink_c of the repository has those of the calls). This crate is a thin layer of Rust over it, which isn't
 //! proved but keeps by its types what `include/blink.h` asks of a caller. It needs `libblink.a`, which `./libblink` builds.
 //!
+//! ```
+//! use blink::{Index, Map, Room};
+//!
+//! let map = Map::open(&Index::new(32)?, Room { pages: 5_000, rows: 20_000, sessions: 2 })?;
+//! std::thread::scope(|scope| {
+//!     for thread in 0..2 {
+//!         let mut session = map.session().unwrap();
+//!         scope.spawn(move || (0..1000).for_each(|key| _ = session.put(key, key * 10 + thread).unwrap()));
+//!     }
+//! });
+//! let index = map.close()?;
+//! assert_eq!((index.len(), index.find(7).unwrap() / 10), (1000, 7));
+//! # Ok::<(), blink::Error>(())
+//! ```
+//!
 //! - [`Index`] is a map from 64-bit keys to 64-bit record pointers, for one thread at a time.
-//! - [`Table`] shares the entries of an index among threads. Each has a [`Pass`] with keys of its own, inserts, deletes and replaces
-//!   these, and looks at all.
+//! - [`Map`] shares the entries of an index among threads. Any of them changes any key, each by a [`Session`].
+//! - [`Table`] shares them too, and each key has an owner: a [`Pass`] has keys of its own, inserts, deletes and replaces these, and
+//!   looks at all.
 //! - [`Pending`] is an operation of a pass that has begun and waits for nobody.
-//! - [`Map`] shares the entries of an index among threads too, and any of them changes any key, each by a [`Session`].
 #![warn(missing_docs)]
 
 mod error;
