@@ -9,6 +9,7 @@
 //!                        tells again what was measured, of the file of all figures
 //! beside small           runs a little of every workload, to see that the answers are right, and prints nothing
 //! beside planted         the same with one wrong sum, which it has to find
+//! beside life            measures the life of a map: joining, opening, and what an insertion uses up
 //! beside side NAME FILE  what a process of its own does: runs the cases of a file by this side
 //! beside batch ENTRIES   a batch of insertions into a BTreeMap, as the program `inside` runs one
 //! beside script make|run a script of 40,000 rows, or the answers to one from a BTreeMap; `make small` has 400
@@ -102,6 +103,10 @@ fn main() -> Result<(), Box<dyn Error>> {
     let words: Vec<&str> = words.iter().map(String::as_str).collect();
     match words.as_slice() {
         [] => all(None),
+        ["life"] => {
+            ours::life();
+            Ok(())
+        }
         ["small"] => small(false),
         ["planted"] => small(true),
         ["side", name, file] => side(name, Path::new(file)),

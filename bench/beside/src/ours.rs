@@ -211,6 +211,8 @@ pub struct ByMap<const FAN: u8> {
     index: Index,
     entries: Arc<Vec<(u64, u64)>>,
     map: Option<Map>,
+    opened: u64,
+    closed: u64,
 }
 
 impl Handle for Session<'_> {
@@ -241,8 +243,10 @@ impl<const FAN: u8> Side for ByMap<FAN> {
             Some(before) if Arc::ptr_eq(&before.entries, &case.entries) => before.index,
             _ => grown(FAN, &case.entries),
         };
+        let start = Instant::now();
         let map = Some(Map::open(&index, room_for(case)).expect("a map"));
-        ByMap { index, entries: case.entries.clone(), map }
+        let opened = start.elapsed().as_nanos() as u64;
+        ByMap { index, entries: case.entries.clone(), map, opened, closed: 0 }
     }
 
     fn run(&mut self, phase: &Phase) -> Option<(u64, u64)> {
@@ -258,7 +262,42 @@ impl<const FAN: u8> Side for ByMap<FAN> {
     }
 
     fn contents(&mut self, keys: &[u64]) -> Vec<Option<u64>> {
+        let start = Instant::now();
         let index = self.map.take().expect("an open map").close().expect("an index");
+        self.closed = start.elapsed().as_nanos() as u64;
         index.find_many(keys)
     }
+
+    fn beside(&self) -> Vec<(&'static str, u64)> {
+        vec![("open", self.opened), ("close", self.closed)]
+    }
+}
+
+/// Measures what the tables of workloads don't have, and prints it: joining and leaving, how many insertions of random keys a map takes
+/// by its page numbers, and what opening costs for each insertion that a map has room for.
+pub fn life() {
+    let map = Map::open(&Index::new(32).expect("an index"), Room { pages: 0, rows: 0, sessions: 2 }).expect("a map");
+    const JOINS: u32 = 1_000_000;
+    let start = Instant::now();
+    (0..JOINS).for_each(|_| drop(map.session().expect("a place")));
+    println!("joining and leaving: {} ns", start.elapsed().as_nanos() as u32 / JOINS);
+    const INSERTIONS: u32 = 1_000_000;
+    let entries: Vec<(u64, u64)> = (0..40_000).map(|number| (scattered(number), number)).collect();
+    let index = grown(32, &entries);
+    let room = Room { pages: 100_000, rows: INSERTIONS + INSERTIONS / 4, sessions: 1 };
+    let start = Instant::now();
+    let map = Map::open(&index, room).expect("a map");
+    println!("opening: {} ns for each of {INSERTIONS} insertions", start.elapsed().as_nanos() as u32 / INSERTIONS);
+    let mut session = map.session().expect("a session");
+    let before = map.room();
+    (0..u64::from(INSERTIONS)).for_each(|number| _ = session.insert(scattered(40_000 + number), number).expect("room"));
+    let left = map.room();
+    let (pages, rows) = (before.pages - left.pages, before.rows - left.rows);
+    println!("each insertion: {:.4} page numbers and {:.3} rows", pages as f64 / f64::from(INSERTIONS), rows as f64 / f64::from(INSERTIONS));
+    println!("1,048,575 page numbers are enough for {} million", u64::from(INSERTIONS) * 1_048_575 / pages / 1_000_000);
+}
+
+// A key of each number, in no order.
+fn scattered(number: u64) -> u64 {
+    number.wrapping_mul(0x9E37_79B9_7F4A_7C15)
 }

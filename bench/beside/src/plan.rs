@@ -46,7 +46,7 @@ pub const REPLACE: &str = "A replacement";
 pub const NEAR: &str = "80 + 10 + 10, keys side by side";
 pub const LEAF: &str = "50 finds, 50 replacements, all in one leaf";
 pub const LONG: &str = "A million changes: 96 replacements, 2 insertions, 2 deletions";
-pub const OPEN: &str = "Opening a table for 20,000 insertions and as many deletions, ms";
+pub const OPEN: &str = "Opening it for 20,000 insertions and as many deletions, ms";
 pub const CLOSE: &str = "Closing it, ms";
 
 /// The tables in the order in which they are told.
