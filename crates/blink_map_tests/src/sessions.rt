@@ -1,6 +1,6 @@
 //! What sessions of one map see of each other.
 use crate::shared::Two;
-use blink_batch::Answer;
+use blink_batch::{Answer, Op};
 use blink_index::Index;
 use blink_map::{Full, Map, MapError, Room};
 use std::process::Abort;
@@ -59,6 +59,34 @@ fn a_small_pool_is_used_up(rt: HostRuntime) {
     let mut two = two.turn();
     assert_eq!(&rt; two.delete(&rt, 1), Err(Full));
     assert_eq!(&rt; two.find(1), None);
+}
+
+#[test]
+fn an_operation_goes_on_without_a_wait(rt: HostRuntime) {
+    let alloc = rt.alloc();
+    let Two {
+        map,
+        one,
+        mut other,
+    } = Two::open(&rt, alloc, 22, 45);
+    let Ok(pending) = map.begin(one, Op::Insert(7, 70)) else {
+        panic!(&rt; "full")
+    };
+    let Ok((_one, answer)) = map.advance(pending, 1) else {
+        panic!(&rt; "nobody has the page")
+    };
+    assert_eq!(&rt; answer, Answer::Inserted);
+    assert_eq!(&rt; map.find(&mut other, 7), Some(70));
+    let Err((other, Full)) = map.begin(other, Op::Insert(8, 80)) else {
+        panic!(&rt; "not full")
+    };
+    let Ok(pending) = map.begin(other, Op::Replace(7, 71)) else {
+        panic!(&rt; "full")
+    };
+    let Ok((_other, answer)) = map.advance(pending, 1) else {
+        panic!(&rt; "nobody has the page")
+    };
+    assert_eq!(&rt; answer, Answer::Replaced(70));
 }
 
 #[test]
