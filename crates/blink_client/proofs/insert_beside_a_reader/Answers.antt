@@ -6,7 +6,7 @@ use Rattle.std.specs.declared.result.Result.{Result}
 use Rattle.std.specs.declared.result.Result.TheVariants.{Ok, Err}
 use Rattle.blink_batch.specs.declared.Op.TheVariants.{Insert}
 use Rattle.blink_batch.specs.{pointer_of}
-use Rattle.blink_live.specs.{changes_made, last_state, states_of, IsChangedBy, keys_of, opening_of, own_changes_of, seen_changes_of, seen_of}
+use Rattle.blink_live.specs.{changes_made, last_state, states_of, IsChangedBy, keys_of, opening_of, own_changes_of, place_of, seen_changes_of, seen_of}
 use Rattle.blink_live.proofs.Offered.{after-exactly, after-last_state, own_changes-own_key, prefix_of_prefix, states_of-prefix}
 use Rattle.blink_client.proofs.insert_beside_a_reader.Goals as goal
 
@@ -28,7 +28,7 @@ returns g c =
     let mine : Contains (keys_of c.side_by_side-inserted.new.one) key = subst (λ (keys : List ℕ). Contains keys key) (sym changed.same_keys) c.requires.own_key in
     let own : own_changes_of c.side_by_side-inserted.new.one key ≡ Some c.args.pointer ∷ [] =
     own_changes-own_key (Insert key c.args.pointer) c.args.one.now c.side_by_side-inserted.new.one changed
-    ∙ (ap (λ k. own_changes_of c.args.one.now key ++ map (λ change. change.pointer) (changes_made (Insert key c.args.pointer) k)) c.requires.new_key
+    ∙ (ap (λ k. own_changes_of c.args.one.now key ++ map (λ change. change.pointer) (changes_made (place_of c.args.one.now) (Insert key c.args.pointer) k)) c.requires.new_key
     ∙ ap (λ (states : List (Option ℕ)). states ++ Some c.args.pointer ∷ []) c.requires.none_made) in
     let no_more : IsPrefix (seen_changes_of c.glance-told.new.pass key) (own_changes_of c.side_by_side-inserted.new.one key) =
     subst (IsPrefix (seen_changes_of c.glance-told.new.pass key)) (ap (states_of key) c.tell.ensures.from.same_changes)
