@@ -182,6 +182,8 @@ impl<const FAN: u8> Side for ByTable<FAN> {
                 give_back(table, passes.into_iter().map(|own| own.0));
                 Some(told)
             }
+            // A pass changes its own keys alone.
+            Mode::Any if phase.changes() => None,
             Mode::Any => {
                 let deal = |_: &Vec<Step>| Any(table.deal(&[], 0, 0).expect("a pass"));
                 let mut passes: Vec<Any> = phase.threads.iter().map(deal).collect();

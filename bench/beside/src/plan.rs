@@ -42,6 +42,7 @@ pub const LOAD: &str = "An insertion into an empty map";
 pub const MIXED_80: &str = "80 finds, 10 insertions, 10 deletions";
 pub const MIXED_90: &str = "90 finds, 5 insertions, 5 deletions";
 pub const MIXED_50: &str = "50 finds, 25 insertions, 25 deletions";
+pub const ALL: &str = "80 finds, 20 replacements, all threads on all keys";
 pub const REPLACE: &str = "A replacement";
 pub const NEAR: &str = "80 + 10 + 10, keys side by side";
 pub const LEAF: &str = "50 finds, 50 replacements, all in one leaf";
@@ -50,8 +51,8 @@ pub const OPEN: &str = "Opening it for 20,000 insertions and as many deletions, 
 pub const CLOSE: &str = "Closing it, ms";
 
 /// The tables in the order in which they are told.
-pub const WORKLOADS: [&str; 16] = [
-    FIND, GLANCE, MANY, SCAN_10, SCAN_1000, SCAN_ALL, LOAD, MIXED_80, MIXED_90, MIXED_50, REPLACE, NEAR, LEAF, LONG, OPEN, CLOSE,
+pub const WORKLOADS: [&str; 17] = [
+    FIND, GLANCE, MANY, SCAN_10, SCAN_1000, SCAN_ALL, LOAD, MIXED_80, MIXED_90, MIXED_50, ALL, REPLACE, NEAR, LEAF, LONG, OPEN, CLOSE,
 ];
 
 const THREADS: [usize; 4] = [1, 2, 4, 8];
@@ -184,8 +185,14 @@ fn ascending(group: &mut Group, size: usize, entries: &str, scale: Scale) {
     group.add(model, entries, &rows);
 }
 
-// Where threads meet: in the same leaves, and all in one.
+// Where threads meet: at all keys, in the same leaves, and all in one.
 fn meeting(group: &mut Group, scale: Scale) {
+    let all = Model::new(&Keys::random(scale.of(40_000), 0));
+    for threads in THREADS {
+        let mut model = all.again();
+        let rows = [(ALL, Figure::Phase(model.by_all(80, threads, scale.of(200_000))))];
+        group.add(model, "40,000", &rows);
+    }
     let near = Model::new(&Keys::side_by_side(1_000, 250));
     group.add_mixes(&near, "1,000", NEAR, Mix::changes(80, 10, 10), scale.of(100_000), &THREADS);
     let leaf = Model::new(&Keys::side_by_side(16, 0));

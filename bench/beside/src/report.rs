@@ -1,6 +1,6 @@
 //! The figures as tables: for people in Markdown, and whole, with the least and the greatest, a line each.
 
-use crate::plan::{FIND, GLANCE, LOAD, LONG, MIXED_80, MIXED_90, REPLACE, SCAN_1000, WORKLOADS};
+use crate::plan::{ALL, FIND, GLANCE, LOAD, LONG, MIXED_80, MIXED_90, REPLACE, SCAN_1000, WORKLOADS};
 use crate::rounds::Measured;
 use std::error::Error;
 use std::fmt::Write;
@@ -188,7 +188,7 @@ pub fn markdown(report: &Report) -> String {
 /// The ratios on 40,000 entries, inserted at random, of the workloads that most callers have.
 pub fn summary(report: &Report) -> String {
     let mut text = String::from("To the best peer|map, 1 thread|2|4|8|index\n|---|---|---|---|---|---|\n");
-    for workload in [FIND, GLANCE, SCAN_1000, LOAD, MIXED_80, MIXED_90, REPLACE, LONG] {
+    for workload in [FIND, GLANCE, SCAN_1000, LOAD, MIXED_80, MIXED_90, ALL, REPLACE, LONG] {
         let of = |threads| {
             let is_it = |line: &&Line| line.workload == workload && line.entries == "40,000" && line.threads == threads;
             report.lines.iter().find(is_it).map_or([None; 3], |line| line.ratios(&report.sides))

@@ -259,6 +259,25 @@ impl Model {
         self.push(Mode::Scan, vec![steps], sum)
     }
 
+    /// Finds and replacements of any key by all threads, so many finds of 100. A replacement stores the pointer that the key has, so the
+    /// answers are known whoever comes first.
+    pub fn by_all(&mut self, finds: u64, threads: usize, count: usize) -> usize {
+        let mut sum = 0u64;
+        let lanes = (0..threads)
+            .map(|_| {
+                (0..count / threads)
+                    .map(|_| {
+                        let (key, pointer) = self.entries[self.random.below(self.entries.len())];
+                        sum = sum.wrapping_add(pointer);
+                        let kind = if (self.random.below(100) as u64) < finds { FIND } else { REPLACE };
+                        Step { kind, key, pointer: if kind == FIND { 0 } else { pointer } }
+                    })
+                    .collect()
+            })
+            .collect();
+        self.push(Mode::Any, lanes, sum)
+    }
+
     /// Operations of a mix, each thread on keys of its own. A find, a deletion and a replacement are of a key that is there, and an
     /// insertion of one that isn't; where a thread has none of these, it does the opposite.
     pub fn mixed(&mut self, mix: Mix, threads: usize, count: usize) -> usize {
