@@ -1,5 +1,5 @@
 /*
- * blink.h: a proved B-link tree index, and a table and a map that threads share without a lock, for C and C++.
+ * blink.h: a proved B-link tree index, and a table and a map that threads share without a global lock, for C and C++.
  *
  * Link with libblink.a or libblink.so, which ./libblink builds. What the comment of a function says of its results, and of what
  * it changes, is proved in crates/blink_c, unless it says "tested". Of all functions it is tested alone that memory is refused

@@ -1,4 +1,4 @@
-//! A proved B-link tree index, and a table and a map that threads share without a lock.
+//! A proved B-link tree index, and a table and a map that threads share without a global lock.
 //!
 //! What happens behind these types is proved: `libblink` is built from Rattle code, whose every function is proved to meet its
 //! contract (crates/blink_c of the repository has those of the calls). This crate is a thin layer of Rust over it, which isn't

@@ -30,7 +30,7 @@ pub struct Left {
     pub rows: u64,
 }
 
-/// The entries of an index, which threads change together without a lock, each any key by a [`Session`].
+/// The entries of an index, which threads change together without a global lock, each any key by a [`Session`].
 ///
 /// There is one list of changes of all keys. Each call of a session answers as on the entries after a part of the list, which goes on
 /// from all that the session had seen; its own change follows there at once. A session never un-sees a change that it has seen.

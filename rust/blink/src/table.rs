@@ -7,7 +7,7 @@ use std::fmt;
 use std::sync::atomic::{AtomicU64, Ordering};
 use std::thread;
 
-/// The entries of an index, which threads change together without a lock, each by a [`Pass`].
+/// The entries of an index, which threads change together without a global lock, each by a [`Pass`].
 ///
 /// ```
 /// use blink::{Answer, Index, Table};
