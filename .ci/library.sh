@@ -36,8 +36,10 @@ printf 'The cat sees the dog, the dog sees a cat.\n' >"$work/text"
 
 ends_well "$top/libblink" --after-ci
 ends_well sh "$top/crates/blink_c/link/test.sh" --quick
+ends_well sh "$top/include/install.sh" "" "$work/installed"
 for program in word_count csv_index session_cache; do
-    ends_well "$cc" -std=c11 -O2 -pthread -I "$top/include" "$top/examples/c/$program.c" "$top/out/libblink.a" -o "$work/$program"
+    ends_well "$cc" -std=c11 -O2 -pthread -I "$work/installed/include" "$top/examples/c/$program.c" "$work/installed/lib/libblink.a" \
+        -o "$work/$program"
 done
 ends_with '10 words, 5 different, "the" 3 times' "$work/word_count" "$work/text"
 ends_with '5: insert,5,50' "$work/csv_index" "$top/examples/first.csv" 5

@@ -1,0 +1,28 @@
+# The doors of this folder by the names that C and Rust users look for. Each goal calls what README.md names.
+PREFIX ?= /usr/local
+
+.PHONY: lib blink show test install gate
+
+# The library: out/libblink.a, out/libblink.so and out/blink.pc. It is proved first.
+lib:
+	./libblink
+
+# The programs, out/blink and out/blink-show. Each is proved first.
+blink:
+	./blink --help >/dev/null
+
+show:
+	./blink-show --help >/dev/null
+
+# What links the library, in C and in Rust.
+test:
+	./libblink --test
+	cargo test --quiet --manifest-path rust/blink/Cargo.toml
+
+# The header, both libraries and blink.pc into PREFIX, below DESTDIR where that is set: all of them, or nothing.
+install: lib
+	sh include/install.sh "$(DESTDIR)" "$(PREFIX)"
+
+# Every proof, edit, test and program.
+gate:
+	sh .ci/run
