@@ -96,7 +96,7 @@ enum {
     BLINK_NO_PLACE = 103,          /* each place for a session was taken */
     BLINK_LOST_UNDER_WAY = 104,    /* a session's handle was freed with an operation under way */
     BLINK_FULL = 105,              /* the session has too few rows or page numbers left, and the map's pool too */
-    BLINK_SESSION_MISSING = 106    /* the handle of a session isn't freed */
+    BLINK_SESSION_MISSING = 106    /* the handle of a session, or another handle of the map, isn't freed */
 };
 
 /* The greatest number of operations that run at once. */
@@ -230,8 +230,8 @@ void blink_pass_free(blink_pass pass);
  * seen. Tested: a call sees every change of a call that ended before it began. In the end every handle of a session is freed, and
  * the map is closed to an index.
  *
- * Only blink_map_open, blink_map_join and blink_map_close take memory. Of one map's calls these and blink_map_room use the map's
- * handle; those of sessions don't.
+ * Only blink_map_open, blink_map_share, blink_map_join and blink_map_close take memory. Of one map's calls these and blink_map_room
+ * use a handle of the map; those of sessions don't.
  */
 
 /* Opens a map over the index, which stays as it is, with places for 1 to 256 sessions. A split of a page takes one of `pages` page
@@ -243,6 +243,10 @@ void blink_pass_free(blink_pass pass);
  * BLINK_MAP_NO_MEMORY. */
 uint8_t blink_map_open(blink_index *index, uint32_t pages, uint32_t rows, uint32_t sessions, uint64_t number, blink_map *out);
 
+/* Gives one more handle of the map. Threads that each have one call at the same time: one joins without waiting for another. It takes
+ * memory for the handle alone. Refused: BLINK_MAP_NO_MEMORY. */
+uint8_t blink_map_share(blink_map *map, blink_map *out);
+
 /* Gives a session. It takes memory for the handle alone. Refused: BLINK_NO_PLACE; BLINK_MAP_NO_MEMORY. Tested: it is BLINK_NO_PLACE
  * only if each place was taken. */
 uint8_t blink_map_join(blink_map *map, blink_session *out);
@@ -250,12 +254,12 @@ uint8_t blink_map_join(blink_map *map, blink_session *out);
 /* Stores how many rows and page numbers the map's pool has left, for a look: sessions may draw at any time. */
 void blink_map_room(blink_map *map, uint64_t *rows, uint64_t *pages);
 
-/* Closes the map, and gives the index of its tree: the entries that it was opened with, after all changes of the list. The map is
- * given up either way. Refused: BLINK_SESSION_MISSING; BLINK_LOST_UNDER_WAY; BLINK_MAP_NO_MEMORY. Tested: it is
- * BLINK_SESSION_MISSING if the handle of a session isn't freed, and in no other case. */
+/* Closes the map, and gives the index of its tree: the entries that it was opened with, after all changes of the list. The handle
+ * is given up either way. Refused: BLINK_SESSION_MISSING; BLINK_LOST_UNDER_WAY; BLINK_MAP_NO_MEMORY. Tested: it is
+ * BLINK_SESSION_MISSING if the handle of a session, or another handle of the map, isn't freed, and in no other case. */
 uint8_t blink_map_close(blink_map map, blink_index *out);
 
-/* Frees the map, without an index. The handles of its sessions may still be used, and are still to be freed. */
+/* Frees the handle, without an index. The handles of sessions, and others of the map, may still be used, and are still to be freed. */
 void blink_map_free(blink_map map);
 
 /* Looks any key up: BLINK_FOUND or BLINK_ABSENT, after the changes that the session has seen by the end of the call. Refused:

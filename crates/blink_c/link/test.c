@@ -370,6 +370,14 @@ static void refuses_at_a_map(void) {
     two = (blink_session){NULL};
     CHECK(blink_map_join(&map, &two) == BLINK_DONE && blink_session_delete(&two, 2, 100, &answer) == BLINK_FULL);
     blink_session_free(two);
+    two = (blink_session){NULL};
+    // another handle of a map that isn't freed: the first is given up by a close that is refused, and the map lives by the other
+    blink_map again = {NULL};
+    CHECK(blink_map_share(&map, &again) == BLINK_DONE);
+    CHECK(blink_map_close(map, &closed) == BLINK_SESSION_MISSING && closed.at == NULL);
+    map = again;
+    CHECK(blink_map_join(&map, &two) == BLINK_DONE && is(changes(&two, BLINK_FIND, 6, NONE), BLINK_FOUND, 60));
+    blink_session_free(two);
     // a session that isn't freed: its map is lost, and it isn't
     CHECK(blink_map_close(map, &closed) == BLINK_SESSION_MISSING && closed.at == NULL);
     CHECK(is(changes(&one, BLINK_FIND, 6, NONE), BLINK_FOUND, 60));
@@ -410,10 +418,10 @@ static void refuses_under_way(void) {
 
 enum { SESSIONS = 8, TURNS = 4000, SHARED = 97 };
 
-// What the threads of a map share: the map, whose handle one thread at a time uses, and for each key how often it was inserted and
-// wasn't deleted. A session could leave without the lock; but helgrind knows locks, and not by what order a place is handed on.
+// What the threads of a map share: for each key how often it was inserted and wasn't deleted. Each has a handle of the map, and could
+// join and leave without the lock; but helgrind knows locks, and not by what order a place is handed on.
 static struct {
-    blink_map map;
+    blink_map maps[SESSIONS];
     pthread_mutex_t joins;
     long there[SHARED];
 } room;
@@ -421,6 +429,7 @@ static struct {
 // Changes any key, and joins anew now and then. A pointer is its key, and in the upper half the thread that stored it.
 static void *changes_any_key(void *at) {
     uint64_t self = (uint64_t)(uintptr_t)at, state = self;
+    blink_map *map = &room.maps[self - 1];
     blink_session session = {NULL};
     blink_answer answer;
     for (uint64_t turn = 0; turn < TURNS; turn++) {
@@ -428,7 +437,7 @@ static void *changes_any_key(void *at) {
             pthread_mutex_lock(&room.joins);
             if (turn) blink_session_free(session);
             session.at = NULL;
-            CHECK(blink_map_join(&room.map, &session) == BLINK_DONE);
+            CHECK(blink_map_join(map, &session) == BLINK_DONE);
             pthread_mutex_unlock(&room.joins);
         }
         state = state * 6364136223846793005u + 1442695040888963407u;
@@ -441,20 +450,23 @@ static void *changes_any_key(void *at) {
     }
     pthread_mutex_lock(&room.joins);
     blink_session_free(session);
+    blink_map_free(*map);
     pthread_mutex_unlock(&room.joins);
     return NULL;
 }
 
 static void shares_a_map(void) {
     blink_index index = {NULL}, closed = {NULL};
+    blink_map map = {NULL};
     pthread_t threads[SESSIONS];
     CHECK(blink_index_new(4, &index) == BLINK_DONE);
-    CHECK(blink_map_open(&index, 40000, 80000, SESSIONS, 1, &room.map) == BLINK_DONE);
+    CHECK(blink_map_open(&index, 40000, 80000, SESSIONS, 1, &map) == BLINK_DONE);
     pthread_mutex_init(&room.joins, NULL);
+    for (uintptr_t i = 0; i < SESSIONS; i++) CHECK(blink_map_share(&map, &room.maps[i]) == BLINK_DONE);
     for (uintptr_t i = 0; i < SESSIONS; i++)
         CHECK(pthread_create(&threads[i], NULL, changes_any_key, (void *)(i + 1)) == 0);
     for (int i = 0; i < SESSIONS; i++) CHECK(pthread_join(threads[i], NULL) == 0);
-    CHECK(blink_map_close(room.map, &closed) == BLINK_DONE);
+    CHECK(blink_map_close(map, &closed) == BLINK_DONE);
     uint64_t pointer;
     for (uint64_t key = 0; key < SHARED; key++) {
         CHECK(room.there[key] == (blink_index_find(&closed, key, &pointer) ? 1 : 0));
@@ -487,6 +499,11 @@ static bool uses_a_map(blink_index *index) {
     blink_index closed = {NULL};
     uint8_t code = blink_map_open(index, 22, 45, 1, 1, &map);
     if (code != BLINK_DONE) return CHECK(code == BLINK_MAP_NO_MEMORY && map.at == NULL), false;
+    blink_map again = {NULL};
+    code = blink_map_share(&map, &again);
+    if (code == BLINK_DONE) blink_map_free(again);
+    else CHECK(code == BLINK_MAP_NO_MEMORY && again.at == NULL);
+    bool shared = code == BLINK_DONE;
     code = blink_map_join(&map, &session);
     if (code != BLINK_DONE) {
         CHECK(code == BLINK_MAP_NO_MEMORY && session.at == NULL);
@@ -501,7 +518,7 @@ static bool uses_a_map(blink_index *index) {
     code = blink_map_close(map, &closed);
     CHECK(code == BLINK_DONE || code == BLINK_MAP_NO_MEMORY);
     if (code == BLINK_DONE) blink_index_free(closed);
-    return code == BLINK_DONE;
+    return shared && code == BLINK_DONE;
 }
 
 // One use of everything that takes memory, up to the first refusal: whether nothing was refused.

@@ -41,6 +41,13 @@ IsTooLargeMap count room = (1 ≤ room.sessions) × (room.sessions ≤ 256) × I
 abbrev pub IsOpenFault : MapError → Type 0
 IsOpenFault refusal = (refusal ≡ map.OutOfMemory) ⊎ (refusal ≡ map.TooLarge) ⊎ (refusal ≡ map.Sessions)
 
+-- ---- one more handle
+
+-- the other handle is of the same map
+pub record IsOwnerOfSame (owner other : MapOwner) : Type 0 where
+  pub one_map : map_in other ≡ map_in owner
+  pub one_number : other.number ≡ owner.number
+
 -- ---- joining
 
 -- the new handle has a session of the map

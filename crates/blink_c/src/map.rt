@@ -3,7 +3,7 @@ ghost use Rattle.std.specs.Prelude.{◌≡◌, ◌≢◌, ◌↔◌, ◌⊎◌, 
 ghost use Rattle.blink_index.specs.{map_of};
 ghost use Rattle.blink_live.specs.{IsNumberedInOrder};
 ghost use Rattle.blink_map.specs.{IsClosedWith};
-ghost use Rattle.blink_c.specs.Maps.{HasBadSessions, IsNewMap, IsTooLargeMap, Joins, fan_in, map_in};
+ghost use Rattle.blink_c.specs.Maps.{HasBadSessions, IsNewMap, IsOwnerOfSame, IsTooLargeMap, Joins, fan_in, map_in};
 ghost use Rattle.blink_c.specs.Sessions.{IsOwnSession};
 
 use crate::index_handle::IndexHandle;
@@ -13,7 +13,7 @@ use crate::map_owner::MapOwner;
 use crate::map_slot::MapSlot;
 use crate::refusal::DONE;
 use crate::session_slot::SessionSlot;
-use blink_map::Room;
+use blink_map::{MapError, Room};
 use std::alloc::Global;
 
 /// Opens a map over the index, with such room for changes and sessions. The caller gives the map a number that no other open map
@@ -53,6 +53,26 @@ pub extern "C" fn blink_map_open(
     }
 }
 
+/// Gives one more handle of the map, for another thread: calls with different handles may be made at the same time. The map closes by
+/// its last handle.
+#[unsafe(no_mangle)]
+pub extern "C" fn blink_map_share(alloc: Global, map: &mut MapHandle, out: &mut MapSlot) -> u8
+    requires empty { out.old.value ≡ None }
+    ensures shared { result ≡ 0 → IsSome out.new.value × IfSome out.new.value
+        (IsOwnerOfSame map.old.value) }
+    ensures refused { result ≢ 0 → result ≡ 100 }
+    ensures unchanged { result ≢ 0 → out.new.value ≡ None }
+    ensures same { map.new.value ≡ map.old.value }
+{
+    match map.get().share(alloc) {
+        Ok(other) => {
+            *out = MapSlot::of(other);
+            DONE
+        }
+        Err(_) => MapError::OutOfMemory.code(),
+    }
+}
+
 /// Joins the map: gives a session, if a place is free.
 #[unsafe(no_mangle)]
 pub extern "C" fn blink_map_join(alloc: Global, map: &mut MapHandle, out: &mut SessionSlot) -> u8
@@ -82,8 +102,8 @@ pub extern "C" fn blink_map_room(map: &mut MapHandle, rows: &mut u64, pages: &mu
     *pages = pages_left;
 }
 
-/// Closes the map, and gives the index of its tree. The map is given up either way. The call is refused with `Missing` if the
-/// handle of a session isn't freed.
+/// Closes the map, and gives the index of its tree. The handle is given up either way. The call is refused with `Missing` if the
+/// handle of a session, or another one of the map, isn't freed.
 #[unsafe(no_mangle)]
 pub extern "C" fn blink_map_close(alloc: Global, map: MapHandle, out: &mut IndexSlot) -> u8
     requires empty { out.old.value ≡ None }
@@ -104,7 +124,7 @@ pub extern "C" fn blink_map_close(alloc: Global, map: MapHandle, out: &mut Index
     }
 }
 
-/// Frees the handle, without an index. The sessions' handles may still be used, and are still to be freed.
+/// Frees the handle, without an index. The sessions' handles, and others of the map, may still be used, and are still to be freed.
 #[unsafe(no_mangle)]
 pub extern "C" fn blink_map_free(map: MapHandle) {
     drop(map.into_box());

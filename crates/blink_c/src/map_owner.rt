@@ -3,7 +3,7 @@ ghost use Rattle.std.specs.Prelude.{◌≡◌, ◌↔◌, IfErr, IfOk, IsErrOf, 
 ghost use Rattle.blink_index.specs.{map_of};
 ghost use Rattle.blink_live.specs.{IsNumberedInOrder};
 ghost use Rattle.blink_map.specs.{IsClosedWith};
-ghost use Rattle.blink_c.specs.Maps.{HasBadSessions, IsCloseFault, IsJoinFault, IsNewMap, IsOpenFault, IsTooLargeMap, Joins, fan_in, map_in};
+ghost use Rattle.blink_c.specs.Maps.{HasBadSessions, IsCloseFault, IsJoinFault, IsNewMap, IsOpenFault, IsOwnerOfSame, IsTooLargeMap, Joins, fan_in, map_in};
 ghost use Rattle.blink_c.specs.Sessions.{IsOwnSession, in_map};
 
 use crate::map_refusal::MapRefusal;
@@ -55,6 +55,21 @@ impl MapOwner {
         };
         match Box::new(alloc, MapOwner { shared, number }) {
             Ok(owner) => Ok(owner),
+            Err(_) => Err(AllocError),
+        }
+    }
+
+    /// One more owner of the map, in a box.
+    pub(crate) fn share(&self, alloc: Global) -> Result<Box<MapOwner>, AllocError>
+        ensures { IfOk result (λ other. IsOwnerOfSame self.now other.value) }
+    {
+        let shared = Arc::try_clone(&self.shared)?;
+        let owner = MapOwner {
+            shared,
+            number: self.number,
+        };
+        match Box::new(alloc, owner) {
+            Ok(other) => Ok(other),
             Err(_) => Err(AllocError),
         }
     }
