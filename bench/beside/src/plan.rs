@@ -47,7 +47,7 @@ pub const REPLACE: &str = "A replacement";
 pub const NEAR: &str = "80 + 10 + 10, keys side by side";
 pub const LEAF: &str = "50 finds, 50 replacements, all in one leaf";
 pub const LONG: &str = "A million changes: 96 replacements, 2 insertions, 2 deletions";
-pub const OPEN: &str = "Opening it for 20,000 insertions and as many deletions, ms";
+pub const OPEN: &str = "Opening it for 12,000 insertions and as many deletions, ms";
 pub const CLOSE: &str = "Closing it, ms";
 
 /// The tables in the order in which they are told.
@@ -129,7 +129,7 @@ impl Group {
 // Adds finds, glances and scans to a map's life, and returns their rows. The first finds are told nowhere: what the making of the map left
 // in the caches is another for each side.
 fn looks(model: &mut Model, scale: Scale, threads: &[usize]) -> Vec<(&'static str, Figure)> {
-    let (count, size) = (scale.of(200_000), model.len());
+    let (count, size) = (scale.of(100_000), model.len());
     model.finds(Mode::Any, 1, count);
     let mut rows = Vec::new();
     for (mode, workload) in [(Mode::Own, FIND), (Mode::Any, GLANCE)] {
@@ -138,8 +138,8 @@ fn looks(model: &mut Model, scale: Scale, threads: &[usize]) -> Vec<(&'static st
         }
     }
     rows.push((MANY, Figure::Phase(model.finds(Mode::Many, 1, count))));
-    let all = 400_000usize.div_ceil(size);
-    for (length, scans, workload) in [(10, 20_000, SCAN_10), (1_000, 400, SCAN_1000), (usize::MAX, all, SCAN_ALL)] {
+    let all = 200_000usize.div_ceil(size);
+    for (length, scans, workload) in [(10, 10_000, SCAN_10), (1_000, 200, SCAN_1000), (usize::MAX, all, SCAN_ALL)] {
         let scans = if scale.small { 2 } else { scans };
         rows.push((workload, Figure::Phase(model.scans(length.min(size), scans))));
     }
@@ -147,22 +147,22 @@ fn looks(model: &mut Model, scale: Scale, threads: &[usize]) -> Vec<(&'static st
 }
 
 // Keys that were inserted at random: looks, loads, and each mix.
-fn random(group: &mut Group, size: usize, entries: &str, scale: Scale) {
+fn random(group: &mut Group, size: usize, entries: &str, threads: &[usize], scale: Scale) {
     let keys = Keys::random(scale.of(size), scale.of(size / 2));
     let base = Model::new(&keys);
     let mut model = base.again();
-    let rows = looks(&mut model, scale, &THREADS);
+    let rows = looks(&mut model, scale, threads);
     group.add(model, entries, &rows);
-    for threads in THREADS {
+    for &threads in threads {
         let mut model = Model::empty(&keys);
         let load = model.load(threads);
         group.add(model, entries, &[(LOAD, Figure::Phase(load))]);
     }
-    let count = scale.of(5 * size);
-    group.add_mixes(&base, entries, MIXED_80, Mix::changes(80, 10, 10), count, &THREADS);
-    group.add_mixes(&base, entries, REPLACE, Mix::changes(0, 0, 0), count, &THREADS);
-    group.add_mixes(&base, entries, MIXED_90, Mix::changes(90, 5, 5), count, &THREADS);
-    group.add_mixes(&base, entries, MIXED_50, Mix::changes(50, 25, 25), count * 2 / 5, &THREADS);
+    let count = scale.of(3 * size);
+    group.add_mixes(&base, entries, MIXED_80, Mix::changes(80, 10, 10), count, threads);
+    group.add_mixes(&base, entries, REPLACE, Mix::changes(0, 0, 0), count, threads);
+    group.add_mixes(&base, entries, MIXED_90, Mix::changes(90, 5, 5), count, threads);
+    group.add_mixes(&base, entries, MIXED_50, Mix::changes(50, 25, 25), count * 2 / 5, threads);
 }
 
 // A million keys. A map of them takes so long to make that one goes through all, one after another.
@@ -190,13 +190,13 @@ fn meeting(group: &mut Group, scale: Scale) {
     let all = Model::new(&Keys::random(scale.of(40_000), 0));
     for threads in THREADS {
         let mut model = all.again();
-        let rows = [(ALL, Figure::Phase(model.by_all(80, threads, scale.of(200_000))))];
+        let rows = [(ALL, Figure::Phase(model.by_all(80, threads, scale.of(100_000))))];
         group.add(model, "40,000", &rows);
     }
     let near = Model::new(&Keys::side_by_side(1_000, 250));
-    group.add_mixes(&near, "1,000", NEAR, Mix::changes(80, 10, 10), scale.of(100_000), &THREADS);
+    group.add_mixes(&near, "1,000", NEAR, Mix::changes(80, 10, 10), scale.of(100_000), &[1, 4]);
     let leaf = Model::new(&Keys::side_by_side(16, 0));
-    group.add_mixes(&leaf, "16", LEAF, Mix::changes(50, 0, 0), scale.of(200_000), &THREADS);
+    group.add_mixes(&leaf, "16", LEAF, Mix::changes(50, 0, 0), scale.of(100_000), &[1, 4]);
 }
 
 // A map that lives long and stays as large as it is. A table takes 47,662 insertions in all, so most of these changes are replacements.
@@ -209,8 +209,8 @@ fn long(group: &mut Group, scale: Scale) {
 pub fn groups(scale: Scale) -> Vec<Group> {
     let mut groups = ["random", "million", "ascending", "meeting"].map(Group::new);
     let [few, many, sorted, others] = &mut groups;
-    random(few, 10_000, "10,000", scale);
-    random(few, 40_000, "40,000", scale);
+    random(few, 10_000, "10,000", &[1, 4], scale);
+    random(few, 40_000, "40,000", &THREADS, scale);
     million(many, scale);
     ascending(sorted, 10_000, "10,000 ascending", scale);
     ascending(sorted, 40_000, "40,000 ascending", scale);
@@ -223,7 +223,7 @@ pub fn groups(scale: Scale) -> Vec<Group> {
 /// What a side whose code is compiled while it runs runs first.
 pub fn warm_up() -> Group {
     let mut group = Group::new("warm");
-    random(&mut group, 5_000, "5,000", Scale { small: false });
+    random(&mut group, 5_000, "5,000", &THREADS, Scale { small: false });
     meeting(&mut group, Scale { small: false });
     group
 }
