@@ -1,4 +1,4 @@
-//! A batch's run on an index by threads that share a table of words without a lock.
+//! A batch's run on an index by threads that share a table of words without a global lock.
 ghost use Rattle.std.specs.Prelude.{◌≡◌, ◌↔◌, count_by, IfErr, IfOk, IsErrOf, OnErr, OnOk};
 ghost use Rattle.blink_batch.specs.{IsLawfulCut, answers, map_after_all, is_insert, IsAscending};
 ghost use Rattle.blink_index.specs.{map_of};
@@ -104,7 +104,7 @@ fn allowance_of(batch: &Batch) -> Allowance
     for op in batch.ops() {
         match op {
             Op::Find(_) | Op::Insert(..) => {}
-            _ => deletes += 1,
+            Op::Delete(_) | Op::Replace(..) => deletes += 1,
         }
     }
     Allowance {
