@@ -3,7 +3,6 @@
 use crate::sys::{self, Handle, RawAnswer};
 use crate::{Answer, Entry, Error, Op};
 use std::cell::UnsafeCell;
-use std::fmt;
 use std::ops::{Bound, RangeBounds};
 
 /// A map from 64-bit keys to 64-bit record pointers, in a proved B-link tree.
@@ -232,21 +231,6 @@ impl Drop for Index {
     fn drop(&mut self) {
         // SAFETY: the handle is full, and is taken out, so it is freed once.
         unsafe { sys::blink_index_free(self.handle.get_mut().take()) }
-    }
-}
-
-impl fmt::Debug for Index {
-    fn fmt(&self, f: &mut fmt::Formatter<'_>) -> fmt::Result {
-        f.debug_map().entries(self.scan(..).map(|entry| (entry.key, entry.pointer))).finish()
-    }
-}
-
-impl<'a> IntoIterator for &'a Index {
-    type Item = Entry;
-    type IntoIter = Scan<'a>;
-
-    fn into_iter(self) -> Scan<'a> {
-        self.scan(..)
     }
 }
 
