@@ -20,7 +20,7 @@ use blink_locked::Gate;
 use blink_rows::Allowance;
 use blink_settings::RunError;
 use dealing::deal_all;
-use gathering::{gathered, passes_of};
+use gathering::{answers_by_place, passes_of};
 use std::alloc::Global;
 use std::sync::Wait;
 use std::thread::Threads;
@@ -86,7 +86,7 @@ fn run_passes<R: Threads + Wait + Sync, G: Gate + Sync>(
         return Err(RunError::OutOfMemory);
     };
     let ended = run_all(rt, alloc, live, gate, batch, cut, runs)?;
-    let Ok(answers) = gathered(alloc, cut, &ended) else {
+    let Ok(answers) = answers_by_place(alloc, cut, &ended) else {
         return Err(RunError::OutOfMemory);
     };
     match passes_of(alloc, ended) {

@@ -4,8 +4,8 @@ use Rattle.blink_store.specs.{page_of}
 use Rattle.blink_store.proofs.Offered.{has_page}
 use Rattle.blink_rest.specs.Walk.{NamesFirst}
 use Rattle.blink_rest.proofs.ComparedLevels.{names_nothing, names_more, names_other, tail_there}
-use Rattle.blink_rest.proofs.walk.named.Goals.{then-separator-page-via-then-separator-page, then-separator-page-via-else-separator-page+then-child-from}
-use Rattle.blink_rest.proofs.walk.named.Goals as goal
+use Rattle.blink_rest.proofs.walk.link_after_named.Goals.{then-separator-page-via-then-separator-page, then-separator-page-via-else-separator-page+then-child-from}
+use Rattle.blink_rest.proofs.walk.link_after_named.Goals as goal
 
 pub loop-separator-init : goal.loop-separator-init
 loop-separator-init c = names_nothing c.args.store.now.fan (page_of c.args.store.now) c.args.first c.requires

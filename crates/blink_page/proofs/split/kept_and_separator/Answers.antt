@@ -1,7 +1,7 @@
 use Rattle.std.proofs.Common.{◌≤◌, length, sym, arith}
 use Rattle.blink_page.specs.Split.{kept_count}
 use Rattle.blink_page.proofs.HalvesOfSplit.{separator_of-get_or}
-use Rattle.blink_page.proofs.split.parted.Goals as goal
+use Rattle.blink_page.proofs.split.kept_and_separator.Goals as goal
 
 -- the separator stands last among the entries that stay
 pub returns-clause-separator : goal.returns-clause-separator

@@ -1,6 +1,6 @@
 use Rattle.std.proofs.Common.{[], ◌∷◌, ◌++◌, append_assoc, arith}
 use Rattle.std.proofs.lemmas.Slice.Zip.{all_zipped_more}
-use Rattle.blink_run.proofs.live.threads.joined.Goals as goal
+use Rattle.blink_run.proofs.live.threads.join_into.Goals as goal
 
 -- the thread that is joined is that of the first handle left
 pub loop-handle-preserved : goal.loop-handle-preserved

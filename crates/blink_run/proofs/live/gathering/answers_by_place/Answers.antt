@@ -1,7 +1,7 @@
 use Rattle.std.proofs.Common.{◌<◌, ◌≤◌, ◌^◌, get_or, vec_capacity, vec_len, refl, sym, ◌∙◌, arith}
 use Rattle.std.proofs.lemmas.List.{length-set}
 use Rattle.blink_run.proofs.GatheredSoFar.{all_gathered, has_next, none_gathered, one_more_here}
-use Rattle.blink_run.proofs.live.gathering.gathered.Goals as goal
+use Rattle.blink_run.proofs.live.gathering.answers_by_place.Goals as goal
 
 pub loop-lane-init : goal.loop-lane-init
 loop-lane-init c = record {

@@ -1,7 +1,7 @@
 use Rattle.std.proofs.Common.{arith}
 use Rattle.std.proofs.lemmas.Bool.Decides.{nat_tests}
 use Rattle.blink_page.proofs.WhereSearchesEnd.{place-at_or_above, place-below}
-use Rattle.blink_page.proofs.search.passed.Goals as goal
+use Rattle.blink_page.proofs.search.one_if_before.Goals as goal
 
 pub returns-clause-before : goal.returns-clause-before
 returns-clause-before c before =

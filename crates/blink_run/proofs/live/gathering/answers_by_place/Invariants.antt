@@ -1,7 +1,7 @@
 -- The places so far have their answers, and there is room for the rest.
 use Rattle.std.proofs.Common.{◌≡◌, ◌≤◌, length, vec_capacity}
 use Rattle.blink_run.proofs.GatheredSoFar.{IsGatheredTo}
-use Rattle.blink_run.proofs.live.gathering.gathered.Given as goal
+use Rattle.blink_run.proofs.live.gathering.answers_by_place.Given as goal
 
 abbrev pub invariant-loop-lane : goal.invariant-loop-lane
 invariant-loop-lane l = record {
