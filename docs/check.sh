@@ -1,7 +1,7 @@
 #!/bin/sh
-# Looks whether the documents say what is there: links and their anchors, paths, must-fail edits and names in backticks; that CHANGING.md
-# lists each edit, and BELIEVE.md quotes the sources; that no old word stands in them; and that they have fewer words than an engineer reads
-# in an evening. It prints a line for each finding and exits 1, or prints nothing and exits 0. A new old word goes to `old`.
+# Looks whether the documents say what is there: links and their anchors, paths, must-fail edits and names in backticks; that EDITS.md
+# lists each edit, and BELIEVE.md quotes the sources; that no old word stands in them; and that they have fewer words of prose than an
+# engineer reads in an evening. It prints a line for each finding and exits 1, or prints nothing and exits 0. A new old word goes to `old`.
 LC_ALL=C
 export LC_ALL
 cd "$(dirname "$0")/.." || exit 1
@@ -9,7 +9,7 @@ work=$(mktemp -d) || exit 1
 trap 'rm -rf "$work"' EXIT
 
 documents="README.md docs/*.md bench/README.md examples/README.md crates/*/README.md"
-most_words=26500
+most_words=20000
 
 # Names of code that were renamed, and words of prose that the field has others for.
 old='IsSound|Sound|SoundRun|SoundTree|SoundStatements|StepKeepsSound|TurnKeepsSoundRun|sound'
@@ -31,10 +31,14 @@ done >"$work/found"
 # Every .md file, without what a build leaves; of each the lines outside code blocks.
 find . \( -name .git -o -name out \) -prune -o -name '*.md' -print | sed 's|^\./||' | sort >"$work/pages"
 
-# Tables that a benchmark has written aren't read word by word.
-words=$(xargs awk '/^<!-- begin of what/ { table = 1 } { if (!table) words += NF } /^<!-- end of what/ { table = 0 } END { print words }' \
-    <"$work/pages")
-[ "$words" -lt $most_words ] || echo "all documents have $words words, and $most_words are too many" >>"$work/found"
+# Words of prose: lines of code blocks and of tables are looked up, not read, and don't count.
+words=$(xargs awk '
+    FNR == 1 { code = 0 }
+    /^```/ { code = !code; next }
+    { bare = $0; gsub(/`[^`]*`/, "", bare) }
+    !code && bare !~ /[|]/ { words += NF }
+    END { print words }' <"$work/pages")
+[ "$words" -lt $most_words ] || echo "all documents have $words words of prose, and $most_words are too many" >>"$work/found"
 
 prose() {
     awk '/^```/ { code = !code; print ""; next } { print code ? "" : $0 }' "$1"
@@ -126,7 +130,7 @@ awk -v sources="$work/sources" '
 
 for edit in crates/*/must-fail/*.edit; do
     name=${edit##*/}
-    grep -q "${name%.edit}\`" docs/CHANGING.md || echo "docs/CHANGING.md: doesn't list $edit"
+    grep -q "${name%.edit}\`" docs/EDITS.md || echo "docs/EDITS.md: doesn't list $edit"
 done >>"$work/found"
 
 # Names: with an underscore, or with capital and small letters. Each stands in some source or file name; this script is none.
