@@ -1,7 +1,8 @@
 #!/bin/sh
 # Looks whether the documents say what is there: links and their anchors, paths, must-fail edits and names in backticks; that EDITS.md
-# lists each edit, and BELIEVE.md quotes the sources; that no old word stands in them; and that they have fewer words of prose than an
-# engineer reads in an evening. It prints a line for each finding and exits 1, or prints nothing and exits 0. A new old word goes to `old`.
+# lists each edit, BELIEVE.md quotes the sources, and PROMISES.md cites clauses that there are; that no old word stands in them; and that they
+# have fewer words of prose than an engineer reads in an evening. It prints a line for each finding and exits 1, or prints nothing and exits 0.
+# A new old word goes to `old`.
 LC_ALL=C
 export LC_ALL
 cd "$(dirname "$0")/.." || exit 1
@@ -132,6 +133,34 @@ for edit in crates/*/must-fail/*.edit; do
     name=${edit##*/}
     grep -q "${name%.edit}\`" docs/EDITS.md || echo "docs/EDITS.md: doesn't list $edit"
 done >>"$work/found"
+
+# PROMISES.md: each `call/clause` is a call with such a clause, and each `Type::call` a call, of the crates that its section names first.
+find crates -name out -prune -o -path '*/src/*' -name '*.rt' -print | sort | xargs awk '
+    FNR == 1 { split(FILENAME, part, "/"); call = "" }
+    /^ *(pub(\(crate\))? )?(const )?(extern "C" )?fn [a-z_0-9]+/ { call = $0; sub(/^.*fn /, "", call); sub(/[^a-z_0-9].*/, "", call); print part[2], call, "" }
+    /^ *ensures / && call != "" { print part[2], call, $2 == "{" ? "" : $2 }' >"$work/clauses"
+awk -v clauses="$work/clauses" '
+    BEGIN { while ((getline line < clauses) > 0) known[line] = 1 }
+    function looks(call, clause,   n, names, at) {
+        sub(/^.*::/, "", call)
+        n = split(crates, names, " ")
+        for (at = 1; at <= n; at++) if ((names[at] " " call " " clause) in known) return 1
+        return 0
+    }
+    /^(Calls|Exports) of `/ {
+        crates = ""
+        n = split($0, parts, "`")
+        for (at = 2; at <= n; at += 2) crates = crates " " parts[at]
+    }
+    {
+        n = crates == "" ? 0 : split($0, parts, "`")
+        for (at = 2; at <= n; at += 2) {
+            if (parts[at] ~ /^[A-Za-z_:]+\/[a-z_]+$/) {
+                split(parts[at], names, "/")
+                if (!looks(names[1], names[2])) print FILENAME ":" FNR ": no such clause: " parts[at]
+            } else if (parts[at] ~ /^[A-Za-z]+::[a-z_]+$/ && !looks(parts[at], "")) print FILENAME ":" FNR ": no such call: " parts[at]
+        }
+    }' docs/PROMISES.md >>"$work/found"
 
 # Names: with an underscore, or with capital and small letters. Each stands in some source or file name; this script is none.
 {
