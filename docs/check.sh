@@ -162,6 +162,11 @@ awk -v clauses="$work/clauses" '
         }
     }' docs/PROMISES.md >>"$work/found"
 
+# Codes: FORMATS.md has a row with the number and the name of each code of the header.
+sed -n 's/^ *\(BLINK_[A-Z_]*\) = \([1-9][0-9]*\),* .*/\2 \1/p' include/blink.h | sed '1,/ BLINK_REPLACED/d' | while read -r number name; do
+    grep -q "^$number | .*\`$name\`" docs/FORMATS.md || echo "docs/FORMATS.md: no row for code $number, $name"
+done >>"$work/found"
+
 # Names: with an underscore, or with capital and small letters. Each stands in some source or file name; this script is none.
 {
     grep -v '^docs/' "$work/files" | tr '\n' '\0' | xargs -0 cat
