@@ -12,7 +12,7 @@ trap 'rm -rf "$work"' EXIT
 documents="README.md docs/*.md bench/README.md examples/README.md crates/*/README.md"
 most_words=20000
 
-# Names of code that were renamed, and words of prose that the field has others for.
+# Names of code that were renamed, and words of prose that the field has others for. CHANGING.md says why, in lines that begin with "Not".
 old='IsSound|Sound|SoundRun|SoundTree|SoundStatements|StepKeepsSound|TurnKeepsSoundRun|sound'
 old="$old"'|Moment|Moments|moment|moments|moment_of|moment_with|turns_between_moments'
 old="$old"'|IsLoose|loose|loose_at|loose_of|in no chain|stands? in no chain'
@@ -24,7 +24,7 @@ old="$old"'|SawFrontOf|OneIsFront|FrontsOfOneList|IsAmong|StandsIn|fronts|fronts
 old="$old"'|Keeps|EntriesThatATreeKeeps|kept under|keys? keeps?|keeps? (a|its|the) pointer|is kept for'
 
 # shellcheck disable=SC2086
-grep -nwE "$old" $documents | while IFS=: read -r file line text; do
+grep -nwE "$old" $documents | grep -v '^docs/CHANGING.md:[0-9]*:Not [*]' | while IFS=: read -r file line text; do
     word=$(printf '%s\n' "$text" | grep -owE "$old" | head -n 1)
     echo "$file:$line: old word: $word"
 done >"$work/found"
