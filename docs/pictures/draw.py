@@ -3,9 +3,9 @@
 
     python3 docs/pictures/draw.py          writes the SVG files beside this script
     python3 docs/pictures/draw.py crates   prints the picture of the crates as text
-    python3 docs/pictures/draw.py check    looks whether the frames below are those of examples/*.html, and the crates those of crates.txt
+    python3 docs/pictures/draw.py check    looks whether the frames below are those of examples/tour/*.html, and the crates those of crates.txt
 
-The trees below are frames of replays, line by line as the pages of examples/ have them: `page NUMBER HOLDER LEVEL FLOOR HIGH RIGHT
+The trees below are frames of replays, line by line as the pages of examples/tour have them: `page NUMBER HOLDER LEVEL FLOOR HIGH RIGHT
 ENTRIES`, where `-` is none. Pictures without such lines are schematic.
 """
 
@@ -151,7 +151,7 @@ def tree_of(key):
 # ---- check: are these lines those of the examples?
 
 def frames_of(example):
-    with open(os.path.join(HERE, "..", "..", "examples", example + ".html"), encoding="utf-8") as file:
+    with open(os.path.join(HERE, "..", "..", "examples", "tour", example + ".html"), encoding="utf-8") as file:
         text = re.search(r'<script type="text/plain" id="replay">(.*?)</script>', file.read(), re.S).group(1)
     frames, now, decided = [], {}, []
     for line in text.split("\n"):

@@ -1,8 +1,8 @@
 #!/bin/sh
 # Runs each example, and with `run` by each driver, and compares what it prints with the output beside it; and makes each page, and
-# compares. The commands are those of README.md. At the end the program's output is closed early.
+# compares. The commands are those of examples/README.md. At the end the program's output is closed early.
 set -eu
-cd "$(dirname "$0")"
+cd "$(dirname "$0")/.."
 
 # Runs the command that follows on the script of this name.
 check() {
@@ -18,7 +18,7 @@ check() {
 
 # Runs the script of this name by threads, with these options and each driver.
 check_run() {
-    script=$1
+    script=scripts/$1
     shift
     for driver in locked live; do
         check "$script" run "$@" --driver $driver
@@ -32,21 +32,22 @@ check_run replacements
 check_run scans --workers 3 --cut ranges
 check_run pages --workers 2 --fan 4
 check_run splits --workers 3 --fan 4
-check half_a_split replay --workers 2 --fan 4 --schedule 1,0,0,0,0,0,0,1,1
-check waiting replay --workers 3 --fan 4 --schedule 1,1,1,0,0,0,2
-check replaced replay --workers 2 --fan 4 --schedule 1,1,1,0,0,0,1,1
+check tour/half_a_split replay --workers 2 --fan 4 --schedule 1,0,0,0,0,0,0,1,1
+check scripts/waiting replay --workers 3 --fan 4 --schedule 1,1,1,0,0,0,2
+check scripts/replaced replay --workers 2 --fan 4 --schedule 1,1,1,0,0,0,1,1
 
 # Makes the page of this name, of its script and its schedule, and compares.
-# The notes that tour.sh put into a page aren't the program's, so they are taken out before the page is compared.
+# The notes that tour.sh put into a page aren't the program's, so they are taken out before the page is compared; its style and script are
+# put in.
 check_page() {
     page=$(mktemp)
-    awk -v empty='<script type="text/plain" id="notes"></script>' '
+    sh tools/whole.sh "tour/$1.html" | awk -v empty='<script type="text/plain" id="notes"></script>' '
         $0 == "<script type=\"text/plain\" id=\"notes\">" { noted = 1; print empty; next }
         noted { noted = $0 != "</script>"; next }
         { print }
-    ' "$1.html" >"$page"
+    ' >"$page"
     same=0
-    ../blink-show --workers "$2" --fan 4 --schedule "$(cat "$1.schedule")" <"$1.csv" | cmp -s - "$page" || same=1
+    ../blink-show --workers "$2" --fan 4 --schedule "$(cat "tour/$1.schedule")" <"tour/$1.csv" | cmp -s - "$page" || same=1
     rm -f "$page"
     if [ "$same" != 0 ]; then
         echo "$1, the page: another output" >&2

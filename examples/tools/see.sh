@@ -2,14 +2,14 @@
 # Opens the pages of the replays in a browser without a window, 1280 by 800 and 400 by 800, and looks at every frame: nothing may be told
 # on the console, the keys, the slider and the lines must step, no two boxes overlap, all text of a page stands in its box, each arrow
 # ends at a box and crosses none, with keys shortened and as numbers, and each note is of a turn that there is and is read without
-# scrolling. Then it makes pictures of three frames of each page in pictures/, of both sizes, light and dark, smaller ones where there is
-# python3, and prints one page.
+# scrolling. Then it makes the pictures in tour/pictures/, of a frame of each page, light and dark, smaller ones where there is python3. Last it
+# prints one page into a file that it throws away.
 #
 #     see.sh [PAGE.html ..]     without a page, those below; of other pages no pictures are made
 #
 # It needs Chromium: apt-get install --no-install-recommends chromium. The variable CHROMIUM names another program.
 set -eu
-cd "$(dirname "$0")"
+cd "$(dirname "$0")/../tour"
 chromium=${CHROMIUM:-chromium}
 if ! command -v "$chromium" >/dev/null; then
     echo "there is no $chromium: apt-get install --no-install-recommends chromium" >&2
@@ -18,13 +18,13 @@ fi
 work=$(mktemp -d)
 trap 'rm -rf "$work"' EXIT
 
-# The frames that pictures are made of.
-frames_of() {
+# The frame that pictures are made of.
+frame_of() {
     case $1 in
-    half_a_split) echo 6 8 13 ;;
-    overtaking) echo 22 28 36 ;;
-    root_grows) echo 30 32 39 ;;
-    inner_split) echo 15 17 25 ;;
+    half_a_split) echo 8 ;;
+    overtaking) echo 28 ;;
+    root_grows) echo 32 ;;
+    inner_split) echo 17 ;;
     esac
 }
 
@@ -172,7 +172,7 @@ console() {
 failed=0
 # look PAGE SIZE
 look() {
-    sed "/<meta charset/r $work/look.html" "$1" >"$work/page.html"
+    sh ../tools/whole.sh "$1" | sed "/<meta charset/r $work/look.html" >"$work/page.html"
     found=$(browse "$2" light --dump-dom "file://$work/page.html" | grep -m 1 -o '<title>[^<]*' | sed 's/<title>//' || true)
     echo "$1 at $2: ${found:-the browser told nothing}"
     case $found in
@@ -193,16 +193,14 @@ picture() {
     fi
     mv "$work/picture.png" "pictures/$1-$2$5.png"
     if command -v python3 >/dev/null; then
-        python3 smaller.py "pictures/$1-$2$5.png"
+        python3 ../tools/smaller.py "pictures/$1-$2$5.png"
     fi
 }
 
-# The four pictures of a frame.
+# The two pictures of a frame.
 pictures() {
     picture "$1" "$2" 1280,800 light ''
     picture "$1" "$2" 1280,800 dark -dark
-    picture "$1" "$2" 400,800 light -narrow
-    picture "$1" "$2" 400,800 dark -narrow-dark
 }
 
 if [ $# -gt 0 ]; then
@@ -215,9 +213,7 @@ mkdir -p pictures
 for name in half_a_split overtaking root_grows inner_split; do
     look "$name.html" 1280,800
     look "$name.html" 400,800
-    for frame in $(frames_of $name); do
-        pictures $name "$frame"
-    done
+    pictures $name "$(frame_of $name)"
 done
 
 # The way in leads to pages that there are.
@@ -228,7 +224,7 @@ while read -r file; do
         failed=1
     fi
 done <"$work/files"
-browse 1280,800 light --print-to-pdf="$(pwd)/pictures/half_a_split-8.pdf" --no-pdf-header-footer "file://$(pwd)/half_a_split.html#frame=8" \
+browse 1280,800 light --print-to-pdf="$work/half_a_split-8.pdf" --no-pdf-header-footer "file://$(pwd)/half_a_split.html#frame=8" \
     >/dev/null
 console
 exit $failed
