@@ -1,5 +1,5 @@
 #!/bin/sh
-# Looks whether the documents say what is there: links and their anchors, paths, must-fail edits and names in backticks; that EDITS.md
+# Looks whether the documents say what is there: links and their anchors, paths, must-fail edits, names in backticks, and pictures; that EDITS.md
 # lists each edit, BELIEVE.md quotes the sources, and PROMISES.md cites clauses that there are; that no old word stands in them; and that they
 # have fewer words of prose than an engineer reads in an evening. It prints a line for each finding and exits 1, or prints nothing and exits 0.
 # A new old word goes to `old`.
@@ -166,6 +166,11 @@ awk -v clauses="$work/clauses" '
 sed -n 's/^ *\(BLINK_[A-Z_]*\) = \([1-9][0-9]*\),* .*/\2 \1/p' include/blink.h | sed '1,/ BLINK_REPLACED/d' | while read -r number name; do
     grep -q "^$number | .*\`$name\`" docs/FORMATS.md || echo "docs/FORMATS.md: no row for code $number, $name"
 done >>"$work/found"
+
+# Pictures: the frames are those of the tour, and the crates those of crates.txt.
+if command -v python3 >/dev/null; then
+    python3 docs/pictures/draw.py check >>"$work/found"
+fi
 
 # Names: with an underscore, or with capital and small letters. Each stands in some source or file name; this script is none.
 {

@@ -4,7 +4,7 @@
 #
 #     launch.sh CRATE NAME [--try] [WORD ..]
 set -eu
-top=$(cd "$(dirname "$0")" && pwd)
+top=$(cd "$(dirname "$0")/.." && pwd)
 crate=$1
 name=$2
 shift 2
@@ -30,7 +30,7 @@ newer_source() {
 }
 
 if [ ! -x "$program" ] || [ -n "$(newer_source)" ]; then
-    "$top/build.sh" "$crate" "$name"
+    "$top/tools/build.sh" "$crate" "$name"
     touch "$program"
 fi
 if [ ! -x "$named" ] || [ -n "$(find "$program" -newer "$named")" ]; then

@@ -10,7 +10,7 @@
 # It calls `rattle` and not `rt lib`, for one flag: with --statements a library holds what it states and not its proofs, as under `rt ci`,
 # and what stands above it loads a fraction.
 set -eu
-top=$(cd "$(dirname "$0")" && pwd)
+top=$(cd "$(dirname "$0")/.." && pwd)
 after_ci=
 if [ "$1" = --after-ci ]; then
     after_ci=yes
