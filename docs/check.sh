@@ -9,7 +9,9 @@ cd "$(dirname "$0")/.." || exit 1
 work=$(mktemp -d) || exit 1
 trap 'rm -rf "$work"' EXIT
 
-documents="README.md docs/*.md bench/README.md examples/README.md crates/*/README.md"
+# The documents, and beside them what else users read.
+documents="README.md docs/*.md bench/README.md examples/README.md crates/README.md crates/*/README.md"
+shown="examples/tour/*.notes examples/tour/index.html docs/pictures/draw.py include/blink.h rust/blink/src/*.rs examples/c/*.c examples/rust/*.rs"
 most_words=20000
 
 # Names of code that were renamed, and words of prose that the field has others for. CHANGING.md says why, in lines that begin with "Not".
@@ -24,7 +26,7 @@ old="$old"'|SawFrontOf|OneIsFront|FrontsOfOneList|IsAmong|StandsIn|fronts|fronts
 old="$old"'|Keeps|EntriesThatATreeKeeps|kept under|keys? keeps?|keeps? (a|its|the) pointer|is kept for'
 
 # shellcheck disable=SC2086
-grep -nwE "$old" $documents | grep -v '^docs/CHANGING.md:[0-9]*:Not [*]' | while IFS=: read -r file line text; do
+grep -nwE "$old" $documents $shown | grep -v '^docs/CHANGING.md:[0-9]*:Not [*]' | while IFS=: read -r file line text; do
     word=$(printf '%s\n' "$text" | grep -owE "$old" | head -n 1)
     echo "$file:$line: old word: $word"
 done >"$work/found"
