@@ -135,6 +135,10 @@ for edit in crates/*/must-fail/*.edit; do
     name=${edit##*/}
     grep -q "${name%.edit}\`" docs/EDITS.md || echo "docs/EDITS.md: doesn't list $edit"
 done >>"$work/found"
+edits=$(find crates -path '*/must-fail/*.edit' | wc -l)
+for page in docs/EDITS.md docs/CHANGING.md; do
+    grep -q "There are $edits edits" $page || echo "$page: there are $edits edits"
+done >>"$work/found"
 
 # PROMISES.md: each `call/clause` is a call with such a clause, and each `Type::call` a call, of the crates that its section names first.
 find crates -name out -prune -o -path '*/src/*' -name '*.rt' -print | sort | xargs awk '
