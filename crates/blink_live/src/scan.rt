@@ -32,7 +32,8 @@ impl Live {
     /// Reports the entries whose keys are from `lo` to `hi`, both included, in ascending order, whatever other passes do at the
     /// same time. The keys may be anybody's. It fills `into` from the first place on, and leaves the other places as they were. It
     /// stops at the end of the range; or where the slice is full, and then `next` tells the key from which another scan goes on.
-    /// A range is empty if `lo > hi`.
+    /// A range is empty if `lo > hi`. The first `n` entries from a key on are those of
+    /// `scan(pass, key, u64::MAX, &mut into[..n])`.
     ///
     /// The scan reads leaf after leaf, each at one moment, from the left. So what it says of a key is what the changes up to some
     /// moment of the call leave of it, and of a greater key what the changes up to that moment or a later one leave. A key that is
