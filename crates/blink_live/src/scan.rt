@@ -20,7 +20,7 @@ use blink_batch::Entry;
 use blink_rows::HEAD_WORDS;
 
 /// How far a scan came.
-#[derive(Clone, Copy)]
+#[derive(Clone, Copy, Debug, PartialEq, Eq)]
 pub struct Scanned {
     /// The number of places that the scan filled, from the first on.
     pub filled: usize,
