@@ -2,5 +2,8 @@
 
 -- what was shown
 pub use Rattle.blink_client.specs.Shown.{IsNewWith, IsShown, IsShownTwice}
+-- how many keys of a range have an entry
+pub use Rattle.blink_client.specs.Counted.{AllAreOwn, present}
 -- ---- the files
 pub mod Shown
+pub mod Counted

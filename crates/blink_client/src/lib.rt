@@ -1,6 +1,8 @@
 //! What callers of a table know from its contracts alone.
 #![tactic(auto)]
 
+mod count;
+
 ghost use Rattle.std.specs.Prelude.{◌≡◌, ◌≢◌, ℕ, Some, None, [], Contains, IfOk, OnErr, OnOk};
 ghost use Rattle.blink_batch.specs.{pointer_of};
 ghost use Rattle.blink_batch.specs.declared.Op.TheVariants.{Insert};
@@ -11,6 +13,7 @@ use blink_batch::Answer;
 use blink_index::Index;
 use blink_live::{Keeper, Live, LiveError, Pass, PassError};
 use blink_rows::Allowance;
+pub use count::count_own;
 use std::alloc::Global;
 use std::sync::Wait;
 use std::thread::{Threads, join_mut};

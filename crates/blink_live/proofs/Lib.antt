@@ -2,6 +2,7 @@ pub mod table
 pub mod opened
 pub mod dealt
 pub mod found
+pub mod scanned
 pub mod changed
 pub mod told
 pub mod retired

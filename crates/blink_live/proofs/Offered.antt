@@ -23,3 +23,5 @@ pub use Rattle.blink_live.proofs.told.PrefixesOfOneList.{prefixes_of_one_list}
 pub use Rattle.blink_live.proofs.changed.ChangesAreTheMaps.{after-append}
 -- changes by one author, and the changes made at a place
 pub use Rattle.blink_live.proofs.table.AccountsStay.{AreBy, made_at-append, made_elsewhere, made_between, made_here, nothing_more, prefix_made}
+-- what a slice has when its first places are filled
+pub use Rattle.blink_live.proofs.scanned.PlacesAreFilled.{first_places, other_places}

@@ -8,3 +8,4 @@ pub mod WaysFromRow
 pub mod OperationsOnTheirWay
 pub mod DescentsGoOn
 pub mod FindsOfSeveral
+pub mod PassesAfterSearches

@@ -5,7 +5,7 @@ use Rattle.atomic_table.specs.Table.{Step}
 use Rattle.blink_batch.specs.declared.Op.{Op}
 use Rattle.blink_batch.specs.declared.Answer.{Answer}
 use Rattle.blink_batch.specs.{answer_at, key_of, pointer_of}
-use Rattle.blink_page.specs.{IsPageNumber, PlainPage, IsLawfulPage}
+use Rattle.blink_page.specs.{IsPageNumber, PlainPage, IsLawfulPage, value_at}
 use Rattle.blink_page.specs.declared.limits.TheConstants.{LEVELS, MAX_FAN}
 use Rattle.blink_rows.specs.{page_words, prime_words}
 use Rattle.blink_rows.specs.declared.limits.TheConstants.{ROW_WORDS}
@@ -13,7 +13,7 @@ use Rattle.blink_rows.specs.declared.span.Span.{Span}
 use Rattle.blink_machine.specs.declared.machine.State.TheVariants.{Going, Ended}
 use Rattle.blink_machine.specs.declared.step.Kind.{Kind}
 use Rattle.blink_machine.specs.declared.step.Step.TheVariants.{Moved}
-use Rattle.blink_machine.specs.{HasEnough, UsesUp, numbers_left, writes_left, primes_left, read_page, latch, unlatch, write_page, write_prime, IsReadable, PlainMachine, NeedsPrime, NeedsPage, NeedsLatch, NeedsNew, NeedsWrite, NeedsPrimeWrite, NeedsUnlatch, fresh, SeesPrime, WaitsForLevel, SeesPage, done}
+use Rattle.blink_machine.specs.{HasEnough, UsesUp, numbers_left, writes_left, primes_left, read_page, latch, unlatch, write_page, write_prime, IsReadable, PlainMachine, NeedsPrime, NeedsPage, NeedsLatch, NeedsNew, NeedsWrite, NeedsPrimeWrite, NeedsUnlatch, fresh, SeesPrime, WaitsForLevel, SeesPage, done, target}
 use Rattle.blink_live.specs.declared.view.Change.{Change}
 use Rattle.blink_live.specs.declared.view.Plan.{Plan}
 use Rattle.blink_live.specs.declared.view.Role.TheVariants.{Keeper}
@@ -65,6 +65,10 @@ begins op st me row then = (machine : PlainMachine) × Begins op me row machine 
 abbrev pub AnswersAfter : (ℕ → Option ℕ) → PlainMachine → PlainMachine → Type 0
 AnswersAfter kept m machine = (machine.answer ≡ m.answer) ⊎ ((m.answer ≡ None) × (machine.answer ≡ Some (answer_at m.op (kept (key_of m.op)))))
 
+-- of each key from the operation's to the leaf's high key, the leaf has the state after all changes so far
+abbrev pub TellsStates : (ℕ → Option ℕ) → PlainMachine → PlainPage → Type 0
+TellsStates kept m leaf = (key : ℕ) → target m ≤ key → key ≤ leaf.high → value_at key leaf.entries ≡ kept key
+
 -- the operation is `machine` now
 pub record LoadsPage (m : PlainMachine) (number : ℕ) (me : SeatState) (row : ℕ) (machine : PlainMachine) (then : SeatState) : Type 0 where
   pub page : PlainPage
@@ -82,6 +86,7 @@ pub record LoadsPage (m : PlainMachine) (number : ℕ) (me : SeatState) (row : �
   pub answers_at_end : machine.state ≡ Ended → IsSome machine.answer
   pub nearer : (level : ℕ) → m.state ≡ Going number level → way < me.0.descent_bound
   pub answers : AnswersAfter (after (pointer_of me.0.plan.opening) seen) m machine
+  pub tells : m.state ≡ Going number 0 → TellsStates (after (pointer_of me.0.plan.opening) seen) m page
   pub knows_own : KnowsItsOwn then.0
 
 abbrev pub loads_page : Step ℕ → SeatState → ℕ → SeatState → Type 0

@@ -12,6 +12,8 @@ pub use Rattle.blink_live.specs.Deals.{HasDealt, HasRetired, IsDealRefusal, IsDe
 pub use Rattle.blink_live.specs.Handing.{AllAreYours, HasGiven, HasReceived, IsFirstForeign, IsHandRefusal, IsHanded}
 -- the keys of a call that finds several: one of them isn't the pass's
 pub use Rattle.blink_live.specs.Finding.{HasForeign}
+-- what a scan reports of a range of keys while others change them
+pub use Rattle.blink_live.specs.Scanning.{IsReport, ReportLaw, ReportTells, SaysOfKeys, StoppedFull, stop_of}
 -- an operation under way: the pass before it, which one it is, and what it waits for
 pub use Rattle.blink_live.specs.Pendings.{HasBegun, IsPendingOf, IsWaiting, op_of, pass_of}
 -- the entries of a table when all its passes are back: the merge of their shares
@@ -48,6 +50,7 @@ pub mod Retiring
 pub mod Parcels
 pub mod Handing
 pub mod Finding
+pub mod Scanning
 pub mod KeyTest
 pub mod Words
 pub mod Laid

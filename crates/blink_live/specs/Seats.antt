@@ -1,5 +1,5 @@
 -- A pass's seat while a call is under way.
-use Rattle.std.specs.Prelude.{◌≡◌, ℕ, ◌<◌, Option, Some, None, List, [], length}
+use Rattle.std.specs.Prelude.{◌≡◌, ℕ, ◌<◌, ◌≤◌, Option, Some, None, List, [], length}
 use mathlib.Core.List.{IsPrefix}
 use Rattle.atomic_table.specs.declared.Seat.{Seat}
 use Rattle.atomic_table.specs.Seated.{TableId}
@@ -20,7 +20,7 @@ use Rattle.blink_live.specs.declared.view.Role.{Role}
 use Rattle.blink_live.specs.declared.view.Role.TheVariants.{Pass}
 use Rattle.blink_live.specs.declared.view.View.{View}
 use Rattle.blink_live.specs.AtomicSteps.{Begins, CanGoOn, LoadsPage}
-use Rattle.blink_live.specs.Views.{SeatState, KnowsItsOwn, SameBesideReads, plan_of}
+use Rattle.blink_live.specs.Views.{SeatState, KnowsItsOwn, SameBesideReads, known_of, plan_of}
 
 -- the seat is that of a pass of this table
 pub record IsPassSeat (live : Live) (table : TableId) (me : SeatState) : Type 0 where
@@ -53,6 +53,13 @@ pub record ReadsPage (me : SeatState) (row : ℕ) (page : PlainPage) : Type 0 wh
 pub record ReadsPrime (me : SeatState) (row : ℕ) (prime : List ℕ) : Type 0 where
   pub reads : me.0.reads ≡ Some (row, prime_words prime)
   pub few_levels : length prime < LEVELS
+
+-- the seat reads the row of a leaf, which has the state that the seat knows of each key from this one to its high key
+pub record ReadsLeaf (key row : ℕ) (me : SeatState) : Type 0 where
+  pub leaf : PlainPage
+  pub reads : ReadsPage me row leaf
+  pub reaches : key ≤ leaf.high
+  pub states : (other : ℕ) → key ≤ other → other ≤ leaf.high → value_at other leaf.entries ≡ known_of me.0 other
 
 -- `way` says where the key leads from the page; if the page is its leaf, `kept` is the pointer stored for the key
 pub record TellsWayFor (key : ℕ) (page : PlainPage) (way : Way) (kept : Option ℕ) : Type 0 where
@@ -103,9 +110,8 @@ pub record IsAtPage (me : SeatState) (key number level : ℕ) : Type 0 where
   pub same_key : key_of machine.op ≡ key
   pub fits : FitsWords machine.op
 
--- the operation has read the page of this number, from which the key leads this way
-pub record ReadsWay (m : PlainMachine) (key number : ℕ) (me : SeatState) (way : Way) (kept : Option ℕ) (then : SeatState) : Type 0 where
-  pub row : ℕ
+-- the operation has read the page of this number in this row, and from there the key leads this way
+pub record ReadsWay (m : PlainMachine) (key number row : ℕ) (me : SeatState) (way : Way) (kept : Option ℕ) (then : SeatState) : Type 0 where
   pub machine : PlainMachine
   pub loads : LoadsPage m number me row machine then
   pub tells : TellsWayFor key loads.page way kept

@@ -17,12 +17,14 @@ mod read;
 mod retire;
 mod room;
 mod rule;
+mod scan;
 mod tell;
 mod update;
 mod view;
 
 pub use error::{HandError, LiveError, PassError};
 pub use live::{Keeper, Live, Pass, Pending};
+pub use scan::{Scanned, reports_tell};
 
 // What a map is made of, in the crate above: the seats of a table, and what their calls are made of.
 pub use common::{CloseRefusal, Extent};

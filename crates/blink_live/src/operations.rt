@@ -5,8 +5,9 @@ ghost use Rattle.blink_batch.specs.{answer_at, answer_of, key_of, FitsWords};
 ghost use Rattle.blink_batch.specs.declared.Op.TheVariants.{Find, Delete, Insert, Replace};
 ghost use Rattle.blink_machine.specs.{IsUpdate};
 ghost use Rattle.blink_live.specs.Handles.{IsPassOf, IsSameBesideSeen, KnowsItsKeys, keys_of, share_of, IsChangedBy};
-ghost use Rattle.blink_live.specs.Seats.{HasSameNumber, IsPassSeat};
+ghost use Rattle.blink_live.specs.Seats.{HasSameNumber, IsPassSeat, ReadsLeaf};
 ghost use Rattle.blink_live.specs.Views.{CanBegin, SameBesideReads, for_call, KnowsItsOwn, known_of};
+ghost use Rattle.blink_live.specs.Words.{IsRowNumber};
 ghost use Rattle.blink_live.specs.Allowed.{changes_left, deletes_left, inserts_left};
 
 use crate::error::PassError;
@@ -118,9 +119,7 @@ impl Live {
         self.change(rt, pass, Op::Replace(key, pointer))
     }
 
-    // Answers a find of the key by the state of the key after the changes that the seat has seen by the end of the call. Of the
-    // operation it has only the page that comes next; its machine is in the seat's view, for the proofs. With a trail the search
-    // in each page begins where the trail says, if that is right.
+    // Answers a find of the key by the state of the key after the changes that the seat has seen by the end of the call.
     pub fn search(&self, seat: &mut Seat<u8, View>, key: u64, trail: Option<&Trail>) -> Answer
         requires seat { IsPassSeat self.now seat.old.table_id seat.old.me }
         requires idle { seat.old.me.0.operation ≡ None }
@@ -133,16 +132,42 @@ impl Live {
         ensures same { SameBesideReads (for_call seat.old.me.0 (Find key)) seat.new.me.0 }
         ensures same_slots { seat.new.me.1 ≡ seat.old.me.1 }
     {
+        let (kept, _) = self.come_to_leaf(seat, key, trail);
+        Op::Find(key).answer(kept)
+    }
+
+    // Brings a find to the leaf of its key, which the seat still reads afterwards. It returns the pointer stored for the key, and
+    // the leaf's row. Of the operation it has only the page that comes next; its machine is in the seat's view, for the proofs.
+    // With a trail the search in each page begins where the trail says, if that is right.
+    pub(crate) fn come_to_leaf(
+        &self,
+        seat: &mut Seat<u8, View>,
+        key: u64,
+        trail: Option<&Trail>,
+    ) -> (Option<u64>, u64)
+        requires seat { IsPassSeat self.now seat.old.table_id seat.old.me }
+        requires idle { seat.old.me.0.operation ≡ None }
+        requires can_begin { CanBegin seat.old.me.0 (Find key) }
+        ensures kept { result.0 ≡ known_of seat.new.me.0 key }
+        ensures row { IsRowNumber self.now.counts result.1 }
+        ensures leaf { ReadsLeaf key result.1 seat.new.me }
+        ensures own { KnowsItsOwn seat.new.me.0 }
+        ensures saw { IsPrefix seat.old.me.0.seen seat.new.me.0.seen }
+        ensures idle { seat.new.me.0.operation ≡ None }
+        ensures same_table { HasSameNumber seat.old seat.new }
+        ensures same { SameBesideReads (for_call seat.old.me.0 (Find key)) seat.new.me.0 }
+        ensures same_slots { seat.new.me.1 ≡ seat.old.me.1 }
+    {
         let (mut number, mut level) = self.root(seat, Op::Find(key));
         loop {
             let hint = hint_at(trail, level);
             match self.read_page(seat, key, number, level, hint) {
-                (Way::Right(next), _) => number = next,
-                (Way::Down(child), _) => {
+                (Way::Right(next), ..) => number = next,
+                (Way::Down(child), ..) => {
                     number = child;
                     level -= 1;
                 }
-                (Way::Here, kept) => return Op::Find(key).answer(kept),
+                (Way::Here, kept, row) => return (kept, row),
             }
         }
     }

@@ -34,11 +34,11 @@ const HAS_FLOOR: usize = 1;
 
 const FLOOR: usize = 2;
 
-const HIGH_KEY: usize = 3;
+pub(crate) const HIGH_KEY: usize = 3;
 
 const RIGHT_LINK: usize = 4;
 
-const COUNT: usize = 5;
+pub(crate) const COUNT: usize = 5;
 
 impl Live {
     // Runs the descent of an operation that has not begun, to the leaf of its key. The operation stays where its caller made it,
@@ -58,7 +58,7 @@ impl Live {
         let (root, level) = self.root(seat, op);
         machine.saw_top(level, root);
         while let &State::Going(number, level) = machine.state() {
-            let (way, kept) = self.read_page(seat, op.key(), number, level, 0);
+            let (way, kept, _) = self.read_page(seat, op.key(), number, level, 0);
             machine.saw_way(way, kept);
         }
     }
@@ -92,9 +92,9 @@ impl Live {
         self.table.shared.load::<Begin<B>>(seat, 0)
     }
 
-    // Reads the page that a descending operation needs next, of this number and level, and returns where the key leads from
-    // there. If the page is the key's leaf, it also returns the pointer stored for the key. `hint` is where the search in the
-    // page may begin; any hint gives the same answer.
+    // Reads the page that a descending operation needs next, of this number and level. It returns where the key leads from there;
+    // if the page is the key's leaf, the pointer stored for the key; and the page's row. `hint` is where the search in the page
+    // may begin; any hint gives the same answer.
     pub(crate) fn read_page(
         &self,
         seat: &mut Seat<u8, View>,
@@ -102,16 +102,18 @@ impl Live {
         number: u32,
         level: u8,
         hint: usize,
-    ) -> (Way, Option<u64>)
+    ) -> (Way, Option<u64>, u64)
         requires seat { IsPassSeat self.now seat.old.table_id seat.old.me }
         requires at { IsAtPage seat.old.me key number level }
         requires in_range { (1 ≤ number) × (number < self.now.counts.numbers) }
         ensures same { HasSameNumber seat.old seat.new }
+        ensures row { IsRowNumber self.now.counts result.2 }
         ensures way { (at : IsAtPage seat.old.me key number level)
-            → ReadsWay at.machine key number seat.old.me result.0 result.1 seat.new.me }
+            → ReadsWay at.machine key number result.2 seat.old.me result.0 result.1 seat.new.me }
     {
         let row = self.table.shared.load::<LoadPage>(seat, number as usize);
-        self.way_from(seat, row, level, key, hint)
+        let (way, kept) = self.way_from(seat, row, level, key, hint);
+        (way, kept, row)
     }
 
     // Where the key leads from the page of this level whose row the seat reads. If that page is the key's leaf, also the pointer
@@ -216,7 +218,7 @@ impl Live {
     }
 
     // Loads a word of the row that begins at `start`.
-    fn load_word(&self, seat: &mut Seat<u8, View>, start: usize, place: usize) -> u64
+    pub(crate) fn load_word(&self, seat: &mut Seat<u8, View>, start: usize, place: usize) -> u64
         requires seat { IsPassSeat self.now seat.old.table_id seat.old.me }
         requires inside { start + ROW_WORDS ≤ word_count self.now.counts }
         requires place { place < ROW_WORDS }

@@ -8,8 +8,8 @@ use crate::same::{given, same};
 use crate::shared::opened;
 use blink_batch::Answer;
 use blink_client::{
-    deal_key, find_what_was_left, glance_at_nobodys_key, insert_and_show, insert_and_show_on,
-    two_threads,
+    count_own, deal_key, find_what_was_left, glance_at_nobodys_key, insert_and_show,
+    insert_and_show_on, two_threads,
 };
 use blink_index::Index;
 use blink_live::{Keeper, Live, LiveError, Pass};
@@ -134,4 +134,28 @@ fn find_what_was_left_finds_the_entry(rt: HostRuntime) {
     } = with_new_key(&rt, rt.alloc());
     let found = find_what_was_left(&rt, rt.alloc(), &live, &mut keeper, one, 5, 50);
     same(&rt, &found, &Ok(Some(Answer::Found(50))));
+}
+
+// Counts the entries of key 5 alone.
+fn count_five(rt: &impl Abort, live: &Live, pass: &mut Pass, expected: u64)
+    requires its_own { IsPassOf live.now pass.old }
+    requires own_key { Contains (keys_of pass.old) 5 }
+    ensures its_own { IsPassOf live.now pass.new }
+    ensures own_key { Contains (keys_of pass.new) 5 }
+{
+    let count = count_own(live, pass, 5, 6);
+    same(rt, &count, &expected);
+}
+
+#[test]
+fn count_own_counts_what_the_pass_inserts(rt: HostRuntime) {
+    let NewKey {
+        live,
+        keeper: _keeper,
+        mut one,
+    } = with_new_key(&rt, rt.alloc());
+    count_five(&rt, &live, &mut one, 0);
+    let inserted = live.insert(&rt, &mut one, 5, 50);
+    same(&rt, &inserted, &Ok(Answer::Inserted));
+    count_five(&rt, &live, &mut one, 1);
 }

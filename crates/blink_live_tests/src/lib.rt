@@ -32,6 +32,8 @@ mod retiring;
 #[cfg(test)]
 mod same;
 #[cfg(test)]
+mod scanning;
+#[cfg(test)]
 mod shared;
 #[cfg(test)]
 mod sights;

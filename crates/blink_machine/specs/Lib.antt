@@ -26,6 +26,8 @@ pub use Rattle.blink_machine.specs.Needs.{NeedsNoRead, NeedsSomePage, NeedsSomeW
 pub use Rattle.blink_machine.specs.TreeMap.{HasMap, IsMapOf, HasEntries, entries_from, pairs_of}
 -- the law that all other facts about steps follow from, in nine parts
 pub use Rattle.blink_machine.specs.StepLaw.{IsMapAt}
+-- what a leaf tells to an operation that has come to it: the state of each of its keys
+pub use Rattle.blink_machine.specs.LeafLaw.{LeafTellsItsKeys, TellsItsKeys}
 -- what an operation makes of what it reads is determined
 pub use Rattle.blink_machine.specs.OneResult.{OneChange, OneResultOfPage, OneResultOfPrime}
 -- the code of each refusal
@@ -66,3 +68,4 @@ pub mod StepLaw
 pub mod OneResult
 pub mod MachineView
 pub mod Codes
+pub mod LeafLaw

@@ -1,4 +1,5 @@
 //! Laws of one operation and of its steps. Each stands on a function that does nothing.
+ghost use Rattle.blink_machine.specs.LeafLaw.{LeafTellsItsKeys};
 ghost use Rattle.blink_machine.specs.OneResult.{OneChange, OneResultOfPage, OneResultOfPrime};
 ghost use Rattle.blink_machine.specs.StepLaw.{StepLaw};
 
@@ -15,4 +16,9 @@ pub fn reads_have_one_result()
 /// rely on this law. Its proofs do so by the lemma `step_law`, which is this clause.
 pub fn step_keeps()
     ensures { StepLaw }
+{}
+
+/// States that a leaf tells the state of each of its keys to an operation that has come to it. A scan rests on this law.
+pub fn leaf_tells_its_keys()
+    ensures { LeafTellsItsKeys }
 {}

@@ -1,14 +1,22 @@
--- Finds of several keys by a member.
+-- Finds of several keys, and scans, by a member.
 use Rattle.std.proofs.Common.{◌≡◌, ◌≤◌, ℕ, Option, List, [], ◌∷◌, Contains, sym, ap, ◌∙◌, subst, arith}
+use mathlib.Core.List.{IsPrefix}
+use Rattle.atomic_table.specs.Seated.{TableId}
 use Rattle.blink_batch.specs.{pointer_of}
 use Rattle.blink_batch.specs.declared.Entry.{Entry}
 use Rattle.blink_rows.specs.declared.span.Span.{Span}
+use Rattle.blink_live.specs.declared.live.Live.{Live}
+use Rattle.blink_live.specs.declared.view.Change.{Change}
 use Rattle.blink_live.specs.declared.view.Plan.{Plan}
+use Rattle.blink_live.specs.declared.view.Share.{Share}
 use Rattle.blink_live.specs.declared.view.View.{View}
 use Rattle.blink_live.specs.Changes.{after}
-use Rattle.blink_live.specs.Finding.{AreFound, IsIdle}
+use Rattle.blink_live.specs.Finding.{AreFound, HasSearched, IsIdle}
+use Rattle.blink_live.specs.Seats.{IsPassSeat}
 use Rattle.blink_live.specs.Views.{SeatState, is_busy}
 use Rattle.blink_map.specs.declared.member.Member.{Member}
+use Rattle.blink_map.specs.Finding.{HasLooked}
+use Rattle.blink_map.specs.Places.{IsMemberOf}
 use Rattle.blink_map.specs.Sessions.{AnswersAsSeen}
 
 no_key_in : (keys : List ℕ) (key : ℕ) → keys ≡ [] → Contains keys key → ⊥
@@ -28,6 +36,29 @@ can_look old me marked =
       };
       announced = λ common. subst (λ (v : View). 1 ≤ v.busy) (sym view) (omega arith);
     }
+
+module _ (old : Member) (first found : SeatState) (marked : first ≡ (is_busy old.seat.me.0 1, old.seat.me.1)) (searched : HasSearched first found) where
+  -- afterwards the seat is still the member's
+  pub is_still_its_seat : (live : Live) (table : TableId) → table ≡ old.seat.table_id → IsMemberOf live old → IsPassSeat live table found
+  is_still_its_seat live table same its = record {
+    same_table = same ∙ its.same_table;
+    same_plan = searched.same_plan ∙ (ap (λ (x : SeatState). x.0.plan) marked ∙ its.same_plan);
+    role = searched.same_role ∙ (ap (λ (x : SeatState). x.0.role) marked ∙ old.role_is);
+  }
+
+  -- and the member is as it was, except that it may have seen more
+  pub has_looked : (new : Member) → new.seat.me ≡ (is_busy found.0 0, found.1) → new.seat.table_id ≡ old.seat.table_id → new.rows ≡ old.rows → new.pages ≡ old.pages → HasLooked old new
+  has_looked new now same_table same_rows same_pages = record {
+    saw = subst (λ (x : List Change × List Change). IsPrefix x.0 x.1) (λ i. (ap (λ (x : SeatState). x.0.seen) marked i, sym (ap (λ (x : SeatState). x.0.seen) now) i)) searched.saw;
+    made = ap (λ (x : SeatState). x.0.share.changes) now ∙ ap (λ (s : Share). s.changes) (searched.same_share ∙ ap (λ (x : SeatState). x.0.share) marked);
+    rows = same_rows;
+    pages = same_pages;
+    same_member = record {
+      same_table = same_table;
+      same_plan = ap (λ (x : SeatState). x.0.plan) now ∙ (searched.same_plan ∙ ap (λ (x : SeatState). x.0.plan) marked);
+      same_place = ap (λ (x : SeatState). x.0.place) now ∙ (searched.same_place ∙ ap (λ (x : SeatState). x.0.place) marked);
+    };
+  }
 
 -- what a seat has found is what it had seen
 pub found_as_seen : (opening : List Entry) (keys : List ℕ) (answers : List (Option ℕ)) (first last : SeatState) → first.0.plan.opening ≡ opening → AreFound first keys answers last → AnswersAsSeen opening first.0.seen keys answers last.0.seen

@@ -14,8 +14,10 @@ mod places;
 mod put;
 mod rest;
 mod room;
+mod scan;
 mod sessions;
 mod tell;
 
+pub use blink_live::Scanned;
 pub use error::{Full, MapError};
 pub use map::{Map, Pending, Room, Session};

@@ -15,7 +15,7 @@ use Rattle.blink_machine.specs.declared.machine.State.{State}
 use Rattle.blink_machine.specs.declared.machine.State.TheVariants.{Going, Ended}
 use Rattle.blink_machine.specs.{IsReadable, IsTopLeftmost, PlainMachine, SeesOnItsWay, SeesPage, SeesPrime, TellsWay, at_state, fresh, goes_on, key_of_job, level_read, target}
 use Rattle.blink_live.specs.declared.view.Change.{Change}
-use Rattle.blink_live.specs.Seats.{BeginsAt, HasRead, IsAtPage, IsDescending, IsGoing, ReadsWay, TellsWayFor, at_leaf, found, going, wants}
+use Rattle.blink_live.specs.Seats.{BeginsAt, HasRead, IsAtPage, IsDescending, IsGoing, ReadsWay, ReadsLeaf, TellsWayFor}
 use Rattle.blink_live.specs.Views.{SeatState, for_call, known_of}
 use Rattle.blink_live.proofs.found.OperationsOnTheirWay.{goes_down, same_reading}
 
@@ -82,12 +82,12 @@ tells_way me key number level page way kept at readable tells =
       maps = λ found_key op here. subst (λ (k : ℕ). value_at k page.entries ≡ kept) (sym at.same_key ∙ ap key_of op) (tells.maps here);
     }
 
-pub goes_on_down : (op : Op) (key number level : ℕ) (first me new : SeatState) (after : PlainMachine) (way : Way) (kept : Option ℕ) → (at : IsAtPage me key number level) → HasRead op first me at.machine → at.machine.answer ≡ None
-    → (reads : ReadsWay at.machine key number me way kept new) → SeesOnItsWay at.machine number reads.loads.page after → HasRead op first new after × IsDescending op (known_of new.0 (key_of op)) after
-goes_on_down op key number level first me new after way kept at read none_yet reads sees =
+pub goes_on_down : (op : Op) (key number level row : ℕ) (first me new : SeatState) (after : PlainMachine) (way : Way) (kept : Option ℕ) → (at : IsAtPage me key number level) → HasRead op first me at.machine → at.machine.answer ≡ None
+    → (reads : ReadsWay at.machine key number row me way kept new) → SeesOnItsWay at.machine number reads.loads.page after → HasRead op first new after × IsDescending op (known_of new.0 (key_of op)) after
+goes_on_down op key number level row first me new after way kept at read none_yet reads sees =
     let same : after ≡ reads.machine = reads.loads.only after (SeesPage.on_its_way sees) in
     subst (λ (x : PlainMachine). HasRead op first new x × IsDescending op (known_of new.0 (key_of op)) x) (sym same)
-    (goes_down op number reads.row first me at.machine reads.machine new read (record { same_job = at.same_job; on_its_way = (number, level, at.state) }) none_yet reads.loads)
+    (goes_down op number row first me at.machine reads.machine new read (record { same_job = at.same_job; on_its_way = (number, level, at.state) }) none_yet reads.loads)
 
 -- ---- a find from page to page
 
@@ -104,7 +104,7 @@ pub comes_to_root : (op : Op) (number level : ℕ) (me then : SeatState) → Fit
 comes_to_root op number level me then fits begun =
     come_to op number level (for_call me.0 op, me.1) then begun.machine (read_at_root op number level me then begun) fits (state_at_root op number level me then begun) (none_at_root op number level me then begun)
 
-module _ (op : Op) (number level : ℕ) (first me new : SeatState) (way : Way) (kept : Option ℕ) (has : HasComeTo op first me number level) (reads : ReadsWay has.at.machine (key_of op) number me way kept new) where
+module _ (op : Op) (number level row : ℕ) (first me new : SeatState) (way : Way) (kept : Option ℕ) (has : HasComeTo op first me number level) (reads : ReadsWay has.at.machine (key_of op) number row me way kept new) where
   its_key : target has.at.machine ≡ key_of op
   its_key = ap (λ (job : Job). key_of_job has.at.machine.op job) has.at.same_job ∙ has.at.same_key
 
@@ -121,7 +121,7 @@ module _ (op : Op) (number level : ℕ) (first me new : SeatState) (way : Way) (
   goes = record { same_job = has.read.same_job; on_its_way = (number, level, has.at.state) }
 
   now : HasRead op first new reads.machine × IsDescending op (known_of new.0 (key_of op)) reads.machine
-  now = goes_down op number reads.row first me has.at.machine reads.machine new has.read goes has.none_yet reads.loads
+  now = goes_down op number row first me has.at.machine reads.machine new has.read goes has.none_yet reads.loads
 
   is_machine : (other : PlainMachine) → SeesOnItsWay has.at.machine number reads.loads.page other → reads.machine ≡ other
   is_machine other sees = sym (reads.loads.only other (SeesPage.on_its_way sees))
@@ -169,11 +169,22 @@ module _ (op : Op) (number level : ℕ) (first me new : SeatState) (way : Way) (
     pub find_ends : HasRead op first new reads.machine × (reads.machine.state ≡ Ended)
     find_ends = (now.0, ap (λ (x : PlainMachine). x.state) ended_as)
 
-    by_descent : IsDescending op (known_of new.0 (key_of op)) reads.machine → answer_at (Find key) kept ≡ answer_at op (known_of new.0 (key_of op))
-    by_descent (going is_going none_yet) = absurd (let given = ap (λ (x : PlainMachine). x.answer) ended_as in cc)
-    by_descent (at_leaf (wants page updates state none_yet)) = absurd (let given = ap (λ (x : PlainMachine). x.answer) ended_as in cc)
-    by_descent (at_leaf (found k found_is state answer)) =
-        some_same _ _ (sym (ap (λ (x : PlainMachine). x.answer) ended_as) ∙ answer)
+    -- and the seat reads its leaf
+    pub reads_leaf : ReadsLeaf (key_of op) row new
+    reads_leaf =
+        let leads_here = subst (Leads reads.loads.page (key_of op)) here reads.tells.leads in
+        let is_leaf : level ≡ 0 = sym its_level ∙ leads_here.1 in
+        let at_leaf : has.at.machine.state ≡ Going number 0 = has.at.state ∙ ap (Going number) is_leaf in record {
+          leaf = reads.loads.page;
+          reads = record { reads = ap (λ (x : SeatState). x.0.reads) reads.loads.is; lawful = reads.loads.lawful };
+          reaches = leads_here.0;
+          states = λ other not_before not_behind.
+              reads.loads.tells at_leaf other (subst (λ (k : ℕ). k ≤ other) (sym its_key) not_before) not_behind
+              ∙ ap (λ (x : SeatState). known_of x.0 other) (sym reads.loads.is);
+        }
 
-    pub answers_as_known : answer_at (Find key) kept ≡ answer_at (Find key) (known_of new.0 key)
-    answers_as_known = by_descent now.1 ∙ ap (λ (o : Op). answer_at o (known_of new.0 (key_of o))) is_find
+    pub kept_as_known : kept ≡ known_of new.0 (key_of op)
+    unfolding reads_leaf
+    kept_as_known =
+        let leaf = reads_leaf in
+        sym (reads.tells.maps here) ∙ leaf.states (key_of op) (omega arith) leaf.reaches

@@ -4,20 +4,21 @@ use Rattle.std.specs.Prelude.{slice_index}
 use mathlib.Core.Option.{none}
 use mathlib.Core.List.{append-nil}
 use Rattle.atomic_table.specs.Table.{step, keeps, Allows}
+use Rattle.blink_batch.specs.declared.Entry.{Entry}
 use Rattle.blink_batch.specs.{FitsWords, answer_at, key_of, pointer_of}
 use Rattle.blink_page.specs.{PlainPage, IsLawfulPage}
 use Rattle.blink_page.specs.declared.limits.TheConstants.{MAX_FAN}
 use Rattle.blink_rows.specs.{page_words}
 use Rattle.blink_machine.specs.declared.step.Step.TheVariants.{Moved}
 use Rattle.blink_machine.specs.declared.step.Kind.TheVariants as kind
-use Rattle.blink_machine.specs.{PlainMachine, NeedsPage, goes_on, Steps, reads_page, IsItsOperation, under_way, descent_bound, Decides, deciding, other, SeesPage}
+use Rattle.blink_machine.specs.{PlainMachine, NeedsPage, goes_on, Steps, reads_page, IsItsOperation, under_way, descent_bound, Decides, deciding, other, SeesPage, TellsItsKeys}
 use Rattle.blink_machine.specs.TreeState.{TreeState}
-use Rattle.blink_machine.proofs.Offered.{step_law, descent_bound_falls, has_answer_at_end}
+use Rattle.blink_machine.proofs.Offered.{step_law, leaf_tells_its_keys, descent_bound_falls, has_answer_at_end}
 use Rattle.blink_live.specs.declared.view.Plan.{Plan}
 use Rattle.blink_live.specs.declared.view.Role.TheVariants.{Pass}
 use Rattle.blink_live.specs.declared.view.View.{View}
 use Rattle.blink_live.specs.Changes.{after}
-use Rattle.blink_live.specs.AtomicSteps.{loads_page, LoadsPage, AnswersAfter}
+use Rattle.blink_live.specs.AtomicSteps.{loads_page, LoadsPage, AnswersAfter, TellsStates}
 use Rattle.blink_live.specs.Rule.{IsTable, IsTableAt, PageWordIs}
 use Rattle.blink_live.specs.Views.{SeatState, reading}
 use Rattle.blink_live.proofs.table.LoadsKeepTable.{moved, load_keeps}
@@ -37,6 +38,12 @@ module _ (tree_state : TreeState) (worker number : ℕ) (m then : PlainMachine) 
 answers_after : (kept : ℕ → Option ℕ) (tree_state : TreeState) (m then : PlainMachine) (now : List _) → ((key : ℕ) → pointer_of now key ≡ kept key) → Decides tree_state m then now → AnswersAfter kept m then
 answers_after kept tree_state m then now is (deciding none_yet answered has_entries) = inr (none_yet, answered ∙ ap (λ (o : Option ℕ). Some (answer_at m.op o)) (is (key_of m.op)))
 answers_after kept tree_state m then now is (other same has_entries) = inl same
+
+-- a leaf that it has come to has the states after the changes so far
+tells_states : (kept : ℕ → Option ℕ) (m : PlainMachine) (leaf : PlainPage) (now : List Entry) → ((key : ℕ) → pointer_of now key ≡ kept key) → TellsItsKeys m leaf now → TellsStates kept m leaf
+tells_states kept m leaf now is leaf_tells key not_before not_behind =
+    let below = leaf_tells.floor_below in
+    sym (leaf_tells.states key (omega (arith, below, not_before), not_behind)) ∙ is key
 
 -- a page of some tree is lawful under the greatest fan
 lawful_within : (fan : ℕ) (page : PlainPage) → fan ≤ MAX_FAN → IsLawfulPage fan page → IsLawfulPage MAX_FAN page
@@ -103,6 +110,10 @@ reads_page_word plan slots id number me m role at_m fits needs some_number in_ra
               omega (arith, before, falls);
           answers = answers_after (after (pointer_of me.0.plan.opening) h.log) new m then h.now
               (subst (λ (p : Plan). (key : ℕ) → pointer_of h.now key ≡ after (pointer_of p.opening) h.log key) (sym known.same_plan) h.kept) decides;
+          tells = λ at_leaf.
+              let kept = subst (λ (p : Plan). (key : ℕ) → pointer_of h.now key ≡ after (pointer_of p.opening) h.log key) (sym known.same_plan) h.kept in
+              tells_states (after (pointer_of me.0.plan.opening) h.log) m reads.page h.now kept
+              (leaf_tells_its_keys tree_state id number m reads.page h.now h.invariant under at_leaf reads.there h.is_map.kept);
           knows_own = share_is_known plan h.owners (suc id) w known.same_plan known.share;
         },
       ),

@@ -63,7 +63,7 @@ loop-number-preserved c =
     let reads = c.read_page-way.ensures.way at in
     let tells = tells_way c.loop-number.seat.me c.key.result c.in-Going.number c.in-Going.level reads.loads.page c.read_page-way.result.0 c.read_page-way.result.1 at reads.loads.readable reads.tells in
     let on_its_way = needs_on_its_way c.args.op (known_of c.loop-number.seat.me.0 (key_of c.args.op)) c.loop-number.machine c.in-Going.number c.loop-number.invariant.descends needs in
-    let now = goes_on_down c.args.op c.key.result c.in-Going.number c.in-Going.level (for_call c.args.seat.now.me.0 c.args.op, c.args.seat.now.me.1) c.loop-number.seat.me c.read_page-way.new.seat.me c.saw_way.new.self
+    let now = goes_on_down c.args.op c.key.result c.in-Going.number c.in-Going.level _ (for_call c.args.seat.now.me.0 c.args.op, c.args.seat.now.me.1) c.loop-number.seat.me c.read_page-way.new.seat.me c.saw_way.new.self
     c.read_page-way.result.0 c.read_page-way.result.1 at read on_its_way.1 reads (c.saw_way.ensures c.in-Going.number reads.loads.page needs tells) in
     record {
       same_table = (c.read_page-way.ensures.same.0 ∙ c.loop-number.invariant.same_table.0, c.read_page-way.ensures.same.1 ∙ c.loop-number.invariant.same_table.1);
@@ -78,7 +78,7 @@ loop-number-smaller c =
     let needs = ap need_at state in
     let at = at_page c.args.op c.key.result c.in-Going.number c.in-Going.level _ c.loop-number.seat.me c.loop-number.machine read c.requires.fits (sym c.key.ensures) state in
     let reads = c.read_page-way.ensures.way at in
-    comes_nearer c.loop-number.machine reads.machine c.in-Going.number reads.row c.loop-number.seat.me c.read_page-way.new.seat.me (record { same_job = read.same_job; on_its_way = (c.in-Going.number, c.in-Going.level, state) }) needs reads.loads
+    comes_nearer c.loop-number.machine reads.machine c.in-Going.number _ c.loop-number.seat.me c.read_page-way.new.seat.me (record { same_job = read.same_job; on_its_way = (c.in-Going.number, c.in-Going.level, state) }) needs reads.loads
 
 pub returns : goal.returns
 returns c =

@@ -24,8 +24,8 @@ reads_page : {machine : PlainMachine} {key number level row : ℕ} {me then : Se
 reads_page at loads =
     (record { reads = ap (λ (x : SeatState). x.0.reads) loads.is; lawful = loads.lawful }, loads.readable.has_level ∙ ap (λ (state : State). level_read (at_state at.machine state)) at.state)
 
-pub way_from-requires-clause-seat : goal.way_from-requires-clause-seat
-way_from-requires-clause-seat c =
+pub way_from-way-requires-clause-seat : goal.way_from-way-requires-clause-seat
+way_from-way-requires-clause-seat c =
     let at = c.requires.at in
     let loads = (c.load-row.ensures.2 at.machine at.operation (ap need_at at.state)).1 in
     let same = ap (λ (x : SeatState). x.0) loads.is in record {
@@ -34,22 +34,28 @@ way_from-requires-clause-seat c =
       role = ap (λ (v : View). v.role) same ∙ c.requires.seat.role;
     }
 
-pub way_from-requires-clause-row : goal.way_from-requires-clause-row
-way_from-requires-clause-row c =
+pub way_from-way-requires-clause-row : goal.way_from-way-requires-clause-row
+way_from-way-requires-clause-row c =
     let at = c.requires.at in
     let loads = (c.load-row.ensures.2 at.machine at.operation (ap need_at at.state)).1 in
     subst (λ (counts : PlainCounts). (1 ≤ c.load-row.result) × (c.load-row.result ≤ counts.rows)) (ap (λ (p : Plan). p.counts) c.requires.seat.same_plan ∙ sym c.args.self.now.counts_are) loads.row_in_range
 
-pub way_from-requires-clause-page : goal.way_from-requires-clause-page
-way_from-requires-clause-page c =
+pub way_from-way-requires-clause-page : goal.way_from-way-requires-clause-page
+way_from-way-requires-clause-page c =
     let at = c.requires.at in
     let loads = (c.load-row.ensures.2 at.machine at.operation (ap need_at at.state)).1 in
     let reads = reads_page at loads in
     (loads.page, reads.0, reads.1)
 
+pub returns-clause-row : goal.returns-clause-row
+returns-clause-row c =
+    let at = c.requires.at in
+    let loads = (c.load-row.ensures.2 at.machine at.operation (ap need_at at.state)).1 in
+    subst (λ (counts : PlainCounts). (1 ≤ c.load-row.result) × (c.load-row.result ≤ counts.rows)) (ap (λ (p : Plan). p.counts) c.requires.seat.same_plan ∙ sym c.args.self.now.counts_are) loads.row_in_range
+
 pub returns-clause-way : goal.returns-clause-way
 returns-clause-way c at =
     let loads = c.load-row.ensures.2 at.machine at.operation (ap need_at at.state) in
     let reads = reads_page at loads.1 in
-    subst (ReadsWay at.machine c.args.key c.args.number c.args.seat.now.me c.way_from.result.0 c.way_from.result.1) (sym c.way_from.ensures.same.2)
-    (record { row = c.load-row.result; machine = loads.0; loads = loads.1; tells = c.way_from.ensures.way loads.1.page reads.0 reads.1 })
+    subst (ReadsWay at.machine c.args.key c.args.number c.load-row.result c.args.seat.now.me c.way_from-way.result.0 c.way_from-way.result.1) (sym c.way_from-way.ensures.same.2)
+    (record { machine = loads.0; loads = loads.1; tells = c.way_from-way.ensures.way loads.1.page reads.0 reads.1 })

@@ -1,5 +1,4 @@
 use Rattle.std.proofs.Common.{◌≡◌, List, inl, refl, sym, ap, ◌∙◌, subst, arith}
-use mathlib.Core.List.{IsPrefix}
 use Rattle.blink_live.specs.declared.view.Change.{Change}
 use Rattle.blink_live.specs.declared.view.Plan.{Plan}
 use Rattle.blink_live.specs.declared.view.Share.{Share}
@@ -7,7 +6,7 @@ use Rattle.blink_live.specs.Handles.{opening_of}
 use Rattle.blink_live.specs.Accounts.{HasSeenItsOwn}
 use Rattle.blink_live.specs.Views.{SeatState}
 use Rattle.blink_map.specs.Sessions.{AnswersAsSeen}
-use Rattle.blink_map.proofs.LooksOver.{can_look, found_as_seen}
+use Rattle.blink_map.proofs.LooksOver.{can_look, found_as_seen, has_looked, is_still_its_seat}
 use Rattle.blink_map.proofs.member.Member.look_over.Goals as goal
 
 pub search_all-requires-clause-idle : goal.search_all-requires-clause-idle
@@ -17,16 +16,11 @@ pub mark-requires-2 : goal.mark-requires-2
 mark-requires-2 c =
     let old = c.args.self.now in
     let live = c.args.live.now in
-    let its = c.requires.its_own in
     let marked = c.mark.ensures.marked in
     let found = c.search_all.ensures.searched in
     let inside = old.place_is.1 in
-    let same : old.seat.me.0.plan.places ≡ live.places = ap (λ (p : Plan). p.places) its.same_plan ∙ sym live.places_are in record {
-      seat = record {
-        same_table = c.search_all.ensures.same_table.0 ∙ (c.mark.ensures.same.0 ∙ its.same_table);
-        same_plan = found.same_plan ∙ (ap (λ (x : SeatState). x.0.plan) marked ∙ its.same_plan);
-        role = found.same_role ∙ (ap (λ (x : SeatState). x.0.role) marked ∙ old.role_is);
-      };
+    let same : old.seat.me.0.plan.places ≡ live.places = ap (λ (p : Plan). p.places) c.requires.its_own.same_plan ∙ sym live.places_are in record {
+      seat = is_still_its_seat old c.mark.new.seat.me c.search_all.new.seat.me marked found live _ (c.search_all.ensures.same_table.0 ∙ c.mark.ensures.same.0) c.requires.its_own;
       place = (old.place_is.0 ∙ sym (found.same_place ∙ ap (λ (x : SeatState). x.0.place) marked), omega (arith, inside, same));
       idle = inl found.idle.idle;
     }
@@ -64,16 +58,4 @@ returns-clause-answers c =
 
 pub returns-clause-looked : goal.returns-clause-looked
 returns-clause-looked c =
-    let marked = c.mark.ensures.marked in
-    let found = c.search_all.ensures.searched in
-    let now = c.mark-2.ensures.marked in record {
-      saw = subst (λ (x : List Change × List Change). IsPrefix x.0 x.1) (λ i. (ap (λ (x : SeatState). x.0.seen) marked i, sym (ap (λ (x : SeatState). x.0.seen) now) i)) found.saw;
-      made = ap (λ (x : SeatState). x.0.share.changes) now ∙ ap (λ (s : Share). s.changes) (found.same_share ∙ ap (λ (x : SeatState). x.0.share) marked);
-      rows = refl;
-      pages = refl;
-      same_member = record {
-        same_table = c.mark-2.ensures.same.0 ∙ (c.search_all.ensures.same_table.0 ∙ c.mark.ensures.same.0);
-        same_plan = ap (λ (x : SeatState). x.0.plan) now ∙ (found.same_plan ∙ ap (λ (x : SeatState). x.0.plan) marked);
-        same_place = ap (λ (x : SeatState). x.0.place) now ∙ (found.same_place ∙ ap (λ (x : SeatState). x.0.place) marked);
-      };
-    }
+    has_looked c.args.self.now c.mark.new.seat.me c.search_all.new.seat.me c.mark.ensures.marked c.search_all.ensures.searched _ c.mark-2.ensures.marked (c.mark-2.ensures.same.0 ∙ (c.search_all.ensures.same_table.0 ∙ c.mark.ensures.same.0)) refl refl

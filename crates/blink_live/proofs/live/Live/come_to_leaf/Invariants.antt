@@ -2,7 +2,7 @@ use Rattle.blink_batch.specs.declared.Op.TheVariants.{Find}
 use Rattle.blink_live.specs.Seats.{HasSameNumber}
 use Rattle.blink_live.specs.Views.{for_call}
 use Rattle.blink_live.proofs.found.DescentsGoOn.{HasComeTo}
-use Rattle.blink_live.proofs.live.Live.search.Given as goal
+use Rattle.blink_live.proofs.live.Live.come_to_leaf.Given as goal
 
 abbrev pub invariant-loop-next : goal.invariant-loop-next
 invariant-loop-next l = record {

@@ -1,0 +1,4 @@
+pub mod EntriesBetween
+pub mod PlacesAreFilled
+pub mod LeavesAreCopied
+pub mod ReportsGoOn

@@ -1,0 +1,174 @@
+//! Scans: the entries of a range of keys in ascending order, while other passes change the tree.
+//!
+//! A scan goes from leaf to leaf. For each leaf it descends anew, with a find for the first key that it hasn't covered. The load of
+//! the leaf's page word tells the seat the state of each key from there to the leaf's high key, and the row that it names never
+//! changes. So the entries of one leaf are those of one moment; those of the leaf to the right are of a later one.
+ghost use Rattle.std.specs.Prelude.{◌≡◌, ◌+◌, ◌<◌, ◌≤◌, List, IfSome, length, take, drop};
+ghost use Rattle.blink_batch.specs.declared.Entry.{Entry};
+ghost use Rattle.blink_live.specs.Finding.{IsIdle};
+ghost use Rattle.blink_live.specs.Handles.{IsPassOf, IsSameBesideSeen, KnowsItsKeys, keys_of, opening_of, seen_of, share_of};
+ghost use Rattle.blink_live.specs.Scanning.{HasScanned, IsCopied, IsFilled, IsReport, ReportLaw, SaysOfKeys, StoppedFull, stop_of};
+ghost use Rattle.blink_live.specs.Seats.{HasSameNumber, IsPassSeat, IsSameSeat, ReadsLeaf};
+ghost use Rattle.blink_live.specs.Views.{known_of};
+ghost use Rattle.blink_live.specs.Words.{IsRowNumber};
+
+use crate::live::{Live, Pass};
+use crate::read::{COUNT, HIGH_KEY};
+use crate::view::View;
+use atomic_table::Seat;
+use blink_batch::Entry;
+use blink_rows::HEAD_WORDS;
+
+/// How far a scan came.
+#[derive(Clone, Copy, Debug, PartialEq, Eq)]
+pub struct Scanned {
+    /// The number of places that the scan filled, from the first on.
+    pub filled: usize,
+    /// The key from which the next scan goes on. `None` if the scan has come to the end of its range.
+    pub next: Option<u64>,
+}
+
+impl Live {
+    /// Reports the entries whose keys are from `lo` to `hi`, both included, in ascending order, whatever other passes do at the
+    /// same time. The keys may be anybody's. It fills `into` from the first place on, and leaves the other places as they were. It
+    /// stops at the end of the range; or where the slice is full, and then `next` tells the key from which another scan goes on.
+    /// A range is empty if `lo > hi`. The first `n` entries from a key on are those of
+    /// `scan(pass, key, u64::MAX, &mut into[..n])`.
+    ///
+    /// The scan reads leaf after leaf, each at one moment, from the left. So what it says of a key is what the changes up to some
+    /// moment of the call leave of it, and of a greater key what the changes up to that moment or a later one leave. A key that is
+    /// present throughout the call is reported, and a key that is absent throughout isn't. Of the pass's own keys the report is
+    /// exact. The call takes no memory, waits for nobody, and returns.
+    pub fn scan(&self, pass: &mut Pass, lo: u64, hi: u64, into: &mut [Entry]) -> Scanned
+        requires its_own { IsPassOf self.now pass.old }
+        ensures report { IsReport (opening_of self.now) (seen_of pass.old) (seen_of pass.new)
+            lo (stop_of hi result.next) (take result.filled into.new) }
+        ensures own { SaysOfKeys (keys_of pass.old) (share_of pass.old)
+            lo (stop_of hi result.next) (take result.filled into.new) }
+        ensures stopped { IfSome result.next (StoppedFull lo hi (length into.old) result.filled) }
+        ensures filled { result.filled ≤ length into.old }
+        ensures others { drop result.filled into.new ≡ drop result.filled into.old }
+        ensures knows { KnowsItsKeys self.now pass.new }
+        ensures same { IsSameBesideSeen pass.old pass.new }
+    {
+        let Pass {
+            seat,
+            keys: _,
+            rows: _,
+            pages: _,
+        } = pass;
+        self.look_up(seat);
+        self.scan_by(seat, lo, hi, into)
+    }
+
+    /// Scans by a seat that has no operation under way.
+    pub fn scan_by(
+        &self,
+        seat: &mut Seat<u8, View>,
+        lo: u64,
+        hi: u64,
+        into: &mut [Entry],
+    ) -> Scanned
+        requires seat { IsPassSeat self.now seat.old.table_id seat.old.me }
+        requires idle { IsIdle seat.old.me.0 }
+        ensures same_table { HasSameNumber seat.old seat.new }
+        ensures scanned { (entries : List Entry) × IsFilled entries into.old into.new
+            × (result.filled ≡ length entries)
+            × HasScanned lo (stop_of hi result.next) entries seat.old.me seat.new.me }
+        ensures stopped { IfSome result.next (StoppedFull lo hi (length into.old) result.filled) }
+    {
+        if lo > hi {
+            return Scanned {
+                filled: 0,
+                next: None,
+            };
+        }
+        let mut from = lo;
+        let mut filled = 0;
+        while filled < into.len() {
+            let run = self.scan_leaf(seat, from, hi, &mut into[filled..]);
+            filled += run.filled;
+            match run.next {
+                Some(next) => from = next,
+                None => return Scanned { filled, next: None },
+            }
+        }
+        Scanned {
+            filled,
+            next: Some(from),
+        }
+    }
+
+    // Reports the entries of one leaf: those from `from` on, up to `hi`, and as many as there are places.
+    fn scan_leaf(
+        &self,
+        seat: &mut Seat<u8, View>,
+        from: u64,
+        hi: u64,
+        into: &mut [Entry],
+    ) -> Scanned
+        requires seat { IsPassSeat self.now seat.old.table_id seat.old.me }
+        requires idle { IsIdle seat.old.me.0 }
+        requires range { from ≤ hi }
+        requires some_place { 1 ≤ length into.old }
+        ensures same_table { HasSameNumber seat.old seat.new }
+        ensures scanned { (entries : List Entry) × IsFilled entries into.old into.new
+            × (result.filled ≡ length entries)
+            × HasScanned from (stop_of hi result.next) entries seat.old.me seat.new.me }
+        ensures further { IfSome result.next (λ next. (from < next) × (next ≤ hi)) }
+    {
+        let (_, row) = self.come_to_leaf(seat, from, None);
+        self.copy_leaf(seat, row, from, hi, into)
+    }
+
+    // Copies entries of the leaf that the seat reads: those from `from` on, up to `hi`, and as many as there are places.
+    fn copy_leaf(
+        &self,
+        seat: &mut Seat<u8, View>,
+        row: u64,
+        from: u64,
+        hi: u64,
+        into: &mut [Entry],
+    ) -> Scanned
+        requires seat { IsPassSeat self.now seat.old.table_id seat.old.me }
+        requires row { IsRowNumber self.now.counts row }
+        requires leaf { ReadsLeaf from row seat.old.me }
+        requires range { from ≤ hi }
+        requires some_place { 1 ≤ length into.old }
+        ensures same { IsSameSeat seat.old seat.new }
+        ensures copied { (entries : List Entry) × IsFilled entries into.old into.new
+            × (result.filled ≡ length entries)
+            × IsCopied (known_of seat.old.me.0) from (stop_of hi result.next) entries }
+        ensures further { IfSome result.next (λ next. (from < next) × (next ≤ hi)) }
+    {
+        let start = self.row_place(row);
+        let count = self.load_word(seat, start, COUNT) as usize;
+        let mut filled = 0;
+        for place in 0..count {
+            let at = HEAD_WORDS + 2 * place;
+            let key = self.load_word(seat, start, at);
+            if key > hi {
+                return Scanned { filled, next: None };
+            }
+            if key >= from {
+                if filled == into.len() {
+                    return Scanned {
+                        filled,
+                        next: Some(key),
+                    };
+                }
+                let pointer = self.load_word(seat, start, at + 1);
+                into[filled] = Entry { key, pointer };
+                filled += 1;
+            }
+        }
+        let high = self.load_word(seat, start, HIGH_KEY);
+        let next = if high < hi { Some(high + 1) } else { None };
+        Scanned { filled, next }
+    }
+}
+
+/// States what a report tells of each key, whatever the fronts are.
+pub fn reports_tell()
+    ensures { ReportLaw }
+{}

@@ -1,0 +1,250 @@
+//! Scans of ranges of keys.
+ghost use Rattle.blink_live.specs.{IsPassOf};
+
+use crate::indexes::Look::Every;
+use crate::same::{same, same_for};
+use crate::shared::Shared;
+use crate::steps::Step::{self, Call};
+use crate::story::End;
+use crate::walks::every;
+use crate::works::{Change, Work, change_each};
+use blink_batch::{Answer, Entry, Op};
+use blink_live::{Live, Pass, Scanned};
+use std::process::Abort;
+use std::sync::Wait;
+
+// What a place of the slice has before a scan.
+const BEFORE: Entry = Entry {
+    key: 77,
+    pointer: 7,
+};
+
+// A scan into so many places, the entries that it fills in, and the key from which it is to go on.
+struct Scan {
+    range: (u64, u64),
+    places: usize,
+    entries: &'static [(u64, u64)],
+    next: Option<u64>,
+}
+
+impl Shared {
+    fn scan(&mut self, rt: &impl Abort, case: &Scan) {
+        assert!(rt;
+            !self.passes.is_empty() && case.places <= 20,
+            "no pass, or too many places"
+        );
+        let mut into = [BEFORE; 20];
+        let (lo, hi) = case.range;
+        let scanned = self
+            .live
+            .scan(&mut self.passes[0], lo, hi, &mut into[..case.places]);
+        let expected = Scanned {
+            filled: case.entries.len(),
+            next: case.next,
+        };
+        same_for(rt, &scanned, &expected, &case.range);
+        for (place, entry) in into.iter().enumerate() {
+            let (key, pointer) = *case.entries.get(place).unwrap_or(&(77, 7));
+            same_for(rt, entry, &Entry { key, pointer }, &case.range);
+        }
+    }
+}
+
+const FOURTEEN: &[(u64, u64)] = &[
+    (1, 10),
+    (2, 20),
+    (3, 30),
+    (4, 40),
+    (5, 50),
+    (6, 60),
+    (7, 70),
+    (8, 80),
+    (9, 90),
+    (10, 100),
+    (11, 110),
+    (12, 120),
+    (13, 130),
+    (14, 140),
+];
+
+// Of the keys 1 to 14, each with ten times the key, in leaves of at most 4 entries.
+const OF_FOURTEEN: [Scan; 9] = [
+    Scan {
+        range: (0, u64::MAX),
+        places: 20,
+        entries: FOURTEEN,
+        next: None,
+    },
+    Scan {
+        range: (4, 6),
+        places: 20,
+        entries: &[(4, 40), (5, 50), (6, 60)],
+        next: None,
+    },
+    Scan {
+        range: (14, 14),
+        places: 1,
+        entries: &[(14, 140)],
+        next: None,
+    },
+    Scan {
+        range: (15, u64::MAX),
+        places: 20,
+        entries: &[],
+        next: None,
+    },
+    Scan {
+        range: (u64::MAX, u64::MAX),
+        places: 1,
+        entries: &[],
+        next: None,
+    },
+    Scan {
+        range: (9, 8),
+        places: 0,
+        entries: &[],
+        next: None,
+    },
+    Scan {
+        range: (2, 14),
+        places: 5,
+        entries: &[(2, 20), (3, 30), (4, 40), (5, 50), (6, 60)],
+        next: Some(7),
+    },
+    Scan {
+        range: (2, 6),
+        places: 5,
+        entries: &[(2, 20), (3, 30), (4, 40), (5, 50), (6, 60)],
+        next: None,
+    },
+    Scan {
+        range: (3, 9),
+        places: 0,
+        entries: &[],
+        next: Some(3),
+    },
+];
+
+#[test]
+fn a_scan_reports_its_range(rt: HostRuntime) {
+    let mut table = Shared::open(&rt, rt.alloc(), (0, 14), (0, 0));
+    table.deal(&rt, &[], 0, 0, Ok(()));
+    for case in &OF_FOURTEEN {
+        table.scan(&rt, case);
+    }
+}
+
+const CHANGES: [Step; 8] = [
+    Call(Op::Delete(4), Ok(Answer::Removed(40))),
+    Call(Op::Delete(5), Ok(Answer::Removed(50))),
+    Call(Op::Delete(6), Ok(Answer::Removed(60))),
+    Call(Op::Delete(7), Ok(Answer::Removed(70))),
+    Call(Op::Delete(8), Ok(Answer::Removed(80))),
+    Call(Op::Delete(9), Ok(Answer::Removed(90))),
+    Call(Op::Replace(2, 22), Ok(Answer::Replaced(20))),
+    Call(Op::Insert(u64::MAX, 1), Ok(Answer::Inserted)),
+];
+
+// Of the keys 1 to 3, 10 to 14 and the greatest. At least one leaf between has no entry.
+const OF_CHANGED: [Scan; 4] = [
+    Scan {
+        range: (2, 11),
+        places: 20,
+        entries: &[(2, 22), (3, 30), (10, 100), (11, 110)],
+        next: None,
+    },
+    Scan {
+        range: (6, 10),
+        places: 20,
+        entries: &[(10, 100)],
+        next: None,
+    },
+    Scan {
+        range: (5, 9),
+        places: 20,
+        entries: &[],
+        next: None,
+    },
+    Scan {
+        range: (14, u64::MAX),
+        places: 2,
+        entries: &[(14, 140), (u64::MAX, 1)],
+        next: None,
+    },
+];
+
+#[test]
+fn a_scan_passes_empty_leaves(rt: HostRuntime) {
+    let mut table = Shared::open(&rt, rt.alloc(), (0, 14), (1, 7));
+    table.deal(&rt, &[2, 4, 5, 6, 7, 8, 9, u64::MAX], 1, 7, Ok(()));
+    table.take(&rt, 0, &CHANGES);
+    for case in &OF_CHANGED {
+        table.scan(&rt, case);
+    }
+}
+
+// ---- scans while others change the tree
+
+// Inserts the thread's keys, each with ten times the key. Then an odd thread deletes its keys, and an even one scans meanwhile.
+pub(crate) fn change_or_scan<R: Wait + Abort>(rt: &R, live: &Live, pass: &mut Pass, thread: usize)
+    requires { IsPassOf live.now pass.old }
+    ensures { IsPassOf live.now pass.new }
+{
+    let walk = every(8, thread as u64, 64);
+    change_each(rt, live, pass, &walk, Change::Insert);
+    if thread % 2 == 1 {
+        change_each(rt, live, pass, &walk, Change::Delete);
+    } else {
+        for _ in 0..200 {
+            scan_all(rt, live, pass, thread as u64);
+        }
+    }
+}
+
+// Scans all keys, a hundred places at a time: the thread's own are all there, and each key comes once, with ten times the key.
+fn scan_all(rt: &impl Abort, live: &Live, pass: &mut Pass, thread: u64)
+    requires { IsPassOf live.now pass.old }
+    ensures { IsPassOf live.now pass.new }
+{
+    let mut into = [BEFORE; 100];
+    let mut from = 0;
+    let mut own: u64 = 0;
+    for _ in 0..6 {
+        let scanned = live.scan(pass, from, u64::MAX, &mut into);
+        own = own.wrapping_add(own_among(rt, &into[..scanned.filled], from, thread));
+        match scanned.next {
+            Some(next) => from = next,
+            None => break,
+        }
+    }
+    same(rt, &own, &64);
+}
+
+// How many of these are the thread's own. They ascend from this key on.
+fn own_among(rt: &impl Abort, entries: &[Entry], from: u64, thread: u64) -> u64 {
+    let mut least = from;
+    let mut own: u64 = 0;
+    for entry in entries {
+        assert!(rt;
+            least <= entry.key && entry.key < 512,
+            "{entry:?} after {least}"
+        );
+        same(rt, &entry.pointer, &entry.key.wrapping_mul(10));
+        own = own.wrapping_add(u64::from(entry.key % 8 == thread));
+        least = entry.key.wrapping_add(1);
+    }
+    own
+}
+
+const EVEN: End = End::Closes(&[Every(2, 0, 256)]);
+
+#[test]
+fn four_threads_scan_while_four_change(rt: HostRuntime) {
+    let mut table = Shared::open(&rt, rt.alloc(), (0, 0), (512, 256));
+    for thread in 0..8usize {
+        let deletes = if thread % 2 == 1 { 64 } else { 0 };
+        table.deal_walk(&rt, &every(8, thread as u64, 64), 64, deletes);
+    }
+    table.run(&rt, Work::ChangeOrScan);
+    table.end(&rt, EVEN);
+}
