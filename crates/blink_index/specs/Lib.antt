@@ -13,6 +13,7 @@ pub use Rattle.blink_index.specs.Laws.{MapIsKept, NoOtherMapIsKept, TextIsOfLeve
 -- ---- the files
 pub mod Index
 pub mod Leaf
+pub mod Edit
 pub mod Scan
 pub mod Dump
 pub mod Codes

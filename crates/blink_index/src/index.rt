@@ -9,6 +9,8 @@ ghost use Rattle.blink_index.specs.Dump.{text_of_store};
 ghost use Rattle.blink_index.specs.Index.{map_of};
 ghost use Rattle.blink_index.specs.Scan.{is_from, is_within, BringsInOrder};
 
+mod change;
+
 use crate::down::leaf_for;
 use crate::dump::tree_text;
 use crate::error::IndexError;

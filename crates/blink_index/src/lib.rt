@@ -7,6 +7,7 @@
 
 mod down;
 mod dump;
+mod edit;
 mod error;
 mod index;
 pub mod laws;

@@ -6,3 +6,4 @@ pub mod PlacesStay
 pub mod AllowanceIsUsedUp
 pub mod EachPart
 pub mod DriversOfMachines
+pub mod NeverStuck

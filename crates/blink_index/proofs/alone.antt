@@ -1,0 +1,3 @@
+pub mod AloneInTree
+pub mod LeafChanges
+pub mod EditsOfLeaves
