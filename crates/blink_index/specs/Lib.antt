@@ -14,6 +14,7 @@ pub use Rattle.blink_index.specs.Laws.{MapIsKept, NoOtherMapIsKept, TextIsOfLeve
 pub mod Index
 pub mod Leaf
 pub mod Edit
+pub mod Drive
 pub mod Scan
 pub mod Dump
 pub mod Codes

@@ -6,6 +6,7 @@
 #![tactic(auto)]
 
 mod down;
+mod drive;
 mod dump;
 mod edit;
 mod error;
