@@ -15,6 +15,6 @@ pub mod laws;
 mod scan;
 
 pub use dump::{OrDash, push_entries};
-pub use error::IndexError;
+pub use error::{EditError, IndexError};
 pub use index::Index;
 pub use scan::Scan;

@@ -2,6 +2,7 @@
 use Rattle.std.proofs.Common.{◌≡◌, ◌<◌, ◌≤◌, ℕ, Option, Some, None, List, length, refl, sym, ap, subst, ◌∙◌}
 use Rattle.std.specs.Prelude.{IfNone}
 use Rattle.blink_operation.specs.declared.Answer.{Answer}
+use Rattle.blink_operation.specs.declared.Answer.TheVariants.{Exists, Inserted}
 use Rattle.blink_operation.specs.declared.Entry.{Entry}
 use Rattle.blink_operation.specs.declared.Op.{Op}
 use Rattle.blink_operation.specs.declared.Op.TheVariants.{Delete, Insert, Replace}
@@ -10,13 +11,13 @@ use Rattle.blink_page.specs.{IsKeyOf, PlainPage, added, removed, replaced, value
 use Rattle.blink_page.specs.declared.limits.TheConstants.{GREATEST_KEY}
 use Rattle.blink_page.specs.declared.put.Put.{Put}
 use Rattle.blink_page.specs.declared.put.Put.TheVariants.{Done, Present, Full}
-use Rattle.blink_page.specs.Put.{OnDone, UnlessDone, UnlessPresent}
+use Rattle.blink_page.specs.Put.{OnDone, IfPresent, OnFull, UnlessDone, UnlessPresent}
 use Rattle.blink_page.proofs.Offered.{entries_with-leaf}
 use Rattle.blink_rest.specs.{IsStoreAtRest}
 use Rattle.blink_store.specs.{IsLawfulStore, IsLeafOf, PlainStore, WritesPage}
 use Rattle.blink_machine.specs.{IsUpdate}
 use Rattle.blink_machine.specs.Table.{IsChange}
-use Rattle.blink_index.specs.Edit.{IsEdited}
+use Rattle.blink_index.specs.Edit.{IsEdited, SplitsLeaf}
 use Rattle.blink_index.specs.Index.{map_of}
 use Rattle.blink_index.proofs.MapOfStore.{the_map_is_kept}
 use Rattle.blink_index.proofs.WayDown.{leaf_pointer}
@@ -77,3 +78,34 @@ module _ (old new : PlainStore) (lawful : IsLawfulStore old) (at_rest : IsStoreA
   insertion_edits value words absent room writes =
       changes (Insert key value) None (with_entries leaf (added (key, value) leaf.entries)) refl tt words
       (IsChange.gains tt absent room refl (ap (with_entries leaf) (sym (entries_with-leaf leaf (key, value) leaf_of.is_leaf)))) writes
+
+  -- whatever a put makes of the leaf
+  module _ (value : ℕ) (words : FitsWords (Insert key value)) where
+    pub put_rests : (result : Put) → UnlessPresent result (value_at key leaf.entries ≡ None) → OnDone result (length leaf.entries < old.fan)
+        → OnDone result (WritesPage old new number (with_entries leaf (added (key, value) leaf.entries))) → UnlessDone result (new ≡ old) → IsStoreAtRest new
+    put_rests Done absent room writes unchanged = (insertion_edits value words absent room writes).rests
+    put_rests (Present kept) absent room writes unchanged = subst IsStoreAtRest (sym unchanged) at_rest
+    put_rests Full absent room writes unchanged = subst IsStoreAtRest (sym unchanged) at_rest
+
+    pub put_adds : (result : Put) → UnlessPresent result (value_at key leaf.entries ≡ None) → OnDone result (length leaf.entries < old.fan)
+        → OnDone result (WritesPage old new number (with_entries leaf (added (key, value) leaf.entries))) → OnDone result (IsEdited old new (Insert key value) Inserted)
+    put_adds Done absent room writes = insertion_edits value words absent room writes
+    put_adds (Present kept) absent room writes = tt
+    put_adds Full absent room writes = tt
+
+    pub put_finds : (result : Put) → IfPresent result (λ kept. value_at key leaf.entries ≡ Some kept) → UnlessDone result (new ≡ old)
+        → IfPresent result (λ kept. IsEdited old new (Insert key value) (Exists kept))
+    put_finds Done found unchanged = tt
+    put_finds (Present kept) found unchanged = finding_edits value kept found unchanged
+    put_finds Full found unchanged = tt
+
+    pub put_splits : (result : Put) → UnlessPresent result (value_at key leaf.entries ≡ None) → OnFull result (length leaf.entries ≡ old.fan) → OnFull result (SplitsLeaf old key)
+    put_splits Done absent full = tt
+    put_splits (Present kept) absent full = tt
+    put_splits Full absent full = record { number = number; leaf_of = leaf_of; absent = absent; full = full }
+
+-- a key whose leaf would be split is absent
+pub absent_if_split : (store : PlainStore) (key : ℕ) → IsStoreAtRest store → key ≤ GREATEST_KEY → SplitsLeaf store key → pointer_of (map_of store) key ≡ None
+absent_if_split store key at_rest in_range splits =
+    leaf_pointer store at_rest key in_range splits.leaf_of.leaf
+    (record { number = splits.number; there = splits.leaf_of.there; is_leaf = splits.leaf_of.is_leaf; belongs = splits.leaf_of.belongs }) ∙ splits.absent
