@@ -6,4 +6,5 @@ pub mod StretchOfScan
 pub mod WhereLinksLead
 pub mod LevelsAsLines
 pub mod alone
+pub mod OneOperationMore
 pub mod Offered

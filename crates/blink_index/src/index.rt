@@ -10,6 +10,9 @@ ghost use Rattle.blink_index.specs.Index.{map_of};
 ghost use Rattle.blink_index.specs.Scan.{is_from, is_within, BringsInOrder};
 
 mod change;
+mod ends;
+
+pub use change::Applied;
 
 use crate::down::leaf_for;
 use crate::dump::tree_text;

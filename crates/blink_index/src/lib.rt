@@ -16,5 +16,5 @@ mod scan;
 
 pub use dump::{OrDash, push_entries};
 pub use error::{EditError, IndexError};
-pub use index::Index;
+pub use index::{Applied, Index};
 pub use scan::Scan;
