@@ -9,6 +9,11 @@ ghost use Rattle.blink_index.specs.Dump.{text_of_store};
 ghost use Rattle.blink_index.specs.Index.{map_of};
 ghost use Rattle.blink_index.specs.Scan.{is_from, is_within, BringsInOrder};
 
+mod change;
+mod ends;
+
+pub use change::Applied;
+
 use crate::down::leaf_for;
 use crate::dump::tree_text;
 use crate::error::IndexError;

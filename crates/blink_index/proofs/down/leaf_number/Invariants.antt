@@ -1,6 +1,6 @@
 use Rattle.blink_store.specs.{page_of}
 use Rattle.blink_index.proofs.WayDown.{IsOnTheWay, level_at}
-use Rattle.blink_index.proofs.down.leaf_for.Given as goal
+use Rattle.blink_index.proofs.down.leaf_number.Given as goal
 
 -- the page is on the way to the key's leaf
 abbrev pub invariant-way : goal.invariant-way

@@ -6,7 +6,12 @@ use Rattle.blink_machine.specs.declared.machine.Job.TheVariants.{Parent}
 use Rattle.blink_machine.specs.declared.machine.Need.TheVariants.{Latch}
 use Rattle.blink_machine.specs.declared.machine.State.{State}
 use Rattle.blink_machine.specs.declared.machine.State.TheVariants.{Want, Posting}
-use Rattle.blink_machine.specs.{PlainMachine, NeedsLatch, need_at, latch_at, split_at, debt_of, debt_at, PlacedAt, InvariantWith, WaitsForLevel, Levels}
+use Rattle.blink_machine.specs.Machine.{PlainMachine, NeedsLatch, need_at}
+use Rattle.blink_machine.specs.Owned.{latch_at, split_at, debt_of, debt_at}
+use Rattle.blink_machine.specs.Placed.{PlacedAt}
+use Rattle.blink_machine.specs.Invariant.{InvariantWith}
+use Rattle.blink_machine.specs.Table.{WaitsForLevel}
+use Rattle.blink_machine.specs.TreeWithDebts.{Levels}
 use Rattle.blink_machine.specs.TreeState.{TreeState}
 use Rattle.blink_machine.proofs.tree.TreeStatements.{TreeLaws}
 use Rattle.blink_machine.proofs.tree_state.InvariantStatements.{IsWaiting, SomeoneMoves, NeverStuck}

@@ -1,8 +1,8 @@
 use Rattle.std.proofs.Common.{◌≡◌, ◌-◌, ◌<◌, ◌≤◌, length, ap, ◌∙◌, arith}
 use Rattle.std.proofs.lemmas.Option.{slice_get-get_or}
 use Rattle.blink_page.specs.declared.limits.TheConstants.{GREATEST_KEY}
-use Rattle.blink_index.proofs.WayDown.{begins_at_root, page_on_the_way, goes_down, falls, leaf_on_the_way, never_right}
-use Rattle.blink_index.proofs.down.leaf_for.Goals as goal
+use Rattle.blink_index.proofs.WayDown.{begins_at_root, page_on_the_way, goes_down, falls, key_on_the_way, never_right}
+use Rattle.blink_index.proofs.down.leaf_number.Goals as goal
 
 pub way-init : goal.way-init
 way-init c =
@@ -41,4 +41,9 @@ way-preserved c =
 pub returns-in-Here : goal.returns-in-Here
 returns-in-Here c =
     let in_range : c.args.key ≤ GREATEST_KEY = omega (arith, c.ranges.key.fits) in
-    leaf_on_the_way c.args.store.now c.requires c.args.key in_range c.way.number c.way.invariant c.read-page.result.now c.read-page.ensures.page c.in-Here.ensures.1
+    record {
+      leaf = c.read-page.result.now;
+      there = c.read-page.ensures.page;
+      is_leaf = c.in-Here.ensures.1;
+      belongs = key_on_the_way c.args.store.now c.requires c.args.key in_range c.way.number c.way.invariant c.read-page.result.now c.read-page.ensures.page;
+    }
