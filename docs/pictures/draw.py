@@ -589,6 +589,16 @@ def prefixes():
     picture.save("prefixes.svg")
 
 
+def fronts():
+    picture = Picture(640, 244)
+    list_of_changes(picture, [("3 → 30", "by A"), ("12 → 120", "by B"), ("3 is gone", "by B"), ("27 → 270", "by A"), ("14 is gone", "by A")])
+    bracket(picture, 88, "keys to 10", 2, "the first leaf's front: 3 is 30", RED)
+    bracket(picture, 134, "11 to 20", 4, "the second leaf's: 12 is 120, and 14 is still there", BLUE)
+    bracket(picture, 180, "from 21 on", 5, "the third leaf's: 27 is 270", RED)
+    picture.text(LIST_LEFT + 6, 228, "The report has both 3 and 27, which were never there at one moment.", size=11, fill=SOFT, anchor="start")
+    picture.save("fronts.svg")
+
+
 def one_list():
     picture = Picture(640, 244)
     list_of_changes(picture, [("7 → 70", "by A"), ("9 → 90", "by B"), ("7 → 71", "by B"), ("9 is gone", "by A"), ("5 → 50", "by C")])
@@ -602,7 +612,7 @@ def one_list():
 def main():
     if sys.argv[1:] == ["check"]:
         sys.exit(1 if check() else 0)
-    for draw in (pages, tree, moving_right, split, posting, overtaking, root_growth, debts, latches, deciding, row, prefixes, one_list):
+    for draw in (pages, tree, moving_right, split, posting, overtaking, root_growth, debts, latches, deciding, row, prefixes, fronts, one_list):
         draw()
 
 
