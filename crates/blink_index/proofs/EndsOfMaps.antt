@@ -1,5 +1,5 @@
 -- The last entry of a plain map, by what the map says of each key.
-use Rattle.std.proofs.Common.{◌≡◌, ◌≢◌, ℕ, Bool, zero, suc, ◌+◌, ◌-◌, ◌<◌, ◌≤◌, inl, inr, Option, Some, None, List, [], ◌∷◌, filter, length, refl, sym, ap, ◌∙◌, eq-eqb, ne_eqb, arith}
+use Rattle.std.proofs.Common.{◌≡◌, ◌≢◌, ℕ, Bool, suc, ◌+◌, ◌-◌, ◌<◌, ◌≤◌, inl, inr, Option, Some, None, List, [], ◌∷◌, filter, length, refl, sym, ap, ◌∙◌, eq-eqb, ne_eqb, arith}
 use Rattle.std.specs.Iterator.{YieldsFirst}
 use Rattle.std.specs.Prelude.{if◌then◌else◌}
 use Rattle.std.specs.List.{slice_get}
@@ -52,10 +52,10 @@ last_if_none_above (e ∷ second ∷ rest) key pointer ascending there none = el
       cc)
   | inr differs ↦
       let tail = last_if_none_above (second ∷ rest) key pointer ascending.1 (sym (later_key e (second ∷ rest) key differs) ∙ there)
-          (λ above greater. elim (cases_eq e.key above) [
-            | inl same ↦ absurd (let gone = none e.key (omega (arith, greater, same)) in let own = own_key e (second ∷ rest) in cc)
-            | inr other ↦ sym (later_key e (second ∷ rest) above other) ∙ none above greater
-          ]) in
+      (λ above greater. elim (cases_eq e.key above) [
+        | inl same ↦ absurd (let gone = none e.key (omega (arith, greater, same)) in let own = own_key e (second ∷ rest) in cc)
+        | inr other ↦ sym (later_key e (second ∷ rest) above other) ∙ none above greater
+      ]) in
       let one_more : suc (suc (length rest)) - 1 ≡ suc (suc (length rest) - 1) = omega arith in
       ap (slice_get (e ∷ second ∷ rest)) one_more ∙ tail
 ]

@@ -1,11 +1,11 @@
 -- The last entry of a tree at rest stands last in the last leaf that has entries.
-use Rattle.std.proofs.Common.{◌≡◌, ◌≢◌, ℕ, Bool, zero, suc, ◌+◌, ◌-◌, ◌<◌, ◌≤◌, inl, inr, Option, Some, None, List, [], ◌∷◌, length, refl, sym, ap, subst, ◌∙◌, arith}
+use Rattle.std.proofs.Common.{◌≡◌, ℕ, suc, ◌+◌, ◌-◌, ◌<◌, ◌≤◌, inl, inr, Some, None, List, [], ◌∷◌, length, refl, sym, ap, ◌∙◌, arith}
 use Rattle.std.specs.List.{slice_get}
-use Rattle.std.proofs.lemmas.Bool.{cases_eq, cases_lt}
+use Rattle.std.proofs.lemmas.Bool.{cases_lt}
 use Rattle.std.proofs.lemmas.Option.{slice_get-get_or}
 use Rattle.std.proofs.lemmas.Bool.Decides.{nat_tests}
 use Rattle.blink_operation.specs.declared.Entry.{Entry}
-use Rattle.blink_operation.specs.{IsAscending, entry, pointer_of}
+use Rattle.blink_operation.specs.{entry, pointer_of}
 use Rattle.blink_page.specs.declared.limits.TheConstants.{GREATEST_KEY}
 use Rattle.blink_page.specs.{IsRising, PlainPage, least_above, value_at}
 use Rattle.blink_page.proofs.Offered.{value_at-above}
@@ -87,10 +87,10 @@ module _ (store : PlainStore) (at_rest : IsStoreAtRest store) (most : ℕ) (leaf
   is_last key pointer rising last =
       let pair = last_pair (least_above leaf.floor) leaf.entries (leaf.high + 1) key pointer rising last in
       sym (last_if_none_above (map_of store) key pointer (the_map_is_kept store at_rest).ascending (in_leaf key pair.at_least (omega (arith, pair.below)) ∙ pair.found)
-          (λ above greater. elim (cases_lt leaf.high above) [
-            | inl beyond ↦ past_leaf above beyond
-            | inr within ↦ in_leaf above (omega (arith, pair.at_least, greater)) within ∙ pair.none_above above greater
-          ]))
+      (λ above greater. elim (cases_lt leaf.high above) [
+        | inl beyond ↦ past_leaf above beyond
+        | inr within ↦ in_leaf above (omega (arith, pair.at_least, greater)) within ∙ pair.none_above above greater
+      ]))
 
 -- no key is beyond the greatest
 pub absent_beyond : (store : PlainStore) → IsStoreAtRest store → (key : ℕ) → GREATEST_KEY < key → pointer_of (map_of store) key ≡ None

@@ -1,7 +1,6 @@
-use Rattle.std.proofs.Common.{◌≡◌, ◌≤◌, ◌+◌, ◌-◌, ℕ, Option, Some, None, List, [], length, sym, ap, subst, ◌∙◌, arith}
+use Rattle.std.proofs.Common.{◌-◌, ℕ, List, length, sym, ap, subst, ◌∙◌, arith}
 use Rattle.std.specs.List.{slice_get}
-use Rattle.blink_operation.specs.declared.Entry.{Entry}
-use Rattle.blink_page.specs.declared.limits.TheConstants.{GREATEST_KEY, MAX_FAN}
+use Rattle.blink_page.specs.declared.limits.TheConstants.{MAX_FAN}
 use Rattle.blink_page.specs.{IsLawfulPage, PlainPage, least_above}
 use Rattle.blink_rest.specs.{IsStoreAtRest}
 use Rattle.blink_store.specs.{PlainStore}
