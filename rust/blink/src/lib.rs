@@ -34,7 +34,7 @@ mod sys;
 mod table;
 
 pub use error::Error;
-pub use index::{Index, Scan};
+pub use index::{Applied, Index, Scan};
 pub use map::{Left, Map, Room, Session};
 pub use operation::{Answer, Entry, Op};
 pub use table::{Pass, Pending, Table};
