@@ -1,10 +1,8 @@
-use Rattle.std.proofs.Common.{◌≡◌, ◌≤◌, ◌<◌, ℕ, None, Some, ap, length, subst, sym, ◌∙◌, arith}
+use Rattle.std.proofs.Common.{◌≡◌, ◌≤◌, ◌<◌, None, Some, ap, length, subst, ◌∙◌, arith}
 use Rattle.blink_page.specs.declared.limits.TheConstants.{GREATEST_KEY}
-use Rattle.blink_page.specs.declared.put.Put.{Put}
-use Rattle.blink_page.specs.declared.put.Put.TheVariants.{Done, Present, Full}
-use Rattle.blink_page.specs.{PlainPage, IsLawfulPage, added, value_at, with_entries}
+use Rattle.blink_page.specs.{PlainPage, added, value_at, with_entries}
 use Rattle.blink_page.specs.Put.{OnDone, UnlessDone, IfPresent, UnlessPresent, OnFull}
-use Rattle.blink_store.specs.Store.{PlainStore, page_of, WritesPage}
+use Rattle.blink_store.specs.Store.{PlainStore, page_of}
 use Rattle.blink_store.proofs.LeavesInPlace.{page_at_place, lawful_in_place, written_if_done, put_lawful}
 use Rattle.blink_store.proofs.PagesByNumber.{page_lawful}
 use Rattle.blink_store.proofs.store.Store.put.Goals as goal
@@ -53,4 +51,4 @@ invariant_of-self c =
     let room = subst (λ (p : PlainPage). OnDone c.put.result (length p.entries < c.self.inside.fan)) read c.put.ensures.room in
     lawful_in_place (old c) c.args.n leaf there c.put.new.self c.self.invariant
     (put_lawful c.self.inside.fan leaf (page_lawful (old c) c.args.n leaf c.self.invariant there) c.args.key c.args.value c.requires.belongs c.requires.is_leaf fits c.put.new.self
-        c.put.result absent room now same)
+    c.put.result absent room now same)
