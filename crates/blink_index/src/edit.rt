@@ -66,9 +66,18 @@ pub(crate) fn split(rest: &mut Rest, key: u64, pointer: u64) -> Result<(), EditE
     ensures kept { IsMapOf rest.new (map_of rest.new) }
 {
     let store = &mut rest.store;
-    if store.pages.reserve(MAX_NEW_PAGES_PER_INSERT as usize).is_err() {
+    if store
+        .pages
+        .reserve(MAX_NEW_PAGES_PER_INSERT as usize)
+        .is_err()
+    {
         return Err(EditError::OutOfMemory);
     }
-    run(store.fan, &mut store.prime, &mut store.pages, Op::Insert(key, pointer));
+    run(
+        store.fan,
+        &mut store.prime,
+        &mut store.pages,
+        Op::Insert(key, pointer),
+    );
     Ok(())
 }

@@ -24,8 +24,8 @@ impl Store {
             (λ leaf. OnDone result (length leaf.entries < self.old.fan)) }
         ensures done { ForSome (page_of self.old n)
             (λ leaf. OnDone result
-                (WritesPage self.old self.new n
-                    (with_entries leaf (added (key, value) leaf.entries)))) }
+            (WritesPage self.old self.new n
+            (with_entries leaf (added (key, value) leaf.entries)))) }
         ensures unchanged { UnlessDone result (self.new ≡ self.old) }
         ensures count { length self.new.pages ≡ length self.old.pages }
     {
@@ -40,7 +40,7 @@ impl Store {
         ensures value { ForSome (page_of self.old n) (λ leaf. result ≡ value_at key leaf.entries) }
         ensures entries { ForSome (page_of self.old n)
             (λ leaf. WritesPage self.old self.new n
-                (with_entries leaf (removed key leaf.entries))) }
+            (with_entries leaf (removed key leaf.entries))) }
         ensures unchanged { IfNone result (self.new ≡ self.old) }
         ensures count { length self.new.pages ≡ length self.old.pages }
     {
@@ -55,7 +55,7 @@ impl Store {
         ensures before { ForSome (page_of self.old n) (λ leaf. result ≡ value_at key leaf.entries) }
         ensures entries { ForSome (page_of self.old n)
             (λ leaf. WritesPage self.old self.new n
-                (with_entries leaf (replaced (key, value) leaf.entries))) }
+            (with_entries leaf (replaced (key, value) leaf.entries))) }
         ensures unchanged { IfNone result (self.new ≡ self.old) }
         ensures count { length self.new.pages ≡ length self.old.pages }
     {

@@ -20,7 +20,7 @@ pub steps-init : goal.steps-init
 steps-init c =
     let start = store_of c.args.fan c.args.prime.now c.args.pages.now.items in
     let acts = subst (λ (m : PlainMachine). ActsOn (need_at m.state) (store_of m.fan c.args.prime.now c.args.pages.now.items) m c.act.new.machine (store_of m.fan c.act.new.prime c.act.new.pages.items))
-        c.new-machine.ensures c.act.ensures.acts in
+    c.new-machine.ensures c.act.ensures.acts in
     record {
       under_way = under_way_at_first start c.args.op c.requires.lawful c.requires.at_rest c.requires.words c.requires.numbers (store_of c.args.fan c.act.new.prime c.act.new.pages.items) c.act.new.machine acts;
       room = c.act.ensures.capacity;
@@ -53,7 +53,7 @@ acted c =
     let goes : c.steps.machine.state ≢ Ended = λ ends. not_true (c.steps-test.ensures.1 ends) in
     let fan = own_fan start c.args.op c.requires.lawful c.requires.at_rest c.requires.words c.requires.numbers store c.steps.machine c.steps.invariant.under_way goes in
     subst (λ (n : ℕ). ActsOn (need_at c.steps.machine.state) (store_of n c.steps.prime c.steps.pages.items) c.steps.machine c.act-in-steps.new.machine
-        (store_of n c.act-in-steps.new.prime c.act-in-steps.new.pages.items)) fan c.act-in-steps.ensures.acts
+    (store_of n c.act-in-steps.new.prime c.act-in-steps.new.pages.items)) fan c.act-in-steps.ensures.acts
 
 pub steps-smaller : goal.steps-smaller
 steps-smaller c =

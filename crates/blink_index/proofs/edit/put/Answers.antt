@@ -29,18 +29,18 @@ returns-clause-added c =
     let at = leaf c in
     rw (← c.rest.view_is)
     (put_adds c.rest.inside.store c.put.new.self (lawful c) c.rest.invariant c.leaf_number-number.result c.args.key at (in_range c) c.args.pointer (c.ranges.key.fits, c.ranges.pointer.fits)
-        c.put.result (c.put.ensures.absent at.leaf at.there) (c.put.ensures.room at.leaf at.there) (c.put.ensures.done at.leaf at.there))
+    c.put.result (c.put.ensures.absent at.leaf at.there) (c.put.ensures.room at.leaf at.there) (c.put.ensures.done at.leaf at.there))
 
 pub returns-clause-found : goal.returns-clause-found
 returns-clause-found c =
     let at = leaf c in
     rw (← c.rest.view_is)
     (put_finds c.rest.inside.store c.put.new.self (lawful c) c.rest.invariant c.leaf_number-number.result c.args.key at (in_range c) c.args.pointer (c.ranges.key.fits, c.ranges.pointer.fits)
-        c.put.result (c.put.ensures.present at.leaf at.there) c.put.ensures.unchanged)
+    c.put.result (c.put.ensures.present at.leaf at.there) c.put.ensures.unchanged)
 
 pub returns-clause-full : goal.returns-clause-full
 returns-clause-full c =
     let at = leaf c in
     rw (← c.rest.view_is)
     (put_splits c.rest.inside.store c.put.new.self (lawful c) c.rest.invariant c.leaf_number-number.result c.args.key at (in_range c) c.args.pointer (c.ranges.key.fits, c.ranges.pointer.fits)
-        c.put.result (c.put.ensures.absent at.leaf at.there) (c.put.ensures.full at.leaf at.there))
+    c.put.result (c.put.ensures.absent at.leaf at.there) (c.put.ensures.full at.leaf at.there))

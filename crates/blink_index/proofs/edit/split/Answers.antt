@@ -33,7 +33,7 @@ returns-clause-added c =
     let key = c.args.key in
     let after = store_of c.store.inside.fan c.run.new.prime c.run.new.pages.items in
     let same : store_of c.store.inside.fan c.store.inside.prime c.reserve.new.self.items ≡ c.args.rest.now =
-        ap (λ (pages : List PlainPage). store_of c.store.inside.fan c.store.inside.prime pages) c.reserve.ensures.items ∙ c.store.view_is ∙ c.rest.view_is in
+    ap (λ (pages : List PlainPage). store_of c.store.inside.fan c.store.inside.prime pages) c.reserve.ensures.items ∙ c.store.view_is ∙ c.rest.view_is in
     let in_range : key ≤ GREATEST_KEY = omega (arith, c.ranges.key.fits) in
     let at_rest = subst IsStoreAtRest c.rest.view_is c.rest.invariant in
     let edited = subst (λ (s : PlainStore). IsEdited s after (Insert key c.args.pointer) (answer_of (map_of s) (Insert key c.args.pointer))) same c.run.ensures.edited in

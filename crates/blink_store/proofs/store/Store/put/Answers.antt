@@ -53,4 +53,4 @@ invariant_of-self c =
     let room = subst (λ (p : PlainPage). OnDone c.put.result (length p.entries < c.self.inside.fan)) read c.put.ensures.room in
     lawful_in_place (old c) c.args.n leaf there c.put.new.self c.self.invariant
     (put_lawful c.self.inside.fan leaf (page_lawful (old c) c.args.n leaf c.self.invariant there) c.args.key c.args.value c.requires.belongs c.requires.is_leaf fits c.put.new.self
-        c.put.result absent room now same)
+    c.put.result absent room now same)
