@@ -2,7 +2,7 @@
 
 use crate::side::{timed, Handle, Side};
 use crate::workload::{Case, Mode, Phase, Step, ABSENT, DELETE, FIND, INSERT, INSERTED, REPLACE};
-use blink::{Answer, Index, Map, Op, Pass, Room, Session, Table};
+use blink::{Answer, Entry, Index, Map, Op, Pass, Room, Session, Table};
 use std::sync::Arc;
 use std::time::Instant;
 
@@ -29,8 +29,7 @@ impl<const FAN: u8> Handle for &mut ByIndex<FAN> {
         self.index.find(key)
     }
     fn scan(&mut self, from: u64, count: usize) -> u64 {
-        let scan = self.index.scan(from..).take(count);
-        scan.fold(0, |sum, entry| sum.wrapping_add(entry.key ^ entry.pointer))
+        sum_of_entries(self.index.scan(from..).take(count))
     }
     fn find_many(&mut self, keys: &[Step]) -> u64 {
         let keys: Vec<u64> = keys.iter().map(|step| step.key).collect();
@@ -126,6 +125,13 @@ impl Handle for Any {
     fn find(&mut self, key: u64) -> Option<u64> {
         self.0.glance(key)
     }
+    fn scan(&mut self, from: u64, count: usize) -> u64 {
+        sum_of_entries(self.0.scan(from..).take(count))
+    }
+}
+
+fn sum_of_entries(entries: impl Iterator<Item = Entry>) -> u64 {
+    entries.fold(0, |sum, entry| sum.wrapping_add(entry.key ^ entry.pointer))
 }
 
 // How many insertions and deletions steps need; a replacement takes a deletion.
@@ -184,14 +190,14 @@ impl<const FAN: u8> Side for ByTable<FAN> {
             }
             // A pass changes its own keys alone.
             Mode::Any if phase.changes() => None,
-            Mode::Any => {
+            Mode::Any | Mode::Scan => {
                 let deal = |_: &Vec<Step>| Any(table.deal(&[], 0, 0).expect("a pass"));
                 let mut passes: Vec<Any> = phase.threads.iter().map(deal).collect();
                 let told = timed(&mut passes, phase);
                 give_back(table, passes.into_iter().map(|any| any.0));
                 Some(told)
             }
-            Mode::Many | Mode::Scan => None,
+            Mode::Many => None,
         }
     }
 
@@ -230,6 +236,9 @@ impl Handle for Session<'_> {
     fn replace(&mut self, key: u64, pointer: u64) -> Option<u64> {
         Session::replace(self, key, pointer).ok()?.pointer()
     }
+    fn scan(&mut self, from: u64, count: usize) -> u64 {
+        sum_of_entries(self.range(from..).take(count))
+    }
 }
 
 // A row for each change and for each page that is split, and what each session may have drawn and not used.
@@ -253,13 +262,13 @@ impl<const FAN: u8> Side for ByMap<FAN> {
 
     fn run(&mut self, phase: &Phase) -> Option<(u64, u64)> {
         match phase.mode {
-            Mode::Own | Mode::Any => {
+            Mode::Own | Mode::Any | Mode::Scan => {
                 let map = self.map.as_ref().expect("an open map");
                 let join = |_: &Vec<Step>| map.session().expect("a session");
                 let mut sessions: Vec<Session> = phase.threads.iter().map(join).collect();
                 Some(timed(&mut sessions, phase))
             }
-            Mode::Many | Mode::Scan => None,
+            Mode::Many => None,
         }
     }
 
