@@ -123,6 +123,17 @@ uint8_t blink_index_copy(blink_index *index, blink_index *out);
 uint8_t blink_index_run(blink_index *index, const blink_operation *operations, size_t count, blink_answer *answers,
                         size_t places);
 
+/* Adds a key with its pointer in place, unless the key is there: BLINK_INSERTED, or BLINK_EXISTS. It asks for memory only where the
+ * key's leaf is split, before anything changes. Refused: BLINK_INDEX_TOO_LARGE, exactly if 1 + pages + 22 is above 1,048,576;
+ * BLINK_INDEX_NO_MEMORY. Then the index and the answer are as they were. Otherwise the index has at most 22 pages more. */
+uint8_t blink_index_insert(blink_index *index, uint64_t key, uint64_t pointer, blink_answer *answer);
+
+/* Removes a key with its pointer in place: BLINK_REMOVED, or BLINK_ABSENT. It takes no memory. */
+void blink_index_delete(blink_index *index, uint64_t key, blink_answer *answer);
+
+/* Replaces the pointer of a key in place: BLINK_REPLACED, or BLINK_ABSENT. It takes no memory. */
+void blink_index_replace(blink_index *index, uint64_t key, uint64_t pointer, blink_answer *answer);
+
 /* Looks a key up: true, and its record pointer; or false, and `pointer` stays as it was. */
 bool blink_index_find(blink_index *index, uint64_t key, uint64_t *pointer);
 
@@ -136,6 +147,15 @@ size_t blink_index_scan(blink_index *index, uint64_t lo, uint64_t hi, blink_entr
 
 /* The same for the first `n` entries with keys from `lo` on, or all of these if they are fewer. It returns at most `n`. */
 size_t blink_index_page(blink_index *index, uint64_t lo, uint64_t n, blink_entry *entries, size_t places, size_t *fitted);
+
+/* Gives the entry with the least key: true; or false, if there is no entry, and `entry` stays as it was. */
+bool blink_index_first(blink_index *index, blink_entry *entry);
+
+/* The same for the entry with the greatest key. */
+bool blink_index_last(blink_index *index, blink_entry *entry);
+
+/* The same for the entry with the least key above this one. */
+bool blink_index_next(blink_index *index, uint64_t key, blink_entry *entry);
 
 /* The number of entries. It walks all leaves. */
 size_t blink_index_len(blink_index *index);

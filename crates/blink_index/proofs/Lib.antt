@@ -7,4 +7,6 @@ pub mod WhereLinksLead
 pub mod LevelsAsLines
 pub mod alone
 pub mod OneOperationMore
+pub mod EndsOfMaps
+pub mod LastLeaves
 pub mod Offered

@@ -4,7 +4,6 @@ use Rattle.blink_page.specs.declared.limits.TheConstants.{MIN_FAN, MAX_FAN}
 use Rattle.blink_index.specs.declared.error.IndexError.{IndexError}
 use Rattle.blink_index.specs.declared.error.IndexError.TheVariants.{BadFan, OutOfMemory}
 use Rattle.blink_index.specs.declared.error.EditError.{EditError}
-use Rattle.blink_index.specs.declared.error.EditError.TheVariants
 
 abbrev pub code_of : IndexError → ℕ
 code_of BadFan = 40

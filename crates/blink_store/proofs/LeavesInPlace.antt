@@ -1,14 +1,13 @@
 -- A leaf that was changed in place.
-use Rattle.std.proofs.Common.{◌≡◌, ℕ, ◌+◌, ◌-◌, ◌<◌, ◌≤◌, suc, zero, Some, None, get_or, length, refl, sym, ap, subst, ◌∙◌, arith}
+use Rattle.std.proofs.Common.{◌≡◌, ℕ, ◌+◌, ◌-◌, ◌<◌, ◌≤◌, suc, zero, Some, None, get_or, length, sym, ap, subst, ◌∙◌, arith}
 use Rattle.std.proofs.lemmas.Option.{get_or_from_slice_get}
-use Rattle.std.proofs.lemmas.List.{length-set}
 use Rattle.blink_page.specs.declared.limits.TheConstants.{GREATEST_KEY}
 use Rattle.blink_page.specs.declared.put.Put.{Put}
 use Rattle.blink_page.specs.declared.put.Put.TheVariants.{Done, Present, Full}
 use Rattle.blink_page.specs.{PlainPage, IsKeyOf, IsLawfulPage, added, value_at, with_entries}
 use Rattle.blink_page.specs.Put.{OnDone, UnlessDone, UnlessPresent}
 use Rattle.blink_page.proofs.Offered.{entries_with-leaf, lawful_entries_with, lawful_with_room, length-entries_with}
-use Rattle.blink_store.specs.Store.{PlainStore, page_of, HasPage, IsLawfulStore, WritesPage}
+use Rattle.blink_store.specs.Store.{PlainStore, page_of, IsLawfulStore, WritesPage}
 use Rattle.blink_store.proofs.PagesAfterChange.{with_page, lawful-write, writes-write}
 use Rattle.blink_store.proofs.PagesByNumber.{has_page}
 

@@ -35,7 +35,7 @@ mod sys;
 mod table;
 
 pub use error::Error;
-pub use index::{Index, Scan};
+pub use index::{Applied, Index, Scan};
 pub use map::{Begun, Left, Map, Room, Session, Unfinished};
 pub use operation::{Answer, Entry, Op};
 pub use table::{Pass, Pending, Table};

@@ -1,20 +1,20 @@
 -- What a worker alone does to a store is a step of the tree state that the store and the operation make.
-use Rattle.std.proofs.Common.{◌≡◌, ℕ, ◌+◌, ◌-◌, ◌<◌, ◌≤◌, suc, Option, Some, None, List, [], ◌∷◌, ◌++◌, length, true, refl, sym, ap, subst, ◌∙◌, arith, add-one}
+use Rattle.std.proofs.Common.{◌≡◌, ℕ, ◌+◌, Option, Some, None, List, [], ◌∷◌, length, refl, sym, ap, subst, ◌∙◌, arith, add-one}
 use Rattle.std.proofs.lemmas.Option.{slice_get_past}
-use Rattle.blink_page.specs.{IsPageNumber, PlainPage}
-use Rattle.blink_store.specs.{HasPage, PlainStore, WritesPage, page_of}
+use Rattle.blink_page.specs.{PlainPage}
+use Rattle.blink_store.specs.{PlainStore, WritesPage, page_of}
 use Rattle.blink_store.proofs.Offered.{has_page, writes-add, writes-write}
 use Rattle.blink_machine.specs.declared.machine.Need.{Need}
 use Rattle.blink_machine.specs.declared.machine.Need.TheVariants.{ReadPrime, ReadPage, Latch, WriteNew, WritePage, WritePrime, Unlatch, End}
 use Rattle.blink_machine.specs.declared.machine.Next.TheVariants.{Finish, MoveRight, Post}
 use Rattle.blink_machine.specs.declared.machine.State.{State}
-use Rattle.blink_machine.specs.declared.machine.State.TheVariants.{Start, Going, Want, Held, Change, SplitNew, SplitOld, AskPrime, Root, NewPrime, Leave, Posting, Ended}
+use Rattle.blink_machine.specs.declared.machine.State.TheVariants.{Want, Change, SplitNew, SplitOld, AskPrime, Root, NewPrime, Leave}
 use Rattle.blink_machine.specs.declared.machine.Job.{Job}
 use Rattle.blink_machine.specs.declared.machine.Job.TheVariants.{Leaf, Parent}
 use Rattle.blink_machine.specs.declared.machine.Debt.{Debt}
 use Rattle.blink_machine.specs.declared.step.Kind.{Kind}
 use Rattle.blink_machine.specs.declared.step.Step.TheVariants.{Moved}
-use Rattle.blink_machine.specs.{IsWorkersNow, LatchPasses, Leaves, PlainMachine, SeesPage, SeesPrime, Steps, WritesOne, decided_with, done, done_at, goes_on, latch, latch_at, latch_of, latches, leaves_for, need_at, page_out, read_page, read_prime, reads_page, reads_prime, sets_out, unlatch, unlatches, write_page, write_prime, writes_new, writes_page, writes_prime}
+use Rattle.blink_machine.specs.{IsWorkersNow, LatchPasses, Leaves, PlainMachine, SeesPage, SeesPrime, Steps, WritesOne, decided_with, done_at, goes_on, latch, latch_at, latch_of, latches, need_at, page_out, read_page, read_prime, reads_page, reads_prime, sets_out, unlatch, unlatches, write_page, write_prime, writes_new, writes_page, writes_prime}
 use Rattle.blink_machine.specs.Table.{SeesOnItsWay, SeesUnderLatch}
 use Rattle.blink_index.specs.Drive.{ActsOn, CanActOn}
 use Rattle.blink_index.proofs.alone.AloneInTree.{alone, held_alone, latch_gone, latch_got, works_alone, worker_now}

@@ -1,5 +1,5 @@
 -- A store as the tree state of one worker, who changes it alone.
-use Rattle.std.proofs.Common.{◌≡◌, ◌≢◌, ℕ, zero, suc, ◌<◌, ◌==◌, Option, Some, None, length, inl, inr, refl, sym, ap, subst, ◌∙◌, arith}
+use Rattle.std.proofs.Common.{◌≡◌, ◌≢◌, ℕ, zero, suc, ◌<◌, ◌==◌, Option, Some, None, length, inl, inr, refl, sym, ap, ◌∙◌, arith}
 use Rattle.std.specs.Prelude.{if◌then◌else◌}
 use Rattle.std.proofs.lemmas.Bool.{cases_eq}
 use Rattle.std.proofs.lemmas.Bool.Decides.{nat_tests}
@@ -9,7 +9,7 @@ use Rattle.blink_page.specs.{IsPageNumber, PlainPage}
 use Rattle.blink_rest.specs.{IsStoreAtRest}
 use Rattle.blink_store.specs.{IsLawfulStore, PlainStore, page_of}
 use Rattle.blink_machine.specs.declared.machine.State.TheVariants.{Ended}
-use Rattle.blink_machine.specs.{IsOpening, IsWorkersNow, LatchPasses, PlainMachine, at_state, fresh, goes_on, latch_of}
+use Rattle.blink_machine.specs.{IsWorkersNow, LatchPasses, PlainMachine, at_state, fresh, goes_on, latch_of}
 use Rattle.blink_machine.specs.Invariant.{Invariant}
 use Rattle.blink_machine.specs.TreeState.{TreeState}
 use Rattle.blink_machine.proofs.Offered.{step_law}

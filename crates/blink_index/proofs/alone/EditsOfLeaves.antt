@@ -1,12 +1,10 @@
 -- What a deletion, a replacement or an insertion in one leaf makes of a tree at rest.
-use Rattle.std.proofs.Common.{◌≡◌, ◌<◌, ◌≤◌, ℕ, Option, Some, None, List, length, refl, sym, ap, subst, ◌∙◌}
+use Rattle.std.proofs.Common.{◌≡◌, ◌<◌, ◌≤◌, ℕ, Option, Some, None, length, refl, sym, ap, subst, ◌∙◌}
 use Rattle.std.specs.Prelude.{IfNone}
-use Rattle.blink_operation.specs.declared.Answer.{Answer}
 use Rattle.blink_operation.specs.declared.Answer.TheVariants.{Exists, Inserted}
-use Rattle.blink_operation.specs.declared.Entry.{Entry}
 use Rattle.blink_operation.specs.declared.Op.{Op}
 use Rattle.blink_operation.specs.declared.Op.TheVariants.{Delete, Insert, Replace}
-use Rattle.blink_operation.specs.{FitsWords, answer_at, answer_of, key_of, map_after, map_at, pointer_of}
+use Rattle.blink_operation.specs.{FitsWords, answer_at, key_of, map_at, pointer_of}
 use Rattle.blink_page.specs.{IsKeyOf, PlainPage, added, removed, replaced, value_at, with_entries}
 use Rattle.blink_page.specs.declared.limits.TheConstants.{GREATEST_KEY}
 use Rattle.blink_page.specs.declared.put.Put.{Put}

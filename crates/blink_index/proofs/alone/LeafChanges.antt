@@ -1,22 +1,18 @@
 -- A change of one leaf of a tree at rest is a step of an operation that has the leaf's latch. So the tree stays at rest, and its plain map changes
 -- by the operation.
-use Rattle.std.proofs.Common.{◌≡◌, ◌≤◌, ℕ, Option, Some, None, List, inl, inr, refl, sym, ap, subst, ◌∙◌}
-use Rattle.blink_operation.specs.declared.Answer.{Answer}
-use Rattle.blink_operation.specs.declared.Entry.{Entry}
+use Rattle.std.proofs.Common.{◌≡◌, ◌≤◌, ℕ, Option, Some, None, inl, inr, refl, sym, ap, subst, ◌∙◌}
 use Rattle.blink_operation.specs.declared.Op.{Op}
 use Rattle.blink_operation.specs.{FitsWords, answer_at, answer_of, key_of, map_after}
 use Rattle.blink_page.specs.{IsKeyOf, PlainPage, least_above}
-use Rattle.blink_rest.specs.{IsMapOf, IsMember, IsStoreAtRest}
+use Rattle.blink_rest.specs.{IsMember, IsStoreAtRest}
 use Rattle.blink_store.specs.{IsLawfulStore, PlainStore, WritesPage, page_of}
-use Rattle.blink_machine.specs.declared.machine.Next.TheVariants.{Finish}
-use Rattle.blink_machine.specs.declared.machine.State.TheVariants.{Change, Leave, Ended}
+use Rattle.blink_machine.specs.declared.machine.State.TheVariants.{Change}
 use Rattle.blink_machine.specs.declared.step.Step.TheVariants.{Moved}
-use Rattle.blink_machine.specs.{Decides, HasEntries, InvariantWith, IsUpdate, Levels, PlainMachine, Steps, deciding, done, fresh, other, unlatch, unlatches, under_way, write_page, writes_page}
+use Rattle.blink_machine.specs.{Decides, InvariantWith, IsUpdate, Levels, PlainMachine, Steps, deciding, done, fresh, other, unlatch, unlatches, under_way, write_page, writes_page}
 use Rattle.blink_machine.specs.Invariant.{Invariant}
 use Rattle.blink_machine.specs.Table.{IsChange}
-use Rattle.blink_machine.specs.Placed.{HasRead, IsAtWork, IsPlaced, StandsAt}
+use Rattle.blink_machine.specs.Placed.{IsPlaced}
 use Rattle.blink_machine.specs.Tree.{BeginsBelow}
-use Rattle.blink_machine.specs.TreeState.{TreeState}
 use Rattle.blink_machine.proofs.Offered.{stands_so, step_law}
 use Rattle.blink_index.specs.Index.{map_of}
 use Rattle.blink_index.proofs.MapOfStore.{no_other_map_is_kept, the_map_is_kept}

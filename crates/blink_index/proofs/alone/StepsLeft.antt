@@ -1,9 +1,8 @@
 -- How far a worker alone still has to go: each step brings the operation nearer to its end.
-use Rattle.std.proofs.Common.{◌≡◌, ◌≢◌, ℕ, ◌+◌, ◌-◌, ◌*◌, ◌<◌, ◌≤◌, Option, Some, None, List, [], ◌∷◌, length, true, false, refl, sym, ap, subst, ◌∙◌, arith}
+use Rattle.std.proofs.Common.{◌≡◌, ℕ, ◌+◌, ◌-◌, ◌*◌, ◌<◌, ◌≤◌, Option, Some, None, List, [], ◌∷◌, length, refl, ap, ◌∙◌, arith}
 use Rattle.blink_operation.specs.declared.Op.{Op}
 use Rattle.blink_operation.specs.declared.Op.TheVariants.{Find, Insert, Delete, Replace}
 use Rattle.blink_operation.specs.{FitsWords, key_of}
-use Rattle.blink_page.specs.declared.limits.TheConstants.{GREATEST_KEY}
 use Rattle.blink_page.specs.{PlainPage, least_above}
 use Rattle.blink_rest.specs.{Pages}
 use Rattle.blink_machine.specs.declared.machine.Debt.{Debt}
@@ -14,9 +13,8 @@ use Rattle.blink_machine.specs.declared.machine.Next.TheVariants.{Finish, MoveRi
 use Rattle.blink_machine.specs.declared.machine.State.{State}
 use Rattle.blink_machine.specs.declared.machine.State.TheVariants.{Start, Going, Want, Held, Change, SplitNew, SplitOld, AskPrime, Root, NewPrime, Leave, Posting, Ended}
 use Rattle.blink_machine.specs.declared.step.Kind.{Kind}
-use Rattle.blink_machine.specs.declared.step.Step.{Step}
-use Rattle.blink_machine.specs.declared.step.Step.TheVariants.{Moved, Waited}
-use Rattle.blink_machine.specs.{IsItsOperation, NeedsPage, PlainMachine, SeesPage, SeesPrime, Steps, debt_at, debt_of, decided_with, descent_bound, key_of_job, descent_bound_at, done, done_at, latches, need_at, numbers_left, one_if, reads_page, reads_prime, sets_out, target, under_way, unlatches, waits_for_latch, waits_for_level, writes_new, writes_new_page, writes_page, writes_prime}
+use Rattle.blink_machine.specs.declared.step.Step.TheVariants.{Moved}
+use Rattle.blink_machine.specs.{IsItsOperation, NeedsPage, PlainMachine, SeesPage, SeesPrime, Steps, debt_at, debt_of, decided_with, descent_bound, key_of_job, descent_bound_at, done_at, latches, need_at, numbers_left, one_if, reads_page, reads_prime, sets_out, target, under_way, unlatches, waits_for_latch, waits_for_level, writes_new, writes_new_page, writes_page, writes_prime}
 use Rattle.blink_machine.specs.Invariant.{Invariant}
 use Rattle.blink_machine.specs.Places.{keys_from_floor}
 use Rattle.blink_machine.specs.Table.{SeesOnItsWay, SeesUnderLatch}

@@ -1,14 +1,14 @@
 -- What holds of a store and of the operation that a worker alone carries out on it, from its first step to its end.
-use Rattle.std.proofs.Common.{◌≡◌, ◌≢◌, ℕ, ◌+◌, ◌-◌, ◌<◌, ◌≤◌, Option, Some, None, List, [], ◌∷◌, ◌++◌, length, true, All, refl, sym, ap, subst, ◌∙◌, arith, length-append}
-use Rattle.std.specs.Prelude.{IsSome, ◌&&◌}
+use Rattle.std.proofs.Common.{◌≡◌, ◌≢◌, ℕ, ◌+◌, ◌-◌, ◌<◌, ◌≤◌, Option, Some, None, List, [], ◌∷◌, length, true, refl, sym, ap, subst, ◌∙◌, arith, length-append}
+use Rattle.std.specs.Prelude.{IsSome}
 use Rattle.std.proofs.lemmas.List.{length-set}
 use Rattle.blink_operation.specs.declared.Answer.{Answer}
 use Rattle.blink_operation.specs.declared.Entry.{Entry}
 use Rattle.blink_operation.specs.declared.Op.{Op}
 use Rattle.blink_operation.specs.{FitsWords, IsAscending, answer_of, map_after}
-use Rattle.blink_page.specs.{IsPageNumber, PlainPage}
+use Rattle.blink_page.specs.{IsPageNumber}
 use Rattle.blink_page.specs.declared.limits.TheConstants.{GREATEST_KEY, MAX_NEW_PAGES_PER_INSERT, MAX_PAGE}
-use Rattle.blink_rest.specs.{AreEntries, IsStoreAtRest, entries_from, pairs_of}
+use Rattle.blink_rest.specs.{AreEntries, IsStoreAtRest, pairs_of}
 use Rattle.blink_rest.proofs.Offered.{ascending_from, entries_ascend, entries_from-pairs_of}
 use Rattle.blink_store.specs.{IsLawfulStore, PlainStore, page_of}
 use Rattle.blink_store.proofs.Offered.{lawful-add, lawful-write}
@@ -17,9 +17,8 @@ use Rattle.blink_machine.specs.declared.machine.Need.TheVariants.{ReadPrime, Rea
 use Rattle.blink_machine.specs.declared.machine.State.{State}
 use Rattle.blink_machine.specs.declared.machine.State.TheVariants.{SplitNew, Root, Start, Ended}
 use Rattle.blink_machine.specs.declared.step.Step.TheVariants.{Moved}
-use Rattle.blink_machine.specs.{Decides, IsInOrder, IsItsOperation, PlainMachine, PrimeOut, UsesUp, WaitsForLevel, adds_root, deciding, fresh, goes_on, has_moved, latch_of, need_at, numbers_left, one_if, other, page_out, taken_on, under_way, writes_new_page}
+use Rattle.blink_machine.specs.{Decides, IsInOrder, IsItsOperation, PlainMachine, PrimeOut, UsesUp, WaitsForLevel, deciding, fresh, goes_on, latch_of, need_at, numbers_left, one_if, other, page_out, taken_on, under_way, writes_new_page}
 use Rattle.blink_machine.specs.Invariant.{Invariant}
-use Rattle.blink_machine.specs.TreeState.{TreeState}
 use Rattle.blink_machine.proofs.Offered.{goes_on_if_needed, has_answer_at_end, never_stuck, step_law, tree_laws}
 use Rattle.blink_machine.proofs.tree_state.InvariantStatements.{IsWaiting}
 use Rattle.blink_index.specs.Drive.{ActsOn, CanActOn}

@@ -21,6 +21,8 @@ impl Index {
     pub fn next(&self, key: u64) -> Option<Entry>
         ensures { result ≡ first_of (filter (is_above key) (map_of self.now)) }
     {
+        // Called for the proof: a tree at rest has its entries as a map.
+        let _rest = self.rest();
         if key == u64::MAX {
             return None;
         }

@@ -1,11 +1,10 @@
-use Rattle.std.proofs.Common.{◌≡◌, Bool, true, false, Some, refl, subst, sym, ap, ◌∙◌}
+use Rattle.std.proofs.Common.{Bool, true, false, refl, subst, sym}
 use Rattle.std.specs.Bool.{OnTrue, OnFalse}
 use Rattle.blink_page.specs.{PlainPage}
-use Rattle.blink_store.specs.{PlainStore, page_of}
+use Rattle.blink_store.specs.{PlainStore}
 use Rattle.blink_store.proofs.Offered.{page_at_place}
 use Rattle.blink_machine.specs.declared.machine.Need.{Need}
-use Rattle.blink_machine.specs.declared.machine.Need.TheVariants.{ReadPrime, ReadPage, WriteNew, WritePage, WritePrime}
-use Rattle.blink_machine.specs.{PlainMachine, SeesPage, SeesPrime, WaitsForLevel, need_at}
+use Rattle.blink_machine.specs.{PlainMachine, SeesPage, SeesPrime, WaitsForLevel}
 use Rattle.blink_index.specs.Drive.{ActsOn, CanActOn, store_of}
 use Rattle.blink_index.proofs.drive.act.Goals as goal
 

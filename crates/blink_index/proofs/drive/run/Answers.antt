@@ -1,8 +1,7 @@
-use Rattle.std.proofs.Common.{◌≡◌, ◌≢◌, ℕ, false, ◌<◌, ◌≤◌, ◌+◌, length, vec_capacity, refl, sym, ap, subst, ◌∙◌, arith}
+use Rattle.std.proofs.Common.{◌≢◌, ℕ, false, refl, sym, subst, ◌∙◌, arith}
 use Rattle.std.specs.Bool.{IsTrue}
-use Rattle.blink_store.specs.{PlainStore}
-use Rattle.blink_machine.specs.declared.machine.State.TheVariants.{Start, Ended}
-use Rattle.blink_machine.specs.{PlainMachine, fresh, need_at}
+use Rattle.blink_machine.specs.declared.machine.State.TheVariants.{Ended}
+use Rattle.blink_machine.specs.{PlainMachine, need_at}
 use Rattle.blink_index.specs.Drive.{ActsOn, CanActOn, store_of}
 use Rattle.blink_index.proofs.alone.UnderWay.{can_begin, can_go_on, edited_at_end, fewer_left, own_fan, room_left, under_way_at_first, under_way_still}
 use Rattle.blink_index.proofs.drive.run.Goals as goal

@@ -1,11 +1,10 @@
 use Rattle.std.proofs.Common.{◌≡◌, ◌≤◌, ◌∙◌, List, sym, subst, ap, arith}
-use Rattle.blink_operation.specs.declared.Answer.TheVariants.{Inserted}
 use Rattle.blink_operation.specs.declared.Op.TheVariants.{Insert}
 use Rattle.blink_operation.specs.{answer_at, answer_of}
 use Rattle.blink_page.specs.{PlainPage}
 use Rattle.blink_page.specs.declared.limits.TheConstants.{GREATEST_KEY}
 use Rattle.blink_rest.specs.{IsStoreAtRest}
-use Rattle.blink_store.specs.{IsLawfulStore, PlainStore}
+use Rattle.blink_store.specs.{PlainStore}
 use Rattle.blink_index.specs.Drive.{store_of}
 use Rattle.blink_index.specs.Edit.{IsEdited}
 use Rattle.blink_index.specs.Index.{map_of}

@@ -1,4 +1,4 @@
-use Rattle.std.proofs.Common.{◌≡◌, ◌≤◌, ◌∙◌, sym, subst, ap, arith}
+use Rattle.std.proofs.Common.{◌≤◌, ◌∙◌, sym, subst, arith}
 use Rattle.blink_operation.specs.declared.Op.TheVariants.{Delete}
 use Rattle.blink_operation.specs.{answer_at}
 use Rattle.blink_page.specs.declared.limits.TheConstants.{GREATEST_KEY}

@@ -1,10 +1,8 @@
-use Rattle.std.proofs.Common.{◌≡◌, ◌≤◌, ◌<◌, ℕ, None, Some, ap, length, subst, sym, ◌∙◌, arith}
+use Rattle.std.proofs.Common.{◌≡◌, ◌≤◌, ◌<◌, None, Some, ap, length, subst, ◌∙◌, arith}
 use Rattle.blink_page.specs.declared.limits.TheConstants.{GREATEST_KEY}
-use Rattle.blink_page.specs.declared.put.Put.{Put}
-use Rattle.blink_page.specs.declared.put.Put.TheVariants.{Done, Present, Full}
-use Rattle.blink_page.specs.{PlainPage, IsLawfulPage, added, value_at, with_entries}
+use Rattle.blink_page.specs.{PlainPage, added, value_at, with_entries}
 use Rattle.blink_page.specs.Put.{OnDone, UnlessDone, IfPresent, UnlessPresent, OnFull}
-use Rattle.blink_store.specs.Store.{PlainStore, page_of, WritesPage}
+use Rattle.blink_store.specs.Store.{PlainStore, page_of}
 use Rattle.blink_store.proofs.LeavesInPlace.{page_at_place, lawful_in_place, written_if_done, put_lawful}
 use Rattle.blink_store.proofs.PagesByNumber.{page_lawful}
 use Rattle.blink_store.proofs.store.Store.put.Goals as goal

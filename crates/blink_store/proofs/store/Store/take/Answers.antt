@@ -1,7 +1,7 @@
 use Rattle.std.proofs.Common.{◌≡◌, Some, ap, subst, sym, ◌∙◌}
 use Rattle.blink_page.specs.{PlainPage, IsLawfulPage, removed, value_at, with_entries}
 use Rattle.blink_page.proofs.Offered.{lawful_removed}
-use Rattle.blink_store.specs.Store.{PlainStore, page_of, WritesPage}
+use Rattle.blink_store.specs.Store.{PlainStore, page_of}
 use Rattle.blink_store.proofs.LeavesInPlace.{page_at_place, lawful_in_place, writes_in_place}
 use Rattle.blink_store.proofs.PagesByNumber.{page_lawful}
 use Rattle.blink_store.proofs.store.Store.take.Goals as goal
