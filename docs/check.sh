@@ -22,7 +22,7 @@ old="$old"'|IsShort|way_left|room_to|Ledger|PlainLedger|AreLinks|AreFirsts|Takes
 old="$old"'|Desk|desk|Outlet|Outlets|outlet|outlets|Pours|BreaksOff|GoesOut|LeavesLines|LeavesPart|LeavesFront'
 old="$old"'|Plays|Plays\.antt|Sat|drafts?|drafted|has_drafted|draft_row|DraftsKeepTable|RowsAreDrafted'
 old="$old"'|NUMBERS_OF_INSERTION|ROWS_OF_INSERTION|MOST_PASSES|is_too_large'
-old="$old"'|SawFrontOf|OneIsFront|FrontsOfOneList|IsAmong|StandsIn|fronts|fronts? of'
+old="$old"'|SawFrontOf|OneIsFront|FrontsOfOneList|IsAmong|StandsIn|fronts? of (a|the|one|its) lists?'
 old="$old"'|Keeps|EntriesThatATreeKeeps|kept under|keys? keeps?|keeps? (a|its|the) pointer|is kept for'
 
 # shellcheck disable=SC2086

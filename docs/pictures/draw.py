@@ -680,6 +680,51 @@ def one_list():
     picture.save("one-list.svg")
 
 
+def fronts():
+    picture = Picture(790, 352)
+    left, wide, foot, high = 168, 172, 222, 28
+    leaves = [("#1", "≤6", 2, "(2, 20)  (5, 50)"), ("#3", "≤12", 4, "(8, 80)  (11, 50)"), ("#2", "≤MAX", 6, "none")]
+    changes = [("5 → 50", 0), ("14 → 140", 2), ("5 is gone", 0), ("11 → 50", 1), ("8 → 81", 1), ("14 is gone", 2)]
+    end = left + wide * len(leaves)
+
+    def at(count):
+        return foot - count * high
+
+    picture.text(14, 22, "the list grows upwards", size=11, fill=SOFT, anchor="start")
+    for place, (what, leaf) in enumerate(changes):
+        picture.box(34, at(place + 1), 110, high, fill=HEAD, stroke=LINE)
+        picture.text(89, at(place) - 9, what, bold=True)
+        x, y = left + wide * leaf + wide / 2, at(place) - high / 2
+        picture.line([(144, y), (x - 8, y)], stroke="#d5d9dc", width=1)
+        told = place < leaves[leaf][2]
+        picture.dot(x, y, radius=5, fill=INK if told else LINE)
+        if not told:
+            picture.dot(x, y, radius=3.5, fill="white")
+    for count, words in ((1, "seen before"), (6, "seen afterwards")):
+        picture.line([(left, at(count)), (end, at(count))], stroke=BLUE, width=1.2, dash=True)
+        picture.text(end + 4, at(count) + 4, words, size=10.5, fill=BLUE, anchor="start")
+    stairs = []
+    for place, (_, _, count, _) in enumerate(leaves):
+        stairs += [(left + wide * place, at(count)), (left + wide * (place + 1), at(count))]
+    picture.line(stairs, stroke=RED, width=2.4)
+    picture.text(left + 6, at(2) - 6, "front of #1", size=11, fill=RED, anchor="start")
+    picture.text(left + wide + 6, at(4) - 6, "of #3", size=11, fill=RED, anchor="start")
+    picture.text(left + wide * 2 + 6, at(6) - 6, "of #2", size=11, fill=RED, anchor="start")
+    for place, (number, bound, _, report) in enumerate(leaves):
+        x = left + wide * place
+        picture.box(x + 6, 240, wide - 26, 24, fill="white")
+        picture.text(x + 24, 256, number, bold=True)
+        picture.text(x + wide - 44, 256, bound, size=11, fill=SOFT)
+        if place + 1 < len(leaves):
+            picture.line([(x + wide - 20, 252), (x + wide + 5, 252)], arrow=True)
+        picture.text(x + (wide - 14) / 2, 292, report)
+    picture.text(14, 256, "the leaves", anchor="start", bold=True)
+    picture.text(14, 292, "the report", anchor="start", bold=True)
+    picture.text(14, 322, "At opening the map was 2 → 20, 8 → 80. A full dot is in the report, a hollow one came later than its leaf was read.", size=11, fill=SOFT, anchor="start")
+    picture.text(14, 340, "The record 50 was moved from key 5 to key 11 between two reads, and so it is reported at both.", size=11, fill=SOFT, anchor="start")
+    picture.save("fronts.svg")
+
+
 # lines that go round what stands between: the column where they go down
 BENT = {("blink_run", "blink_live"): 5.35}
 
@@ -716,7 +761,7 @@ def main():
     if sys.argv[1:] == ["crates"]:
         print(crates_as_text())
         return
-    for draw in (pages, tree, moving_right, split, posting, overtaking, root_growth, debts, latches, deciding, row, prefixes, one_list, crates):
+    for draw in (pages, tree, moving_right, split, posting, overtaking, root_growth, debts, latches, deciding, row, prefixes, one_list, fronts, crates):
         draw()
 
 
