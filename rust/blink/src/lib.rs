@@ -30,6 +30,7 @@ mod error;
 mod index;
 mod map;
 mod operation;
+mod range;
 mod sys;
 mod table;
 
@@ -37,4 +38,5 @@ pub use error::Error;
 pub use index::{Index, Scan};
 pub use map::{Left, Map, Room, Session};
 pub use operation::{Answer, Entry, Op};
+pub use range::Range;
 pub use table::{Pass, Pending, Table};
