@@ -49,6 +49,10 @@ typedef struct { uint64_t kind, key, pointer; } blink_operation;
 /* An answer. The pointer is 0 where the answer tells none. */
 typedef struct { uint64_t kind, pointer; } blink_answer;
 
+/* How far a scan of a pass or a session came. It filled so many places of its array, from the first on. `more` is 1 if the array was
+ * full before the end of the range: then another scan goes on from the key `next`. At the end of the range both are 0. */
+typedef struct { uint64_t filled, more, next; } blink_scanned;
+
 /* The kinds of operations. */
 enum {
     BLINK_FIND = 0,    /* looks the key up */
@@ -214,6 +218,13 @@ uint8_t blink_pass_find(blink_pass *pass, uint64_t key, blink_answer *answer);
  * BLINK_RETURNED. */
 uint8_t blink_pass_glance(blink_pass *pass, uint64_t key, blink_answer *answer);
 
+/* Gives the entries whose keys are from `lo` to `hi`, both included, in ascending order, as many as there are places; other places
+ * stay as they were. The keys may be anybody's. It reads leaf after leaf, from the left, each at one time: what it says of a key is
+ * what the changes up to some time in the call leave of it, and of a greater key those up to that time or a later one. A key that
+ * is there throughout the call is reported, and one that isn't there throughout isn't. Of the pass's own keys the report is exact. It
+ * takes no memory. Refused: BLINK_PENDING; BLINK_RETURNED; then nothing changes. */
+uint8_t blink_pass_scan(blink_pass *pass, uint64_t lo, uint64_t hi, blink_entry *entries, size_t places, blink_scanned *scanned);
+
 /* Tells pass `to` what pass `from` has seen: then `to` has seen all that `from` has seen. The two handles are different. Refused,
  * looked for in this order: BLINK_FOREIGN, if the passes are of two tables; BLINK_PENDING or BLINK_RETURNED, if `from` isn't free;
  * the same, if `to` isn't. */
@@ -285,6 +296,14 @@ void blink_map_free(blink_map map);
 /* Looks any key up: BLINK_FOUND or BLINK_ABSENT, after the changes that the session has seen by the end of the call. Refused:
  * BLINK_PENDING; then nothing changes. */
 uint8_t blink_session_find(blink_session *session, uint64_t key, blink_answer *answer);
+
+/* Gives the entries whose keys are from `lo` to `hi`, both included, in ascending order, as many as there are places; other places
+ * stay as they were. It reads leaf after leaf, from the left, each at one time: what it says of a key is what the changes up to some
+ * time in the call leave of it, and of a greater key those up to that time or a later one. A key that is there throughout the
+ * call is reported, and one that isn't there throughout isn't. The session has seen the changes up to these times then. It takes no
+ * memory. Refused: BLINK_PENDING; then nothing changes. */
+uint8_t blink_session_scan(blink_session *session, uint64_t lo, uint64_t hi, blink_entry *entries, size_t places,
+                           blink_scanned *scanned);
 
 /* Insert, delete or replace any key. It returns BLINK_DONE and the answer once the operation has ended, and BLINK_PENDING if it
  * hasn't: then it goes on by blink_session_advance, and until it has ended the session can do nothing else. Tested: that is after

@@ -30,7 +30,8 @@ cat "$here"/src/*.rt | awk '
 sed 's/|/ | /g' "$work/exports" | awk -F ' [|] ' '
     BEGIN {
         c["u8"] = "uint8_t"; c["u32"] = "uint32_t"; c["u64"] = "uint64_t"; c["usize"] = "size_t"; c["bool"] = "bool"
-        c["()"] = "void"; c["RawEntry"] = "blink_entry"; c["RawOperation"] = "blink_operation"; c["RawAnswer"] = "blink_answer"
+        c["()"] = "void"; c["RawEntry"] = c["Entry"] = "blink_entry"; c["RawOperation"] = "blink_operation"; c["RawAnswer"] = "blink_answer"
+        c["RawScanned"] = "blink_scanned"
         c["IndexHandle"] = c["IndexSlot"] = "blink_index"; c["TableHandle"] = c["TableSlot"] = "blink_table"
         c["PassHandle"] = c["PassSlot"] = "blink_pass"; c["MapHandle"] = c["MapSlot"] = "blink_map"
         c["SessionHandle"] = c["SessionSlot"] = "blink_session"
@@ -108,10 +109,10 @@ FULL specs/MapCodes.antt Full
 SESSION_MISSING specs/MapCodes.antt Missing
 WORDS
     # The structs of numbers, field by field.
-    awk '/^pub struct Raw/ { name = $3; on = 1; print "struct " name " {"; next }
+    awk '/^pub struct (Raw|Entry)/ { name = $3; on = 1; print "struct " name " {"; next }
         on && /^}/ { on = 0; print "};" }
-        on { sub(/^ *pub /, ""); sub(/,$/, ""); split($0, f, ": "); print "uint" substr(f[2], 2) "_t " f[1] ";" }' "$here/src/raw.rt"
-    for it in "RawEntry blink_entry key pointer" "RawOperation blink_operation kind key pointer" "RawAnswer blink_answer kind pointer"; do
+        on { sub(/^ *pub /, ""); sub(/,$/, ""); split($0, f, ": "); print "uint" substr(f[2], 2) "_t " f[1] ";" }' "$here/src/raw.rt" "$here/../blink_operation/src/entry.rt"
+    for it in "RawEntry blink_entry key pointer" "Entry blink_entry key pointer" "RawScanned blink_scanned filled more next" "RawOperation blink_operation kind key pointer" "RawAnswer blink_answer kind pointer"; do
         # shellcheck disable=SC2086
         set -- $it "" "$@"
         raw=$1

@@ -129,6 +129,12 @@ static void refuses_at_a_table(void) {
     CHECK(blink_pass_find(&pass, 2, &answer) == BLINK_NOT_YOURS && answer.kind == 9);
     CHECK(blink_pass_find(&pass, 1, &answer) == BLINK_DONE && answer.kind == BLINK_FOUND && answer.pointer == 10);
     CHECK(blink_pass_glance(&pass, 2, &answer) == BLINK_DONE && answer.pointer == 20);
+    blink_entry range[2] = {{9, 9}, {9, 9}};
+    blink_scanned scanned = {9, 9, 9};
+    CHECK(blink_pass_scan(&pass, 2, 4, range, 2, &scanned) == BLINK_DONE && scanned.filled == 2 && scanned.more == 1 && scanned.next == 4);
+    CHECK(range[0].key == 2 && range[0].pointer == 20 && range[1].key == 3 && range[1].pointer == 30);
+    CHECK(blink_pass_scan(&pass, 4, 4, range, 2, &scanned) == BLINK_DONE && scanned.filled == 1 && scanned.more == 0 && scanned.next == 0);
+    CHECK(range[0].key == 4 && range[1].key == 3);
     CHECK(blink_pass_tell(&pass, &foreign) == BLINK_FOREIGN && blink_table_return(&other, &pass) == BLINK_FOREIGN);
     CHECK(blink_pass_advance(&pass, 1, &answer) == BLINK_IDLE);
     CHECK(blink_pass_begin_insert(&pass, 2, 0) == BLINK_NOT_YOURS && blink_pass_begin_replace(&pass, 3, 0) == BLINK_NOT_YOURS);
@@ -396,7 +402,12 @@ static void refuses_under_way(void) {
     blink_answer answer = {9, 9};
     CHECK(blink_map_open(&index, 300, 600, 2, 1, &map) == BLINK_DONE);
     CHECK(blink_map_join(&map, &one) == BLINK_DONE && blink_map_join(&map, &other) == BLINK_DONE);
+    blink_entry range[2] = {{9, 9}, {9, 9}};
+    blink_scanned scanned = {9, 9, 9};
+    CHECK(blink_session_scan(&one, 4, 9, range, 2, &scanned) == BLINK_DONE && scanned.filled == 2 && scanned.more == 0);
+    CHECK(range[0].key == 4 && range[0].pointer == 40 && range[1].key == 5 && range[1].pointer == 50);
     CHECK(blink_session_put(&one, 3, 33, 100, &answer) == BLINK_PENDING);
+    CHECK(blink_session_scan(&one, 0, 9, range, 2, &scanned) == BLINK_PENDING && range[0].key == 4 && scanned.filled == 2);
     CHECK(blink_session_find(&one, 3, &answer) == BLINK_PENDING && blink_session_insert(&one, 9, 90, 100, &answer) == BLINK_PENDING);
     CHECK(blink_session_delete(&one, 3, 100, &answer) == BLINK_PENDING && blink_session_put(&one, 9, 90, 100, &answer) == BLINK_PENDING);
     CHECK(blink_session_replace(&one, 3, 34, 100, &answer) == BLINK_PENDING);

@@ -2,7 +2,7 @@
 -- Rust programs.
 
 -- entries, operations and answers as structs of numbers
-pub use Rattle.blink_c.specs.Raw.{AreOperations, insertion_of, op_of, raw_answer, raw_entry, raw_given, raw_shown}
+pub use Rattle.blink_c.specs.Raw.{AreOperations, insertion_of, op_of, raw_answer, raw_entry, raw_given, raw_scanned, raw_shown}
 -- a batch that one thread runs over an index, an index made of entries, and why they are refused
 pub use Rattle.blink_c.specs.Runs.{HasEntriesOf, HasPagesFor, HasPagesOf, HasRun, IsMakeRefusal, IsRunRefusal}
 -- one operation on an index in place, and the entry that a call may give
@@ -12,20 +12,23 @@ pub use Rattle.blink_c.specs.Codes.{TellsNewFault, TellsWhy}
 -- what the look-ups give, and the caller's arrays after a scan, a page or a dump
 pub use Rattle.blink_c.specs.Found.{found_answer, pointer_or}
 pub use Rattle.blink_c.specs.Filled.{overlaid, put_if_fits}
+-- what a scan of a table or a map gives
+pub use Rattle.blink_c.specs.Reports.{HasReported}
 -- a table behind a handle: what the calls make of it, and why they are refused
 pub use Rattle.blink_c.specs.Tables.{DealsTo, IsNewTable, IsOwnTable, IsReturnRefusal, TakesBack, TellsDealFault}
 -- a pass behind a handle likewise
-pub use Rattle.blink_c.specs.Passes.{Begins, Ends, Finds, Glances, Hands, IsAdvanceRefusal, IsBeginRefusal, IsFindRefusal, IsHandRefusal, IsOwn, IsTellRefusal, TellsHandFault, TellsOn}
+pub use Rattle.blink_c.specs.Passes.{Begins, Ends, Finds, Glances, Hands, IsAdvanceRefusal, IsBeginRefusal, IsFindRefusal, IsHandRefusal, IsOwn, IsTellRefusal, Scans, TellsHandFault, TellsOn}
 -- a map behind a handle: what the calls make of it, and why they are refused
 pub use Rattle.blink_c.specs.Maps.{HasBadSessions, IsNewMap, IsTooLargeMap, Joins}
 -- a session behind a handle likewise
-pub use Rattle.blink_c.specs.Sessions.{Answers, EndsFrom, Finds as SessionFinds, IsAdvanceRefusal as IsSessionAdvanceRefusal, IsChangeRefusal, IsOwnSession, IsPutRefusal, IsTellRefusal as IsSessionTellRefusal, Puts, TellsOn as SessionTellsOn}
+pub use Rattle.blink_c.specs.Sessions.{Answers, EndsFrom, Finds as SessionFinds, IsAdvanceRefusal as IsSessionAdvanceRefusal, IsChangeRefusal, IsOwnSession, IsPutRefusal, IsTellRefusal as IsSessionTellRefusal, Puts, Scans as SessionScans, TellsOn as SessionTellsOn}
 -- ---- the files
 pub mod Raw
 pub mod Runs
 pub mod Edits
 pub mod Found
 pub mod Filled
+pub mod Reports
 pub mod Tables
 pub mod Passes
 pub mod Maps

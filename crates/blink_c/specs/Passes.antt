@@ -1,7 +1,8 @@
 -- A pass behind a handle: what the calls make of it, and why they are refused.
-use Rattle.std.specs.Prelude.{◌≡◌, ◌≢◌, ◌⊎◌, ℕ, List, None, Contains, ⊤}
+use Rattle.std.specs.Prelude.{◌≡◌, ◌≢◌, ◌⊎◌, ℕ, List, None, Contains, take, ⊤}
 use Rattle.std.specs.Arc.{arc_value}
 use mathlib.Core.List.{IsPrefix}
+use Rattle.blink_batch.specs.declared.Entry.{Entry}
 use Rattle.blink_batch.specs.declared.Op.{Op}
 use Rattle.blink_batch.specs.declared.Op.TheVariants.{Find}
 use Rattle.blink_batch.specs.{answer_of, key_of, pointer_of}
@@ -12,15 +13,17 @@ use Rattle.blink_live.specs.declared.live.Pending.{Pending}
 use Rattle.blink_live.specs.declared.error.HandError.{HandError}
 use Rattle.blink_live.specs.declared.error.HandError.TheVariants as hand
 use Rattle.blink_live.specs.declared.error.PassError.TheVariants.{NotYours, Spent}
-use Rattle.blink_live.specs.{AllAreYours, HasBegun, IsChangedBy, IsHandRefusal as IsRefusalOfKeys, IsHanded, IsPassOf, IsPendingOf, IsSameBesideSeen, IsSamePass, IsWaiting, KnowsItsKeys, SawAllOf, after, keys_of, op_of, opening_of, pass_of, seen_of, share_of}
+use Rattle.blink_live.specs.{AllAreYours, HasBegun, IsChangedBy, IsHandRefusal as IsRefusalOfKeys, IsHanded, IsPassOf, IsPendingOf, IsSameBesideSeen, IsSamePass, IsWaiting, KnowsItsKeys, SawAllOf, SaysOfKeys, after, keys_of, op_of, opening_of, pass_of, seen_of, share_of, stop_of}
 use Rattle.blink_live.specs.Allowed.{changes_left}
 use Rattle.blink_c.specs.declared.raw.RawAnswer.{RawAnswer}
+use Rattle.blink_c.specs.declared.raw.RawScanned.{RawScanned}
 use Rattle.blink_c.specs.declared.pass_owner.Held.{Held}
 use Rattle.blink_c.specs.declared.pass_owner.Held.TheVariants.{Free, Busy, Gone}
 use Rattle.blink_c.specs.declared.pass_owner.PassOwner.{PassOwner}
 use Rattle.blink_c.specs.declared.table_refusal.TableRefusal.{TableRefusal}
 use Rattle.blink_c.specs.declared.table_refusal.TableRefusal.TheVariants as refused
 use Rattle.blink_c.specs.Raw.{raw_answer, raw_shown}
+use Rattle.blink_c.specs.Reports.{HasReported}
 use Rattle.blink_c.specs.TableCodes.{code_of}
 
 -- the table
@@ -76,6 +79,16 @@ pub record Glances (key : ℕ) (old new : PassOwner) (given : RawAnswer) : Type 
   pub now : Pass
   pub free : StaysFree old new before now
   pub answer : given ≡ raw_shown (after (pointer_of (opening_of (table_of old))) (seen_of now) key)
+  pub same : IsSameBesideSeen before now
+  pub knows : KnowsItsKeys (table_of old) now
+
+-- a range is scanned; of the pass's own keys the report has what its share has
+pub record Scans (lo hi : ℕ) (old new : PassOwner) (places filled : List Entry) (given : RawScanned) : Type 0 where
+  pub before : Pass
+  pub now : Pass
+  pub free : StaysFree old new before now
+  pub reported : HasReported (opening_of (table_of old)) (seen_of before) (seen_of now) lo hi places filled given
+  pub own : SaysOfKeys (keys_of before) (share_of before) lo (stop_of hi reported.scanned.next) (take reported.scanned.filled filled)
   pub same : IsSameBesideSeen before now
   pub knows : KnowsItsKeys (table_of old) now
 

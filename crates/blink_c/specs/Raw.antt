@@ -5,9 +5,11 @@ use Rattle.blink_batch.specs.declared.Answer.TheVariants.{Found, Absent, Inserte
 use Rattle.blink_batch.specs.declared.Entry.{Entry}
 use Rattle.blink_batch.specs.declared.Op.{Op}
 use Rattle.blink_batch.specs.declared.Op.TheVariants.{Find, Insert, Delete, Replace}
+use Rattle.blink_live.specs.declared.scan.Scanned.{Scanned}
 use Rattle.blink_c.specs.declared.raw.RawAnswer.{RawAnswer}
 use Rattle.blink_c.specs.declared.raw.RawEntry.{RawEntry}
 use Rattle.blink_c.specs.declared.raw.RawOperation.{RawOperation}
+use Rattle.blink_c.specs.declared.raw.RawScanned.{RawScanned}
 use Rattle.blink_c.specs.declared.raw.TheConstants.{FIND, INSERT, DELETE, REPLACE, ABSENT, FOUND, INSERTED, EXISTS, REMOVED, REPLACED}
 
 -- the operation that three numbers mean, if the kind is one of the four
@@ -48,3 +50,11 @@ raw_given (Some answer) = raw_answer answer
 abbrev pub raw_shown : Option ℕ → RawAnswer
 raw_shown None = record { kind = ABSENT; pointer = 0 }
 raw_shown (Some pointer) = record { kind = FOUND; pointer = pointer }
+
+-- how far a scan came
+abbrev pub raw_next : ℕ → Option ℕ → RawScanned
+raw_next filled None = record { filled = filled; more = 0; next = 0 }
+raw_next filled (Some next) = record { filled = filled; more = 1; next = next }
+
+abbrev pub raw_scanned : Scanned → RawScanned
+raw_scanned scanned = raw_next scanned.filled scanned.next

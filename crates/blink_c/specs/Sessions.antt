@@ -1,8 +1,9 @@
 -- A session behind a handle: what the calls make of it, and why they are refused.
-use Rattle.std.specs.Prelude.{◌≡◌, ◌≢◌, ◌⊎◌, ℕ, Option, Some, None, ⊤}
+use Rattle.std.specs.Prelude.{◌≡◌, ◌≢◌, ◌⊎◌, ℕ, Option, Some, None, List, ⊤}
 use Rattle.std.specs.Arc.{arc_value}
 use mathlib.Core.List.{IsPrefix}
 use Rattle.blink_batch.specs.declared.Answer.{Answer}
+use Rattle.blink_batch.specs.declared.Entry.{Entry}
 use Rattle.blink_batch.specs.declared.Op.{Op}
 use Rattle.blink_batch.specs.declared.Op.TheVariants.{Insert, Replace}
 use Rattle.blink_batch.specs.{pointer_of}
@@ -12,6 +13,7 @@ use Rattle.blink_map.specs.declared.map.Session.{Session}
 use Rattle.blink_map.specs.declared.map.Pending.{Pending}
 use Rattle.blink_map.specs.{GoesOn, HasBegun, HasTried, IsAnswered, IsPendingOf, IsPut, IsSameBesideRoom, IsSameBesideSeen, IsSameSession, IsSessionOf, LacksRoom, op_of, opening_of, seen_by, session_of}
 use Rattle.blink_c.specs.declared.raw.RawAnswer.{RawAnswer}
+use Rattle.blink_c.specs.declared.raw.RawScanned.{RawScanned}
 use Rattle.blink_c.specs.declared.raw.TheConstants.{INSERTED, REPLACED}
 use Rattle.blink_c.specs.declared.map_refusal.MapRefusal.{MapRefusal}
 use Rattle.blink_c.specs.declared.map_refusal.MapRefusal.TheVariants as refused
@@ -19,6 +21,7 @@ use Rattle.blink_c.specs.declared.session_owner.HeldSession.{HeldSession}
 use Rattle.blink_c.specs.declared.session_owner.HeldSession.TheVariants.{Free, Busy, Putting, Gone}
 use Rattle.blink_c.specs.declared.session_owner.SessionOwner.{SessionOwner}
 use Rattle.blink_c.specs.Raw.{raw_answer, raw_shown}
+use Rattle.blink_c.specs.Reports.{HasReported}
 
 -- the map
 abbrev pub in_map : SessionOwner → Map
@@ -67,6 +70,14 @@ pub record Finds (key : ℕ) (old new : SessionOwner) (given : RawAnswer) : Type
   pub now : Session
   pub free : StaysFree old new before now
   pub answer : given ≡ raw_shown (after (pointer_of (opening_of (in_map old))) (seen_by now) key)
+  pub same : IsSameBesideSeen before now
+
+-- a range is scanned
+pub record Scans (lo hi : ℕ) (old new : SessionOwner) (places filled : List Entry) (given : RawScanned) : Type 0 where
+  pub before : Session
+  pub now : Session
+  pub free : StaysFree old new before now
+  pub reported : HasReported (opening_of (in_map old)) (seen_by before) (seen_by now) lo hi places filled given
   pub same : IsSameBesideSeen before now
 
 pub record TellsOn (from from_new to to_new : SessionOwner) : Type 0 where

@@ -2,13 +2,14 @@
 ghost use Rattle.std.specs.Prelude.{◌≡◌, ◌≢◌};
 ghost use Rattle.blink_batch.specs.declared.Op.TheVariants.{Delete, Insert, Replace};
 ghost use Rattle.blink_c.specs.Codes.{TellsWhy};
-ghost use Rattle.blink_c.specs.Passes.{Begins, Ends, Finds, Glances, Hands, IsAdvanceRefusal, IsBeginRefusal, IsFindRefusal, IsNotFree, IsOwn, IsTellRefusal, TellsHandFault, TellsOn, table_of};
+ghost use Rattle.blink_c.specs.Passes.{Begins, Ends, Finds, Glances, Hands, IsAdvanceRefusal, IsBeginRefusal, IsFindRefusal, IsNotFree, IsOwn, IsTellRefusal, Scans, TellsHandFault, TellsOn, table_of};
 ghost use Rattle.blink_c.specs.TableCodes.{code_of};
 
 use crate::pass_handle::PassHandle;
-use crate::raw::RawAnswer;
+use crate::raw::{RawAnswer, RawScanned};
 use crate::refusal::DONE;
 use crate::table_refusal::{TableRefusal, code_of};
+use blink_batch::Entry;
 use blink_live::HandError;
 
 /// Looks a key of the pass up.
@@ -33,6 +34,26 @@ pub extern "C" fn blink_pass_glance(pass: &mut PassHandle, key: u64, answer: &mu
     ensures unchanged { result ≢ 0 → (pass.new.value ≡ pass.old.value) × (answer.new ≡ answer.old) }
 {
     code_of(&pass.get().glance(key, answer))
+}
+
+/// Gives the entries whose keys are from `lo` to `hi`, whosever they are, as many as there are places, and tells how far it came.
+#[unsafe(no_mangle)]
+pub extern "C" fn blink_pass_scan(
+    pass: &mut PassHandle,
+    lo: u64,
+    hi: u64,
+    entries: &mut [Entry],
+    scanned: &mut RawScanned,
+) -> u8
+    requires its_own { IsOwn pass.old.value }
+    ensures its_own { IsOwn pass.new.value }
+    ensures scanned { result ≡ 0
+        → Scans lo hi pass.old.value pass.new.value entries.old entries.new scanned.new }
+    ensures refused { TellsWhy code_of (IsNotFree pass.old.value.held) result }
+    ensures unchanged { result ≢ 0 → (pass.new.value ≡ pass.old.value)
+        × (entries.new ≡ entries.old) × (scanned.new ≡ scanned.old) }
+{
+    code_of(&pass.get().scan(lo, hi, entries, scanned))
 }
 
 /// Tells pass `to` what pass `from` has seen. Passes of two tables are told apart by the numbers that the caller gave these. The

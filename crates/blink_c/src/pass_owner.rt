@@ -2,10 +2,11 @@
 ghost use Rattle.std.specs.Prelude.{◌≡◌, ◌≢◌, IfErr, IfOk, OnErr, OnOk};
 ghost use Rattle.blink_batch.specs.declared.Op.TheVariants.{Delete, Insert, Replace};
 ghost use Rattle.blink_live.specs.{IsPassOf, IsPendingOf};
-ghost use Rattle.blink_c.specs.Passes.{Begins, Ends, Finds, Glances, Hands, IsAdvanceRefusal, IsBeginRefusal, IsFindRefusal, IsHandRefusal, IsNotBusy, IsNotFree, IsOwn, IsTellRefusal, TellsOn, table_of};
+ghost use Rattle.blink_c.specs.Passes.{Begins, Ends, Finds, Glances, Hands, IsAdvanceRefusal, IsBeginRefusal, IsFindRefusal, IsHandRefusal, IsNotBusy, IsNotFree, IsOwn, IsTellRefusal, Scans, TellsOn, table_of};
 
-use crate::raw::RawAnswer;
+use crate::raw::{RawAnswer, RawScanned};
 use crate::table_refusal::TableRefusal;
+use blink_batch::Entry;
 use blink_live::{Live, Pass, Pending};
 use std::mem;
 use std::sync::Arc;
@@ -74,6 +75,30 @@ impl PassOwner {
         };
         let shown = self.live.glance(pass, key);
         *answer = RawAnswer::shown(shown);
+        Ok(())
+    }
+
+    /// Scans a range of keys.
+    pub(crate) fn scan(
+        &mut self,
+        lo: u64,
+        hi: u64,
+        entries: &mut [Entry],
+        scanned: &mut RawScanned,
+    ) -> Result<(), TableRefusal>
+        requires its_own { IsOwn self.old }
+        ensures its_own { IsOwn self.new }
+        ensures scanned { OnOk result
+            (Scans lo hi self.old self.new entries.old entries.new scanned.new) }
+        ensures refused { IfErr result (IsNotFree self.old.held) }
+        ensures unchanged { OnErr result
+            ((self.new ≡ self.old) × (entries.new ≡ entries.old) × (scanned.new ≡ scanned.old)) }
+    {
+        let Held::Free(pass) = &mut self.held else {
+            return Err(self.held.why_not_free());
+        };
+        let came = self.live.scan(pass, lo, hi, entries);
+        *scanned = RawScanned::of(came);
         Ok(())
     }
 

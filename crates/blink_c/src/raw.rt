@@ -1,8 +1,9 @@
 //! Entries, operations and answers as the caller passes them: structs of numbers.
 ghost use Rattle.std.specs.Prelude.{◌≡◌, ◌↔◌, IsSome, IsTrue};
-ghost use Rattle.blink_c.specs.Raw.{op_of, raw_answer, raw_entry, raw_given, raw_shown};
+ghost use Rattle.blink_c.specs.Raw.{op_of, raw_answer, raw_entry, raw_given, raw_scanned, raw_shown};
 
 use blink_batch::{Answer, Entry, Op};
+use blink_live::Scanned;
 
 /// A key with its record pointer.
 #[repr(C)]
@@ -27,6 +28,16 @@ pub struct RawOperation {
 pub struct RawAnswer {
     pub kind: u64,
     pub pointer: u64,
+}
+
+/// How far a scan came: how many places it filled, whether there is more (1, or 0 at the end of the range), and the key from which
+/// another scan goes on, or 0 at the end.
+#[repr(C)]
+#[derive(Clone, Copy)]
+pub struct RawScanned {
+    pub filled: u64,
+    pub more: u64,
+    pub next: u64,
 }
 
 // The kinds of operations.
@@ -85,6 +96,27 @@ impl RawEntry {
         RawEntry {
             key: entry.key,
             pointer: entry.pointer,
+        }
+    }
+}
+
+impl RawScanned {
+    /// How far the scan came, as the caller gets it.
+    pub(crate) fn of(scanned: Scanned) -> RawScanned
+        ensures { result ≡ raw_scanned scanned }
+    {
+        let filled = scanned.filled as u64;
+        match scanned.next {
+            Some(next) => RawScanned {
+                filled,
+                more: 1,
+                next,
+            },
+            None => RawScanned {
+                filled,
+                more: 0,
+                next: 0,
+            },
         }
     }
 }

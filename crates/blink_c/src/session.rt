@@ -3,13 +3,13 @@ ghost use Rattle.std.specs.Prelude.{◌≡◌, ◌≢◌};
 ghost use Rattle.blink_batch.specs.declared.Op.TheVariants.{Delete, Insert, Replace};
 ghost use Rattle.blink_c.specs.Codes.{TellsWhy};
 ghost use Rattle.blink_c.specs.MapCodes.{code_of};
-ghost use Rattle.blink_c.specs.Sessions.{Answers, EndsFrom, Finds, IsAdvanceRefusal, IsChangeRefusal, IsNotFree, IsOwnSession, IsPutRefusal, IsTellRefusal, Puts, TellsOn, in_map};
+ghost use Rattle.blink_c.specs.Sessions.{Answers, EndsFrom, Finds, IsAdvanceRefusal, IsChangeRefusal, IsNotFree, IsOwnSession, IsPutRefusal, IsTellRefusal, Puts, Scans, TellsOn, in_map};
 
 use crate::map_refusal::code_of;
-use crate::raw::RawAnswer;
+use crate::raw::{RawAnswer, RawScanned};
 use crate::session_handle::SessionHandle;
 use crate::session_owner::{HeldSession, SessionOwner};
-use blink_batch::Op;
+use blink_batch::{Entry, Op};
 
 /// Looks any key up, as the session has seen it by the end of the call.
 #[unsafe(no_mangle)]
@@ -26,6 +26,26 @@ pub extern "C" fn blink_session_find(
         → (session.new.value ≡ session.old.value) × (answer.new ≡ answer.old) }
 {
     code_of(&session.get().find(key, answer))
+}
+
+/// Gives the entries whose keys are from `lo` to `hi`, as many as there are places, and tells how far it came.
+#[unsafe(no_mangle)]
+pub extern "C" fn blink_session_scan(
+    session: &mut SessionHandle,
+    lo: u64,
+    hi: u64,
+    entries: &mut [Entry],
+    scanned: &mut RawScanned,
+) -> u8
+    requires its_own { IsOwnSession session.old.value }
+    ensures its_own { IsOwnSession session.new.value }
+    ensures scanned { result ≡ 0
+        → Scans lo hi session.old.value session.new.value entries.old entries.new scanned.new }
+    ensures refused { TellsWhy code_of (IsNotFree session.old.value.held) result }
+    ensures unchanged { result ≢ 0 → (session.new.value ≡ session.old.value)
+        × (entries.new ≡ entries.old) × (scanned.new ≡ scanned.old) }
+{
+    code_of(&session.get().scan(lo, hi, entries, scanned))
 }
 
 /// Adds an entry. After `tries` steps in vain the call returns with the insertion under way, which goes on by

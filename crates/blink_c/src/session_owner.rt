@@ -3,11 +3,11 @@ ghost use Rattle.std.specs.Prelude.{◌≡◌, ◌≢◌, IfErr, IfOk, OnErr, On
 ghost use Rattle.blink_batch.specs.{FitsWords};
 ghost use Rattle.blink_machine.specs.{IsUpdate};
 ghost use Rattle.blink_map.specs.{IsPendingOf, IsSessionOf, op_of, session_of};
-ghost use Rattle.blink_c.specs.Sessions.{Answers, EndsFrom, Finds, HasAnswered, HasPut, IsAdvanceRefusal, IsChangeRefusal, IsFree, IsNotFree, IsNotPut, IsOfPut, IsOwnSession, IsPutRefusal, IsTellRefusal, Puts, StaysBusy, TellsOn, in_map};
+ghost use Rattle.blink_c.specs.Sessions.{Answers, EndsFrom, Finds, HasAnswered, HasPut, IsAdvanceRefusal, IsChangeRefusal, IsFree, IsNotFree, IsNotPut, IsOfPut, IsOwnSession, IsPutRefusal, IsTellRefusal, Puts, Scans, StaysBusy, TellsOn, in_map};
 
 use crate::map_refusal::MapRefusal;
-use crate::raw::RawAnswer;
-use blink_batch::{Answer, Op};
+use crate::raw::{RawAnswer, RawScanned};
+use blink_batch::{Answer, Entry, Op};
 use blink_map::{Map, Pending, Session};
 use std::mem;
 use std::sync::Arc;
@@ -45,6 +45,30 @@ impl SessionOwner {
         };
         let shown = self.shared.find(session, key);
         *answer = RawAnswer::shown(shown);
+        Ok(())
+    }
+
+    /// Scans a range of keys.
+    pub(crate) fn scan(
+        &mut self,
+        lo: u64,
+        hi: u64,
+        entries: &mut [Entry],
+        scanned: &mut RawScanned,
+    ) -> Result<(), MapRefusal>
+        requires its_own { IsOwnSession self.old }
+        ensures its_own { IsOwnSession self.new }
+        ensures scanned { OnOk result
+            (Scans lo hi self.old self.new entries.old entries.new scanned.new) }
+        ensures refused { IfErr result (IsNotFree self.old.held) }
+        ensures unchanged { OnErr result
+            ((self.new ≡ self.old) × (entries.new ≡ entries.old) × (scanned.new ≡ scanned.old)) }
+    {
+        let HeldSession::Free(session) = &mut self.held else {
+            return Err(MapRefusal::UnderWay);
+        };
+        let came = self.shared.scan(session, lo, hi, entries);
+        *scanned = RawScanned::of(came);
         Ok(())
     }
 

@@ -67,7 +67,11 @@ pub fn replay_command<'a>(alloc: Global) -> Result<Command<'a>, AllocError>
 }
 
 // A subcommand with the options that both subcommands have.
-fn subcommand_with_sizes<'a>(alloc: Global, name: &'a str, about: &'a str) -> Result<Command<'a>, AllocError>
+fn subcommand_with_sizes<'a>(
+    alloc: Global,
+    name: &'a str,
+    about: &'a str,
+) -> Result<Command<'a>, AllocError>
     ensures app { IfOk result (λ command. app_of command ≡ with_sizes (new_app name.entry.now)) }
     ensures local { IfOk result (λ command. (out-Command command).has_globals ≡ false) }
 {

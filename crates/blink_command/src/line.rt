@@ -106,7 +106,11 @@ fn line_of_matches(alloc: Global, matches: &ArgMatches<'_>) -> Result<Option<Lin
     }
 }
 
-fn line_of_subcommand(alloc: Global, name: &str, found: &ArgMatches<'_>) -> Result<Option<Line>, AllocError>
+fn line_of_subcommand(
+    alloc: Global,
+    name: &str,
+    found: &ArgMatches<'_>,
+) -> Result<Option<Line>, AllocError>
     ensures meant { IfOk result (λ meant. MatchOption meant
         ((line : _) → ¬ Means name.now (rows_of (found_of found.now)) line)
         (Means name.now (rows_of (found_of found.now)))) }

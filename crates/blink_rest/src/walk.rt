@@ -41,7 +41,11 @@ pub(crate) fn chain_length(store: &Store, level: usize, leftmost: u32) -> Option
 
 // Compares the entries of a page with the pages below it, from the one that `first` links to, and returns the link after those
 // that the entries name.
-fn link_after_named(store: &Store, entries: &[(u64, u64)], first: Option<u32>) -> Option<Option<u32>>
+fn link_after_named(
+    store: &Store,
+    entries: &[(u64, u64)],
+    first: Option<u32>,
+) -> Option<Option<u32>>
     requires { HasTail store.now.fan (page_of store.now) first }
     ensures named { IfSome result
         (λ after. NamesFirst store.now.fan (page_of store.now) entries.now first after) }

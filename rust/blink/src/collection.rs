@@ -1,6 +1,7 @@
-//! The traits of Rust's collections, for an index. Where memory is refused they panic; the calls of [`Index`] return an error instead.
+//! The traits of Rust's collections, for an index. Where memory is refused, or no page number is left, they panic; the calls of [`Index`]
+//! return an error instead.
 
-use crate::{Entry, Index, Op};
+use crate::{Answer, Entry, Index};
 use std::fmt;
 
 impl From<Entry> for (u64, u64) {
@@ -60,10 +61,11 @@ impl FromIterator<(u64, u64)> for Index {
 /// ```
 impl Extend<(u64, u64)> for Index {
     fn extend<I: IntoIterator<Item = (u64, u64)>>(&mut self, entries: I) {
-        // the insertion of a key that is there changes nothing, and the replacement behind it changes its pointer
-        let put = |(key, pointer)| [Op::Insert(key, pointer), Op::Replace(key, pointer)];
-        let operations: Vec<Op> = entries.into_iter().flat_map(put).collect();
-        self.run(&operations).expect("memory for more entries");
+        for (key, pointer) in entries {
+            if let Answer::Exists(_) = self.insert(key, pointer).expect("memory and page numbers for more entries") {
+                self.replace(key, pointer);
+            }
+        }
     }
 }
 

@@ -1,9 +1,10 @@
 //! The index.
 
+use crate::range::first_and_last;
 use crate::sys::{self, Handle, RawAnswer};
 use crate::{Answer, Entry, Error, Op};
 use std::cell::UnsafeCell;
-use std::ops::{Bound, RangeBounds};
+use std::ops::RangeBounds;
 
 /// A map from 64-bit keys to 64-bit record pointers, in a proved B-link tree.
 ///
@@ -206,19 +207,9 @@ impl Index {
     /// # Ok::<(), blink::Error>(())
     /// ```
     pub fn scan(&self, range: impl RangeBounds<u64>) -> Scan<'_> {
-        let lo = match range.start_bound() {
-            Bound::Included(&key) => Some(key),
-            Bound::Excluded(&key) => key.checked_add(1),
-            Bound::Unbounded => Some(0),
-        };
-        let hi = match range.end_bound() {
-            Bound::Included(&key) => Some(key),
-            Bound::Excluded(&key) => key.checked_sub(1),
-            Bound::Unbounded => Some(u64::MAX),
-        };
         Scan {
             index: self,
-            range: lo.zip(hi).filter(|(lo, hi)| lo <= hi),
+            range: first_and_last(&range),
             part: Scan::FIRST_PART,
             entries: Vec::new().into_iter(),
         }

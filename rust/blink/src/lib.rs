@@ -31,6 +31,7 @@ mod error;
 mod index;
 mod map;
 mod operation;
+mod range;
 mod sys;
 mod table;
 
@@ -38,4 +39,5 @@ pub use error::Error;
 pub use index::{Applied, Index, Scan};
 pub use map::{Begun, Left, Map, Room, Session, Unfinished};
 pub use operation::{Answer, Entry, Op};
+pub use range::Range;
 pub use table::{Pass, Pending, Table};

@@ -1,10 +1,12 @@
 //! The map and its sessions.
 
+use crate::range::Range;
 use crate::sys::{self, Handle, RawAnswer};
 use crate::table::TRIES;
 use crate::{Answer, Error, Index, Op};
 use std::fmt;
 use std::marker::PhantomData;
+use std::ops::RangeBounds;
 use std::sync::atomic::{AtomicU64, Ordering};
 use std::sync::{Mutex, MutexGuard, PoisonError};
 use std::thread;
@@ -192,6 +194,23 @@ impl<'map> Session<'map> {
         // No operation is under way between two calls; nothing else is refused.
         assert_eq!(code, 0);
         Answer::of(answer).pointer()
+    }
+
+    /// Returns the entries whose keys are in the range, in ascending order, while other sessions change the map. A key that is there
+    /// throughout is among them, and one that isn't there throughout isn't; [`Range`] says more.
+    ///
+    /// ```
+    /// use blink::{Entry, Index, Map, Room};
+    ///
+    /// let index = Index::from_entries(8, &[(1, 10), (3, 30), (5, 50)].map(Entry::from))?;
+    /// let map = Map::open(&index, Room { pages: 22, rows: 44, sessions: 1 })?;
+    /// let mut session = map.session()?;
+    /// session.insert(4, 40)?;
+    /// assert_eq!(session.range(2..5).map(|entry| entry.key).collect::<Vec<_>>(), [3, 4]);
+    /// # Ok::<(), blink::Error>(())
+    /// ```
+    pub fn range(&mut self, range: impl RangeBounds<u64>) -> Range<'_> {
+        Range::new(&mut self.handle, sys::blink_session_scan, &range)
     }
 
     /// Maps a key to a pointer, unless the key is there: [`Answer::Inserted`] or [`Answer::Exists`].

@@ -42,6 +42,19 @@ impl RawAnswer {
     pub(crate) const NONE: RawAnswer = RawAnswer { kind: 0, pointer: 0 };
 }
 
+/// How far a scan came; `more` is 0 at the end of its range, and 1 before.
+#[repr(C)]
+#[derive(Clone, Copy)]
+pub(crate) struct RawScanned {
+    pub(crate) filled: u64,
+    pub(crate) more: u64,
+    pub(crate) next: u64,
+}
+
+/// A scan by a pass or a session.
+pub(crate) type ScanCall =
+    unsafe extern "C" fn(*mut Handle, u64, u64, *mut crate::Entry, usize, *mut RawScanned) -> u8;
+
 pub(crate) const BATCH_LIMIT: usize = 8192;
 
 /// The code of an operation that is under way.
@@ -110,6 +123,14 @@ extern "C" {
 
     pub(crate) fn blink_pass_find(pass: *mut Handle, key: u64, answer: *mut RawAnswer) -> u8;
     pub(crate) fn blink_pass_glance(pass: *mut Handle, key: u64, answer: *mut RawAnswer) -> u8;
+    pub(crate) fn blink_pass_scan(
+        pass: *mut Handle,
+        lo: u64,
+        hi: u64,
+        entries: *mut crate::Entry,
+        places: usize,
+        scanned: *mut RawScanned,
+    ) -> u8;
     pub(crate) fn blink_pass_tell(from: *mut Handle, to: *mut Handle) -> u8;
     pub(crate) fn blink_pass_hand(
         from: *mut Handle,
@@ -138,6 +159,14 @@ extern "C" {
     pub(crate) fn blink_map_free(map: Handle);
 
     pub(crate) fn blink_session_find(session: *mut Handle, key: u64, answer: *mut RawAnswer) -> u8;
+    pub(crate) fn blink_session_scan(
+        session: *mut Handle,
+        lo: u64,
+        hi: u64,
+        entries: *mut crate::Entry,
+        places: usize,
+        scanned: *mut RawScanned,
+    ) -> u8;
     pub(crate) fn blink_session_insert(
         session: *mut Handle,
         key: u64,

@@ -1,9 +1,11 @@
 //! The table and its passes.
 
+use crate::range::Range;
 use crate::sys::{self, Handle, RawAnswer};
 use crate::{Answer, Error, Index};
 use std::cell::UnsafeCell;
 use std::fmt;
+use std::ops::RangeBounds;
 use std::sync::atomic::{AtomicU64, Ordering};
 use std::thread;
 
@@ -193,6 +195,24 @@ impl Pass {
         // The pass has no operation under way, and wasn't given back, by its type; nothing else is refused.
         assert_eq!(code, 0);
         Answer::of(answer).pointer()
+    }
+
+    /// Returns the entries whose keys are in the range, whosever they are, in ascending order, while other passes change the tree. Of
+    /// the pass's own keys these are exactly its entries. A key that is there throughout is among them, and one that isn't there
+    /// throughout isn't; [`Range`] says more.
+    ///
+    /// ```
+    /// use blink::{Entry, Index, Table};
+    ///
+    /// let index = Index::from_entries(8, &[(1, 10), (3, 30), (5, 50)].map(Entry::from))?;
+    /// let mut table = Table::open(&index, 1, 0)?;
+    /// let mut pass = table.deal(&[4], 1, 0)?;
+    /// pass.insert(4, 40)?;
+    /// assert_eq!(pass.scan(3..).collect::<Vec<_>>(), [(3, 30), (4, 40), (5, 50)].map(Entry::from));
+    /// # Ok::<(), blink::Error>(())
+    /// ```
+    pub fn scan(&mut self, range: impl RangeBounds<u64>) -> Range<'_> {
+        Range::new(self.handle.get_mut(), sys::blink_pass_scan, &range)
     }
 
     /// Tells the other pass what this one has seen: then the other has seen all that this one has.

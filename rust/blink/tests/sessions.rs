@@ -49,6 +49,10 @@ fn one_thread_answers_as_a_plain_map() {
             let (which, kind) = (next_random(&mut random) % 3, next_random(&mut random) % 5);
             let key = next_random(&mut random) % 300;
             both(&mut sessions[which as usize], &mut plain, kind, key, pointer);
+            if pointer % 500 == 0 {
+                let range = sessions[which as usize].range(key..key + 100);
+                assert!(range.eq(plain.range(key..key + 100).map(|(&key, &pointer)| Entry { key, pointer })));
+            }
         }
         drop(sessions);
         let closed = map.close().unwrap();

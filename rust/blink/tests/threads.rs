@@ -37,6 +37,13 @@ fn work(pass: &mut Pass, own: &[u64], map: &mut BTreeMap<u64, u64>, seed: u64) {
                 pass.glance(key + 1);
             }
         }
+        if round % 1_000 == 0 {
+            // a scan has each key once, and of the pass's own keys exactly the map's entries
+            let seen: Vec<Entry> = pass.scan(..).collect();
+            assert!(seen.windows(2).all(|two| two[0].key < two[1].key));
+            let ours = seen.into_iter().filter(|entry| own.contains(&entry.key));
+            assert!(ours.eq(map.iter().map(|(&key, &pointer)| Entry { key, pointer })));
+        }
     }
 }
 

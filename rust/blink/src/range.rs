@@ -1,0 +1,79 @@
+//! Ranges of keys, and their entries while others change them.
+
+use crate::sys::{Handle, RawScanned, ScanCall};
+use crate::Entry;
+use std::fmt;
+use std::ops::{Bound, RangeBounds};
+
+// The first and the last key of a range that has one.
+pub(crate) fn first_and_last(range: &impl RangeBounds<u64>) -> Option<(u64, u64)> {
+    let lo = match range.start_bound() {
+        Bound::Included(&key) => Some(key),
+        Bound::Excluded(&key) => key.checked_add(1),
+        Bound::Unbounded => Some(0),
+    };
+    let hi = match range.end_bound() {
+        Bound::Included(&key) => Some(key),
+        Bound::Excluded(&key) => key.checked_sub(1),
+        Bound::Unbounded => Some(u64::MAX),
+    };
+    lo.zip(hi).filter(|(lo, hi)| lo <= hi)
+}
+
+/// The entries of a table or a map whose keys are in a range, in ascending order, while other threads change them.
+///
+/// It reads the tree's leaves from the left, each at one time: what it says of a key is what the changes up to some time leave of
+/// it, and of a greater key those up to that time or a later one. It takes the entries out in parts: 16 first, then twice as many
+/// each time, up to 256. A part is read when it is asked for.
+pub struct Range<'a> {
+    handle: &'a mut Handle,
+    scan: ScanCall,
+    // The keys that are still to be asked for.
+    range: Option<(u64, u64)>,
+    // How many entries are asked for next.
+    part: usize,
+    entries: std::vec::IntoIter<Entry>,
+}
+
+impl<'a> Range<'a> {
+    const FIRST_PART: usize = 16;
+    const MAX_PART: usize = 256;
+
+    // The handle is full, and of what the call takes; no operation is under way.
+    pub(crate) fn new(handle: &'a mut Handle, scan: ScanCall, range: &impl RangeBounds<u64>) -> Range<'a> {
+        Range { handle, scan, range: first_and_last(range), part: Range::FIRST_PART, entries: Vec::new().into_iter() }
+    }
+
+    fn refill(&mut self) {
+        let Some((lo, hi)) = self.range else { return };
+        let mut entries = vec![Entry { key: 0, pointer: 0 }; self.part];
+        let mut scanned = RawScanned { filled: 0, more: 0, next: 0 };
+        // SAFETY: the handle is full and borrowed for writing; the array has that many elements.
+        let code = unsafe { (self.scan)(self.handle, lo, hi, entries.as_mut_ptr(), entries.len(), &mut scanned) };
+        // No operation is under way, and a pass wasn't given back, by the types; nothing else is refused.
+        assert_eq!(code, 0);
+        entries.truncate(scanned.filled as usize);
+        self.range = (scanned.more == 1).then_some((scanned.next, hi));
+        self.part = Self::MAX_PART.min(2 * self.part);
+        self.entries = entries.into_iter();
+    }
+}
+
+impl Iterator for Range<'_> {
+    type Item = Entry;
+
+    fn next(&mut self) -> Option<Entry> {
+        if self.entries.as_slice().is_empty() {
+            self.refill();
+        }
+        self.entries.next()
+    }
+}
+
+impl std::iter::FusedIterator for Range<'_> {}
+
+impl fmt::Debug for Range<'_> {
+    fn fmt(&self, f: &mut fmt::Formatter<'_>) -> fmt::Result {
+        f.debug_struct("Range").field("range", &self.range).finish_non_exhaustive()
+    }
+}
