@@ -138,6 +138,13 @@ void blink_index_delete(blink_index *index, uint64_t key, blink_answer *answer);
 /* Replaces the pointer of a key in place: BLINK_REPLACED, or BLINK_ABSENT. It takes no memory. */
 void blink_index_replace(blink_index *index, uint64_t key, uint64_t pointer, blink_answer *answer);
 
+/* Carries operations out in place, one after another, up to the first that is refused, and gives the answer of each at its place. It
+ * stores how many were carried out. The other places stay as they were. Refused: BLINK_WRONG_LENGTH, if there aren't as many places
+ * for answers as operations, and then none is carried out; or, of the operation next to those carried out,
+ * BLINK_UNKNOWN_OPERATION, BLINK_INDEX_TOO_LARGE or BLINK_INDEX_NO_MEMORY. */
+uint8_t blink_index_apply(blink_index *index, const blink_operation *operations, size_t count, blink_answer *answers,
+                          size_t places, size_t *carried_out);
+
 /* Looks a key up: true, and its record pointer; or false, and `pointer` stays as it was. */
 bool blink_index_find(blink_index *index, uint64_t key, uint64_t *pointer);
 

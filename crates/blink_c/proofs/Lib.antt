@@ -19,3 +19,4 @@ pub mod CodesOfMaps
 pub mod Codes
 pub mod CodesOfTables
 pub mod DealFaults
+pub mod AppliedSoFar

@@ -2,6 +2,7 @@
 //! `blink_live` or `blink_map`, and turn its answer into a code. `include/blink.h` declares them.
 #![tactic(auto)]
 
+mod apply;
 mod batch;
 mod dump;
 mod edit;

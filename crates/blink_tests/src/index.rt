@@ -1,4 +1,5 @@
 //! The index at rest.
+mod changes;
 mod schedules;
 
 use crate::fixtures::stores::{Sight, is_seen, page_at};

@@ -140,19 +140,25 @@ impl Index {
     /// # Ok::<(), blink::Error>(())
     /// ```
     pub fn apply(&mut self, operations: &[Op]) -> Applied {
-        let mut answers = Vec::with_capacity(operations.len());
-        for &operation in operations {
-            answers.push(match operation {
-                Op::Find(key) => self.find(key).map_or(Answer::Absent, Answer::Found),
-                Op::Insert(key, pointer) => match self.insert(key, pointer) {
-                    Ok(answer) => answer,
-                    Err(error) => return Applied { answers, error: Some(error) },
-                },
-                Op::Delete(key) => self.remove(key),
-                Op::Replace(key, pointer) => self.replace(key, pointer),
-            });
+        let raw: Vec<_> = operations.iter().map(|op| op.raw()).collect();
+        let mut given = vec![RawAnswer::NONE; raw.len()];
+        let mut carried_out = 0;
+        // SAFETY: as in `insert`; both arrays have that many elements.
+        let code = unsafe {
+            sys::blink_index_apply(
+                self.handle.get(),
+                raw.as_ptr(),
+                raw.len(),
+                given.as_mut_ptr(),
+                given.len(),
+                &mut carried_out,
+            )
+        };
+        given.truncate(carried_out);
+        Applied {
+            answers: given.into_iter().map(Answer::of).collect(),
+            error: Error::check(code).err(),
         }
-        Applied { answers, error: None }
     }
 
     /// Runs operations one after another, and returns their answers. Each 8,192 of them run on a copy of the index, which then

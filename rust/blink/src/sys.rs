@@ -70,6 +70,14 @@ extern "C" {
     pub(crate) fn blink_index_first(index: *mut Handle, entry: *mut crate::Entry) -> bool;
     pub(crate) fn blink_index_last(index: *mut Handle, entry: *mut crate::Entry) -> bool;
     pub(crate) fn blink_index_next(index: *mut Handle, key: u64, entry: *mut crate::Entry) -> bool;
+    pub(crate) fn blink_index_apply(
+        index: *mut Handle,
+        operations: *const RawOperation,
+        count: usize,
+        answers: *mut RawAnswer,
+        places: usize,
+        carried_out: *mut usize,
+    ) -> u8;
     pub(crate) fn blink_index_run(
         index: *mut Handle,
         operations: *const RawOperation,

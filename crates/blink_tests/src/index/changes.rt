@@ -1,0 +1,137 @@
+//! Changes of an index in place, and the entries at its ends.
+use super::{five, two};
+use crate::fixtures::worlds::keys_to;
+use crate::fixtures::{given, is_told, same, same_for};
+use blink_batch::{Answer, Entry, Op};
+use blink_index::{Applied, EditError, Index};
+use std::alloc::Global;
+use std::process::Abort;
+
+// Operations on the index of five entries, one after another, and their answers. The insertion of 6 splits nothing, since the
+// right leaf has two of four entries.
+const EDITS: [(Op, Answer); 10] = [
+    (Op::Find(3), Answer::Found(30)),
+    (Op::Insert(3, 31), Answer::Exists(30)),
+    (Op::Insert(6, 60), Answer::Inserted),
+    (Op::Replace(6, 61), Answer::Replaced(60)),
+    (Op::Replace(7, 70), Answer::Absent),
+    (Op::Delete(1), Answer::Removed(10)),
+    (Op::Delete(1), Answer::Absent),
+    (Op::Find(1), Answer::Absent),
+    (Op::Find(6), Answer::Found(61)),
+    (Op::Insert(0, 1), Answer::Inserted),
+];
+
+fn edits(rt: &impl Abort, mut index: Index) {
+    for &(op, answer) in &EDITS {
+        same_for(rt, &given(rt, index.edit(op)), &answer, &op);
+    }
+    same(rt, &index.page_count(), &3);
+}
+
+#[test]
+fn edits_answer(rt: HostRuntime) {
+    edits(&rt, five(&rt, rt.alloc()));
+}
+
+// An index of this fan, into which the keys from 1 to `last` are inserted in place, each with the key itself.
+fn inserted_to(rt: &impl Abort, alloc: Global, fan: u8, last: u64) -> Index {
+    let mut index = given(rt, Index::new(alloc, fan));
+    for key in 1..=last {
+        same_for(rt, &given(rt, index.insert(key, key)), &Answer::Inserted, &key);
+    }
+    index
+}
+
+// In place insertions leave the pages of the batch.
+fn is_as_batch(rt: &impl Abort, alloc: Global, fan: u8, last: u64) {
+    let index = inserted_to(rt, alloc, fan, last);
+    let rest = keys_to(rt, alloc, fan, last);
+    assert!(rt; index.rest().is_same(&rest));
+}
+
+#[test]
+fn insertions_leave_the_pages_of_a_batch(rt: HostRuntime) {
+    is_as_batch(&rt, rt.alloc(), 4, 60);
+    is_as_batch(&rt, rt.alloc(), 5, 200);
+    is_as_batch(&rt, rt.alloc(), 32, 100);
+}
+
+const OPS: [Op; 4] = [
+    Op::Insert(6, 60),
+    Op::Delete(2),
+    Op::Find(2),
+    Op::Replace(4, 41),
+];
+
+const ANSWERS: [Answer; 4] = [
+    Answer::Inserted,
+    Answer::Removed(20),
+    Answer::Absent,
+    Answer::Replaced(40),
+];
+
+fn applies(rt: &impl Abort, alloc: Global, mut index: Index) {
+    let Applied { answers, refusal } = index.apply(alloc, &OPS);
+    same(rt, &refusal, &None);
+    same(rt, &answers.as_slice(), &ANSWERS.as_slice());
+    same(rt, &index.find(6), &Some(60));
+    same(rt, &index.find(4), &Some(41));
+}
+
+#[test]
+fn operations_are_applied(rt: HostRuntime) {
+    applies(&rt, rt.alloc(), five(&rt, rt.alloc()));
+}
+
+// An entry of a key with ten times the key.
+fn entry(key: u64) -> Entry {
+    Entry {
+        key,
+        pointer: key.wrapping_mul(10),
+    }
+}
+
+// The first entry, the last, and the next above a key.
+fn has_ends(rt: &impl Abort, index: &Index, first: u64, last: u64, (key, above): (u64, u64)) {
+    same(rt, &index.first(), &Some(entry(first)));
+    same(rt, &index.last(), &Some(entry(last)));
+    same(rt, &index.next(key), &Some(entry(above)));
+    same(rt, &index.next(last), &None);
+}
+
+#[test]
+fn ends_are_given(rt: HostRuntime) {
+    has_ends(&rt, &five(&rt, rt.alloc()), 1, 5, (3, 4));
+    // The left leaf is empty.
+    has_ends(&rt, &two(&rt, rt.alloc()), 4, 5, (0, 4));
+}
+
+#[test]
+fn the_last_entry_stands_before_an_empty_leaf(rt: HostRuntime) {
+    let mut index = five(&rt, rt.alloc());
+    same(&rt, &index.delete(4), &Answer::Removed(40));
+    same(&rt, &index.delete(5), &Answer::Removed(50));
+    has_ends(&rt, &index, 1, 3, (2, 3));
+}
+
+#[test]
+fn an_empty_index_has_no_ends(rt: HostRuntime) {
+    let index = given(&rt, Index::new(rt.alloc(), 4));
+    same(&rt, &index.first(), &None);
+    same(&rt, &index.last(), &None);
+    same(&rt, &index.next(0), &None);
+    same(&rt, &index.next(u64::MAX), &None);
+}
+
+const REFUSALS: [(EditError, u8, &str); 2] = [
+    (EditError::OutOfMemory, 41, "out of memory"),
+    (EditError::TooLarge, 32, "too large"),
+];
+
+#[test]
+fn refusals_of_edits_have_numbers_and_texts(rt: HostRuntime) {
+    for &(refusal, code, text) in &REFUSALS {
+        is_told(&rt, rt.alloc(), &refusal, (refusal.code(), code), text);
+    }
+}
