@@ -1,17 +1,20 @@
 #!/bin/sh
-# Looks whether the documents say what is there: links and their anchors, paths, must-fail edits and names in backticks; that CHANGING.md
-# lists each edit, and BELIEVE.md quotes the sources; that no old word stands in them; and that they have fewer words than an engineer reads
-# in an evening. It prints a line for each finding and exits 1, or prints nothing and exits 0. A new old word goes to `old`.
+# Looks whether the documents say what is there: links and their anchors, paths, must-fail edits, names in backticks, and pictures; that EDITS.md
+# lists each edit, BELIEVE.md quotes the sources, and PROMISES.md cites clauses that there are; that no old word stands in them; and that they
+# have fewer words of prose than an engineer reads in an evening. It prints a line for each finding and exits 1, or prints nothing and exits 0.
+# A new old word goes to `old`.
 LC_ALL=C
 export LC_ALL
 cd "$(dirname "$0")/.." || exit 1
 work=$(mktemp -d) || exit 1
 trap 'rm -rf "$work"' EXIT
 
-documents="README.md docs/*.md bench/README.md examples/README.md crates/*/README.md"
-most_words=26500
+# The documents, and beside them what else users read.
+documents="README.md docs/*.md bench/README.md examples/README.md crates/README.md crates/*/README.md"
+shown="examples/tour/*.notes examples/tour/index.html docs/pictures/draw.py include/blink.h rust/blink/src/*.rs examples/c/*.c examples/rust/*.rs"
+most_words=20000
 
-# Names of code that were renamed, and words of prose that the field has others for.
+# Names of code that were renamed, and words of prose that the field has others for. CHANGING.md says why, in lines that begin with "Not".
 old='IsSound|Sound|SoundRun|SoundTree|SoundStatements|StepKeepsSound|TurnKeepsSoundRun|sound'
 old="$old"'|Moment|Moments|moment|moments|moment_of|moment_with|turns_between_moments'
 old="$old"'|IsLoose|loose|loose_at|loose_of|in no chain|stands? in no chain'
@@ -19,11 +22,11 @@ old="$old"'|IsShort|way_left|room_to|Ledger|PlainLedger|AreLinks|AreFirsts|Takes
 old="$old"'|Desk|desk|Outlet|Outlets|outlet|outlets|Pours|BreaksOff|GoesOut|LeavesLines|LeavesPart|LeavesFront'
 old="$old"'|Plays|Plays\.antt|Sat|drafts?|drafted|has_drafted|draft_row|DraftsKeepTable|RowsAreDrafted'
 old="$old"'|NUMBERS_OF_INSERTION|ROWS_OF_INSERTION|MOST_PASSES|is_too_large'
-old="$old"'|SawFrontOf|OneIsFront|FrontsOfOneList|IsAmong|StandsIn|fronts|fronts? of'
+old="$old"'|SawFrontOf|OneIsFront|FrontsOfOneList|IsAmong|StandsIn|fronts? of (a|the|one|its) lists?'
 old="$old"'|Keeps|EntriesThatATreeKeeps|kept under|keys? keeps?|keeps? (a|its|the) pointer|is kept for'
 
 # shellcheck disable=SC2086
-grep -nwE "$old" $documents | while IFS=: read -r file line text; do
+grep -nwE "$old" $documents $shown | grep -v '^docs/CHANGING.md:[0-9]*:Not [*]' | while IFS=: read -r file line text; do
     word=$(printf '%s\n' "$text" | grep -owE "$old" | head -n 1)
     echo "$file:$line: old word: $word"
 done >"$work/found"
@@ -31,10 +34,14 @@ done >"$work/found"
 # Every .md file, without what a build leaves; of each the lines outside code blocks.
 find . \( -name .git -o -name out \) -prune -o -name '*.md' -print | sed 's|^\./||' | sort >"$work/pages"
 
-# Tables that a benchmark has written aren't read word by word.
-words=$(xargs awk '/^<!-- begin of what/ { table = 1 } { if (!table) words += NF } /^<!-- end of what/ { table = 0 } END { print words }' \
-    <"$work/pages")
-[ "$words" -lt $most_words ] || echo "all documents have $words words, and $most_words are too many" >>"$work/found"
+# Words of prose: lines of code blocks and of tables are looked up, not read, and don't count.
+words=$(xargs awk '
+    FNR == 1 { code = 0 }
+    /^```/ { code = !code; next }
+    { bare = $0; gsub(/`[^`]*`/, "", bare) }
+    !code && bare !~ /[|]/ { words += NF }
+    END { print words }' <"$work/pages")
+[ "$words" -lt $most_words ] || echo "all documents have $words words of prose, and $most_words are too many" >>"$work/found"
 
 prose() {
     awk '/^```/ { code = !code; print ""; next } { print code ? "" : $0 }' "$1"
@@ -126,8 +133,50 @@ awk -v sources="$work/sources" '
 
 for edit in crates/*/must-fail/*.edit; do
     name=${edit##*/}
-    grep -q "${name%.edit}\`" docs/CHANGING.md || echo "docs/CHANGING.md: doesn't list $edit"
+    grep -q "${name%.edit}\`" docs/EDITS.md || echo "docs/EDITS.md: doesn't list $edit"
 done >>"$work/found"
+edits=$(find crates -path '*/must-fail/*.edit' | wc -l)
+for page in docs/EDITS.md docs/CHANGING.md; do
+    grep -q "There are $edits edits" $page || echo "$page: there are $edits edits"
+done >>"$work/found"
+
+# PROMISES.md: each `call/clause` is a call with such a clause, and each `Type::call` a call, of the crates that its section names first.
+find crates -name out -prune -o -path '*/src/*' -name '*.rt' -print | sort | xargs awk '
+    FNR == 1 { split(FILENAME, part, "/"); call = "" }
+    /^ *(pub(\(crate\))? )?(const )?(extern "C" )?fn [a-z_0-9]+/ { call = $0; sub(/^.*fn /, "", call); sub(/[^a-z_0-9].*/, "", call); print part[2], call, "" }
+    /^ *ensures / && call != "" { print part[2], call, $2 == "{" ? "" : $2 }' >"$work/clauses"
+awk -v clauses="$work/clauses" '
+    BEGIN { while ((getline line < clauses) > 0) known[line] = 1 }
+    function looks(call, clause,   n, names, at) {
+        sub(/^.*::/, "", call)
+        n = split(crates, names, " ")
+        for (at = 1; at <= n; at++) if ((names[at] " " call " " clause) in known) return 1
+        return 0
+    }
+    /^(Calls|Exports) of `/ {
+        crates = ""
+        n = split($0, parts, "`")
+        for (at = 2; at <= n; at += 2) crates = crates " " parts[at]
+    }
+    {
+        n = crates == "" ? 0 : split($0, parts, "`")
+        for (at = 2; at <= n; at += 2) {
+            if (parts[at] ~ /^[A-Za-z_:]+\/[a-z_]+$/) {
+                split(parts[at], names, "/")
+                if (!looks(names[1], names[2])) print FILENAME ":" FNR ": no such clause: " parts[at]
+            } else if (parts[at] ~ /^[A-Za-z]+::[a-z_]+$/ && !looks(parts[at], "")) print FILENAME ":" FNR ": no such call: " parts[at]
+        }
+    }' docs/PROMISES.md >>"$work/found"
+
+# Codes: FORMATS.md has a row with the number and the name of each code of the header.
+sed -n 's/^ *\(BLINK_[A-Z_]*\) = \([1-9][0-9]*\),* .*/\2 \1/p' include/blink.h | sed '1,/ BLINK_REPLACED/d' | while read -r number name; do
+    grep -q "^$number | .*\`$name\`" docs/FORMATS.md || echo "docs/FORMATS.md: no row for code $number, $name"
+done >>"$work/found"
+
+# Pictures: the frames are those of the tour, and the crates those of crates.txt.
+if command -v python3 >/dev/null; then
+    python3 docs/pictures/draw.py check >>"$work/found"
+fi
 
 # Names: with an underscore, or with capital and small letters. Each stands in some source or file name; this script is none.
 {

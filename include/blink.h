@@ -127,6 +127,17 @@ uint8_t blink_index_copy(blink_index *index, blink_index *out);
 uint8_t blink_index_run(blink_index *index, const blink_operation *operations, size_t count, blink_answer *answers,
                         size_t places);
 
+/* Adds a key with its pointer in place, unless the key is there: BLINK_INSERTED, or BLINK_EXISTS. It asks for memory only where the
+ * key's leaf is split, before anything changes. Refused: BLINK_INDEX_TOO_LARGE, exactly if 1 + pages + 22 is above 1,048,576;
+ * BLINK_INDEX_NO_MEMORY. Then the index and the answer are as they were. Otherwise the index has at most 22 pages more. */
+uint8_t blink_index_insert(blink_index *index, uint64_t key, uint64_t pointer, blink_answer *answer);
+
+/* Removes a key with its pointer in place: BLINK_REMOVED, or BLINK_ABSENT. It takes no memory. */
+void blink_index_delete(blink_index *index, uint64_t key, blink_answer *answer);
+
+/* Replaces the pointer of a key in place: BLINK_REPLACED, or BLINK_ABSENT. It takes no memory. */
+void blink_index_replace(blink_index *index, uint64_t key, uint64_t pointer, blink_answer *answer);
+
 /* Looks a key up: true, and its record pointer; or false, and `pointer` stays as it was. */
 bool blink_index_find(blink_index *index, uint64_t key, uint64_t *pointer);
 
@@ -140,6 +151,15 @@ size_t blink_index_scan(blink_index *index, uint64_t lo, uint64_t hi, blink_entr
 
 /* The same for the first `n` entries with keys from `lo` on, or all of these if they are fewer. It returns at most `n`. */
 size_t blink_index_page(blink_index *index, uint64_t lo, uint64_t n, blink_entry *entries, size_t places, size_t *fitted);
+
+/* Gives the entry with the least key: true; or false, if there is no entry, and `entry` stays as it was. */
+bool blink_index_first(blink_index *index, blink_entry *entry);
+
+/* The same for the entry with the greatest key. */
+bool blink_index_last(blink_index *index, blink_entry *entry);
+
+/* The same for the entry with the least key above this one. */
+bool blink_index_next(blink_index *index, uint64_t key, blink_entry *entry);
 
 /* The number of entries. It walks all leaves. */
 size_t blink_index_len(blink_index *index);
@@ -199,8 +219,8 @@ uint8_t blink_pass_find(blink_pass *pass, uint64_t key, blink_answer *answer);
 uint8_t blink_pass_glance(blink_pass *pass, uint64_t key, blink_answer *answer);
 
 /* Gives the entries whose keys are from `lo` to `hi`, both included, in ascending order, as many as there are places; other places
- * stay as they were. The keys may be anybody's. It reads leaf after leaf, from the left, each at one moment: what it says of a key is
- * what the changes up to some moment of the call leave of it, and of a greater key those up to that moment or a later one. A key that
+ * stay as they were. The keys may be anybody's. It reads leaf after leaf, from the left, each at one time: what it says of a key is
+ * what the changes up to some time in the call leave of it, and of a greater key those up to that time or a later one. A key that
  * is there throughout the call is reported, and one that isn't there throughout isn't. Of the pass's own keys the report is exact. It
  * takes no memory. Refused: BLINK_PENDING; BLINK_RETURNED; then nothing changes. */
 uint8_t blink_pass_scan(blink_pass *pass, uint64_t lo, uint64_t hi, blink_entry *entries, size_t places, blink_scanned *scanned);
@@ -278,9 +298,9 @@ void blink_map_free(blink_map map);
 uint8_t blink_session_find(blink_session *session, uint64_t key, blink_answer *answer);
 
 /* Gives the entries whose keys are from `lo` to `hi`, both included, in ascending order, as many as there are places; other places
- * stay as they were. It reads leaf after leaf, from the left, each at one moment: what it says of a key is what the changes up to some
- * moment of the call leave of it, and of a greater key those up to that moment or a later one. A key that is there throughout the
- * call is reported, and one that isn't there throughout isn't. The session has seen the changes up to these moments then. It takes no
+ * stay as they were. It reads leaf after leaf, from the left, each at one time: what it says of a key is what the changes up to some
+ * time in the call leave of it, and of a greater key those up to that time or a later one. A key that is there throughout the
+ * call is reported, and one that isn't there throughout isn't. The session has seen the changes up to these times then. It takes no
  * memory. Refused: BLINK_PENDING; then nothing changes. */
 uint8_t blink_session_scan(blink_session *session, uint64_t lo, uint64_t hi, blink_entry *entries, size_t places,
                            blink_scanned *scanned);

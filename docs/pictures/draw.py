@@ -1,10 +1,11 @@
 #!/usr/bin/env python3
-"""Draws the pictures of docs/BOOK.md.
+"""Draws the pictures of docs/BOOK.md, and that of the crates in README.md.
 
     python3 docs/pictures/draw.py          writes the SVG files beside this script
-    python3 docs/pictures/draw.py check    looks whether the frames below are those of examples/*.html
+    python3 docs/pictures/draw.py crates   prints the picture of the crates as text
+    python3 docs/pictures/draw.py check    looks whether the frames below are those of examples/tour/*.html, and the crates those of crates.txt
 
-The trees below are frames of replays, line by line as the pages of examples/ have them: `page NUMBER HOLDER LEVEL FLOOR HIGH RIGHT
+The trees below are frames of replays, line by line as the pages of examples/tour have them: `page NUMBER HOLDER LEVEL FLOOR HIGH RIGHT
 ENTRIES`, where `-` is none. Pictures without such lines are schematic.
 """
 
@@ -117,6 +118,16 @@ INSERTION = [(3, "P"), (4, "R8"), (5, "R3"), (6, "R4"), (7, "L4"), (8, "R4"), (9
 # operations of overtaking: (what, worker, first frame, last frame, frame that decides)
 OPERATIONS = [("insert 81", 0, 1, 37, 7), ("insert 43", 1, 10, 16, 15), ("insert 46", 1, 17, 29, 23), ("find 71", 2, 30, 33, 33)]
 
+# the bands of the crates, each with its lowest and its highest row, and where each crate stands: its column, and its row from below
+BANDS = (("programs and library", 12.9, 16.1), ("runs", 9.1, 12.6), ("threads", 6.3, 8.95), ("memory", 4.35, 5.9), ("tree", -0.5, 3.95))
+CRATES = {
+    "index_main": (1.35, 15.4), "show_main": (2.9, 15.4), "blink_c": (5.9, 15.4), "blink_line": (2.3, 14.5), "blink_command": (1.2, 13.6),
+    "blink_show": (3.9, 13.6), "blink_run": (2.6, 12.0), "blink_locked": (1.9, 10.8), "blink_replay": (3.0, 10.8), "blink_settings": (1.1, 9.6),
+    "blink_steps": (3.3, 9.6), "blink_client": (4.5, 7.7), "blink_map": (5.9, 7.7), "blink_map_client": (6.5, 8.5), "blink_live": (5.5, 6.8),
+    "blink_index": (4.9, 4.9), "blink_rows": (6.1, 4.9), "blink_machine": (2.9, 3.3), "blink_batch": (1.2, 3.3), "blink_rest": (3.4, 2.2),
+    "blink_store": (4.3, 1.1), "blink_operation": (2.2, 0.0), "blink_page": (5.2, 0.0),
+}
+
 
 class Page:
     def __init__(self, line):
@@ -140,7 +151,7 @@ def tree_of(key):
 # ---- check: are these lines those of the examples?
 
 def frames_of(example):
-    with open(os.path.join(HERE, "..", "..", "examples", example + ".html"), encoding="utf-8") as file:
+    with open(os.path.join(HERE, "..", "..", "examples", "tour", example + ".html"), encoding="utf-8") as file:
         text = re.search(r'<script type="text/plain" id="replay">(.*?)</script>', file.read(), re.S).group(1)
     frames, now, decided = [], {}, []
     for line in text.split("\n"):
@@ -177,7 +188,77 @@ def check():
         if not all(frames[at]["step"].startswith(f"{worker} ") for at in (first, last)):
             print(f"overtaking: worker {worker} takes no turn at {first} or {last}")
             wrong += 1
+    return wrong + check_crates()
+
+
+# ---- the crates
+
+def crates_of_list():
+    """What crates.txt says: each crate that isn't one of tests, with what it stands on of the repository, without what that stands on."""
+    with open(os.path.join(HERE, "..", "..", "crates.txt"), encoding="utf-8") as file:
+        lines = [line.split(":") for line in file if ":" in line and not line.startswith("#")]
+    named = {name.split()[0]: words.split() for name, words in lines}
+    on = {name: [word for word in words if word in named] for name, words in named.items()}
+
+    def below(name):
+        return set(on[name]).union(*(below(other) for other in on[name]))
+
+    return {name: [other for other in others if not any(other in below(third) for third in others)]
+            for name, others in on.items() if not name.endswith("_tests")}
+
+
+def crate_ends(upper, lower):
+    """The ends of the line from a crate down to one that it stands on."""
+    (x1, y1), (x2, y2) = crate_at(upper), crate_at(lower)
+    return (x1, y1 + CRATE_HEIGHT / 2), (x2, y2 - CRATE_HEIGHT / 2 - 1)
+
+
+CRATE_WIDTH, CRATE_HEIGHT, CRATE_STEP, CRATE_ROW = 112, 24, 126, 42
+
+
+def crate_at(name):
+    column, row = CRATES[name]
+    return 68 + column * CRATE_STEP, 24 + (16.1 - row) * CRATE_ROW
+
+
+def meets_crate(line, name):
+    (x1, y1), (x2, y2) = line
+    x, y = crate_at(name)
+    points = [(x1 + (x2 - x1) * n / 200, y1 + (y2 - y1) * n / 200) for n in range(201)]
+    return any(abs(px - x) < CRATE_WIDTH / 2 + 3 and abs(py - y) < CRATE_HEIGHT / 2 + 2 for px, py in points)
+
+
+def check_crates():
+    wrong = 0
+    crates = crates_of_list()
+    for name in sorted(set(crates) ^ set(CRATES)):
+        print(f"{name}: in crates.txt or in the picture, but not in both")
+        wrong += 1
+    for name, others in crates.items():
+        for other in others if name in CRATES else ():
+            if CRATES[other][1] >= CRATES[name][1]:
+                print(f"{name} isn't above {other}")
+                wrong += 1
+            for third in set(CRATES) - {name, other}:
+                if (name, other) not in BENT and meets_crate(crate_ends(name, other), third):
+                    print(f"the line from {name} to {other} crosses {third}")
+                    wrong += 1
+    with open(os.path.join(HERE, "..", "CHANGING.md"), encoding="utf-8") as file:
+        if crates_as_text() not in file.read():
+            print("docs/CHANGING.md has another picture of the crates than this:\n" + crates_as_text())
+            wrong += 1
     return wrong
+
+
+def crates_as_text():
+    """The same picture in text, as docs/CHANGING.md has it: band by band the highest first, each crate with what it stands on."""
+    crates, lines = crates_of_list(), []
+    for band, lowest, highest in BANDS:
+        names = sorted((name for name in CRATES if lowest < CRATES[name][1] < highest), key=lambda name: (-CRATES[name][1], CRATES[name][0]))
+        for name in names:
+            over = " over " + ", ".join(crates[name]) if crates[name] else ""
+            lines.append(f"{band if name == names[0] else '':22}{name}{over}")
+    return "\n".join(lines)
 
 
 # ---- drawing
@@ -589,16 +670,6 @@ def prefixes():
     picture.save("prefixes.svg")
 
 
-def fronts():
-    picture = Picture(640, 244)
-    list_of_changes(picture, [("3 → 30", "by A"), ("12 → 120", "by B"), ("3 is gone", "by B"), ("27 → 270", "by A"), ("14 is gone", "by A")])
-    bracket(picture, 88, "keys to 10", 2, "the first leaf's front: 3 is 30", RED)
-    bracket(picture, 134, "11 to 20", 4, "the second leaf's: 12 is 120, and 14 is still there", BLUE)
-    bracket(picture, 180, "from 21 on", 5, "the third leaf's: 27 is 270", RED)
-    picture.text(LIST_LEFT + 6, 228, "The report has both 3 and 27, which were never there at one moment.", size=11, fill=SOFT, anchor="start")
-    picture.save("fronts.svg")
-
-
 def one_list():
     picture = Picture(640, 244)
     list_of_changes(picture, [("7 → 70", "by A"), ("9 → 90", "by B"), ("7 → 71", "by B"), ("9 is gone", "by A"), ("5 → 50", "by C")])
@@ -609,10 +680,88 @@ def one_list():
     picture.save("one-list.svg")
 
 
+def fronts():
+    picture = Picture(790, 352)
+    left, wide, foot, high = 168, 172, 222, 28
+    leaves = [("#1", "≤6", 2, "(2, 20)  (5, 50)"), ("#3", "≤12", 4, "(8, 80)  (11, 50)"), ("#2", "≤MAX", 6, "none")]
+    changes = [("5 → 50", 0), ("14 → 140", 2), ("5 is gone", 0), ("11 → 50", 1), ("8 → 81", 1), ("14 is gone", 2)]
+    end = left + wide * len(leaves)
+
+    def at(count):
+        return foot - count * high
+
+    picture.text(14, 22, "the list grows upwards", size=11, fill=SOFT, anchor="start")
+    for place, (what, leaf) in enumerate(changes):
+        picture.box(34, at(place + 1), 110, high, fill=HEAD, stroke=LINE)
+        picture.text(89, at(place) - 9, what, bold=True)
+        x, y = left + wide * leaf + wide / 2, at(place) - high / 2
+        picture.line([(144, y), (x - 8, y)], stroke="#d5d9dc", width=1)
+        told = place < leaves[leaf][2]
+        picture.dot(x, y, radius=5, fill=INK if told else LINE)
+        if not told:
+            picture.dot(x, y, radius=3.5, fill="white")
+    for count, words in ((1, "seen before"), (6, "seen afterwards")):
+        picture.line([(left, at(count)), (end, at(count))], stroke=BLUE, width=1.2, dash=True)
+        picture.text(end + 4, at(count) + 4, words, size=10.5, fill=BLUE, anchor="start")
+    stairs = []
+    for place, (_, _, count, _) in enumerate(leaves):
+        stairs += [(left + wide * place, at(count)), (left + wide * (place + 1), at(count))]
+    picture.line(stairs, stroke=RED, width=2.4)
+    picture.text(left + 6, at(2) - 6, "front of #1", size=11, fill=RED, anchor="start")
+    picture.text(left + wide + 6, at(4) - 6, "of #3", size=11, fill=RED, anchor="start")
+    picture.text(left + wide * 2 + 6, at(6) - 6, "of #2", size=11, fill=RED, anchor="start")
+    for place, (number, bound, _, report) in enumerate(leaves):
+        x = left + wide * place
+        picture.box(x + 6, 240, wide - 26, 24, fill="white")
+        picture.text(x + 24, 256, number, bold=True)
+        picture.text(x + wide - 44, 256, bound, size=11, fill=SOFT)
+        if place + 1 < len(leaves):
+            picture.line([(x + wide - 20, 252), (x + wide + 5, 252)], arrow=True)
+        picture.text(x + (wide - 14) / 2, 292, report)
+    picture.text(14, 256, "the leaves", anchor="start", bold=True)
+    picture.text(14, 292, "the report", anchor="start", bold=True)
+    picture.text(14, 322, "At opening the map was 2 → 20, 8 → 80. A full dot is in the report, a hollow one came later than its leaf was read.", size=11, fill=SOFT, anchor="start")
+    picture.text(14, 340, "The record 50 was moved from key 5 to key 11 between two reads, and so it is reported at both.", size=11, fill=SOFT, anchor="start")
+    picture.save("fronts.svg")
+
+
+# lines that go round what stands between: the column where they go down
+BENT = {("blink_run", "blink_live"): 5.35}
+
+
+def crates():
+    picture = Picture(960, 740)
+    for name, lowest, highest in BANDS:
+        top, bottom = 24 + (16.1 - highest) * CRATE_ROW, 24 + (16.1 - lowest) * CRATE_ROW
+        picture.box(8, top, 944, bottom - top, fill="#f6f7f8", stroke="#d5d9dc", width=1, round=4)
+        picture.text(20, top + 18, name, size=12, fill=SOFT, anchor="start", italic=True)
+    for name, others in crates_of_list().items():
+        for other in others:
+            start, end = crate_ends(name, other)
+            if (name, other) in BENT:
+                x, y = crate_at(name)
+                down = 68 + BENT[(name, other)] * CRATE_STEP
+                picture.line([(x + CRATE_WIDTH / 2, y), (down, y), (down, end[1])], stroke=LINE, width=1.1, arrow=True)
+            else:
+                picture.line([start, end], stroke=LINE, width=1.1, arrow=True)
+    for name in CRATES:
+        x, y = crate_at(name)
+        program = name in ("index_main", "show_main", "blink_c")
+        picture.box(x - CRATE_WIDTH / 2, y - CRATE_HEIGHT / 2, CRATE_WIDTH, CRATE_HEIGHT, fill="#fff0b8" if program else "white", round=3)
+        picture.text(x, y + 4, name, size=11.5, bold=program)
+        made = {"index_main": "blink", "show_main": "blink-show", "blink_c": "libblink"}.get(name)
+        if made:
+            picture.text(x, y - 18, made, size=11, fill=BLUE)
+    picture.save("crates.svg")
+
+
 def main():
     if sys.argv[1:] == ["check"]:
         sys.exit(1 if check() else 0)
-    for draw in (pages, tree, moving_right, split, posting, overtaking, root_growth, debts, latches, deciding, row, prefixes, fronts, one_list):
+    if sys.argv[1:] == ["crates"]:
+        print(crates_as_text())
+        return
+    for draw in (pages, tree, moving_right, split, posting, overtaking, root_growth, debts, latches, deciding, row, prefixes, one_list, fronts, crates):
         draw()
 
 

@@ -118,7 +118,7 @@ template <class Peer> int drive(const char* path) {
     bool whole = true;
     for (size_t i = 0; i < phases.size(); i++) {
       bool erases = has(phases[i], DELETE);
-      if ((erases && !Peer::CAN_ERASE) || phases[i].mode == MANY || (phases[i].mode == SCANS && !Peer::CAN_SCAN)) {
+      if ((erases && !Peer::CAN_ERASE) || phases[i].mode == MANY || (has(phases[i], SCAN) && !Peer::CAN_SCAN)) {
         printf("left %llu %zu\n", (unsigned long long)number, i);
         whole &= !erases;
         continue;

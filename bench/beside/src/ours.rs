@@ -1,25 +1,21 @@
 //! The index, the table and the map, with pages of at most `FAN` entries.
 
 use crate::side::{timed, Handle, Side};
-use crate::workload::{Case, Mode, Phase, Step, ABSENT, DELETE, FIND, INSERT, INSERTED, REPLACE};
-use blink::{Answer, Index, Map, Op, Pass, Room, Session, Table};
+use crate::workload::{Case, Mode, Phase, Step, ABSENT, DELETE, INSERT, REPLACE};
+use blink::{Answer, Entry, Index, Map, Pass, Room, Session, Table};
 use std::sync::Arc;
 use std::time::Instant;
-
-/// How many operations `Index::run` is given at once, as many as it takes on one copy of the index.
-const BATCH: usize = 8_192;
 
 // The index after insertions in this order.
 fn grown(fan: u8, entries: &[(u64, u64)]) -> Index {
     let mut index = Index::new(fan).expect("an index");
-    for part in entries.chunks(BATCH) {
-        let ops: Vec<Op> = part.iter().map(|&(key, pointer)| Op::Insert(key, pointer)).collect();
-        index.run(&ops).expect("a batch");
+    for &(key, pointer) in entries {
+        index.insert(key, pointer).expect("memory");
     }
     index
 }
 
-/// The index: one thread looks up and scans, and changes it by batches.
+/// The index: one thread looks up, scans, and changes it in place.
 pub struct ByIndex<const FAN: u8> {
     index: Index,
 }
@@ -28,47 +24,22 @@ impl<const FAN: u8> Handle for &mut ByIndex<FAN> {
     fn find(&mut self, key: u64) -> Option<u64> {
         self.index.find(key)
     }
+    fn insert(&mut self, key: u64, pointer: u64) -> bool {
+        self.index.insert(key, pointer) == Ok(Answer::Inserted)
+    }
+    fn delete(&mut self, key: u64) -> Option<u64> {
+        self.index.remove(key).pointer()
+    }
+    fn replace(&mut self, key: u64, pointer: u64) -> Option<u64> {
+        self.index.replace(key, pointer).pointer()
+    }
     fn scan(&mut self, from: u64, count: usize) -> u64 {
-        let scan = self.index.scan(from..).take(count);
-        scan.fold(0, |sum, entry| sum.wrapping_add(entry.key ^ entry.pointer))
+        sum_of_entries(self.index.scan(from..).take(count))
     }
     fn find_many(&mut self, keys: &[Step]) -> u64 {
         let keys: Vec<u64> = keys.iter().map(|step| step.key).collect();
         let found = self.index.find_many(&keys);
         found.into_iter().fold(0, |sum, pointer| sum.wrapping_add(pointer.unwrap_or(ABSENT)))
-    }
-}
-
-// What an answer adds to the sum.
-fn sum_of(answer: &Answer) -> u64 {
-    match answer {
-        Answer::Inserted => INSERTED,
-        Answer::Found(pointer) | Answer::Removed(pointer) | Answer::Replaced(pointer) => *pointer,
-        Answer::Absent | Answer::Exists(_) => ABSENT,
-    }
-}
-
-impl<const FAN: u8> ByIndex<FAN> {
-    // Runs the steps of one thread by batches.
-    fn batches(&mut self, steps: &[Step]) -> (u64, u64) {
-        let start = Instant::now();
-        let mut sum = 0u64;
-        for part in steps.chunks(BATCH) {
-            let ops: Vec<Op> = part.iter().map(op).collect();
-            let answers = self.index.run(&ops).expect("a batch");
-            sum = answers.iter().fold(sum, |sum, answer| sum.wrapping_add(sum_of(answer)));
-        }
-        (start.elapsed().as_nanos() as u64, sum)
-    }
-}
-
-fn op(step: &Step) -> Op {
-    match step.kind {
-        FIND => Op::Find(step.key),
-        INSERT => Op::Insert(step.key, step.pointer),
-        DELETE => Op::Delete(step.key),
-        REPLACE => Op::Replace(step.key, step.pointer),
-        kind => unreachable!("a step of kind {kind}"),
     }
 }
 
@@ -79,11 +50,7 @@ impl<const FAN: u8> Side for ByIndex<FAN> {
 
     // An index isn't shared, so it has one thread.
     fn run(&mut self, phase: &Phase) -> Option<(u64, u64)> {
-        let [steps] = phase.threads.as_slice() else { return None };
-        match phase.changes() {
-            true => Some(self.batches(steps)),
-            false => Some(timed(&mut [self], phase)),
-        }
+        (phase.threads.len() == 1).then(|| timed(&mut [self], phase))
     }
 
     fn contents(&mut self, keys: &[u64]) -> Vec<Option<u64>> {
@@ -126,6 +93,13 @@ impl Handle for Any {
     fn find(&mut self, key: u64) -> Option<u64> {
         self.0.glance(key)
     }
+    fn scan(&mut self, from: u64, count: usize) -> u64 {
+        sum_of_entries(self.0.scan(from..).take(count))
+    }
+}
+
+fn sum_of_entries(entries: impl Iterator<Item = Entry>) -> u64 {
+    entries.fold(0, |sum, entry| sum.wrapping_add(entry.key ^ entry.pointer))
 }
 
 // How many insertions and deletions steps need; a replacement takes a deletion.
@@ -184,14 +158,14 @@ impl<const FAN: u8> Side for ByTable<FAN> {
             }
             // A pass changes its own keys alone.
             Mode::Any if phase.changes() => None,
-            Mode::Any => {
+            Mode::Any | Mode::Scan => {
                 let deal = |_: &Vec<Step>| Any(table.deal(&[], 0, 0).expect("a pass"));
                 let mut passes: Vec<Any> = phase.threads.iter().map(deal).collect();
                 let told = timed(&mut passes, phase);
                 give_back(table, passes.into_iter().map(|any| any.0));
                 Some(told)
             }
-            Mode::Many | Mode::Scan => None,
+            Mode::Many => None,
         }
     }
 
@@ -230,6 +204,9 @@ impl Handle for Session<'_> {
     fn replace(&mut self, key: u64, pointer: u64) -> Option<u64> {
         Session::replace(self, key, pointer).ok()?.pointer()
     }
+    fn scan(&mut self, from: u64, count: usize) -> u64 {
+        sum_of_entries(self.range(from..).take(count))
+    }
 }
 
 // A row for each change and for each page that is split, and what each session may have drawn and not used.
@@ -253,13 +230,13 @@ impl<const FAN: u8> Side for ByMap<FAN> {
 
     fn run(&mut self, phase: &Phase) -> Option<(u64, u64)> {
         match phase.mode {
-            Mode::Own | Mode::Any => {
+            Mode::Own | Mode::Any | Mode::Scan => {
                 let map = self.map.as_ref().expect("an open map");
                 let join = |_: &Vec<Step>| map.session().expect("a session");
                 let mut sessions: Vec<Session> = phase.threads.iter().map(join).collect();
                 Some(timed(&mut sessions, phase))
             }
-            Mode::Many | Mode::Scan => None,
+            Mode::Many => None,
         }
     }
 

@@ -45,14 +45,15 @@ pub const MIXED_50: &str = "50 finds, 25 insertions, 25 deletions";
 pub const ALL: &str = "80 finds, 20 replacements, all threads on all keys";
 pub const REPLACE: &str = "A replacement";
 pub const NEAR: &str = "80 + 10 + 10, keys side by side";
+pub const AMONG: &str = "95 replacements, 5 scans of 100 entries, all threads on all keys";
 pub const LEAF: &str = "50 finds, 50 replacements, all in one leaf";
 pub const LONG: &str = "A million changes: 96 replacements, 2 insertions, 2 deletions";
 pub const OPEN: &str = "Opening it for 12,000 insertions and as many deletions, ms";
 pub const CLOSE: &str = "Closing it, ms";
 
 /// The tables in the order in which they are told.
-pub const WORKLOADS: [&str; 17] = [
-    FIND, GLANCE, MANY, SCAN_10, SCAN_1000, SCAN_ALL, LOAD, MIXED_80, MIXED_90, MIXED_50, ALL, REPLACE, NEAR, LEAF, LONG, OPEN, CLOSE,
+pub const WORKLOADS: [&str; 18] = [
+    FIND, GLANCE, MANY, SCAN_10, SCAN_1000, SCAN_ALL, LOAD, MIXED_80, MIXED_90, MIXED_50, ALL, AMONG, REPLACE, NEAR, LEAF, LONG, OPEN, CLOSE,
 ];
 
 const THREADS: [usize; 4] = [1, 2, 4, 8];
@@ -141,7 +142,10 @@ fn looks(model: &mut Model, scale: Scale, threads: &[usize]) -> Vec<(&'static st
     let all = 200_000usize.div_ceil(size);
     for (length, scans, workload) in [(10, 10_000, SCAN_10), (1_000, 200, SCAN_1000), (usize::MAX, all, SCAN_ALL)] {
         let scans = if scale.small { 2 } else { scans };
-        rows.push((workload, Figure::Phase(model.scans(length.min(size), scans))));
+        let by = if workload == SCAN_1000 { threads } else { &threads[..1] };
+        for &threads in by {
+            rows.push((workload, Figure::Phase(model.scans(length.min(size), threads, scans))));
+        }
     }
     rows
 }
@@ -191,6 +195,11 @@ fn meeting(group: &mut Group, scale: Scale) {
     for threads in THREADS {
         let mut model = all.again();
         let rows = [(ALL, Figure::Phase(model.by_all(80, threads, scale.of(100_000))))];
+        group.add(model, "40,000", &rows);
+    }
+    for threads in [1, 4] {
+        let mut model = all.again();
+        let rows = [(AMONG, Figure::Phase(model.scans_among(5, 100, threads, scale.of(40_000))))];
         group.add(model, "40,000", &rows);
     }
     let near = Model::new(&Keys::side_by_side(1_000, 250));

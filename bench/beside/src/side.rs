@@ -1,6 +1,6 @@
 //! What a side is, and how a process of its own runs the cases of a file with it.
 
-use crate::workload::{self, with_content, Case, Mode, Phase, Step, ABSENT, DELETE, FIND, INSERT, INSERTED, REPLACE};
+use crate::workload::{self, with_content, Case, Mode, Phase, Step, ABSENT, DELETE, FIND, INSERT, INSERTED, REPLACE, SCAN};
 use std::io;
 use std::path::Path;
 use std::sync::atomic::{AtomicUsize, Ordering};
@@ -65,6 +65,7 @@ fn one(handle: &mut impl Handle, step: &Step) -> u64 {
         },
         DELETE => handle.delete(step.key).unwrap_or(ABSENT),
         REPLACE => handle.replace(step.key, step.pointer).unwrap_or(ABSENT),
+        SCAN => handle.scan(step.key, step.pointer as usize),
         kind => unreachable!("a step of kind {kind}"),
     }
 }

@@ -242,21 +242,51 @@ impl Model {
         self.push(mode, lanes, sum)
     }
 
-    /// Scans of so many entries, or fewer where the map ends, by one thread.
-    pub fn scans(&mut self, length: usize, count: usize) -> usize {
+    // All entries that are there, in order.
+    fn sorted(&self) -> Vec<(u64, u64)> {
         let mut sorted: Vec<(u64, u64)> = self.map.iter().map(|(&key, &pointer)| (key, pointer)).collect();
         sorted.sort_unstable();
+        sorted
+    }
+
+    // A scan of so many entries, or fewer where the map ends, and what it adds to the sum.
+    fn a_scan(&mut self, sorted: &[(u64, u64)], length: usize) -> (Step, u64) {
+        let first = if length >= sorted.len() { 0 } else { self.random.below(sorted.len() - length) };
+        let entries = &sorted[first..sorted.len().min(first + length)];
+        let sum = entries.iter().fold(0u64, |sum, entry| sum.wrapping_add(entry.0 ^ entry.1));
+        (Step { kind: SCAN, key: sorted[first].0, pointer: length as u64 }, sum)
+    }
+
+    /// Scans of so many entries, or fewer where the map ends.
+    pub fn scans(&mut self, length: usize, threads: usize, count: usize) -> usize {
+        let sorted = self.sorted();
         let mut sum = 0u64;
-        let steps = (0..count)
-            .map(|_| {
-                let first = if length >= sorted.len() { 0 } else { self.random.below(sorted.len() - length) };
-                for entry in &sorted[first..sorted.len().min(first + length)] {
-                    sum = sum.wrapping_add(entry.0 ^ entry.1);
-                }
-                Step { kind: SCAN, key: sorted[first].0, pointer: length as u64 }
-            })
-            .collect();
-        self.push(Mode::Scan, vec![steps], sum)
+        let mut step = |model: &mut Model| {
+            let (step, adds) = model.a_scan(&sorted, length);
+            sum = sum.wrapping_add(adds);
+            step
+        };
+        let lanes = (0..threads).map(|_| (0..count.div_ceil(threads)).map(|_| step(self)).collect()).collect();
+        self.push(Mode::Scan, lanes, sum)
+    }
+
+    /// Replacements of any key by all threads, and among a hundred so many scans of so many entries. A replacement stores the pointer
+    /// that the key has, so the answers are known whoever comes first.
+    pub fn scans_among(&mut self, scans: usize, length: usize, threads: usize, count: usize) -> usize {
+        let sorted = self.sorted();
+        let mut sum = 0u64;
+        let mut step = |model: &mut Model| {
+            let (step, adds) = if model.random.below(100) < scans {
+                model.a_scan(&sorted, length)
+            } else {
+                let (key, pointer) = sorted[model.random.below(sorted.len())];
+                (Step { kind: REPLACE, key, pointer }, pointer)
+            };
+            sum = sum.wrapping_add(adds);
+            step
+        };
+        let lanes = (0..threads).map(|_| (0..count / threads).map(|_| step(self)).collect()).collect();
+        self.push(Mode::Any, lanes, sum)
     }
 
     /// Finds and replacements of any key by all threads, so many finds of 100. A replacement stores the pointer that the key has, so the

@@ -25,7 +25,7 @@ pub(crate) fn read_request(row: &ByteRecord) -> Result<Request, RecordError>
     ensures { result ≡ request_of (fields_of row.now) }
 {
     match three_fields(row) {
-        Some((word, second, third)) => named(word, second, third),
+        Some((word, second, third)) => request_of(word, second, third),
         None => Err(RecordError::BadShape),
     }
 }
@@ -42,7 +42,7 @@ fn three_fields(row: &ByteRecord) -> Option<(&[u8], &[u8], &[u8])>
 }
 
 // The request of a word and the two fields after it.
-fn named(word: &[u8], second: &[u8], third: &[u8]) -> Result<Request, RecordError>
+fn request_of(word: &[u8], second: &[u8], third: &[u8]) -> Result<Request, RecordError>
     ensures { result ≡ named word.now second.now third.now }
 {
     if word == b"insert".as_slice() {

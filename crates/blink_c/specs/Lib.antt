@@ -5,6 +5,8 @@
 pub use Rattle.blink_c.specs.Raw.{AreOperations, insertion_of, op_of, raw_answer, raw_entry, raw_given, raw_scanned, raw_shown}
 -- a batch that one thread runs over an index, an index made of entries, and why they are refused
 pub use Rattle.blink_c.specs.Runs.{HasEntriesOf, HasPagesFor, HasPagesOf, HasRun, IsMakeRefusal, IsRunRefusal}
+-- one operation on an index in place, and the entry that a call may give
+pub use Rattle.blink_c.specs.Edits.{HasEdited, TellsEditFault, entry_or}
 -- what the code of a refused call tells
 pub use Rattle.blink_c.specs.Codes.{TellsNewFault, TellsWhy}
 -- what the look-ups give, and the caller's arrays after a scan, a page or a dump
@@ -23,6 +25,7 @@ pub use Rattle.blink_c.specs.Sessions.{Answers, EndsFrom, Finds as SessionFinds,
 -- ---- the files
 pub mod Raw
 pub mod Runs
+pub mod Edits
 pub mod Found
 pub mod Filled
 pub mod Reports

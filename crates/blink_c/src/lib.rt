@@ -4,6 +4,7 @@
 
 mod batch;
 mod dump;
+mod edit;
 mod index;
 mod index_handle;
 mod index_slot;

@@ -44,7 +44,7 @@ fn run_command<'a>(alloc: Global) -> Result<Command<'a>, AllocError>
     ensures app { IfOk result (λ command. app_of command ≡ run) }
     ensures local { IfOk result (λ command. (out-Command command).has_globals ≡ false) }
 {
-    sized(
+    subcommand_with_sizes(
         alloc,
         "run",
         "Runs the script on standard input by threads and prints its answers",
@@ -58,7 +58,7 @@ pub fn replay_command<'a>(alloc: Global) -> Result<Command<'a>, AllocError>
     ensures app { IfOk result (λ command. app_of command ≡ replay) }
     ensures local { IfOk result (λ command. (out-Command command).has_globals ≡ false) }
 {
-    sized(
+    subcommand_with_sizes(
         alloc,
         "replay",
         "Runs the script on standard input turn by turn, as a schedule says",
@@ -67,7 +67,11 @@ pub fn replay_command<'a>(alloc: Global) -> Result<Command<'a>, AllocError>
 }
 
 // A subcommand with the options that both subcommands have.
-fn sized<'a>(alloc: Global, name: &'a str, about: &'a str) -> Result<Command<'a>, AllocError>
+fn subcommand_with_sizes<'a>(
+    alloc: Global,
+    name: &'a str,
+    about: &'a str,
+) -> Result<Command<'a>, AllocError>
     ensures app { IfOk result (λ command. app_of command ≡ with_sizes (new_app name.entry.now)) }
     ensures local { IfOk result (λ command. (out-Command command).has_globals ≡ false) }
 {

@@ -62,7 +62,7 @@ pub fn read_line(alloc: Global, words: &[&str]) -> Result<Line, LineError>
         Ok(matches) => matches,
         Err(error) => return Err(refusal(alloc, &error)),
     };
-    match asked(alloc, &matches) {
+    match line_of_matches(alloc, &matches) {
         Ok(Some(line)) => Ok(line),
         Ok(None) => Err(bad_value(alloc)),
         Err(_) => Err(LineError::OutOfMemory),
@@ -94,19 +94,23 @@ pub fn bad_value(alloc: Global) -> LineError
 }
 
 // The request of the subcommand, if its values are allowed.
-fn asked(alloc: Global, matches: &ArgMatches<'_>) -> Result<Option<Line>, AllocError>
+fn line_of_matches(alloc: Global, matches: &ArgMatches<'_>) -> Result<Option<Line>, AllocError>
     ensures meant { IfOk result (λ meant. MatchOption meant
         ((line : _) → ¬ SubcommandMeans (subcommand_rows_of matches.now) line)
         (SubcommandMeans (subcommand_rows_of matches.now))) }
     ensures allowed { IfOk result (λ meant. IfSome meant HasAllowedSizes) }
 {
     match matches.subcommand() {
-        Some((name, found)) => named(alloc, name, found),
+        Some((name, found)) => line_of_subcommand(alloc, name, found),
         None => Ok(None),
     }
 }
 
-fn named(alloc: Global, name: &str, found: &ArgMatches<'_>) -> Result<Option<Line>, AllocError>
+fn line_of_subcommand(
+    alloc: Global,
+    name: &str,
+    found: &ArgMatches<'_>,
+) -> Result<Option<Line>, AllocError>
     ensures meant { IfOk result (λ meant. MatchOption meant
         ((line : _) → ¬ Means name.now (rows_of (found_of found.now)) line)
         (Means name.now (rows_of (found_of found.now)))) }

@@ -5,4 +5,8 @@ pub mod WayDown
 pub mod StretchOfScan
 pub mod WhereLinksLead
 pub mod LevelsAsLines
+pub mod alone
+pub mod OneOperationMore
+pub mod EndsOfMaps
+pub mod LastLeaves
 pub mod Offered

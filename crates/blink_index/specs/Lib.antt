@@ -6,13 +6,22 @@ pub use Rattle.blink_index.specs.Index.{map_of}
 pub use Rattle.blink_index.specs.Scan.{BringsInOrder, is_from, is_within}
 -- the text of a tree at rest: a line for each page, the top level first, and each level from the left
 pub use Rattle.blink_index.specs.Dump.{entry_text, text_of_store, words_of}
+-- the entries at the ends of a plain map, and those above a key
+pub use Rattle.blink_index.specs.Ends.{first_of, is_above, last_of}
+-- what one operation makes of a tree at rest, in place
+pub use Rattle.blink_index.specs.Edit.{IsEditRefusal, SplitsLeaf, StopsEdits}
 -- the code of each refusal, and the numbers that are no fan
-pub use Rattle.blink_index.specs.Codes.{IsBadFan, code_of}
+pub use Rattle.blink_index.specs.Codes.{IsBadFan, code_of, code_of_edit}
 -- laws of the plain map of an index and of its text
 pub use Rattle.blink_index.specs.Laws.{MapIsKept, NoOtherMapIsKept, TextIsOfLevels}
+-- ---- for proofs above
+pub use Rattle.blink_index.specs.Edit.{IsEdited, for_answers, for_next}
 -- ---- the files
 pub mod Index
 pub mod Leaf
+pub mod Ends
+pub mod Edit
+pub mod Drive
 pub mod Scan
 pub mod Dump
 pub mod Codes

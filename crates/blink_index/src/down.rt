@@ -1,5 +1,6 @@
 //! The descent to a leaf.
 ghost use Rattle.blink_rest.specs.{IsStoreAtRest};
+ghost use Rattle.blink_store.specs.{IsLeafOf};
 ghost use Rattle.blink_index.specs.Leaf.{IsLeafFor};
 
 use blink_page::{Page, Way};
@@ -11,6 +12,14 @@ pub(crate) fn leaf_for(store: &Store, key: u64) -> &Page
     requires { IsStoreAtRest store.now }
     ensures { IsLeafFor store.now key result.now }
 {
+    store.read(leaf_number(store, key))
+}
+
+/// Returns the number of that leaf.
+pub(crate) fn leaf_number(store: &Store, key: u64) -> u32
+    requires { IsStoreAtRest store.now }
+    ensures { IsLeafOf store.now result key }
+{
     let leftmost = &store.prime().leftmost;
     let mut number = leftmost[leftmost.len() - 1];
     'way: loop {
@@ -18,7 +27,7 @@ pub(crate) fn leaf_for(store: &Store, key: u64) -> &Page
         match page.way(key) {
             Way::Right(next) => number = next,
             Way::Down(child) => number = child,
-            Way::Here => return page,
+            Way::Here => return number,
         }
     }
 }

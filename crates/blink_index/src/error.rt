@@ -1,6 +1,6 @@
 //! The refusals of an index.
 ghost use Rattle.std.specs.Prelude.{◌≡◌};
-ghost use Rattle.blink_index.specs.Codes.{code_of};
+ghost use Rattle.blink_index.specs.Codes.{code_of, code_of_edit};
 
 use thiserror::Error;
 
@@ -23,6 +23,29 @@ impl IndexError {
         match self {
             IndexError::BadFan => 40,
             IndexError::OutOfMemory => 41,
+        }
+    }
+}
+
+/// Why an index can't be changed in place. A refusal leaves it as it was.
+#[derive(Clone, Copy, Debug, PartialEq, Eq, Error)]
+pub enum EditError {
+    /// Memory was refused.
+    #[error("out of memory")]
+    OutOfMemory,
+    /// The insertion might need more page numbers than exist.
+    #[error("too large")]
+    TooLarge,
+}
+
+impl EditError {
+    /// Returns the refusal's code, the same in every release. Other calls that refuse for the same reason have the same code.
+    pub fn code(&self) -> u8
+        ensures { result ≡ code_of_edit self.now }
+    {
+        match self {
+            EditError::OutOfMemory => 41,
+            EditError::TooLarge => 32,
         }
     }
 }

@@ -9,6 +9,9 @@ ghost use Rattle.blink_index.specs.Dump.{text_of_store};
 ghost use Rattle.blink_index.specs.Index.{map_of};
 ghost use Rattle.blink_index.specs.Scan.{is_from, is_within, BringsInOrder};
 
+mod change;
+mod ends;
+
 use crate::down::leaf_for;
 use crate::dump::tree_text;
 use crate::error::IndexError;
@@ -17,6 +20,7 @@ use blink_operation::Entry;
 use blink_page::{MAX_FAN, MIN_FAN};
 use blink_rest::Rest;
 use blink_store::Store;
+pub use change::Applied;
 use std::alloc::{AllocError, Global};
 use std::marker::Model;
 

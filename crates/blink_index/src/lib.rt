@@ -6,13 +6,15 @@
 #![tactic(auto)]
 
 mod down;
+mod drive;
 mod dump;
+mod edit;
 mod error;
 mod index;
 pub mod laws;
 mod scan;
 
 pub use dump::{OrDash, push_entries};
-pub use error::IndexError;
-pub use index::Index;
+pub use error::{EditError, IndexError};
+pub use index::{Applied, Index};
 pub use scan::Scan;

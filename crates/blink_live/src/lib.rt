@@ -1,4 +1,5 @@
-//! A B-link tree in one table of words that threads share without a lock.
+//! A B-link tree in one table of words that threads share. There is no global lock: a search takes no latch and waits for nobody,
+//! and an update latches one page at a time.
 #![tactic(auto)]
 
 mod advance;

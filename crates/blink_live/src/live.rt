@@ -19,7 +19,7 @@ use blink_rows::{Counts, Span};
 use std::alloc::Global;
 use std::snapshot::Snapshot;
 
-/// A B-link tree in one table of words. Any number of threads share it without a lock, each with passes of its own.
+/// A B-link tree in one table of words. Any number of threads share it without a global lock, each with passes of its own.
 ///
 /// The table has three sections of words, in this order: a page word for each page number, a latch word for each number, and the
 /// rows. A page word names the row of the page's present version, or is 0. Between any two atomic steps of any threads the words

@@ -23,7 +23,8 @@ impl Live {
     /// table has room for the insertions and deletions of `allowance`; a replacement uses a deletion.
     ///
     /// The call refuses with `TooLarge`, before it asks for memory, exactly if the insertions might need more page numbers than
-    /// the 1,048,576 that exist, at 22 each. It refuses with `OutOfMemory`, if memory was refused.
+    /// the 1,048,576 that exist, at 22 each. So a table takes at most 47,662 insertions, over an index of one page. It refuses with
+    /// `OutOfMemory`, if memory was refused. Each insertion allowed takes 25 KB of the table, and each deletion 560 bytes.
     pub fn open(
         alloc: Global,
         index: &Index,

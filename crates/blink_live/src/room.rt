@@ -39,7 +39,7 @@ pub(crate) fn changes_left(op: Op, pages: &Span, rows: &Span) -> u64
 {
     match op {
         Op::Insert(..) => inserts_left(pages),
-        _ => deletes_left(pages, rows),
+        Op::Find(_) | Op::Delete(_) | Op::Replace(..) => deletes_left(pages, rows),
     }
 }
 
@@ -71,7 +71,7 @@ pub(crate) fn next_of(op: Op, rows: &mut Span, pages: &mut Span) -> Room
     let (row_count, page_count) = match op {
         Op::Find(_) => (0, 0),
         Op::Insert(..) => (MAX_ROWS_PER_INSERT, MAX_NEW_PAGES_PER_INSERT),
-        _ => (1, 0),
+        Op::Delete(_) | Op::Replace(..) => (1, 0),
     };
     Room {
         rows: first_of(rows, row_count),

@@ -2,7 +2,7 @@
 //!
 //! A scan goes from leaf to leaf. For each leaf it descends anew, with a find for the first key that it hasn't covered. The load of
 //! the leaf's page word tells the seat the state of each key from there to the leaf's high key, and the row that it names never
-//! changes. So the entries of one leaf are those of one moment; those of the leaf to the right are of a later one.
+//! changes. So the entries of one leaf are those of one time; those of the leaf to the right are of a later one.
 ghost use Rattle.std.specs.Prelude.{◌≡◌, ◌+◌, ◌<◌, ◌≤◌, List, IfSome, length, take, drop};
 ghost use Rattle.blink_batch.specs.declared.Entry.{Entry};
 ghost use Rattle.blink_live.specs.Finding.{IsIdle};
@@ -35,8 +35,8 @@ impl Live {
     /// A range is empty if `lo > hi`. The first `n` entries from a key on are those of
     /// `scan(pass, key, u64::MAX, &mut into[..n])`.
     ///
-    /// The scan reads leaf after leaf, each at one moment, from the left. So what it says of a key is what the changes up to some
-    /// moment of the call leave of it, and of a greater key what the changes up to that moment or a later one leave. A key that is
+    /// The scan reads leaf after leaf, each at one time, from the left. So what it says of a key is what the changes up to some
+    /// time in the call leave of it, and of a greater key what the changes up to that time or a later one leave. A key that is
     /// present throughout the call is reported, and a key that is absent throughout isn't. Of the pass's own keys the report is
     /// exact. The call takes no memory, waits for nobody, and returns.
     pub fn scan(&self, pass: &mut Pass, lo: u64, hi: u64, into: &mut [Entry]) -> Scanned

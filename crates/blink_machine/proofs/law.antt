@@ -7,3 +7,4 @@ pub mod AllowanceIsUsedUp
 pub mod EachPart
 pub mod DriversOfMachines
 pub mod LeafTellsItsKeys
+pub mod NeverStuck

@@ -34,7 +34,7 @@ pub record IsInChain (levels : Levels) (number : ℕ) : Type 0 where
   pub stands : IsMember cell (levels level)
   pub same_number : cell.number ≡ number
 
--- an operation has written the page of this number, which is in no chain yet
+-- an operation has written the page of this number, which is unlinked yet
 pub record IsUnlinked (tree_state : TreeState) (number : ℕ) : Type 0 where
   pub worker : ℕ
   pub m : PlainMachine

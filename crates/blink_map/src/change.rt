@@ -210,7 +210,7 @@ fn needed_by(op: Op) -> (u64, u64)
     match op {
         Op::Find(_) => (0, 0),
         Op::Insert(..) => (MAX_ROWS_PER_INSERT, MAX_NEW_PAGES_PER_INSERT),
-        _ => (1, 0),
+        Op::Delete(_) | Op::Replace(..) => (1, 0),
     }
 }
 

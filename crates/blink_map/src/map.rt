@@ -19,7 +19,7 @@ pub struct Room {
     pub sessions: u32,
 }
 
-/// A map from `u64` to `u64`, which any number of threads read and change without a lock, each by sessions of its own.
+/// A map from `u64` to `u64`, which any number of threads read and change without a global lock, each by sessions of its own.
 #[derive(Drop)]
 pub struct Map {
     pub(crate) live: Live,

@@ -17,10 +17,10 @@ impl Map {
     /// range; or where the slice is full, and then `next` tells the key from which another scan goes on. A range is empty if
     /// `lo > hi`. The first `n` entries from a key on are those of `scan(session, key, u64::MAX, &mut into[..n])`.
     ///
-    /// The scan reads leaf after leaf, each at one moment, from the left. So what it says of a key is what the changes up to some
-    /// moment of the call leave of it, and of a greater key what the changes up to that moment or a later one leave. A key that is
+    /// The scan reads leaf after leaf, each at one time, from the left. So what it says of a key is what the changes up to some
+    /// time in the call leave of it, and of a greater key what the changes up to that time or a later one leave. A key that is
     /// present throughout the call is reported, and a key that is absent throughout isn't. The session has seen the changes before
-    /// each of these moments afterwards. The call takes no memory, waits for nobody, and returns.
+    /// each of these times afterwards. The call takes no memory, waits for nobody, and returns.
     pub fn scan(&self, session: &mut Session, lo: u64, hi: u64, into: &mut [Entry]) -> Scanned
         requires its_own { IsSessionOf self.now session.old }
         ensures report { IsReport (opening_of self.now) (seen_by session.old) (seen_by session.new)

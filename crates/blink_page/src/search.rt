@@ -79,10 +79,10 @@ pub(crate) fn place(entries: &[(u64, u64)], key: u64) -> usize
     }
     let first = (LINE * lines_passed(entries, key)).min(entries.len() - LINE);
     first
-        + passed(entries, first, key)
-        + passed(entries, first + 1, key)
-        + passed(entries, first + 2, key)
-        + passed(entries, first + 3, key)
+        + one_if_before(entries, first, key)
+        + one_if_before(entries, first + 1, key)
+        + one_if_before(entries, first + 2, key)
+        + one_if_before(entries, first + 3, key)
 }
 
 // The same for a few entries.
@@ -106,13 +106,13 @@ fn lines_passed(entries: &[(u64, u64)], key: u64) -> usize
 {
     let mut lines = 0;
     for line in 0..entries.len() / LINE {
-        lines += passed(entries, LINE * line + LINE - 1, key);
+        lines += one_if_before(entries, LINE * line + LINE - 1, key);
     }
     lines
 }
 
 // 1 for an entry before the place of the key, and 0 for any other.
-fn passed(entries: &[(u64, u64)], at: usize, key: u64) -> usize
+fn one_if_before(entries: &[(u64, u64)], at: usize, key: u64) -> usize
     requires rise { Rises entries.now }
     requires inside { at < length entries.now }
     ensures before { at < place_of key entries.now → result ≡ 1 }

@@ -92,7 +92,7 @@ impl Page {
         requires new_number { IsPageNumber new }
         ensures { result ≡ lower_half fan new self.now whole.now }
     {
-        let (kept, separator) = parted(fan, whole);
+        let (kept, separator) = kept_and_separator(fan, whole);
         Page {
             level: self.level,
             floor: self.floor,
@@ -109,7 +109,7 @@ impl Page {
         requires lawful { IsLawfulPage (fan + 1) (with_entries self.now whole.now) }
         ensures { result ≡ upper_half fan self.now whole.now }
     {
-        let (kept, separator) = parted(fan, whole);
+        let (kept, separator) = kept_and_separator(fan, whole);
         Page {
             level: self.level,
             floor: Some(separator),
@@ -121,7 +121,7 @@ impl Page {
 }
 
 // The number of these entries that stay, and the key that parts them from the others.
-fn parted(fan: u8, whole: &[(u64, u64)]) -> (usize, u64)
+fn kept_and_separator(fan: u8, whole: &[(u64, u64)]) -> (usize, u64)
     requires fan { IsFan fan }
     requires overfull { length whole.now ≡ fan + 1 }
     ensures kept { result.0 ≡ kept_count fan }

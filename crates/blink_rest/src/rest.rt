@@ -11,10 +11,11 @@ use std::marker::Model;
 
 /// A tree at rest: no operation is under way, and every split is posted.
 ///
-/// The type guarantees this, so whoever is given one need not look at the pages.
+/// The type guarantees this, so whoever is given one need not look at the pages. The field is public for code that changes a
+/// tree in place: whatever changes the store, the tree is at rest again where it is next used as a whole.
 #[derive(Debug, Drop)]
 pub struct Rest {
-    store: Store,
+    pub store: Store,
 }
 
 impl Model for Rest {

@@ -41,7 +41,11 @@ pub(crate) fn chain_length(store: &Store, level: usize, leftmost: u32) -> Option
 
 // Compares the entries of a page with the pages below it, from the one that `first` links to, and returns the link after those
 // that the entries name.
-fn named(store: &Store, entries: &[(u64, u64)], first: Option<u32>) -> Option<Option<u32>>
+fn link_after_named(
+    store: &Store,
+    entries: &[(u64, u64)],
+    first: Option<u32>,
+) -> Option<Option<u32>>
     requires { HasTail store.now.fan (page_of store.now) first }
     ensures named { IfSome result
         (λ after. NamesFirst store.now.fan (page_of store.now) entries.now first after) }
@@ -72,7 +76,7 @@ fn names(store: &Store, upper: u32, lower: u32) -> bool
     let mut below = Some(lower);
     while let Some(number) = above {
         let page = store.read(number);
-        match named(store, &page.items, below) {
+        match link_after_named(store, &page.items, below) {
             Some(after) => below = after,
             None => return false,
         }

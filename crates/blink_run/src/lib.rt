@@ -1,8 +1,8 @@
 //! Threads around the step machine: a batch runs on an index, each worker's lane in a thread of its own.
 //!
 //! The driver `Locked` takes every step under one lock (`blink_locked`). The driver `Live` gives each lane a pass of one table
-//! of atomic words, which threads share without a lock. The promise that a thread's handle carries says what the thread has
-//! done.
+//! of atomic words, which threads share without a global lock. The promise that a thread's handle carries says what the thread
+//! has done.
 #![tactic(auto)]
 
 mod live;

@@ -1,4 +1,4 @@
-//! A batch's run on an index by threads that share a table of words without a lock.
+//! A batch's run on an index by threads that share a table of words without a global lock.
 ghost use Rattle.std.specs.Prelude.{◌≡◌, ◌↔◌, count_by, IfErr, IfOk, IsErrOf, OnErr, OnOk};
 ghost use Rattle.blink_batch.specs.{IsLawfulCut, answers, map_after_all, is_insert, IsAscending};
 ghost use Rattle.blink_index.specs.{map_of};
@@ -20,7 +20,7 @@ use blink_locked::Gate;
 use blink_rows::Allowance;
 use blink_settings::RunError;
 use dealing::deal_all;
-use gathering::{gathered, passes_of};
+use gathering::{answers_by_place, passes_of};
 use std::alloc::Global;
 use std::sync::Wait;
 use std::thread::Threads;
@@ -86,7 +86,7 @@ fn run_passes<R: Threads + Wait + Sync, G: Gate + Sync>(
         return Err(RunError::OutOfMemory);
     };
     let ended = run_all(rt, alloc, live, gate, batch, cut, runs)?;
-    let Ok(answers) = gathered(alloc, cut, &ended) else {
+    let Ok(answers) = answers_by_place(alloc, cut, &ended) else {
         return Err(RunError::OutOfMemory);
     };
     match passes_of(alloc, ended) {
@@ -104,7 +104,7 @@ fn allowance_of(batch: &Batch) -> Allowance
     for op in batch.ops() {
         match op {
             Op::Find(_) | Op::Insert(..) => {}
-            _ => deletes += 1,
+            Op::Delete(_) | Op::Replace(..) => deletes += 1,
         }
     }
     Allowance {

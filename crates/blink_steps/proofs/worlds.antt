@@ -1,4 +1,3 @@
-pub mod NeverStuck
 pub mod WorkersBySeat
 pub mod WorldsGoFurther
 pub mod OneThread

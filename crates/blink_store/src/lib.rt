@@ -6,6 +6,7 @@
 
 mod error;
 mod latches;
+mod leaf;
 mod store;
 
 pub use error::StoreError;

@@ -13,11 +13,14 @@ use std::marker::Model;
 ///
 /// A page is never removed, and its floor and its level never change. So a page number that was read once leads to the same
 /// place in the tree for ever (Lehman and Yao 1981).
+///
+/// The fields are public for code that changes a tree in place, since only the vector itself tells what room is reserved in it.
+/// Whatever changes them, the store is lawful again where it is next used as a whole.
 #[derive(Debug, Drop)]
 pub struct Store {
-    fan: u8,
-    prime: Prime,
-    pages: Vec<Page>,
+    pub fan: u8,
+    pub prime: Prime,
+    pub pages: Vec<Page>,
 }
 
 impl Model for Store {

@@ -64,7 +64,7 @@ const NAMED_ROOT: [Stage; 3] = [
         changes: &[Change::NameRoot(3)],
         sights: &[Sight::AtRest(true)],
     },
-    // A page in no chain.
+    // An unlinked page.
     Stage {
         changes: &[Change::Add(Sample::Leaf(&[]), 4)],
         sights: &[Sight::AtRest(false)],

@@ -26,7 +26,7 @@ fn blink(
     rt: &(impl Env + Input + Print + AllocGlobal + Threads + Wait + Sync),
 ) -> Result<(), ProgramError> {
     let alloc = rt.alloc();
-    let line = asked(rt, alloc)?;
+    let line = line_of_words(rt, alloc)?;
     write_to::<Brand, _, _>(rt, alloc, &line, io::writer(rt))
 }
 
@@ -54,7 +54,7 @@ fn write_to<B: Before, T: Input + Threads + Wait + Sync, W: Write + Drop>(
 }
 
 // What the command line asks for.
-fn asked(rt: &(impl Env + AllocGlobal), alloc: Global) -> Result<Line, ProgramError> {
+fn line_of_words(rt: &(impl Env + AllocGlobal), alloc: Global) -> Result<Line, ProgramError> {
     let words: Vec<String> = match env::args(rt) {
         Ok(words) => words.collect(alloc)?,
         Err(_) => return Err(ProgramError::Memory),

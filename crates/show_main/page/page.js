@@ -165,9 +165,9 @@ function lastFrame() {
   return view.replay.frames.length - 1;
 }
 
-// ---- what a moment says of the tree
+// ---- what a tree state is drawn from
 
-function momentAt(at) {
+function treeStateAt(at) {
   const pages = new Map();
   for (const [number, versions] of view.replay.pages) {
     const page = versions.at(at);
@@ -177,11 +177,11 @@ function momentAt(at) {
 }
 
 // The pages of each level from the left.
-function chainsOf(moment) {
+function chainsOf(treeState) {
   const met = new Set();
-  return moment.prime.map((leftmost) => {
+  return treeState.prime.map((leftmost) => {
     const chain = [];
-    for (let page = moment.pages.get(leftmost); page !== undefined && !met.has(page.number); page = moment.pages.get(page.link)) {
+    for (let page = treeState.pages.get(leftmost); page !== undefined && !met.has(page.number); page = treeState.pages.get(page.link)) {
       met.add(page.number);
       chain.push(page);
     }
@@ -196,13 +196,13 @@ function debtsOf(chain, above) {
   return new Set(chain.map((page) => page.high).filter((high) => high !== GREATEST && !separators.has(high)));
 }
 
-function shapeOfTree(moment) {
-  const levels = chainsOf(moment);
+function shapeOfTree(treeState) {
+  const levels = chainsOf(treeState);
   const chained = new Set(levels.flat().map((page) => page.number));
   return {
     levels,
     debts: levels.map((chain, level) => debtsOf(chain, levels[level + 1] || [])),
-    lost: [...moment.pages.values()].filter((page) => !chained.has(page.number)),
+    lost: [...treeState.pages.values()].filter((page) => !chained.has(page.number)),
   };
 }
 
@@ -229,16 +229,16 @@ function placeIn(chain, key) {
 }
 
 // The page that the turn's worker is at or goes to, after a turn that touched none.
-function pageStoodAt(moment, frame) {
-  const seat = frame.page === null ? moment.seats[frame.worker] || null : null;
+function pageStoodAt(treeState, frame) {
+  const seat = frame.page === null ? treeState.seats[frame.worker] || null : null;
   const found = seat === null ? null : /[0-9]+/.exec(seat.state);
   return found === null ? null : found[0];
 }
 
 // The workers whose next step is on a page.
-function comersTo(moment) {
+function comersTo(treeState) {
   const comers = new Map();
-  moment.seats.forEach((seat, worker) => {
+  treeState.seats.forEach((seat, worker) => {
     const found = seat === null ? null : /^(going down, page|wants) ([0-9]+)$/.exec(seat.state);
     if (found === null) return;
     if (!comers.has(found[2])) comers.set(found[2], []);
@@ -261,7 +261,7 @@ function opText(place) {
 }
 
 function toldOf(frame) {
-  if (frame.kind === "first") return "the first moment of the last batch";
+  if (frame.kind === "first") return "the first tree state of the last batch";
   const who = "worker " + frame.worker + " ";
   if (frame.deed !== null && frame.deed.kind === "unlatch") return who + "lets the latch of page " + frame.page + " go";
   if (frame.deed !== null) return who + frame.deed.verb + " page " + frame.page;
@@ -352,7 +352,7 @@ function tagsOf(page, scene) {
   if (page.entries.length >= view.replay.fan) signs.push("full");
   if (page.level === 0 && page.entries.length === 0) signs.push("empty");
   if (scene.isDebt(page)) signs.push("debt");
-  if (scene.lost.has(page.number)) signs.push("in no chain");
+  if (scene.lost.has(page.number)) signs.push("unlinked");
   if (signs.length > 0) tags.push({ worker: null, text: signs.join(", ") });
   return tags;
 }
@@ -482,7 +482,7 @@ function rowOf(level, pages, scene, before) {
   return { level, boxes, before, y: 0, height: Math.max(0, ...boxes.map((box) => Math.max(box.height, box.least))) };
 }
 
-// The pages of a level that are drawn: a part of its chain, and each page in no chain behind the one that it is split from, which
+// The pages of a level that are drawn: a part of its chain, and each unlinked page behind the one that it is split from, which
 // still ends where it does.
 function pagesOf(shape, level, span) {
   const chain = shape.levels[level];
@@ -649,7 +649,7 @@ function outer(box) {
   return box.ring ? RING + 2 : 1;
 }
 
-// A right link to the next page of the chain; it goes over a page in no chain that stands between.
+// A right link to the next page of the chain; it goes over an unlinked page that stands between.
 function linkTo(box, next, isOver) {
   const y = box.y + LINE / 2 + 1;
   const start = "M" + (box.x + box.width + outer(box)) + " " + y;
@@ -730,15 +730,15 @@ function someOf(texts, none) {
   return texts.slice(0, 8).join(", ") + (texts.length > 8 ? ", and " + (texts.length - 8) + " more" : "");
 }
 
-// The prime block, the debts, and the pages in no chain.
-function drawTally(moment, shape, frame) {
+// The prime block, the debts, and the unlinked pages.
+function drawTally(treeState, shape, frame) {
   const debts = shape.debts.flatMap((owed, level) => [...owed].map((high) => keyText(high) + " of level " + level));
-  const prime = moment.prime.map((page, level) => "#" + page + " of level " + level);
+  const prime = treeState.prime.map((page, level) => "#" + page + " of level " + level);
   const lost = shape.lost.map((page) => "#" + page.number);
   byId("tally").replaceChildren(
     element("span", /^[PQ]$/.test(frame.step) ? { class: "acts" } : {}, "prime block: ", element("b", {}, prime.join(", "))),
     element("span", {}, "debts: ", element("b", {}, someOf(debts, "none"))),
-    element("span", {}, "in no chain: ", element("b", {}, someOf(lost, "no page"))));
+    element("span", {}, "unlinked: ", element("b", {}, someOf(lost, "no page"))));
 }
 
 function workerCell(seat, latched) {
@@ -755,10 +755,10 @@ function workerCell(seat, latched) {
   return cell;
 }
 
-function drawWorkers(moment, frame) {
+function drawWorkers(treeState, frame) {
   const latched = new Map();
-  for (const page of moment.pages.values()) if (page.holder !== null) latched.set(page.holder, page.number);
-  const rows = moment.seats.map((seat, worker) => element("tr", frame.kind !== "first" && worker === frame.worker ? { class: "acts" } : {},
+  for (const page of treeState.pages.values()) if (page.holder !== null) latched.set(page.holder, page.number);
+  const rows = treeState.seats.map((seat, worker) => element("tr", frame.kind !== "first" && worker === frame.worker ? { class: "acts" } : {},
     element("th", { scope: "row" }, sign(worker), "w" + worker),
     seat === null ? element("td", {}, "idle") : workerCell(seat, latched.get(worker))));
   byId("workers").replaceChildren(element("table", {}, ...rows));
@@ -782,8 +782,8 @@ function drawDecided(at) {
 }
 
 // The page of the last step, whole, where the picture shows a part of its entries.
-function drawWhole(moment, frame) {
-  const page = frame.page === null ? undefined : moment.pages.get(frame.page);
+function drawWhole(treeState, frame) {
+  const page = frame.page === null ? undefined : treeState.pages.get(frame.page);
   const whole = byId("whole");
   whole.textContent = page === undefined || page.entries.length <= (page.level > 0 ? 5 : ROWS_AT_MOST) ? ""
     : "All entries of #" + page.number + ": " + page.entries.map(([key, value]) => keyText(key) + ": "
@@ -796,7 +796,7 @@ const TURN_HEIGHT = 18;
 
 function turnLine(at) {
   const frame = view.replay.frames[at];
-  const words = frame.kind === "first" ? "first moment" : frame.line.padEnd(10) + (frame.kind === "finish" ? "finish" : "");
+  const words = frame.kind === "first" ? "first tree state" : frame.line.padEnd(10) + (frame.kind === "finish" ? "finish" : "");
   const attributes = { "data-at": at, style: "top:" + at * TURN_HEIGHT + "px" };
   if (at === view.at) attributes["aria-current"] = "step";
   const line = element("div", attributes, String(at).padStart(String(lastFrame()).length) + "  ");
@@ -881,10 +881,10 @@ function keepAddress() {
   view.timer = setTimeout(() => history.replaceState(null, "", "#frame=" + view.at + (view.short ? "" : "&keys=numbers")), 300);
 }
 
-function sceneOf(moment, shape, frame) {
+function sceneOf(treeState, shape, frame) {
   const lost = new Set(shape.lost.map((page) => page.number));
   return {
-    frame, lost, stood: pageStoodAt(moment, frame), focus: focusAt(view.at), comers: comersTo(moment), children: null,
+    frame, lost, stood: pageStoodAt(treeState, frame), focus: focusAt(view.at), comers: comersTo(treeState), children: null,
     isDebt: (page) => shape.debts[page.level] !== undefined && shape.debts[page.level].has(page.high) && !lost.has(page.number),
   };
 }
@@ -892,14 +892,14 @@ function sceneOf(moment, shape, frame) {
 function show(at) {
   view.at = Math.max(0, Math.min(lastFrame(), at));
   const frame = view.replay.frames[view.at];
-  const moment = momentAt(view.at);
-  const shape = shapeOfTree(moment);
+  const treeState = treeStateAt(view.at);
+  const shape = shapeOfTree(treeState);
   drawHeading(frame);
   drawNote();
-  drawTally(moment, shape, frame);
-  const size = drawTree(shape, sceneOf(moment, shape, frame));
-  drawWhole(moment, frame);
-  drawWorkers(moment, frame);
+  drawTally(treeState, shape, frame);
+  const size = drawTree(shape, sceneOf(treeState, shape, frame));
+  drawWhole(treeState, frame);
+  drawWorkers(treeState, frame);
   drawDecided(view.at);
   reachTurn();
   keepAddress();
@@ -911,7 +911,7 @@ function show(at) {
 
 const NARROW = 600;
 
-// A small tree is drawn larger, and on a narrow screen any tree smaller. The last moment's is the widest, as no page ever goes away.
+// A small tree is drawn larger, and on a narrow screen any tree smaller. That of the last tree state is the widest, as no page ever goes away.
 function fit() {
   const at = view.at;
   view.scale = 1;

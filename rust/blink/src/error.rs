@@ -31,6 +31,8 @@ pub enum Error {
     BadSessions,
     /// Each place for a session is taken.
     NoPlace,
+    /// An operation of a session was dropped before it had ended.
+    LostUnderWay,
     /// The session has too few rows or page numbers left for the change, and the map's pool too.
     Full,
 }
@@ -49,6 +51,7 @@ impl Error {
             63 => Error::Foreign,
             102 => Error::BadSessions,
             103 => Error::NoPlace,
+            104 => Error::LostUnderWay,
             105 => Error::Full,
             _ => unreachable!("libblink returned code {code}"),
         }
@@ -77,6 +80,7 @@ impl fmt::Display for Error {
             Error::Foreign => f.write_str("of another table or map"),
             Error::BadSessions => f.write_str("1 to 256 sessions"),
             Error::NoPlace => f.write_str("no place for a session"),
+            Error::LostUnderWay => f.write_str("an operation was dropped before it had ended"),
             Error::Full => f.write_str("full"),
         }
     }

@@ -4,7 +4,6 @@ use crate::range::first_and_last;
 use crate::sys::{self, Handle, RawAnswer};
 use crate::{Answer, Entry, Error, Op};
 use std::cell::UnsafeCell;
-use std::fmt;
 use std::ops::RangeBounds;
 
 /// A map from 64-bit keys to 64-bit record pointers, in a proved B-link tree.
@@ -90,6 +89,72 @@ impl Index {
         })
     }
 
+    /// Maps a key to a pointer in place, unless the key is there: [`Answer::Inserted`], or [`Answer::Exists`] with the key's pointer.
+    /// A refusal leaves the index as it was. Memory is asked for only where the key's leaf is split.
+    ///
+    /// ```
+    /// use blink::{Answer, Index};
+    ///
+    /// let mut index = Index::new(16)?;
+    /// assert_eq!(index.insert(5, 50)?, Answer::Inserted);
+    /// assert_eq!(index.insert(5, 51)?, Answer::Exists(50));
+    /// assert_eq!(index.replace(5, 52), Answer::Replaced(50));
+    /// assert_eq!(index.remove(5), Answer::Removed(52));
+    /// assert_eq!(index.remove(5), Answer::Absent);
+    /// # Ok::<(), blink::Error>(())
+    /// ```
+    pub fn insert(&mut self, key: u64, pointer: u64) -> Result<Answer, Error> {
+        let mut given = RawAnswer::NONE;
+        // SAFETY: the handle is full and borrowed for writing.
+        Error::check(unsafe { sys::blink_index_insert(self.handle.get(), key, pointer, &mut given) })?;
+        Ok(Answer::of(given))
+    }
+
+    /// Takes a key away in place, if it is there: [`Answer::Removed`] with its pointer, or [`Answer::Absent`]. It takes no memory.
+    pub fn remove(&mut self, key: u64) -> Answer {
+        let mut given = RawAnswer::NONE;
+        // SAFETY: as in `insert`.
+        unsafe { sys::blink_index_delete(self.handle.get(), key, &mut given) };
+        Answer::of(given)
+    }
+
+    /// Maps a key to another pointer in place, if it is there: [`Answer::Replaced`] with the pointer before, or [`Answer::Absent`].
+    /// It takes no memory.
+    pub fn replace(&mut self, key: u64, pointer: u64) -> Answer {
+        let mut given = RawAnswer::NONE;
+        // SAFETY: as in `insert`.
+        unsafe { sys::blink_index_replace(self.handle.get(), key, pointer, &mut given) };
+        Answer::of(given)
+    }
+
+    /// Carries operations out in place, one after another, up to the first that is refused. The operations before it stay carried
+    /// out, and their answers are there.
+    ///
+    /// ```
+    /// use blink::{Answer, Index, Op};
+    ///
+    /// let mut index = Index::new(16)?;
+    /// let applied = index.apply(&[Op::Insert(5, 50), Op::Find(5), Op::Delete(6)]);
+    /// assert_eq!(applied.answers, [Answer::Inserted, Answer::Found(50), Answer::Absent]);
+    /// assert_eq!(applied.error, None);
+    /// # Ok::<(), blink::Error>(())
+    /// ```
+    pub fn apply(&mut self, operations: &[Op]) -> Applied {
+        let mut answers = Vec::with_capacity(operations.len());
+        for &operation in operations {
+            answers.push(match operation {
+                Op::Find(key) => self.find(key).map_or(Answer::Absent, Answer::Found),
+                Op::Insert(key, pointer) => match self.insert(key, pointer) {
+                    Ok(answer) => answer,
+                    Err(error) => return Applied { answers, error: Some(error) },
+                },
+                Op::Delete(key) => self.remove(key),
+                Op::Replace(key, pointer) => self.replace(key, pointer),
+            });
+        }
+        Applied { answers, error: None }
+    }
+
     /// Runs operations one after another, and returns their answers. Each 8,192 of them run on a copy of the index, which then
     /// takes its place; so run many at once. After an error the operations before that part have run.
     pub fn run(&mut self, operations: &[Op]) -> Result<Vec<Answer>, Error> {
@@ -168,6 +233,40 @@ impl Index {
         entries
     }
 
+    /// Returns the entry with the least key, if there is one.
+    ///
+    /// ```
+    /// # use blink::{Entry, Index};
+    /// let index = Index::from_entries(8, &[(1, 10), (3, 30), (5, 50)].map(Entry::from))?;
+    /// assert_eq!(index.first(), Some(Entry { key: 1, pointer: 10 }));
+    /// assert_eq!(index.last(), Some(Entry { key: 5, pointer: 50 }));
+    /// assert_eq!(index.next(1), Some(Entry { key: 3, pointer: 30 }));
+    /// assert_eq!(index.next(5), None);
+    /// # Ok::<(), blink::Error>(())
+    /// ```
+    pub fn first(&self) -> Option<Entry> {
+        // SAFETY: as in `find`.
+        self.found(|entry| unsafe { sys::blink_index_first(self.handle.get(), entry) })
+    }
+
+    /// Returns the entry with the greatest key, if there is one.
+    pub fn last(&self) -> Option<Entry> {
+        // SAFETY: as in `find`.
+        self.found(|entry| unsafe { sys::blink_index_last(self.handle.get(), entry) })
+    }
+
+    /// Returns the entry with the least key above this one, if there is one.
+    pub fn next(&self, key: u64) -> Option<Entry> {
+        // SAFETY: as in `find`.
+        self.found(|entry| unsafe { sys::blink_index_next(self.handle.get(), key, entry) })
+    }
+
+    // The entry that a call gives, if it gives one.
+    fn found(&self, call: impl FnOnce(*mut Entry) -> bool) -> Option<Entry> {
+        let mut entry = Entry { key: 0, pointer: 0 };
+        call(&mut entry).then_some(entry)
+    }
+
     /// Returns the number of entries. It walks all leaves.
     pub fn len(&self) -> usize {
         // SAFETY: as in `find`.
@@ -219,25 +318,19 @@ impl Index {
     }
 }
 
+/// What became of operations: the answers of those that were carried out, which are the first, and why the next was refused.
+#[derive(Clone, Debug, PartialEq, Eq)]
+pub struct Applied {
+    /// The answers of the operations that were carried out.
+    pub answers: Vec<Answer>,
+    /// Why the next operation was refused, if one was.
+    pub error: Option<Error>,
+}
+
 impl Drop for Index {
     fn drop(&mut self) {
         // SAFETY: the handle is full, and is taken out, so it is freed once.
         unsafe { sys::blink_index_free(self.handle.get_mut().take()) }
-    }
-}
-
-impl fmt::Debug for Index {
-    fn fmt(&self, f: &mut fmt::Formatter<'_>) -> fmt::Result {
-        f.debug_map().entries(self.scan(..).map(|entry| (entry.key, entry.pointer))).finish()
-    }
-}
-
-impl<'a> IntoIterator for &'a Index {
-    type Item = Entry;
-    type IntoIter = Scan<'a>;
-
-    fn into_iter(self) -> Scan<'a> {
-        self.scan(..)
     }
 }
 

@@ -23,9 +23,10 @@
 //! - [`Map`] shares the entries of an index among threads. Any of them changes any key, each by a [`Session`].
 //! - [`Table`] shares them too, and each key has an owner: a [`Pass`] has keys of its own, inserts, deletes and replaces these, and
 //!   looks at all.
-//! - [`Pending`] is an operation of a pass that has begun and waits for nobody.
+//! - [`Pending`] is an operation of a pass that has begun and waits for nobody; [`Unfinished`] is one of a session.
 #![warn(missing_docs)]
 
+mod collection;
 mod error;
 mod index;
 mod map;
@@ -35,8 +36,8 @@ mod sys;
 mod table;
 
 pub use error::Error;
-pub use index::{Index, Scan};
-pub use map::{Left, Map, Room, Session};
+pub use index::{Applied, Index, Scan};
+pub use map::{Begun, Left, Map, Room, Session, Unfinished};
 pub use operation::{Answer, Entry, Op};
 pub use range::Range;
 pub use table::{Pass, Pending, Table};

@@ -3,7 +3,7 @@
 use crate::range::Range;
 use crate::sys::{self, Handle, RawAnswer};
 use crate::table::TRIES;
-use crate::{Answer, Error, Index};
+use crate::{Answer, Error, Index, Op};
 use std::fmt;
 use std::marker::PhantomData;
 use std::ops::RangeBounds;
@@ -132,7 +132,8 @@ impl Map {
     }
 
     /// Closes the map. The index that it returns has the entries that the map was opened with, after all changes. The map is given up
-    /// also where the call is refused: with [`Error::Missing`], if a session was leaked, as by [`std::mem::forget`].
+    /// also where the call is refused: with [`Error::Missing`], if a session was leaked, as by [`std::mem::forget`]; with
+    /// [`Error::LostUnderWay`], if an [`Unfinished`] was dropped.
     pub fn close(self) -> Result<Index, Error> {
         let handle = self.lock().take();
         Index::filled(|out| {
@@ -174,7 +175,7 @@ pub struct Session<'map> {
 // SAFETY: `SessionHandle` of crates/blink_c is proved to be `Send`.
 unsafe impl Send for Session<'_> {}
 
-impl Session<'_> {
+impl<'map> Session<'map> {
     /// Looks a key up, after the changes that the session has seen by the end of the call.
     ///
     /// ```
@@ -268,6 +269,53 @@ impl Session<'_> {
         Error::check(unsafe { sys::blink_session_tell(&mut self.handle, &mut other.handle) })
     }
 
+    /// Begins an operation and takes its first steps, which wait for nobody. Where another session has the page that it wants for
+    /// `tries` steps, it rests as an [`Unfinished`], and the thread may do something else. A find ends at once.
+    ///
+    /// It is refused with [`Error::Full`] as [`Session::insert`] is. A refusal hands the session back.
+    ///
+    /// ```
+    /// use blink::{Answer, Begun, Index, Map, Op, Room};
+    ///
+    /// let map = Map::open(&Index::new(16)?, Room { pages: 22, rows: 44, sessions: 1 })?;
+    /// let mut begun = map.session()?.begin(Op::Insert(5, 50), 10).map_err(|(_, error)| error)?;
+    /// let (session, answer) = loop {
+    ///     match begun {
+    ///         Begun::Ended(session, answer) => break (session, answer),
+    ///         Begun::Resting(unfinished) => begun = unfinished.advance(10), // something else may be done first
+    ///     }
+    /// };
+    /// assert_eq!(answer, Answer::Inserted);
+    /// # drop(session);
+    /// # Ok::<(), blink::Error>(())
+    /// ```
+    pub fn begin(mut self, op: Op, tries: u32) -> Result<Begun<'map>, (Session<'map>, Error)> {
+        let mut answer = RawAnswer::NONE;
+        let handle = &mut self.handle;
+        // SAFETY: the handle is full and this call's own.
+        let code = unsafe {
+            match op {
+                Op::Find(key) => sys::blink_session_find(handle, key, &mut answer),
+                Op::Insert(key, pointer) => sys::blink_session_insert(handle, key, pointer, tries, &mut answer),
+                Op::Delete(key) => sys::blink_session_delete(handle, key, tries, &mut answer),
+                Op::Replace(key, pointer) => sys::blink_session_replace(handle, key, pointer, tries, &mut answer),
+            }
+        };
+        match code {
+            0 | sys::PENDING => Ok(self.begun(code, answer)),
+            code => Err((self, Error::of(code))),
+        }
+    }
+
+    // What has become of an operation, by the code and the answer of its last call.
+    fn begun(self, code: u8, answer: RawAnswer) -> Begun<'map> {
+        if code == sys::PENDING {
+            Begun::Resting(Unfinished { session: self })
+        } else {
+            Begun::Ended(self, Answer::of(answer))
+        }
+    }
+
     // Begins an operation, and takes its steps to the end.
     fn ended(&mut self, begin: impl FnOnce(*mut Handle, *mut RawAnswer) -> u8) -> Result<Answer, Error> {
         let mut answer = RawAnswer::NONE;
@@ -294,5 +342,32 @@ impl Drop for Session<'_> {
 impl fmt::Debug for Session<'_> {
     fn fmt(&self, f: &mut fmt::Formatter<'_>) -> fmt::Result {
         f.debug_struct("Session").finish_non_exhaustive()
+    }
+}
+
+/// What has become of an operation of a session: it has ended, or it rests.
+#[derive(Debug)]
+pub enum Begun<'map> {
+    /// It has ended. The session is free again.
+    Ended(Session<'map>, Answer),
+    /// It rests, since another session has the page that it wants.
+    Resting(Unfinished<'map>),
+}
+
+/// An operation of a session that has begun and not ended. The session can do nothing else meanwhile. No other session waits for it.
+///
+/// Dropping it gives the session up, and then [`Map::close`] is refused with [`Error::LostUnderWay`].
+#[derive(Debug)]
+pub struct Unfinished<'map> {
+    session: Session<'map>,
+}
+
+impl<'map> Unfinished<'map> {
+    /// Takes the next steps, as [`Session::begin`] does the first ones. It waits for nobody.
+    pub fn advance(mut self, tries: u32) -> Begun<'map> {
+        let mut answer = RawAnswer::NONE;
+        // SAFETY: the handle is full and this call's own; an operation is under way, so nothing is refused.
+        let code = unsafe { sys::blink_session_advance(&mut self.session.handle, tries, &mut answer) };
+        self.session.begun(code, answer)
     }
 }

@@ -22,8 +22,8 @@ pub(crate) fn first_and_last(range: &impl RangeBounds<u64>) -> Option<(u64, u64)
 
 /// The entries of a table or a map whose keys are in a range, in ascending order, while other threads change them.
 ///
-/// It reads the tree's leaves from the left, each at one moment: what it says of a key is what the changes up to some moment leave of
-/// it, and of a greater key those up to that moment or a later one. It takes the entries out in parts: 16 first, then twice as many
+/// It reads the tree's leaves from the left, each at one time: what it says of a key is what the changes up to some time leave of
+/// it, and of a greater key those up to that time or a later one. It takes the entries out in parts: 16 first, then twice as many
 /// each time, up to 256. A part is read when it is asked for.
 pub struct Range<'a> {
     handle: &'a mut Handle,

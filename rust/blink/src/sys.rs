@@ -64,6 +64,12 @@ extern "C" {
     pub(crate) fn blink_index_new(fan: u8, out: *mut Handle) -> u8;
     pub(crate) fn blink_index_from_entries(fan: u8, entries: *const crate::Entry, count: usize, out: *mut Handle) -> u8;
     pub(crate) fn blink_index_copy(index: *mut Handle, out: *mut Handle) -> u8;
+    pub(crate) fn blink_index_insert(index: *mut Handle, key: u64, pointer: u64, answer: *mut RawAnswer) -> u8;
+    pub(crate) fn blink_index_delete(index: *mut Handle, key: u64, answer: *mut RawAnswer);
+    pub(crate) fn blink_index_replace(index: *mut Handle, key: u64, pointer: u64, answer: *mut RawAnswer);
+    pub(crate) fn blink_index_first(index: *mut Handle, entry: *mut crate::Entry) -> bool;
+    pub(crate) fn blink_index_last(index: *mut Handle, entry: *mut crate::Entry) -> bool;
+    pub(crate) fn blink_index_next(index: *mut Handle, key: u64, entry: *mut crate::Entry) -> bool;
     pub(crate) fn blink_index_run(
         index: *mut Handle,
         operations: *const RawOperation,

@@ -4,10 +4,10 @@
 //! Gong do: a call may come next if no other that is left ended before it began. Every pointer is stored by one call alone, so that a value
 //! read tells which call stored it.
 
-use blink::{Answer, Entry, Index, Map, Room, Session};
+use blink::{Answer, Begun, Entry, Index, Map, Op, Room, Session};
 use std::collections::{BTreeSet, HashMap, HashSet};
 use std::thread;
-use std::time::Instant;
+use std::time::{Duration, Instant};
 
 const THREADS: u64 = 8;
 
@@ -103,51 +103,86 @@ fn next_random(state: &mut u64) -> u64 {
     *state
 }
 
-// One call, by what it answers: what the key was, and what it is then.
-fn call_once(session: &mut Session, kind: u64, key: u64, pointer: u64) -> (State, State) {
-    match kind {
-        0 => match session.insert(key, pointer).unwrap() {
-            Answer::Inserted => (None, Some(pointer)),
-            Answer::Exists(there) => (Some(there), Some(there)),
-            other => panic!("an insertion answered {other:?}"),
-        },
-        1 => match session.remove(key).unwrap() {
-            Answer::Removed(was) => (Some(was), None),
-            Answer::Absent => (None, None),
-            other => panic!("a deletion answered {other:?}"),
-        },
-        2 => match session.replace(key, pointer).unwrap() {
-            Answer::Replaced(was) => (Some(was), Some(pointer)),
-            Answer::Absent => (None, None),
-            other => panic!("a replacement answered {other:?}"),
-        },
-        3 => (session.put(key, pointer).unwrap(), Some(pointer)),
-        _ => {
-            let found = session.get(key);
-            (found, found)
+// What a key was by an answer of an operation, and what it is then.
+fn told_by(op: Op, answer: Answer) -> (State, State) {
+    match (op, answer) {
+        (Op::Insert(_, pointer), Answer::Inserted) => (None, Some(pointer)),
+        (Op::Insert(..), Answer::Exists(there)) => (Some(there), Some(there)),
+        (Op::Delete(_), Answer::Removed(was)) => (Some(was), None),
+        (Op::Replace(_, pointer), Answer::Replaced(was)) => (Some(was), Some(pointer)),
+        (Op::Find(_), Answer::Found(there)) => (Some(there), Some(there)),
+        (Op::Delete(_) | Op::Replace(..) | Op::Find(_), Answer::Absent) => (None, None),
+        (op, answer) => panic!("{op:?} answered {answer:?}"),
+    }
+}
+
+// An operation that rests where another session has its page, while its thread does something else. Returns how often it rested.
+fn by_steps<'map>(session: Session<'map>, op: Op, random: &mut u64) -> (Session<'map>, Answer, u64) {
+    let mut rests = 0;
+    let mut begun = session.begin(op, 1).map_err(|(_, error)| error).unwrap();
+    loop {
+        match begun {
+            Begun::Ended(session, answer) => return (session, answer, rests),
+            Begun::Resting(unfinished) => {
+                rests += 1;
+                match next_random(random) % 4 {
+                    0 => thread::yield_now(),
+                    1 => thread::sleep(Duration::from_micros(20)),
+                    _ => {}
+                }
+                begun = unfinished.advance(1 + (next_random(random) % 3) as u32);
+            }
         }
     }
 }
 
-// A thread's calls. It leaves the map now and then, and joins it again.
-fn calls_of(map: &Map, plan: Plan, thread: usize, start: Instant) -> Vec<Call> {
+// One call, by what it answers: what the key was, and what it is then. Each operation is called as a whole, or by its steps.
+fn call_once(session: &mut Option<Session>, kind: u64, key: u64, pointer: u64, random: &mut u64) -> (State, State, u64) {
+    let op = match kind % 4 {
+        0 => Op::Insert(key, pointer),
+        1 => Op::Delete(key),
+        2 => Op::Replace(key, pointer),
+        _ => Op::Find(key),
+    };
+    let whole = session.as_mut().unwrap();
+    let answer = match op {
+        _ if kind >= 8 => return (whole.put(key, pointer).unwrap(), Some(pointer), 0),
+        _ if kind >= 4 => {
+            let (ended, answer, rests) = by_steps(session.take().unwrap(), op, random);
+            *session = Some(ended);
+            let (saw, left) = told_by(op, answer);
+            return (saw, left, rests);
+        }
+        Op::Insert(..) => whole.insert(key, pointer).unwrap(),
+        Op::Delete(_) => whole.remove(key).unwrap(),
+        Op::Replace(..) => whole.replace(key, pointer).unwrap(),
+        Op::Find(_) => whole.get(key).map_or(Answer::Absent, Answer::Found),
+    };
+    let (saw, left) = told_by(op, answer);
+    (saw, left, 0)
+}
+
+// A thread's calls, and how often an operation of them rested. The thread leaves the map now and then, and joins it again.
+fn calls_of(map: &Map, plan: Plan, thread: usize, start: Instant) -> (Vec<Call>, u64) {
     let mut random = 0x9e37_79b9_7f4a_7c15 ^ ((thread as u64 + 1) << 32) ^ plan.keys;
     let mut session = None;
     let mut calls = Vec::with_capacity(plan.calls as usize);
+    let mut rested = 0;
     for number in 0..plan.calls {
         if number % 1_000 == 0 {
             session = None;
         }
-        let session = session.get_or_insert_with(|| map.session().unwrap());
+        session.get_or_insert_with(|| map.session().unwrap());
         let key = next_random(&mut random) % plan.keys;
-        let kind = next_random(&mut random) % 6;
+        let kind = next_random(&mut random) % 10;
         let pointer = ((thread as u64 + 1) << 40) | number;
         let begin = start.elapsed().as_nanos() as u64;
-        let (saw, left) = call_once(session, kind, key, pointer);
+        let (saw, left, rests) = call_once(&mut session, kind, key, pointer, &mut random);
         let end = start.elapsed().as_nanos() as u64;
         calls.push(Call { thread, begin, end, key, saw, left });
+        rested += rests;
     }
-    calls
+    (calls, rested)
 }
 
 // Half of the keys are there at first; a key's first pointer is the key.
@@ -155,8 +190,14 @@ fn opening(plan: Plan) -> HashMap<u64, u64> {
     (0..plan.keys).step_by(2).map(|key| (key, key)).collect()
 }
 
-// What eight threads do, and the entries at the end.
-fn recorded(plan: Plan) -> (Vec<Call>, Index) {
+// What eight threads did at a map: their calls, how often an operation of theirs rested, and the index in the end.
+struct Recorded {
+    history: Vec<Call>,
+    rests: u64,
+    index: Index,
+}
+
+fn recorded(plan: Plan) -> Recorded {
     let entries: Vec<Entry> = opening(plan).into_iter().map(Entry::from).collect();
     let index = Index::from_entries(plan.fan, &entries).unwrap();
     let calls = u32::try_from(plan.calls * THREADS).unwrap();
@@ -168,6 +209,7 @@ fn recorded(plan: Plan) -> (Vec<Call>, Index) {
     let map = Map::open(&index, room).unwrap();
     let start = Instant::now();
     let mut history = Vec::new();
+    let mut rests = 0;
     thread::scope(|scope| {
         let workers: Vec<_> = (0..THREADS as usize)
             .map(|thread| {
@@ -176,10 +218,13 @@ fn recorded(plan: Plan) -> (Vec<Call>, Index) {
             })
             .collect();
         for worker in workers {
-            history.extend(worker.join().unwrap());
+            let (calls, rested) = worker.join().unwrap();
+            history.extend(calls);
+            rests += rested;
         }
     });
-    (history, map.close().unwrap())
+    let index = map.close().unwrap();
+    Recorded { history, rests, index }
 }
 
 // Adds a look at each key after all others, at what the closed index has.
@@ -192,10 +237,12 @@ fn with_looks_at(mut history: Vec<Call>, index: &Index, keys: u64) -> Vec<Call> 
     history
 }
 
-fn check(plan: Plan) {
-    let (history, index) = recorded(plan);
+// Returns how often an operation rested.
+fn check(plan: Plan) -> u64 {
+    let Recorded { history, rests, index } = recorded(plan);
     let history = with_looks_at(history, &index, plan.keys);
     assert!(is_linearizable(&history, &opening(plan)), "{} keys, fan {}", plan.keys, plan.fan);
+    rests
 }
 
 // ---- a million calls
@@ -204,8 +251,9 @@ const CALLS: u64 = 21_000;
 
 #[test]
 fn histories_at_4_keys() {
-    check(Plan { keys: 4, fan: 4, calls: CALLS });
-    check(Plan { keys: 4, fan: 32, calls: CALLS });
+    let rests = check(Plan { keys: 4, fan: 4, calls: CALLS }) + check(Plan { keys: 4, fan: 32, calls: CALLS });
+    // eight threads at one leaf or two: some of their operations find its latch taken
+    assert!(rests > 0);
 }
 
 #[test]
@@ -252,7 +300,7 @@ const PLANTED: Plan = Plan { keys: 4, fan: 4, calls: 500 };
 
 #[test]
 fn a_planted_stale_read_is_found() {
-    let (mut history, _) = recorded(PLANTED);
+    let mut history = recorded(PLANTED).history;
     assert!(is_linearizable(&history, &opening(PLANTED)));
     // a look, and a pointer that was replaced or removed before the look began
     let (look, stale) = (0..history.len())
@@ -270,7 +318,7 @@ fn a_planted_stale_read_is_found() {
 
 #[test]
 fn a_planted_lost_update_is_found() {
-    let (mut history, _) = recorded(PLANTED);
+    let mut history = recorded(PLANTED).history;
     // one call has replaced a pointer, another that of the first; now both say that they have replaced the same
     let (later, lost) = history
         .iter()

@@ -1,6 +1,6 @@
 //! A map and its sessions: one thread beside a plain map, two threads, refusals, and a map that is full.
 
-use blink::{Answer, Entry, Error, Index, Left, Map, Room, Session};
+use blink::{Answer, Begun, Entry, Error, Index, Left, Map, Op, Room, Session};
 use std::collections::BTreeMap;
 use std::thread;
 
@@ -170,6 +170,60 @@ fn a_full_map_is_changed_until_its_last_row() {
     assert_eq!((session.get(1), session.get(2), map.room()), (Some(12), None, Left { pages: 0, rows: 0 }));
     drop(session);
     assert!(map.close().unwrap().scan(..).eq([(1, 12)].map(Entry::from)));
+}
+
+#[test]
+fn an_operation_that_begins_ends_where_nobody_has_its_page() {
+    let index = Index::from_entries(4, &[(1, 10)].map(Entry::from)).unwrap();
+    let map = map_over(&index, 22, 44, 1);
+    let cases = [
+        (Op::Find(1), Answer::Found(10)),
+        (Op::Insert(2, 20), Answer::Inserted),
+        (Op::Replace(2, 21), Answer::Replaced(20)),
+        (Op::Delete(1), Answer::Removed(10)),
+        (Op::Find(1), Answer::Absent),
+    ];
+    let mut session = map.session().unwrap();
+    for (op, expected) in cases {
+        match session.begin(op, 0) {
+            Ok(Begun::Ended(ended, answer)) => {
+                assert_eq!(answer, expected, "{op:?}");
+                session = ended;
+            }
+            begun => panic!("{op:?}: {begun:?}"),
+        }
+    }
+    // an insertion has to have 44 rows, and the session has 41
+    let (session, error) = session.begin(Op::Insert(3, 30), 1).unwrap_err();
+    assert_eq!(error, Error::Full);
+    drop(session);
+    assert!(map.close().unwrap().scan(..).eq([(2, 21)].map(Entry::from)));
+}
+
+// Replaces one key by steps, until an operation rests or that many have ended. One that rests is dropped.
+fn drops_one_that_rests(map: &Map, most: u64) -> bool {
+    let mut session = map.session().unwrap();
+    for pointer in 0..most {
+        match session.begin(Op::Replace(1, pointer), 1).unwrap() {
+            Begun::Ended(ended, _) => session = ended,
+            Begun::Resting(unfinished) => {
+                drop(unfinished);
+                return true;
+            }
+        }
+    }
+    false
+}
+
+#[test]
+fn a_map_with_a_dropped_operation_does_not_close() {
+    let index = Index::from_entries(4, &[(1, 10)].map(Entry::from)).unwrap();
+    let map = map_over(&index, 0, 400_000, 4);
+    let dropped = thread::scope(|scope| {
+        let workers = [(); 4].map(|()| scope.spawn(|| drops_one_that_rests(&map, 90_000)));
+        workers.map(|worker| worker.join().unwrap()).contains(&true)
+    });
+    assert_eq!(map.close().err(), dropped.then_some(Error::LostUnderWay));
 }
 
 #[test]

@@ -10,7 +10,7 @@ use blink_live::Pass;
 use std::alloc::{AllocError, Global};
 
 /// Returns the answers of all lanes, each at its operation's place in the batch.
-pub(crate) fn gathered(
+pub(crate) fn answers_by_place(
     alloc: Global,
     cut: &Cut,
     runs: &[LaneRun],

@@ -66,15 +66,15 @@ fn answer_at<R: Wait>(rt: &R, live: &Live, pass: &mut Pass, op: Op) -> Answer
     ensures after { IsPassAfter live.now op pass.old pass.new }
 {
     match op {
-        Op::Find(key) => expected(live.find(pass, key)),
-        Op::Insert(key, pointer) => expected(live.insert(rt, pass, key, pointer)),
-        Op::Delete(key) => expected(live.delete(rt, pass, key)),
-        Op::Replace(key, pointer) => expected(live.replace(rt, pass, key, pointer)),
+        Op::Find(key) => answer_of(live.find(pass, key)),
+        Op::Insert(key, pointer) => answer_of(live.insert(rt, pass, key, pointer)),
+        Op::Delete(key) => answer_of(live.delete(rt, pass, key)),
+        Op::Replace(key, pointer) => answer_of(live.replace(rt, pass, key, pointer)),
     }
 }
 
 // The answer of a call that isn't refused.
-fn expected(given: Result<Answer, PassError>) -> Answer
+fn answer_of(given: Result<Answer, PassError>) -> Answer
     requires { IsOk given }
     ensures { given ≡ Ok result }
 {

@@ -40,7 +40,7 @@ impl Needs {
                 match op {
                     Op::Find(_) => {}
                     Op::Insert(..) => inserts += 1,
-                    _ => deletes += 1,
+                    Op::Delete(_) | Op::Replace(..) => deletes += 1,
                 }
             }
         }

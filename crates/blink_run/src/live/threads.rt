@@ -69,7 +69,7 @@ pub(crate) fn run_all<R: Threads + Wait + Sync, G: Gate + Sync>(
                 worker: 0,
             };
             start_all(scope, rt, gate, first, workers, runs, &mut handles)?;
-            Ok(joined(rt, handles, ended))
+            Ok(join_into(rt, handles, ended))
         },
     )
 }
@@ -134,7 +134,7 @@ fn start<'s, E, R: Threads + Wait + Sync, G: Gate + Sync>(
 }
 
 // Joins the threads, and adds what they return to `all` in the order of the handles.
-fn joined<T: Drop, P: Promise<T>, R: Threads>(
+fn join_into<T: Drop, P: Promise<T>, R: Threads>(
     rt: &R,
     handles: Vec<PromisedHandle<T, P>>,
     mut all: Vec<T>,

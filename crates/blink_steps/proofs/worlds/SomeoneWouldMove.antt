@@ -16,7 +16,7 @@ use Rattle.blink_steps.specs.Pick.{IsFirstMover, WouldMove}
 use Rattle.blink_steps.specs.Run.{PlainRun, busy_seat, idle_seat, machine_of_seat, tree_state_of}
 use Rattle.blink_steps.specs.RunInvariant.{RunInvariant}
 use Rattle.blink_steps.specs.World.{HasEnded}
-use Rattle.blink_steps.proofs.worlds.NeverStuck.{never_stuck}
+use Rattle.blink_machine.proofs.law.NeverStuck.{never_stuck}
 use Rattle.blink_steps.proofs.worlds.WorkersBySeat.{idle_never_waits, one_seat, only_next}
 use Rattle.blink_machine.proofs.tree_state.InvariantStatements.{IsWaiting}
 use Rattle.blink_machine.proofs.tree.TreeLaws.{tree_laws}

@@ -8,4 +8,4 @@ overflow_mul-lines_passed c = omega (arith, c.lines_passed.ensures.passed, place
 pub returns-clause-place : goal.returns-clause-place
 returns-clause-place c =
     let most = place_at_most c.args.key c.args.entries.now in
-    grind (arith, most, c.lines_passed.ensures, c.min-first.ensures, c.passed.ensures, c.passed-2.ensures, c.passed-3.ensures, c.passed-4.ensures)
+    grind (arith, most, c.lines_passed.ensures, c.min-first.ensures, c.one_if_before.ensures, c.one_if_before-2.ensures, c.one_if_before-3.ensures, c.one_if_before-4.ensures)

@@ -38,9 +38,9 @@ loop-above-smaller c =
 
 pub loop-above-preserved : goal.loop-above-preserved
 loop-above-preserved c =
-    let next = subst (λ (es : List (ℕ × ℕ)). NamesFirst c.args.store.now.fan (page_of c.args.store.now) es c.loop-above.below c.in-Some-named.after) (entries c) c.in-Some-named.ensures.named in
+    let next = subst (λ (es : List (ℕ × ℕ)). NamesFirst c.args.store.now.fan (page_of c.args.store.now) es c.loop-above.below c.in-Some-link_after_named.after) (entries c) c.in-Some-link_after_named.ensures.named in
     rw (ap (λ (p : PlainPage). p.right) c.page.view_is)
-    (compared_more c.args.store.now.fan (page_of c.args.store.now) c.args.upper c.args.lower c.in-Some.number c.read-page.result.now c.loop-above.below c.in-Some-named.after (at_link c) c.read-page.ensures.page next)
+    (compared_more c.args.store.now.fan (page_of c.args.store.now) c.args.upper c.args.lower c.in-Some.number c.read-page.result.now c.loop-above.below c.in-Some-link_after_named.after (at_link c) c.read-page.ensures.page next)
 
 pub returns : goal.returns
 returns c =

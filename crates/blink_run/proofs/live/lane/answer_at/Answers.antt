@@ -7,25 +7,25 @@ use Rattle.blink_run.specs.Lanes.{uses_deletion}
 use Rattle.blink_run.proofs.LaneRuns.{not_refused}
 use Rattle.blink_run.proofs.live.lane.answer_at.Goals as goal
 
-pub expected-requires : goal.expected-requires
-expected-requires g c =
+pub answer_of-requires : goal.answer_of-requires
+answer_of-requires g c =
     let its = subst (λ (op : Op). Contains (keys_of c.args.pass.now) (key_of op)) c.in-Find.is c.requires.key in
     not_refused c.find.result (λ is. c.find.ensures.not_yours.0 is its) (λ is. let refusal = c.find.ensures.refused in grind (arith, common_steps))
 
-pub expected-requires-in-Insert : goal.expected-requires-in-Insert
-expected-requires-in-Insert g c =
+pub answer_of-requires-in-Insert : goal.answer_of-requires-in-Insert
+answer_of-requires-in-Insert g c =
     let its = subst (λ (op : Op). Contains (keys_of c.args.pass.now) (key_of op)) c.in-Insert.is c.requires.key in
     let some = subst (λ (op : Op). count_by is_insert (op ∷ []) ≤ inserts_left c.args.pass.now.pages) c.in-Insert.is c.requires.inserts in
     not_refused c.insert.result (λ is. c.insert.ensures.not_yours.0 is its) (λ is. let none = (c.insert.ensures.spent.0 is).1 in omega arith)
 
-pub expected-requires-in-Delete : goal.expected-requires-in-Delete
-expected-requires-in-Delete g c =
+pub answer_of-requires-in-Delete : goal.answer_of-requires-in-Delete
+answer_of-requires-in-Delete g c =
     let its = subst (λ (op : Op). Contains (keys_of c.args.pass.now) (key_of op)) c.in-Delete.is c.requires.key in
     let some = subst (λ (op : Op). count_by uses_deletion (op ∷ []) ≤ deletes_left c.args.pass.now.pages c.args.pass.now.rows) c.in-Delete.is c.requires.deletes in
     not_refused c.delete.result (λ is. c.delete.ensures.not_yours.0 is its) (λ is. let none = (c.delete.ensures.spent.0 is).1 in omega arith)
 
-pub expected-requires-in-Replace : goal.expected-requires-in-Replace
-expected-requires-in-Replace g c =
+pub answer_of-requires-in-Replace : goal.answer_of-requires-in-Replace
+answer_of-requires-in-Replace g c =
     let its = subst (λ (op : Op). Contains (keys_of c.args.pass.now) (key_of op)) c.in-Replace.is c.requires.key in
     let some = subst (λ (op : Op). count_by uses_deletion (op ∷ []) ≤ deletes_left c.args.pass.now.pages c.args.pass.now.rows) c.in-Replace.is c.requires.deletes in
     not_refused c.replace.result (λ is. c.replace.ensures.not_yours.0 is its) (λ is. let none = (c.replace.ensures.spent.0 is).1 in omega arith)

@@ -10,9 +10,9 @@ use Rattle.blink_run.proofs.live.threads.fn.run_all.scope.Goals as goal
 pub returns : goal.returns
 returns g c = record {
   ended = record {
-    as_many = AllZip-long _ _ _ c.joined.ensures ∙ c.in_ok-start_all.ensures.all;
+    as_many = AllZip-long _ _ _ c.join_into.ensures ∙ c.in_ok-start_all.ensures.all;
     each = each_paired (λ handle (run : LaneRun). HasRun handle.promise.live.now (lane_ops handle.promise.batch.now handle.promise.lanes.now handle.promise.worker) run)
-        (λ worker run. HasRun c.captures.live.now (lane_ops c.captures.batch.now c.captures.lanes.now worker) run) c.start_all.new.handles.items c.joined.result.items c.joined.ensures
+        (λ worker run. HasRun c.captures.live.now (lane_ops c.captures.batch.now c.captures.lanes.now worker) run) c.start_all.new.handles.items c.join_into.result.items c.join_into.ensures
         (λ worker handle at run kept. subst (λ (promise : RunsLane). HasRun promise.live.now (lane_ops promise.batch.now promise.lanes.now promise.worker) run) (c.in_ok-start_all.ensures.its_own worker handle at) kept);
   };
   refused = tt;

@@ -1,0 +1,109 @@
+//! The exports that change an index in place by one operation, and that give the entries at its ends.
+ghost use Rattle.std.specs.Prelude.{◌≡◌, ◌≢◌, ◌↔◌, IsSome, IsTrue, IfSome, filter, length};
+ghost use Rattle.blink_batch.specs.declared.Op.TheVariants.{Delete, Insert, Replace};
+ghost use Rattle.blink_index.specs.{first_of, is_above, last_of, map_of};
+ghost use Rattle.blink_page.specs.{ExceedsPageLimit};
+ghost use Rattle.blink_c.specs.Codes.{code_of};
+ghost use Rattle.blink_c.specs.Edits.{HasEdited, TellsEditFault, entry_or};
+ghost use Rattle.blink_c.specs.Runs.{HasPagesFor};
+
+use crate::index_handle::IndexHandle;
+use crate::raw::{RawAnswer, RawEntry};
+use crate::refusal::{DONE, Refusal};
+use blink_batch::{Answer, Entry};
+use blink_index::EditError;
+
+/// Adds a key with its pointer in place, unless the key is present, and gives the answer. A refusal leaves the index and the
+/// answer as they were.
+#[unsafe(no_mangle)]
+pub extern "C" fn blink_index_insert(
+    index: &mut IndexHandle,
+    key: u64,
+    pointer: u64,
+    answer: &mut RawAnswer,
+) -> u8
+    ensures inserted { result ≡ 0
+        → HasEdited index.old.value (Insert key pointer) answer.new index.new.value }
+    ensures few_pages { HasPagesFor 1 index.old.value index.new.value }
+    ensures too_large { result ≡ code_of Refusal.TooLarge
+        ↔ ExceedsPageLimit (length index.old.value.pages) 1 }
+    ensures refused { TellsEditFault result }
+    ensures unchanged { result ≢ 0
+        → (index.new.value ≡ index.old.value) × (answer.new ≡ answer.old) }
+{
+    match index.get().insert(key, pointer) {
+        Ok(given) => {
+            *answer = RawAnswer::of(given);
+            DONE
+        }
+        Err(EditError::TooLarge) => Refusal::TooLarge.code(),
+        Err(EditError::OutOfMemory) => Refusal::OutOfMemory.code(),
+    }
+}
+
+/// Removes a key with its pointer in place, and gives the answer.
+#[unsafe(no_mangle)]
+pub extern "C" fn blink_index_delete(index: &mut IndexHandle, key: u64, answer: &mut RawAnswer)
+    ensures deleted { HasEdited index.old.value (Delete key) answer.new index.new.value }
+{
+    *answer = RawAnswer::of(index.get().delete(key));
+}
+
+/// Replaces the pointer of a key in place, and gives the answer.
+#[unsafe(no_mangle)]
+pub extern "C" fn blink_index_replace(
+    index: &mut IndexHandle,
+    key: u64,
+    pointer: u64,
+    answer: &mut RawAnswer,
+)
+    ensures replaced { HasEdited index.old.value (Replace key pointer) answer.new index.new.value }
+{
+    *answer = RawAnswer::of(index.get().replace(key, pointer));
+}
+
+/// Gives the entry with the least key, if there is one, or leaves `entry` as it was.
+#[unsafe(no_mangle)]
+pub extern "C" fn blink_index_first(index: &mut IndexHandle, entry: &mut RawEntry) -> bool
+    ensures found { IsTrue result ↔ IsSome (first_of (map_of index.old.value)) }
+    ensures entry { entry.new ≡ entry_or (first_of (map_of index.old.value)) entry.old }
+    ensures same { index.new.value ≡ index.old.value }
+{
+    give_entry(index.get().first(), entry)
+}
+
+/// Gives the entry with the greatest key, if there is one, or leaves `entry` as it was.
+#[unsafe(no_mangle)]
+pub extern "C" fn blink_index_last(index: &mut IndexHandle, entry: &mut RawEntry) -> bool
+    ensures found { IsTrue result ↔ IsSome (last_of (map_of index.old.value)) }
+    ensures entry { entry.new ≡ entry_or (last_of (map_of index.old.value)) entry.old }
+    ensures same { index.new.value ≡ index.old.value }
+{
+    give_entry(index.get().last(), entry)
+}
+
+/// Gives the entry with the least key above this one, if there is one, or leaves `entry` as it was.
+#[unsafe(no_mangle)]
+pub extern "C" fn blink_index_next(index: &mut IndexHandle, key: u64, entry: &mut RawEntry) -> bool
+    ensures found { IsTrue result
+        ↔ IsSome (first_of (filter (is_above key) (map_of index.old.value))) }
+    ensures entry { entry.new
+        ≡ entry_or (first_of (filter (is_above key) (map_of index.old.value))) entry.old }
+    ensures same { index.new.value ≡ index.old.value }
+{
+    give_entry(index.get().next(key), entry)
+}
+
+// Gives an entry, if there is one.
+fn give_entry(found: Option<Entry>, entry: &mut RawEntry) -> bool
+    ensures found { IsTrue result ↔ IsSome found }
+    ensures entry { entry.new ≡ entry_or found entry.old }
+{
+    match found {
+        Some(found) => {
+            *entry = RawEntry::of(found);
+            true
+        }
+        None => false,
+    }
+}

@@ -1,0 +1,29 @@
+use Rattle.std.proofs.Common.{◌∙◌, [], ◌∷◌, length, length-append, get_or, slice_get, sym, ap, subst, arith}
+use Rattle.std.proofs.lemmas.Option.{slice_get-get_or}
+use Rattle.blink_operation.specs.declared.Op.TheVariants.{Find}
+use Rattle.blink_store.specs.{PlainStore}
+use Rattle.blink_index.specs.Edit.{IsEditRefusal}
+use Rattle.blink_index.specs.Edit.StopsEdits.{for_next}
+use Rattle.blink_index.proofs.OneOperationMore.{answers-one_more, map_after_all-one_more}
+use Rattle.blink_index.proofs.index.Index.apply_each.Goals as goal
+
+-- one operation more is carried out and answered
+pub loop-op-preserved : goal.loop-op-preserved
+loop-op-preserved c = record {
+  answered = rw (c.push_reserved.ensures.items, c.loop-op.invariant.answered, c.in-Ok.ensures.answer, c.loop-op.invariant.carried_out)
+      (sym (answers-one_more _ c.args.ops.now c.loop-op.op-index (Find 0) c.loop-op-test.true));
+  counted = omega (arith, ap length c.push_reserved.ensures.items, length-append c.loop-op.given.items (c.in-Ok.answer ∷ []), c.loop-op.invariant.counted);
+  room = omega (arith, c.loop-op.invariant.room, c.push_reserved.ensures.capacity);
+  carried_out = rw (c.in-Ok.ensures.map, c.loop-op.invariant.carried_out)
+      (sym (map_after_all-one_more _ c.args.ops.now c.loop-op.op-index (Find 0) c.loop-op-test.true));
+  kept = c.edit.ensures.kept;
+  same_fan = c.edit.ensures.same_fan ∙ c.loop-op.invariant.same_fan;
+}
+
+-- the operation next to those carried out is refused
+pub returns-in-Err-clause-refused : goal.returns-in-Err-clause-refused
+returns-in-Err-clause-refused c =
+    let next = get_or c.args.ops.now c.loop-op.op-index (Find 0) in
+    let there = slice_get-get_or c.args.ops.now c.loop-op.op-index (Find 0) c.loop-op-test.true in
+    for_next next (ap (slice_get c.args.ops.now) c.loop-op.invariant.counted ∙ there)
+    (subst (λ (store : PlainStore). IsEditRefusal store next c.in-Err.refusal) (sym c.in-Err.ensures.unchanged) c.in-Err.ensures.refused)
