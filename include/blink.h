@@ -187,9 +187,9 @@ void blink_index_free(blink_index index);
 /* ---- The table: the index's entries, which threads change together. ----
  *
  * A table deals passes. A pass has some keys, which no other pass has, and room for some changes. Its thread finds, inserts,
- * deletes and replaces its own keys, with the answers of its own plain map, and glances at all keys. A pass hands keys to another,
- * or goes back, and then its keys can be dealt again. In the end every pass goes back, every handle of a pass is freed, and the
- * table is closed to an index.
+ * deletes and replaces its own keys, with the answers of its own plain map, and glances at all keys and scans ranges of them. A
+ * pass hands keys to another, or goes back, and then its keys can be dealt again. In the end every pass goes back, every handle of
+ * a pass is freed, and the table is closed to an index.
  */
 
 /* Opens a table over the index, which stays as it is, with room for so many insertions and deletions; a replacement uses a
@@ -262,11 +262,11 @@ void blink_pass_free(blink_pass pass);
 
 /* ---- The map: the index's entries, which threads change together at any key. ----
  *
- * A thread joins a map, and has a session then. By its session it finds, inserts, deletes, replaces and puts any key. There is one
- * list of changes of all keys. Each call answers as on the entries after a part of the list, which goes on from all that the session
- * had seen; a change of its own follows there at once, and then the session has seen both. A session never un-sees a change that it has
- * seen. Tested: a call sees every change of a call that ended before it began. In the end every handle of a session is freed, and
- * the map is closed to an index.
+ * A thread joins a map, and has a session then. By its session it finds, inserts, deletes, replaces and puts any key, and scans
+ * ranges. There is one list of changes of all keys. Each call answers as on the entries after a part of the list, which goes on from
+ * all that the session had seen; a change of its own follows there at once, and then the session has seen both. A session never un-
+ * sees a change that it has seen. Tested: a call sees every change of a call that ended before it began. In the end every handle of
+ * a session is freed, and the map is closed to an index.
  *
  * Only blink_map_open, blink_map_share, blink_map_join and blink_map_close take memory. Of one map's calls these and blink_map_room
  * use a handle of the map; those of sessions don't.

@@ -73,7 +73,7 @@ output_of() {
 jobs_of() {
     case $1 in
     blink_c) echo "$processors" ;;
-    blink_live | blink_machine | blink_page | blink_run) echo $(((processors + 1) / 2)) ;;
+    blink_index | blink_live | blink_machine | blink_page | blink_run) echo $(((processors + 1) / 2)) ;;
     *) echo 1 ;;
     esac
 }

@@ -1,7 +1,6 @@
-use Rattle.std.proofs.Common.{◌≡◌, ◌<◌, ◌≤◌, ◌+◌, ◌-◌, ℕ, Option, List, inl, length, refl, sym, ap, ◌∙◌, subst, arith, take}
+use Rattle.std.proofs.Common.{◌≡◌, ◌+◌, ◌-◌, ℕ, Option, inl, length, ap, ◌∙◌, subst, arith, take}
 use Rattle.std.specs.Prelude.{IfSome}
 use Rattle.std.specs.List.{AllByRecursion}
-use Rattle.blink_batch.specs.declared.Entry.{Entry}
 use Rattle.blink_live.specs.{StoppedFull, share_of, stop_of}
 use Rattle.blink_live.specs.Scanning.{IsBetween}
 use Rattle.blink_client.specs.Counted.{present}
