@@ -33,6 +33,7 @@ pub use Rattle.blink_live.specs.Views.{span}
 pub mod Handles
 pub mod Changes
 pub mod Accounts
+pub mod Reuse
 pub mod Allowed
 pub mod Deals
 pub mod Merge

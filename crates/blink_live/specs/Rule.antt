@@ -23,6 +23,7 @@ use Rattle.blink_live.specs.declared.view.Share.{Share}
 use Rattle.blink_live.specs.declared.view.View.{View}
 use Rattle.blink_live.specs.Changes.{after, states_of}
 use Rattle.blink_live.specs.Accounts.{AreAccounts}
+use Rattle.blink_live.specs.Reuse.{IsReuseSafe}
 use Rattle.blink_live.specs.Views.{IsCommon, IsOwned, latch_number_by, span}
 use Rattle.blink_live.specs.Words.{word_count, place_word, pool_page, pool_row, IsRowNumber, RowIs}
 
@@ -199,6 +200,8 @@ pub record IsTableAt (plan : Plan) (s : State ℕ View) (tree_state : TreeState)
   pub pool : IsCommon plan → HasPool plan owners s.words tree_state
   -- and each change is in the account of a place
   pub accounted : IsCommon plan → AreAccounts plan owners.place log s.views
+  -- and a row that a session has taken out is read by nobody who begins later
+  pub reuse : IsCommon plan → IsReuseSafe plan owners.row s.words s.views
   -- the seats
   pub views : (seat : ℕ) (v : View) → get_elem? s.views seat ≡ some v → Knows plan owners s.words tree_state log seat v
   pub others_idle : (seat : ℕ) → length s.views ≤ seat → tree_state.machines seat ≡ None

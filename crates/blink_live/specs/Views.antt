@@ -18,6 +18,7 @@ use Rattle.blink_live.specs.declared.view.Plan.{Plan}
 use Rattle.blink_live.specs.declared.view.Role.{Role}
 use Rattle.blink_live.specs.declared.view.Role.TheVariants.{Keeper, Pass, Spent}
 use Rattle.blink_live.specs.declared.view.Share.{Share}
+use Rattle.blink_live.specs.declared.view.Stock.{Stock}
 use Rattle.blink_live.specs.declared.view.View.{View}
 use Rattle.blink_live.specs.Changes.{after, entries_after, states_of, changes_made}
 
@@ -42,6 +43,10 @@ no_words = replicate ROW_WORDS 0
 abbrev pub no_call : Call
 no_call = record { rows = span 1 1; pages = span 1 1; staged = no_words }
 
+-- the stock of a seat that has taken out no row
+abbrev pub no_stock : Stock
+no_stock = record { free = []; retired = []; waiting = []; before = []; passed = 0 }
+
 -- a seat without an operation that has seen nothing
 abbrev pub seat_for : Plan → Role → Span → Span → Share → View
 seat_for plan role rows pages share = record {
@@ -51,6 +56,7 @@ seat_for plan role rows pages share = record {
   pages = pages;
   place = 0;
   busy = 0;
+  stock = no_stock;
   call = no_call;
   share = share;
   taken = [];
@@ -165,9 +171,9 @@ has_rows v rows = record v { rows = rows; call = no_call }
 abbrev pub has_pages : View → Span → View
 has_pages v pages = record v { pages = pages; call = no_call }
 
--- the place's word is this now
+-- the place's word is this now, and the seat reads no row
 abbrev pub is_busy : View → ℕ → View
-is_busy v busy = record v { busy = busy }
+is_busy v busy = record v { busy = busy; reads = None }
 
 -- the call has staged these words of its first row
 abbrev pub is_staged : View → List ℕ → View
@@ -189,14 +195,19 @@ changed_by author op share = record {
   changes = share.changes ++ changes_made author op (pointer_of share.entries (key_of op));
 }
 
+-- one more row is taken out
+abbrev pub takes_out : ℕ → Stock → Stock
+takes_out row stock = record stock { retired = row ∷ stock.retired }
+
 -- the seat has published that row, its call may still use these page numbers, and its operation is `after` now
-abbrev pub publishes : View → PlainMachine → ℕ → Span → Share → List Change → View
-publishes v after way pages share seen = record v {
+abbrev pub publishes : View → PlainMachine → ℕ → Span → Share → List Change → Stock → View
+publishes v after way pages share seen stock = record v {
   call = record { rows = span (suc v.call.rows.next) v.call.rows.stop; pages = pages; staged = no_words };
   operation = goes_on after after.state;
   descent_bound = way;
   share = share;
   seen = seen;
+  stock = stock;
 }
 
 -- ---- deals

@@ -191,9 +191,15 @@ impl Live {
         }
     }
 
-    // Replaces the page of this number by the operation's version. The version stands in the first row of the call, which the
-    // page word names from then on.
-    fn write_page(&self, seat: &mut Seat<u8, View>, machine: &mut Machine, number: u32, row: u64)
+    // Replaces the page of this number by the operation's version, and returns the row of the version before. The new version
+    // stands in the first row of the call, which the page word names from then on.
+    fn write_page(
+        &self,
+        seat: &mut Seat<u8, View>,
+        machine: &mut Machine,
+        number: u32,
+        row: u64,
+    ) -> u64
         requires seat { IsPassSeat self.now seat.old.table_id seat.old.me }
         requires at { seat.old.me.0.operation ≡ Some machine.old }
         requires fits { FitsWords machine.old.op }
@@ -204,12 +210,12 @@ impl Live {
         requires may { MayChange seat.old.me.0 (key_of machine.old.op) }
         ensures same { HasSameNumber seat.old seat.new }
         ensures machine { machine.new ≡ done machine.old 0 }
-        ensures published { PublishesPage number machine.old seat.old.me seat.new.me }
+        ensures published { PublishesPage number result machine.old seat.old.me seat.new.me }
     {
         let page = machine.page_out(0);
         let words = page_row(&page);
         self.stage_row(seat, row, &words);
-        self.publish(seat, machine, number, row);
+        self.publish(seat, machine, number, row)
     }
 
     // Writes the operation's new page at this number, the first of the call's page numbers. It stands in the call's first row.
@@ -233,8 +239,8 @@ impl Live {
         self.publish_new(seat, machine, number, row);
     }
 
-    // Writes the prime block with the operation's new root, in the call's first row.
-    fn write_prime(&self, seat: &mut Seat<u8, View>, machine: &mut Machine, row: u64)
+    // Writes the prime block with the operation's new root, in the call's first row, and returns the row that it had before.
+    fn write_prime(&self, seat: &mut Seat<u8, View>, machine: &mut Machine, row: u64) -> u64
         requires seat { IsPassSeat self.now seat.old.table_id seat.old.me }
         requires at { seat.old.me.0.operation ≡ Some machine.old }
         requires fits { FitsWords machine.old.op }
@@ -244,12 +250,12 @@ impl Live {
         requires may { MayChange seat.old.me.0 (key_of machine.old.op) }
         ensures same { HasSameNumber seat.old seat.new }
         ensures machine { machine.new ≡ done machine.old 0 }
-        ensures published { PublishesPrime machine.old seat.old.me seat.new.me }
+        ensures published { PublishesPrime result machine.old seat.old.me seat.new.me }
     {
         let prime = machine.prime_out();
         let words = prime_row(&prime);
         self.stage_row(seat, row, &words);
-        self.publish_prime(seat, machine, row);
+        self.publish_prime(seat, machine, row)
     }
 
     // Stores the row's words that aren't 0, in ascending order. An unpublished row is all 0 before.
@@ -342,8 +348,14 @@ impl Live {
             .store::<StoreWord>(seat, start + place, word);
     }
 
-    // Names the row in the page word. From then on the row holds the page's version.
-    fn publish(&self, seat: &mut Seat<u8, View>, machine: &mut Machine, number: u32, row: u64)
+    // Names the row in the page word, and returns the row that it named before. From then on the row holds the page's version.
+    fn publish(
+        &self,
+        seat: &mut Seat<u8, View>,
+        machine: &mut Machine,
+        number: u32,
+        row: u64,
+    ) -> u64
         requires seat { IsPassSeat self.now seat.old.table_id seat.old.me }
         requires at { seat.old.me.0.operation ≡ Some machine.old }
         requires fits { FitsWords machine.old.op }
@@ -354,12 +366,14 @@ impl Live {
         requires may { MayChange seat.old.me.0 (key_of machine.old.op) }
         ensures same { HasSameNumber seat.old seat.new }
         ensures machine { machine.new ≡ done machine.old 0 }
-        ensures published { PublishesPage number machine.old seat.old.me seat.new.me }
+        ensures published { PublishesPage number result machine.old seat.old.me seat.new.me }
     {
-        self.table
+        let out = self
+            .table
             .shared
-            .store::<Publish>(seat, number as usize, row);
+            .swap::<Publish>(seat, number as usize, row);
         machine.done(0);
+        out
     }
 
     // Names the row in the page word of a new page. The page's number is the first that the seat's call may use.
@@ -383,8 +397,8 @@ impl Live {
         machine.done(number);
     }
 
-    // Names the row in the prime block's page word.
-    fn publish_prime(&self, seat: &mut Seat<u8, View>, machine: &mut Machine, row: u64)
+    // Names the row in the prime block's page word, and returns the row that it named before.
+    fn publish_prime(&self, seat: &mut Seat<u8, View>, machine: &mut Machine, row: u64) -> u64
         requires seat { IsPassSeat self.now seat.old.table_id seat.old.me }
         requires at { seat.old.me.0.operation ≡ Some machine.old }
         requires fits { FitsWords machine.old.op }
@@ -395,10 +409,11 @@ impl Live {
         requires may { MayChange seat.old.me.0 (key_of machine.old.op) }
         ensures same { HasSameNumber seat.old seat.new }
         ensures machine { machine.new ≡ done machine.old 0 }
-        ensures published { PublishesPrime machine.old seat.old.me seat.new.me }
+        ensures published { PublishesPrime result machine.old seat.old.me seat.new.me }
     {
-        self.table.shared.store::<PublishPrime>(seat, 0, row);
+        let out = self.table.shared.swap::<PublishPrime>(seat, 0, row);
         machine.done(0);
+        out
     }
 }
 

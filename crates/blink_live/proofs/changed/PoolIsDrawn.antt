@@ -12,11 +12,13 @@ use Rattle.blink_live.specs.declared.view.Plan.{Plan}
 use Rattle.blink_live.specs.declared.view.Role.TheVariants.{Keeper, Pass}
 use Rattle.blink_live.specs.declared.view.View.{View}
 use Rattle.blink_live.specs.AtomicSteps.{draws_pages, draws_rows}
+use Rattle.blink_live.specs.Reuse.{IsReuseSafe}
 use Rattle.blink_live.specs.Accounts.{AreAccounts}
 use Rattle.blink_live.specs.Rule.{latch_word, HasNumbers, HasRows, Owners, PageWordIs, IsInRole, Knows, IsTableAt, IsTable}
 use Rattle.blink_live.specs.Views.{IsCommon, SeatState, has_pages, has_rows, latch_in, span}
 use Rattle.blink_live.specs.Words.{place_word, pool_page, pool_row, row_start, word_count}
 use Rattle.blink_live.proofs.table.CallsOfSeats.{nothing_for_call}
+use Rattle.blink_live.proofs.reuse.ReuseStaysSafe.{reuse_stays, same_reads}
 use Rattle.blink_live.proofs.table.AccountsStay.{accounts_stay}
 use Rattle.blink_live.proofs.table.OthersKnowTheSame.{LeavesOthers, RowStays, page_word_still, reads_still, row_is_still}
 use Rattle.blink_live.proofs.table.OwnersInRange.{ranged, ranged_in, ranged_out}
@@ -61,7 +63,7 @@ module _ (plan : Plan) (s : State ℕ View) (tree_state : TreeState) (h : IsTabl
 
     -- the seat's new view, and the owners: the pool alone has other rows or page numbers
     module _ (owners : Owners) (w : View) (leaves : LeavesOthers plan s tree_state tree_state h id words owners h.log) (same_latch : owners.latch_number ≡ h.owners.latch_number) (same_role : w.role ≡ v.role) (same_plan : w.plan ≡ v.plan)
-        (accounted : AreAccounts plan owners.place h.log (set s.views id w)) (knows : Knows plan owners words tree_state h.log id w) where
+        (accounted : AreAccounts plan owners.place h.log (set s.views id w)) (reuse : IsReuseSafe plan owners.row words (set s.views id w)) (knows : Knows plan owners words tree_state h.log id w) where
       draw_keeps : IsTable plan record { words = words; homes = s.homes; views = set s.views id w }
       draw_keeps = store_keeps plan s tree_state tree_state h id (word_count plan.counts + n) new kept.0 v w at owners h.log h.now leaves record {
         same_fan = refl;
@@ -76,7 +78,7 @@ module _ (plan : Plan) (s : State ℕ View) (tree_state : TreeState) (h : IsTabl
         holders = λ number seat holds. subst (λ (f : ℕ → ℕ). 1 ≤ f seat) (sym same_latch) (h.holders number seat holds);
         is_map = h.is_map;
         kept = h.kept;
-      } same_role same_plan (λ is_common. accounted) knows
+      } same_role same_plan (λ is_common. accounted) (λ is_common. reuse) knows
 
   -- ---- rows
 
@@ -141,7 +143,9 @@ module _ (plan : Plan) (s : State ℕ View) (tree_state : TreeState) (h : IsTabl
     }
 
     rows_drawn : IsTable plan record { words = words 1 (omega arith) (omega arith); homes = s.homes; views = set s.views id (has_rows v (span old new)) }
-    rows_drawn = draw_keeps 1 (omega arith) (omega arith) row_owners (has_rows v (span old new)) rows_leave refl refl refl (accounts_stay plan h.owners.place h.log s.views id v (has_rows v (span old new)) at (h.accounted common) refl ((h.accounted common).saw_own id v at)) rows_knows
+    rows_drawn = draw_keeps 1 (omega arith) (omega arith) row_owners (has_rows v (span old new)) rows_leave refl refl refl (accounts_stay plan h.owners.place h.log s.views id v (has_rows v (span old new)) at (h.accounted common) refl ((h.accounted common).saw_own id v at))
+        (reuse_stays plan h.owners.row s.words s.views id v (has_rows v (span old new)) at (h.reuse common) row_owners.row (words 1 (omega arith) (omega arith)) (λ row is. row_else row (λ e. let one : 0 ≡ suc 0 = sym is ∙ e in omega (arith, one)) ∙ is)
+        (λ n few. before 1 (omega arith) (omega arith) n (omega (arith, few))) refl (same_reads plan h.owners.row s.words s.views id v (has_rows v (span old new)) at (h.reuse common) refl refl refl refl)) rows_knows
 
   -- ---- page numbers
 
@@ -208,7 +212,9 @@ module _ (plan : Plan) (s : State ℕ View) (tree_state : TreeState) (h : IsTabl
     }
 
     pages_drawn : IsTable plan record { words = words 2 (omega arith) (omega arith); homes = s.homes; views = set s.views id (has_pages v (span old new)) }
-    pages_drawn = draw_keeps 2 (omega arith) (omega arith) page_owners (has_pages v (span old new)) pages_leave refl refl refl (accounts_stay plan h.owners.place h.log s.views id v (has_pages v (span old new)) at (h.accounted common) refl ((h.accounted common).saw_own id v at)) pages_knows
+    pages_drawn = draw_keeps 2 (omega arith) (omega arith) page_owners (has_pages v (span old new)) pages_leave refl refl refl (accounts_stay plan h.owners.place h.log s.views id v (has_pages v (span old new)) at (h.accounted common) refl ((h.accounted common).saw_own id v at))
+        (reuse_stays plan h.owners.row s.words s.views id v (has_pages v (span old new)) at (h.reuse common) page_owners.row (words 2 (omega arith) (omega arith)) (λ row is. is)
+        (λ n few. before 2 (omega arith) (omega arith) n (omega (arith, few))) refl (same_reads plan h.owners.row s.words s.views id v (has_pages v (span old new)) at (h.reuse common) refl refl refl refl)) pages_knows
 
 -- ---- the steps
 

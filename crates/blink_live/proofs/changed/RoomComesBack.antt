@@ -18,6 +18,7 @@ use Rattle.blink_live.specs.Rule.{HasRows, HasNumbers, IsInRole, Knows, IsTable,
 use Rattle.blink_live.specs.Views.{SeatState, span}
 use Rattle.blink_live.specs.Words.{RowIs}
 use Rattle.blink_live.proofs.table.CallsOfSeats.{nothing_for_call}
+use Rattle.blink_live.proofs.reuse.ReuseStaysSafe.{reuse_stays, same_reads}
 use Rattle.blink_live.proofs.table.LoadsKeepTable.{moved, load_keeps_with}
 use Rattle.blink_live.proofs.table.MapsWithOneChange.{put_here, put_same}
 
@@ -92,7 +93,8 @@ module _ (plan : Plan) (some_number : 1 ≤ plan.counts.numbers) (s : State ℕ 
         same_holder = λ number. refl;
         same_machines = put_same tree_state.machines id v.operation known.operation;
       }) h.invariant in
-      load_keeps_with plan s tree_state h id 0 v (gives_back v) at still refl refl refl (λ common. (h.accounted common).saw_own id v at) knows
+      load_keeps_with plan s tree_state h id 0 v (gives_back v) at still refl refl refl (λ common. (h.accounted common).saw_own id v at)
+      (λ common. reuse_stays plan h.owners.row s.words s.views id v (gives_back v) at (h.reuse common) h.owners.row s.words (λ row is. is) (λ n few. refl) refl (same_reads plan h.owners.row s.words s.views id v (gives_back v) at (h.reuse common) refl refl refl refl)) knows
 
 pub room_comes_back : (plan : Plan) (slots id : ℕ) (me : SeatState) → 1 ≤ plan.counts.numbers → me.0.role ≡ Pass → CanGiveBack me.0
     → Allows (IsTable plan) slots id me 0 (λ k. k) (giving_back (step slots 0 0 0 none) me)

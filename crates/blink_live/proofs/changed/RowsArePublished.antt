@@ -25,9 +25,11 @@ use Rattle.blink_live.specs.declared.view.Change.{Change}
 use Rattle.blink_live.specs.declared.view.Plan.{Plan}
 use Rattle.blink_live.specs.declared.view.Role.TheVariants.{Keeper, Pass}
 use Rattle.blink_live.specs.declared.view.Share.{Share}
+use Rattle.blink_live.specs.declared.view.Stock.{Stock}
 use Rattle.blink_live.specs.declared.view.View.{View}
 use Rattle.blink_live.specs.Changes.{put, after, states_of}
 use Rattle.blink_live.specs.Accounts.{AreAccounts}
+use Rattle.blink_live.specs.Reuse.{IsReuseSafe}
 use Rattle.blink_live.specs.Rule.{Owners, IsPublished, PageWordIs, latch_word, HasRows, HasNumbers, IsShare, IsInRole, IsBoundedWay, Knows, IsTableAt, IsTable}
 use Rattle.blink_live.specs.Views.{IsCommon, IsOwned, span, publishes}
 use Rattle.blink_live.specs.Words.{place_word, word_count, RowIs}
@@ -52,7 +54,7 @@ ways_stay tree_state new seat m invariant stay under = go m.state refl
 abbrev pub gives_row : Owners → ℕ → Owners
 gives_row owners row = record owners { row = put owners.row row 0 }
 
-module _ (plan : Plan) (s : State ℕ View) (tree_state then : TreeState) (h : IsTableAt plan s tree_state) (id number way : ℕ) (v : View) (after_it : PlainMachine) (content : List ℕ) (pages : Span) (at : get_elem? s.views id ≡ some v) (role : v.role ≡ Pass) where
+module _ (plan : Plan) (s : State ℕ View) (tree_state then : TreeState) (h : IsTableAt plan s tree_state) (id number way : ℕ) (v : View) (after_it : PlainMachine) (content : List ℕ) (pages : Span) (stock : Stock) (at : get_elem? s.views id ≡ some v) (role : v.role ≡ Pass) where
   -- the tree's step: what the row holds is the page of this number now, or for number 0 the prime block, and else all is as it was
   pub record IsStepOfTree : Type 0 where
     pub same_fan : then.fan ≡ tree_state.fan
@@ -83,7 +85,7 @@ module _ (plan : Plan) (s : State ℕ View) (tree_state then : TreeState) (h : I
     new = gives_row h.owners v.call.rows.next
 
     abbrev pub w : View
-    w = publishes v after_it way pages share log
+    w = publishes v after_it way pages share log stock
 
     known : Knows plan h.owners s.words tree_state h.log id v
     known = h.views id v at
@@ -114,7 +116,7 @@ module _ (plan : Plan) (s : State ℕ View) (tree_state then : TreeState) (h : I
       pub kept_now : (key : ℕ) → pointer_of now key ≡ after (pointer_of plan.opening) log key
       pub its_account : (share.changes ≡ v.share.changes ++ made) × AreBy v.place made
 
-    module _ (own : ChangesOwn) (bounded : IsBoundedWay then w) where
+    module _ (own : ChangesOwn) (bounded : IsBoundedWay then w) (reuse : IsCommon plan → IsReuseSafe plan new.row words (set s.views id w)) where
       leaves : LeavesOthers plan s tree_state then h id words new log
       leaves = record {
         machines = step.others;
@@ -238,4 +240,4 @@ module _ (plan : Plan) (s : State ℕ View) (tree_state then : TreeState) (h : I
           accounts_grow plan h.owners.place h.log s.views id v w at (h.accounted common) made role placed.own placed.in_range own.its_account.1 refl refl own.its_account.0 refl
 
       pub publish_keeps : IsTable plan record { words = words; homes = s.homes; views = set s.views id w }
-      publish_keeps = store_keeps plan s tree_state then h id number v.call.rows.next kept.0 v w at new log now leaves stored refl refl accounted knows
+      publish_keeps = store_keeps plan s tree_state then h id number v.call.rows.next kept.0 v w at new log now leaves stored refl refl accounted reuse knows

@@ -17,6 +17,7 @@ use Rattle.blink_live.specs.Rule.{PageWordIs, HasRows, IsInRole, Knows, IsTableA
 use Rattle.blink_live.specs.Views.{SeatState, span, stage_word}
 use Rattle.blink_live.specs.Words.{row_start, RowIs, place_word, word_count}
 use Rattle.blink_live.proofs.table.PoolStays.{pool_stays}
+use Rattle.blink_live.proofs.reuse.ReuseStaysSafe.{reuse_stays, same_reads}
 use Rattle.blink_live.proofs.table.AccountsStay.{accounts_stay}
 use Rattle.blink_live.proofs.table.OthersKnowTheSame.{LeavesOthers, RowStays, row_is_still, page_word_still, reads_still}
 use Rattle.blink_live.proofs.table.StoresKeepTable.{prime_still, store_keeps}
@@ -133,7 +134,8 @@ module _ (plan : Plan) (s : State ℕ View) (tree_state : TreeState) (h : IsTabl
     holders = h.holders;
     is_map = h.is_map;
     kept = h.kept;
-  } refl refl (λ common. accounts_stay plan h.owners.place h.log s.views id v w at (h.accounted common) refl ((h.accounted common).saw_own id v at)) knows
+  } refl refl (λ common. accounts_stay plan h.owners.place h.log s.views id v w at (h.accounted common) refl ((h.accounted common).saw_own id v at))
+      (λ common. reuse_stays plan h.owners.row s.words s.views id v w at (h.reuse common) h.owners.row words (λ r is. is) (λ n few. before_rows n (omega (arith, few))) refl (same_reads plan h.owners.row s.words s.views id v w at (h.reuse common) refl refl refl refl)) knows
 
 pub word_is_staged : (plan : Plan) (slots id i x : ℕ) (me : SeatState) → me.0.role ≡ Pass → me.0.call.rows.next < me.0.call.rows.stop → i < ROW_WORDS → 1 ≤ plan.counts.numbers
     → Allows (IsTable plan) slots id me (row_start plan.counts me.0.call.rows.next + i) (λ n. x) (λ n. stores_word (step slots (row_start plan.counts me.0.call.rows.next + i) x 0 none) me x)

@@ -20,12 +20,13 @@ use Rattle.blink_live.specs.declared.room.Room.{Room}
 use Rattle.blink_live.specs.declared.view.Call.{Call}
 use Rattle.blink_live.specs.declared.view.Plan.{Plan}
 use Rattle.blink_live.specs.declared.view.Share.{Share}
+use Rattle.blink_live.specs.declared.view.Stock.{Stock}
 use Rattle.blink_live.specs.declared.view.View.{View}
 use Rattle.blink_live.specs.AtomicSteps.{AnswersInOrder, CanGoOn, Decided, deciding, other, state_after, GoesOn, LoadsPage, LoadsPrime, Publishes, PublishesNew, PublishesPage, PublishesPrime}
 use Rattle.blink_live.specs.Changes.{changes_made}
 use Rattle.blink_live.specs.Seats.{HasSameNumber, IsFirst, IsPassSeat}
 use Rattle.blink_live.specs.Updating.{SameBesideCall, HasDecided, not_yet, decided, HasLeft, IsUpdating, HasEnded, IsUnderWay}
-use Rattle.blink_live.specs.Views.{IsCommon, MayChange, SeatState, changed_by, for_call, latch_number_by, no_words, pages_of, rows_of, span}
+use Rattle.blink_live.specs.Views.{IsCommon, MayChange, SeatState, changed_by, for_call, latch_number_by, no_words, pages_of, rows_of, span, takes_out}
 use Rattle.blink_live.specs.Words.{IsRowNumber}
 use Rattle.blink_live.proofs.told.PrefixesOfOneList.{prefix_of_prefix}
 use Rattle.blink_live.proofs.changed.StepsOfUpdates.{Takes, latch_answers, unlatch_answers, goes_on_takes, page_takes, prime_takes, publish_takes}
@@ -34,7 +35,7 @@ use Rattle.blink_live.proofs.changed.StepsOfUpdates.{Takes, latch_answers, unlat
 
 same_call_trans : (u v w : View) → SameBesideCall u v → SameBesideCall v w → SameBesideCall u w
 same_call_trans u v w first second =
-    second ∙ ap (λ (x : View). record x { operation = w.operation; descent_bound = w.descent_bound; reads = w.reads; seen = w.seen; share = w.share; call = w.call }) first
+    second ∙ ap (λ (x : View). record x { operation = w.operation; descent_bound = w.descent_bound; reads = w.reads; seen = w.seen; share = w.share; call = w.call; stock = w.stock }) first
 
 -- it has decided once
 module _ (op : Op) (first now then : View) (m after : PlainMachine) (same : m.op ≡ op) (same_plan : now.plan ≡ first.plan) (same_place : now.place ≡ first.place) (saw : IsPrefix first.seen now.seen) where
@@ -292,31 +293,31 @@ module _ {live : Live} {op : Op} {first seat : Seat ℕ View} {m : PlainMachine}
         }
 
     -- which uses a row
-    after_write : (kind : Kind) (pages : Span) (new : ℕ) (then : Room) → after ≡ done m new → Publishes kind pages m (done m new) seat.me next.me
+    after_write : (kind : Kind) (pages : Span) (stock : Stock) (new : ℕ) (then : Room) → after ≡ done m new → Publishes kind pages stock m (done m new) seat.me next.me
         → suc (writes_left (done m new) + primes_left (done m new)) ≤ writes_left m + primes_left m → (pages.stop ≡ seat.me.0.call.pages.stop) × (seat.me.0.call.pages.next ≤ pages.next)
         → pages.next + numbers_left (done m new) ≤ pages.stop → (then.rows ≡ span (suc seat.me.0.call.rows.next) seat.me.0.call.rows.stop) × (then.pages ≡ pages) → then.latch_number ≡ room.latch_number → IsUnderWay live op first next after then
-    after_write kind pages new then is_done does writes later numbers same_room same_latch =
+    after_write kind pages stock new then is_done does writes later numbers same_room same_latch =
         let call : next.me.0.call ≡ record { rows = span (suc seat.me.0.call.rows.next) seat.me.0.call.rows.stop; pages = pages; staged = no_words } = ap (λ (x : SeatState). x.0.call) does.is in
         turned then
-        (subst (λ (k : PlainMachine). Takes m k seat.me next.me) (sym is_done) (publish_takes kind pages m new seat.me next.me is.updating.past_descent does))
+        (subst (λ (k : PlainMachine). Takes m k seat.me next.me) (sym is_done) (publish_takes kind pages stock m new seat.me next.me is.updating.past_descent does))
         (subst (λ (k : PlainMachine). HasLeft begun.0.call next.me.0.call k) (sym is_done) (row_is_used begun.0.call seat.me.0.call next.me.0.call pages m (done m new) is.updating.left call writes later numbers))
         (same_room.0 ∙ sym (ap (λ (c : Call). c.rows) call), same_room.1 ∙ sym (ap (λ (c : Call). c.pages) call)) same_latch
 
-    pub after_write_page : (number : ℕ) → after ≡ done m 0 → PublishesPage number m seat.me next.me → IsUnderWay live op first next after (without_row room)
-    after_write_page number is_done does =
+    pub after_write_page : (number out : ℕ) → after ≡ done m 0 → PublishesPage number out m seat.me next.me → IsUnderWay live op first next after (without_row room)
+    after_write_page number out is_done does =
         let pages = does.uses.numbers in
         let writes = does.uses.page_writes in
         let primes = does.uses.prime_writes in
         let left = is.updating.left.pages in
-        after_write (write_page number) seat.me.0.call.pages 0 (without_row room) is_done does (omega (arith, writes, primes)) (refl, omega arith) (omega (arith, pages, left)) (one_less room.rows seat.me.0.call.rows is.room_is.0, is.room_is.1) refl
+        after_write (write_page number) seat.me.0.call.pages (takes_out out seat.me.0.stock) 0 (without_row room) is_done does (omega (arith, writes, primes)) (refl, omega arith) (omega (arith, pages, left)) (one_less room.rows seat.me.0.call.rows is.room_is.0, is.room_is.1) refl
 
-    pub after_write_prime : after ≡ done m 0 → PublishesPrime m seat.me next.me → IsUnderWay live op first next after (without_row room)
-    after_write_prime is_done does =
+    pub after_write_prime : (out : ℕ) → after ≡ done m 0 → PublishesPrime out m seat.me next.me → IsUnderWay live op first next after (without_row room)
+    after_write_prime out is_done does =
         let pages = does.uses.numbers in
         let writes = does.uses.page_writes in
         let primes = does.uses.prime_writes in
         let left = is.updating.left.pages in
-        after_write write_prime seat.me.0.call.pages 0 (without_row room) is_done does (omega (arith, writes, primes)) (refl, omega arith) (omega (arith, pages, left)) (one_less room.rows seat.me.0.call.rows is.room_is.0, is.room_is.1) refl
+        after_write write_prime seat.me.0.call.pages (takes_out out seat.me.0.stock) 0 (without_row room) is_done does (omega (arith, writes, primes)) (refl, omega arith) (omega (arith, pages, left)) (one_less room.rows seat.me.0.call.rows is.room_is.0, is.room_is.1) refl
 
     pub after_write_new : NeedsNew m → after ≡ done m room.pages.next → PublishesNew m seat.me next.me → IsUnderWay live op first next after (without_number (without_row room))
     after_write_new needs is_done does =
@@ -325,7 +326,7 @@ module _ {live : Live} {op : Op} {first seat : Seat ℕ View} {m : PlainMachine}
         let primes = does.uses.prime_writes in
         let left = is.updating.left.pages in
         let numbers = new_uses_number m (done m seat.me.0.call.pages.next) (write_page seat.me.0.call.pages.next) needs does.uses in
-        after_write (write_page seat.me.0.call.pages.next) (span (suc seat.me.0.call.pages.next) seat.me.0.call.pages.stop) seat.me.0.call.pages.next (without_number (without_row room)) (is_done ∙ ap (done m) at) does
+        after_write (write_page seat.me.0.call.pages.next) (span (suc seat.me.0.call.pages.next) seat.me.0.call.pages.stop) seat.me.0.stock seat.me.0.call.pages.next (without_number (without_row room)) (is_done ∙ ap (done m) at) does
         (omega (arith, writes, primes)) (refl, omega arith) (omega (arith, numbers, left)) (one_less room.rows seat.me.0.call.rows is.room_is.0, one_less room.pages seat.me.0.call.pages is.room_is.1) refl
 
 -- ---- its end

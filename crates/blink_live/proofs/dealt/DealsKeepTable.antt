@@ -14,6 +14,7 @@ use Rattle.blink_live.specs.declared.view.Role.TheVariants.{Keeper, Pass}
 use Rattle.blink_live.specs.declared.view.View.{View}
 use Rattle.blink_live.specs.Changes.{put, after, entries_after, states_of}
 use Rattle.blink_live.specs.Dealing.{CanDeal}
+use Rattle.blink_live.specs.Reuse.{IsReuseSafe}
 use Rattle.blink_live.specs.Accounts.{IsAccount, AreAccounts, made_at, account_of, accounts_in, accounts_of}
 use Rattle.blink_live.specs.Rule.{HasPool, Owners, IsFree, IsShare, IsInRole, Knows, pass_count, passes_in, AreCounted, IsTableAt, IsTable}
 use Rattle.blink_live.specs.Views.{is_among, changes_of, share_of_keys, deals_one, dealt_in, keeps_rest, gets_first, latch_in, IsCommon}
@@ -22,6 +23,7 @@ use Rattle.blink_live.proofs.dealt.KeysOfShare.{among_from_contains, contains_fr
 use Rattle.blink_live.proofs.told.EntriesAfterChanges.{after-same_states, entries_after-state}
 use Rattle.blink_live.proofs.table.AccountsStay.{accounts_longer, accounts_stay, accounts_with_place, nothing_more, one_apart, only_account, prefix_made}
 use Rattle.blink_live.proofs.table.MapsWithOneChange.{put_here, put_else}
+use Rattle.blink_live.proofs.reuse.ReuseStaysSafe.{reuse_longer, reuse_stays}
 use Rattle.blink_live.proofs.table.OwnersChange.{StaysPublished, StillOwns, reads_still, share_still, knows_still, owners_change}
 use Rattle.blink_live.proofs.table.OwnersInRange.{ranged, ranged_in, ranged_out}
 use Rattle.blink_live.proofs.table.PassesOut.{at_end, passes_more, passes_role}
@@ -325,12 +327,17 @@ module _ (plan : Plan) (s : State ℕ View) (tree_state : TreeState) (h : IsTabl
       no_changes : IsCommon plan → changes_of keys v.seen ≡ []
       no_changes common = none_of_these keys v.seen (none_among common)
 
+  reuse_then : IsCommon plan → IsReuseSafe plan new.row s.words views_then
+  reuse_then common = reuse_longer plan new.row s.words (set s.views id left) right refl refl
+      (reuse_stays plan old.row s.words s.views id v left at (h.reuse common) new.row s.words published (λ n few. refl) refl
+      (λ row content is. absurd (let e : Keeper can.dealt can.back ≡ Pass = sym can.role ∙ (((h.reuse common).stocks id v at).awake row content is).0 in cc)))
+
   deals_at : IsTableAt plan record { words = s.words; homes = s.homes; views = views_then } tree_state
   deals_at = owners_change plan s tree_state h new views_then published holder_else all_know
       (let same : length (set s.views id left) ≡ length s.views = length-set s.views id left in
       let longer : length views_then ≡ length (set s.views id left) + 1 = length-append (set s.views id left) (right ∷ []) in
       omega (arith, same, longer))
-      nobodys_then pool_then accounts_then counted_then
+      nobodys_then pool_then accounts_then reuse_then counted_then
 
 pub deals_keep_table : (plan : Plan) (id : ℕ) (v : View) (rows pages : ℕ) (keys taken : List ℕ) → CanDeal v rows pages keys taken
     → Splits (IsTable plan) id v (keeps_rest v rows pages taken) (gets_first v rows pages keys)

@@ -21,11 +21,13 @@ use Rattle.blink_live.specs.declared.view.Plan.{Plan}
 use Rattle.blink_live.specs.declared.view.Role.TheVariants.{Pass}
 use Rattle.blink_live.specs.declared.view.View.{View}
 use Rattle.blink_live.specs.Laid.{IsLaidWith}
+use Rattle.blink_live.specs.Reuse.{AgreesWith, AreNamedOnce, HasStock}
 use Rattle.blink_live.specs.Accounts.{AreApart, HasSeenItsOwn, IsAccount, accounts_of}
 use Rattle.blink_live.specs.Rule.{HasNumbers, HasPool, HasRows, Owners, IsPublished, PageWordIs, Knows, IsTable}
-use Rattle.blink_live.specs.Views.{IsCommon, first_span, first_view, span}
+use Rattle.blink_live.specs.Views.{IsCommon, first_span, first_view, no_stock, span}
 use Rattle.blink_live.specs.Words.{RowIs}
 use Rattle.blink_live.proofs.table.CallsOfSeats.{nothing_for_call}
+use Rattle.blink_live.proofs.reuse.ReuseStaysSafe.{agrees_with_none, empty_stock}
 use Rattle.blink_live.proofs.table.AccountsStay.{none_apart}
 
 -- the plan of a table that opens
@@ -171,6 +173,24 @@ module _ (store : PlainStore) (counts : PlainCounts) (places : ℕ) (words : Lis
     places_left = λ dealt back is place from. (refl, λ inside. laid.blank_places place inside);
   }
 
+  -- each page has a row of its own
+  once : AreNamedOnce counts words
+  once one other few_one few_other least same =
+      elim (cases_lt one (length store.pages + 1)) [
+        | inl less ↦ elim (cases_lt other (length store.pages + 1)) [
+          | inl also ↦
+              let first = laid.page_words_named one (omega arith) in
+              let second = laid.page_words_named other (omega arith) in
+              omega arith
+          | inr more ↦
+              let none = laid.no_more other (omega arith) (omega arith) in
+              absurd (omega arith)
+        ]
+        | inr more ↦
+            let none = laid.no_more one (omega arith) (omega arith) in
+            absurd (omega arith)
+      ]
+
   -- the table of a tree at rest, as it opens
   pub opens : IsStoreAtRest store → IsLawfulStore store → IsMapOf store (map_of store) → AreBounded counts
       → IsTable (plan_over store counts places) (opening words [] (first_view (length store.pages) (plan_over store counts places)))
@@ -205,6 +225,12 @@ module _ (store : PlainStore) (counts : PlainCounts) (places : ℕ) (words : Lis
             accounts = one_view (λ seat v. (account : Account) → Contains (accounts_of v) account → IsAccount owners.place [] (suc seat) account) (first_view (length store.pages) plan) (λ account has. let inside = has.1 in absurd (omega (arith, inside)));
             apart = one_view (λ seat v. AreApart (accounts_of v)) (first_view (length store.pages) plan) none_apart;
             saw_own = one_view (λ seat v. v.role ≡ Pass → HasSeenItsOwn v) (first_view (length store.pages) plan) (λ is. absurd (cc));
+          };
+          reuse = λ common. record {
+            claim = λ row. 0;
+            named_once = λ one other few_one few_other least same. once one other few_one few_other least same;
+            stocks = one_view (HasStock plan owners.row words (λ row. 0)) (first_view (length store.pages) plan) (empty_stock plan owners.row words (λ row. 0) 0 (first_view (length store.pages) plan) refl refl);
+            agree = λ seat other v u at_v at_u. one_view (λ i a. AgreesWith a.stock u) (first_view (length store.pages) plan) (agrees_with_none no_stock u refl) seat v at_v;
           };
           views = one_view (Knows plan owners words (tree_state_over store) []) (first_view (length store.pages) plan) keeper_knows;
           others_idle = λ seat late. refl;

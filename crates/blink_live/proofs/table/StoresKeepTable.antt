@@ -17,6 +17,7 @@ use Rattle.blink_live.specs.declared.view.Plan.{Plan}
 use Rattle.blink_live.specs.declared.view.View.{View}
 use Rattle.blink_live.specs.Changes.{after}
 use Rattle.blink_live.specs.Accounts.{AreAccounts}
+use Rattle.blink_live.specs.Reuse.{IsReuseSafe}
 use Rattle.blink_live.specs.Rule.{Owners, IsPublished, PageWordIs, latch_word, HasRows, HasForCall, Knows, IsTableAt, IsTable}
 use Rattle.blink_live.specs.Views.{IsCommon, span}
 use Rattle.blink_live.specs.Words.{RowIs}
@@ -69,8 +70,9 @@ prime_still plan s tree_state then h id some_pass words new log leaves same_word
 
 module _ (plan : Plan) (s : State ℕ View) (tree_state then : TreeState) (h : IsTableAt plan s tree_state) (id place x : ℕ) (some_pass : 1 ≤ id) (v w : View) (at : get_elem? s.views id ≡ some v) (new : Owners) (log : List Change) (now : List Entry) where
   pub store_keeps : LeavesOthers plan s tree_state then h id (set s.words place x) new log → IsStored plan s tree_state then h (set s.words place x) new log now → w.role ≡ v.role → w.plan ≡ v.plan → (IsCommon plan → AreAccounts plan new.place log (set s.views id w))
+      → (IsCommon plan → IsReuseSafe plan new.row (set s.words place x) (set s.views id w))
       → Knows plan new (set s.words place x) then log id w → IsTable plan record { words = set s.words place x; homes = s.homes; views = set s.views id w }
-  store_keeps leaves stored same_role same_plan accounted knows =
+  store_keeps leaves stored same_role same_plan accounted reuse knows =
       let words : List ℕ = set s.words place x in (
         then,
         record {
@@ -93,6 +95,7 @@ module _ (plan : Plan) (s : State ℕ View) (tree_state then : TreeState) (h : I
           nobodys = leaves.nobodys;
           pool = leaves.pool;
           accounted = accounted;
+          reuse = reuse;
           views = views_stay (Knows plan new words then log) s.views id w knows (λ j u other there. other_knows plan s tree_state then h id some_pass words new log leaves j u other there);
           others_idle = λ seat beyond.
               let inside = at_inside s.views id v at in

@@ -151,14 +151,14 @@ returns-in-Unlatch c = record {
 
 pub returns-in-WritePage : goal.returns-in-WritePage
 returns-in-WritePage c = record {
-  under_way = λ op first is. on.after_write_page is c.write_page.ensures.same c.in-WritePage.number c.write_page.ensures.machine c.write_page.ensures.published;
+  under_way = λ op first is. on.after_write_page is c.write_page.ensures.same c.in-WritePage.number c.write_page.result c.write_page.ensures.machine c.write_page.ensures.published;
   waits = tt;
   nearer = nearer_done _ _ 0 (subst TellsNothing (sym (sym c.need.ensures ∙ c.in-WritePage.is)) tt) c.write_page.ensures.machine;
 }
 
 pub returns-in-WritePrime : goal.returns-in-WritePrime
 returns-in-WritePrime c = record {
-  under_way = λ op first is. on.after_write_prime is c.write_prime.ensures.same c.write_prime.ensures.machine c.write_prime.ensures.published;
+  under_way = λ op first is. on.after_write_prime is c.write_prime.ensures.same c.write_prime.result c.write_prime.ensures.machine c.write_prime.ensures.published;
   waits = tt;
   nearer = nearer_done _ _ 0 (subst TellsNothing (sym (sym c.need.ensures ∙ c.in-WritePrime.is)) tt) c.write_prime.ensures.machine;
 }

@@ -1,0 +1,2 @@
+pub mod ReuseStaysSafe
+pub mod RowsAreTakenOut
