@@ -22,7 +22,7 @@ use Rattle.blink_live.specs.declared.view.Stock.{Stock}
 use Rattle.blink_live.specs.declared.view.View.{View}
 use Rattle.blink_live.specs.Changes.{after, changes_made, states_of, Learns}
 use Rattle.blink_live.specs.Accounts.{HasSeenItsOwn}
-use Rattle.blink_live.specs.Views.{SeatState, KnowsItsOwn, ShowsNoMore, for_call, going_on, has_pages, has_rows, is_busy, stage_word, changed_by, publishes, reading, forgets_told, learns_of_others, span, takes_out, SawItsOwn}
+use Rattle.blink_live.specs.Views.{SeatState, KnowsItsOwn, ShowsNoMore, for_call, going_on, has_pages, has_rows, is_busy, knows_word, stage_word, changed_by, publishes, reading, forgets_told, learns_of_others, span, takes_out, SawItsOwn}
 use Rattle.blink_live.specs.Words.{AreNumbersIn, AreRowsIn, IsRowNumber, row_start}
 
 -- the page of this number has a page word
@@ -209,6 +209,12 @@ abbrev pub draws_pages : Step ℕ → SeatState → ℕ → SeatState → Type 0
 draws_pages st me found then = Draws (has_pages me.0 (span st.first st.second)) st.first me found then
 
 -- ---- a word of the first row that the seat's call may use
+
+-- the load of the first of its words that the call doesn't know
+abbrev pub knows_more : Step ℕ → SeatState → ℕ → SeatState → Type 0
+knows_more st me found then = then ≡ (knows_word me.0 found, me.1)
+
+-- and the store of a word
 
 abbrev pub stores_word : Step ℕ → SeatState → ℕ → SeatState → Type 0
 stores_word st me found then = (place : ℕ) → place < ROW_WORDS → st.word ≡ row_start me.0.plan.counts me.0.call.rows.next + place → then ≡ (stage_word me.0 place st.first, me.1)

@@ -1,5 +1,5 @@
 -- The views of seats: how they begin, and what each kind of step makes of them.
-use Rattle.std.specs.Prelude.{Option, ◌≡◌, ◌⊎◌, ℕ, zero, suc, ◌+◌, ◌-◌, ◌≤◌, List, [], ◌∷◌, ◌++◌, length, replicate, slice_set, Some, None, ◌||◌, ◌==◌, Bool, false, filter, Contains}
+use Rattle.std.specs.Prelude.{Option, ◌≡◌, ◌⊎◌, ℕ, zero, suc, ◌+◌, ◌-◌, ◌≤◌, List, [], ◌∷◌, ◌++◌, length, slice_set, Some, None, ◌||◌, ◌==◌, Bool, false, filter, Contains}
 use mathlib.Core.List.{IsPrefix}
 use Rattle.atomic_table.specs.Table.{Me}
 use Rattle.blink_batch.specs.declared.Entry.{Entry}
@@ -7,7 +7,7 @@ use Rattle.blink_batch.specs.declared.Op.{Op}
 use Rattle.blink_batch.specs.declared.Op.TheVariants.{Find, Insert}
 use Rattle.blink_batch.specs.{key_of, map_after, pointer_of}
 use Rattle.blink_index.specs.{map_of}
-use Rattle.blink_rows.specs.declared.limits.TheConstants.{ROW_WORDS, MAX_ROWS_PER_INSERT}
+use Rattle.blink_rows.specs.declared.limits.TheConstants.{MAX_ROWS_PER_INSERT}
 use Rattle.blink_page.specs.declared.limits.TheConstants.{MAX_NEW_PAGES_PER_INSERT}
 use Rattle.blink_rows.specs.declared.span.Span.{Span}
 use Rattle.blink_machine.specs.{PlainMachine, goes_on}
@@ -35,9 +35,9 @@ span next stop = record { next = next; stop = stop }
 abbrev pub no_share : Share
 no_share = record { keys = []; entries = []; changes = [] }
 
--- a row of which no word is stored
+-- a row of which no word is known
 abbrev pub no_words : List ℕ
-no_words = replicate ROW_WORDS 0
+no_words = []
 
 -- the call of a seat that hasn't made a call
 abbrev pub no_call : Call
@@ -175,11 +175,15 @@ has_pages v pages = record v { pages = pages; call = no_call }
 abbrev pub is_busy : View → ℕ → View
 is_busy v busy = record v { busy = busy; reads = None }
 
--- the call has staged these words of its first row
+-- these are the first words of the call's first row
 abbrev pub is_staged : View → List ℕ → View
 is_staged v words = record v { call = record { rows = v.call.rows; pages = v.call.pages; staged = words } }
 
--- the call has staged one more word of that row
+-- one more of them was loaded
+abbrev pub knows_word : View → ℕ → View
+knows_word v word = is_staged v (v.call.staged ++ word ∷ [])
+
+-- one of them was stored
 abbrev pub stage_word : View → ℕ → ℕ → View
 stage_word v place word = is_staged v (slice_set v.call.staged place word)
 

@@ -114,6 +114,15 @@ impl Play<u8, View> for LetGo {
     ghost then = { lets_go };
 }
 
+/// The load of the first word, of the first row that the seat's call may use, that the call doesn't know.
+pub struct KnowWord;
+
+impl Play<u8, View> for KnowWord {
+    ghost use Rattle.blink_live.specs.AtomicSteps.{knows_more};
+
+    ghost then = { knows_more };
+}
+
 /// The store of a word of the first row that the seat's call may use.
 pub struct StoreWord;
 

@@ -1,6 +1,6 @@
 //! How an operation changes the tree after its descent. To change a page it latches the page and stores the page's next version
 //! word by word in a row of its own. Then it names that row in the page word, and releases the latch.
-ghost use Rattle.std.specs.Prelude.{◌≡◌, ◌≢◌, ℕ, ◌+◌, None, ◌<◌, ◌≤◌, Some, suc, List, IsTrue, IfSome, ◌↔◌, ◌-◌, Contains, IfNone};
+ghost use Rattle.std.specs.Prelude.{◌≡◌, ◌≢◌, ℕ, ◌+◌, None, ◌<◌, ◌≤◌, Some, suc, List, IsTrue, IfSome, ◌↔◌, ◌-◌, Contains, IfNone, length};
 ghost use Rattle.std.specs.Bool.{OnFalse};
 ghost use Rattle.atomic_table.specs.declared.Seat.{Seat};
 ghost use Rattle.blink_batch.specs.{FitsWords, key_of};
@@ -13,14 +13,14 @@ ghost use Rattle.blink_machine.specs.{IsUpdate, fresh, done, PrimeOut, page_out,
 ghost use Rattle.blink_live.specs.declared.view.View.{View};
 ghost use Rattle.blink_live.specs.Seats.{HasSameNumber, IsPassSeat, IsFirst};
 ghost use Rattle.blink_live.specs.Updating.{HasEnded, IsUnderWay, room_in, ComesNearer, IsPastDescent};
-ghost use Rattle.blink_live.specs.Views.{CanBegin, MayChange, is_staged, latch_number_by, no_words, stage_word};
+ghost use Rattle.blink_live.specs.Views.{CanBegin, MayChange, is_staged, knows_word, latch_number_by, no_words, stage_word};
 ghost use Rattle.blink_live.specs.Pendings.{IsWaiting};
 ghost use Rattle.blink_live.specs.AtomicSteps.{PublishesNew, PublishesPage, PublishesPrime, GoesOn};
 ghost use Rattle.blink_live.specs.Words.{IsRowNumber};
 
 use crate::live::Live;
 use crate::room::Room;
-use crate::rule::{LetGo, Publish, PublishNew, PublishPrime, StoreWord, TryLatch};
+use crate::rule::{KnowWord, LetGo, Publish, PublishNew, PublishPrime, StoreWord, TryLatch};
 use crate::view::View;
 use atomic_table::Seat;
 use blink_batch::{Answer, Op};
@@ -258,7 +258,8 @@ impl Live {
         self.publish_prime(seat, machine, row)
     }
 
-    // Stores the row's words that aren't 0, in ascending order. An unpublished row is all 0 before.
+    // Makes the words of an unpublished row these, in ascending order. It loads each word, and stores those that differ, since
+    // the row may have been another page's before.
     fn stage_row(&self, seat: &mut Seat<u8, View>, row: u64, words: &[u64; ROW_WORDS])
         requires seat { IsPassSeat self.now seat.old.table_id seat.old.me }
         requires row { IsFirst row seat.old.me.0.call.rows × IsRowNumber self.now.counts row }
@@ -267,7 +268,8 @@ impl Live {
         ensures staged { seat.new.me ≡ (is_staged seat.old.me.0 words.now, seat.old.me.1) }
     {
         for (place, &word) in words.iter().enumerate() {
-            if word != 0 {
+            let found = self.load_own(seat, row, place);
+            if found != word {
                 self.store_word(seat, row, place, word);
             }
         }
@@ -330,6 +332,21 @@ impl Live {
         let word = self.latch_place(number);
         self.table.shared.store::<LetGo>(seat, word, 0);
         machine.done(0);
+    }
+
+    // Loads a word of the row, which is the first that the seat's call may use. The call knows the words before it.
+    fn load_own(&self, seat: &mut Seat<u8, View>, row: u64, place: usize) -> u64
+        requires seat { IsPassSeat self.now seat.old.table_id seat.old.me }
+        requires row { IsFirst row seat.old.me.0.call.rows × IsRowNumber self.now.counts row }
+        requires place { (place < ROW_WORDS) × (1 ≤ self.now.counts.numbers) }
+        requires next { place ≡ length seat.old.me.0.call.staged }
+        ensures same { HasSameNumber seat.old seat.new }
+        ensures known { seat.new.me ≡ (knows_word seat.old.me.0 result, seat.old.me.1) }
+    {
+        // Called for the proof: a place in the table is a `usize`.
+        let _count = self.table.word_count();
+        let start = self.counts.row_start(row) as usize;
+        self.table.shared.load::<KnowWord>(seat, start + place)
     }
 
     // Stores a word of the row, which is the first that the seat's call may use.

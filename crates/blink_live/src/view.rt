@@ -72,7 +72,7 @@ pub enum Role {
     Spent,
 }
 
-/// What one call may use: rows and page numbers, and the words that it has staged so far in the first of these rows.
+/// What one call may use: rows and page numbers, and the words that it knows of the first of these rows, from its first word on.
 pub struct Call {
     pub rows: Span,
     pub pages: Span,

@@ -33,7 +33,7 @@ use Rattle.blink_live.proofs.table.NextPageIsThere.{next_page_is_there}
 use Rattle.blink_live.proofs.reuse.ReuseStaysSafe.{reuse_stays, same_reads}
 use Rattle.blink_live.proofs.table.AccountsStay.{accounts_stay}
 use Rattle.blink_live.proofs.table.OthersKnowTheSame.{LeavesOthers, RowStays, page_word_still, reads_still}
-use Rattle.blink_live.proofs.table.StoresKeepTable.{row_stays, rows_kept, call_kept, IsStored, prime_still, store_keeps}
+use Rattle.blink_live.proofs.table.StoresKeepTable.{row_stays, call_kept, IsStored, prime_still, store_keeps}
 
 -- a latch word of 0 says that nobody has the latch
 pub nobody_has : (owners : Owners) (holder : Option ℕ) → ((seat : ℕ) → holder ≡ Some seat → 1 ≤ owners.latch_number seat) → latch_word owners holder ≡ 0 → holder ≡ None
@@ -87,7 +87,7 @@ module _ (plan : Plan) (s : State ℕ View) (tree_state : TreeState) (h : IsTabl
         operation = put_here tree_state.machines id (goes_on after after.state);
         bounded = bounded;
         reads = reads_still plan s tree_state then h id kept.0 words h.owners h.log leaves v.reads known.reads;
-        rows = rows_kept plan h.owners s.words words stays (suc id) v.rows known.rows;
+        rows = known.rows;
         numbers = record { in_range = known.numbers.in_range; own = known.numbers.own; free = known.numbers.free };
         for_call = call_kept plan h.owners s.words words stays tree_state then (suc id) v.call v.rows.next v.pages.next (λ n own free. free) known.for_call;
         share = known.share;

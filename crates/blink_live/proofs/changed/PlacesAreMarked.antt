@@ -17,7 +17,7 @@ use Rattle.blink_live.proofs.table.PoolStays.{pool_stays}
 use Rattle.blink_live.proofs.reuse.ReuseStaysSafe.{reuse_stays}
 use Rattle.blink_live.proofs.table.AccountsStay.{accounts_stay}
 use Rattle.blink_live.proofs.table.OthersKnowTheSame.{LeavesOthers, RowStays, page_word_still}
-use Rattle.blink_live.proofs.table.StoresKeepTable.{rows_kept, call_kept, prime_still, store_keeps}
+use Rattle.blink_live.proofs.table.StoresKeepTable.{call_kept, prime_still, store_keeps}
 
 module _ (plan : Plan) (s : State ℕ View) (tree_state : TreeState) (h : IsTableAt plan s tree_state) (id x : ℕ) (v : View) (at : get_elem? s.views id ≡ some v) (role : v.role ≡ Pass) (common : IsCommon plan) (some_number : 1 ≤ plan.counts.numbers)
     (idle_or_busy : (m : PlainMachine) → v.operation ≡ Some m → 1 ≤ x) where
@@ -71,7 +71,7 @@ module _ (plan : Plan) (s : State ℕ View) (tree_state : TreeState) (h : IsTabl
     operation = known.operation;
     bounded = known.bounded;
     reads = tt;
-    rows = rows_kept plan h.owners s.words words stays (suc id) v.rows known.rows;
+    rows = known.rows;
     numbers = record { in_range = known.numbers.in_range; own = known.numbers.own; free = known.numbers.free };
     for_call = call_kept plan h.owners s.words words stays tree_state tree_state (suc id) v.call v.rows.next v.pages.next (λ n own free. free) known.for_call;
     share = known.share;

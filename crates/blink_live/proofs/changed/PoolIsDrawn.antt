@@ -1,5 +1,5 @@
 -- A session that draws rows or page numbers from the pool takes no step of the tree, and keeps the rule.
-use Rattle.std.proofs.Common.{◌≡◌, ◌≢◌, ℕ, zero, suc, ◌+◌, ◌*◌, ◌<◌, ◌≤◌, Option, Some, None, List, [], set, refl, sym, ap, ◌∙◌, subst, get_or-set_same, get_or-set_other, eqb, arith}
+use Rattle.std.proofs.Common.{◌≡◌, ◌≢◌, ℕ, zero, suc, ◌+◌, ◌*◌, ◌<◌, ◌≤◌, Option, Some, None, List, set, refl, sym, ap, ◌∙◌, subst, get_or-set_same, get_or-set_other, eqb, arith}
 use Rattle.std.specs.Prelude.{slice_index}
 use mathlib.Core.Option.{some, none}
 use lib.ListN.{get_elem?}
@@ -20,9 +20,9 @@ use Rattle.blink_live.specs.Words.{place_word, pool_page, pool_row, row_start, w
 use Rattle.blink_live.proofs.table.CallsOfSeats.{nothing_for_call}
 use Rattle.blink_live.proofs.reuse.ReuseStaysSafe.{reuse_stays, same_reads}
 use Rattle.blink_live.proofs.table.AccountsStay.{accounts_stay}
-use Rattle.blink_live.proofs.table.OthersKnowTheSame.{LeavesOthers, RowStays, page_word_still, reads_still, row_is_still}
+use Rattle.blink_live.proofs.table.OthersKnowTheSame.{LeavesOthers, RowStays, page_word_still, reads_still}
 use Rattle.blink_live.proofs.table.OwnersInRange.{ranged, ranged_in, ranged_out}
-use Rattle.blink_live.proofs.table.StoresKeepTable.{rows_kept, prime_still, store_keeps}
+use Rattle.blink_live.proofs.table.StoresKeepTable.{prime_still, store_keeps}
 
 -- in a common table a latch number doesn't depend on rows
 -- the latch words are those of the same numbers
@@ -83,8 +83,8 @@ module _ (plan : Plan) (s : State ℕ View) (tree_state : TreeState) (h : IsTabl
   -- ---- rows
 
   module _ (found : slice_index s.words (pool_row plan.counts) ≡ old) (end : new ≤ plan.counts.rows + 1) where
-    pool_rows : HasRows plan h.owners s.words (suc 0) (span old (plan.counts.rows + 1))
-    pool_rows = subst (λ (n : ℕ). HasRows plan h.owners s.words (suc 0) (span n (plan.counts.rows + 1))) found (h.pool common).rows
+    pool_rows : HasRows plan h.owners (suc 0) (span old (plan.counts.rows + 1))
+    pool_rows = subst (λ (n : ℕ). HasRows plan h.owners (suc 0) (span n (plan.counts.rows + 1))) found (h.pool common).rows
 
     abbrev row_owners : Owners
     row_owners = record h.owners { row = ranged old new (suc id) h.owners.row }
@@ -101,12 +101,9 @@ module _ (plan : Plan) (s : State ℕ View) (tree_state : TreeState) (h : IsTabl
       keys = λ owned key apart. (refl, refl, refl);
       nobodys = h.nobodys;
       pool = λ is_common. record {
-        rows = subst (λ (n : ℕ). HasRows plan row_owners (words 1 (omega arith) (omega arith)) (suc 0) (span n (plan.counts.rows + 1))) (sym (here 1 (omega arith) (omega arith))) record {
+        rows = subst (λ (n : ℕ). HasRows plan row_owners (suc 0) (span n (plan.counts.rows + 1))) (sym (here 1 (omega arith) (omega arith))) record {
           in_range = (let low = pool_rows.in_range.0 in omega (arith, low, further), pool_rows.in_range.1);
           own = λ row low high. ranged_out old new (suc id) h.owners.row row (λ a c. omega (arith, low, c)) ∙ pool_rows.own row (omega (arith, low, further)) high;
-          blank = λ row low high.
-              let least = pool_rows.in_range.0 in
-              row_is_still plan s.words (words 1 (omega arith) (omega arith)) row [] (stays 1 (omega arith) (omega arith) row (omega (arith, least, further, low)) (omega (arith, high))) (pool_rows.blank row (omega (arith, low, further)) high);
         };
         pages = let pages = (h.pool common).pages in
             subst (λ (n : ℕ). HasNumbers plan row_owners tree_state (suc 0) (span n plan.counts.numbers)) (sym (other_pool 1 (omega arith) (omega arith) 2 (λ e. omega (arith, e)))) record { in_range = pages.in_range; own = pages.own; free = pages.free };
@@ -126,9 +123,6 @@ module _ (plan : Plan) (s : State ℕ View) (tree_state : TreeState) (h : IsTabl
       rows = record {
         in_range = (pool_rows.in_range.0, end);
         own = λ row low high. ranged_in old new (suc id) h.owners.row row low high;
-        blank = λ row low high.
-            let least = pool_rows.in_range.0 in
-            row_is_still plan s.words (words 1 (omega arith) (omega arith)) row [] (stays 1 (omega arith) (omega arith) row (omega (arith, least, low)) (omega (arith, high, end))) (pool_rows.blank row low (omega (arith, high, end)));
       };
       numbers = record { in_range = known.numbers.in_range; own = known.numbers.own; free = known.numbers.free };
       for_call = nothing_for_call plan row_owners (words 1 (omega arith) (omega arith)) tree_state (suc id) old v.pages.next pool_rows.in_range.0 known.numbers.in_range.0 some_number;
@@ -170,10 +164,9 @@ module _ (plan : Plan) (s : State ℕ View) (tree_state : TreeState) (h : IsTabl
       pool = λ is_common. record {
         rows = let rows = (h.pool common).rows in
             let least = rows.in_range.0 in
-            subst (λ (n : ℕ). HasRows plan page_owners (words 2 (omega arith) (omega arith)) (suc 0) (span n (plan.counts.rows + 1))) (sym (other_pool 2 (omega arith) (omega arith) 1 (λ e. omega (arith, e)))) record {
+            subst (λ (n : ℕ). HasRows plan page_owners (suc 0) (span n (plan.counts.rows + 1))) (sym (other_pool 2 (omega arith) (omega arith) 1 (λ e. omega (arith, e)))) record {
               in_range = rows.in_range;
               own = rows.own;
-              blank = λ row low high. row_is_still plan s.words (words 2 (omega arith) (omega arith)) row [] (stays 2 (omega arith) (omega arith) row (omega (arith, least, low)) (omega (arith, high))) (rows.blank row low high);
             };
         pages = subst (λ (n : ℕ). HasNumbers plan page_owners tree_state (suc 0) (span n plan.counts.numbers)) (sym (here 2 (omega arith) (omega arith))) record {
           in_range = (let low = pool_pages.in_range.0 in omega (arith, low, further), pool_pages.in_range.1);
@@ -193,9 +186,7 @@ module _ (plan : Plan) (s : State ℕ View) (tree_state : TreeState) (h : IsTabl
       operation = known.operation;
       bounded = known.bounded;
       reads = reads_still plan s tree_state tree_state h id kept.0 (words 2 (omega arith) (omega arith)) page_owners h.log pages_leave v.reads known.reads;
-      rows =
-          let its = rows_kept plan h.owners s.words (words 2 (omega arith) (omega arith)) (stays 2 (omega arith) (omega arith)) (suc id) v.rows known.rows in
-          record { in_range = its.in_range; own = its.own; blank = its.blank };
+      rows = record { in_range = known.rows.in_range; own = known.rows.own };
       numbers = record {
         in_range = (pool_pages.in_range.0, end);
         own = λ number low high. ranged_in old new (suc id) h.owners.page number low high;

@@ -1,13 +1,10 @@
 -- What a call hasn't used is its pass's again: that is no step of the tree, and keeps the rule.
-use Rattle.std.proofs.Common.{◌≡◌, ℕ, suc, ◌<◌, ◌≤◌, List, [], get_or, set, refl, sym, ap, ◌∙◌, subst, arith}
-use Rattle.std.proofs.lemmas.List.{get_or-replicate}
-use Rattle.std.specs.Prelude.{slice_index}
+use Rattle.std.proofs.Common.{◌≡◌, ℕ, suc, ◌<◌, ◌≤◌, get_or, set, refl, sym, ap, ◌∙◌, subst, arith}
 use mathlib.Core.Option.{some, none}
 use mathlib.Core.Logic.{dite}
 use native.Mathlib.Decide.{ℕ_discrete, dec_le}
 use lib.ListN.{get_elem?}
 use Rattle.atomic_table.specs.Table.{State, step, keeps, Allows}
-use Rattle.blink_rows.specs.declared.limits.TheConstants.{ROW_WORDS}
 use Rattle.blink_machine.specs.TreeState.{TreeState}
 use Rattle.blink_machine.proofs.Offered.{step_law}
 use Rattle.blink_live.specs.declared.view.Plan.{Plan}
@@ -16,7 +13,6 @@ use Rattle.blink_live.specs.declared.view.View.{View}
 use Rattle.blink_live.specs.GivingBack.{CanGiveBack, gives_back, giving_back}
 use Rattle.blink_live.specs.Rule.{HasRows, HasNumbers, IsInRole, Knows, IsTable, IsTableAt}
 use Rattle.blink_live.specs.Views.{SeatState, span}
-use Rattle.blink_live.specs.Words.{RowIs}
 use Rattle.blink_live.proofs.table.CallsOfSeats.{nothing_for_call}
 use Rattle.blink_live.proofs.reuse.ReuseStaysSafe.{reuse_stays, same_reads}
 use Rattle.blink_live.proofs.table.LoadsKeepTable.{moved, load_keeps_with}
@@ -30,29 +26,24 @@ module _ (plan : Plan) (some_number : 1 ≤ plan.counts.numbers) (s : State ℕ 
   then = moved tree_state id v.operation
 
   -- the rows of the call, its first among them, and then those of the pass
-  of_row : (row : ℕ) → v.call.rows.next ≤ row → row < v.rows.stop → (h.owners.row row ≡ suc id) × RowIs plan.counts s.words row []
+  of_row : (row : ℕ) → v.call.rows.next ≤ row → row < v.rows.stop → h.owners.row row ≡ suc id
   of_row row low high = dite (dec_le v.rows.next row)
-      (λ later. (known.rows.own row later high, known.rows.blank row later high))
+      (λ later. known.rows.own row later high)
       (λ earlier.
       let ends = can.rows in
-      let others = known.for_call.others in
       dite (ℕ_discrete row v.call.rows.next)
-      (λ e.
-      let room : v.call.rows.next < v.call.rows.stop = omega (arith, e, earlier, ends) in
-      subst (λ (r : ℕ). (h.owners.row r ≡ suc id) × RowIs plan.counts s.words r []) (sym e)
-      ((known.for_call.first_own room).1, λ i inside. known.for_call.staged room i inside ∙ (ap (λ (w : List ℕ). slice_index w i) can.blank ∙ get_or-replicate ROW_WORDS i 0 0 inside)))
-      (λ ne. (others.own row (omega (arith, low, ne)) (omega (arith, earlier, ends)), others.blank row (omega (arith, low, ne)) (omega (arith, earlier, ends)))))
+      (λ e. ap h.owners.row e ∙ (known.for_call.first_own (omega (arith, e, earlier, ends))).1)
+      (λ ne. known.for_call.others.own row (omega (arith, low, ne)) (omega (arith, earlier, ends))))
 
   some_row : 1 ≤ v.call.rows.next
   some_row = dite (dec_le v.call.rows.stop v.call.rows.next)
       (λ none. let ends = can.rows in let low = known.rows.in_range.0 in omega (arith, none, ends, low))
       (λ more. (known.for_call.first_own (omega (arith, more))).0)
 
-  back_rows : HasRows plan h.owners s.words (suc id) (span v.call.rows.next v.rows.stop)
+  back_rows : HasRows plan h.owners (suc id) (span v.call.rows.next v.rows.stop)
   back_rows = record {
     in_range = (some_row, known.rows.in_range.1);
-    own = λ row low high. (of_row row low high).0;
-    blank = λ row low high. (of_row row low high).1;
+    own = of_row;
   }
 
   back_numbers : HasNumbers plan h.owners then (suc id) (span v.call.pages.next v.pages.stop)

@@ -95,7 +95,7 @@ module _ (plan : Plan) (some_number : 1 ≤ plan.counts.numbers) (s : State ℕ 
     operation = known.operation;
     bounded = known.bounded;
     reads = reads_still plan old new s.words h.log (λ row is. is) v.reads known.reads;
-    rows = record { in_range = known.rows.in_range; own = known.rows.own; blank = known.rows.blank };
+    rows = record { in_range = known.rows.in_range; own = known.rows.own };
     numbers = record { in_range = known.numbers.in_range; own = known.numbers.own; free = known.numbers.free };
     for_call = call_still plan old new s.words tree_state tree_state (suc id) v.call v.rows.next v.pages.next v.rows.next v.pages.next known.for_call (omega arith, omega arith) (λ r below own. own) (λ n below own. own) (λ n none. none);
     share = share_still plan old new s.words h.log (λ row is. is) (suc id) (suc id) v.share (λ key is. is) known.share;
@@ -170,7 +170,7 @@ module _ (plan : Plan) (some_number : 1 ≤ plan.counts.numbers) (s : State ℕ 
 
   pool_then : HasPool plan new s.words tree_state
   pool_then = let pool = h.pool common in record {
-    rows = record { in_range = pool.rows.in_range; own = pool.rows.own; blank = pool.rows.blank };
+    rows = record { in_range = pool.rows.in_range; own = pool.rows.own };
     pages = record { in_range = pool.pages.in_range; own = pool.pages.own; free = pool.pages.free };
   }
 

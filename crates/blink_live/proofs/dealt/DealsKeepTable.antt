@@ -152,7 +152,6 @@ module _ (plan : Plan) (s : State ℕ View) (tree_state : TreeState) (h : IsTabl
     rows = record {
       in_range = (let low = known.rows.in_range.0 in omega (arith, low), known.rows.in_range.1);
       own = λ row low high. ranged_out v.rows.next (v.rows.next + rows) (suc new_seat) old.row row (λ a b. omega (arith, low, b)) ∙ known.rows.own row (omega (arith, low)) high;
-      blank = λ row low high. known.rows.blank row (omega (arith, low)) high;
     };
     numbers = record {
       in_range = (let low = known.numbers.in_range.0 in omega (arith, low), known.numbers.in_range.1);
@@ -202,7 +201,6 @@ module _ (plan : Plan) (s : State ℕ View) (tree_state : TreeState) (h : IsTabl
     rows = record {
       in_range = (known.rows.in_range.0, let enough = can.enough_rows in let high = known.rows.in_range.1 in omega (arith, enough, high));
       own = λ row low high. ranged_in v.rows.next (v.rows.next + rows) (suc new_seat) old.row row low high;
-      blank = λ row low high. known.rows.blank row low (let enough = can.enough_rows in omega (arith, enough, high));
     };
     numbers = record {
       in_range = (known.numbers.in_range.0, let enough = can.enough_pages in let high = known.numbers.in_range.1 in omega (arith, enough, high));
@@ -281,7 +279,6 @@ module _ (plan : Plan) (s : State ℕ View) (tree_state : TreeState) (h : IsTabl
         rows = record {
           in_range = pool.rows.in_range;
           own = λ row low high. ranged_out v.rows.next (v.rows.next + rows) (suc new_seat) old.row row (λ a c. absurd (omega (arith, a, c, none, enough_rows))) ∙ pool.rows.own row low high;
-          blank = pool.rows.blank;
         };
         pages = record {
           in_range = pool.pages.in_range;

@@ -1,6 +1,5 @@
 -- The load of the prime block's page word is the first step of an operation.
 use Rattle.std.proofs.Common.{◌≡◌, ℕ, suc, ◌+◌, ◌≤◌, Some, None, List, [], refl, sym, ap, ◌∙◌, subst, inr, arith}
-use Rattle.std.proofs.lemmas.List.{get_or-replicate, length-replicate}
 use mathlib.Core.Option.{some}
 use lib.ListN.{get_elem?}
 use Rattle.std.specs.Prelude.{slice_index}
@@ -11,7 +10,6 @@ use Rattle.blink_batch.specs.{FitsWords}
 use Rattle.blink_batch.specs.declared.Op.{Op}
 use Rattle.blink_page.specs.declared.limits.TheConstants.{MAX_PAGE}
 use Rattle.blink_rows.specs.{prime_words}
-use Rattle.blink_rows.specs.declared.limits.TheConstants.{ROW_WORDS}
 use Rattle.blink_machine.specs.declared.machine.State.{State as MachineState}
 use Rattle.blink_machine.specs.declared.machine.State.TheVariants.{Start, Posting, Ended}
 use Rattle.blink_machine.specs.declared.step.Step.TheVariants.{Moved}
@@ -74,7 +72,6 @@ module _ (plan : Plan) (s : State ℕ View) (tree_state : TreeState) (h : IsTabl
         rows = record {
           in_range = (omega (arith, low_row), high_row);
           own = λ r low high. known.rows.own r (omega (arith, low)) high;
-          blank = λ r low high. known.rows.blank r (omega (arith, low)) high;
         };
         numbers = record {
           in_range = (omega (arith, low_page), high_page);
@@ -83,13 +80,11 @@ module _ (plan : Plan) (s : State ℕ View) (tree_state : TreeState) (h : IsTabl
         };
         for_call = record {
           before = (omega arith, omega arith);
-          width = length-replicate {A = ℕ} ROW_WORDS 0;
           first_own = λ some. (low_row, known.rows.own v.rows.next (omega arith) (omega (arith, some, enough_rows)));
-          staged = λ some i inside. known.rows.blank v.rows.next (omega arith) (omega (arith, some, enough_rows)) i inside ∙ sym (get_or-replicate ROW_WORDS i 0 0 inside);
+          staged = λ some i inside few. absurd (omega (arith, few));
           others = record {
             in_range = (omega arith, omega (arith, high_row, enough_rows));
             own = λ r low high. known.rows.own r (omega (arith, low)) (omega (arith, high, enough_rows));
-            blank = λ r low high. known.rows.blank r (omega (arith, low)) (omega (arith, high, enough_rows));
           };
           numbers = record {
             in_range = (low_page, omega (arith, high_page, enough_pages));

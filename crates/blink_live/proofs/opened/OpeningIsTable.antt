@@ -119,11 +119,10 @@ module _ (store : PlainStore) (counts : PlainCounts) (places : ℕ) (words : Lis
       ]
 
   -- the rows and page numbers that no page has
-  all_rows : HasRows (plan_over store counts places) (owners_over (length store.pages)) words 1 (span (length store.pages + 2) (counts.rows + 1))
+  all_rows : HasRows (plan_over store counts places) (owners_over (length store.pages)) 1 (span (length store.pages + 2) (counts.rows + 1))
   all_rows = record {
     in_range = (omega arith, omega arith);
     own = λ row late early. owner_on (length store.pages + 2) row late;
-    blank = λ row late early. laid.blank_rows row late (omega arith);
   }
 
   all_numbers : HasNumbers (plan_over store counts places) (owners_over (length store.pages)) (tree_state_over store) 1 (span (length store.pages + 1) counts.numbers)
@@ -134,9 +133,9 @@ module _ (store : PlainStore) (counts : PlainCounts) (places : ℕ) (words : Lis
   }
 
   -- are the keeper's, or the pool's
-  first_rows : (n : ℕ) → HasRows (plan_over store counts places) (owners_over (length store.pages)) words 1 (first_span n (length store.pages + 2) (counts.rows + 1))
+  first_rows : (n : ℕ) → HasRows (plan_over store counts places) (owners_over (length store.pages)) 1 (first_span n (length store.pages + 2) (counts.rows + 1))
   first_rows zero = all_rows
-  first_rows (suc n) = record { in_range = (omega arith, omega arith); own = λ row low high. absurd (omega (arith, low, high)); blank = λ row low high. absurd (omega (arith, low, high)) }
+  first_rows (suc n) = record { in_range = (omega arith, omega arith); own = λ row low high. absurd (omega (arith, low, high)) }
 
   first_numbers : (n : ℕ) → HasNumbers (plan_over store counts places) (owners_over (length store.pages)) (tree_state_over store) 1 (first_span n (length store.pages + 1) counts.numbers)
   first_numbers zero = all_numbers
@@ -144,7 +143,7 @@ module _ (store : PlainStore) (counts : PlainCounts) (places : ℕ) (words : Lis
 
   first_pool : IsCommon (plan_over store counts places) → HasPool (plan_over store counts places) (owners_over (length store.pages)) words (tree_state_over store)
   first_pool common = record {
-    rows = subst (λ (n : ℕ). HasRows (plan_over store counts places) (owners_over (length store.pages)) words 1 (span n (counts.rows + 1))) (sym (laid.pool_rows common)) all_rows;
+    rows = subst (λ (n : ℕ). HasRows (plan_over store counts places) (owners_over (length store.pages)) 1 (span n (counts.rows + 1))) (sym (laid.pool_rows common)) all_rows;
     pages = subst (λ (n : ℕ). HasNumbers (plan_over store counts places) (owners_over (length store.pages)) (tree_state_over store) 1 (span n counts.numbers)) (sym (laid.pool_pages common)) all_numbers;
   }
 

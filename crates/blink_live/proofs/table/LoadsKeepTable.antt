@@ -40,7 +40,7 @@ module _ (plan : Plan) (s : State ℕ View) (tree_state : TreeState) (h : IsTabl
         operation = put_here tree_state.machines id w.operation;
         bounded = bounded;
         reads = reads;
-        rows = record { in_range = known.rows.in_range; own = known.rows.own; blank = known.rows.blank };
+        rows = record { in_range = known.rows.in_range; own = known.rows.own };
         numbers = record { in_range = known.numbers.in_range; own = known.numbers.own; free = known.numbers.free };
         for_call = call_still plan h.owners h.owners s.words tree_state (moved tree_state id w.operation) (suc id) v.call v.rows.next v.pages.next v.rows.next v.pages.next known.for_call (omega arith, omega arith) (λ r below own. own)
             (λ n below own. own) (λ n none. none);

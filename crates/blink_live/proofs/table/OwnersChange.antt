@@ -55,7 +55,7 @@ module _ (plan : Plan) (old new : Owners) (words : List ℕ) (log : List Change)
     operation = known.operation;
     bounded = known.bounded;
     reads = reads_still v.reads known.reads;
-    rows = record { in_range = known.rows.in_range; own = λ row low high. owns.row row (known.rows.own row low high); blank = known.rows.blank };
+    rows = record { in_range = known.rows.in_range; own = λ row low high. owns.row row (known.rows.own row low high) };
     numbers = record { in_range = known.numbers.in_range; own = λ number low high. owns.page number (known.numbers.own number low high); free = known.numbers.free };
     for_call = call_still plan old new words tree_state tree_state (suc seat) v.call v.rows.next v.pages.next v.rows.next v.pages.next known.for_call (omega arith, omega arith) (λ r below. owns.row r) (λ n below. owns.page n) (λ n none. none);
     share = share_still (suc seat) (suc seat) v.share owns.key known.share;
