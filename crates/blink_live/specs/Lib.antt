@@ -34,6 +34,7 @@ pub mod Handles
 pub mod Changes
 pub mod Accounts
 pub mod Reuse
+pub mod ComingBack
 pub mod Allowed
 pub mod Deals
 pub mod Merge

@@ -1,9 +1,11 @@
 -- How a row comes back in a common table: a session takes it out of a page word, waits until no seat can still read it, and may write
 -- it again.
-use Rattle.std.specs.Prelude.{◌≡◌, ◌≢◌, ℕ, suc, ◌<◌, ◌≤◌, Some, List, [], ◌∷◌, length, Contains, slice_index}
+use Rattle.std.specs.Prelude.{◌≡◌, ◌≢◌, ◌⊎◌, ℕ, suc, ◌+◌, ◌<◌, ◌≤◌, Some, List, [], ◌∷◌, length, Contains, slice_index}
 use mathlib.Core.Option.{some}
 use lib.ListN.{get_elem?}
 use Rattle.blink_rows.specs.{PlainCounts}
+use Rattle.blink_rows.specs.declared.span.Span.{Span}
+use Rattle.blink_live.specs.declared.view.Aside.{Aside}
 use Rattle.blink_live.specs.declared.view.Plan.{Plan}
 use Rattle.blink_live.specs.declared.view.Role.TheVariants.{Pass}
 use Rattle.blink_live.specs.declared.view.Stock.{Stock}
@@ -40,6 +42,26 @@ pub record HasRowsOnce (stock : Stock) : Type 0 where
   pub free_waiting : HaveNoneInCommon stock.free stock.waiting
   pub retired_waiting : HaveNoneInCommon stock.retired stock.waiting
 
+-- the row is one of a span's
+abbrev pub IsWithin : Span → ℕ → Type 0
+IsWithin rows row = (rows.next ≤ row) × (row < rows.stop)
+
+-- the row is one of those that the seat or its call may use next
+abbrev pub IsAtHand : View → ℕ → Type 0
+IsAtHand v row = IsWithin v.rows row ⊎ IsWithin v.call.rows row
+
+abbrev pub IsAside : Aside → ℕ → Type 0
+IsAside aside row = IsWithin aside.rows row ⊎ IsWithin aside.call row
+
+-- what a session has set aside is its own still, and not at hand
+pub record HasAside (plan : Plan) (whose : ℕ → ℕ) (seat : ℕ) (v : View) : Type 0 where
+  pub in_range : (1 ≤ v.stock.aside.rows.next) × (v.stock.aside.rows.stop ≤ plan.counts.rows + 1) × (v.stock.aside.call.stop ≤ plan.counts.rows + 1)
+  pub in_order : v.stock.aside.call.stop ≤ v.stock.aside.rows.next
+  pub sessions : (row : ℕ) → IsAside v.stock.aside row → 1 ≤ seat
+  pub some_row : (row : ℕ) → IsAside v.stock.aside row → 1 ≤ row
+  pub own : (row : ℕ) → IsAside v.stock.aside row → whose row ≡ suc seat
+  pub apart : (row : ℕ) → IsAside v.stock.aside row → ¬ IsAtHand v row
+
 -- what a seat may say of its stock; and it is a session at an operation while it reads a row
 pub record HasStock (plan : Plan) (whose : ℕ → ℕ) (words : List ℕ) (claim : ℕ → ℕ) (seat : ℕ) (v : View) : Type 0 where
   pub awake : (row : ℕ) (content : List ℕ) → v.reads ≡ Some (row, content) → (v.role ≡ Pass) × (1 ≤ v.busy)
@@ -47,6 +69,7 @@ pub record HasStock (plan : Plan) (whose : ℕ → ℕ) (words : List ℕ) (clai
   pub free : (row : ℕ) → Contains v.stock.free row → IsTakenOut plan whose words claim seat row
   pub retired : (row : ℕ) → Contains v.stock.retired row → IsTakenOut plan whose words claim seat row
   pub waiting : (row : ℕ) → Contains v.stock.waiting row → IsTakenOut plan whose words claim seat row
+  pub aside : HasAside plan whose seat v
 
 -- the session's place is behind those that were found past, and its mark is still the one that was found there
 pub record IsNotPast (stock : Stock) (u : View) : Type 0 where

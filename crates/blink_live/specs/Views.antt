@@ -11,6 +11,7 @@ use Rattle.blink_rows.specs.declared.limits.TheConstants.{MAX_ROWS_PER_INSERT}
 use Rattle.blink_page.specs.declared.limits.TheConstants.{MAX_NEW_PAGES_PER_INSERT}
 use Rattle.blink_rows.specs.declared.span.Span.{Span}
 use Rattle.blink_machine.specs.{PlainMachine, goes_on}
+use Rattle.blink_live.specs.declared.view.Aside.{Aside}
 use Rattle.blink_live.specs.declared.view.Call.{Call}
 use Rattle.blink_live.specs.declared.view.Change.{Change}
 use Rattle.blink_live.specs.declared.view.Opened.{Opened}
@@ -43,9 +44,13 @@ no_words = []
 abbrev pub no_call : Call
 no_call = record { rows = span 1 1; pages = span 1 1; staged = no_words }
 
+-- nothing is set aside
+abbrev pub no_aside : Aside
+no_aside = record { rows = span 1 1; call = span 1 1 }
+
 -- the stock of a seat that has taken out no row
 abbrev pub no_stock : Stock
-no_stock = record { free = []; retired = []; waiting = []; before = []; passed = 0 }
+no_stock = record { free = []; retired = []; waiting = []; before = []; passed = 0; aside = no_aside }
 
 -- a seat without an operation that has seen nothing
 abbrev pub seat_for : Plan → Role → Span → Span → Share → View

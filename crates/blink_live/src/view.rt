@@ -48,6 +48,12 @@ pub struct Account {
     pub changes: LinkedList<Change>,
 }
 
+/// What a session has set aside while it writes a row that came back: its rows, and those of its call.
+pub struct Aside {
+    pub rows: Span,
+    pub call: Span,
+}
+
 /// A session's rows that pages don't need any more, by how far they have come back.
 pub struct Stock {
     /// The rows that no seat reads. The session may write them again.
@@ -60,6 +66,8 @@ pub struct Stock {
     pub before: LinkedList<u64>,
     /// The number of places, from the first on, whose sessions don't read what they read when the wait began.
     pub passed: u64,
+    /// The session's other rows, while it writes one that came back.
+    pub aside: Aside,
 }
 
 /// The role of a seat.

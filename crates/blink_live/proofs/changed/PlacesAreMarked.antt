@@ -14,7 +14,7 @@ use Rattle.blink_live.specs.Rule.{HasPlace, PageWordIs, IsInRole, Knows, IsTable
 use Rattle.blink_live.specs.Views.{IsCommon, SeatState, is_busy}
 use Rattle.blink_live.specs.Words.{place_word, row_start, word_count}
 use Rattle.blink_live.proofs.table.PoolStays.{pool_stays}
-use Rattle.blink_live.proofs.reuse.ReuseStaysSafe.{reuse_stays}
+use Rattle.blink_live.proofs.reuse.ReuseStaysSafe.{hand_stays, reuse_stays}
 use Rattle.blink_live.proofs.table.AccountsStay.{accounts_stay}
 use Rattle.blink_live.proofs.table.OthersKnowTheSame.{LeavesOthers, RowStays, page_word_still}
 use Rattle.blink_live.proofs.table.StoresKeepTable.{call_kept, prime_still, store_keeps}
@@ -103,7 +103,7 @@ module _ (plan : Plan) (s : State ℕ View) (tree_state : TreeState) (h : IsTabl
     is_map = h.is_map;
     kept = h.kept;
   } refl refl (λ is_common. accounts_stay plan h.owners.place h.log s.views id v w at (h.accounted is_common) refl ((h.accounted is_common).saw_own id v at))
-      (λ is_common. reuse_stays plan h.owners.row s.words s.views id v w at (h.reuse is_common) h.owners.row words (λ row is. is) (λ n few. before n (omega (arith, few))) refl (λ row content is. absurd (let e : None ≡ Some (row, content) = is in cc))) knows
+      (λ is_common. reuse_stays plan h.owners.row s.words s.views id v w at (h.reuse is_common) h.owners.row words (λ row is. is) (λ seat r later is apart. is) (λ n few. before n (omega (arith, few))) refl (hand_stays h.owners.row id v w refl refl) (λ row content is. absurd (let e : None ≡ Some (row, content) = is in cc))) knows
 
 pub place_is_marked : (plan : Plan) (slots id x : ℕ) (me : SeatState) → me.0.role ≡ Pass → IsCommon plan → 1 ≤ plan.counts.numbers → (me.0.operation ≡ None) ⊎ (1 ≤ x)
     → Allows (IsTable plan) slots id me (place_word plan.counts me.0.place) (λ n. x) (λ n. marks_place (step slots (place_word plan.counts me.0.place) x 0 none) me x)

@@ -1,5 +1,5 @@
 -- A session that draws rows or page numbers from the pool takes no step of the tree, and keeps the rule.
-use Rattle.std.proofs.Common.{◌≡◌, ◌≢◌, ℕ, zero, suc, ◌+◌, ◌*◌, ◌<◌, ◌≤◌, Option, Some, None, List, set, refl, sym, ap, ◌∙◌, subst, get_or-set_same, get_or-set_other, eqb, arith}
+use Rattle.std.proofs.Common.{◌≡◌, ◌≢◌, ℕ, zero, suc, ◌+◌, ◌*◌, ◌<◌, ◌≤◌, Option, Some, None, List, set, refl, sym, ap, ◌∙◌, subst, inl, inr, ⊎_elim, ◌⊎◌, get_or-set_same, get_or-set_other, eqb, arith}
 use Rattle.std.specs.Prelude.{slice_index}
 use mathlib.Core.Option.{some, none}
 use lib.ListN.{get_elem?}
@@ -8,11 +8,12 @@ use prog.Atomic.{either}
 use Rattle.atomic_table.specs.Table.{State, Act, Valid, stepped, carried_after, step, keeps, Allows}
 use Rattle.atomic_table.proofs.Lists.{exchanged, set_again}
 use Rattle.blink_machine.specs.TreeState.{TreeState}
+use Rattle.blink_rows.specs.declared.span.Span.{Span}
 use Rattle.blink_live.specs.declared.view.Plan.{Plan}
 use Rattle.blink_live.specs.declared.view.Role.TheVariants.{Keeper, Pass}
 use Rattle.blink_live.specs.declared.view.View.{View}
 use Rattle.blink_live.specs.AtomicSteps.{draws_pages, draws_rows}
-use Rattle.blink_live.specs.Reuse.{IsReuseSafe}
+use Rattle.blink_live.specs.Reuse.{IsAtHand, IsReuseSafe}
 use Rattle.blink_live.specs.Accounts.{AreAccounts}
 use Rattle.blink_live.specs.Rule.{latch_word, HasNumbers, HasRows, Owners, PageWordIs, IsInRole, Knows, IsTableAt, IsTable}
 use Rattle.blink_live.specs.Views.{IsCommon, SeatState, has_pages, has_rows, latch_in, span}
@@ -30,7 +31,7 @@ latch_word_still : (new old : Owners) (holder : Option ℕ) → new.latch_number
 latch_word_still new old None same = refl
 latch_word_still new old (Some seat) same = ap (λ (f : ℕ → ℕ). f seat) (sym same)
 
-latch_still : (places one other : ℕ) → 1 ≤ places → latch_in places one ≡ latch_in places other
+pub latch_still : (places one other : ℕ) → 1 ≤ places → latch_in places one ≡ latch_in places other
 latch_still zero one other some_place = absurd (omega (arith, some_place))
 latch_still (suc places) one other some_place = refl
 
@@ -136,10 +137,17 @@ module _ (plan : Plan) (s : State ℕ View) (tree_state : TreeState) (h : IsTabl
       places_left = λ dealt back is. absurd (let e : Pass ≡ Keeper dealt back = sym role ∙ is in cc);
     }
 
+    -- they were the pool's
+    drawn_rows : (row : ℕ) → IsAtHand (has_rows v (span old new)) row → IsAtHand v row ⊎ (h.owners.row row ≢ suc id)
+    drawn_rows row hand = ⊎_elim
+        (λ (t : (old ≤ row) × (row < new)). let later = kept.0 in inr (λ e. let one : suc 0 ≡ suc id = sym (pool_rows.own row t.0 (omega (arith, t, end))) ∙ e in omega (arith, one, later)))
+        (λ (t : (1 ≤ row) × (row < 1)). absurd (omega (arith, t))) hand
+
     rows_drawn : IsTable plan record { words = words 1 (omega arith) (omega arith); homes = s.homes; views = set s.views id (has_rows v (span old new)) }
     rows_drawn = draw_keeps 1 (omega arith) (omega arith) row_owners (has_rows v (span old new)) rows_leave refl refl refl (accounts_stay plan h.owners.place h.log s.views id v (has_rows v (span old new)) at (h.accounted common) refl ((h.accounted common).saw_own id v at))
         (reuse_stays plan h.owners.row s.words s.views id v (has_rows v (span old new)) at (h.reuse common) row_owners.row (words 1 (omega arith) (omega arith)) (λ row is. row_else row (λ e. let one : 0 ≡ suc 0 = sym is ∙ e in omega (arith, one)) ∙ is)
-        (λ n few. before 1 (omega arith) (omega arith) n (omega (arith, few))) refl (same_reads plan h.owners.row s.words s.views id v (has_rows v (span old new)) at (h.reuse common) refl refl refl refl)) rows_knows
+        (λ seat row later is apart. row_else row (λ e. let one : suc seat ≡ suc 0 = sym is ∙ e in omega (arith, one, later)) ∙ is)
+        (λ n few. before 1 (omega arith) (omega arith) n (omega (arith, few))) refl drawn_rows (same_reads plan h.owners.row s.words s.views id v (has_rows v (span old new)) at (h.reuse common) refl refl refl refl)) rows_knows
 
   -- ---- page numbers
 
@@ -202,10 +210,13 @@ module _ (plan : Plan) (s : State ℕ View) (tree_state : TreeState) (h : IsTabl
       places_left = λ dealt back is. absurd (let e : Pass ≡ Keeper dealt back = sym role ∙ is in cc);
     }
 
+    no_call_rows : (seat : ℕ) (u : View) (pages : Span) (row : ℕ) → IsAtHand (has_pages u pages) row → IsAtHand u row ⊎ (h.owners.row row ≢ suc seat)
+    no_call_rows seat u pages row hand = ⊎_elim (λ (t : (u.rows.next ≤ row) × (row < u.rows.stop)). inl (inl t)) (λ (t : (1 ≤ row) × (row < 1)). absurd (omega (arith, t))) hand
+
     pages_drawn : IsTable plan record { words = words 2 (omega arith) (omega arith); homes = s.homes; views = set s.views id (has_pages v (span old new)) }
     pages_drawn = draw_keeps 2 (omega arith) (omega arith) page_owners (has_pages v (span old new)) pages_leave refl refl refl (accounts_stay plan h.owners.place h.log s.views id v (has_pages v (span old new)) at (h.accounted common) refl ((h.accounted common).saw_own id v at))
-        (reuse_stays plan h.owners.row s.words s.views id v (has_pages v (span old new)) at (h.reuse common) page_owners.row (words 2 (omega arith) (omega arith)) (λ row is. is)
-        (λ n few. before 2 (omega arith) (omega arith) n (omega (arith, few))) refl (same_reads plan h.owners.row s.words s.views id v (has_pages v (span old new)) at (h.reuse common) refl refl refl refl)) pages_knows
+        (reuse_stays plan h.owners.row s.words s.views id v (has_pages v (span old new)) at (h.reuse common) page_owners.row (words 2 (omega arith) (omega arith)) (λ row is. is) (λ seat r later is apart. is)
+        (λ n few. before 2 (omega arith) (omega arith) n (omega (arith, few))) refl (no_call_rows id v (span old new)) (same_reads plan h.owners.row s.words s.views id v (has_pages v (span old new)) at (h.reuse common) refl refl refl refl)) pages_knows
 
 -- ---- the steps
 

@@ -1,5 +1,5 @@
 -- A page word that names a row of one's own is the tree's write of a page, old or new, or of the prime block, and keeps the rule.
-use Rattle.std.proofs.Common.{◌≡◌, ◌≢◌, ⊎_elim, ℕ, suc, ◌<◌, ◌≤◌, Option, Some, None, List, [], ◌++◌, set, refl, sym, ap, ◌∙◌, subst, append_assoc, arith}
+use Rattle.std.proofs.Common.{◌≡◌, ◌≢◌, ◌⊎◌, inl, inr, ⊎_elim, ℕ, suc, ◌<◌, ◌≤◌, Option, Some, None, List, [], ◌++◌, set, refl, sym, ap, ◌∙◌, subst, append_assoc, arith}
 use Rattle.std.specs.Prelude.{Contains, IsSome, slice_index}
 use mathlib.Core.Option.{some, none}
 use mathlib.Core.List.{IsPrefix, append-nil}
@@ -25,7 +25,7 @@ use Rattle.blink_live.specs.declared.view.Stock.{Stock}
 use Rattle.blink_live.specs.declared.view.View.{View}
 use Rattle.blink_live.specs.Changes.{put, after, states_of, changes_made, Learns}
 use Rattle.blink_live.specs.AtomicSteps.{AnswersInOrder, Decided, CanGoOn, EndsWithOwn, PublishesPage, PublishesNew, PublishesPrime, publishes_page, publishes_new, publishes_prime}
-use Rattle.blink_live.specs.Reuse.{IsReuseSafe}
+use Rattle.blink_live.specs.Reuse.{IsAtHand, IsReuseSafe, IsWithin}
 use Rattle.blink_live.specs.Rule.{IsOwnKey, IsShare, HasNumbers, Knows, IsTableAt, IsTable, PageWordIs}
 use Rattle.blink_live.specs.Views.{IsCommon, IsOwned, MayChange, SeatState, KnowsItsOwn, adds, span, changed_by, publishes, takes_out}
 use Rattle.blink_live.proofs.changed.ChangesAreTheMaps.{all_by_author, states_of-append, none_of_other, other_stays, map_is_changed}
@@ -61,7 +61,7 @@ module _ (plan : Plan) (s : State ℕ View) (tree_state then : TreeState) (h : I
     (at : get_elem? s.views id ≡ some me.0) (role : me.0.role ≡ Pass) (under : (k : PlainMachine) × (me.0.operation ≡ Some k)) (its : IsItsOperation tree_state id m) (fits : FitsWords m.op) (stepped : Steps tree_state id m (Moved kind) after_it then)
     (tree : IsStepOfTree plan s tree_state then h id number (descent_bound then.pages after_it) me.0 after_it content pages stock at role)
     (in_range : number < plan.counts.numbers) (room : me.0.call.rows.next < me.0.call.rows.stop) (is_row : IsRowOf me.0.call.staged content) (may : MayChange me.0 (key_of m.op))
-    (reuse : (w : View) → w.reads ≡ me.0.reads → w.role ≡ me.0.role → w.busy ≡ me.0.busy → w.place ≡ me.0.place → w.stock ≡ stock → IsCommon plan → IsReuseSafe plan (gives_row h.owners me.0.call.rows.next).row (set s.words number me.0.call.rows.next) (set s.views id w)) where
+    (reuse : (w : View) → w.reads ≡ me.0.reads → w.role ≡ me.0.role → w.busy ≡ me.0.busy → w.place ≡ me.0.place → w.stock ≡ stock → w.rows ≡ me.0.rows → w.call.rows ≡ span (suc me.0.call.rows.next) me.0.call.rows.stop → IsCommon plan → IsReuseSafe plan (gives_row h.owners me.0.call.rows.next).row (set s.words number me.0.call.rows.next) (set s.views id w)) where
   known : Knows plan h.owners s.words tree_state h.log id me.0
   known = h.views id me.0 at
 
@@ -192,7 +192,7 @@ module _ (plan : Plan) (s : State ℕ View) (tree_state then : TreeState) (h : I
           share = decided_share.0;
           seen = h.log ++ its_changes;
           table = publish_keeps plan s tree_state then h id number way me.0 after_it content pages stock at role under tree in_range room is_row its_changes (map_after h.now m.op) decided_share.0 (decides_here decided_share.0 decided_share.1 has_entries) bounded
-              (reuse (publishes me.0 after_it way pages decided_share.0 (h.log ++ its_changes) stock) refl refl refl refl refl);
+              (reuse (publishes me.0 after_it way pages decided_share.0 (h.log ++ its_changes) stock) refl refl refl refl refl refl refl);
           learns = learns its_changes;
           decided = Decided.deciding none_yet (in_order decided_share.0 decided_share.1 answers);
           next = next;
@@ -207,7 +207,7 @@ module _ (plan : Plan) (s : State ℕ View) (tree_state then : TreeState) (h : I
           share = me.0.share;
           seen = h.log ++ [];
           table = publish_keeps plan s tree_state then h id number way me.0 after_it content pages stock at role under tree in_range room is_row [] h.now me.0.share (decides_nothing has_entries) bounded
-              (reuse (publishes me.0 after_it way pages me.0.share (h.log ++ []) stock) refl refl refl refl refl);
+              (reuse (publishes me.0 after_it way pages me.0.share (h.log ++ []) stock) refl refl refl refl refl refl refl);
           learns = learns [];
           decided = Decided.other same_answer refl;
           next = next;
@@ -260,6 +260,12 @@ module _ (plan : Plan) (s : State ℕ View) (tree_state : TreeState) (h : IsTabl
     no_other_page = λ n beyond. free_else n (λ same. omega (arith, same, beyond, in_range)) (h.no_other_page n beyond);
   }
 
+-- the row that it publishes isn't at hand any more
+rows_after : (whose : ℕ → ℕ) (seat : ℕ) (v w : View) → w.rows ≡ v.rows → w.call.rows ≡ span (suc v.call.rows.next) v.call.rows.stop → (row : ℕ) → IsAtHand w row → IsAtHand v row ⊎ (whose row ≢ suc seat)
+rows_after whose seat v w rows call row hand =
+    let hand_now : IsWithin v.rows row ⊎ IsWithin (span (suc v.call.rows.next) v.call.rows.stop) row = subst (λ (x : Span × Span). IsWithin x.0 row ⊎ IsWithin x.1 row) (λ i. (rows i, call i)) hand in
+    ⊎_elim (λ (t : IsWithin v.rows row). inl (inl t)) (λ (t : (suc v.call.rows.next ≤ row) × (row < v.call.rows.stop)). inl (inr (omega (arith, t), t.1))) hand_now
+
 -- in a page's place
 page_becomes_published : (plan : Plan) (s : State ℕ View) (table : IsTable plan s) (id number : ℕ) (me : SeatState) (m : PlainMachine) → get_elem? s.views id ≡ some me.0 → me.0.role ≡ Pass → me.0.operation ≡ Some m → FitsWords m.op
     → NeedsWrite m number → 1 ≤ number → number < plan.counts.numbers → me.0.call.rows.next < me.0.call.rows.stop → IsRowOf me.0.call.staged (page_words (page_out m 0)) → MayChange me.0 (key_of m.op)
@@ -287,7 +293,7 @@ page_becomes_published plan s table id number me m at role at_m fits needs some_
     (numbers_else plan s tree_state h id number way me.0 after_it page me.0.call.pages out at role some_number in_range me.0.call.pages (λ n low high. differs n (known.for_call.numbers.free n low high)) known.for_call.numbers)
     known.for_call.before.1 in
     becomes_published plan s tree_state then h id number (kinds.WritePage number) me.0.call.pages out me m after_it (page_words page) at role (m, at_m) its fits stepped tree in_range room is_row may
-    (λ w reads its_role busy place stock common. page_is_safe plan s tree_state h id number me.0.call.rows.next me.0 w at (h.reuse common) in_range (known.for_call.first_own room).1 reads its_role busy place
+    (λ w reads its_role busy place stock rows call common. page_is_safe plan s tree_state h id number me.0.call.rows.next me.0 w at (h.reuse common) in_range (known.for_call.first_own room).1 reads its_role busy place (inr (omega arith, room)) (rows_after h.owners.row id me.0 w rows call)
     (subst (PageWordIs plan h.owners s.words (slice_index s.words number)) well.there (h.pages number some_number in_range)).0 stock)
 
 pub page_is_published : (plan : Plan) (slots id number : ℕ) (me : SeatState) (m : PlainMachine) → me.0.role ≡ Pass → me.0.operation ≡ Some m → FitsWords m.op → NeedsWrite m number
@@ -341,7 +347,7 @@ new_becomes_published plan s table id me m at role at_m fits needs number_left r
     (record { in_range = (omega arith, last); own = λ n low high. numbers.own n (omega (arith, low)) high; free = λ n low high. numbers.free n (omega (arith, low)) high }))
     before in
     becomes_published plan s tree_state then h id number (kinds.WritePage number) rest me.0.stock me m after_it (page_words page) at role (m, at_m) its fits stepped tree in_range room is_row may
-    (λ w reads its_role busy place stock common. new_page_is_safe plan s tree_state h id number me.0.call.rows.next me.0 w at (h.reuse common) in_range (known.for_call.first_own room).1 reads its_role busy place stock)
+    (λ w reads its_role busy place stock rows call common. new_page_is_safe plan s tree_state h id number me.0.call.rows.next me.0 w at (h.reuse common) in_range (known.for_call.first_own room).1 reads its_role busy place (inr (omega arith, room)) (rows_after h.owners.row id me.0 w rows call) stock)
 
 pub new_is_published : (plan : Plan) (slots id : ℕ) (me : SeatState) (m : PlainMachine) → me.0.role ≡ Pass → me.0.operation ≡ Some m → FitsWords m.op → NeedsNew m
     → me.0.call.pages.next < me.0.call.pages.stop → me.0.call.rows.next < me.0.call.rows.stop → IsRowOf me.0.call.staged (page_words (page_out m me.0.call.pages.next)) → MayChange me.0 (key_of m.op)
@@ -399,7 +405,7 @@ prime_becomes_published plan s table id me m prime at role at_m fits needs out s
       no_other_page = h.no_other_page;
     } in
     becomes_published plan s tree_state then h id 0 kinds.WritePrime me.0.call.pages (takes_out (slice_index s.words 0) me.0.stock) me m after_it (prime_words prime) at role (m, at_m) its fits stepped tree (omega (arith, some_number)) room is_row may
-    (λ w reads its_role busy place stock common. page_is_safe plan s tree_state h id 0 me.0.call.rows.next me.0 w at (h.reuse common) (omega (arith, some_number)) (known.for_call.first_own room).1 reads its_role busy place h.prime.0 stock)
+    (λ w reads its_role busy place stock rows call common. page_is_safe plan s tree_state h id 0 me.0.call.rows.next me.0 w at (h.reuse common) (omega (arith, some_number)) (known.for_call.first_own room).1 reads its_role busy place (inr (omega arith, room)) (rows_after h.owners.row id me.0 w rows call) h.prime.0 stock)
 
 pub prime_is_published : (plan : Plan) (slots id : ℕ) (me : SeatState) (m : PlainMachine) (prime : List ℕ) → me.0.role ≡ Pass → me.0.operation ≡ Some m → FitsWords m.op → NeedsPrimeWrite m → PrimeOut m prime
     → 1 ≤ plan.counts.numbers → me.0.call.rows.next < me.0.call.rows.stop → IsRowOf me.0.call.staged (prime_words prime) → MayChange me.0 (key_of m.op)

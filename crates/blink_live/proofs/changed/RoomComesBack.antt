@@ -1,5 +1,5 @@
 -- What a call hasn't used is its pass's again: that is no step of the tree, and keeps the rule.
-use Rattle.std.proofs.Common.{◌≡◌, ℕ, suc, ◌<◌, ◌≤◌, get_or, set, refl, sym, ap, ◌∙◌, subst, arith}
+use Rattle.std.proofs.Common.{◌≡◌, ℕ, suc, ◌<◌, ◌≤◌, get_or, set, refl, sym, ap, ◌∙◌, subst, inl, inr, ⊎_elim, ◌⊎◌, ◌≢◌, arith}
 use mathlib.Core.Option.{some, none}
 use mathlib.Core.Logic.{dite}
 use native.Mathlib.Decide.{ℕ_discrete, dec_le}
@@ -11,6 +11,7 @@ use Rattle.blink_live.specs.declared.view.Plan.{Plan}
 use Rattle.blink_live.specs.declared.view.Role.TheVariants.{Keeper, Pass}
 use Rattle.blink_live.specs.declared.view.View.{View}
 use Rattle.blink_live.specs.GivingBack.{CanGiveBack, gives_back, giving_back}
+use Rattle.blink_live.specs.Reuse.{IsAtHand}
 use Rattle.blink_live.specs.Rule.{HasRows, HasNumbers, IsInRole, Knows, IsTable, IsTableAt}
 use Rattle.blink_live.specs.Views.{SeatState, span}
 use Rattle.blink_live.proofs.table.CallsOfSeats.{nothing_for_call}
@@ -75,6 +76,13 @@ module _ (plan : Plan) (some_number : 1 ≤ plan.counts.numbers) (s : State ℕ 
     nothing = λ common dealt back is. absurd (let e : Pass ≡ Keeper dealt back = sym role ∙ is in cc);
   }
 
+  -- all of it was at hand
+  hand_before : (row : ℕ) → IsAtHand (gives_back v) row → IsAtHand v row ⊎ (h.owners.row row ≢ suc id)
+  hand_before row hand =
+      let ends = can.rows in
+      ⊎_elim (λ (t : (v.call.rows.next ≤ row) × (row < v.rows.stop)). dite (dec_le v.rows.next row) (λ later. inl (inl (later, t.1))) (λ earlier. inl (inr (t.0, omega (arith, earlier, ends)))))
+      (λ (t : (1 ≤ row) × (row < 1)). absurd (omega (arith, t))) hand
+
   pub back_keeps : IsTable plan record { words = set s.words 0 (get_or s.words 0 0); homes = s.homes; views = set s.views id (gives_back v) }
   back_keeps =
       let still = step_law.idle_workers_dont_matter tree_state then (record {
@@ -85,7 +93,7 @@ module _ (plan : Plan) (some_number : 1 ≤ plan.counts.numbers) (s : State ℕ 
         same_machines = put_same tree_state.machines id v.operation known.operation;
       }) h.invariant in
       load_keeps_with plan s tree_state h id 0 v (gives_back v) at still refl refl refl (λ common. (h.accounted common).saw_own id v at)
-      (λ common. reuse_stays plan h.owners.row s.words s.views id v (gives_back v) at (h.reuse common) h.owners.row s.words (λ row is. is) (λ n few. refl) refl (same_reads plan h.owners.row s.words s.views id v (gives_back v) at (h.reuse common) refl refl refl refl)) knows
+      (λ common. reuse_stays plan h.owners.row s.words s.views id v (gives_back v) at (h.reuse common) h.owners.row s.words (λ row is. is) (λ seat r later is apart. is) (λ n few. refl) refl hand_before (same_reads plan h.owners.row s.words s.views id v (gives_back v) at (h.reuse common) refl refl refl refl)) knows
 
 pub room_comes_back : (plan : Plan) (slots id : ℕ) (me : SeatState) → 1 ≤ plan.counts.numbers → me.0.role ≡ Pass → CanGiveBack me.0
     → Allows (IsTable plan) slots id me 0 (λ k. k) (giving_back (step slots 0 0 0 none) me)

@@ -17,7 +17,7 @@ use Rattle.blink_live.specs.Rule.{PageWordIs, IsInRole, Knows, IsTableAt, IsTabl
 use Rattle.blink_live.specs.Views.{SeatState, knows_word, stage_word}
 use Rattle.blink_live.specs.Words.{row_start, RowBegins, place_word, word_count}
 use Rattle.blink_live.proofs.table.PoolStays.{pool_stays}
-use Rattle.blink_live.proofs.reuse.ReuseStaysSafe.{reuse_stays, same_reads}
+use Rattle.blink_live.proofs.reuse.ReuseStaysSafe.{hand_stays, reuse_stays, same_reads}
 use Rattle.blink_live.proofs.table.AccountsStay.{accounts_stay}
 use Rattle.blink_live.proofs.table.OthersKnowTheSame.{LeavesOthers, RowStays, page_word_still, reads_still}
 use Rattle.blink_live.proofs.table.LoadsKeepTable.{moved, load_keeps_with}
@@ -29,12 +29,12 @@ other_row_stays : (plan : Plan) (words : List ℕ) (row other i x : ℕ) → 1 �
 other_row_stays plan words row other i x some_row some_other differ inside k below = get_or-set_other words (row_start plan.counts row + i) (row_start plan.counts other + k) x 0 (λ e. differ (omega (arith, e, some_row, some_other, inside, below)))
 
 -- one more element at the end of a list
-before_the_end : (xs : List ℕ) (x i : ℕ) → i < length xs → slice_index (xs ++ x ∷ []) i ≡ slice_index xs i
+pub before_the_end : (xs : List ℕ) (x i : ℕ) → i < length xs → slice_index (xs ++ x ∷ []) i ≡ slice_index xs i
 before_the_end [] x i inside = absurd (omega (arith, inside))
 before_the_end (y ∷ xs) x zero inside = refl
 before_the_end (y ∷ xs) x (suc i) inside = before_the_end xs x i (omega (arith, inside))
 
-at_the_end : (xs : List ℕ) (x i : ℕ) → i ≡ length xs → slice_index (xs ++ x ∷ []) i ≡ x
+pub at_the_end : (xs : List ℕ) (x i : ℕ) → i ≡ length xs → slice_index (xs ++ x ∷ []) i ≡ x
 at_the_end [] x zero is = refl
 at_the_end [] x (suc i) is = absurd (omega (arith, is))
 at_the_end (y ∷ xs) x zero is = absurd (omega (arith, is))
@@ -143,7 +143,7 @@ module _ (plan : Plan) (s : State ℕ View) (tree_state : TreeState) (h : IsTabl
     is_map = h.is_map;
     kept = h.kept;
   } refl refl (λ common. accounts_stay plan h.owners.place h.log s.views id v w at (h.accounted common) refl ((h.accounted common).saw_own id v at))
-      (λ common. reuse_stays plan h.owners.row s.words s.views id v w at (h.reuse common) h.owners.row words (λ r is. is) (λ n few. before_rows n (omega (arith, few))) refl (same_reads plan h.owners.row s.words s.views id v w at (h.reuse common) refl refl refl refl)) knows
+      (λ common. reuse_stays plan h.owners.row s.words s.views id v w at (h.reuse common) h.owners.row words (λ r is. is) (λ seat r later is apart. is) (λ n few. before_rows n (omega (arith, few))) refl (hand_stays h.owners.row id v w refl refl) (same_reads plan h.owners.row s.words s.views id v w at (h.reuse common) refl refl refl refl)) knows
 
 pub word_is_staged : (plan : Plan) (slots id i x : ℕ) (me : SeatState) → me.0.role ≡ Pass → me.0.call.rows.next < me.0.call.rows.stop → i < ROW_WORDS → 1 ≤ plan.counts.numbers
     → Allows (IsTable plan) slots id me (row_start plan.counts me.0.call.rows.next + i) (λ n. x) (λ n. stores_word (step slots (row_start plan.counts me.0.call.rows.next + i) x 0 none) me x)
@@ -208,7 +208,7 @@ module _ (plan : Plan) (s : State ℕ View) (tree_state : TreeState) (h : IsTabl
         same_machines = put_same tree_state.machines id v.operation known.operation;
       }) h.invariant in
       load_keeps_with plan s tree_state h id word v then at still refl refl refl (λ common. (h.accounted common).saw_own id v at)
-      (λ common. reuse_stays plan h.owners.row s.words s.views id v then at (h.reuse common) h.owners.row s.words (λ r is. is) (λ n few. refl) refl (same_reads plan h.owners.row s.words s.views id v then at (h.reuse common) refl refl refl refl)) knows_then
+      (λ common. reuse_stays plan h.owners.row s.words s.views id v then at (h.reuse common) h.owners.row s.words (λ r is. is) (λ seat r later is apart. is) (λ n few. refl) refl (hand_stays h.owners.row id v then refl refl) (same_reads plan h.owners.row s.words s.views id v then at (h.reuse common) refl refl refl refl)) knows_then
 
 pub word_is_known : (plan : Plan) (slots id i : ℕ) (me : SeatState) → me.0.role ≡ Pass → me.0.call.rows.next < me.0.call.rows.stop → i ≡ length me.0.call.staged
     → Allows (IsTable plan) slots id me (row_start plan.counts me.0.call.rows.next + i) (λ k. k) (knows_more (step slots (row_start plan.counts me.0.call.rows.next + i) 0 0 none) me)

@@ -21,7 +21,7 @@ use Rattle.blink_live.proofs.dealt.FirstOrOneOfRest.{contains_case}
 use Rattle.blink_live.proofs.table.CallsOfSeats.{call_still}
 use Rattle.blink_live.proofs.table.AccountsStay.{none_apart}
 use Rattle.blink_live.proofs.table.MapsWithOneChange.{put_here, put_else}
-use Rattle.blink_live.proofs.reuse.ReuseStaysSafe.{reuse_stays, reuse_without, same_reads}
+use Rattle.blink_live.proofs.reuse.ReuseStaysSafe.{hand_stays, reuse_stays, reuse_without, same_reads}
 use Rattle.blink_live.proofs.table.OwnersChange.{StillOwns, reads_still, share_still, knows_still, owners_change}
 use Rattle.blink_live.proofs.table.SeatsThatStay.{at_put, views_stay}
 use Rattle.blink_live.proofs.table.SpentSeats.{spent_knows}
@@ -193,8 +193,8 @@ module _ (plan : Plan) (some_number : 1 ≤ plan.counts.numbers) (s : State ℕ 
       omega (arith, one, two))
       h.nobodys (λ is_common. pool_then) (λ is_common. accounts_then)
       (λ is_common. reuse_without plan old.row s.words (set s.views id both) other w (spent plan) there
-      (reuse_stays plan old.row s.words s.views id v both at (h.reuse is_common) old.row s.words (λ row is. is) (λ n few. refl) refl (same_reads plan old.row s.words s.views id v both at (h.reuse is_common) refl refl refl refl))
-      new.row s.words (λ row is. is) (λ n few. refl) refl refl) counted_then
+      (reuse_stays plan old.row s.words s.views id v both at (h.reuse is_common) old.row s.words (λ row is. is) (λ seat r later is apart. is) (λ n few. refl) refl (hand_stays old.row id v both refl refl) (same_reads plan old.row s.words s.views id v both at (h.reuse is_common) refl refl refl refl))
+      new.row s.words (λ row is. is) (λ seat r later is apart. is) (λ n few. refl) refl refl) counted_then
 
 pub taking_account_keeps_table : (plan : Plan) (id other : ℕ) (v w : View) (dealt back : ℕ) → 1 ≤ plan.counts.numbers → v.role ≡ Keeper dealt back → IsCommon plan → w.role ≡ Pass → w.operation ≡ None
     → Joins (IsTable plan) id v other w (takes_account v w) (spent plan)

@@ -1,5 +1,5 @@
 -- A deal keeps the rule: the keeper's first rows and page numbers, and keys that nobody has, become a new seat's.
-use Rattle.std.proofs.Common.{◌≡◌, ◌≢◌, ℕ, suc, ◌+◌, ◌<◌, Bool, true, false, Some, None, List, [], ◌∷◌, ◌++◌, length, set, refl, sym, ap, ◌∙◌, subst, inl, inr, ⊎_elim, length-set, length-append, arith}
+use Rattle.std.proofs.Common.{◌≡◌, ◌≢◌, ◌⊎◌, ℕ, suc, ◌+◌, ◌<◌, ◌≤◌, Bool, true, false, Some, None, List, [], ◌∷◌, ◌++◌, length, set, refl, sym, ap, ◌∙◌, subst, inl, inr, ⊎_elim, length-set, length-append, arith}
 use Rattle.std.specs.Prelude.{if◌then◌else◌, slice_index, Contains}
 use mathlib.Core.Option.{some, some-injective}
 use lib.ListN.{get_elem?}
@@ -14,7 +14,7 @@ use Rattle.blink_live.specs.declared.view.Role.TheVariants.{Keeper, Pass}
 use Rattle.blink_live.specs.declared.view.View.{View}
 use Rattle.blink_live.specs.Changes.{put, after, entries_after, states_of}
 use Rattle.blink_live.specs.Dealing.{CanDeal}
-use Rattle.blink_live.specs.Reuse.{IsReuseSafe}
+use Rattle.blink_live.specs.Reuse.{IsAtHand, IsReuseSafe}
 use Rattle.blink_live.specs.Accounts.{IsAccount, AreAccounts, made_at, account_of, accounts_in, accounts_of}
 use Rattle.blink_live.specs.Rule.{HasPool, Owners, IsFree, IsShare, IsInRole, Knows, pass_count, passes_in, AreCounted, IsTableAt, IsTable}
 use Rattle.blink_live.specs.Views.{is_among, changes_of, share_of_keys, deals_one, dealt_in, keeps_rest, gets_first, latch_in, IsCommon}
@@ -324,9 +324,15 @@ module _ (plan : Plan) (s : State ℕ View) (tree_state : TreeState) (h : IsTabl
       no_changes : IsCommon plan → changes_of keys v.seen ≡ []
       no_changes common = none_of_these keys v.seen (none_among common)
 
+  -- the host has fewer rows
+  fewer_rows : (row : ℕ) → IsAtHand left row → IsAtHand v row ⊎ (old.row row ≢ suc id)
+  fewer_rows row hand = ⊎_elim (λ (t : (v.rows.next + rows ≤ row) × (row < v.rows.stop)). inl (inl (omega (arith, t), t.1))) (λ (t : (v.call.rows.next ≤ row) × (row < v.call.rows.stop)). inl (inr t)) hand
+
   reuse_then : IsCommon plan → IsReuseSafe plan new.row s.words views_then
   reuse_then common = reuse_longer plan new.row s.words (set s.views id left) right refl refl
-      (reuse_stays plan old.row s.words s.views id v left at (h.reuse common) new.row s.words published (λ n few. refl) refl
+      (reuse_stays plan old.row s.words s.views id v left at (h.reuse common) new.row s.words published
+      (λ seat row later is apart. ranged_out v.rows.next (v.rows.next + rows) (suc new_seat) old.row row (λ low high. let enough = can.enough_rows in let mine = known.rows.own row low (omega (arith, high, enough)) in let first = in_role.0 in let one : suc seat ≡ suc id = sym is ∙ mine in omega (arith, one, first, later)) ∙ is)
+      (λ n few. refl) refl fewer_rows
       (λ row content is. absurd (let e : Keeper can.dealt can.back ≡ Pass = sym can.role ∙ (((h.reuse common).stocks id v at).awake row content is).0 in cc)))
 
   deals_at : IsTableAt plan record { words = s.words; homes = s.homes; views = views_then } tree_state

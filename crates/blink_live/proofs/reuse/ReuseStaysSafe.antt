@@ -1,14 +1,16 @@
 -- A step of one seat after which its stock is right, and agrees with what the seats read, keeps reuse safe.
-use Rattle.std.proofs.Common.{◌≡◌, ◌≢◌, ◌⊎◌, ⊎_elim, ℕ, ◌<◌, ◌≤◌, Option, Some, None, List, [], ◌∷◌, ◌++◌, set, length, sym, ap, ◌∙◌, subst, inl, arith}
+use Rattle.std.proofs.Common.{◌≡◌, ◌≢◌, ◌⊎◌, ⊎_elim, ℕ, suc, ◌+◌, ◌<◌, ◌≤◌, Option, Some, None, List, [], ◌∷◌, ◌++◌, set, length, refl, sym, ap, ◌∙◌, subst, inl, arith}
 use Rattle.std.specs.Prelude.{Contains, slice_index}
 use mathlib.Core.Option.{some}
 use lib.ListN.{get_elem?}
+use Rattle.blink_rows.specs.declared.span.Span.{Span}
+use Rattle.blink_live.specs.declared.view.Aside.{Aside}
 use Rattle.blink_live.specs.declared.view.Plan.{Plan}
 use Rattle.blink_live.specs.declared.view.Role.TheVariants.{Pass}
 use Rattle.blink_live.specs.declared.view.Stock.{Stock}
 use Rattle.blink_live.specs.declared.view.View.{View}
-use Rattle.blink_live.specs.Reuse.{AgreesWith, AreNamedOnce, HasRowsOnce, HasStock, IsReadBesides, IsReuseSafe, IsTakenOut}
-use Rattle.blink_live.specs.Views.{no_stock}
+use Rattle.blink_live.specs.Reuse.{AgreesWith, AreNamedOnce, HasAside, HasRowsOnce, HasStock, IsAside, IsAtHand, IsReadBesides, IsReuseSafe, IsTakenOut, IsWithin}
+use Rattle.blink_live.specs.Views.{no_aside, no_stock}
 use Rattle.blink_live.proofs.table.PassesOut.{at_end}
 use Rattle.blink_live.proofs.table.SeatsThatStay.{views_stay}
 
@@ -23,6 +25,21 @@ none_listed row has = let inside = has.1 in omega (arith, inside)
 pub agrees_with_none : (stock : Stock) (u : View) → stock ≡ no_stock → AgreesWith stock u
 agrees_with_none stock u none row content is = subst (λ (x : Stock). IsReadBesides x u row) (sym none) (record { not_free = none_listed row; not_past = λ has. absurd (none_listed row has) })
 
+-- nothing is aside
+none_aside : (row : ℕ) → ¬ IsAside no_aside row
+none_aside row has = ⊎_elim (λ (t : (1 ≤ row) × (row < 1)). omega (arith, t)) (λ (t : (1 ≤ row) × (row < 1)). omega (arith, t)) has
+
+pub empty_aside : (plan : Plan) (whose : ℕ → ℕ) (seat : ℕ) (v : View) → v.stock.aside ≡ no_aside → HasAside plan whose seat v
+empty_aside plan whose seat v none =
+    let nothing : (row : ℕ) → ¬ IsAside v.stock.aside row = λ row has. none_aside row (subst (λ (x : Aside). IsAside x row) none has) in record {
+      in_range = subst (λ (x : Aside). (1 ≤ x.rows.next) × (x.rows.stop ≤ plan.counts.rows + 1) × (x.call.stop ≤ plan.counts.rows + 1)) (sym none) (omega arith, omega arith, omega arith);
+      in_order = subst (λ (x : Aside). x.call.stop ≤ x.rows.next) (sym none) (omega arith);
+      sessions = λ row has. absurd (nothing row has);
+      some_row = λ row has. absurd (nothing row has);
+      own = λ row has. absurd (nothing row has);
+      apart = λ row has. absurd (nothing row has);
+    }
+
 -- such a stock is right
 pub empty_stock : (plan : Plan) (whose : ℕ → ℕ) (words : List ℕ) (claim : ℕ → ℕ) (seat : ℕ) (v : View) → v.stock ≡ no_stock → v.reads ≡ None → HasStock plan whose words claim seat v
 empty_stock plan whose words claim seat v none blind = record {
@@ -31,17 +48,35 @@ empty_stock plan whose words claim seat v none blind = record {
   free = λ row has. absurd (none_listed row (subst (λ (x : Stock). Contains x.free row) none has));
   retired = λ row has. absurd (none_listed row (subst (λ (x : Stock). Contains x.retired row) none has));
   waiting = λ row has. absurd (none_listed row (subst (λ (x : Stock). Contains x.waiting row) none has));
+  aside = empty_aside plan whose seat v (ap (λ (x : Stock). x.aside) none);
 }
+
+-- a seat's rows that are aside stay so where they stay its own, and no more is at hand
+pub aside_kept : (plan : Plan) (whose new : ℕ → ℕ) (seat : ℕ) (v w : View) → w.stock.aside ≡ v.stock.aside → ((row : ℕ) → 1 ≤ seat → whose row ≡ suc seat → ¬ IsAtHand v row → new row ≡ suc seat)
+    → ((row : ℕ) → IsAtHand w row → IsAtHand v row ⊎ (whose row ≢ suc seat)) → HasAside plan whose seat v → HasAside plan new seat w
+aside_kept plan whose new seat v w same owned hand has =
+    let was : (row : ℕ) → IsAside w.stock.aside row → IsAside v.stock.aside row = λ row is. subst (λ (x : Aside). IsAside x row) same is in record {
+      in_range = subst (λ (x : Aside). (1 ≤ x.rows.next) × (x.rows.stop ≤ plan.counts.rows + 1) × (x.call.stop ≤ plan.counts.rows + 1)) (sym same) has.in_range;
+      in_order = subst (λ (x : Aside). x.call.stop ≤ x.rows.next) (sym same) has.in_order;
+      sessions = λ row is. has.sessions row (was row is);
+      some_row = λ row is. has.some_row row (was row is);
+      own = λ row is. owned row (has.sessions row (was row is)) (has.own row (was row is)) (has.apart row (was row is));
+      apart = λ row is at. ⊎_elim (λ (before : IsAtHand v row). has.apart row (was row is) before) (λ (other : whose row ≢ suc seat). other (has.own row (was row is))) (hand row at);
+    }
+
+pub hand_stays : (whose : ℕ → ℕ) (seat : ℕ) (v w : View) → w.rows ≡ v.rows → w.call.rows ≡ v.call.rows → (row : ℕ) → IsAtHand w row → IsAtHand v row ⊎ (whose row ≢ suc seat)
+hand_stays whose seat v w rows call row at = inl (subst (λ (x : Span × Span). IsWithin x.0 row ⊎ IsWithin x.1 row) (λ i. (rows i, call i)) at)
 
 -- what was taken out is so where owners, words and claims are others
 pub stock_kept : (plan : Plan) (whose new : ℕ → ℕ) (words then : List ℕ) (claim now : ℕ → ℕ) (seat : ℕ) (v : View) → ((row : ℕ) → IsTakenOut plan whose words claim seat row → IsTakenOut plan new then now seat row)
-    → HasStock plan whose words claim seat v → HasStock plan new then now seat v
-stock_kept plan whose new words then claim now seat v kept has = record {
+    → ((row : ℕ) → 1 ≤ seat → whose row ≡ suc seat → ¬ IsAtHand v row → new row ≡ suc seat) → HasStock plan whose words claim seat v → HasStock plan new then now seat v
+stock_kept plan whose new words then claim now seat v kept owned has = record {
   awake = has.awake;
   once = has.once;
   free = λ row inside. kept row (has.free row inside);
   retired = λ row inside. kept row (has.retired row inside);
   waiting = λ row inside. kept row (has.waiting row inside);
+  aside = aside_kept plan whose new seat v v refl owned (λ row at. inl at) has.aside;
 }
 
 -- ---- a step of one seat
@@ -118,7 +153,8 @@ module _ (plan : Plan) (whose : ℕ → ℕ) (words : List ℕ) (views : List Vi
       })
       (may row content is).from
 
-  module _ (new : ℕ → ℕ) (then : List ℕ) (published : (row : ℕ) → whose row ≡ 0 → new row ≡ 0) (named : (number : ℕ) → number < plan.counts.numbers → slice_index then number ≡ slice_index words number) where
+  module _ (new : ℕ → ℕ) (then : List ℕ) (published : (row : ℕ) → whose row ≡ 0 → new row ≡ 0) (owned : (seat row : ℕ) → 1 ≤ seat → whose row ≡ suc seat → (seat ≡ id → ¬ IsAtHand v row) → new row ≡ suc seat)
+      (named : (number : ℕ) → number < plan.counts.numbers → slice_index then number ≡ slice_index words number) where
     out_still : (seat row : ℕ) → IsTakenOut plan whose words safe.claim seat row → IsTakenOut plan new then safe.claim seat row
     out_still seat row is = record {
       in_range = is.in_range;
@@ -132,19 +168,20 @@ module _ (plan : Plan) (whose : ℕ → ℕ) (words : List ℕ) (views : List Vi
         let first = named one few_one in
         safe.named_once one other few_one few_other (omega (arith, least, first)) (sym first ∙ (same ∙ named other few_other))
 
-    pub reuse_stays : w.stock ≡ v.stock → MayReadOn plan words v w → IsReuseSafe plan new then (set views id w)
-    reuse_stays same may = safe_then plan whose new words then views id w safe record {
+    pub reuse_stays : w.stock ≡ v.stock → ((row : ℕ) → IsAtHand w row → IsAtHand v row ⊎ (whose row ≢ suc id)) → MayReadOn plan words v w → IsReuseSafe plan new then (set views id w)
+    reuse_stays same hand may = safe_then plan whose new words then views id w safe record {
       claim = safe.claim;
       named_once = once_still;
       own =
-          let kept = stock_kept plan whose new words then safe.claim safe.claim id v (out_still id) its in record {
+          let kept = stock_kept plan whose new words then safe.claim safe.claim id v (out_still id) (λ row later is not_there. owned id row later is (λ e. not_there)) its in record {
             awake = λ row content is. (may row content is).awake;
             once = subst HasRowsOnce (sym same) its.once;
             free = λ row has. kept.free row (subst (λ (x : Stock). Contains x.free row) same has);
             retired = λ row has. kept.retired row (subst (λ (x : Stock). Contains x.retired row) same has);
             waiting = λ row has. kept.waiting row (subst (λ (x : Stock). Contains x.waiting row) same has);
+            aside = aside_kept plan whose new id v w (ap (λ (x : Stock). x.aside) same) (λ row later is not_there. owned id row later is (λ e. not_there)) hand its.aside;
           };
-      others = λ seat u differ there. stock_kept plan whose new words then safe.claim safe.claim seat u (out_still seat) (safe.stocks seat u there);
+      others = λ seat u differ there. stock_kept plan whose new words then safe.claim safe.claim seat u (out_still seat) (λ row later is not_there. owned seat row later is (λ e. absurd (differ e))) (safe.stocks seat u there);
       own_reads = subst (λ (x : Stock). AgreesWith x w) (sym same) (agrees_on may id v at);
       others_read = λ seat u differ there. subst (λ (x : Stock). AgreesWith x u) (sym same) (safe.agree id seat v u at there);
       reads_theirs = λ seat u differ there. agrees_on may seat u there;
@@ -156,7 +193,7 @@ module _ (plan : Plan) (whose : ℕ → ℕ) (words : List ℕ) (views : List Vi
       claim = safe.claim;
       named_once = once_still;
       own = empty_stock plan new then safe.claim id w none blind;
-      others = λ seat u differ there. stock_kept plan whose new words then safe.claim safe.claim seat u (out_still seat) (safe.stocks seat u there);
+      others = λ seat u differ there. stock_kept plan whose new words then safe.claim safe.claim seat u (out_still seat) (λ row later is not_there. owned seat row later is (λ e. absurd (differ e))) (safe.stocks seat u there);
       own_reads = agrees_with_none w.stock w none;
       others_read = λ seat u differ there. agrees_with_none w.stock u none;
       reads_theirs = λ seat u differ there. reads_nothing u.stock w blind;

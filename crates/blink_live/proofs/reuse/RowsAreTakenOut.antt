@@ -1,5 +1,5 @@
 -- A page word that names another row takes out the row that it named, and keeps reuse safe.
-use Rattle.std.proofs.Common.{◌≡◌, ◌≢◌, ℕ, suc, ◌<◌, ◌≤◌, Option, Some, None, List, ◌∷◌, set, refl, sym, ap, ◌∙◌, subst, get_or-set_same, get_or-set_other, arith}
+use Rattle.std.proofs.Common.{◌≡◌, ◌≢◌, ◌⊎◌, ℕ, suc, ◌<◌, ◌≤◌, Option, Some, None, List, ◌∷◌, set, refl, sym, ap, ◌∙◌, subst, get_or-set_same, get_or-set_other, arith}
 use Rattle.std.specs.Prelude.{Contains, slice_index}
 use mathlib.Core.Option.{some}
 use mathlib.Core.Logic.{dite}
@@ -12,11 +12,11 @@ use Rattle.blink_live.specs.declared.view.Plan.{Plan}
 use Rattle.blink_live.specs.declared.view.Stock.{Stock}
 use Rattle.blink_live.specs.declared.view.View.{View}
 use Rattle.blink_live.specs.Changes.{put}
-use Rattle.blink_live.specs.Reuse.{AgreesWith, AreNamedOnce, HasRowsOnce, HasStock, IsReuseSafe, IsTakenOut}
+use Rattle.blink_live.specs.Reuse.{AgreesWith, AreNamedOnce, HasRowsOnce, HasStock, IsAtHand, IsReuseSafe, IsTakenOut}
 use Rattle.blink_live.specs.Rule.{IsPublished, IsTableAt, Owners, PageWordIs}
 use Rattle.blink_live.specs.Views.{takes_out}
 use Rattle.blink_live.proofs.dealt.FirstOrOneOfRest.{contains_case}
-use Rattle.blink_live.proofs.reuse.ReuseStaysSafe.{agrees_on, same_reads, safe_then, stock_kept}
+use Rattle.blink_live.proofs.reuse.ReuseStaysSafe.{agrees_on, aside_kept, same_reads, safe_then, stock_kept}
 use Rattle.blink_live.proofs.table.MapsWithOneChange.{put_here, put_else}
 
 -- a row that a page word names is published
@@ -25,7 +25,8 @@ word_is_published plan owners words word None least is = absurd (omega (arith, l
 word_is_published plan owners words word (Some page) least is = is.0
 
 module _ (plan : Plan) (s : State ℕ View) (tree_state : TreeState) (h : IsTableAt plan s tree_state) (id number row : ℕ) (v w : View) (at : get_elem? s.views id ≡ some v) (safe : IsReuseSafe plan h.owners.row s.words s.views)
-    (in_range : number < plan.counts.numbers) (own : h.owners.row row ≡ suc id) (same_reads_as : w.reads ≡ v.reads) (same_role : w.role ≡ v.role) (same_busy : w.busy ≡ v.busy) (same_place : w.place ≡ v.place) where
+    (in_range : number < plan.counts.numbers) (own : h.owners.row row ≡ suc id) (same_reads_as : w.reads ≡ v.reads) (same_role : w.role ≡ v.role) (same_busy : w.busy ≡ v.busy) (same_place : w.place ≡ v.place)
+    (at_hand : IsAtHand v row) (hand : (r : ℕ) → IsAtHand w r → IsAtHand v r ⊎ (h.owners.row r ≢ suc id)) where
   abbrev then : List ℕ
   then = set s.words number row
 
@@ -77,12 +78,16 @@ module _ (plan : Plan) (s : State ℕ View) (tree_state : TreeState) (h : IsTabl
         (λ differ. is.not_named n few (sym (elsewhere n differ) ∙ e));
   }
 
+  -- the other rows stay whose they are
+  owned_then : (seat r : ℕ) → h.owners.row r ≡ suc seat → (seat ≡ id → ¬ IsAtHand v r) → new r ≡ suc seat
+  owned_then seat r is apart = put_else h.owners.row row r 0 (λ e. let one : suc seat ≡ suc id = sym is ∙ (ap h.owners.row e ∙ own) in apart (omega (arith, one)) (subst (IsAtHand v) (sym e) at_hand)) ∙ is
+
   -- ---- a new page: no row is taken out
 
   pub new_page_is_safe : w.stock ≡ v.stock → IsReuseSafe plan new then (set s.views id w)
   new_page_is_safe same_stock =
       let may = same_reads plan h.owners.row s.words s.views id v w at safe same_reads_as same_role same_busy same_place in
-      let kept = stock_kept plan h.owners.row new s.words then safe.claim safe.claim id v (λ r is. out_then safe.claim id r refl is) its in
+      let kept = stock_kept plan h.owners.row new s.words then safe.claim safe.claim id v (λ r is. out_then safe.claim id r refl is) (λ r later is not_there. owned_then id r is (λ e. not_there)) its in
       safe_then plan h.owners.row new s.words then s.views id w safe record {
         claim = safe.claim;
         named_once = once_then;
@@ -92,8 +97,9 @@ module _ (plan : Plan) (s : State ℕ View) (tree_state : TreeState) (h : IsTabl
           free = λ r has. kept.free r (subst (λ (x : Stock). Contains x.free r) same_stock has);
           retired = λ r has. kept.retired r (subst (λ (x : Stock). Contains x.retired r) same_stock has);
           waiting = λ r has. kept.waiting r (subst (λ (x : Stock). Contains x.waiting r) same_stock has);
+          aside = aside_kept plan h.owners.row new id v w (ap (λ (x : Stock). x.aside) same_stock) (λ r later is not_there. owned_then id r is (λ e. not_there)) hand its.aside;
         };
-        others = λ seat u differ there. stock_kept plan h.owners.row new s.words then safe.claim safe.claim seat u (λ r is. out_then safe.claim seat r refl is) (safe.stocks seat u there);
+        others = λ seat u differ there. stock_kept plan h.owners.row new s.words then safe.claim safe.claim seat u (λ r is. out_then safe.claim seat r refl is) (λ r later is not_there. owned_then seat r is (λ e. absurd (differ e))) (safe.stocks seat u there);
         own_reads = subst (λ (x : Stock). AgreesWith x w) (sym same_stock) (agrees_on plan h.owners.row s.words s.views id v w at safe may id v at);
         others_read = λ seat u differ there. subst (λ (x : Stock). AgreesWith x u) (sym same_stock) (safe.agree id seat v u at there);
         reads_theirs = λ seat u differ there. agrees_on plan h.owners.row s.words s.views id v w at safe may seat u there;
@@ -154,8 +160,9 @@ module _ (plan : Plan) (s : State ℕ View) (tree_state : TreeState) (h : IsTabl
             free = λ r has. old_then id r (its.free r (subst (λ (x : Stock). Contains x.free r) same_stock has));
             retired = λ r has. retired_then r (subst (λ (x : Stock). Contains x.retired r) same_stock has);
             waiting = λ r has. old_then id r (its.waiting r (subst (λ (x : Stock). Contains x.waiting r) same_stock has));
+            aside = aside_kept plan h.owners.row new id v w (ap (λ (x : Stock). x.aside) same_stock) (λ r later is not_there. owned_then id r is (λ e. not_there)) hand its.aside;
           };
-          others = λ seat u differ there. stock_kept plan h.owners.row new s.words then safe.claim claim seat u (λ r is. old_then seat r is) (safe.stocks seat u there);
+          others = λ seat u differ there. stock_kept plan h.owners.row new s.words then safe.claim claim seat u (λ r is. old_then seat r is) (λ r later is not_there. owned_then seat r is (λ e. absurd (differ e))) (safe.stocks seat u there);
           own_reads = agrees_then w (agrees_on plan h.owners.row s.words s.views id v w at safe may id v at);
           others_read = λ seat u differ there. agrees_then u (safe.agree id seat v u at there);
           reads_theirs = λ seat u differ there. agrees_on plan h.owners.row s.words s.views id v w at safe may seat u there;

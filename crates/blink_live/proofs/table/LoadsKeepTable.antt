@@ -17,7 +17,7 @@ use Rattle.blink_live.specs.Reuse.{IsReuseSafe}
 use Rattle.blink_live.specs.Rule.{ReadsRow, IsInRole, IsBoundedWay, Knows, IsTableAt, IsTable}
 use Rattle.blink_live.specs.Views.{IsCommon, SameBesideReads}
 use Rattle.blink_live.proofs.table.MapsWithOneChange.{put_here, put_else}
-use Rattle.blink_live.proofs.reuse.ReuseStaysSafe.{MayReadOn, reuse_stays}
+use Rattle.blink_live.proofs.reuse.ReuseStaysSafe.{MayReadOn, hand_stays, reuse_stays}
 use Rattle.blink_live.proofs.table.AccountsStay.{account, accounts_stay, still_saw}
 use Rattle.blink_live.proofs.table.SeatsThatStay.{at_inside, views_stay, counted_stays}
 use Rattle.blink_live.proofs.table.CallsOfSeats.{call_still}
@@ -117,4 +117,5 @@ module _ (plan : Plan) (s : State ℕ View) (tree_state : TreeState) (h : IsTabl
       → IsTable plan record { words = set s.words word (get_or s.words word 0); homes = s.homes; views = set s.views id w }
   load_keeps under invariant same bounded reads saw more may = load_keeps_with plan s tree_state h id word v w at invariant (ap (λ (x : View). x.role) same) (ap (λ (x : View). x.plan) same) (ap accounts_of same)
       (λ common is. subst HasSeenItsOwn (sym same) (still_saw plan h.owners.place h.log s.views id v w at (h.accounted common) (account plan h.owners.place h.log s.views id v w at (h.accounted common) role) w.seen more saw role))
-      (λ common. reuse_stays plan h.owners.row s.words s.views id v w at (h.reuse common) h.owners.row s.words (λ row is. is) (λ n few. refl) (ap (λ (x : View). x.stock) same) (may common)) (load_knows under same bounded reads saw)
+      (λ common. reuse_stays plan h.owners.row s.words s.views id v w at (h.reuse common) h.owners.row s.words (λ row is. is) (λ seat r later is apart. is) (λ n few. refl) (ap (λ (x : View). x.stock) same)
+      (hand_stays h.owners.row id v w (ap (λ (x : View). x.rows) same) (ap (λ (x : View). x.call.rows) same)) (may common)) (load_knows under same bounded reads saw)

@@ -14,7 +14,7 @@ use mathlib.Core.List.{IsPrefix}
 use Rattle.blink_live.specs.Rule.{Owners, IsInRole, Knows, passes_in, AreCounted, IsTableAt, IsTable}
 use Rattle.blink_live.specs.Views.{hears, note_of, spent}
 use Rattle.blink_live.proofs.table.AccountsStay.{accounts_longer, accounts_stay, no_accounts, none_apart}
-use Rattle.blink_live.proofs.reuse.ReuseStaysSafe.{reuse_longer, reuse_stays, reuse_without, same_reads}
+use Rattle.blink_live.proofs.reuse.ReuseStaysSafe.{hand_stays, reuse_longer, reuse_stays, reuse_without, same_reads}
 use Rattle.blink_live.proofs.table.OwnersChange.{owners_change}
 use Rattle.blink_live.proofs.table.PassesOut.{at_end, passes_more}
 use Rattle.blink_live.proofs.table.SeatsThatStay.{views_stay, counted_stays}
@@ -116,8 +116,8 @@ module _ (plan : Plan) (some_number : 1 ≤ plan.counts.numbers) (s : State ℕ 
         omega (arith, one, two)) h.nobodys h.pool
         (λ common. accounts_stay plan h.owners.place h.log (set s.views id both) other w (spent plan) there (accounts_stay plan h.owners.place h.log s.views id v both at (h.accounted common) refl ((h.accounted common).saw_own id v at)) (no_accounts w its_role) (λ is. absurd (cc)))
         (λ common. reuse_without plan h.owners.row s.words (set s.views id both) other w (spent plan) there
-        (reuse_stays plan h.owners.row s.words s.views id v both at (h.reuse common) h.owners.row s.words (λ row is. is) (λ n few. refl) refl (same_reads plan h.owners.row s.words s.views id v both at (h.reuse common) refl refl refl refl))
-        h.owners.row s.words (λ row is. is) (λ n few. refl) refl refl)
+        (reuse_stays plan h.owners.row s.words s.views id v both at (h.reuse common) h.owners.row s.words (λ row is. is) (λ seat r later is apart. is) (λ n few. refl) refl (hand_stays h.owners.row id v both refl refl) (same_reads plan h.owners.row s.words s.views id v both at (h.reuse common) refl refl refl refl))
+        h.owners.row s.words (λ row is. is) (λ seat r later is apart. is) (λ n few. refl) refl refl)
         (counted_stays (set s.views id both) other w (spent plan) there (sym its_role) (sym its.same_plan) (counted_stays s.views id v both at refl refl h.counted))
 
 pub note_keeps_table : (plan : Plan) (id : ℕ) (v : View) → 1 ≤ plan.counts.numbers → Splits (IsTable plan) id v v (note_of v)
