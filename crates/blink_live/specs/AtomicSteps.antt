@@ -22,7 +22,7 @@ use Rattle.blink_live.specs.declared.view.Stock.{Stock}
 use Rattle.blink_live.specs.declared.view.View.{View}
 use Rattle.blink_live.specs.Changes.{after, changes_made, states_of, Learns}
 use Rattle.blink_live.specs.Accounts.{HasSeenItsOwn}
-use Rattle.blink_live.specs.Views.{SeatState, KnowsItsOwn, ShowsNoMore, for_call, going_on, has_pages, has_rows, is_busy, knows_word, stage_word, changed_by, publishes, reading, forgets_told, learns_of_others, span, takes_out, SawItsOwn}
+use Rattle.blink_live.specs.Views.{SeatState, KnowsItsOwn, ShowsNoMore, for_call, going_on, has_pages, has_rows, is_busy, knows_word, stage_word, changed_by, publishes_from, reading, forgets_told, learns_of_others, span, takes_out, SawItsOwn}
 use Rattle.blink_live.specs.Words.{AreNumbersIn, AreRowsIn, IsRowNumber, row_start}
 
 -- the page of this number has a page word
@@ -250,13 +250,13 @@ pub record EndsWithOwn (v : View) (share : Share) (seen : List Change) : Type 0 
   pub own : share.changes ≡ v.share.changes ++ made
   pub last : seen ≡ before ++ made
 
--- a step of this kind publishes the row: the operation is `after` now, the call may still use these page numbers, and this is the
--- seat's stock
-pub record Publishes (kind : Kind) (pages : Span) (stock : Stock) (m after : PlainMachine) (me then : SeatState) : Type 0 where
+-- a step of this kind publishes a row: the operation is `after` now, the call may still use these rows and page numbers, and this is
+-- the seat's stock
+pub record PublishesFrom (kind : Kind) (rows pages : Span) (stock : Stock) (m after : PlainMachine) (me then : SeatState) : Type 0 where
   pub way : ℕ
   pub share : Share
   pub seen : List Change
-  pub is : then ≡ (publishes me.0 after way pages share seen stock, me.1)
+  pub is : then ≡ (publishes_from me.0 after way rows pages share seen stock, me.1)
   pub learns : Learns me.0 seen
   pub decided : Decided m after me.0 share seen
   pub next : CanGoOn me.0.plan after
@@ -264,6 +264,10 @@ pub record Publishes (kind : Kind) (pages : Span) (stock : Stock) (m after : Pla
   pub answers_at_end : after.state ≡ Ended → IsSome after.answer
   pub knows_own : KnowsItsOwn then.0
   pub ends_with_own : EndsWithOwn me.0 share seen
+
+-- and the row was the first of the call's
+abbrev pub Publishes : Kind → Span → Stock → PlainMachine → PlainMachine → SeatState → SeatState → Type 0
+Publishes kind pages stock m after me then = PublishesFrom kind (span (suc me.0.call.rows.next) me.0.call.rows.stop) pages stock m after me then
 
 -- in the place of a page, whose row is taken out
 abbrev pub PublishesPage : ℕ → ℕ → PlainMachine → SeatState → SeatState → Type 0

@@ -5,6 +5,7 @@ use Rattle.atomic_table.specs.Table.{Step}
 use Rattle.blink_live.specs.declared.view.Stock.{Stock}
 use Rattle.blink_live.specs.declared.view.View.{View}
 use Rattle.blink_live.specs.Views.{SeatState, no_aside, no_words, span}
+use Rattle.blink_live.specs.Words.{IsRowNumber}
 
 abbrev pub with_stock : View → Stock → View
 with_stock v stock = record v { stock = stock }
@@ -44,6 +45,13 @@ gets_waiting stock = record stock { free = stock.waiting ++ stock.free; waiting 
 abbrev pub collects : Step ℕ → SeatState → ℕ → SeatState → Type 0
 collects st me found then = then ≡ (with_stock me.0 (gets_waiting me.0.stock), me.1)
 
+-- the rows taken out are lost
+abbrev pub forgets : Stock → Stock
+forgets stock = record stock { retired = [] }
+
+abbrev pub loses_rows : Step ℕ → SeatState → ℕ → SeatState → Type 0
+loses_rows st me found then = then ≡ (with_stock me.0 (forgets me.0.stock), me.1)
+
 -- the call may use a free row, and that row alone: the others are set aside
 abbrev pub takes_in : View → ℕ → List ℕ → View
 takes_in v row rest = record v {
@@ -53,7 +61,7 @@ takes_in v row rest = record v {
 }
 
 abbrev pub takes_row_in : Step ℕ → SeatState → ℕ → SeatState → Type 0
-takes_row_in st me found then = (row : ℕ) (rest : List ℕ) → me.0.stock.free ≡ row ∷ rest → then ≡ (takes_in me.0 row rest, me.1)
+takes_row_in st me found then = (row : ℕ) (rest : List ℕ) → me.0.stock.free ≡ row ∷ rest → (then ≡ (takes_in me.0 row rest, me.1)) × IsRowNumber me.0.plan.counts row
 
 -- the rows that were set aside are back
 abbrev pub puts_back : View → View

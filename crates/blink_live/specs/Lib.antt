@@ -35,6 +35,7 @@ pub mod Changes
 pub mod Accounts
 pub mod Reuse
 pub mod ComingBack
+pub mod Shelves
 pub mod Allowed
 pub mod Deals
 pub mod Merge

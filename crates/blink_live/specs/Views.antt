@@ -208,16 +208,20 @@ changed_by author op share = record {
 abbrev pub takes_out : ℕ → Stock → Stock
 takes_out row stock = record stock { retired = row ∷ stock.retired }
 
--- the seat has published that row, its call may still use these page numbers, and its operation is `after` now
-abbrev pub publishes : View → PlainMachine → ℕ → Span → Share → List Change → Stock → View
-publishes v after way pages share seen stock = record v {
-  call = record { rows = span (suc v.call.rows.next) v.call.rows.stop; pages = pages; staged = no_words };
+-- the seat has published a row, its call may still use these rows and page numbers, and its operation is `after` now
+abbrev pub publishes_from : View → PlainMachine → ℕ → Span → Span → Share → List Change → Stock → View
+publishes_from v after way rows pages share seen stock = record v {
+  call = record { rows = rows; pages = pages; staged = no_words };
   operation = goes_on after after.state;
   descent_bound = way;
   share = share;
   seen = seen;
   stock = stock;
 }
+
+-- and the row was the first of the call's
+abbrev pub publishes : View → PlainMachine → ℕ → Span → Share → List Change → Stock → View
+publishes v after way pages share seen stock = publishes_from v after way (span (suc v.call.rows.next) v.call.rows.stop) pages share seen stock
 
 -- ---- deals
 

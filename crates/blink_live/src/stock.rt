@@ -2,6 +2,7 @@
 ghost use Rattle.std.specs.Prelude.{◌≡◌, ◌∷◌, ◌<◌, ◌≤◌, ℕ, List, [], length};
 ghost use Rattle.blink_live.specs.ComingBack.{ChecksPlace, begins_to_wait, gets_waiting, puts_back, sees_mark, takes_in, with_stock};
 ghost use Rattle.blink_live.specs.Seats.{HasSameNumber, IsPassSeat};
+ghost use Rattle.blink_live.specs.Words.{IsRowNumber};
 
 use crate::common::PLACE_WORDS;
 use crate::live::Live;
@@ -77,7 +78,8 @@ impl Live {
         requires some_free { (row : ℕ) × (rest : List ℕ) × (seat.old.me.0.stock.free ≡ row ∷ rest) }
         ensures same { HasSameNumber seat.old seat.new }
         ensures taken { (row : ℕ) (rest : List ℕ) → seat.old.me.0.stock.free ≡ row ∷ rest
-            → seat.new.me ≡ (takes_in seat.old.me.0 row rest, seat.old.me.1) }
+            → (seat.new.me ≡ (takes_in seat.old.me.0 row rest, seat.old.me.1))
+            × IsRowNumber self.now.counts row }
     {
         self.table.shared.load::<TakeRowIn>(seat, 0);
     }

@@ -12,6 +12,7 @@ ghost use Rattle.blink_machine.specs.declared.machine.State.TheVariants.{Ended};
 ghost use Rattle.blink_machine.specs.{IsUpdate, fresh, done, PrimeOut, page_out, NeedsNew, NeedsPrimeWrite, NeedsWrite, NeedsLatch, NeedsUnlatch, latch, latch_of, unlatch};
 ghost use Rattle.blink_live.specs.declared.view.View.{View};
 ghost use Rattle.blink_live.specs.Seats.{HasSameNumber, IsPassSeat, IsFirst};
+ghost use Rattle.blink_live.specs.Shelves.{IsShelved};
 ghost use Rattle.blink_live.specs.Updating.{HasEnded, IsUnderWay, room_in, ComesNearer, IsPastDescent};
 ghost use Rattle.blink_live.specs.Views.{CanBegin, MayChange, is_staged, knows_word, latch_number_by, no_words, stage_word};
 ghost use Rattle.blink_live.specs.Pendings.{IsWaiting};
@@ -50,7 +51,8 @@ impl Live {
         requires fits { FitsWords op }
         requires updates { IsUpdate op }
         requires can_begin { CanBegin seat.old.me.0 op }
-        requires room { room ≡ room_in op seat.old.me.0 }
+        requires room { room ≡ room_in op seat.old.me.0 room.shelf }
+        requires shelved { IsShelved room.shelf seat.old.me.0 }
         requires may { MayChange seat.old.me.0 (key_of op) }
         ensures ended { HasEnded op seat.old seat.new result }
     {
@@ -73,7 +75,8 @@ impl Live {
         requires fits { FitsWords op }
         requires updates { IsUpdate op }
         requires can_begin { CanBegin seat.old.me.0 op }
-        requires room { room.now ≡ room_in op seat.old.me.0 }
+        requires room { room.now ≡ room_in op seat.old.me.0 room.now.shelf }
+        requires shelved { IsShelved room.now.shelf seat.old.me.0 }
         requires may { MayChange seat.old.me.0 (key_of op) }
         ensures under_way { IsUnderWay self.now op seat.old seat.new machine.new room.now }
         ensures waits { IsWaiting machine.new }
@@ -158,8 +161,6 @@ impl Live {
         ensures waits { OnFalse result (machine.new ≡ machine.old) }
         ensures nearer { ComesNearer machine.old machine.new }
     {
-        // Read for the proof: the room's numbers are words.
-        let _stop = room.rows.stop;
         match machine.need() {
             Need::ReadPrime => self.read_prime(seat, machine),
             Need::ReadPage(number) => {
@@ -168,19 +169,15 @@ impl Live {
             }
             Need::Latch(number) => self.try_latch(seat, machine, number, room.latch_number),
             Need::WriteNew => {
-                self.write_new(seat, machine, room.pages.next as u32, room.rows.next);
-                room.pages.next += 1;
-                room.rows.next += 1;
+                self.put_new(seat, machine, room);
                 true
             }
             Need::WritePage(number) => {
-                self.write_page(seat, machine, number, room.rows.next);
-                room.rows.next += 1;
+                self.put_page(seat, machine, room, number);
                 true
             }
             Need::WritePrime => {
-                self.write_prime(seat, machine, room.rows.next);
-                room.rows.next += 1;
+                self.put_prime(seat, machine, room);
                 true
             }
             Need::Unlatch(number) => {
@@ -189,6 +186,85 @@ impl Live {
             }
             Need::End => unreachable!(),
         }
+    }
+
+    // Writes the next version of a page, and puts the row of the version before on the shelf. The version stands in a free row of the
+    // shelf, or else in the first row of the room.
+    fn put_page(
+        &self,
+        seat: &mut Seat<u8, View>,
+        machine: &mut Machine,
+        room: &mut Room,
+        number: u32,
+    )
+        requires under_way { (op : Op) × (first : Seat ℕ View)
+            × IsUnderWay self.now op first seat.old machine.old room.old }
+        requires goes_on { machine.old.state ≢ Ended }
+        requires needs { NeedsWrite machine.old number }
+        ensures under_way { (op : Op) (first : Seat ℕ View)
+            → IsUnderWay self.now op first seat.old machine.old room.old
+            → IsUnderWay self.now op first seat.new machine.new room.new }
+        ensures machine { machine.new ≡ done machine.old 0 }
+    {
+        // Read for the proof: the room's numbers are words.
+        let _stop = room.rows.stop;
+        if let Some(row) = self.lend(seat, room) {
+            let out = self.write_page(seat, machine, number, row);
+            self.put_rows_back(seat);
+            self.keep_out(seat, room, out);
+            return;
+        }
+        let out = self.write_page(seat, machine, number, room.rows.next);
+        room.rows.next += 1;
+        self.keep_out(seat, room, out);
+    }
+
+    // Writes the prime block with the operation's new root, in the same way.
+    fn put_prime(&self, seat: &mut Seat<u8, View>, machine: &mut Machine, room: &mut Room)
+        requires under_way { (op : Op) × (first : Seat ℕ View)
+            × IsUnderWay self.now op first seat.old machine.old room.old }
+        requires goes_on { machine.old.state ≢ Ended }
+        requires needs { NeedsPrimeWrite machine.old }
+        ensures under_way { (op : Op) (first : Seat ℕ View)
+            → IsUnderWay self.now op first seat.old machine.old room.old
+            → IsUnderWay self.now op first seat.new machine.new room.new }
+        ensures machine { machine.new ≡ done machine.old 0 }
+    {
+        // Read for the proof: the room's numbers are words.
+        let _stop = room.rows.stop;
+        if let Some(row) = self.lend(seat, room) {
+            let out = self.write_prime(seat, machine, row);
+            self.put_rows_back(seat);
+            self.keep_out(seat, room, out);
+            return;
+        }
+        let out = self.write_prime(seat, machine, room.rows.next);
+        room.rows.next += 1;
+        self.keep_out(seat, room, out);
+    }
+
+    // Writes the operation's new page, in the same way.
+    fn put_new(&self, seat: &mut Seat<u8, View>, machine: &mut Machine, room: &mut Room)
+        requires under_way { (op : Op) × (first : Seat ℕ View)
+            × IsUnderWay self.now op first seat.old machine.old room.old }
+        requires goes_on { machine.old.state ≢ Ended }
+        requires needs { NeedsNew machine.old }
+        ensures under_way { (op : Op) (first : Seat ℕ View)
+            → IsUnderWay self.now op first seat.old machine.old room.old
+            → IsUnderWay self.now op first seat.new machine.new room.new }
+        ensures machine { machine.new ≡ done machine.old room.old.pages.next }
+    {
+        // Read for the proof: the room's numbers are words.
+        let _stop = room.rows.stop;
+        if let Some(row) = self.lend(seat, room) {
+            self.write_new(seat, machine, room.pages.next as u32, row);
+            self.put_rows_back(seat);
+            room.pages.next += 1;
+            return;
+        }
+        self.write_new(seat, machine, room.pages.next as u32, room.rows.next);
+        room.rows.next += 1;
+        room.pages.next += 1;
     }
 
     // Replaces the page of this number by the operation's version, and returns the row of the version before. The new version

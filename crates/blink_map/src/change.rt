@@ -221,6 +221,7 @@ pub(crate) fn room_of(op: Op, rows: &Span, pages: &Span) -> Room
     ensures rows { result.rows ≡ span rows.now.next (rows.now.next + rows_of op) }
     ensures pages { result.pages ≡ span pages.now.next (pages.now.next + pages_of op) }
     ensures latch { result.latch_number ≡ 1 }
+    ensures no_shelf { result.shelf ≡ None }
 {
     let (row_count, page_count) = needed_by(op);
     let _row_stop = rows.stop;
@@ -235,6 +236,7 @@ pub(crate) fn room_of(op: Op, rows: &Span, pages: &Span) -> Room
             stop: pages.next + page_count,
         },
         latch_number: LATCH,
+        shelf: None,
     }
 }
 

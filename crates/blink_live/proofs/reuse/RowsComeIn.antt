@@ -1,5 +1,5 @@
 -- A free row is its session's own again: nobody reads it, and no page word names it.
-use Rattle.std.proofs.Common.{◌≡◌, ◌≢◌, ◌⊎◌, ⊎_elim, ℕ, zero, suc, ◌+◌, ◌<◌, ◌≤◌, Option, Some, None, List, [], ◌∷◌, length, get_or, set, refl, sym, ap, ◌∙◌, subst, inl, inr, length-set, arith}
+use Rattle.std.proofs.Common.{◌≡◌, ◌≢◌, ⊎_elim, ℕ, suc, ◌<◌, ◌≤◌, Option, Some, None, List, ◌∷◌, length, get_or, set, refl, sym, ap, ◌∙◌, subst, inl, inr, length-set, arith}
 use Rattle.std.specs.Prelude.{Contains, slice_index}
 use mathlib.Core.Option.{some, none}
 use mathlib.Core.Logic.{dite}
@@ -15,21 +15,21 @@ use Rattle.blink_live.specs.declared.view.Plan.{Plan}
 use Rattle.blink_live.specs.declared.view.Role.{Role}
 use Rattle.blink_live.specs.declared.view.Role.TheVariants.{Keeper, Pass, Spent}
 use Rattle.blink_live.specs.declared.view.Share.{Share}
-use Rattle.blink_live.specs.declared.view.Stock.{Stock}
 use Rattle.blink_live.specs.declared.view.View.{View}
 use Rattle.blink_live.specs.Changes.{put}
 use Rattle.blink_live.specs.ComingBack.{puts_back, puts_rows_back, takes_in, takes_row_in}
-use Rattle.blink_live.specs.Reuse.{AgreesWith, HasAside, HasEachOnce, HasStock, IsAside, IsReadBesides, IsReuseSafe, IsTakenOut}
+use Rattle.blink_live.specs.Reuse.{AgreesWith, HasAside, HasEachOnce, HasStock, IsAside, IsReuseSafe, IsTakenOut}
 use Rattle.blink_live.specs.Rule.{IsInRole, IsShare, IsTable, IsTableAt, Knows, Owners, PageWordIs, ReadsRow, latch_word}
 use Rattle.blink_live.specs.Views.{IsCommon, SeatState}
+use Rattle.blink_live.specs.Words.{IsRowNumber}
 use Rattle.blink_live.proofs.changed.PoolIsDrawn.{latch_still}
-use Rattle.blink_live.proofs.reuse.ReuseStaysSafe.{aside_kept, empty_aside, safe_then, stock_kept}
+use Rattle.blink_live.proofs.reuse.ReuseStaysSafe.{empty_aside, safe_then, stock_kept}
 use Rattle.blink_live.proofs.reuse.StocksChange.{same_reader}
 use Rattle.blink_live.proofs.table.AccountsStay.{accounts_stay}
 use Rattle.blink_live.proofs.table.CallsOfSeats.{call_still}
 use Rattle.blink_live.proofs.table.LoadsKeepTable.{moved, load_keeps_with}
 use Rattle.blink_live.proofs.table.MapsWithOneChange.{put_here, put_else, put_same}
-use Rattle.blink_live.proofs.table.SeatsThatStay.{at_inside, views_stay, counted_stays}
+use Rattle.blink_live.proofs.table.SeatsThatStay.{views_stay, counted_stays}
 
 -- ---- rows with other owners
 
@@ -261,7 +261,7 @@ takes_row_in_at plan slots id me row rest role common some_number first s table 
       let same : ◌≡◌ {A = List ℕ} (row ∷ rest) (other ∷ others) = sym first ∙ is in
       let same_row : row ≡ other = cc in
       let same_rest : rest ≡ others = cc in
-      λ i. (takes_in me.0 (same_row i) (same_rest i), me.1),
+      (λ i. (takes_in me.0 (same_row i) (same_rest i), me.1), subst (λ (x : ℕ × Plan). IsRowNumber x.1.counts x.0) (λ i. (same_row i, sym (table.1.views id me.0 at).same_plan i)) (((table.1.reuse common).stocks id me.0 at).free row (subst (λ (l : List ℕ). Contains l row) (sym first) (0, omega arith, refl))).in_range),
 )
 
 -- ---- the rows that were set aside are put back

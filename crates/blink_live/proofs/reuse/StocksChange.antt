@@ -1,18 +1,17 @@
 -- A load after which a session's stock alone is another keeps the rule, where the stock is right and agrees with what the seats read.
-use Rattle.std.proofs.Common.{◌≡◌, ◌≢◌, ℕ, suc, ◌<◌, ◌≤◌, Some, List, get_or, set, refl, sym, ap, ◌∙◌, subst, inl, arith}
+use Rattle.std.proofs.Common.{◌≡◌, ℕ, List, get_or, set, refl, sym, ap, ◌∙◌, subst, inl, arith}
 use Rattle.std.specs.Prelude.{Contains, slice_index}
 use mathlib.Core.Option.{some}
 use lib.ListN.{get_elem?}
 use Rattle.atomic_table.specs.Table.{State}
 use Rattle.blink_machine.specs.TreeState.{TreeState}
 use Rattle.blink_machine.proofs.Offered.{step_law}
-use Rattle.blink_live.specs.declared.view.Aside.{Aside}
 use Rattle.blink_live.specs.declared.view.Plan.{Plan}
 use Rattle.blink_live.specs.declared.view.Role.TheVariants.{Keeper, Pass}
 use Rattle.blink_live.specs.declared.view.Stock.{Stock}
 use Rattle.blink_live.specs.declared.view.View.{View}
 use Rattle.blink_live.specs.ComingBack.{with_stock}
-use Rattle.blink_live.specs.Reuse.{AgreesWith, HasRowsOnce, HasStock, IsReadBesides, IsReuseSafe, IsTakenOut}
+use Rattle.blink_live.specs.Reuse.{AgreesWith, HasRowsOnce, IsReuseSafe, IsTakenOut}
 use Rattle.blink_live.specs.Rule.{IsInRole, Knows, IsTable, IsTableAt}
 use Rattle.blink_live.proofs.reuse.ReuseStaysSafe.{aside_kept, safe_then}
 use Rattle.blink_live.proofs.table.LoadsKeepTable.{moved, load_keeps_with}

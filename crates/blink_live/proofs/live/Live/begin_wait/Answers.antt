@@ -1,5 +1,4 @@
-use Rattle.std.proofs.Common.{◌≡◌, ◌≤◌, sym, subst, ◌∙◌, arith}
-use Rattle.blink_rows.specs.{PlainCounts}
+use Rattle.std.proofs.Common.{◌≤◌, arith}
 use Rattle.blink_live.specs.Views.{plan_of}
 use Rattle.blink_live.proofs.reuse.RowsWait.{begins_wait_at}
 use Rattle.blink_live.proofs.live.Live.begin_wait.Goals as goal

@@ -1,5 +1,4 @@
-use Rattle.std.proofs.Common.{◌≡◌, ◌≤◌, sym, subst, ◌∙◌, arith}
-use Rattle.blink_rows.specs.{PlainCounts}
+use Rattle.std.proofs.Common.{◌≤◌, arith}
 use Rattle.blink_live.specs.Views.{plan_of}
 use Rattle.blink_live.proofs.reuse.RowsWait.{collects_at}
 use Rattle.blink_live.proofs.live.Live.collect.Goals as goal

@@ -1,7 +1,6 @@
 use Rattle.std.proofs.Common.{◌≡◌, ℕ, ◌+◌, ◌*◌, ◌≤◌, ◌<◌, sym, ap, ◌∙◌, subst, arith}
 use mathlib.Core.Option.{none}
 use Rattle.atomic_table.specs.Table.{step, Allows}
-use Rattle.blink_rows.specs.{PlainCounts}
 use Rattle.blink_live.specs.declared.view.Plan.{Plan}
 use Rattle.blink_live.specs.Rule.{IsTable}
 use Rattle.blink_live.specs.Views.{SeatState, plan_of}

@@ -1,4 +1,4 @@
-use Rattle.std.proofs.Common.{◌≡◌, ◌≤◌, sym, subst, ◌∙◌, arith}
+use Rattle.std.proofs.Common.{◌≤◌, subst, arith}
 use Rattle.blink_rows.specs.{PlainCounts}
 use Rattle.blink_live.specs.Views.{plan_of}
 use Rattle.blink_live.proofs.reuse.RowsComeIn.{takes_row_in_at}
