@@ -13,6 +13,7 @@ mod open;
 mod operations;
 mod place;
 mod read;
+mod recycle;
 mod retire;
 mod room;
 mod rule;

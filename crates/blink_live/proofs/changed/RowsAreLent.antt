@@ -85,3 +85,11 @@ lent_and_back kind rows pages stock m after me then last row rest aside does bac
 -- what the seat is while a row is lent to its call
 pub lent_seat : (live : Live) (table : TableId) (row : ℕ) (rest : List ℕ) (me then : SeatState) → then ≡ (takes_in me.0 row rest, me.1) → IsPassSeat live table me → IsPassSeat live table then
 lent_seat live table row rest me then is seat = subst (IsPassSeat live table) (sym is) (record { same_table = seat.same_table; same_plan = seat.same_plan; role = seat.role })
+
+-- ---- a seat whose stock alone is another
+
+pub stock_on : (me now then : SeatState) → HasOtherStock me now → HasOtherStock now then → HasOtherStock me then
+stock_on me now then one two = record { stock = two.stock; is = two.is ∙ ap (λ (x : SeatState). let y : SeatState = (with_stock x.0 two.stock, x.1) in y) one.is }
+
+pub same_pass : (live : Live) (table : TableId) (me then : SeatState) → HasOtherStock me then → IsPassSeat live table me → IsPassSeat live table then
+same_pass live table me then moved seat = subst (IsPassSeat live table) (sym moved.is) (record { same_table = seat.same_table; same_plan = seat.same_plan; role = seat.role })
