@@ -1,5 +1,7 @@
 -- Where a session keeps the rows of its stock between the steps of its operations.
 use Rattle.std.specs.Prelude.{◌≡◌, ℕ, Option, Some, None, List, reverse, ⊤}
+use Rattle.std.specs.Coded.{×_prop, Unit-prop, le_prop}
+use Rattle.std.proofs.Props.{props}
 use Rattle.blink_live.specs.declared.room.Room.{Room}
 use Rattle.blink_live.specs.declared.shelf.Shelf.{Shelf}
 use Rattle.blink_live.specs.declared.view.Stock.{Stock}
@@ -22,6 +24,10 @@ stock_of shelf = record {
 abbrev pub IsShelved : Option Shelf → View → Type 0
 IsShelved None v = ⊤
 IsShelved (Some shelf) v = IsCommon v.plan × (v.stock ≡ stock_of shelf)
+
+pub IsShelved-prop : (shelf : Option Shelf) (v : View) → IsProp (IsShelved shelf v)
+IsShelved-prop None v = Unit-prop
+IsShelved-prop (Some shelf) v = let same : IsProp (v.stock ≡ stock_of shelf) = hlevel (props) in ×_prop le_prop same
 
 -- but for this row, which the seat has taken out since
 abbrev pub IsShelvedBut : ℕ → Option Shelf → View → Type 0
