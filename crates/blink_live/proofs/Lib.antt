@@ -1,4 +1,5 @@
 pub mod table
+pub mod reuse
 pub mod opened
 pub mod dealt
 pub mod found

@@ -17,6 +17,8 @@ pub use Rattle.blink_live.proofs.dealt.LatchNumbers.{latch_number-from_keeper, l
 pub use Rattle.blink_live.proofs.changed.PendingsAreSent.{pending_send}
 -- an operation that has ended: what it has answered, and whose its seat is; what it hasn't used can be given back
 pub use Rattle.blink_live.proofs.changed.UpdatesGoOn.{IsAfterCall, after_call, at_end, is_its_seat}
+-- a seat with the stock that it had has its shelf's
+pub use Rattle.blink_live.proofs.changed.RowsAreLent.{shelved_so}
 -- of two prefixes of one list one is a prefix of the other
 pub use Rattle.blink_live.proofs.told.PrefixesOfOneList.{prefixes_of_one_list}
 -- the state that more changes leave of a key

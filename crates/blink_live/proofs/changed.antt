@@ -6,6 +6,7 @@ pub mod RowsArePublished
 pub mod PublishesKeepTable
 pub mod UpdatesBegin
 pub mod OwnChangesByKey
+pub mod RowsAreLent
 pub mod StepsOfUpdates
 pub mod UpdatesGoOn
 pub mod LatchesAreLeft

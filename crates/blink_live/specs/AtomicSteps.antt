@@ -18,10 +18,11 @@ use Rattle.blink_live.specs.declared.view.Change.{Change}
 use Rattle.blink_live.specs.declared.view.Plan.{Plan}
 use Rattle.blink_live.specs.declared.view.Role.TheVariants.{Keeper}
 use Rattle.blink_live.specs.declared.view.Share.{Share}
+use Rattle.blink_live.specs.declared.view.Stock.{Stock}
 use Rattle.blink_live.specs.declared.view.View.{View}
 use Rattle.blink_live.specs.Changes.{after, changes_made, states_of, Learns}
 use Rattle.blink_live.specs.Accounts.{HasSeenItsOwn}
-use Rattle.blink_live.specs.Views.{SeatState, KnowsItsOwn, ShowsNoMore, for_call, going_on, has_pages, has_rows, is_busy, stage_word, changed_by, publishes, reading, forgets_told, learns_of_others, span, SawItsOwn}
+use Rattle.blink_live.specs.Views.{SeatState, KnowsItsOwn, ShowsNoMore, for_call, going_on, has_pages, has_rows, is_busy, knows_word, stage_word, changed_by, publishes_from, reading, forgets_told, learns_of_others, span, takes_out, SawItsOwn}
 use Rattle.blink_live.specs.Words.{AreNumbersIn, AreRowsIn, IsRowNumber, row_start}
 
 -- the page of this number has a page word
@@ -214,6 +215,12 @@ draws_pages st me found then = Draws (has_pages me.0 (span st.first st.second)) 
 
 -- ---- a word of the first row that the seat's call may use
 
+-- the load of the first of its words that the call doesn't know
+abbrev pub knows_more : Step ℕ → SeatState → ℕ → SeatState → Type 0
+knows_more st me found then = then ≡ (knows_word me.0 found, me.1)
+
+-- and the store of a word
+
 abbrev pub stores_word : Step ℕ → SeatState → ℕ → SeatState → Type 0
 stores_word st me found then = (place : ℕ) → place < ROW_WORDS → st.word ≡ row_start me.0.plan.counts me.0.call.rows.next + place → then ≡ (stage_word me.0 place st.first, me.1)
 
@@ -248,12 +255,13 @@ pub record EndsWithOwn (v : View) (share : Share) (seen : List Change) : Type 0 
   pub own : share.changes ≡ v.share.changes ++ made
   pub last : seen ≡ before ++ made
 
--- a step of this kind publishes the row: the operation is `after` now, and the call may still use these page numbers
-pub record Publishes (kind : Kind) (pages : Span) (m after : PlainMachine) (me then : SeatState) : Type 0 where
+-- a step of this kind publishes a row: the operation is `after` now, the call may still use these rows and page numbers, and this is
+-- the seat's stock
+pub record PublishesFrom (kind : Kind) (rows pages : Span) (stock : Stock) (m after : PlainMachine) (me then : SeatState) : Type 0 where
   pub way : ℕ
   pub share : Share
   pub seen : List Change
-  pub is : then ≡ (publishes me.0 after way pages share seen, me.1)
+  pub is : then ≡ (publishes_from me.0 after way rows pages share seen stock, me.1)
   pub learns : Learns me.0 seen
   pub decided : Decided m after me.0 share seen
   pub next : CanGoOn me.0.plan after
@@ -262,23 +270,27 @@ pub record Publishes (kind : Kind) (pages : Span) (m after : PlainMachine) (me t
   pub knows_own : KnowsItsOwn then.0
   pub ends_with_own : EndsWithOwn me.0 share seen
 
--- in the place of a page
-abbrev pub PublishesPage : ℕ → PlainMachine → SeatState → SeatState → Type 0
-PublishesPage number m me then = Publishes (write_page number) me.0.call.pages m (done m 0) me then
+-- and the row was the first of the call's
+abbrev pub Publishes : Kind → Span → Stock → PlainMachine → PlainMachine → SeatState → SeatState → Type 0
+Publishes kind pages stock m after me then = PublishesFrom kind (span (suc me.0.call.rows.next) me.0.call.rows.stop) pages stock m after me then
+
+-- in the place of a page, whose row is taken out
+abbrev pub PublishesPage : ℕ → ℕ → PlainMachine → SeatState → SeatState → Type 0
+PublishesPage number out m me then = Publishes (write_page number) me.0.call.pages (takes_out out me.0.stock) m (done m 0) me then
 
 abbrev pub publishes_page : Step ℕ → SeatState → ℕ → SeatState → Type 0
-publishes_page st me found then = (m : PlainMachine) → me.0.operation ≡ Some m → NeedsWrite m st.word → PublishesPage st.word m me then
+publishes_page st me found then = (m : PlainMachine) → me.0.operation ≡ Some m → NeedsWrite m st.word → PublishesPage st.word found m me then
 
 -- as a new page, with the first page number that the call may use
 abbrev pub PublishesNew : PlainMachine → SeatState → SeatState → Type 0
-PublishesNew m me then = Publishes (write_page me.0.call.pages.next) (span (suc me.0.call.pages.next) me.0.call.pages.stop) m (done m me.0.call.pages.next) me then
+PublishesNew m me then = Publishes (write_page me.0.call.pages.next) (span (suc me.0.call.pages.next) me.0.call.pages.stop) me.0.stock m (done m me.0.call.pages.next) me then
 
 abbrev pub publishes_new : Step ℕ → SeatState → ℕ → SeatState → Type 0
 publishes_new st me found then = (m : PlainMachine) → me.0.operation ≡ Some m → NeedsNew m → PublishesNew m me then
 
--- as the prime block
-abbrev pub PublishesPrime : PlainMachine → SeatState → SeatState → Type 0
-PublishesPrime m me then = Publishes write_prime me.0.call.pages m (done m 0) me then
+-- as the prime block, whose row is taken out
+abbrev pub PublishesPrime : ℕ → PlainMachine → SeatState → SeatState → Type 0
+PublishesPrime out m me then = Publishes write_prime me.0.call.pages (takes_out out me.0.stock) m (done m 0) me then
 
 abbrev pub publishes_prime : Step ℕ → SeatState → ℕ → SeatState → Type 0
-publishes_prime st me found then = (m : PlainMachine) → me.0.operation ≡ Some m → NeedsPrimeWrite m → PublishesPrime m me then
+publishes_prime st me found then = (m : PlainMachine) → me.0.operation ≡ Some m → NeedsPrimeWrite m → PublishesPrime found m me then

@@ -31,6 +31,7 @@ pub record HasSearched (first me : SeatState) : Type 0 where
   pub same_pages : me.0.pages ≡ first.0.pages
   pub same_share : me.0.share ≡ first.0.share
   pub same_told : me.0.told ≡ first.0.told
+  pub same_stock : me.0.stock ≡ first.0.stock
   pub same_slots : me.1 ≡ first.1
 
 -- finds of these keys, one after another, have answered so: each by the state of its key after all that the seat had seen by then

@@ -2,13 +2,12 @@
 use Rattle.std.specs.Prelude.{◌≡◌, ℕ, ◌≤◌}
 use Rattle.atomic_table.specs.Table.{Step}
 use Rattle.blink_live.specs.declared.view.View.{View}
-use Rattle.blink_live.specs.Views.{SeatState, no_call, no_words, span}
+use Rattle.blink_live.specs.Views.{SeatState, no_call, span}
 
--- the call's room ends where what its seat may still use begins, and no word is staged in it
+-- the call's room ends where what its seat may still use begins
 pub record CanGiveBack (v : View) : Type 0 where
   pub rows : (v.call.rows.next ≤ v.call.rows.stop) × (v.call.rows.stop ≡ v.rows.next)
   pub pages : (v.call.pages.next ≤ v.call.pages.stop) × (v.call.pages.stop ≡ v.pages.next)
-  pub blank : v.call.staged ≡ no_words
 
 abbrev pub gives_back : View → View
 gives_back v = record v { rows = span v.call.rows.next v.rows.stop; pages = span v.call.pages.next v.pages.stop; call = no_call }

@@ -35,6 +35,9 @@ pub use Rattle.blink_live.specs.Views.{span}
 pub mod Handles
 pub mod Changes
 pub mod Accounts
+pub mod Reuse
+pub mod ComingBack
+pub mod Shelves
 pub mod Allowed
 pub mod Deals
 pub mod Merge

@@ -9,7 +9,6 @@ use Rattle.blink_batch.specs.declared.Entry.{Entry}
 use Rattle.blink_batch.specs.{pointer_of}
 use Rattle.blink_page.specs.{IsPageNumber, PlainPage}
 use Rattle.blink_rows.specs.{AreBounded, page_words, prime_words}
-use Rattle.blink_rows.specs.declared.limits.TheConstants.{ROW_WORDS}
 use Rattle.blink_rows.specs.declared.span.Span.{Span}
 use Rattle.blink_machine.specs.{PlainMachine, descent_bound, IsMapAt}
 use Rattle.blink_machine.specs.TreeState.{TreeState}
@@ -23,8 +22,9 @@ use Rattle.blink_live.specs.declared.view.Share.{Share}
 use Rattle.blink_live.specs.declared.view.View.{View}
 use Rattle.blink_live.specs.Changes.{after, states_of}
 use Rattle.blink_live.specs.Accounts.{AreAccounts}
+use Rattle.blink_live.specs.Reuse.{IsReuseSafe}
 use Rattle.blink_live.specs.Views.{IsCommon, IsOwned, latch_number_by, span}
-use Rattle.blink_live.specs.Words.{word_count, place_word, pool_page, pool_row, IsRowNumber, RowIs}
+use Rattle.blink_live.specs.Words.{word_count, place_word, pool_page, pool_row, IsRowNumber, RowBegins, RowIs}
 
 -- ---- owners: 0 for nobody, and else a seat's number plus 1
 
@@ -63,11 +63,10 @@ abbrev pub ReadsRow : Plan → Owners → List ℕ → Option (ℕ × List ℕ) 
 ReadsRow plan owners words None = ⊤
 ReadsRow plan owners words (Some (row, content)) = IsPublished plan owners row × RowIs plan.counts words row content
 
--- these rows have this owner, and are all 0
-pub record HasRows (plan : Plan) (owners : Owners) (words : List ℕ) (owner : ℕ) (rows : Span) : Type 0 where
+-- these rows have this owner
+pub record HasRows (plan : Plan) (owners : Owners) (owner : ℕ) (rows : Span) : Type 0 where
   pub in_range : (1 ≤ rows.next) × (rows.stop ≤ plan.counts.rows + 1)
   pub own : (row : ℕ) → rows.next ≤ row → row < rows.stop → owners.row row ≡ owner
-  pub blank : (row : ℕ) → rows.next ≤ row → row < rows.stop → RowIs plan.counts words row []
 
 -- these page numbers have this owner, and no page has them
 pub record HasNumbers (plan : Plan) (owners : Owners) (tree_state : TreeState) (owner : ℕ) (pages : Span) : Type 0 where
@@ -75,14 +74,12 @@ pub record HasNumbers (plan : Plan) (owners : Owners) (tree_state : TreeState) (
   pub own : (number : ℕ) → pages.next ≤ number → number < pages.stop → owners.page number ≡ owner
   pub free : (number : ℕ) → pages.next ≤ number → number < pages.stop → tree_state.pages number ≡ None
 
--- the call's rows and page numbers stand before those that its pass may still use; the call has staged some words of its first
--- row, and the words of its other rows are all 0
+-- the call's rows and page numbers stand before those that its pass may still use; of the first row the call knows the first words
 pub record HasForCall (plan : Plan) (owners : Owners) (words : List ℕ) (tree_state : TreeState) (owner : ℕ) (call : Call) (row page : ℕ) : Type 0 where
   pub before : (call.rows.stop ≤ row) × (call.pages.stop ≤ page)
-  pub width : length call.staged ≡ ROW_WORDS
   pub first_own : call.rows.next < call.rows.stop → (1 ≤ call.rows.next) × (owners.row call.rows.next ≡ owner)
-  pub staged : call.rows.next < call.rows.stop → RowIs plan.counts words call.rows.next call.staged
-  pub others : HasRows plan owners words owner (span (suc call.rows.next) call.rows.stop)
+  pub staged : call.rows.next < call.rows.stop → RowBegins plan.counts words call.rows.next call.staged
+  pub others : HasRows plan owners owner (span (suc call.rows.next) call.rows.stop)
   pub numbers : HasNumbers plan owners tree_state owner call.pages
 
 -- the share's statement of one of its keys: the key has this owner and the share's state, and its changes are the share's
@@ -124,7 +121,7 @@ HasNothing v = (v.rows.stop ≤ v.rows.next) × (v.pages.stop ≤ v.pages.next) 
 -- the rows and the page numbers from those on that the pool's words say are the pool's: they have the host's owner, and the host
 -- has none of its own
 pub record HasPool (plan : Plan) (owners : Owners) (words : List ℕ) (tree_state : TreeState) : Type 0 where
-  pub rows : HasRows plan owners words (suc 0) (span (slice_index words (pool_row plan.counts)) (plan.counts.rows + 1))
+  pub rows : HasRows plan owners (suc 0) (span (slice_index words (pool_row plan.counts)) (plan.counts.rows + 1))
   pub pages : HasNumbers plan owners tree_state (suc 0) (span (slice_index words (pool_page plan.counts)) plan.counts.numbers)
 
 -- nobody has the places from `first` on, and their words are 0
@@ -141,7 +138,7 @@ pub record Knows (plan : Plan) (owners : Owners) (words : List ℕ) (tree_state 
   pub operation : tree_state.machines seat ≡ v.operation
   pub bounded : IsBoundedWay tree_state v
   pub reads : ReadsRow plan owners words v.reads
-  pub rows : HasRows plan owners words (suc seat) v.rows
+  pub rows : HasRows plan owners (suc seat) v.rows
   pub numbers : HasNumbers plan owners tree_state (suc seat) v.pages
   pub for_call : HasForCall plan owners words tree_state (suc seat) v.call v.rows.next v.pages.next
   pub share : IsShare plan owners log (suc seat) v.share
@@ -199,6 +196,8 @@ pub record IsTableAt (plan : Plan) (s : State ℕ View) (tree_state : TreeState)
   pub pool : IsCommon plan → HasPool plan owners s.words tree_state
   -- and each change is in the account of a place
   pub accounted : IsCommon plan → AreAccounts plan owners.place log s.views
+  -- and a row that a session has taken out is read by nobody who begins later
+  pub reuse : IsCommon plan → IsReuseSafe plan owners.row s.words s.views
   -- the seats
   pub views : (seat : ℕ) (v : View) → get_elem? s.views seat ≡ some v → Knows plan owners s.words tree_state log seat v
   pub others_idle : (seat : ℕ) → length s.views ≤ seat → tree_state.machines seat ≡ None

@@ -1,5 +1,5 @@
 -- An update after its descent: it changes its leaf, and goes on to its end.
-use Rattle.std.specs.Prelude.{◌≡◌, ℕ, ◌+◌, ◌-◌, ◌≤◌, Some, None, IsSome, ◌≢◌, ◌<◌}
+use Rattle.std.specs.Prelude.{◌≡◌, ℕ, ◌+◌, ◌-◌, ◌≤◌, Option, Some, None, IsSome, ◌≢◌, ◌<◌}
 use mathlib.Core.List.{IsPrefix}
 use Rattle.atomic_table.specs.declared.Seat.{Seat}
 use Rattle.blink_batch.specs.{FitsWords, key_of}
@@ -10,25 +10,28 @@ use Rattle.blink_machine.specs.declared.machine.State.TheVariants.{Start, Going,
 use Rattle.blink_machine.specs.{numbers_left, writes_left, primes_left, PlainMachine, goes_on, latch_of, IsUpdate}
 use Rattle.blink_live.specs.declared.live.Live.{Live}
 use Rattle.blink_live.specs.declared.room.Room.{Room}
+use Rattle.blink_live.specs.declared.shelf.Shelf.{Shelf}
 use Rattle.blink_rows.specs.declared.span.Span.{Span}
 use Rattle.blink_live.specs.declared.view.Call.{Call}
 use Rattle.blink_live.specs.declared.view.View.{View}
 use Rattle.blink_live.specs.AtomicSteps.{AnswersInOrder, CanGoOn}
 use Rattle.blink_live.specs.Seats.{HasSameNumber, IsPassSeat}
+use Rattle.blink_live.specs.Shelves.{IsShelved}
 use Rattle.blink_live.specs.Views.{SeatState, KnowsItsOwn, CanBegin, MayChange, for_call, latch_number_by, no_words, pages_of, rows_of, span}
 use Rattle.blink_live.specs.Words.{AreNumbersIn, AreRowsIn}
 
 -- what an operation may use of its seat's rows and page numbers: the first of them
-abbrev pub room_in : Op → View → Room
-room_in op v = record { rows = span v.rows.next (v.rows.next + rows_of op); pages = span v.pages.next (v.pages.next + pages_of op); latch_number = latch_number_by v }
+abbrev pub room_in : Op → View → Option Shelf → Room
+room_in op v shelf = record { rows = span v.rows.next (v.rows.next + rows_of op); pages = span v.pages.next (v.pages.next + pages_of op); latch_number = latch_number_by v; shelf = shelf }
 
 -- and of a pass's, whose latch number is that of its last row
 abbrev pub room_for : Op → Span → Span → Room
-room_for op rows pages = record { rows = span rows.next (rows.next + rows_of op); pages = span pages.next (pages.next + pages_of op); latch_number = rows.stop - 1 }
+room_for op rows pages = record { rows = span rows.next (rows.next + rows_of op); pages = span pages.next (pages.next + pages_of op); latch_number = rows.stop - 1; shelf = None }
 
--- w is v, except for its operation, its share, what its call has stored, and what it reads and has seen
+-- w is v, except for its operation, its share, what its call has stored, the rows that it has taken out, and what it reads and has
+-- seen
 abbrev pub SameBesideCall : View → View → Type 0
-SameBesideCall v w = w ≡ record v { operation = w.operation; descent_bound = w.descent_bound; reads = w.reads; seen = w.seen; share = w.share; call = w.call }
+SameBesideCall v w = w ≡ record v { operation = w.operation; descent_bound = w.descent_bound; reads = w.reads; seen = w.seen; share = w.share; call = w.call; stock = w.stock }
 
 -- the operation hasn't decided yet, and the share is as it was; or it has decided once since the beginning
 pub data HasDecided (op : Op) (first v : View) (m : PlainMachine) : Type 0 where
@@ -108,3 +111,4 @@ pub record IsUnderWay (live : Live) (op : Op) (first seat : Seat ℕ View) (m : 
   pub updating : IsUpdating op (for_call first.me.0 op, first.me.1) seat.me m
   pub room_is : (room.rows ≡ seat.me.0.call.rows) × (room.pages ≡ seat.me.0.call.pages)
   pub latch_number : room.latch_number ≡ latch_number_by first.me.0
+  pub shelved : IsShelved room.shelf seat.me.0

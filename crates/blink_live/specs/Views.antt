@@ -1,5 +1,5 @@
 -- The views of seats: how they begin, and what each kind of step makes of them.
-use Rattle.std.specs.Prelude.{Option, ◌≡◌, ◌⊎◌, ℕ, zero, suc, ◌+◌, ◌-◌, ◌≤◌, List, [], ◌∷◌, ◌++◌, length, replicate, slice_set, Some, None, ◌||◌, ◌==◌, Bool, false, filter, Contains}
+use Rattle.std.specs.Prelude.{Option, ◌≡◌, ◌⊎◌, ℕ, zero, suc, ◌+◌, ◌-◌, ◌≤◌, List, [], ◌∷◌, ◌++◌, length, slice_set, Some, None, ◌||◌, ◌==◌, Bool, false, filter, Contains}
 use mathlib.Core.List.{IsPrefix}
 use Rattle.atomic_table.specs.Table.{Me}
 use Rattle.blink_batch.specs.declared.Entry.{Entry}
@@ -7,10 +7,11 @@ use Rattle.blink_batch.specs.declared.Op.{Op}
 use Rattle.blink_batch.specs.declared.Op.TheVariants.{Find, Insert}
 use Rattle.blink_batch.specs.{key_of, map_after, pointer_of}
 use Rattle.blink_index.specs.{map_of}
-use Rattle.blink_rows.specs.declared.limits.TheConstants.{ROW_WORDS, MAX_ROWS_PER_INSERT}
+use Rattle.blink_rows.specs.declared.limits.TheConstants.{MAX_ROWS_PER_INSERT}
 use Rattle.blink_page.specs.declared.limits.TheConstants.{MAX_NEW_PAGES_PER_INSERT}
 use Rattle.blink_rows.specs.declared.span.Span.{Span}
 use Rattle.blink_machine.specs.{PlainMachine, goes_on}
+use Rattle.blink_live.specs.declared.view.Aside.{Aside}
 use Rattle.blink_live.specs.declared.view.Call.{Call}
 use Rattle.blink_live.specs.declared.view.Change.{Change}
 use Rattle.blink_live.specs.declared.view.Opened.{Opened}
@@ -18,6 +19,7 @@ use Rattle.blink_live.specs.declared.view.Plan.{Plan}
 use Rattle.blink_live.specs.declared.view.Role.{Role}
 use Rattle.blink_live.specs.declared.view.Role.TheVariants.{Keeper, Pass, Spent}
 use Rattle.blink_live.specs.declared.view.Share.{Share}
+use Rattle.blink_live.specs.declared.view.Stock.{Stock}
 use Rattle.blink_live.specs.declared.view.View.{View}
 use Rattle.blink_live.specs.Changes.{after, entries_after, states_of, changes_made}
 
@@ -34,13 +36,21 @@ span next stop = record { next = next; stop = stop }
 abbrev pub no_share : Share
 no_share = record { keys = []; entries = []; changes = [] }
 
--- a row of which no word is stored
+-- a row of which no word is known
 abbrev pub no_words : List ℕ
-no_words = replicate ROW_WORDS 0
+no_words = []
 
 -- the call of a seat that hasn't made a call
 abbrev pub no_call : Call
 no_call = record { rows = span 1 1; pages = span 1 1; staged = no_words }
+
+-- nothing is set aside
+abbrev pub no_aside : Aside
+no_aside = record { rows = span 1 1; call = span 1 1 }
+
+-- the stock of a seat that has taken out no row
+abbrev pub no_stock : Stock
+no_stock = record { free = []; retired = []; waiting = []; before = []; passed = 0; aside = no_aside }
 
 -- a seat without an operation that has seen nothing
 abbrev pub seat_for : Plan → Role → Span → Span → Share → View
@@ -51,6 +61,7 @@ seat_for plan role rows pages share = record {
   pages = pages;
   place = 0;
   busy = 0;
+  stock = no_stock;
   call = no_call;
   share = share;
   taken = [];
@@ -165,15 +176,19 @@ has_rows v rows = record v { rows = rows; call = no_call }
 abbrev pub has_pages : View → Span → View
 has_pages v pages = record v { pages = pages; call = no_call }
 
--- the place's word is this now
+-- the place's word is this now, and the seat reads no row
 abbrev pub is_busy : View → ℕ → View
-is_busy v busy = record v { busy = busy }
+is_busy v busy = record v { busy = busy; reads = None }
 
--- the call has staged these words of its first row
+-- these are the first words of the call's first row
 abbrev pub is_staged : View → List ℕ → View
 is_staged v words = record v { call = record { rows = v.call.rows; pages = v.call.pages; staged = words } }
 
--- the call has staged one more word of that row
+-- one more of them was loaded
+abbrev pub knows_word : View → ℕ → View
+knows_word v word = is_staged v (v.call.staged ++ word ∷ [])
+
+-- one of them was stored
 abbrev pub stage_word : View → ℕ → ℕ → View
 stage_word v place word = is_staged v (slice_set v.call.staged place word)
 
@@ -189,15 +204,24 @@ changed_by author op share = record {
   changes = share.changes ++ changes_made author op (pointer_of share.entries (key_of op));
 }
 
--- the seat has published that row, its call may still use these page numbers, and its operation is `after` now
-abbrev pub publishes : View → PlainMachine → ℕ → Span → Share → List Change → View
-publishes v after way pages share seen = record v {
-  call = record { rows = span (suc v.call.rows.next) v.call.rows.stop; pages = pages; staged = no_words };
+-- one more row is taken out
+abbrev pub takes_out : ℕ → Stock → Stock
+takes_out row stock = record stock { retired = row ∷ stock.retired }
+
+-- the seat has published a row, its call may still use these rows and page numbers, and its operation is `after` now
+abbrev pub publishes_from : View → PlainMachine → ℕ → Span → Span → Share → List Change → Stock → View
+publishes_from v after way rows pages share seen stock = record v {
+  call = record { rows = rows; pages = pages; staged = no_words };
   operation = goes_on after after.state;
   descent_bound = way;
   share = share;
   seen = seen;
+  stock = stock;
 }
+
+-- and the row was the first of the call's
+abbrev pub publishes : View → PlainMachine → ℕ → Span → Share → List Change → Stock → View
+publishes v after way pages share seen stock = publishes_from v after way (span (suc v.call.rows.next) v.call.rows.stop) pages share seen stock
 
 -- ---- deals
 

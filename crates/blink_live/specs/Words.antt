@@ -1,5 +1,5 @@
 -- The layout of a table's words: where its rows stand, and which rows hold pages.
-use Rattle.std.specs.Prelude.{◌≡◌, ◌⊎◌, ℕ, ◌+◌, ◌-◌, ◌*◌, ◌<◌, ◌≤◌, Some, List, slice_index}
+use Rattle.std.specs.Prelude.{◌≡◌, ◌⊎◌, ℕ, ◌+◌, ◌-◌, ◌*◌, ◌<◌, ◌≤◌, Some, List, length, slice_index}
 use Rattle.blink_page.specs.{PlainPage}
 use Rattle.blink_rest.specs.{Pages}
 use Rattle.blink_rows.specs.{PlainCounts, page_words}
@@ -39,6 +39,10 @@ AreNumbersIn counts pages = (1 ≤ pages.next) × (pages.stop ≤ counts.numbers
 -- the row's words are these, and 0 behind them
 abbrev pub RowIs : PlainCounts → List ℕ → ℕ → List ℕ → Type 0
 RowIs counts words row content = (i : ℕ) → i < ROW_WORDS → slice_index words (row_start counts row + i) ≡ slice_index content i
+
+-- the row's first words are these
+abbrev pub RowBegins : PlainCounts → List ℕ → ℕ → List ℕ → Type 0
+RowBegins counts words row content = (i : ℕ) → i < ROW_WORDS → i < length content → slice_index words (row_start counts row + i) ≡ slice_index content i
 
 -- the words before `from`, and those from `to` on, are as they were
 abbrev pub IsSameOutside : ℕ → ℕ → List ℕ → List ℕ → Type 0

@@ -5,16 +5,18 @@ ghost use Rattle.blink_live.specs.Allowed.{AreForChanges, changes_left, deletes_
 ghost use Rattle.blink_live.specs.Updating.{room_for};
 ghost use Rattle.blink_live.specs.Views.{pages_of, rows_of, span};
 
+use crate::shelf::Shelf;
 use blink_batch::Op;
 use blink_rows::{MAX_NEW_PAGES_PER_INSERT, MAX_ROWS_PER_INSERT, Span};
 
 /// The rows and the page numbers that one operation may still use, and its pass's latch number, which it puts into the latch
-/// words of pages.
-#[derive(Clone, Copy)]
+/// words of pages. A session's operation has a shelf too, whose free rows it writes first.
+#[derive(Drop)]
 pub struct Room {
     pub rows: Span,
     pub pages: Span,
     pub latch_number: u64,
+    pub shelf: Option<Shelf>,
 }
 
 // The number of insertions that these page numbers are enough for.
@@ -77,5 +79,6 @@ pub(crate) fn next_of(op: Op, rows: &mut Span, pages: &mut Span) -> Room
         rows: first_of(rows, row_count),
         pages: first_of(pages, page_count),
         latch_number: rows.stop - 1,
+        shelf: None,
     }
 }

@@ -114,6 +114,15 @@ impl Play<u8, View> for LetGo {
     ghost then = { lets_go };
 }
 
+/// The load of the first word, of the first row that the seat's call may use, that the call doesn't know.
+pub struct KnowWord;
+
+impl Play<u8, View> for KnowWord {
+    ghost use Rattle.blink_live.specs.AtomicSteps.{knows_more};
+
+    ghost then = { knows_more };
+}
+
 /// The store of a word of the first row that the seat's call may use.
 pub struct StoreWord;
 
@@ -184,6 +193,69 @@ impl Play<u8, View> for GiveBack {
     ghost use Rattle.blink_live.specs.GivingBack.{giving_back};
 
     ghost then = { giving_back };
+}
+
+/// The load of the prime block's page word by a session whose taken-out rows begin to wait.
+pub struct BeginWait;
+
+impl Play<u8, View> for BeginWait {
+    ghost use Rattle.blink_live.specs.ComingBack.{begins_wait};
+
+    ghost then = { begins_wait };
+}
+
+/// The first load of a place's word since the session's rows began to wait.
+pub struct SeePlace;
+
+impl Play<u8, View> for SeePlace {
+    ghost use Rattle.blink_live.specs.ComingBack.{sees_place};
+
+    ghost then = { sees_place };
+}
+
+/// The second load of a place's word: its session may be past.
+pub struct CheckPlace;
+
+impl Play<u8, View> for CheckPlace {
+    ghost use Rattle.blink_live.specs.ComingBack.{checks_place};
+
+    ghost then = { checks_place };
+}
+
+/// The load of the prime block's page word by a session whose waiting rows are free.
+pub struct Collect;
+
+impl Play<u8, View> for Collect {
+    ghost use Rattle.blink_live.specs.ComingBack.{collects};
+
+    ghost then = { collects };
+}
+
+/// The load of the prime block's page word by a session that gives up the rows that it has taken out.
+pub struct Forget;
+
+impl Play<u8, View> for Forget {
+    ghost use Rattle.blink_live.specs.ComingBack.{loses_rows};
+
+    ghost then = { loses_rows };
+}
+
+/// The load of the prime block's page word by a session whose call is to write a free row.
+pub struct TakeRowIn;
+
+impl Play<u8, View> for TakeRowIn {
+    ghost use Rattle.blink_live.specs.ComingBack.{takes_row_in};
+
+    ghost then = { takes_row_in };
+}
+
+/// The load of the prime block's page word by a session whose other rows come back from aside.
+pub struct PutRowsBack;
+
+impl Play<u8, View> for PutRowsBack {
+    ghost use Rattle.blink_live.specs.ComingBack.{puts_rows_back};
+
+    ghost then = { puts_rows_back };
 }
 
 /// What a deal gives to a new pass, and which keys are taken after it. Each call picks them.

@@ -1,6 +1,6 @@
 //! How an operation changes the tree after its descent. To change a page it latches the page and stores the page's next version
 //! word by word in a row of its own. Then it names that row in the page word, and releases the latch.
-ghost use Rattle.std.specs.Prelude.{◌≡◌, ◌≢◌, ℕ, ◌+◌, None, ◌<◌, ◌≤◌, Some, suc, List, IsTrue, IfSome, ◌↔◌, ◌-◌, Contains, IfNone};
+ghost use Rattle.std.specs.Prelude.{◌≡◌, ◌≢◌, ℕ, ◌+◌, None, ◌<◌, ◌≤◌, Some, suc, List, IsTrue, IfSome, ◌↔◌, ◌-◌, Contains, IfNone, length};
 ghost use Rattle.std.specs.Bool.{OnFalse};
 ghost use Rattle.atomic_table.specs.declared.Seat.{Seat};
 ghost use Rattle.blink_batch.specs.{FitsWords, key_of};
@@ -12,15 +12,16 @@ ghost use Rattle.blink_machine.specs.declared.machine.State.TheVariants.{Ended};
 ghost use Rattle.blink_machine.specs.{IsUpdate, fresh, done, PrimeOut, page_out, NeedsNew, NeedsPrimeWrite, NeedsWrite, NeedsLatch, NeedsUnlatch, latch, latch_of, unlatch};
 ghost use Rattle.blink_live.specs.declared.view.View.{View};
 ghost use Rattle.blink_live.specs.Seats.{HasSameNumber, IsPassSeat, IsFirst};
+ghost use Rattle.blink_live.specs.Shelves.{IsShelved};
 ghost use Rattle.blink_live.specs.Updating.{HasEnded, IsUnderWay, room_in, ComesNearer, IsPastDescent};
-ghost use Rattle.blink_live.specs.Views.{CanBegin, MayChange, is_staged, latch_number_by, no_words, stage_word};
+ghost use Rattle.blink_live.specs.Views.{CanBegin, MayChange, is_staged, knows_word, latch_number_by, no_words, stage_word};
 ghost use Rattle.blink_live.specs.Pendings.{IsWaiting};
 ghost use Rattle.blink_live.specs.AtomicSteps.{PublishesNew, PublishesPage, PublishesPrime, GoesOn};
 ghost use Rattle.blink_live.specs.Words.{IsRowNumber};
 
 use crate::live::Live;
 use crate::room::Room;
-use crate::rule::{LetGo, Publish, PublishNew, PublishPrime, StoreWord, TryLatch};
+use crate::rule::{KnowWord, LetGo, Publish, PublishNew, PublishPrime, StoreWord, TryLatch};
 use crate::view::View;
 use atomic_table::Seat;
 use blink_batch::{Answer, Op};
@@ -50,7 +51,8 @@ impl Live {
         requires fits { FitsWords op }
         requires updates { IsUpdate op }
         requires can_begin { CanBegin seat.old.me.0 op }
-        requires room { room ≡ room_in op seat.old.me.0 }
+        requires room { room ≡ room_in op seat.old.me.0 room.shelf }
+        requires shelved { IsShelved room.shelf seat.old.me.0 }
         requires may { MayChange seat.old.me.0 (key_of op) }
         ensures ended { HasEnded op seat.old seat.new result }
     {
@@ -73,7 +75,8 @@ impl Live {
         requires fits { FitsWords op }
         requires updates { IsUpdate op }
         requires can_begin { CanBegin seat.old.me.0 op }
-        requires room { room.now ≡ room_in op seat.old.me.0 }
+        requires room { room.now ≡ room_in op seat.old.me.0 room.now.shelf }
+        requires shelved { IsShelved room.now.shelf seat.old.me.0 }
         requires may { MayChange seat.old.me.0 (key_of op) }
         ensures under_way { IsUnderWay self.now op seat.old seat.new machine.new room.now }
         ensures waits { IsWaiting machine.new }
@@ -158,8 +161,6 @@ impl Live {
         ensures waits { OnFalse result (machine.new ≡ machine.old) }
         ensures nearer { ComesNearer machine.old machine.new }
     {
-        // Read for the proof: the room's numbers are words.
-        let _stop = room.rows.stop;
         match machine.need() {
             Need::ReadPrime => self.read_prime(seat, machine),
             Need::ReadPage(number) => {
@@ -168,19 +169,15 @@ impl Live {
             }
             Need::Latch(number) => self.try_latch(seat, machine, number, room.latch_number),
             Need::WriteNew => {
-                self.write_new(seat, machine, room.pages.next as u32, room.rows.next);
-                room.pages.next += 1;
-                room.rows.next += 1;
+                self.put_new(seat, machine, room);
                 true
             }
             Need::WritePage(number) => {
-                self.write_page(seat, machine, number, room.rows.next);
-                room.rows.next += 1;
+                self.put_page(seat, machine, room, number);
                 true
             }
             Need::WritePrime => {
-                self.write_prime(seat, machine, room.rows.next);
-                room.rows.next += 1;
+                self.put_prime(seat, machine, room);
                 true
             }
             Need::Unlatch(number) => {
@@ -191,9 +188,94 @@ impl Live {
         }
     }
 
-    // Replaces the page of this number by the operation's version. The version stands in the first row of the call, which the
-    // page word names from then on.
-    fn write_page(&self, seat: &mut Seat<u8, View>, machine: &mut Machine, number: u32, row: u64)
+    // Writes the next version of a page, and puts the row of the version before on the shelf. The version stands in a free row of the
+    // shelf, or else in the first row of the room.
+    fn put_page(
+        &self,
+        seat: &mut Seat<u8, View>,
+        machine: &mut Machine,
+        room: &mut Room,
+        number: u32,
+    )
+        requires under_way { (op : Op) × (first : Seat ℕ View)
+            × IsUnderWay self.now op first seat.old machine.old room.old }
+        requires goes_on { machine.old.state ≢ Ended }
+        requires needs { NeedsWrite machine.old number }
+        ensures under_way { (op : Op) (first : Seat ℕ View)
+            → IsUnderWay self.now op first seat.old machine.old room.old
+            → IsUnderWay self.now op first seat.new machine.new room.new }
+        ensures machine { machine.new ≡ done machine.old 0 }
+    {
+        // Read for the proof: the room's numbers are words.
+        let _stop = room.rows.stop;
+        if let Some(row) = self.lend(seat, room) {
+            let out = self.write_page(seat, machine, number, row);
+            self.put_rows_back(seat);
+            self.keep_out(seat, room, out);
+            return;
+        }
+        let out = self.write_page(seat, machine, number, room.rows.next);
+        room.rows.next += 1;
+        self.keep_out(seat, room, out);
+    }
+
+    // Writes the prime block with the operation's new root, in the same way.
+    fn put_prime(&self, seat: &mut Seat<u8, View>, machine: &mut Machine, room: &mut Room)
+        requires under_way { (op : Op) × (first : Seat ℕ View)
+            × IsUnderWay self.now op first seat.old machine.old room.old }
+        requires goes_on { machine.old.state ≢ Ended }
+        requires needs { NeedsPrimeWrite machine.old }
+        ensures under_way { (op : Op) (first : Seat ℕ View)
+            → IsUnderWay self.now op first seat.old machine.old room.old
+            → IsUnderWay self.now op first seat.new machine.new room.new }
+        ensures machine { machine.new ≡ done machine.old 0 }
+    {
+        // Read for the proof: the room's numbers are words.
+        let _stop = room.rows.stop;
+        if let Some(row) = self.lend(seat, room) {
+            let out = self.write_prime(seat, machine, row);
+            self.put_rows_back(seat);
+            self.keep_out(seat, room, out);
+            return;
+        }
+        let out = self.write_prime(seat, machine, room.rows.next);
+        room.rows.next += 1;
+        self.keep_out(seat, room, out);
+    }
+
+    // Writes the operation's new page, in the same way.
+    fn put_new(&self, seat: &mut Seat<u8, View>, machine: &mut Machine, room: &mut Room)
+        requires under_way { (op : Op) × (first : Seat ℕ View)
+            × IsUnderWay self.now op first seat.old machine.old room.old }
+        requires goes_on { machine.old.state ≢ Ended }
+        requires needs { NeedsNew machine.old }
+        ensures under_way { (op : Op) (first : Seat ℕ View)
+            → IsUnderWay self.now op first seat.old machine.old room.old
+            → IsUnderWay self.now op first seat.new machine.new room.new }
+        ensures machine { machine.new ≡ done machine.old room.old.pages.next }
+    {
+        // Read for the proof: the room's numbers are words.
+        let _stop = room.rows.stop;
+        if let Some(row) = self.lend(seat, room) {
+            self.write_new(seat, machine, room.pages.next as u32, row);
+            self.put_rows_back(seat);
+            room.pages.next += 1;
+            return;
+        }
+        self.write_new(seat, machine, room.pages.next as u32, room.rows.next);
+        room.rows.next += 1;
+        room.pages.next += 1;
+    }
+
+    // Replaces the page of this number by the operation's version, and returns the row of the version before. The new version
+    // stands in the first row of the call, which the page word names from then on.
+    fn write_page(
+        &self,
+        seat: &mut Seat<u8, View>,
+        machine: &mut Machine,
+        number: u32,
+        row: u64,
+    ) -> u64
         requires seat { IsPassSeat self.now seat.old.table_id seat.old.me }
         requires at { seat.old.me.0.operation ≡ Some machine.old }
         requires fits { FitsWords machine.old.op }
@@ -204,12 +286,12 @@ impl Live {
         requires may { MayChange seat.old.me.0 (key_of machine.old.op) }
         ensures same { HasSameNumber seat.old seat.new }
         ensures machine { machine.new ≡ done machine.old 0 }
-        ensures published { PublishesPage number machine.old seat.old.me seat.new.me }
+        ensures published { PublishesPage number result machine.old seat.old.me seat.new.me }
     {
         let page = machine.page_out(0);
         let words = page_row(&page);
         self.stage_row(seat, row, &words);
-        self.publish(seat, machine, number, row);
+        self.publish(seat, machine, number, row)
     }
 
     // Writes the operation's new page at this number, the first of the call's page numbers. It stands in the call's first row.
@@ -233,8 +315,8 @@ impl Live {
         self.publish_new(seat, machine, number, row);
     }
 
-    // Writes the prime block with the operation's new root, in the call's first row.
-    fn write_prime(&self, seat: &mut Seat<u8, View>, machine: &mut Machine, row: u64)
+    // Writes the prime block with the operation's new root, in the call's first row, and returns the row that it had before.
+    fn write_prime(&self, seat: &mut Seat<u8, View>, machine: &mut Machine, row: u64) -> u64
         requires seat { IsPassSeat self.now seat.old.table_id seat.old.me }
         requires at { seat.old.me.0.operation ≡ Some machine.old }
         requires fits { FitsWords machine.old.op }
@@ -244,15 +326,16 @@ impl Live {
         requires may { MayChange seat.old.me.0 (key_of machine.old.op) }
         ensures same { HasSameNumber seat.old seat.new }
         ensures machine { machine.new ≡ done machine.old 0 }
-        ensures published { PublishesPrime machine.old seat.old.me seat.new.me }
+        ensures published { PublishesPrime result machine.old seat.old.me seat.new.me }
     {
         let prime = machine.prime_out();
         let words = prime_row(&prime);
         self.stage_row(seat, row, &words);
-        self.publish_prime(seat, machine, row);
+        self.publish_prime(seat, machine, row)
     }
 
-    // Stores the row's words that aren't 0, in ascending order. An unpublished row is all 0 before.
+    // Makes the words of an unpublished row these, in ascending order. It loads each word, and stores those that differ, since
+    // the row may have been another page's before.
     fn stage_row(&self, seat: &mut Seat<u8, View>, row: u64, words: &[u64; ROW_WORDS])
         requires seat { IsPassSeat self.now seat.old.table_id seat.old.me }
         requires row { IsFirst row seat.old.me.0.call.rows × IsRowNumber self.now.counts row }
@@ -261,7 +344,8 @@ impl Live {
         ensures staged { seat.new.me ≡ (is_staged seat.old.me.0 words.now, seat.old.me.1) }
     {
         for (place, &word) in words.iter().enumerate() {
-            if word != 0 {
+            let found = self.load_own(seat, row, place);
+            if found != word {
                 self.store_word(seat, row, place, word);
             }
         }
@@ -326,6 +410,21 @@ impl Live {
         machine.done(0);
     }
 
+    // Loads a word of the row, which is the first that the seat's call may use. The call knows the words before it.
+    fn load_own(&self, seat: &mut Seat<u8, View>, row: u64, place: usize) -> u64
+        requires seat { IsPassSeat self.now seat.old.table_id seat.old.me }
+        requires row { IsFirst row seat.old.me.0.call.rows × IsRowNumber self.now.counts row }
+        requires place { (place < ROW_WORDS) × (1 ≤ self.now.counts.numbers) }
+        requires next { place ≡ length seat.old.me.0.call.staged }
+        ensures same { HasSameNumber seat.old seat.new }
+        ensures known { seat.new.me ≡ (knows_word seat.old.me.0 result, seat.old.me.1) }
+    {
+        // Called for the proof: a place in the table is a `usize`.
+        let _count = self.table.word_count();
+        let start = self.counts.row_start(row) as usize;
+        self.table.shared.load::<KnowWord>(seat, start + place)
+    }
+
     // Stores a word of the row, which is the first that the seat's call may use.
     fn store_word(&self, seat: &mut Seat<u8, View>, row: u64, place: usize, word: u64)
         requires seat { IsPassSeat self.now seat.old.table_id seat.old.me }
@@ -342,8 +441,14 @@ impl Live {
             .store::<StoreWord>(seat, start + place, word);
     }
 
-    // Names the row in the page word. From then on the row holds the page's version.
-    fn publish(&self, seat: &mut Seat<u8, View>, machine: &mut Machine, number: u32, row: u64)
+    // Names the row in the page word, and returns the row that it named before. From then on the row holds the page's version.
+    fn publish(
+        &self,
+        seat: &mut Seat<u8, View>,
+        machine: &mut Machine,
+        number: u32,
+        row: u64,
+    ) -> u64
         requires seat { IsPassSeat self.now seat.old.table_id seat.old.me }
         requires at { seat.old.me.0.operation ≡ Some machine.old }
         requires fits { FitsWords machine.old.op }
@@ -354,12 +459,14 @@ impl Live {
         requires may { MayChange seat.old.me.0 (key_of machine.old.op) }
         ensures same { HasSameNumber seat.old seat.new }
         ensures machine { machine.new ≡ done machine.old 0 }
-        ensures published { PublishesPage number machine.old seat.old.me seat.new.me }
+        ensures published { PublishesPage number result machine.old seat.old.me seat.new.me }
     {
-        self.table
+        let out = self
+            .table
             .shared
-            .store::<Publish>(seat, number as usize, row);
+            .swap::<Publish>(seat, number as usize, row);
         machine.done(0);
+        out
     }
 
     // Names the row in the page word of a new page. The page's number is the first that the seat's call may use.
@@ -383,8 +490,8 @@ impl Live {
         machine.done(number);
     }
 
-    // Names the row in the prime block's page word.
-    fn publish_prime(&self, seat: &mut Seat<u8, View>, machine: &mut Machine, row: u64)
+    // Names the row in the prime block's page word, and returns the row that it named before.
+    fn publish_prime(&self, seat: &mut Seat<u8, View>, machine: &mut Machine, row: u64) -> u64
         requires seat { IsPassSeat self.now seat.old.table_id seat.old.me }
         requires at { seat.old.me.0.operation ≡ Some machine.old }
         requires fits { FitsWords machine.old.op }
@@ -395,10 +502,11 @@ impl Live {
         requires may { MayChange seat.old.me.0 (key_of machine.old.op) }
         ensures same { HasSameNumber seat.old seat.new }
         ensures machine { machine.new ≡ done machine.old 0 }
-        ensures published { PublishesPrime machine.old seat.old.me seat.new.me }
+        ensures published { PublishesPrime result machine.old seat.old.me seat.new.me }
     {
-        self.table.shared.store::<PublishPrime>(seat, 0, row);
+        let out = self.table.shared.swap::<PublishPrime>(seat, 0, row);
         machine.done(0);
+        out
     }
 }
 

@@ -48,6 +48,28 @@ pub struct Account {
     pub changes: LinkedList<Change>,
 }
 
+/// What a session has set aside while it writes a row that came back: its rows, and those of its call.
+pub struct Aside {
+    pub rows: Span,
+    pub call: Span,
+}
+
+/// A session's rows that pages don't need any more, by how far they have come back.
+pub struct Stock {
+    /// The rows that no seat reads. The session may write them again.
+    pub free: LinkedList<u64>,
+    /// The rows that the session has taken out of page words since the waiting ones began to wait.
+    pub retired: LinkedList<u64>,
+    /// The rows that it took out before. They wait until no seat can still read them.
+    pub waiting: LinkedList<u64>,
+    /// The marks of the places since then, as the session has found them, from the first place on.
+    pub before: LinkedList<u64>,
+    /// The number of places, from the first on, whose sessions don't read what they read when the wait began.
+    pub passed: u64,
+    /// The session's other rows, while it writes one that came back.
+    pub aside: Aside,
+}
+
 /// The role of a seat.
 pub enum Role {
     /// The keeper's seat, with the number of passes dealt and the number of passes that came back.
@@ -58,7 +80,7 @@ pub enum Role {
     Spent,
 }
 
-/// What one call may use: rows and page numbers, and the words that it has staged so far in the first of these rows.
+/// What one call may use: rows and page numbers, and the words that it knows of the first of these rows, from its first word on.
 pub struct Call {
     pub rows: Span,
     pub pages: Span,
@@ -76,6 +98,8 @@ pub struct View {
     /// Of a session: its place, and the place's word, which isn't 0 while the session may be at an operation.
     pub place: u64,
     pub busy: u64,
+    /// Of a session: the rows that pages don't need any more.
+    pub stock: Stock,
     /// What the call under way, or the last one made, may use.
     pub call: Call,
     /// Of the keeper: the keys that were dealt, and the shares that came back.

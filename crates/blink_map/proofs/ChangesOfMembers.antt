@@ -39,7 +39,6 @@ module _ {live : Live} {op : Op} {first last : Seat ℕ View} {m : PlainMachine}
       record {
         rows = (omega (arith, rows), left.same_stop.0 ∙ sym (ap (λ (s : Span). s.next) used.rows));
         pages = (omega (arith, pages), left.same_stop.1 ∙ sym (ap (λ (s : Span). s.next) used.pages));
-        blank = left.blank;
       }
 
   -- what the member has then

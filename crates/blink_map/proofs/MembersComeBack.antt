@@ -14,6 +14,8 @@ use Rattle.blink_live.specs.declared.view.View.{View}
 use Rattle.blink_live.specs.GivingBack.{CanGiveBack, gives_back}
 use Rattle.blink_live.specs.Seats.{HasSameNumber, IsPassSeat}
 use Rattle.blink_live.specs.Updating.{HasEnded}
+use Rattle.blink_live.specs.Shelves.{IsShelved}
+use Rattle.blink_live.proofs.Offered.{shelved_so}
 use Rattle.blink_live.specs.Views.{IsCommon, SeatState, is_busy, pages_of, rows_of, span}
 use Rattle.blink_live.proofs.Offered.{at_end, is_its_seat}
 use Rattle.blink_map.specs.declared.member.Member.{Member}
@@ -33,6 +35,7 @@ pub record IsIdleAgain (old : Member) (room : CallRoom) (seat : Seat ℕ View) :
   pub none_told : seat.me.0.told ≡ []
   pub idle : seat.me.0.operation ≡ None
   pub no_slot : seat.me.1 ≡ []
+  pub shelved : IsShelved room.shelf seat.me.0
 
 module _ {live : Live} {op : Op} {old : Member} {seat : Seat ℕ View} {m : PlainMachine} {room : CallRoom} (out : HasSetOut live op old seat m room) where
   begun : out.first.me.0 ≡ is_busy old.seat.me.0 1
@@ -110,6 +113,7 @@ module _ {live : Live} {op : Op} {old : Member} {seat : Seat ℕ View} {m : Plai
         none_told = ap (λ (v : View). v.told) now ∙ ((used out.under_way).told ∙ (ap (λ (v : View). v.told) begun ∙ old.none_told));
         idle = ap (λ (v : View). v.operation) now ∙ ended.idle;
         no_slot = ap (λ (x : SeatState). x.1) back ∙ (ended.same_slots ∙ (ap (λ (x : SeatState). x.1) out.marked ∙ old.no_slot));
+        shelved = shelved_so room.shelf seat.me.0 new.me.0 (ap (λ (v : View). v.plan) now) (ap (λ (v : View). v.stock) now) out.under_way.shelved;
       }
 
   pub has_changed : (answer : Answer) (new : Member) → IsMemberOf live old → HasEnded op out.first seat answer → HasSameNumber seat new.seat → new.seat.me ≡ (is_busy (gives_back seat.me.0) 0, seat.me.1)

@@ -162,9 +162,10 @@ impl Member {
             rows,
             pages,
             place,
+            shelf,
         } = self;
         live.mark(&mut seat, place, 1);
-        let room = room_of(op, &rows, &pages);
+        let room = room_of(op, &rows, &pages, shelf);
         let mut machine = Machine::new(op, live.fan());
         live.set_out(&mut seat, &mut machine, &room, op);
         UnderWay {
@@ -210,6 +211,7 @@ impl UnderWay {
                 stop: pages.stop,
             },
             place,
+            shelf: room.shelf,
         }
     }
 }

@@ -22,7 +22,7 @@ use crate::map::{Map, Session};
 use crate::member::Member;
 use atomic_table::Seat;
 use blink_batch::{Answer, Op};
-use blink_live::{Live, Room, View};
+use blink_live::{Live, Room, Shelf, View};
 use blink_machine::Machine;
 use blink_page::MAX_NEW_PAGES_PER_INSERT;
 use blink_rows::{MAX_ROWS_PER_INSERT, Span};
@@ -36,6 +36,10 @@ const LATCH: u64 = 1;
 const ROW_CHUNK: u64 = 1024;
 
 const PAGE_CHUNK: u64 = 512;
+
+// A session with fewer free rows than these lets as many rows wait together, and looks whether those that wait are free. Two looks
+// at each of 256 places are a few loads a change then.
+const FREE_ROWS: usize = 64;
 
 impl Map {
     /// Adds an entry. It answers `Inserted`, or `Exists` with the pointer that the key has, which stays. The call takes no memory.
@@ -121,6 +125,7 @@ impl Member {
         ensures lacks { ¬ IsTrue result → (¬ HasRoom op self.old.rows self.old.pages)
             × (¬ HasRoom op self.new.rows self.new.pages) }
     {
+        self.recycle(live);
         if self.has_room(op) {
             return true;
         }
@@ -128,6 +133,27 @@ impl Member {
         self.draw_rows(live, rows);
         self.draw_pages(live, pages);
         self.has_room(op)
+    }
+
+    // Brings rows that the member's changes have taken out nearer to its free ones, if it has few of these.
+    fn recycle(&mut self, live: &Live)
+        requires its_own { IsMemberOf live.now self.old }
+        ensures drawn { HasDrawn self.old self.new }
+        ensures rows { self.new.rows ≡ self.old.rows }
+        ensures pages { self.new.pages ≡ self.old.pages }
+    {
+        let Member {
+            seat,
+            rows: _,
+            pages: _,
+            place: _,
+            shelf,
+        } = self;
+        if let Some(shelf) = shelf.as_mut() {
+            if shelf.free.len() < FREE_ROWS {
+                live.recycle(seat, shelf, FREE_ROWS);
+            }
+        }
     }
 
     // Draws rows, if the member has fewer than these.
@@ -141,6 +167,7 @@ impl Member {
             rows,
             pages: _,
             place: _,
+            shelf: _,
         } = self;
         if rows.len() < least {
             if let Some(drawn) = live.draw_rows(seat, least, ROW_CHUNK) {
@@ -160,6 +187,7 @@ impl Member {
             rows: _,
             pages,
             place: _,
+            shelf: _,
         } = self;
         if pages.len() < least {
             if let Some(drawn) = live.draw_pages(seat, least, PAGE_CHUNK) {
@@ -190,15 +218,17 @@ impl Member {
             rows,
             pages,
             place,
+            shelf,
         } = self;
         live.mark(seat, *place, 1);
-        let mut room = room_of(op, rows, pages);
+        let mut room = room_of(op, rows, pages, shelf.take());
         let mut machine = Machine::new(op, live.fan());
         live.set_out(seat, &mut machine, &room, op);
         let answer = to_end(rt, live, seat, &mut machine, &mut room);
         come_back(live, seat, *place);
         rows.next = room.rows.next;
         pages.next = room.pages.next;
+        *shelf = room.shelf;
         answer
     }
 }
@@ -215,12 +245,13 @@ fn needed_by(op: Op) -> (u64, u64)
 }
 
 // The first of these rows and page numbers, for an operation.
-pub(crate) fn room_of(op: Op, rows: &Span, pages: &Span) -> Room
+pub(crate) fn room_of(op: Op, rows: &Span, pages: &Span, shelf: Option<Shelf>) -> Room
     requires in_order { (rows.now.next ≤ rows.now.stop) × (pages.now.next ≤ pages.now.stop) }
     requires room { HasRoom op rows.now pages.now }
     ensures rows { result.rows ≡ span rows.now.next (rows.now.next + rows_of op) }
     ensures pages { result.pages ≡ span pages.now.next (pages.now.next + pages_of op) }
     ensures latch { result.latch_number ≡ 1 }
+    ensures shelf { result.shelf ≡ shelf }
 {
     let (row_count, page_count) = needed_by(op);
     let _row_stop = rows.stop;
@@ -235,6 +266,7 @@ pub(crate) fn room_of(op: Op, rows: &Span, pages: &Span) -> Room
             stop: pages.next + page_count,
         },
         latch_number: LATCH,
+        shelf,
     }
 }
 

@@ -80,6 +80,7 @@ fn settle(live: &Live, host: &mut Seat<u8, View>, member: Member)
         rows: _,
         pages: _,
         place: _,
+        shelf: _,
     } = member;
     live.settle_with(host, seat);
 }

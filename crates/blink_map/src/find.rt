@@ -42,6 +42,7 @@ impl Member {
             rows: _,
             pages: _,
             place,
+            shelf: _,
         } = self;
         live.mark(seat, *place, 1);
         let answer = live.search(seat, key, None);

@@ -44,6 +44,7 @@ impl Member {
             rows: _,
             pages: _,
             place,
+            shelf: _,
         } = self;
         live.mark(seat, *place, 1);
         live.search_all(seat, keys, answers);

@@ -3,10 +3,11 @@
 ghost use Rattle.std.specs.Prelude.{◌≡◌, ◌<◌, ◌≤◌, [], None};
 ghost use Rattle.blink_live.specs.declared.view.Role.TheVariants.{Pass};
 ghost use Rattle.blink_live.specs.Accounts.{HasSeenItsOwn};
+ghost use Rattle.blink_live.specs.Shelves.{IsShelved, IsShelved-prop};
 ghost use Rattle.blink_live.specs.Views.{IsCommon};
 
 use atomic_table::Seat;
-use blink_live::{Room, View};
+use blink_live::{Room, Shelf, View};
 use blink_machine::Machine;
 use blink_rows::Span;
 
@@ -18,6 +19,8 @@ pub(crate) struct Member {
     pub pages: Span,
     // The number of its place in the tree's table.
     pub place: u64,
+    // The rows that the member's changes have taken out, and their way back.
+    pub shelf: Option<Shelf>,
     ghost rows_are: { rows ≡ seat.me.0.rows },
     ghost pages_are: { pages ≡ seat.me.0.pages },
     ghost place_is: { (place ≡ seat.me.0.place) × (place < seat.me.0.plan.places) },
@@ -29,6 +32,7 @@ pub(crate) struct Member {
     ghost idle: { seat.me.0.operation ≡ None },
     ghost saw_own: { HasSeenItsOwn seat.me.0 },
     ghost no_slot: { seat.me.1 ≡ [] },
+    ghost shelved: { IsShelved shelf seat.me.0 } by { IsShelved-prop shelf seat.me.0 },
 }
 
 /// An operation of a member that has begun, and what the member has. The operation may still use what is in `room`.

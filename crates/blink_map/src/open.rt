@@ -1,6 +1,8 @@
 //! Opening a map over an index.
 ghost use Rattle.std.specs.Prelude.{◌≡◌, ◌⊎◌, ◌↔◌, ◌+◌, ◌++◌, ◌<◌, ◌≤◌, [], ◌∷◌, Some, replicate, IfOk, OnOk, IsErrOf, length};
 ghost use Rattle.blink_live.specs.Common.{IsHost};
+ghost use Rattle.blink_live.specs.Shelves.{stock_of};
+ghost use Rattle.blink_live.specs.Views.{no_stock};
 ghost use Rattle.blink_map.specs.Opening.{AreMembers, IsHostWith};
 ghost use Rattle.blink_map.specs.Places.{IsMemberOf};
 ghost use Rattle.blink_map.specs.Sessions.{IsOpenedWith, IsTooLarge};
@@ -12,7 +14,7 @@ use crate::places::{Claim, RuleOfPlaces, Stand};
 use crate::rest::lay_host;
 use atomic_table::{Seat, Table};
 use blink_index::Index;
-use blink_live::{Dealt, Extent, Live, View};
+use blink_live::{Dealt, Extent, Live, Shelf, View};
 use blink_page::MAX_PAGE;
 use blink_rows::Span;
 use std::alloc::{AllocError, Global};
@@ -21,6 +23,10 @@ use std::snapshot::Snapshot;
 
 /// The greatest number of sessions of a map.
 pub const MAX_SESSIONS: u32 = 256;
+
+// The number of rows of each kind that the shelf of a place has room for: those that a session's changes take out while another
+// session is in the midst of one call.
+const SHELF_ROWS: usize = 1024;
 
 impl Map {
     /// Opens a map over the index's tree. The index stays as it is. Sessions draw the rows and page numbers of `room` from a pool.
@@ -83,7 +89,8 @@ fn members(
 {
     let mut members = Vec::with_capacity(alloc, sessions as usize)?;
     for place in 0..u64::from(sessions) {
-        let member = admit::<Brand>(live, host, place);
+        let shelf = Shelf::with_room(alloc, SHELF_ROWS, sessions as usize)?;
+        let member = admit::<Brand>(live, host, place, shelf);
         let Ok(()) = push(&mut members, member) else {
             return Err(AllocError);
         };
@@ -109,10 +116,11 @@ fn push(members: &mut Vec<Option<Member>>, member: Member) -> Result<(), AllocEr
 }
 
 // Deals one more member, of the next place.
-fn admit<B: Dealt>(live: &Live, host: &mut Seat<u8, View>, place: u64) -> Member
+fn admit<B: Dealt>(live: &Live, host: &mut Seat<u8, View>, place: u64, shelf: Shelf) -> Member
     requires host { IsHostWith live.now host.old place }
     requires picked { ([] ≡ B.keys) × ([] ≡ B.taken) × (0 ≡ B.rows) × (0 ≡ B.pages) }
     requires in_range { place < live.now.places }
+    requires empty { stock_of shelf ≡ no_stock }
     ensures host { IsHostWith live.now host.new (place + 1) }
     ensures member { IsMemberOf live.now result }
 {
@@ -122,5 +130,6 @@ fn admit<B: Dealt>(live: &Live, host: &mut Seat<u8, View>, place: u64) -> Member
         rows: Span { next: 1, stop: 1 },
         pages: Span { next: 1, stop: 1 },
         place,
+        shelf: Some(shelf),
     }
 }

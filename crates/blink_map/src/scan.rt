@@ -55,6 +55,7 @@ impl Member {
             rows: _,
             pages: _,
             place,
+            shelf: _,
         } = self;
         live.mark(seat, *place, 1);
         let scanned = live.scan_by(seat, lo, hi, into);

@@ -51,12 +51,14 @@ impl Member {
             rows: _,
             pages: _,
             place: _,
+            shelf: _,
         } = self;
         let Member {
             seat,
             rows: _,
             pages: _,
             place,
+            shelf: _,
         } = other;
         live.pass_on(teller, seat);
         live.look_up(seat);

@@ -1,5 +1,5 @@
 -- A pass that has a change of the operation's kind left can begin an operation of one of its keys.
-use Rattle.std.proofs.Common.{◌≡◌, ◌≢◌, inl, ℕ, ◌+◌, ◌≤◌, List, sym, ◌∙◌, subst, arith}
+use Rattle.std.proofs.Common.{None, ap, ◌≡◌, ◌≢◌, inl, ℕ, ◌+◌, ◌≤◌, List, sym, ◌∙◌, subst, arith}
 use Rattle.std.specs.Prelude.{Contains}
 use Rattle.blink_batch.specs.{key_of}
 use Rattle.blink_batch.specs.declared.Op.{Op}
@@ -7,6 +7,7 @@ use Rattle.blink_machine.specs.{IsUpdate}
 use Rattle.blink_rows.specs.declared.span.Span.{Span}
 use Rattle.blink_live.specs.declared.live.Live.{Live}
 use Rattle.blink_live.specs.declared.live.Pass.{Pass}
+use Rattle.blink_live.specs.declared.room.Room.{Room}
 use Rattle.blink_live.specs.declared.view.View.{View}
 use Rattle.blink_live.specs.Allowed.{changes_left}
 use Rattle.blink_live.specs.Handles.{IsPassOf, keys_of}
@@ -22,16 +23,21 @@ pub record CanSetOut (live : Live) (op : Op) (pass : Pass) : Type 0 where
   pub some_row : 1 ≤ pass.rows.stop
   pub seat : IsPassSeat live pass.seat.table_id pass.seat.me
   pub can_begin : CanBegin pass.seat.me.0 op
-  pub same_room : room_for op pass.rows pass.pages ≡ room_in op pass.seat.me.0
+  pub same_room : room_for op pass.rows pass.pages ≡ room_in op pass.seat.me.0 None
   pub may : MayChange pass.seat.me.0 (key_of op)
 
 -- a pass's latch number is that of its last row
-in_room : (op : Op) (v : View) → IsOwned v.plan → room_for op v.rows v.pages ≡ room_in op v
+in_room : (op : Op) (v : View) → IsOwned v.plan → room_for op v.rows v.pages ≡ room_in op v None
 in_room op v owned = λ i. record {
   rows = span v.rows.next (v.rows.next + rows_of op);
   pages = span v.pages.next (v.pages.next + pages_of op);
   latch_number = latch_in (sym owned i) v.rows.stop;
+  shelf = None;
 }
+
+-- whatever room equals that has its shelf, which is none
+pub with_its_shelf : (op : Op) (v : View) (room : Room) → room ≡ room_in op v None → room ≡ room_in op v room.shelf
+with_its_shelf op v room is = is ∙ ap (room_in op v) (sym (ap (λ (r : Room). r.shelf) is))
 
 pub can_set_out : (live : Live) (op : Op) (pass : Pass) → IsPassOf live pass → IsUpdate op → Contains (keys_of pass) (key_of op) → changes_left op pass.pages pass.rows ≢ 0 → CanSetOut live op pass
 can_set_out live op pass its_own updates own some =

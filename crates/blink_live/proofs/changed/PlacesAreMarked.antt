@@ -14,9 +14,10 @@ use Rattle.blink_live.specs.Rule.{HasPlace, PageWordIs, IsInRole, Knows, IsTable
 use Rattle.blink_live.specs.Views.{IsCommon, SeatState, is_busy}
 use Rattle.blink_live.specs.Words.{place_word, row_start, word_count}
 use Rattle.blink_live.proofs.table.PoolStays.{pool_stays}
+use Rattle.blink_live.proofs.reuse.ReuseStaysSafe.{hand_stays, reuse_stays}
 use Rattle.blink_live.proofs.table.AccountsStay.{accounts_stay}
-use Rattle.blink_live.proofs.table.OthersKnowTheSame.{LeavesOthers, RowStays, page_word_still, reads_still}
-use Rattle.blink_live.proofs.table.StoresKeepTable.{rows_kept, call_kept, prime_still, store_keeps}
+use Rattle.blink_live.proofs.table.OthersKnowTheSame.{LeavesOthers, RowStays, page_word_still}
+use Rattle.blink_live.proofs.table.StoresKeepTable.{call_kept, prime_still, store_keeps}
 
 module _ (plan : Plan) (s : State ℕ View) (tree_state : TreeState) (h : IsTableAt plan s tree_state) (id x : ℕ) (v : View) (at : get_elem? s.views id ≡ some v) (role : v.role ≡ Pass) (common : IsCommon plan) (some_number : 1 ≤ plan.counts.numbers)
     (idle_or_busy : (m : PlainMachine) → v.operation ≡ Some m → 1 ≤ x) where
@@ -69,8 +70,8 @@ module _ (plan : Plan) (s : State ℕ View) (tree_state : TreeState) (h : IsTabl
     same_plan = known.same_plan;
     operation = known.operation;
     bounded = known.bounded;
-    reads = reads_still plan s tree_state tree_state h id kept.0 words h.owners h.log leaves v.reads known.reads;
-    rows = rows_kept plan h.owners s.words words stays (suc id) v.rows known.rows;
+    reads = tt;
+    rows = known.rows;
     numbers = record { in_range = known.numbers.in_range; own = known.numbers.own; free = known.numbers.free };
     for_call = call_kept plan h.owners s.words words stays tree_state tree_state (suc id) v.call v.rows.next v.pages.next (λ n own free. free) known.for_call;
     share = known.share;
@@ -101,7 +102,8 @@ module _ (plan : Plan) (s : State ℕ View) (tree_state : TreeState) (h : IsTabl
     holders = h.holders;
     is_map = h.is_map;
     kept = h.kept;
-  } refl refl (λ is_common. accounts_stay plan h.owners.place h.log s.views id v w at (h.accounted is_common) refl ((h.accounted is_common).saw_own id v at)) knows
+  } refl refl (λ is_common. accounts_stay plan h.owners.place h.log s.views id v w at (h.accounted is_common) refl ((h.accounted is_common).saw_own id v at))
+      (λ is_common. reuse_stays plan h.owners.row s.words s.views id v w at (h.reuse is_common) h.owners.row words (λ row is. is) (λ seat r later is apart. is) (λ n few. before n (omega (arith, few))) refl (hand_stays h.owners.row id v w refl refl) (λ row content is. absurd (let e : None ≡ Some (row, content) = is in cc))) knows
 
 pub place_is_marked : (plan : Plan) (slots id x : ℕ) (me : SeatState) → me.0.role ≡ Pass → IsCommon plan → 1 ≤ plan.counts.numbers → (me.0.operation ≡ None) ⊎ (1 ≤ x)
     → Allows (IsTable plan) slots id me (place_word plan.counts me.0.place) (λ n. x) (λ n. marks_place (step slots (place_word plan.counts me.0.place) x 0 none) me x)

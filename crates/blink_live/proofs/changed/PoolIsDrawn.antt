@@ -1,5 +1,5 @@
 -- A session that draws rows or page numbers from the pool takes no step of the tree, and keeps the rule.
-use Rattle.std.proofs.Common.{◌≡◌, ◌≢◌, ℕ, zero, suc, ◌+◌, ◌*◌, ◌<◌, ◌≤◌, Option, Some, None, List, [], set, refl, sym, ap, ◌∙◌, subst, get_or-set_same, get_or-set_other, eqb, arith}
+use Rattle.std.proofs.Common.{◌≡◌, ◌≢◌, ℕ, zero, suc, ◌+◌, ◌*◌, ◌<◌, ◌≤◌, Option, Some, None, List, set, refl, sym, ap, ◌∙◌, subst, inl, inr, ⊎_elim, ◌⊎◌, get_or-set_same, get_or-set_other, eqb, arith}
 use Rattle.std.specs.Prelude.{slice_index}
 use mathlib.Core.Option.{some, none}
 use lib.ListN.{get_elem?}
@@ -8,19 +8,22 @@ use prog.Atomic.{either}
 use Rattle.atomic_table.specs.Table.{State, Act, Valid, stepped, carried_after, step, keeps, Allows}
 use Rattle.atomic_table.proofs.Lists.{exchanged, set_again}
 use Rattle.blink_machine.specs.TreeState.{TreeState}
+use Rattle.blink_rows.specs.declared.span.Span.{Span}
 use Rattle.blink_live.specs.declared.view.Plan.{Plan}
 use Rattle.blink_live.specs.declared.view.Role.TheVariants.{Keeper, Pass}
 use Rattle.blink_live.specs.declared.view.View.{View}
 use Rattle.blink_live.specs.AtomicSteps.{draws_pages, draws_rows}
+use Rattle.blink_live.specs.Reuse.{IsAtHand, IsReuseSafe}
 use Rattle.blink_live.specs.Accounts.{AreAccounts}
 use Rattle.blink_live.specs.Rule.{latch_word, HasNumbers, HasRows, Owners, PageWordIs, IsInRole, Knows, IsTableAt, IsTable}
 use Rattle.blink_live.specs.Views.{IsCommon, SeatState, has_pages, has_rows, latch_in, span}
 use Rattle.blink_live.specs.Words.{place_word, pool_page, pool_row, row_start, word_count}
 use Rattle.blink_live.proofs.table.CallsOfSeats.{nothing_for_call}
+use Rattle.blink_live.proofs.reuse.ReuseStaysSafe.{reuse_stays, same_reads}
 use Rattle.blink_live.proofs.table.AccountsStay.{accounts_stay}
-use Rattle.blink_live.proofs.table.OthersKnowTheSame.{LeavesOthers, RowStays, page_word_still, reads_still, row_is_still}
+use Rattle.blink_live.proofs.table.OthersKnowTheSame.{LeavesOthers, RowStays, page_word_still, reads_still}
 use Rattle.blink_live.proofs.table.OwnersInRange.{ranged, ranged_in, ranged_out}
-use Rattle.blink_live.proofs.table.StoresKeepTable.{rows_kept, prime_still, store_keeps}
+use Rattle.blink_live.proofs.table.StoresKeepTable.{prime_still, store_keeps}
 
 -- in a common table a latch number doesn't depend on rows
 -- the latch words are those of the same numbers
@@ -28,7 +31,7 @@ latch_word_still : (new old : Owners) (holder : Option ℕ) → new.latch_number
 latch_word_still new old None same = refl
 latch_word_still new old (Some seat) same = ap (λ (f : ℕ → ℕ). f seat) (sym same)
 
-latch_still : (places one other : ℕ) → 1 ≤ places → latch_in places one ≡ latch_in places other
+pub latch_still : (places one other : ℕ) → 1 ≤ places → latch_in places one ≡ latch_in places other
 latch_still zero one other some_place = absurd (omega (arith, some_place))
 latch_still (suc places) one other some_place = refl
 
@@ -61,7 +64,7 @@ module _ (plan : Plan) (s : State ℕ View) (tree_state : TreeState) (h : IsTabl
 
     -- the seat's new view, and the owners: the pool alone has other rows or page numbers
     module _ (owners : Owners) (w : View) (leaves : LeavesOthers plan s tree_state tree_state h id words owners h.log) (same_latch : owners.latch_number ≡ h.owners.latch_number) (same_role : w.role ≡ v.role) (same_plan : w.plan ≡ v.plan)
-        (accounted : AreAccounts plan owners.place h.log (set s.views id w)) (knows : Knows plan owners words tree_state h.log id w) where
+        (accounted : AreAccounts plan owners.place h.log (set s.views id w)) (reuse : IsReuseSafe plan owners.row words (set s.views id w)) (knows : Knows plan owners words tree_state h.log id w) where
       draw_keeps : IsTable plan record { words = words; homes = s.homes; views = set s.views id w }
       draw_keeps = store_keeps plan s tree_state tree_state h id (word_count plan.counts + n) new kept.0 v w at owners h.log h.now leaves record {
         same_fan = refl;
@@ -76,13 +79,13 @@ module _ (plan : Plan) (s : State ℕ View) (tree_state : TreeState) (h : IsTabl
         holders = λ number seat holds. subst (λ (f : ℕ → ℕ). 1 ≤ f seat) (sym same_latch) (h.holders number seat holds);
         is_map = h.is_map;
         kept = h.kept;
-      } same_role same_plan (λ is_common. accounted) knows
+      } same_role same_plan (λ is_common. accounted) (λ is_common. reuse) knows
 
   -- ---- rows
 
   module _ (found : slice_index s.words (pool_row plan.counts) ≡ old) (end : new ≤ plan.counts.rows + 1) where
-    pool_rows : HasRows plan h.owners s.words (suc 0) (span old (plan.counts.rows + 1))
-    pool_rows = subst (λ (n : ℕ). HasRows plan h.owners s.words (suc 0) (span n (plan.counts.rows + 1))) found (h.pool common).rows
+    pool_rows : HasRows plan h.owners (suc 0) (span old (plan.counts.rows + 1))
+    pool_rows = subst (λ (n : ℕ). HasRows plan h.owners (suc 0) (span n (plan.counts.rows + 1))) found (h.pool common).rows
 
     abbrev row_owners : Owners
     row_owners = record h.owners { row = ranged old new (suc id) h.owners.row }
@@ -99,12 +102,9 @@ module _ (plan : Plan) (s : State ℕ View) (tree_state : TreeState) (h : IsTabl
       keys = λ owned key apart. (refl, refl, refl);
       nobodys = h.nobodys;
       pool = λ is_common. record {
-        rows = subst (λ (n : ℕ). HasRows plan row_owners (words 1 (omega arith) (omega arith)) (suc 0) (span n (plan.counts.rows + 1))) (sym (here 1 (omega arith) (omega arith))) record {
+        rows = subst (λ (n : ℕ). HasRows plan row_owners (suc 0) (span n (plan.counts.rows + 1))) (sym (here 1 (omega arith) (omega arith))) record {
           in_range = (let low = pool_rows.in_range.0 in omega (arith, low, further), pool_rows.in_range.1);
           own = λ row low high. ranged_out old new (suc id) h.owners.row row (λ a c. omega (arith, low, c)) ∙ pool_rows.own row (omega (arith, low, further)) high;
-          blank = λ row low high.
-              let least = pool_rows.in_range.0 in
-              row_is_still plan s.words (words 1 (omega arith) (omega arith)) row [] (stays 1 (omega arith) (omega arith) row (omega (arith, least, further, low)) (omega (arith, high))) (pool_rows.blank row (omega (arith, low, further)) high);
         };
         pages = let pages = (h.pool common).pages in
             subst (λ (n : ℕ). HasNumbers plan row_owners tree_state (suc 0) (span n plan.counts.numbers)) (sym (other_pool 1 (omega arith) (omega arith) 2 (λ e. omega (arith, e)))) record { in_range = pages.in_range; own = pages.own; free = pages.free };
@@ -124,9 +124,6 @@ module _ (plan : Plan) (s : State ℕ View) (tree_state : TreeState) (h : IsTabl
       rows = record {
         in_range = (pool_rows.in_range.0, end);
         own = λ row low high. ranged_in old new (suc id) h.owners.row row low high;
-        blank = λ row low high.
-            let least = pool_rows.in_range.0 in
-            row_is_still plan s.words (words 1 (omega arith) (omega arith)) row [] (stays 1 (omega arith) (omega arith) row (omega (arith, least, low)) (omega (arith, high, end))) (pool_rows.blank row low (omega (arith, high, end)));
       };
       numbers = record { in_range = known.numbers.in_range; own = known.numbers.own; free = known.numbers.free };
       for_call = nothing_for_call plan row_owners (words 1 (omega arith) (omega arith)) tree_state (suc id) old v.pages.next pool_rows.in_range.0 known.numbers.in_range.0 some_number;
@@ -140,8 +137,17 @@ module _ (plan : Plan) (s : State ℕ View) (tree_state : TreeState) (h : IsTabl
       places_left = λ dealt back is. absurd (let e : Pass ≡ Keeper dealt back = sym role ∙ is in cc);
     }
 
+    -- they were the pool's
+    drawn_rows : (row : ℕ) → IsAtHand (has_rows v (span old new)) row → IsAtHand v row ⊎ (h.owners.row row ≢ suc id)
+    drawn_rows row hand = ⊎_elim
+        (λ (t : (old ≤ row) × (row < new)). let later = kept.0 in inr (λ e. let one : suc 0 ≡ suc id = sym (pool_rows.own row t.0 (omega (arith, t, end))) ∙ e in omega (arith, one, later)))
+        (λ (t : (1 ≤ row) × (row < 1)). absurd (omega (arith, t))) hand
+
     rows_drawn : IsTable plan record { words = words 1 (omega arith) (omega arith); homes = s.homes; views = set s.views id (has_rows v (span old new)) }
-    rows_drawn = draw_keeps 1 (omega arith) (omega arith) row_owners (has_rows v (span old new)) rows_leave refl refl refl (accounts_stay plan h.owners.place h.log s.views id v (has_rows v (span old new)) at (h.accounted common) refl ((h.accounted common).saw_own id v at)) rows_knows
+    rows_drawn = draw_keeps 1 (omega arith) (omega arith) row_owners (has_rows v (span old new)) rows_leave refl refl refl (accounts_stay plan h.owners.place h.log s.views id v (has_rows v (span old new)) at (h.accounted common) refl ((h.accounted common).saw_own id v at))
+        (reuse_stays plan h.owners.row s.words s.views id v (has_rows v (span old new)) at (h.reuse common) row_owners.row (words 1 (omega arith) (omega arith)) (λ row is. row_else row (λ e. let one : 0 ≡ suc 0 = sym is ∙ e in omega (arith, one)) ∙ is)
+        (λ seat row later is apart. row_else row (λ e. let one : suc seat ≡ suc 0 = sym is ∙ e in omega (arith, one, later)) ∙ is)
+        (λ n few. before 1 (omega arith) (omega arith) n (omega (arith, few))) refl drawn_rows (same_reads plan h.owners.row s.words s.views id v (has_rows v (span old new)) at (h.reuse common) refl refl refl refl)) rows_knows
 
   -- ---- page numbers
 
@@ -166,10 +172,9 @@ module _ (plan : Plan) (s : State ℕ View) (tree_state : TreeState) (h : IsTabl
       pool = λ is_common. record {
         rows = let rows = (h.pool common).rows in
             let least = rows.in_range.0 in
-            subst (λ (n : ℕ). HasRows plan page_owners (words 2 (omega arith) (omega arith)) (suc 0) (span n (plan.counts.rows + 1))) (sym (other_pool 2 (omega arith) (omega arith) 1 (λ e. omega (arith, e)))) record {
+            subst (λ (n : ℕ). HasRows plan page_owners (suc 0) (span n (plan.counts.rows + 1))) (sym (other_pool 2 (omega arith) (omega arith) 1 (λ e. omega (arith, e)))) record {
               in_range = rows.in_range;
               own = rows.own;
-              blank = λ row low high. row_is_still plan s.words (words 2 (omega arith) (omega arith)) row [] (stays 2 (omega arith) (omega arith) row (omega (arith, least, low)) (omega (arith, high))) (rows.blank row low high);
             };
         pages = subst (λ (n : ℕ). HasNumbers plan page_owners tree_state (suc 0) (span n plan.counts.numbers)) (sym (here 2 (omega arith) (omega arith))) record {
           in_range = (let low = pool_pages.in_range.0 in omega (arith, low, further), pool_pages.in_range.1);
@@ -189,9 +194,7 @@ module _ (plan : Plan) (s : State ℕ View) (tree_state : TreeState) (h : IsTabl
       operation = known.operation;
       bounded = known.bounded;
       reads = reads_still plan s tree_state tree_state h id kept.0 (words 2 (omega arith) (omega arith)) page_owners h.log pages_leave v.reads known.reads;
-      rows =
-          let its = rows_kept plan h.owners s.words (words 2 (omega arith) (omega arith)) (stays 2 (omega arith) (omega arith)) (suc id) v.rows known.rows in
-          record { in_range = its.in_range; own = its.own; blank = its.blank };
+      rows = record { in_range = known.rows.in_range; own = known.rows.own };
       numbers = record {
         in_range = (pool_pages.in_range.0, end);
         own = λ number low high. ranged_in old new (suc id) h.owners.page number low high;
@@ -207,8 +210,13 @@ module _ (plan : Plan) (s : State ℕ View) (tree_state : TreeState) (h : IsTabl
       places_left = λ dealt back is. absurd (let e : Pass ≡ Keeper dealt back = sym role ∙ is in cc);
     }
 
+    no_call_rows : (seat : ℕ) (u : View) (pages : Span) (row : ℕ) → IsAtHand (has_pages u pages) row → IsAtHand u row ⊎ (h.owners.row row ≢ suc seat)
+    no_call_rows seat u pages row hand = ⊎_elim (λ (t : (u.rows.next ≤ row) × (row < u.rows.stop)). inl (inl t)) (λ (t : (1 ≤ row) × (row < 1)). absurd (omega (arith, t))) hand
+
     pages_drawn : IsTable plan record { words = words 2 (omega arith) (omega arith); homes = s.homes; views = set s.views id (has_pages v (span old new)) }
-    pages_drawn = draw_keeps 2 (omega arith) (omega arith) page_owners (has_pages v (span old new)) pages_leave refl refl refl (accounts_stay plan h.owners.place h.log s.views id v (has_pages v (span old new)) at (h.accounted common) refl ((h.accounted common).saw_own id v at)) pages_knows
+    pages_drawn = draw_keeps 2 (omega arith) (omega arith) page_owners (has_pages v (span old new)) pages_leave refl refl refl (accounts_stay plan h.owners.place h.log s.views id v (has_pages v (span old new)) at (h.accounted common) refl ((h.accounted common).saw_own id v at))
+        (reuse_stays plan h.owners.row s.words s.views id v (has_pages v (span old new)) at (h.reuse common) page_owners.row (words 2 (omega arith) (omega arith)) (λ row is. is) (λ seat r later is apart. is)
+        (λ n few. before 2 (omega arith) (omega arith) n (omega (arith, few))) refl (no_call_rows id v (span old new)) (same_reads plan h.owners.row s.words s.views id v (has_pages v (span old new)) at (h.reuse common) refl refl refl refl)) pages_knows
 
 -- ---- the steps
 

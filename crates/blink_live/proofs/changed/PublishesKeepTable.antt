@@ -1,6 +1,6 @@
 -- A page word that names a row of one's own is the tree's write of a page, old or new, or of the prime block, and keeps the rule.
-use Rattle.std.proofs.Common.{◌≡◌, ◌≢◌, ⊎_elim, ℕ, suc, ◌<◌, ◌≤◌, Option, Some, None, List, [], ◌++◌, set, refl, sym, ap, ◌∙◌, subst, append_assoc, arith}
-use Rattle.std.specs.Prelude.{Contains, IsSome}
+use Rattle.std.proofs.Common.{◌≡◌, ◌≢◌, ◌⊎◌, inl, inr, ⊎_elim, ℕ, suc, ◌<◌, ◌≤◌, Option, Some, None, List, [], ◌++◌, set, refl, sym, ap, ◌∙◌, subst, append_assoc, arith}
+use Rattle.std.specs.Prelude.{Contains, IsSome, slice_index}
 use mathlib.Core.Option.{some, none}
 use mathlib.Core.List.{IsPrefix, append-nil}
 use lib.ListN.{get_elem?}
@@ -21,14 +21,17 @@ use Rattle.blink_live.specs.declared.view.Change.{Change}
 use Rattle.blink_live.specs.declared.view.Plan.{Plan}
 use Rattle.blink_live.specs.declared.view.Role.TheVariants.{Pass}
 use Rattle.blink_live.specs.declared.view.Share.{Share}
+use Rattle.blink_live.specs.declared.view.Stock.{Stock}
 use Rattle.blink_live.specs.declared.view.View.{View}
 use Rattle.blink_live.specs.Changes.{put, after, states_of, changes_made, Learns}
 use Rattle.blink_live.specs.AtomicSteps.{AnswersInOrder, Decided, CanGoOn, EndsWithOwn, PublishesPage, PublishesNew, PublishesPrime, publishes_page, publishes_new, publishes_prime}
-use Rattle.blink_live.specs.Rule.{IsOwnKey, IsShare, HasNumbers, Knows, IsTableAt, IsTable}
-use Rattle.blink_live.specs.Views.{IsCommon, IsOwned, MayChange, SeatState, KnowsItsOwn, adds, span, changed_by, publishes}
+use Rattle.blink_live.specs.Reuse.{IsAtHand, IsReuseSafe, IsWithin}
+use Rattle.blink_live.specs.Rule.{IsOwnKey, IsShare, HasNumbers, Knows, IsTableAt, IsTable, PageWordIs}
+use Rattle.blink_live.specs.Views.{IsCommon, IsOwned, MayChange, SeatState, KnowsItsOwn, adds, span, changed_by, publishes, takes_out}
 use Rattle.blink_live.proofs.changed.ChangesAreTheMaps.{all_by_author, states_of-append, none_of_other, other_stays, map_is_changed}
 use Rattle.blink_live.proofs.changed.RowsArePublished.{gives_row, IsStepOfTree, ChangesOwn, publish_keeps}
 use Rattle.blink_live.proofs.found.OperationBegins.{goes_on_as}
+use Rattle.blink_live.proofs.reuse.RowsAreTakenOut.{new_page_is_safe, page_is_safe}
 use Rattle.blink_live.proofs.table.MapsWithOneChange.{put_here, put_else}
 use Rattle.blink_live.proofs.table.NextPageIsThere.{EndsAt, next_page_is_there}
 use Rattle.blink_live.proofs.table.SeatsThatStay.{views_stay}
@@ -40,24 +43,25 @@ IsLongest views seen = (seat : ℕ) (v : View) → get_elem? views seat ≡ some
 
 -- what the table becomes, and what the seat is told: where the step changes something, the seat's list is the longest now, and ends
 -- with this change
-pub record BecomesPublished (plan : Plan) (s : State ℕ View) (id number : ℕ) (kind : Kind) (pages : Span) (me : SeatState) (m after_it : PlainMachine) : Type 0 where
+pub record BecomesPublished (plan : Plan) (s : State ℕ View) (id number : ℕ) (kind : Kind) (pages : Span) (stock : Stock) (me : SeatState) (m after_it : PlainMachine) : Type 0 where
   pub way : ℕ
   pub share : Share
   pub seen : List Change
-  pub table : IsTable plan record { words = set s.words number me.0.call.rows.next; homes = s.homes; views = set s.views id (publishes me.0 after_it way pages share seen) }
+  pub table : IsTable plan record { words = set s.words number me.0.call.rows.next; homes = s.homes; views = set s.views id (publishes me.0 after_it way pages share seen stock) }
   pub learns : Learns me.0 seen
   pub decided : Decided m after_it me.0 share seen
   pub next : CanGoOn me.0.plan after_it
   pub uses : UsesUp m (Moved kind) after_it
   pub answers_at_end : after_it.state ≡ Ended → IsSome after_it.answer
-  pub knows_own : KnowsItsOwn (publishes me.0 after_it way pages share seen)
+  pub knows_own : KnowsItsOwn (publishes me.0 after_it way pages share seen stock)
   pub ends_with_own : EndsWithOwn me.0 share seen
-  pub longest : IsLongest (set s.views id (publishes me.0 after_it way pages share seen)) seen
+  pub longest : IsLongest (set s.views id (publishes me.0 after_it way pages share seen stock)) seen
 
-module _ (plan : Plan) (s : State ℕ View) (tree_state then : TreeState) (h : IsTableAt plan s tree_state) (id number : ℕ) (kind : Kind) (pages : Span) (me : SeatState) (m after_it : PlainMachine) (content : List ℕ)
+module _ (plan : Plan) (s : State ℕ View) (tree_state then : TreeState) (h : IsTableAt plan s tree_state) (id number : ℕ) (kind : Kind) (pages : Span) (stock : Stock) (me : SeatState) (m after_it : PlainMachine) (content : List ℕ)
     (at : get_elem? s.views id ≡ some me.0) (role : me.0.role ≡ Pass) (under : (k : PlainMachine) × (me.0.operation ≡ Some k)) (its : IsItsOperation tree_state id m) (fits : FitsWords m.op) (stepped : Steps tree_state id m (Moved kind) after_it then)
-    (tree : IsStepOfTree plan s tree_state then h id number (descent_bound then.pages after_it) me.0 after_it content pages at role)
-    (in_range : number < plan.counts.numbers) (room : me.0.call.rows.next < me.0.call.rows.stop) (is_row : IsRowOf me.0.call.staged content) (may : MayChange me.0 (key_of m.op)) where
+    (tree : IsStepOfTree plan s tree_state then h id number (descent_bound then.pages after_it) me.0 after_it content pages stock at role)
+    (in_range : number < plan.counts.numbers) (room : me.0.call.rows.next < me.0.call.rows.stop) (is_row : IsRowOf me.0.call.staged content) (may : MayChange me.0 (key_of m.op))
+    (reuse : (w : View) → w.reads ≡ me.0.reads → w.role ≡ me.0.role → w.busy ≡ me.0.busy → w.place ≡ me.0.place → w.stock ≡ stock → w.rows ≡ me.0.rows → w.call.rows ≡ span (suc me.0.call.rows.next) me.0.call.rows.stop → IsCommon plan → IsReuseSafe plan (gives_row h.owners me.0.call.rows.next).row (set s.words number me.0.call.rows.next) (set s.views id w)) where
   known : Knows plan h.owners s.words tree_state h.log id me.0
   known = h.views id me.0 at
 
@@ -123,7 +127,7 @@ module _ (plan : Plan) (s : State ℕ View) (tree_state then : TreeState) (h : I
 
   -- the changes where the step decides the operation
   decides_here : (share : Share) → IsShareThen share → HasEntries then (map_after h.now m.op)
-      → ChangesOwn plan s tree_state then h id number (descent_bound then.pages after_it) me.0 after_it content pages at role under tree in_range room is_row its_changes (map_after h.now m.op) share
+      → ChangesOwn plan s tree_state then h id number (descent_bound then.pages after_it) me.0 after_it content pages stock at role under tree in_range room is_row its_changes (map_after h.now m.op) share
   decides_here share is has_entries = record {
     other_changes = λ owned key apart. none_of_other me.0.place m.op kept_before key (its_key owned key apart);
     other_kept = λ owned key apart. other_stays me.0.place (after (pointer_of plan.opening) h.log) m.op kept_before key (its_key owned key apart);
@@ -144,7 +148,7 @@ module _ (plan : Plan) (s : State ℕ View) (tree_state then : TreeState) (h : I
       (answers ∙ ap (λ (k : Option ℕ). Some (answer_at m.op k)) (h.kept (key_of m.op)), ([], append-nil (h.log ++ its_changes)), is.changes, is.own)
 
   -- and where it doesn't
-  decides_nothing : HasEntries then h.now → ChangesOwn plan s tree_state then h id number (descent_bound then.pages after_it) me.0 after_it content pages at role under tree in_range room is_row [] h.now me.0.share
+  decides_nothing : HasEntries then h.now → ChangesOwn plan s tree_state then h id number (descent_bound then.pages after_it) me.0 after_it content pages stock at role under tree in_range room is_row [] h.now me.0.share
   decides_nothing has_entries = record {
     other_changes = λ owned key apart. refl;
     other_kept = λ owned key apart. refl;
@@ -160,15 +164,15 @@ module _ (plan : Plan) (s : State ℕ View) (tree_state then : TreeState) (h : I
   }
 
   -- of its own keys the seat knows what its share says of them
-  own_known : (made : List Change) (share : Share) → IsShare plan (gives_row h.owners me.0.call.rows.next) (h.log ++ made) (suc id) share → KnowsItsOwn (publishes me.0 after_it (descent_bound then.pages after_it) pages share (h.log ++ made))
-  own_known made share is = share_is_known plan (gives_row h.owners me.0.call.rows.next) (suc id) (publishes me.0 after_it (descent_bound then.pages after_it) pages share (h.log ++ made)) (h.views id me.0 at).same_plan is
+  own_known : (made : List Change) (share : Share) → IsShare plan (gives_row h.owners me.0.call.rows.next) (h.log ++ made) (suc id) share → KnowsItsOwn (publishes me.0 after_it (descent_bound then.pages after_it) pages share (h.log ++ made) stock)
+  own_known made share is = share_is_known plan (gives_row h.owners me.0.call.rows.next) (suc id) (publishes me.0 after_it (descent_bound then.pages after_it) pages share (h.log ++ made) stock) (h.views id me.0 at).same_plan is
 
   -- no seat has seen more
-  is_longest : (made : List Change) (share : Share) → IsLongest (set s.views id (publishes me.0 after_it (descent_bound then.pages after_it) pages share (h.log ++ made))) (h.log ++ made)
-  is_longest made share = views_stay (λ seat v. IsPrefix v.seen (h.log ++ made)) s.views id (publishes me.0 after_it (descent_bound then.pages after_it) pages share (h.log ++ made)) ([], append-nil (h.log ++ made))
+  is_longest : (made : List Change) (share : Share) → IsLongest (set s.views id (publishes me.0 after_it (descent_bound then.pages after_it) pages share (h.log ++ made) stock)) (h.log ++ made)
+  is_longest made share = views_stay (λ seat v. IsPrefix v.seen (h.log ++ made)) s.views id (publishes me.0 after_it (descent_bound then.pages after_it) pages share (h.log ++ made) stock) ([], append-nil (h.log ++ made))
       (λ j u other there. let saw = (h.views j u there).saw in (saw.0 ++ made, sym (append_assoc u.seen saw.0 made) ∙ ap (λ (l : List Change). l ++ made) saw.1))
 
-  pub becomes_published : BecomesPublished plan s id number kind pages me m after_it
+  pub becomes_published : BecomesPublished plan s id number kind pages stock me m after_it
   becomes_published =
       let way : ℕ = descent_bound then.pages after_it in
       let decided_share = share_then in
@@ -182,12 +186,13 @@ module _ (plan : Plan) (s : State ℕ View) (tree_state then : TreeState) (h : I
         saw = (known.saw.0 ++ made, sym (append_assoc me.0.seen known.saw.0 made) ∙ ap (λ (l : List Change). l ++ made) known.saw.1);
         heard = (known.heard.0 ++ made, sym (append_assoc me.0.told known.heard.0 made) ∙ ap (λ (l : List Change). l ++ made) known.heard.1);
       } in
-      elim (step_law.step_decides tree_state then id m after_it (Moved kind) h.now h.invariant fits its stepped h.is_map.ascending h.is_map.kept) as (λ d. BecomesPublished plan s id number kind pages me m after_it) [
+      elim (step_law.step_decides tree_state then id m after_it (Moved kind) h.now h.invariant fits its stepped h.is_map.ascending h.is_map.kept) as (λ d. BecomesPublished plan s id number kind pages stock me m after_it) [
         | deciding none_yet answers has_entries ↦ record {
           way = way;
           share = decided_share.0;
           seen = h.log ++ its_changes;
-          table = publish_keeps plan s tree_state then h id number way me.0 after_it content pages at role under tree in_range room is_row its_changes (map_after h.now m.op) decided_share.0 (decides_here decided_share.0 decided_share.1 has_entries) bounded;
+          table = publish_keeps plan s tree_state then h id number way me.0 after_it content pages stock at role under tree in_range room is_row its_changes (map_after h.now m.op) decided_share.0 (decides_here decided_share.0 decided_share.1 has_entries) bounded
+              (reuse (publishes me.0 after_it way pages decided_share.0 (h.log ++ its_changes) stock) refl refl refl refl refl refl refl);
           learns = learns its_changes;
           decided = Decided.deciding none_yet (in_order decided_share.0 decided_share.1 answers);
           next = next;
@@ -201,7 +206,8 @@ module _ (plan : Plan) (s : State ℕ View) (tree_state then : TreeState) (h : I
           way = way;
           share = me.0.share;
           seen = h.log ++ [];
-          table = publish_keeps plan s tree_state then h id number way me.0 after_it content pages at role under tree in_range room is_row [] h.now me.0.share (decides_nothing has_entries) bounded;
+          table = publish_keeps plan s tree_state then h id number way me.0 after_it content pages stock at role under tree in_range room is_row [] h.now me.0.share (decides_nothing has_entries) bounded
+              (reuse (publishes me.0 after_it way pages me.0.share (h.log ++ []) stock) refl refl refl refl refl refl refl);
           learns = learns [];
           decided = Decided.other same_answer refl;
           next = next;
@@ -219,7 +225,7 @@ module _ (plan : Plan) (s : State ℕ View) (tree_state then : TreeState) (h : I
 abbrev written : TreeState → ℕ → PlainPage → ℕ → Option PlainMachine → TreeState
 written tree_state number page worker operation = record tree_state { pages = put tree_state.pages number (Some page); machines = put tree_state.machines worker operation }
 
-module _ (plan : Plan) (s : State ℕ View) (tree_state : TreeState) (h : IsTableAt plan s tree_state) (id number way : ℕ) (v : View) (after_it : PlainMachine) (page : PlainPage) (pages : Span) (at : get_elem? s.views id ≡ some v) (role : v.role ≡ Pass)
+module _ (plan : Plan) (s : State ℕ View) (tree_state : TreeState) (h : IsTableAt plan s tree_state) (id number way : ℕ) (v : View) (after_it : PlainMachine) (page : PlainPage) (pages : Span) (stock : Stock) (at : get_elem? s.views id ≡ some v) (role : v.role ≡ Pass)
     (some_number : 1 ≤ number) (in_range : number < plan.counts.numbers) where
   abbrev after_write : TreeState
   after_write = written tree_state number page id (goes_on after_it after_it.state)
@@ -234,7 +240,7 @@ module _ (plan : Plan) (s : State ℕ View) (tree_state : TreeState) (h : IsTabl
   tree_written : Rattle.blink_machine.specs.Invariant.Invariant after_write → Rattle.blink_machine.specs.Places.KeepsPlaces tree_state.pages after_write.pages
       → ((n : ℕ) → h.owners.page n ≢ suc id → tree_state.pages n ≡ None → n ≢ number)
       → HasNumbers plan h.owners after_write (suc id) v.pages → HasNumbers plan h.owners after_write (suc id) pages → pages.stop ≤ v.pages.next
-      → IsStepOfTree plan s tree_state after_write h id number way v after_it (page_words page) pages at role
+      → IsStepOfTree plan s tree_state after_write h id number way v after_it (page_words page) pages stock at role
   tree_written invariant places apart own_free call_free call_before = record {
     same_fan = refl;
     same_holder = λ n. refl;
@@ -254,10 +260,16 @@ module _ (plan : Plan) (s : State ℕ View) (tree_state : TreeState) (h : IsTabl
     no_other_page = λ n beyond. free_else n (λ same. omega (arith, same, beyond, in_range)) (h.no_other_page n beyond);
   }
 
+-- the row that it publishes isn't at hand any more
+rows_after : (whose : ℕ → ℕ) (seat : ℕ) (v w : View) → w.rows ≡ v.rows → w.call.rows ≡ span (suc v.call.rows.next) v.call.rows.stop → (row : ℕ) → IsAtHand w row → IsAtHand v row ⊎ (whose row ≢ suc seat)
+rows_after whose seat v w rows call row hand =
+    let hand_now : IsWithin v.rows row ⊎ IsWithin (span (suc v.call.rows.next) v.call.rows.stop) row = subst (λ (x : Span × Span). IsWithin x.0 row ⊎ IsWithin x.1 row) (λ i. (rows i, call i)) hand in
+    ⊎_elim (λ (t : IsWithin v.rows row). inl (inl t)) (λ (t : (suc v.call.rows.next ≤ row) × (row < v.call.rows.stop)). inl (inr (omega (arith, t), t.1))) hand_now
+
 -- in a page's place
 page_becomes_published : (plan : Plan) (s : State ℕ View) (table : IsTable plan s) (id number : ℕ) (me : SeatState) (m : PlainMachine) → get_elem? s.views id ≡ some me.0 → me.0.role ≡ Pass → me.0.operation ≡ Some m → FitsWords m.op
     → NeedsWrite m number → 1 ≤ number → number < plan.counts.numbers → me.0.call.rows.next < me.0.call.rows.stop → IsRowOf me.0.call.staged (page_words (page_out m 0)) → MayChange me.0 (key_of m.op)
-    → BecomesPublished plan s id number (write_page number) me.0.call.pages me m (done m 0)
+    → BecomesPublished plan s id number (write_page number) me.0.call.pages (takes_out (slice_index s.words number) me.0.stock) me m (done m 0)
 page_becomes_published plan s table id number me m at role at_m fits needs some_number in_range room is_row may =
     let tree_state : TreeState = table.0 in
     let h : IsTableAt plan s tree_state = table.1 in
@@ -275,25 +287,28 @@ page_becomes_published plan s table id number me m at role at_m fits needs some_
     let places = step_law.places_stay.stay tree_state then id m after_it (Moved (kinds.WritePage number)) h.invariant its stepped in
     let differs : (n : ℕ) → tree_state.pages n ≡ None → n ≢ number = λ n none_there same. let there : tree_state.pages n ≡ Some well.before = ap tree_state.pages same ∙ well.there in cc in
     let way : ℕ = descent_bound then.pages after_it in
-    let tree = tree_written plan s tree_state h id number way me.0 after_it page me.0.call.pages at role some_number in_range invariant places (λ n not_own none_there. differs n none_there)
-    (numbers_else plan s tree_state h id number way me.0 after_it page me.0.call.pages at role some_number in_range me.0.pages (λ n low high. differs n (known.numbers.free n low high)) known.numbers)
-    (numbers_else plan s tree_state h id number way me.0 after_it page me.0.call.pages at role some_number in_range me.0.call.pages (λ n low high. differs n (known.for_call.numbers.free n low high)) known.for_call.numbers)
+    let out : Stock = takes_out (slice_index s.words number) me.0.stock in
+    let tree = tree_written plan s tree_state h id number way me.0 after_it page me.0.call.pages out at role some_number in_range invariant places (λ n not_own none_there. differs n none_there)
+    (numbers_else plan s tree_state h id number way me.0 after_it page me.0.call.pages out at role some_number in_range me.0.pages (λ n low high. differs n (known.numbers.free n low high)) known.numbers)
+    (numbers_else plan s tree_state h id number way me.0 after_it page me.0.call.pages out at role some_number in_range me.0.call.pages (λ n low high. differs n (known.for_call.numbers.free n low high)) known.for_call.numbers)
     known.for_call.before.1 in
-    becomes_published plan s tree_state then h id number (kinds.WritePage number) me.0.call.pages me m after_it (page_words page) at role (m, at_m) its fits stepped tree in_range room is_row may
+    becomes_published plan s tree_state then h id number (kinds.WritePage number) me.0.call.pages out me m after_it (page_words page) at role (m, at_m) its fits stepped tree in_range room is_row may
+    (λ w reads its_role busy place stock rows call common. page_is_safe plan s tree_state h id number me.0.call.rows.next me.0 w at (h.reuse common) in_range (known.for_call.first_own room).1 reads its_role busy place (inr (omega arith, room)) (rows_after h.owners.row id me.0 w rows call)
+    (subst (PageWordIs plan h.owners s.words (slice_index s.words number)) well.there (h.pages number some_number in_range)).0 stock)
 
 pub page_is_published : (plan : Plan) (slots id number : ℕ) (me : SeatState) (m : PlainMachine) → me.0.role ≡ Pass → me.0.operation ≡ Some m → FitsWords m.op → NeedsWrite m number
     → 1 ≤ number → number < plan.counts.numbers → me.0.call.rows.next < me.0.call.rows.stop → IsRowOf me.0.call.staged (page_words (page_out m 0)) → MayChange me.0 (key_of m.op)
     → Allows (IsTable plan) slots id me number (λ n. me.0.call.rows.next) (λ n. publishes_page (step slots number me.0.call.rows.next 0 none) me n)
 page_is_published plan slots id number me m role at_m fits needs some_number in_range room is_row may s table homes at small =
     let to = page_becomes_published plan s table id number me m at role at_m fits needs some_number in_range room is_row may in
-    let then : SeatState = (publishes me.0 (done m 0) to.way me.0.call.pages to.share to.seen, me.1) in (
+    let then : SeatState = (publishes me.0 (done m 0) to.way me.0.call.pages to.share to.seen (takes_out (slice_index s.words number) me.0.stock), me.1) in (
       then.0,
       keeps,
       tt,
       to.table,
       λ k at_k needs_k.
           let same : m ≡ k = cc in
-          subst (λ (j : PlainMachine). PublishesPage number j me then) same
+          subst (λ (j : PlainMachine). PublishesPage number (slice_index s.words number) j me then) same
           record { way = to.way; share = to.share; seen = to.seen; is = refl; learns = to.learns; decided = to.decided; next = to.next; uses = to.uses; answers_at_end = to.answers_at_end; knows_own = to.knows_own; ends_with_own = to.ends_with_own },
     )
 
@@ -301,7 +316,7 @@ page_is_published plan slots id number me m role at_m fits needs some_number in_
 
 new_becomes_published : (plan : Plan) (s : State ℕ View) (table : IsTable plan s) (id : ℕ) (me : SeatState) (m : PlainMachine) → get_elem? s.views id ≡ some me.0 → me.0.role ≡ Pass → me.0.operation ≡ Some m → FitsWords m.op → NeedsNew m
     → me.0.call.pages.next < me.0.call.pages.stop → me.0.call.rows.next < me.0.call.rows.stop → IsRowOf me.0.call.staged (page_words (page_out m me.0.call.pages.next)) → MayChange me.0 (key_of m.op)
-    → BecomesPublished plan s id me.0.call.pages.next (write_page me.0.call.pages.next) (span (suc me.0.call.pages.next) me.0.call.pages.stop) me m (done m me.0.call.pages.next)
+    → BecomesPublished plan s id me.0.call.pages.next (write_page me.0.call.pages.next) (span (suc me.0.call.pages.next) me.0.call.pages.stop) me.0.stock me m (done m me.0.call.pages.next)
 new_becomes_published plan s table id me m at role at_m fits needs number_left room is_row may =
     let tree_state : TreeState = table.0 in
     let h : IsTableAt plan s tree_state = table.1 in
@@ -326,19 +341,20 @@ new_becomes_published plan s table id me m at role at_m fits needs number_left r
     let places = step_law.places_stay.stay tree_state then id m after_it (Moved (kinds.WritePage number)) h.invariant its stepped in
     let way : ℕ = descent_bound then.pages after_it in
     let before = known.for_call.before.1 in
-    let tree = tree_written plan s tree_state h id number way me.0 after_it page rest at role some_number in_range invariant places (λ n not_own free same. not_own (ap h.owners.page same ∙ numbers.own number (omega arith) number_left))
-    (numbers_else plan s tree_state h id number way me.0 after_it page rest at role some_number in_range me.0.pages (λ n low high same. omega (arith, low, same, before, number_left)) known.numbers)
-    (numbers_else plan s tree_state h id number way me.0 after_it page rest at role some_number in_range rest (λ n low high same. omega (arith, low, same))
+    let tree = tree_written plan s tree_state h id number way me.0 after_it page rest me.0.stock at role some_number in_range invariant places (λ n not_own free same. not_own (ap h.owners.page same ∙ numbers.own number (omega arith) number_left))
+    (numbers_else plan s tree_state h id number way me.0 after_it page rest me.0.stock at role some_number in_range me.0.pages (λ n low high same. omega (arith, low, same, before, number_left)) known.numbers)
+    (numbers_else plan s tree_state h id number way me.0 after_it page rest me.0.stock at role some_number in_range rest (λ n low high same. omega (arith, low, same))
     (record { in_range = (omega arith, last); own = λ n low high. numbers.own n (omega (arith, low)) high; free = λ n low high. numbers.free n (omega (arith, low)) high }))
     before in
-    becomes_published plan s tree_state then h id number (kinds.WritePage number) rest me m after_it (page_words page) at role (m, at_m) its fits stepped tree in_range room is_row may
+    becomes_published plan s tree_state then h id number (kinds.WritePage number) rest me.0.stock me m after_it (page_words page) at role (m, at_m) its fits stepped tree in_range room is_row may
+    (λ w reads its_role busy place stock rows call common. new_page_is_safe plan s tree_state h id number me.0.call.rows.next me.0 w at (h.reuse common) in_range (known.for_call.first_own room).1 reads its_role busy place (inr (omega arith, room)) (rows_after h.owners.row id me.0 w rows call) stock)
 
 pub new_is_published : (plan : Plan) (slots id : ℕ) (me : SeatState) (m : PlainMachine) → me.0.role ≡ Pass → me.0.operation ≡ Some m → FitsWords m.op → NeedsNew m
     → me.0.call.pages.next < me.0.call.pages.stop → me.0.call.rows.next < me.0.call.rows.stop → IsRowOf me.0.call.staged (page_words (page_out m me.0.call.pages.next)) → MayChange me.0 (key_of m.op)
     → Allows (IsTable plan) slots id me me.0.call.pages.next (λ n. me.0.call.rows.next) (λ n. publishes_new (step slots me.0.call.pages.next me.0.call.rows.next 0 none) me n)
 new_is_published plan slots id me m role at_m fits needs number_left room is_row may s table homes at small =
     let to = new_becomes_published plan s table id me m at role at_m fits needs number_left room is_row may in
-    let then : SeatState = (publishes me.0 (done m me.0.call.pages.next) to.way (span (suc me.0.call.pages.next) me.0.call.pages.stop) to.share to.seen, me.1) in (
+    let then : SeatState = (publishes me.0 (done m me.0.call.pages.next) to.way (span (suc me.0.call.pages.next) me.0.call.pages.stop) to.share to.seen me.0.stock, me.1) in (
       then.0,
       keeps,
       tt,
@@ -357,7 +373,7 @@ grown tree_state prime worker operation = record tree_state { prime = prime; mac
 
 prime_becomes_published : (plan : Plan) (s : State ℕ View) (table : IsTable plan s) (id : ℕ) (me : SeatState) (m : PlainMachine) (prime : List ℕ) → get_elem? s.views id ≡ some me.0 → me.0.role ≡ Pass → me.0.operation ≡ Some m → FitsWords m.op
     → NeedsPrimeWrite m → PrimeOut m prime → 1 ≤ plan.counts.numbers → me.0.call.rows.next < me.0.call.rows.stop → IsRowOf me.0.call.staged (prime_words prime) → MayChange me.0 (key_of m.op)
-    → BecomesPublished plan s id 0 write_prime me.0.call.pages me m (done m 0)
+    → BecomesPublished plan s id 0 write_prime me.0.call.pages (takes_out (slice_index s.words 0) me.0.stock) me m (done m 0)
 prime_becomes_published plan s table id me m prime at role at_m fits needs out some_number room is_row may =
     let tree_state : TreeState = table.0 in
     let h : IsTableAt plan s tree_state = table.1 in
@@ -370,7 +386,7 @@ prime_becomes_published plan s table id me m prime at role at_m fits needs out s
     let invariant = step_law.step_keeps_invariant tree_state then id m after_it (Moved kinds.WritePrime) h.invariant fits its stepped in
     let places = step_law.places_stay.stay tree_state then id m after_it (Moved kinds.WritePrime) h.invariant its stepped in
     let way : ℕ = descent_bound then.pages after_it in
-    let tree : IsStepOfTree plan s tree_state then h id 0 way me.0 after_it (prime_words prime) me.0.call.pages at role = record {
+    let tree : IsStepOfTree plan s tree_state then h id 0 way me.0 after_it (prime_words prime) me.0.call.pages (takes_out (slice_index s.words 0) me.0.stock) at role = record {
       same_fan = refl;
       same_holder = λ n. refl;
       own = put_here tree_state.machines id (goes_on after_it after_it.state);
@@ -388,20 +404,21 @@ prime_becomes_published plan s table id me m prime at role at_m fits needs out s
       call_before = known.for_call.before.1;
       no_other_page = h.no_other_page;
     } in
-    becomes_published plan s tree_state then h id 0 kinds.WritePrime me.0.call.pages me m after_it (prime_words prime) at role (m, at_m) its fits stepped tree (omega (arith, some_number)) room is_row may
+    becomes_published plan s tree_state then h id 0 kinds.WritePrime me.0.call.pages (takes_out (slice_index s.words 0) me.0.stock) me m after_it (prime_words prime) at role (m, at_m) its fits stepped tree (omega (arith, some_number)) room is_row may
+    (λ w reads its_role busy place stock rows call common. page_is_safe plan s tree_state h id 0 me.0.call.rows.next me.0 w at (h.reuse common) (omega (arith, some_number)) (known.for_call.first_own room).1 reads its_role busy place (inr (omega arith, room)) (rows_after h.owners.row id me.0 w rows call) h.prime.0 stock)
 
 pub prime_is_published : (plan : Plan) (slots id : ℕ) (me : SeatState) (m : PlainMachine) (prime : List ℕ) → me.0.role ≡ Pass → me.0.operation ≡ Some m → FitsWords m.op → NeedsPrimeWrite m → PrimeOut m prime
     → 1 ≤ plan.counts.numbers → me.0.call.rows.next < me.0.call.rows.stop → IsRowOf me.0.call.staged (prime_words prime) → MayChange me.0 (key_of m.op)
     → Allows (IsTable plan) slots id me 0 (λ n. me.0.call.rows.next) (λ n. publishes_prime (step slots 0 me.0.call.rows.next 0 none) me n)
 prime_is_published plan slots id me m prime role at_m fits needs out some_number room is_row may s table homes at small =
     let to = prime_becomes_published plan s table id me m prime at role at_m fits needs out some_number room is_row may in
-    let then : SeatState = (publishes me.0 (done m 0) to.way me.0.call.pages to.share to.seen, me.1) in (
+    let then : SeatState = (publishes me.0 (done m 0) to.way me.0.call.pages to.share to.seen (takes_out (slice_index s.words 0) me.0.stock), me.1) in (
       then.0,
       keeps,
       tt,
       to.table,
       λ k at_k needs_k.
           let same : m ≡ k = cc in
-          subst (λ (j : PlainMachine). PublishesPrime j me then) same
+          subst (λ (j : PlainMachine). PublishesPrime (slice_index s.words 0) j me then) same
           record { way = to.way; share = to.share; seen = to.seen; is = refl; learns = to.learns; decided = to.decided; next = to.next; uses = to.uses; answers_at_end = to.answers_at_end; knows_own = to.knows_own; ends_with_own = to.ends_with_own },
     )

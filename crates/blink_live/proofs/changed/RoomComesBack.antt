@@ -1,23 +1,21 @@
 -- What a call hasn't used is its pass's again: that is no step of the tree, and keeps the rule.
-use Rattle.std.proofs.Common.{◌≡◌, ℕ, suc, ◌<◌, ◌≤◌, List, [], get_or, set, refl, sym, ap, ◌∙◌, subst, arith}
-use Rattle.std.proofs.lemmas.List.{get_or-replicate}
-use Rattle.std.specs.Prelude.{slice_index}
+use Rattle.std.proofs.Common.{◌≡◌, ℕ, suc, ◌<◌, ◌≤◌, get_or, set, refl, sym, ap, ◌∙◌, subst, inl, inr, ⊎_elim, ◌⊎◌, ◌≢◌, arith}
 use mathlib.Core.Option.{some, none}
 use mathlib.Core.Logic.{dite}
 use native.Mathlib.Decide.{ℕ_discrete, dec_le}
 use lib.ListN.{get_elem?}
 use Rattle.atomic_table.specs.Table.{State, step, keeps, Allows}
-use Rattle.blink_rows.specs.declared.limits.TheConstants.{ROW_WORDS}
 use Rattle.blink_machine.specs.TreeState.{TreeState}
 use Rattle.blink_machine.proofs.Offered.{step_law}
 use Rattle.blink_live.specs.declared.view.Plan.{Plan}
 use Rattle.blink_live.specs.declared.view.Role.TheVariants.{Keeper, Pass}
 use Rattle.blink_live.specs.declared.view.View.{View}
 use Rattle.blink_live.specs.GivingBack.{CanGiveBack, gives_back, giving_back}
+use Rattle.blink_live.specs.Reuse.{IsAtHand}
 use Rattle.blink_live.specs.Rule.{HasRows, HasNumbers, IsInRole, Knows, IsTable, IsTableAt}
 use Rattle.blink_live.specs.Views.{SeatState, span}
-use Rattle.blink_live.specs.Words.{RowIs}
 use Rattle.blink_live.proofs.table.CallsOfSeats.{nothing_for_call}
+use Rattle.blink_live.proofs.reuse.ReuseStaysSafe.{reuse_stays, same_reads}
 use Rattle.blink_live.proofs.table.LoadsKeepTable.{moved, load_keeps_with}
 use Rattle.blink_live.proofs.table.MapsWithOneChange.{put_here, put_same}
 
@@ -29,29 +27,24 @@ module _ (plan : Plan) (some_number : 1 ≤ plan.counts.numbers) (s : State ℕ 
   then = moved tree_state id v.operation
 
   -- the rows of the call, its first among them, and then those of the pass
-  of_row : (row : ℕ) → v.call.rows.next ≤ row → row < v.rows.stop → (h.owners.row row ≡ suc id) × RowIs plan.counts s.words row []
+  of_row : (row : ℕ) → v.call.rows.next ≤ row → row < v.rows.stop → h.owners.row row ≡ suc id
   of_row row low high = dite (dec_le v.rows.next row)
-      (λ later. (known.rows.own row later high, known.rows.blank row later high))
+      (λ later. known.rows.own row later high)
       (λ earlier.
       let ends = can.rows in
-      let others = known.for_call.others in
       dite (ℕ_discrete row v.call.rows.next)
-      (λ e.
-      let room : v.call.rows.next < v.call.rows.stop = omega (arith, e, earlier, ends) in
-      subst (λ (r : ℕ). (h.owners.row r ≡ suc id) × RowIs plan.counts s.words r []) (sym e)
-      ((known.for_call.first_own room).1, λ i inside. known.for_call.staged room i inside ∙ (ap (λ (w : List ℕ). slice_index w i) can.blank ∙ get_or-replicate ROW_WORDS i 0 0 inside)))
-      (λ ne. (others.own row (omega (arith, low, ne)) (omega (arith, earlier, ends)), others.blank row (omega (arith, low, ne)) (omega (arith, earlier, ends)))))
+      (λ e. ap h.owners.row e ∙ (known.for_call.first_own (omega (arith, e, earlier, ends))).1)
+      (λ ne. known.for_call.others.own row (omega (arith, low, ne)) (omega (arith, earlier, ends))))
 
   some_row : 1 ≤ v.call.rows.next
   some_row = dite (dec_le v.call.rows.stop v.call.rows.next)
       (λ none. let ends = can.rows in let low = known.rows.in_range.0 in omega (arith, none, ends, low))
       (λ more. (known.for_call.first_own (omega (arith, more))).0)
 
-  back_rows : HasRows plan h.owners s.words (suc id) (span v.call.rows.next v.rows.stop)
+  back_rows : HasRows plan h.owners (suc id) (span v.call.rows.next v.rows.stop)
   back_rows = record {
     in_range = (some_row, known.rows.in_range.1);
-    own = λ row low high. (of_row row low high).0;
-    blank = λ row low high. (of_row row low high).1;
+    own = of_row;
   }
 
   back_numbers : HasNumbers plan h.owners then (suc id) (span v.call.pages.next v.pages.stop)
@@ -83,6 +76,13 @@ module _ (plan : Plan) (some_number : 1 ≤ plan.counts.numbers) (s : State ℕ 
     nothing = λ common dealt back is. absurd (let e : Pass ≡ Keeper dealt back = sym role ∙ is in cc);
   }
 
+  -- all of it was at hand
+  hand_before : (row : ℕ) → IsAtHand (gives_back v) row → IsAtHand v row ⊎ (h.owners.row row ≢ suc id)
+  hand_before row hand =
+      let ends = can.rows in
+      ⊎_elim (λ (t : (v.call.rows.next ≤ row) × (row < v.rows.stop)). dite (dec_le v.rows.next row) (λ later. inl (inl (later, t.1))) (λ earlier. inl (inr (t.0, omega (arith, earlier, ends)))))
+      (λ (t : (1 ≤ row) × (row < 1)). absurd (omega (arith, t))) hand
+
   pub back_keeps : IsTable plan record { words = set s.words 0 (get_or s.words 0 0); homes = s.homes; views = set s.views id (gives_back v) }
   back_keeps =
       let still = step_law.idle_workers_dont_matter tree_state then (record {
@@ -92,7 +92,8 @@ module _ (plan : Plan) (some_number : 1 ≤ plan.counts.numbers) (s : State ℕ 
         same_holder = λ number. refl;
         same_machines = put_same tree_state.machines id v.operation known.operation;
       }) h.invariant in
-      load_keeps_with plan s tree_state h id 0 v (gives_back v) at still refl refl refl (λ common. (h.accounted common).saw_own id v at) knows
+      load_keeps_with plan s tree_state h id 0 v (gives_back v) at still refl refl refl (λ common. (h.accounted common).saw_own id v at)
+      (λ common. reuse_stays plan h.owners.row s.words s.views id v (gives_back v) at (h.reuse common) h.owners.row s.words (λ row is. is) (λ seat r later is apart. is) (λ n few. refl) refl hand_before (same_reads plan h.owners.row s.words s.views id v (gives_back v) at (h.reuse common) refl refl refl refl)) knows
 
 pub room_comes_back : (plan : Plan) (slots id : ℕ) (me : SeatState) → 1 ≤ plan.counts.numbers → me.0.role ≡ Pass → CanGiveBack me.0
     → Allows (IsTable plan) slots id me 0 (λ k. k) (giving_back (step slots 0 0 0 none) me)

@@ -1,6 +1,5 @@
 -- A word that names a row of one's own publishes it: where the tree takes the step, the rule is kept.
 use Rattle.std.proofs.Common.{◌≡◌, ◌≢◌, ℕ, zero, suc, ◌+◌, ◌<◌, ◌≤◌, Option, Some, None, List, [], ◌++◌, set, refl, sym, ap, ◌∙◌, subst, get_or-set_same, get_or-set_other, append_assoc, arith}
-use Rattle.std.proofs.lemmas.List.{length-replicate, get_or-replicate}
 use Rattle.std.specs.Prelude.{slice_index, All}
 use mathlib.Core.Option.{some}
 use mathlib.Core.List.{append-nil}
@@ -13,7 +12,6 @@ use Rattle.blink_batch.specs.{pointer_of}
 use Rattle.blink_page.specs.{IsPageNumber, PlainPage}
 use Rattle.blink_rest.specs.{Pages}
 use Rattle.blink_rows.specs.{page_words, prime_words, IsRowOf}
-use Rattle.blink_rows.specs.declared.limits.TheConstants.{ROW_WORDS}
 use Rattle.blink_rows.specs.declared.span.Span.{Span}
 use Rattle.blink_machine.specs.declared.machine.State.{State as MachineState}
 use Rattle.blink_machine.specs.declared.machine.State.TheVariants.{Going}
@@ -25,16 +23,18 @@ use Rattle.blink_live.specs.declared.view.Change.{Change}
 use Rattle.blink_live.specs.declared.view.Plan.{Plan}
 use Rattle.blink_live.specs.declared.view.Role.TheVariants.{Keeper, Pass}
 use Rattle.blink_live.specs.declared.view.Share.{Share}
+use Rattle.blink_live.specs.declared.view.Stock.{Stock}
 use Rattle.blink_live.specs.declared.view.View.{View}
 use Rattle.blink_live.specs.Changes.{put, after, states_of}
 use Rattle.blink_live.specs.Accounts.{AreAccounts}
+use Rattle.blink_live.specs.Reuse.{IsReuseSafe}
 use Rattle.blink_live.specs.Rule.{Owners, IsPublished, PageWordIs, latch_word, HasRows, HasNumbers, IsShare, IsInRole, IsBoundedWay, Knows, IsTableAt, IsTable}
 use Rattle.blink_live.specs.Views.{IsCommon, IsOwned, span, publishes}
 use Rattle.blink_live.specs.Words.{place_word, word_count, RowIs}
 use Rattle.blink_live.proofs.changed.ChangesAreTheMaps.{after-append, states_of-append}
 use Rattle.blink_live.proofs.table.PoolStays.{pool_stays}
 use Rattle.blink_live.proofs.table.MapsWithOneChange.{put_here, put_else}
-use Rattle.blink_live.proofs.table.OthersKnowTheSame.{LeavesOthers, RowStays, row_is_still, page_word_still, reads_still}
+use Rattle.blink_live.proofs.table.OthersKnowTheSame.{LeavesOthers, RowStays, page_word_still, reads_still}
 use Rattle.blink_live.proofs.table.AccountsStay.{AreBy, accounts_grow}
 use Rattle.blink_live.proofs.table.StoresKeepTable.{row_stays, IsStored, prime_still, store_keeps}
 
@@ -52,7 +52,7 @@ ways_stay tree_state new seat m invariant stay under = go m.state refl
 abbrev pub gives_row : Owners → ℕ → Owners
 gives_row owners row = record owners { row = put owners.row row 0 }
 
-module _ (plan : Plan) (s : State ℕ View) (tree_state then : TreeState) (h : IsTableAt plan s tree_state) (id number way : ℕ) (v : View) (after_it : PlainMachine) (content : List ℕ) (pages : Span) (at : get_elem? s.views id ≡ some v) (role : v.role ≡ Pass) where
+module _ (plan : Plan) (s : State ℕ View) (tree_state then : TreeState) (h : IsTableAt plan s tree_state) (id number way : ℕ) (v : View) (after_it : PlainMachine) (content : List ℕ) (pages : Span) (stock : Stock) (at : get_elem? s.views id ≡ some v) (role : v.role ≡ Pass) where
   -- the tree's step: what the row holds is the page of this number now, or for number 0 the prime block, and else all is as it was
   pub record IsStepOfTree : Type 0 where
     pub same_fan : then.fan ≡ tree_state.fan
@@ -83,7 +83,7 @@ module _ (plan : Plan) (s : State ℕ View) (tree_state then : TreeState) (h : I
     new = gives_row h.owners v.call.rows.next
 
     abbrev pub w : View
-    w = publishes v after_it way pages share log
+    w = publishes v after_it way pages share log stock
 
     known : Knows plan h.owners s.words tree_state h.log id v
     known = h.views id v at
@@ -114,7 +114,7 @@ module _ (plan : Plan) (s : State ℕ View) (tree_state then : TreeState) (h : I
       pub kept_now : (key : ℕ) → pointer_of now key ≡ after (pointer_of plan.opening) log key
       pub its_account : (share.changes ≡ v.share.changes ++ made) × AreBy v.place made
 
-    module _ (own : ChangesOwn) (bounded : IsBoundedWay then w) where
+    module _ (own : ChangesOwn) (bounded : IsBoundedWay then w) (reuse : IsCommon plan → IsReuseSafe plan new.row words (set s.views id w)) where
       leaves : LeavesOthers plan s tree_state then h id words new log
       leaves = record {
         machines = step.others;
@@ -139,11 +139,10 @@ module _ (plan : Plan) (s : State ℕ View) (tree_state then : TreeState) (h : I
       row_number : 1 ≤ v.call.rows.next
       row_number = (known.for_call.first_own room).0
 
-      later_rows : (rows : Span) → v.call.rows.next < rows.next → HasRows plan h.owners s.words (suc id) rows → HasRows plan new words (suc id) rows
+      later_rows : (rows : Span) → v.call.rows.next < rows.next → HasRows plan h.owners (suc id) rows → HasRows plan new (suc id) rows
       later_rows rows later has = record {
         in_range = has.in_range;
         own = λ row low high. put_else h.owners.row v.call.rows.next row 0 (λ same. omega (arith, same, low, later)) ∙ has.own row low high;
-        blank = λ row low high. row_is_still plan s.words words row [] (stays row) (has.blank row low high);
       }
 
       still_numbers : (numbers : Span) → HasNumbers plan h.owners then (suc id) numbers → HasNumbers plan new then (suc id) numbers
@@ -160,16 +159,14 @@ module _ (plan : Plan) (s : State ℕ View) (tree_state then : TreeState) (h : I
             numbers = still_numbers v.pages step.own_free;
             for_call = record {
               before = (known.for_call.before.0, step.call_before);
-              width = length-replicate {A = ℕ} ROW_WORDS 0;
               first_own = λ more. (
                 omega arith,
                 put_else h.owners.row v.call.rows.next (suc v.call.rows.next) 0 (λ same. omega (arith, same)) ∙ others.own (suc v.call.rows.next) (omega arith) more,
               );
-              staged = λ more i inside. stays (suc v.call.rows.next) i inside ∙ (others.blank (suc v.call.rows.next) (omega arith) more i inside ∙ sym (get_or-replicate ROW_WORDS i 0 0 inside));
+              staged = λ more i inside few. absurd (omega (arith, few));
               others = later_rows (span (suc (suc v.call.rows.next)) v.call.rows.stop) (omega arith) record {
                 in_range = (omega arith, others.in_range.1);
                 own = λ row low high. others.own row (omega (arith, low)) high;
-                blank = λ row low high. others.blank row (omega (arith, low)) high;
               };
               numbers = still_numbers pages step.call_free;
             };
@@ -187,7 +184,7 @@ module _ (plan : Plan) (s : State ℕ View) (tree_state then : TreeState) (h : I
       is_published =
           let high = known.for_call.others.in_range.1 in (
             ((row_number, omega (arith, high, room)), put_here h.owners.row v.call.rows.next 0),
-            λ i inside. stays v.call.rows.next i inside ∙ (known.for_call.staged room i inside ∙ is_row.filled i inside),
+            λ i inside. stays v.call.rows.next i inside ∙ (known.for_call.staged room i inside (let wide = is_row.width in omega (arith, wide, inside)) ∙ is_row.filled i inside),
           )
 
       word_here : slice_index words number ≡ v.call.rows.next
@@ -238,4 +235,4 @@ module _ (plan : Plan) (s : State ℕ View) (tree_state then : TreeState) (h : I
           accounts_grow plan h.owners.place h.log s.views id v w at (h.accounted common) made role placed.own placed.in_range own.its_account.1 refl refl own.its_account.0 refl
 
       pub publish_keeps : IsTable plan record { words = words; homes = s.homes; views = set s.views id w }
-      publish_keeps = store_keeps plan s tree_state then h id number v.call.rows.next kept.0 v w at new log now leaves stored refl refl accounted knows
+      publish_keeps = store_keeps plan s tree_state then h id number v.call.rows.next kept.0 v w at new log now leaves stored refl refl accounted reuse knows

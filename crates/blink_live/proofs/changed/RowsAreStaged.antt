@@ -1,62 +1,67 @@
--- A row is stored word by word: its first words stand there, and all others are 0 still.
-use Rattle.std.proofs.Common.{◌≡◌, ℕ, zero, suc, ◌+◌, List, [], ◌∷◌, length, replicate, get_or, set, refl, sym, ap, ◌∙◌, arith}
-use Rattle.std.proofs.lemmas.List.{set-get_or}
+-- A row is staged word by word: once a word has been loaded, and stored if it differs, the call knows one word more.
+use Rattle.std.proofs.Common.{◌≡◌, ℕ, zero, suc, ◌+◌, ◌<◌, List, [], ◌∷◌, ◌++◌, length, get_or, set, refl, sym, ap, ◌∙◌, arith}
 use Rattle.atomic_table.specs.Seated.{TableId}
-use Rattle.blink_rows.specs.declared.limits.TheConstants.{ROW_WORDS}
 use Rattle.blink_live.specs.declared.live.Live.{Live}
 use Rattle.blink_live.specs.Seats.{IsPassSeat}
-use Rattle.blink_live.specs.Views.{SeatState, stage_word, is_staged, no_words}
+use Rattle.blink_live.specs.Views.{SeatState, knows_word, stage_word, is_staged}
 
--- the first n of these words, and 0 for each other
+-- the first n of these words
 abbrev pub first_words : List ℕ → ℕ → List ℕ
 first_words [] n = []
-first_words (word ∷ rest) zero = 0 ∷ first_words rest zero
+first_words (word ∷ rest) zero = []
 first_words (word ∷ rest) (suc n) = word ∷ first_words rest n
 
-none_yet : (words : List ℕ) → replicate (length words) 0 ≡ first_words words 0
-none_yet [] = refl
-none_yet (word ∷ rest) = ap (λ (ws : List ℕ). 0 ∷ ws) (none_yet rest)
+pub no_first : (words : List ℕ) → first_words words 0 ≡ []
+no_first [] = refl
+no_first (word ∷ rest) = refl
 
-set_next : (words : List ℕ) (n : ℕ) → set (first_words words n) n (get_or words n 0) ≡ first_words words (suc n)
-set_next [] n = refl
-set_next (word ∷ rest) zero = refl
-set_next (word ∷ rest) (suc n) = ap (λ (ws : List ℕ). word ∷ ws) (set_next rest n)
+pub first_length : (words : List ℕ) (n : ℕ) → n < length words → n ≡ length (first_words words n)
+first_length [] n inside = absurd (omega (arith, inside))
+first_length (word ∷ rest) zero inside = refl
+first_length (word ∷ rest) (suc n) inside = ap suc (first_length rest n (omega (arith, inside)))
 
-one_more : (words : List ℕ) (n : ℕ) → set (first_words words n) n (get_or words n 0) ≡ first_words words (n + 1)
-one_more words n = let next : suc n ≡ n + 1 = omega arith in set_next words n ∙ ap (first_words words) next
+one_more : (words : List ℕ) (n : ℕ) → n < length words → first_words words n ++ get_or words n 0 ∷ [] ≡ first_words words (suc n)
+one_more [] n inside = absurd (omega (arith, inside))
+one_more (word ∷ rest) zero inside = ap (λ (ws : List ℕ). word ∷ ws) (sym (no_first rest))
+one_more (word ∷ rest) (suc n) inside = ap (λ (ws : List ℕ). word ∷ ws) (one_more rest n (omega (arith, inside)))
 
-not_yet : (words : List ℕ) (n : ℕ) → get_or (first_words words n) n 0 ≡ 0
-not_yet [] n = refl
-not_yet (word ∷ rest) zero = refl
-not_yet (word ∷ rest) (suc n) = not_yet rest n
-
--- a word that is 0 need not be stored
-pub zero_more : (words : List ℕ) (n : ℕ) → get_or words n 0 ≡ 0 → first_words words n ≡ first_words words (n + 1)
-zero_more words n none =
-    sym (set-get_or (first_words words n) n 0) ∙ ap (set (first_words words n) n) (not_yet words n ∙ sym none) ∙ one_more words n
+set_last : (words : List ℕ) (n x word : ℕ) → n < length words → set (first_words words n ++ x ∷ []) n word ≡ first_words words n ++ word ∷ []
+set_last [] n x word inside = absurd (omega (arith, inside))
+set_last (first ∷ rest) zero x word inside = refl
+set_last (first ∷ rest) (suc n) x word inside = ap (λ (ws : List ℕ). first ∷ ws) (set_last rest n x word (omega (arith, inside)))
 
 pub all_words : (words : List ℕ) → first_words words (length words) ≡ words
 all_words [] = refl
 all_words (word ∷ rest) = ap (λ (ws : List ℕ). word ∷ ws) (all_words rest)
 
--- the seat with these words stored
+-- the seat, where its call knows these words
 abbrev pub seat_staged : SeatState → List ℕ → SeatState
 seat_staged me words = (is_staged me.0 words, me.1)
 
--- a seat that has stored nothing yet
-pub nothing_staged : (me : SeatState) (words : List ℕ) → length words ≡ ROW_WORDS → me.0.call.staged ≡ no_words → me ≡ seat_staged me (first_words words 0)
-nothing_staged me words width blank =
-    ap (seat_staged me) (blank ∙ ap (λ (n : ℕ). replicate n 0) (sym width) ∙ none_yet words)
+-- a seat whose call knows none
+pub nothing_staged : (me : SeatState) (words : List ℕ) → me.0.call.staged ≡ [] → me ≡ seat_staged me (first_words words 0)
+nothing_staged me words blank = ap (seat_staged me) (blank ∙ sym (no_first words))
 
--- a word more is stored
-pub one_more_staged : (me now then : SeatState) (words : List ℕ) (n : ℕ)
-    → now ≡ seat_staged me (first_words words n)
-    → then ≡ (stage_word now.0 n (get_or words n 0), now.1)
-    → then ≡ seat_staged me (first_words words (n + 1))
-one_more_staged me now then words n before is =
+-- a word is loaded
+abbrev pub with_word : SeatState → ℕ → SeatState
+with_word me word = (knows_word me.0 word, me.1)
+
+-- it is right
+pub one_more_known : (me now then : SeatState) (words : List ℕ) (n : ℕ) → n < length words → now ≡ seat_staged me (first_words words n) → then ≡ with_word now (get_or words n 0) → then ≡ seat_staged me (first_words words (n + 1))
+one_more_known me now then words n inside before is =
+    let next : suc n ≡ n + 1 = omega arith in
     is
-    ∙ ap (λ (x : SeatState). let y : SeatState = (stage_word x.0 n (get_or words n 0), x.1) in y) before
-    ∙ ap (seat_staged me) (one_more words n)
+    ∙ ap (λ (x : SeatState). with_word x (get_or words n 0)) before
+    ∙ ap (seat_staged me) (one_more words n inside ∙ ap (first_words words) next)
+
+-- or another is stored in its place
+pub one_more_staged : (me now loaded then : SeatState) (words : List ℕ) (n found : ℕ) → n < length words → now ≡ seat_staged me (first_words words n) → loaded ≡ with_word now found → then ≡ (stage_word loaded.0 n (get_or words n 0), loaded.1)
+    → then ≡ seat_staged me (first_words words (n + 1))
+one_more_staged me now loaded then words n found inside before load is =
+    let next : suc n ≡ n + 1 = omega arith in
+    is
+    ∙ ap (λ (x : SeatState). let y : SeatState = (stage_word x.0 n (get_or words n 0), x.1) in y) (load ∙ ap (λ (x : SeatState). with_word x found) before)
+    ∙ ap (seat_staged me) (set_last words n found (get_or words n 0) inside ∙ one_more words n inside ∙ ap (first_words words) next)
 
 -- it is a pass's as before
 pub still_pass : (live : Live) (table : TableId) (me : SeatState) (words : List ℕ) → IsPassSeat live table me → IsPassSeat live table (seat_staged me words)

@@ -1,5 +1,5 @@
--- A word that is stored in a row of one's own is no step of the tree, and keeps the rule.
-use Rattle.std.proofs.Common.{◌≡◌, ◌≢◌, ℕ, suc, ◌+◌, ◌*◌, ◌<◌, ◌≤◌, List, [], length, set, refl, sym, ap, ◌∙◌, subst, length-set, get_or-set_same, get_or-set_other, arith}
+-- A word that is stored in a row of one's own is no step of the tree, and keeps the rule; so does one that is loaded there.
+use Rattle.std.proofs.Common.{◌≡◌, ◌≢◌, ℕ, zero, suc, ◌+◌, ◌*◌, ◌<◌, ◌≤◌, List, [], ◌∷◌, ◌++◌, length, get_or, set, refl, sym, ap, ◌∙◌, subst, length-append, length-set, get_or-set_same, get_or-set_other, arith}
 use Rattle.std.specs.Prelude.{slice_index}
 use mathlib.Core.Option.{some, none}
 use mathlib.Core.Logic.{dite}
@@ -7,23 +7,38 @@ use native.Mathlib.Decide.{ℕ_discrete}
 use lib.ListN.{get_elem?}
 use Rattle.atomic_table.specs.Table.{State, step, keeps, Allows}
 use Rattle.blink_rows.specs.declared.limits.TheConstants.{ROW_WORDS}
-use Rattle.blink_rows.specs.declared.span.Span.{Span}
 use Rattle.blink_machine.specs.TreeState.{TreeState}
 use Rattle.blink_live.specs.declared.view.Plan.{Plan}
 use Rattle.blink_live.specs.declared.view.Role.TheVariants.{Pass, Keeper}
 use Rattle.blink_live.specs.declared.view.View.{View}
-use Rattle.blink_live.specs.AtomicSteps.{stores_word}
-use Rattle.blink_live.specs.Rule.{PageWordIs, HasRows, IsInRole, Knows, IsTableAt, IsTable}
-use Rattle.blink_live.specs.Views.{SeatState, span, stage_word}
-use Rattle.blink_live.specs.Words.{row_start, RowIs, place_word, word_count}
+use Rattle.blink_machine.proofs.Offered.{step_law}
+use Rattle.blink_live.specs.AtomicSteps.{knows_more, stores_word}
+use Rattle.blink_live.specs.Rule.{PageWordIs, IsInRole, Knows, IsTableAt, IsTable}
+use Rattle.blink_live.specs.Views.{SeatState, knows_word, stage_word}
+use Rattle.blink_live.specs.Words.{row_start, RowBegins, place_word, word_count}
 use Rattle.blink_live.proofs.table.PoolStays.{pool_stays}
+use Rattle.blink_live.proofs.reuse.ReuseStaysSafe.{hand_stays, reuse_stays, same_reads}
 use Rattle.blink_live.proofs.table.AccountsStay.{accounts_stay}
-use Rattle.blink_live.proofs.table.OthersKnowTheSame.{LeavesOthers, RowStays, row_is_still, page_word_still, reads_still}
+use Rattle.blink_live.proofs.table.OthersKnowTheSame.{LeavesOthers, RowStays, page_word_still, reads_still}
+use Rattle.blink_live.proofs.table.LoadsKeepTable.{moved, load_keeps_with}
+use Rattle.blink_live.proofs.table.MapsWithOneChange.{put_here, put_same}
 use Rattle.blink_live.proofs.table.StoresKeepTable.{prime_still, store_keeps}
 
 -- two rows have no place in common
 other_row_stays : (plan : Plan) (words : List ℕ) (row other i x : ℕ) → 1 ≤ row → 1 ≤ other → other ≢ row → i < ROW_WORDS → RowStays plan words (set words (row_start plan.counts row + i) x) other
 other_row_stays plan words row other i x some_row some_other differ inside k below = get_or-set_other words (row_start plan.counts row + i) (row_start plan.counts other + k) x 0 (λ e. differ (omega (arith, e, some_row, some_other, inside, below)))
+
+-- one more element at the end of a list
+pub before_the_end : (xs : List ℕ) (x i : ℕ) → i < length xs → slice_index (xs ++ x ∷ []) i ≡ slice_index xs i
+before_the_end [] x i inside = absurd (omega (arith, inside))
+before_the_end (y ∷ xs) x zero inside = refl
+before_the_end (y ∷ xs) x (suc i) inside = before_the_end xs x i (omega (arith, inside))
+
+pub at_the_end : (xs : List ℕ) (x i : ℕ) → i ≡ length xs → slice_index (xs ++ x ∷ []) i ≡ x
+at_the_end [] x zero is = refl
+at_the_end [] x (suc i) is = absurd (omega (arith, is))
+at_the_end (y ∷ xs) x zero is = absurd (omega (arith, is))
+at_the_end (y ∷ xs) x (suc i) is = at_the_end xs x i (omega (arith, is))
 
 module _ (plan : Plan) (s : State ℕ View) (tree_state : TreeState) (h : IsTableAt plan s tree_state) (id i x : ℕ) (v : View) (at : get_elem? s.views id ≡ some v) (role : v.role ≡ Pass) (room : v.call.rows.next < v.call.rows.stop) (inside : i < ROW_WORDS) (some_number : 1 ≤ plan.counts.numbers) where
   abbrev row : ℕ
@@ -71,25 +86,20 @@ module _ (plan : Plan) (s : State ℕ View) (tree_state : TreeState) (h : IsTabl
     longer = λ seen is. is;
   }
 
-  later_rows : (rows : Span) → (row < rows.next) → HasRows plan h.owners s.words (suc id) rows → HasRows plan h.owners words (suc id) rows
-  later_rows rows later has = record {
-    in_range = has.in_range;
-    own = has.own;
-    blank = λ r low high. row_is_still plan s.words words r [] (other_row_stays plan s.words row r i x some_row (omega (arith, low, later)) (λ same. omega (arith, same, low, later)) inside) (has.blank r low high);
-  }
-
   inside_words : place < length s.words
   inside_words = let wide = h.width in let high = known.for_call.others.in_range.1 in omega (arith, wide, high, room, inside, some_row)
 
-  staged : RowIs plan.counts words row w.call.staged
-  staged k below = dite (ℕ_discrete k i)
+  staged : RowBegins plan.counts words row w.call.staged
+  staged k below known_yet =
+      let same_length : length w.call.staged ≡ length v.call.staged = length-set v.call.staged i x in
+      dite (ℕ_discrete k i)
       (λ same.
       ap (λ (n : ℕ). slice_index words (row_start plan.counts row + n)) same
       ∙ (get_or-set_same s.words place x 0 inside_words
-      ∙ (sym (get_or-set_same v.call.staged i x 0 (let wide = known.for_call.width in omega (arith, wide, inside))) ∙ ap (slice_index w.call.staged) (sym same))))
+      ∙ (sym (get_or-set_same v.call.staged i x 0 (omega (arith, known_yet, same_length, same))) ∙ ap (slice_index w.call.staged) (sym same))))
       (λ differ.
       get_or-set_other s.words place (row_start plan.counts row + k) x 0 (λ e. differ (omega (arith, e)))
-      ∙ (known.for_call.staged room k below ∙ sym (get_or-set_other v.call.staged i k x 0 differ)))
+      ∙ (known.for_call.staged room k below (omega (arith, known_yet, same_length)) ∙ sym (get_or-set_other v.call.staged i k x 0 differ)))
 
   knows : Knows plan h.owners words tree_state h.log id w
   knows = record {
@@ -97,14 +107,13 @@ module _ (plan : Plan) (s : State ℕ View) (tree_state : TreeState) (h : IsTabl
     operation = known.operation;
     bounded = known.bounded;
     reads = reads_still plan s tree_state tree_state h id kept.0 words h.owners h.log leaves v.reads known.reads;
-    rows = later_rows v.rows (let before = known.for_call.before.0 in omega (arith, before, room)) known.rows;
+    rows = known.rows;
     numbers = known.numbers;
     for_call = record {
       before = known.for_call.before;
-      width = length-set v.call.staged i x ∙ known.for_call.width;
       first_own = known.for_call.first_own;
       staged = λ again. staged;
-      others = later_rows (span (suc row) v.call.rows.stop) (omega arith) known.for_call.others;
+      others = known.for_call.others;
       numbers = known.for_call.numbers;
     };
     share = known.share;
@@ -133,7 +142,8 @@ module _ (plan : Plan) (s : State ℕ View) (tree_state : TreeState) (h : IsTabl
     holders = h.holders;
     is_map = h.is_map;
     kept = h.kept;
-  } refl refl (λ common. accounts_stay plan h.owners.place h.log s.views id v w at (h.accounted common) refl ((h.accounted common).saw_own id v at)) knows
+  } refl refl (λ common. accounts_stay plan h.owners.place h.log s.views id v w at (h.accounted common) refl ((h.accounted common).saw_own id v at))
+      (λ common. reuse_stays plan h.owners.row s.words s.views id v w at (h.reuse common) h.owners.row words (λ r is. is) (λ seat r later is apart. is) (λ n few. before_rows n (omega (arith, few))) refl (hand_stays h.owners.row id v w refl refl) (same_reads plan h.owners.row s.words s.views id v w at (h.reuse common) refl refl refl refl)) knows
 
 pub word_is_staged : (plan : Plan) (slots id i x : ℕ) (me : SeatState) → me.0.role ≡ Pass → me.0.call.rows.next < me.0.call.rows.stop → i < ROW_WORDS → 1 ≤ plan.counts.numbers
     → Allows (IsTable plan) slots id me (row_start plan.counts me.0.call.rows.next + i) (λ n. x) (λ n. stores_word (step slots (row_start plan.counts me.0.call.rows.next + i) x 0 none) me x)
@@ -147,4 +157,67 @@ word_is_staged plan slots id i x me role room inside some_number s table homes a
           let place : row_start plan.counts me.0.call.rows.next + i ≡ row_start plan.counts me.0.call.rows.next + j = is ∙ ap (λ (p : Plan). row_start p.counts me.0.call.rows.next + j) known.same_plan in
           let same : i ≡ j = omega (arith, place) in
           ap (λ (k : ℕ). let y : SeatState = (stage_word me.0 k x, me.1) in y) same,
+    )
+
+-- ---- a word that is loaded
+
+module _ (plan : Plan) (s : State ℕ View) (tree_state : TreeState) (h : IsTableAt plan s tree_state) (id : ℕ) (v : View) (at : get_elem? s.views id ≡ some v) (role : v.role ≡ Pass) (room : v.call.rows.next < v.call.rows.stop) where
+  abbrev load_at : ℕ
+  load_at = row_start plan.counts v.call.rows.next + length v.call.staged
+
+  abbrev then : View
+  then = knows_word v (slice_index s.words (row_start plan.counts v.call.rows.next + length v.call.staged))
+
+  knows_then : Knows plan h.owners s.words (moved tree_state id v.operation) h.log id then
+  knows_then =
+      let known = h.views id v at in
+      let found : ℕ = slice_index s.words load_at in
+      let longer : length (v.call.staged ++ found ∷ []) ≡ length v.call.staged + 1 = length-append v.call.staged (found ∷ []) in record {
+        same_plan = known.same_plan;
+        operation = put_here tree_state.machines id v.operation;
+        bounded = known.bounded;
+        reads = known.reads;
+        rows = known.rows;
+        numbers = record { in_range = known.numbers.in_range; own = known.numbers.own; free = known.numbers.free };
+        for_call = record {
+          before = known.for_call.before;
+          first_own = known.for_call.first_own;
+          staged = λ again k below few. dite (ℕ_discrete k (length v.call.staged))
+              (λ last. ap (λ (n : ℕ). slice_index s.words (row_start plan.counts v.call.rows.next + n)) last ∙ sym (at_the_end v.call.staged found k last))
+              (λ differ. known.for_call.staged room k below (omega (arith, few, longer, differ)) ∙ sym (before_the_end v.call.staged found k (omega (arith, few, longer, differ))));
+          others = known.for_call.others;
+          numbers = record { in_range = known.for_call.numbers.in_range; own = known.for_call.numbers.own; free = known.for_call.numbers.free };
+        };
+        share = known.share;
+        saw = known.saw;
+        heard = known.heard;
+        in_role = let kept = subst (IsInRole plan h.owners h.log id v) role known.in_role in subst (IsInRole plan h.owners h.log id then) (sym role) kept;
+        placed = λ common is. let p = known.placed common is in record { in_range = p.in_range; own = p.own; word = p.word; busy = p.busy };
+        places_left = λ dealt back is. absurd (let e : Pass ≡ Keeper dealt back = sym role ∙ is in cc);
+        nothing = λ common dealt back is. absurd (let e : Pass ≡ Keeper dealt back = sym role ∙ is in cc);
+      }
+
+  pub known_keeps : (word : ℕ) → IsTable plan record { words = set s.words word (get_or s.words word 0); homes = s.homes; views = set s.views id then }
+  known_keeps word =
+      let known = h.views id v at in
+      let still = step_law.idle_workers_dont_matter tree_state (moved tree_state id v.operation) (record {
+        same_fan = refl;
+        same_prime = refl;
+        same_pages = λ number. refl;
+        same_holder = λ number. refl;
+        same_machines = put_same tree_state.machines id v.operation known.operation;
+      }) h.invariant in
+      load_keeps_with plan s tree_state h id word v then at still refl refl refl (λ common. (h.accounted common).saw_own id v at)
+      (λ common. reuse_stays plan h.owners.row s.words s.views id v then at (h.reuse common) h.owners.row s.words (λ r is. is) (λ seat r later is apart. is) (λ n few. refl) refl (hand_stays h.owners.row id v then refl refl) (same_reads plan h.owners.row s.words s.views id v then at (h.reuse common) refl refl refl refl)) knows_then
+
+pub word_is_known : (plan : Plan) (slots id i : ℕ) (me : SeatState) → me.0.role ≡ Pass → me.0.call.rows.next < me.0.call.rows.stop → i ≡ length me.0.call.staged
+    → Allows (IsTable plan) slots id me (row_start plan.counts me.0.call.rows.next + i) (λ k. k) (knows_more (step slots (row_start plan.counts me.0.call.rows.next + i) 0 0 none) me)
+word_is_known plan slots id i me role room next s table homes at small =
+    let place : ℕ = row_start plan.counts me.0.call.rows.next + i in (
+      knows_word me.0 (slice_index s.words place),
+      keeps,
+      tt,
+      subst (λ (n : ℕ). IsTable plan record { words = set s.words place (get_or s.words place 0); homes = s.homes; views = set s.views id (knows_word me.0 (slice_index s.words (row_start plan.counts me.0.call.rows.next + n))) }) (sym next)
+          (known_keeps plan s table.0 table.1 id me.0 at role room place),
+      refl,
     )

@@ -21,9 +21,10 @@ use Rattle.blink_machine.specs.declared.step.Kind.{Kind}
 use Rattle.blink_machine.specs.{PlainMachine, need_at, goes_on, SeesPrime, SeesPage, SeesOnItsWay, SeesUnderLatch, decided_with, done, done_at, leaves_for, sets_out}
 use Rattle.blink_live.specs.declared.view.Change.{Change as MapChange}
 use Rattle.blink_live.specs.declared.view.Share.{Share}
+use Rattle.blink_live.specs.declared.view.Stock.{Stock}
 use Rattle.blink_live.specs.declared.view.View.{View}
 use Rattle.blink_live.specs.Changes.{changes_made, has_changed}
-use Rattle.blink_live.specs.AtomicSteps.{AnswersAfter, AsksPrime, state_after, CanGoOn, Decided, deciding, other, GoesOn, LoadsPage, LoadsPrime, Publishes}
+use Rattle.blink_live.specs.AtomicSteps.{AnswersAfter, AsksPrime, state_after, CanGoOn, Decided, deciding, other, GoesOn, LoadsPage, LoadsPrime, PublishesFrom}
 use Rattle.blink_live.specs.Updating.{SameBesideCall, IsPastDescent}
 use Rattle.blink_live.proofs.changed.ChangesAreTheMaps.{map_unchanged, none_made}
 use Rattle.blink_live.specs.Views.{SeatState, KnowsItsOwn, changed_by, reading}
@@ -207,8 +208,8 @@ prime_takes m after row me then past loads =
 
 -- ---- writes
 
-pub publish_takes : (kind : Kind) (pages : Span) (m : PlainMachine) (new : ℕ) (me then : SeatState) → IsPastDescent m.state → Publishes kind pages m (done m new) me then → Takes m (done m new) me then
-publish_takes kind pages m new me then past does =
+pub publish_takes : (kind : Kind) (rows pages : Span) (stock : Stock) (m : PlainMachine) (new : ℕ) (me then : SeatState) → IsPastDescent m.state → PublishesFrom kind rows pages stock m (done m new) me then → Takes m (done m new) me then
+publish_takes kind rows pages stock m new me then past does =
     let is : then ≡ _ = does.is in record {
       same = (subst (λ (x : SeatState). SameBesideCall me.0 x.0) (sym is) refl, ap (λ (x : SeatState). x.1) is);
       saw = subst (λ (x : SeatState). IsPrefix me.0.seen x.0.seen) (sym is) does.learns.saw;

@@ -15,13 +15,16 @@ use Rattle.blink_live.specs.Seats.{HasRead, HasSameNumber, IsAtLeaf, IsPassSeat,
 use Rattle.blink_live.specs.Updating.{SameBesideCall, not_yet, HasLeft, IsUpdating, IsPastDescent, CanUpdate, IsUnderWay, room_in}
 use Rattle.blink_live.specs.Views.{SeatState, CanBegin, MayChange, SameBesideReads, latch_in, rows_of, pages_of, for_call, known_of}
 use Rattle.blink_live.specs.Pendings.{IsWaiting, for_latch}
+use Rattle.blink_live.specs.Shelves.{IsShelved}
 use Rattle.blink_live.specs.Words.{AreNumbersIn, AreRowsIn}
+use Rattle.blink_live.proofs.changed.RowsAreLent.{shelved_so}
 
 within_call : (v w : View) → SameBesideReads v w → SameBesideCall v w
 within_call v w same =
     let share : v.share ≡ w.share = sym (ap (λ (x : View). x.share) same) in
     let call : v.call ≡ w.call = sym (ap (λ (x : View). x.call) same) in
-    same ∙ (λ i. record v { operation = w.operation; descent_bound = w.descent_bound; reads = w.reads; seen = w.seen; share = share i; call = call i })
+    let stock : v.stock ≡ w.stock = sym (ap (λ (x : View). x.stock) same) in
+    same ∙ (λ i. record v { operation = w.operation; descent_bound = w.descent_bound; reads = w.reads; seen = w.seen; share = share i; call = call i; stock = stock i })
 
 -- an operation that wants its leaf's latch
 abbrev wanting : PlainMachine → ℕ → Op → PlainMachine
@@ -94,12 +97,13 @@ can_update live op first seat updates fits may can rows pages =
 
 pub is_under_way : (live : Live) (op : Op) (first seat : Seat ℕ View) (m : PlainMachine) (room : Room) → CanUpdate live op first → HasSameNumber first seat
     → HasRead op (for_call first.me.0 op, first.me.1) seat.me m → IsAtLeaf op (known_of seat.me.0 (key_of op)) m
-    → room ≡ room_in op first.me.0 → IsUnderWay live op first seat m room
-is_under_way live op first seat m room can same read at_leaf takes =
+    → room ≡ room_in op first.me.0 room.shelf → IsShelved room.shelf first.me.0 → IsUnderWay live op first seat m room
+is_under_way live op first seat m room can same read at_leaf takes shelved =
     let call : seat.me.0.call ≡ (for_call first.me.0 op).call = ap (λ (v : View). v.call) read.same.0 in record {
       can = can;
       same_number = same;
       updating = update_begins op first.me.0 (for_call first.me.0 op, first.me.1) seat.me m (known_of seat.me.0 (key_of op)) can.updates refl read at_leaf;
       room_is = (ap (λ (r : Room). r.rows) takes ∙ sym (ap (λ (c : Call). c.rows) call), ap (λ (r : Room). r.pages) takes ∙ sym (ap (λ (c : Call). c.pages) call));
       latch_number = ap (λ (r : Room). r.latch_number) takes;
+      shelved = shelved_so room.shelf first.me.0 seat.me.0 (ap (λ (v : View). v.plan) read.same.0) (ap (λ (v : View). v.stock) read.same.0) shelved;
     }

@@ -20,21 +20,24 @@ use Rattle.blink_live.specs.declared.room.Room.{Room}
 use Rattle.blink_live.specs.declared.view.Call.{Call}
 use Rattle.blink_live.specs.declared.view.Plan.{Plan}
 use Rattle.blink_live.specs.declared.view.Share.{Share}
+use Rattle.blink_live.specs.declared.view.Stock.{Stock}
 use Rattle.blink_live.specs.declared.view.View.{View}
-use Rattle.blink_live.specs.AtomicSteps.{AnswersInOrder, CanGoOn, Decided, deciding, other, state_after, GoesOn, LoadsPage, LoadsPrime, Publishes, PublishesNew, PublishesPage, PublishesPrime}
+use Rattle.blink_live.specs.AtomicSteps.{AnswersInOrder, CanGoOn, Decided, deciding, other, state_after, GoesOn, LoadsPage, LoadsPrime, PublishesFrom}
 use Rattle.blink_live.specs.Changes.{changes_made}
 use Rattle.blink_live.specs.Seats.{HasSameNumber, IsFirst, IsPassSeat}
+use Rattle.blink_live.specs.Shelves.{IsShelved}
 use Rattle.blink_live.specs.Updating.{SameBesideCall, HasDecided, not_yet, decided, HasLeft, IsUpdating, HasEnded, IsUnderWay}
 use Rattle.blink_live.specs.Views.{IsCommon, MayChange, SeatState, changed_by, for_call, latch_number_by, no_words, pages_of, rows_of, span}
 use Rattle.blink_live.specs.Words.{IsRowNumber}
 use Rattle.blink_live.proofs.told.PrefixesOfOneList.{prefix_of_prefix}
+use Rattle.blink_live.proofs.changed.RowsAreLent.{shelved_so}
 use Rattle.blink_live.proofs.changed.StepsOfUpdates.{Takes, latch_answers, unlatch_answers, goes_on_takes, page_takes, prime_takes, publish_takes}
 
 -- ---- what a step makes of the operation
 
 same_call_trans : (u v w : View) → SameBesideCall u v → SameBesideCall v w → SameBesideCall u w
 same_call_trans u v w first second =
-    second ∙ ap (λ (x : View). record x { operation = w.operation; descent_bound = w.descent_bound; reads = w.reads; seen = w.seen; share = w.share; call = w.call }) first
+    second ∙ ap (λ (x : View). record x { operation = w.operation; descent_bound = w.descent_bound; reads = w.reads; seen = w.seen; share = w.share; call = w.call; stock = w.stock }) first
 
 -- it has decided once
 module _ (op : Op) (first now then : View) (m after : PlainMachine) (same : m.op ≡ op) (same_plan : now.plan ≡ first.plan) (same_place : now.place ≡ first.place) (saw : IsPrefix first.seen now.seen) where
@@ -106,18 +109,17 @@ still_left first call then m after left same writes primes numbers =
       blank = left.blank;
     }
 
--- a row is used, and these page numbers are left
-row_is_used : (first call then : Call) (pages : Span) (m after : PlainMachine) → HasLeft first call m → then ≡ record { rows = span (suc call.rows.next) call.rows.stop; pages = pages; staged = no_words }
-    → suc (writes_left after + primes_left after) ≤ writes_left m + primes_left m → (pages.stop ≡ call.pages.stop) × (call.pages.next ≤ pages.next) → pages.next + numbers_left after ≤ pages.stop
+-- these rows and page numbers are left
+row_is_used : (first call then : Call) (rows pages : Span) (m after : PlainMachine) → HasLeft first call m → then ≡ record { rows = rows; pages = pages; staged = no_words }
+    → (rows.stop ≡ call.rows.stop) × (call.rows.next ≤ rows.next) → rows.next + (writes_left after + primes_left after) ≤ rows.stop → (pages.stop ≡ call.pages.stop) × (call.pages.next ≤ pages.next) → pages.next + numbers_left after ≤ pages.stop
     → HasLeft first then after
-row_is_used first call then pages m after left is writes later numbers =
-    let rows = left.rows in
+row_is_used first call then rows pages m after left is kept writes later numbers =
     let before = left.later in
     subst (λ (c : Call). HasLeft first c after) (sym is) record {
-      rows = omega (arith, rows, writes);
+      rows = writes;
       pages = numbers;
-      later = (omega (arith, before), omega (arith, before, later));
-      same_stop = (left.same_stop.0, later.0 ∙ left.same_stop.1);
+      later = (omega (arith, before, kept), omega (arith, before, later));
+      same_stop = (kept.0 ∙ left.same_stop.0, later.0 ∙ left.same_stop.1);
       blank = refl;
     }
 
@@ -131,17 +133,16 @@ new_uses_number m after kind needs uses =
     let numbers : numbers_left after + one_if true ≤ numbers_left m = subst (λ (b : Bool). numbers_left after + one_if b ≤ numbers_left m) (new_is_written m.state needs) uses.numbers in
     omega (arith, numbers)
 
--- the room without its first row, and without its first page number
-abbrev pub without_row : Room → Room
-without_row room = record { rows = span (room.rows.next + 1) room.rows.stop; pages = room.pages; latch_number = room.latch_number }
-
-abbrev pub without_number : Room → Room
-without_number room = record { rows = room.rows; pages = span (room.pages.next + 1) room.pages.stop; latch_number = room.latch_number }
-
+-- one number less
 one_less : (numbers others : Span) → numbers ≡ others → span (numbers.next + 1) numbers.stop ≡ span (suc others.next) others.stop
 one_less numbers others same =
     let next : numbers.next + 1 ≡ suc others.next = let at = ap (λ (s : Span). s.next) same in omega (arith, at) in
     λ i. span (next i) (same i).stop
+
+-- the rows that are left once the operation has written one of them, or one that its shelf has lent
+abbrev pub rows_after : Bool → Span → Span
+rows_after true rows = rows
+rows_after false rows = span (suc rows.next) rows.stop
 
 -- ---- a turn
 
@@ -231,6 +232,16 @@ module _ {live : Live} {op : Op} {first seat : Seat ℕ View} {m : PlainMachine}
         omega (arith, at, left_pages, some, same_stop, begin, range),
       )
 
+  -- its first row is used, or none where it wrote a free one
+  fewer_rows : (lent : Bool) (k : PlainMachine) → suc (writes_left k + primes_left k) ≤ writes_left m + primes_left m
+      → ((rows_after lent seat.me.0.call.rows).stop ≡ seat.me.0.call.rows.stop) × (seat.me.0.call.rows.next ≤ (rows_after lent seat.me.0.call.rows).next) × ((rows_after lent seat.me.0.call.rows).next + (writes_left k + primes_left k) ≤ (rows_after lent seat.me.0.call.rows).stop)
+  fewer_rows true k writes = let rows = is.updating.left.rows in (refl, omega arith, omega (arith, rows, writes))
+  fewer_rows false k writes = let rows = is.updating.left.rows in (refl, omega arith, omega (arith, rows, writes))
+
+  -- the first of its rows is used
+  pub first_row_used : span (room.rows.next + 1) room.rows.stop ≡ rows_after false seat.me.0.call.rows
+  first_row_used = one_less room.rows seat.me.0.call.rows is.room_is.0
+
   pub rows_left : IsFirst room.rows.next seat.me.0.call.rows → room.rows.next + 1 ≤ room.rows.stop
   rows_left first_row =
       let stop = ap (λ (s : Span). s.stop) is.room_is.0 in
@@ -239,30 +250,31 @@ module _ {live : Live} {op : Op} {first seat : Seat ℕ View} {m : PlainMachine}
 
   -- after a turn
   module _ {after : PlainMachine} {next : Seat ℕ View} (same : HasSameNumber seat next) where
-    turned : (then : Room) → Takes m after seat.me next.me → HasLeft begun.0.call next.me.0.call after → (then.rows ≡ next.me.0.call.rows) × (then.pages ≡ next.me.0.call.pages) → then.latch_number ≡ room.latch_number → IsUnderWay live op first next after then
-    turned then takes left same_room same_latch = record {
+    turned : (then : Room) → Takes m after seat.me next.me → HasLeft begun.0.call next.me.0.call after → (then.rows ≡ next.me.0.call.rows) × (then.pages ≡ next.me.0.call.pages) → then.latch_number ≡ room.latch_number → IsShelved then.shelf next.me.0 → IsUnderWay live op first next after then
+    turned then takes left same_room same_latch shelved = record {
       can = is.can;
       same_number = (same.0 ∙ is.same_number.0, same.1 ∙ is.same_number.1);
       updating = updating_on op begun seat.me next.me m after is.updating takes left;
       room_is = same_room;
       latch_number = same_latch ∙ is.latch_number;
+      shelved = shelved;
     }
 
     -- which uses nothing of its room
-    in_its_room : Takes m after seat.me next.me → next.me.0.call ≡ seat.me.0.call → writes_left after ≤ writes_left m → primes_left after ≤ primes_left m → numbers_left after ≤ numbers_left m → IsUnderWay live op first next after room
-    in_its_room takes same_call writes primes numbers = turned room takes (still_left begun.0.call seat.me.0.call next.me.0.call m after is.updating.left same_call writes primes numbers)
-        (is.room_is.0 ∙ ap (λ (c : Call). c.rows) (sym same_call), is.room_is.1 ∙ ap (λ (c : Call). c.pages) (sym same_call)) refl
+    in_its_room : Takes m after seat.me next.me → (next.me.0.plan ≡ seat.me.0.plan) × (next.me.0.stock ≡ seat.me.0.stock) → next.me.0.call ≡ seat.me.0.call → writes_left after ≤ writes_left m → primes_left after ≤ primes_left m → numbers_left after ≤ numbers_left m → IsUnderWay live op first next after room
+    in_its_room takes same_stock same_call writes primes numbers = turned room takes (still_left begun.0.call seat.me.0.call next.me.0.call m after is.updating.left same_call writes primes numbers)
+        (is.room_is.0 ∙ ap (λ (c : Call). c.rows) (sym same_call), is.room_is.1 ∙ ap (λ (c : Call). c.pages) (sym same_call)) refl (shelved_so room.shelf seat.me.0 next.me.0 same_stock.0 same_stock.1 is.shelved)
 
     pub after_page : (number row : ℕ) → LoadsPage m number seat.me row after next.me → IsUnderWay live op first next after room
     after_page number row loads =
         let pages = loads.uses.numbers in
         let writes = loads.uses.page_writes in
         let primes = loads.uses.prime_writes in
-        in_its_room (page_takes m after number row seat.me next.me is.updating.past_descent loads) (ap (λ (x : SeatState). x.0.call) loads.is) (omega (arith, writes)) (omega (arith, primes)) (omega (arith, pages))
+        in_its_room (page_takes m after number row seat.me next.me is.updating.past_descent loads) (ap (λ (x : SeatState). x.0.plan) loads.is, ap (λ (x : SeatState). x.0.stock) loads.is) (ap (λ (x : SeatState). x.0.call) loads.is) (omega (arith, writes)) (omega (arith, primes)) (omega (arith, pages))
 
     pub after_prime : (row : ℕ) → LoadsPrime m seat.me row after next.me → IsUnderWay live op first next after room
     after_prime row loads =
-        in_its_room (prime_takes m after row seat.me next.me is.updating.past_descent loads) (ap (λ (x : SeatState). x.0.call) loads.is) loads.uses.page_writes loads.uses.prime_writes loads.uses.numbers
+        in_its_room (prime_takes m after row seat.me next.me is.updating.past_descent loads) (ap (λ (x : SeatState). x.0.plan) loads.is, ap (λ (x : SeatState). x.0.stock) loads.is) (ap (λ (x : SeatState). x.0.call) loads.is) loads.uses.page_writes loads.uses.prime_writes loads.uses.numbers
 
     after_done : (kind : Kind) → after ≡ done m 0 → (done m 0).answer ≡ m.answer → GoesOn kind m seat.me next.me → IsUnderWay live op first next after room
     after_done kind is_done answers goes =
@@ -270,7 +282,7 @@ module _ {live : Live} {op : Op} {first seat : Seat ℕ View} {m : PlainMachine}
         let writes = goes.uses.page_writes in
         let primes = goes.uses.prime_writes in
         let takes = goes_on_takes kind m seat.me next.me is.updating.past_descent is.updating.knows_own answers goes in
-        in_its_room (subst (λ (k : PlainMachine). Takes m k seat.me next.me) (sym is_done) takes) (ap (λ (x : SeatState). x.0.call) goes.is)
+        in_its_room (subst (λ (k : PlainMachine). Takes m k seat.me next.me) (sym is_done) takes) (ap (λ (x : SeatState). x.0.plan) goes.is, ap (λ (x : SeatState). x.0.stock) goes.is) (ap (λ (x : SeatState). x.0.call) goes.is)
         (subst (λ (k : PlainMachine). writes_left k ≤ writes_left m) (sym is_done) (omega (arith, writes)))
         (subst (λ (k : PlainMachine). primes_left k ≤ primes_left m) (sym is_done) (omega (arith, primes)))
         (subst (λ (k : PlainMachine). numbers_left k ≤ numbers_left m) (sym is_done) (omega (arith, pages)))
@@ -289,44 +301,53 @@ module _ {live : Live} {op : Op} {first seat : Seat ℕ View} {m : PlainMachine}
           updating = subst (λ (x : SeatState × PlainMachine). IsUpdating op begun x.0 x.1) (λ i. (sym same_view i, sym same_machine i)) is.updating;
           room_is = subst (λ (x : SeatState). (room.rows ≡ x.0.call.rows) × (room.pages ≡ x.0.call.pages)) (sym same_view) is.room_is;
           latch_number = is.latch_number;
+          shelved = subst (λ (x : SeatState). IsShelved room.shelf x.0) (sym same_view) is.shelved;
         }
 
-    -- which uses a row
-    after_write : (kind : Kind) (pages : Span) (new : ℕ) (then : Room) → after ≡ done m new → Publishes kind pages m (done m new) seat.me next.me
-        → suc (writes_left (done m new) + primes_left (done m new)) ≤ writes_left m + primes_left m → (pages.stop ≡ seat.me.0.call.pages.stop) × (seat.me.0.call.pages.next ≤ pages.next)
-        → pages.next + numbers_left (done m new) ≤ pages.stop → (then.rows ≡ span (suc seat.me.0.call.rows.next) seat.me.0.call.rows.stop) × (then.pages ≡ pages) → then.latch_number ≡ room.latch_number → IsUnderWay live op first next after then
-    after_write kind pages new then is_done does writes later numbers same_room same_latch =
-        let call : next.me.0.call ≡ record { rows = span (suc seat.me.0.call.rows.next) seat.me.0.call.rows.stop; pages = pages; staged = no_words } = ap (λ (x : SeatState). x.0.call) does.is in
+    -- which publishes a row
+    after_write : (kind : Kind) (rows pages : Span) (stock : Stock) (new : ℕ) (then : Room) → after ≡ done m new → PublishesFrom kind rows pages stock m (done m new) seat.me next.me
+        → (rows.stop ≡ seat.me.0.call.rows.stop) × (seat.me.0.call.rows.next ≤ rows.next) → rows.next + (writes_left (done m new) + primes_left (done m new)) ≤ rows.stop → (pages.stop ≡ seat.me.0.call.pages.stop) × (seat.me.0.call.pages.next ≤ pages.next)
+        → pages.next + numbers_left (done m new) ≤ pages.stop → (then.rows ≡ rows) × (then.pages ≡ pages) → then.latch_number ≡ room.latch_number → IsShelved then.shelf next.me.0 → IsUnderWay live op first next after then
+    after_write kind rows pages stock new then is_done does kept writes later numbers same_room same_latch shelved =
+        let call : next.me.0.call ≡ record { rows = rows; pages = pages; staged = no_words } = ap (λ (x : SeatState). x.0.call) does.is in
         turned then
-        (subst (λ (k : PlainMachine). Takes m k seat.me next.me) (sym is_done) (publish_takes kind pages m new seat.me next.me is.updating.past_descent does))
-        (subst (λ (k : PlainMachine). HasLeft begun.0.call next.me.0.call k) (sym is_done) (row_is_used begun.0.call seat.me.0.call next.me.0.call pages m (done m new) is.updating.left call writes later numbers))
-        (same_room.0 ∙ sym (ap (λ (c : Call). c.rows) call), same_room.1 ∙ sym (ap (λ (c : Call). c.pages) call)) same_latch
+        (subst (λ (k : PlainMachine). Takes m k seat.me next.me) (sym is_done) (publish_takes kind rows pages stock m new seat.me next.me is.updating.past_descent does))
+        (subst (λ (k : PlainMachine). HasLeft begun.0.call next.me.0.call k) (sym is_done) (row_is_used begun.0.call seat.me.0.call next.me.0.call rows pages m (done m new) is.updating.left call kept writes later numbers))
+        (same_room.0 ∙ sym (ap (λ (c : Call). c.rows) call), same_room.1 ∙ sym (ap (λ (c : Call). c.pages) call)) same_latch shelved
 
-    pub after_write_page : (number : ℕ) → after ≡ done m 0 → PublishesPage number m seat.me next.me → IsUnderWay live op first next after (without_row room)
-    after_write_page number is_done does =
+    pub after_write_page : (lent : Bool) (number : ℕ) (stock : Stock) (then : Room) → after ≡ done m 0 → PublishesFrom (write_page number) (rows_after lent seat.me.0.call.rows) seat.me.0.call.pages stock m (done m 0) seat.me next.me
+        → then.rows ≡ rows_after lent seat.me.0.call.rows → then.pages ≡ room.pages → then.latch_number ≡ room.latch_number → IsShelved then.shelf next.me.0 → IsUnderWay live op first next after then
+    after_write_page lent number stock then is_done does same_rows same_pages same_latch shelved =
         let pages = does.uses.numbers in
         let writes = does.uses.page_writes in
         let primes = does.uses.prime_writes in
         let left = is.updating.left.pages in
-        after_write (write_page number) seat.me.0.call.pages 0 (without_row room) is_done does (omega (arith, writes, primes)) (refl, omega arith) (omega (arith, pages, left)) (one_less room.rows seat.me.0.call.rows is.room_is.0, is.room_is.1) refl
+        let fewer = fewer_rows lent (done m 0) (omega (arith, writes, primes)) in
+        after_write (write_page number) (rows_after lent seat.me.0.call.rows) seat.me.0.call.pages stock 0 then is_done does (fewer.0, fewer.1) fewer.2 (refl, omega arith) (omega (arith, pages, left)) (same_rows, same_pages ∙ is.room_is.1) same_latch shelved
 
-    pub after_write_prime : after ≡ done m 0 → PublishesPrime m seat.me next.me → IsUnderWay live op first next after (without_row room)
-    after_write_prime is_done does =
+    pub after_write_prime : (lent : Bool) (stock : Stock) (then : Room) → after ≡ done m 0 → PublishesFrom write_prime (rows_after lent seat.me.0.call.rows) seat.me.0.call.pages stock m (done m 0) seat.me next.me
+        → then.rows ≡ rows_after lent seat.me.0.call.rows → then.pages ≡ room.pages → then.latch_number ≡ room.latch_number → IsShelved then.shelf next.me.0 → IsUnderWay live op first next after then
+    after_write_prime lent stock then is_done does same_rows same_pages same_latch shelved =
         let pages = does.uses.numbers in
         let writes = does.uses.page_writes in
         let primes = does.uses.prime_writes in
         let left = is.updating.left.pages in
-        after_write write_prime seat.me.0.call.pages 0 (without_row room) is_done does (omega (arith, writes, primes)) (refl, omega arith) (omega (arith, pages, left)) (one_less room.rows seat.me.0.call.rows is.room_is.0, is.room_is.1) refl
+        let fewer = fewer_rows lent (done m 0) (omega (arith, writes, primes)) in
+        after_write write_prime (rows_after lent seat.me.0.call.rows) seat.me.0.call.pages stock 0 then is_done does (fewer.0, fewer.1) fewer.2 (refl, omega arith) (omega (arith, pages, left)) (same_rows, same_pages ∙ is.room_is.1) same_latch shelved
 
-    pub after_write_new : NeedsNew m → after ≡ done m room.pages.next → PublishesNew m seat.me next.me → IsUnderWay live op first next after (without_number (without_row room))
-    after_write_new needs is_done does =
+    pub after_write_new : (lent : Bool) (stock : Stock) (then : Room) → NeedsNew m → after ≡ done m room.pages.next
+        → PublishesFrom (write_page seat.me.0.call.pages.next) (rows_after lent seat.me.0.call.rows) (span (suc seat.me.0.call.pages.next) seat.me.0.call.pages.stop) stock m (done m seat.me.0.call.pages.next) seat.me next.me
+        → then.rows ≡ rows_after lent seat.me.0.call.rows → then.pages ≡ span (room.pages.next + 1) room.pages.stop → then.latch_number ≡ room.latch_number → IsShelved then.shelf next.me.0 → IsUnderWay live op first next after then
+    after_write_new lent stock then needs is_done does same_rows same_pages same_latch shelved =
         let at : room.pages.next ≡ seat.me.0.call.pages.next = ap (λ (s : Span). s.next) is.room_is.1 in
         let writes = does.uses.page_writes in
         let primes = does.uses.prime_writes in
         let left = is.updating.left.pages in
+        let now : after ≡ done m seat.me.0.call.pages.next = is_done ∙ ap (done m) at in
         let numbers = new_uses_number m (done m seat.me.0.call.pages.next) (write_page seat.me.0.call.pages.next) needs does.uses in
-        after_write (write_page seat.me.0.call.pages.next) (span (suc seat.me.0.call.pages.next) seat.me.0.call.pages.stop) seat.me.0.call.pages.next (without_number (without_row room)) (is_done ∙ ap (done m) at) does
-        (omega (arith, writes, primes)) (refl, omega arith) (omega (arith, numbers, left)) (one_less room.rows seat.me.0.call.rows is.room_is.0, one_less room.pages seat.me.0.call.pages is.room_is.1) refl
+        let fewer = fewer_rows lent (done m seat.me.0.call.pages.next) (omega (arith, writes, primes)) in
+        after_write (write_page seat.me.0.call.pages.next) (rows_after lent seat.me.0.call.rows) (span (suc seat.me.0.call.pages.next) seat.me.0.call.pages.stop) stock seat.me.0.call.pages.next then now does
+        (fewer.0, fewer.1) fewer.2 (refl, omega arith) (omega (arith, numbers, left)) (same_rows, same_pages ∙ one_less room.pages seat.me.0.call.pages is.room_is.1) same_latch shelved
 
 -- ---- its end
 

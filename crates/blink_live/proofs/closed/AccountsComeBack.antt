@@ -3,7 +3,7 @@ use Rattle.std.proofs.Common.{◌≡◌, ◌≢◌, ℕ, suc, ◌≤◌, None, L
 use Rattle.std.specs.Prelude.{Contains}
 use Rattle.std.proofs.lemmas.List.Elements.{Contains-get_or}
 use Rattle.std.proofs.lemmas.List.Kept.{AllPairs-cons}
-use mathlib.Core.Option.{some, some-injective}
+use mathlib.Core.Option.{some}
 use lib.ListN.{get_elem?}
 use Rattle.atomic_table.specs.Table.{State, Joins}
 use Rattle.atomic_table.proofs.Lists.{at_set, set_else}
@@ -16,11 +16,12 @@ use Rattle.blink_live.specs.declared.view.View.{View}
 use Rattle.blink_live.specs.Changes.{put}
 use Rattle.blink_live.specs.Accounts.{AreApart, HasSeenItsOwn, IsAccount, AreAccounts, account_of, accounts_in, accounts_of}
 use Rattle.blink_live.specs.Rule.{ArePlacesLeft, HasPlace, HasPool, Owners, IsInRole, Knows, AreCounted, IsTableAt, IsTable}
-use Rattle.blink_live.specs.Views.{IsCommon, IsOwned, spent, takes_account}
+use Rattle.blink_live.specs.Views.{IsCommon, spent, takes_account}
 use Rattle.blink_live.proofs.dealt.FirstOrOneOfRest.{contains_case}
 use Rattle.blink_live.proofs.table.CallsOfSeats.{call_still}
 use Rattle.blink_live.proofs.table.AccountsStay.{none_apart}
 use Rattle.blink_live.proofs.table.MapsWithOneChange.{put_here, put_else}
+use Rattle.blink_live.proofs.reuse.ReuseStaysSafe.{hand_stays, reuse_stays, reuse_without, same_reads}
 use Rattle.blink_live.proofs.table.OwnersChange.{StillOwns, reads_still, share_still, knows_still, owners_change}
 use Rattle.blink_live.proofs.table.SeatsThatStay.{at_put, views_stay}
 use Rattle.blink_live.proofs.table.SpentSeats.{spent_knows}
@@ -94,7 +95,7 @@ module _ (plan : Plan) (some_number : 1 ≤ plan.counts.numbers) (s : State ℕ 
     operation = known.operation;
     bounded = known.bounded;
     reads = reads_still plan old new s.words h.log (λ row is. is) v.reads known.reads;
-    rows = record { in_range = known.rows.in_range; own = known.rows.own; blank = known.rows.blank };
+    rows = record { in_range = known.rows.in_range; own = known.rows.own };
     numbers = record { in_range = known.numbers.in_range; own = known.numbers.own; free = known.numbers.free };
     for_call = call_still plan old new s.words tree_state tree_state (suc id) v.call v.rows.next v.pages.next v.rows.next v.pages.next known.for_call (omega arith, omega arith) (λ r below own. own) (λ n below own. own) (λ n none. none);
     share = share_still plan old new s.words h.log (λ row is. is) (suc id) (suc id) v.share (λ key is. is) known.share;
@@ -169,7 +170,7 @@ module _ (plan : Plan) (some_number : 1 ≤ plan.counts.numbers) (s : State ℕ 
 
   pool_then : HasPool plan new s.words tree_state
   pool_then = let pool = h.pool common in record {
-    rows = record { in_range = pool.rows.in_range; own = pool.rows.own; blank = pool.rows.blank };
+    rows = record { in_range = pool.rows.in_range; own = pool.rows.own };
     pages = record { in_range = pool.pages.in_range; own = pool.pages.own; free = pool.pages.free };
   }
 
@@ -190,7 +191,10 @@ module _ (plan : Plan) (some_number : 1 ≤ plan.counts.numbers) (s : State ℕ 
       (let one : length (set s.views id both) ≡ length s.views = length-set s.views id both in
       let two : length views_then ≡ length (set s.views id both) = length-set (set s.views id both) other (spent plan) in
       omega (arith, one, two))
-      h.nobodys (λ is_common. pool_then) (λ is_common. accounts_then) counted_then
+      h.nobodys (λ is_common. pool_then) (λ is_common. accounts_then)
+      (λ is_common. reuse_without plan old.row s.words (set s.views id both) other w (spent plan) there
+      (reuse_stays plan old.row s.words s.views id v both at (h.reuse is_common) old.row s.words (λ row is. is) (λ seat r later is apart. is) (λ n few. refl) refl (hand_stays old.row id v both refl refl) (same_reads plan old.row s.words s.views id v both at (h.reuse is_common) refl refl refl refl))
+      new.row s.words (λ row is. is) (λ seat r later is apart. is) (λ n few. refl) refl refl) counted_then
 
 pub taking_account_keeps_table : (plan : Plan) (id other : ℕ) (v w : View) (dealt back : ℕ) → 1 ≤ plan.counts.numbers → v.role ≡ Keeper dealt back → IsCommon plan → w.role ≡ Pass → w.operation ≡ None
     → Joins (IsTable plan) id v other w (takes_account v w) (spent plan)

@@ -1,5 +1,5 @@
 -- A deal keeps the rule: the keeper's first rows and page numbers, and keys that nobody has, become a new seat's.
-use Rattle.std.proofs.Common.{◌≡◌, ◌≢◌, ℕ, suc, ◌+◌, ◌<◌, Bool, true, false, Some, None, List, [], ◌∷◌, ◌++◌, length, set, refl, sym, ap, ◌∙◌, subst, inl, inr, ⊎_elim, length-set, length-append, arith}
+use Rattle.std.proofs.Common.{◌≡◌, ◌≢◌, ◌⊎◌, ℕ, suc, ◌+◌, ◌<◌, ◌≤◌, Bool, true, false, Some, None, List, [], ◌∷◌, ◌++◌, length, set, refl, sym, ap, ◌∙◌, subst, inl, inr, ⊎_elim, length-set, length-append, arith}
 use Rattle.std.specs.Prelude.{if◌then◌else◌, slice_index, Contains}
 use mathlib.Core.Option.{some, some-injective}
 use lib.ListN.{get_elem?}
@@ -14,6 +14,7 @@ use Rattle.blink_live.specs.declared.view.Role.TheVariants.{Keeper, Pass}
 use Rattle.blink_live.specs.declared.view.View.{View}
 use Rattle.blink_live.specs.Changes.{put, after, entries_after, states_of}
 use Rattle.blink_live.specs.Dealing.{CanDeal}
+use Rattle.blink_live.specs.Reuse.{IsAtHand, IsReuseSafe}
 use Rattle.blink_live.specs.Accounts.{IsAccount, AreAccounts, made_at, account_of, accounts_in, accounts_of}
 use Rattle.blink_live.specs.Rule.{HasPool, Owners, IsFree, IsShare, IsInRole, Knows, pass_count, passes_in, AreCounted, IsTableAt, IsTable}
 use Rattle.blink_live.specs.Views.{is_among, changes_of, share_of_keys, deals_one, dealt_in, keeps_rest, gets_first, latch_in, IsCommon}
@@ -22,6 +23,7 @@ use Rattle.blink_live.proofs.dealt.KeysOfShare.{among_from_contains, contains_fr
 use Rattle.blink_live.proofs.told.EntriesAfterChanges.{after-same_states, entries_after-state}
 use Rattle.blink_live.proofs.table.AccountsStay.{accounts_longer, accounts_stay, accounts_with_place, nothing_more, one_apart, only_account, prefix_made}
 use Rattle.blink_live.proofs.table.MapsWithOneChange.{put_here, put_else}
+use Rattle.blink_live.proofs.reuse.ReuseStaysSafe.{reuse_longer, reuse_stays}
 use Rattle.blink_live.proofs.table.OwnersChange.{StaysPublished, StillOwns, reads_still, share_still, knows_still, owners_change}
 use Rattle.blink_live.proofs.table.OwnersInRange.{ranged, ranged_in, ranged_out}
 use Rattle.blink_live.proofs.table.PassesOut.{at_end, passes_more, passes_role}
@@ -150,7 +152,6 @@ module _ (plan : Plan) (s : State ℕ View) (tree_state : TreeState) (h : IsTabl
     rows = record {
       in_range = (let low = known.rows.in_range.0 in omega (arith, low), known.rows.in_range.1);
       own = λ row low high. ranged_out v.rows.next (v.rows.next + rows) (suc new_seat) old.row row (λ a b. omega (arith, low, b)) ∙ known.rows.own row (omega (arith, low)) high;
-      blank = λ row low high. known.rows.blank row (omega (arith, low)) high;
     };
     numbers = record {
       in_range = (let low = known.numbers.in_range.0 in omega (arith, low), known.numbers.in_range.1);
@@ -200,7 +201,6 @@ module _ (plan : Plan) (s : State ℕ View) (tree_state : TreeState) (h : IsTabl
     rows = record {
       in_range = (known.rows.in_range.0, let enough = can.enough_rows in let high = known.rows.in_range.1 in omega (arith, enough, high));
       own = λ row low high. ranged_in v.rows.next (v.rows.next + rows) (suc new_seat) old.row row low high;
-      blank = λ row low high. known.rows.blank row low (let enough = can.enough_rows in omega (arith, enough, high));
     };
     numbers = record {
       in_range = (known.numbers.in_range.0, let enough = can.enough_pages in let high = known.numbers.in_range.1 in omega (arith, enough, high));
@@ -279,7 +279,6 @@ module _ (plan : Plan) (s : State ℕ View) (tree_state : TreeState) (h : IsTabl
         rows = record {
           in_range = pool.rows.in_range;
           own = λ row low high. ranged_out v.rows.next (v.rows.next + rows) (suc new_seat) old.row row (λ a c. absurd (omega (arith, a, c, none, enough_rows))) ∙ pool.rows.own row low high;
-          blank = pool.rows.blank;
         };
         pages = record {
           in_range = pool.pages.in_range;
@@ -325,12 +324,23 @@ module _ (plan : Plan) (s : State ℕ View) (tree_state : TreeState) (h : IsTabl
       no_changes : IsCommon plan → changes_of keys v.seen ≡ []
       no_changes common = none_of_these keys v.seen (none_among common)
 
+  -- the host has fewer rows
+  fewer_rows : (row : ℕ) → IsAtHand left row → IsAtHand v row ⊎ (old.row row ≢ suc id)
+  fewer_rows row hand = ⊎_elim (λ (t : (v.rows.next + rows ≤ row) × (row < v.rows.stop)). inl (inl (omega (arith, t), t.1))) (λ (t : (v.call.rows.next ≤ row) × (row < v.call.rows.stop)). inl (inr t)) hand
+
+  reuse_then : IsCommon plan → IsReuseSafe plan new.row s.words views_then
+  reuse_then common = reuse_longer plan new.row s.words (set s.views id left) right refl refl
+      (reuse_stays plan old.row s.words s.views id v left at (h.reuse common) new.row s.words published
+      (λ seat row later is apart. ranged_out v.rows.next (v.rows.next + rows) (suc new_seat) old.row row (λ low high. let enough = can.enough_rows in let mine = known.rows.own row low (omega (arith, high, enough)) in let first = in_role.0 in let one : suc seat ≡ suc id = sym is ∙ mine in omega (arith, one, first, later)) ∙ is)
+      (λ n few. refl) refl fewer_rows
+      (λ row content is. absurd (let e : Keeper can.dealt can.back ≡ Pass = sym can.role ∙ (((h.reuse common).stocks id v at).awake row content is).0 in cc)))
+
   deals_at : IsTableAt plan record { words = s.words; homes = s.homes; views = views_then } tree_state
   deals_at = owners_change plan s tree_state h new views_then published holder_else all_know
       (let same : length (set s.views id left) ≡ length s.views = length-set s.views id left in
       let longer : length views_then ≡ length (set s.views id left) + 1 = length-append (set s.views id left) (right ∷ []) in
       omega (arith, same, longer))
-      nobodys_then pool_then accounts_then counted_then
+      nobodys_then pool_then accounts_then reuse_then counted_then
 
 pub deals_keep_table : (plan : Plan) (id : ℕ) (v : View) (rows pages : ℕ) (keys taken : List ℕ) → CanDeal v rows pages keys taken
     → Splits (IsTable plan) id v (keeps_rest v rows pages taken) (gets_first v rows pages keys)

@@ -38,6 +38,7 @@ searched_none me idle = record {
   same_pages = refl;
   same_share = refl;
   same_told = refl;
+  same_stock = refl;
   same_slots = refl;
 }
 
@@ -52,6 +53,7 @@ searched_more u v w first second = record {
   same_pages = second.same_pages ∙ first.same_pages;
   same_share = second.same_share ∙ first.same_share;
   same_told = second.same_told ∙ first.same_told;
+  same_stock = second.same_stock ∙ first.same_stock;
   same_slots = second.same_slots ∙ first.same_slots;
 }
 
@@ -78,6 +80,7 @@ searched_once key me new was saw own ended same slots =
       same_pages = pages;
       same_share = ap (λ (v : View). v.share) same;
       same_told = ap (λ (v : View). v.told) same;
+      same_stock = ap (λ (v : View). v.stock) same;
       same_slots = slots;
     }
 

@@ -1,6 +1,5 @@
 -- The load of the prime block's page word is the first step of an operation.
-use Rattle.std.proofs.Common.{◌≡◌, ℕ, suc, ◌+◌, ◌≤◌, Some, None, List, [], refl, sym, ap, ◌∙◌, subst, arith}
-use Rattle.std.proofs.lemmas.List.{get_or-replicate, length-replicate}
+use Rattle.std.proofs.Common.{◌≡◌, ℕ, suc, ◌+◌, ◌≤◌, Some, None, List, [], refl, sym, ap, ◌∙◌, subst, inl, inr, ⊎_elim, ◌⊎◌, ◌≢◌, ◌<◌, arith}
 use mathlib.Core.Option.{some}
 use lib.ListN.{get_elem?}
 use Rattle.std.specs.Prelude.{slice_index}
@@ -11,7 +10,6 @@ use Rattle.blink_batch.specs.{FitsWords}
 use Rattle.blink_batch.specs.declared.Op.{Op}
 use Rattle.blink_page.specs.declared.limits.TheConstants.{MAX_PAGE}
 use Rattle.blink_rows.specs.{prime_words}
-use Rattle.blink_rows.specs.declared.limits.TheConstants.{ROW_WORDS}
 use Rattle.blink_machine.specs.declared.machine.State.{State as MachineState}
 use Rattle.blink_machine.specs.declared.machine.State.TheVariants.{Start, Posting, Ended}
 use Rattle.blink_machine.specs.declared.step.Step.TheVariants.{Moved}
@@ -23,8 +21,10 @@ use Rattle.blink_live.specs.declared.view.Plan.{Plan}
 use Rattle.blink_live.specs.declared.view.Role.TheVariants.{Pass, Keeper}
 use Rattle.blink_live.specs.declared.view.View.{View}
 use Rattle.blink_live.specs.AtomicSteps.{begins}
+use Rattle.blink_live.specs.Reuse.{IsAtHand}
 use Rattle.blink_live.specs.Rule.{ReadsRow, IsInRole, IsBoundedWay, Knows, IsTable, IsTableAt}
-use Rattle.blink_live.specs.Views.{IsCommon, SeatState, CanBegin, for_call, reading}
+use Rattle.blink_live.specs.Views.{rows_of, IsCommon, SeatState, CanBegin, for_call, reading}
+use Rattle.blink_live.proofs.reuse.ReuseStaysSafe.{reuse_stays, row_is}
 use Rattle.blink_live.proofs.table.AccountsStay.{account, still_saw}
 use Rattle.blink_live.proofs.table.LoadsKeepTable.{moved, load_keeps_with}
 use Rattle.blink_live.proofs.table.SharesAreKnown.{share_is_known}
@@ -73,7 +73,6 @@ module _ (plan : Plan) (s : State ℕ View) (tree_state : TreeState) (h : IsTabl
         rows = record {
           in_range = (omega (arith, low_row), high_row);
           own = λ r low high. known.rows.own r (omega (arith, low)) high;
-          blank = λ r low high. known.rows.blank r (omega (arith, low)) high;
         };
         numbers = record {
           in_range = (omega (arith, low_page), high_page);
@@ -82,13 +81,11 @@ module _ (plan : Plan) (s : State ℕ View) (tree_state : TreeState) (h : IsTabl
         };
         for_call = record {
           before = (omega arith, omega arith);
-          width = length-replicate {A = ℕ} ROW_WORDS 0;
           first_own = λ some. (low_row, known.rows.own v.rows.next (omega arith) (omega (arith, some, enough_rows)));
-          staged = λ some i inside. known.rows.blank v.rows.next (omega arith) (omega (arith, some, enough_rows)) i inside ∙ sym (get_or-replicate ROW_WORDS i 0 0 inside);
+          staged = λ some i inside few. absurd (omega (arith, few));
           others = record {
             in_range = (omega arith, omega (arith, high_row, enough_rows));
             own = λ r low high. known.rows.own r (omega (arith, low)) (omega (arith, high, enough_rows));
-            blank = λ r low high. known.rows.blank r (omega (arith, low)) (omega (arith, high, enough_rows));
           };
           numbers = record {
             in_range = (low_page, omega (arith, high_page, enough_pages));
@@ -105,9 +102,17 @@ module _ (plan : Plan) (s : State ℕ View) (tree_state : TreeState) (h : IsTabl
         nothing = λ common dealt back is. absurd (let e : Pass ≡ Keeper dealt back = sym role ∙ is in cc);
       }
 
-pub begins_operation : (plan : Plan) (slots id : ℕ) (me : SeatState) (op : Op) → me.0.role ≡ Pass → me.0.operation ≡ None → FitsWords op → CanBegin me.0 op
+-- the call's rows were the seat's
+call_of_rows : (plan : Plan) (s : State ℕ View) (tree_state : TreeState) (h : IsTableAt plan s tree_state) (id : ℕ) (v : View) (op : Op) → get_elem? s.views id ≡ some v → CanBegin v op
+    → (row : ℕ) → IsAtHand (for_call v op) row → IsAtHand v row ⊎ (h.owners.row row ≢ suc id)
+call_of_rows plan s tree_state h id v op at can row = λ hand.
+    let enough = can.rows in
+    ⊎_elim (λ (t : (v.rows.next + rows_of op ≤ row) × (row < v.rows.stop)). inl (inl (omega (arith, t), t.1)))
+    (λ (t : (v.rows.next ≤ row) × (row < v.rows.next + rows_of op)). inl (inl (t.0, omega (arith, t, enough)))) hand
+
+pub begins_operation : (plan : Plan) (slots id : ℕ) (me : SeatState) (op : Op) → me.0.role ≡ Pass → me.0.operation ≡ None → FitsWords op → CanBegin me.0 op → 1 ≤ plan.counts.numbers
     → Allows (IsTable plan) slots id me 0 (λ k. k) (begins op (step slots 0 0 0 none) me)
-begins_operation plan slots id me op role idle fits enough s table homes at small =
+begins_operation plan slots id me op role idle fits enough some_number s table homes at small =
     let tree_state : TreeState = table.0 in
     let h : IsTableAt plan s tree_state = table.1 in
     let known = h.views id me.0 at in
@@ -128,6 +133,8 @@ begins_operation plan slots id me op role idle fits enough s table homes at smal
       tt,
       load_keeps_with plan s tree_state h id 0 me.0 w at invariant refl refl refl
           (λ common role. still_saw plan h.owners.place h.log s.views id me.0 w at (h.accounted common) (account plan h.owners.place h.log s.views id me.0 w at (h.accounted common) role) h.log known.saw ([], append-nil h.log) role)
+          (λ common. reuse_stays plan h.owners.row s.words s.views id me.0 w at (h.reuse common) h.owners.row s.words (λ other is. is) (λ seat r later is apart. is) (λ n few. refl) refl (call_of_rows plan s tree_state h id me.0 op at enough)
+          (λ other content is. record { awake = (role, enough.announced (subst IsCommon (sym known.same_plan) common)); from = inr (0, omega (arith, some_number), row_is row other (prime_words tree_state.prime) content is) }))
           (begin_knows plan s tree_state h id me.0 after row way (prime_words tree_state.prime) at role op enough (λ other is. ap (descent_bound tree_state.pages) (sym (goes_on_as after after.state other is))) h.prime),
       (
         after,

@@ -21,6 +21,7 @@ use Rattle.blink_live.specs.Changes.{after}
 use Rattle.blink_live.specs.AtomicSteps.{loads_page, LoadsPage, AnswersAfter, TellsStates}
 use Rattle.blink_live.specs.Rule.{IsTable, IsTableAt, PageWordIs}
 use Rattle.blink_live.specs.Views.{SeatState, reading}
+use Rattle.blink_live.proofs.reuse.ReuseStaysSafe.{row_is}
 use Rattle.blink_live.proofs.table.LoadsKeepTable.{moved, load_keeps}
 use Rattle.blink_live.proofs.table.SharesAreKnown.{share_is_known}
 use Rattle.blink_live.proofs.table.MapsWithOneChange.{put_here, put_else}
@@ -87,7 +88,8 @@ reads_page_word plan slots id number me m role at_m fits needs some_number in_ra
           (λ some_other is. ap (descent_bound tree_state.pages) (sym (goes_on_as then then.state some_other is)))
           is_page
           ([], append-nil h.log)
-          (h.views id me.0 at).saw,
+          (h.views id me.0 at).saw
+          (λ common other content is. record { awake = (role, (known.placed common role).busy m at_m); from = inr (number, in_range, row_is row other (page_words reads.page) content is) }),
       λ same at_same needed. subst (λ (k : PlainMachine). (machine : PlainMachine) × LoadsPage k number me row machine (w, me.1)) (let e : m ≡ same = cc in e) (
         then,
         record {

@@ -59,7 +59,7 @@ module _ (plan : Plan) (old : Owners) (words : List ℕ) (tree_state : TreeState
     operation = known.operation;
     bounded = known.bounded;
     reads = reads_still plan old new words log (λ row was. was) v.reads known.reads;
-    rows = record { in_range = known.rows.in_range; own = known.rows.own; blank = known.rows.blank };
+    rows = record { in_range = known.rows.in_range; own = known.rows.own };
     numbers = record { in_range = known.numbers.in_range; own = known.numbers.own; free = known.numbers.free };
     for_call = call_still plan old new words tree_state tree_state (suc seat) v.call v.rows.next v.pages.next v.rows.next v.pages.next known.for_call (omega arith, omega arith) (λ r below own. own) (λ n below own. own) (λ n none. none);
     share = its;

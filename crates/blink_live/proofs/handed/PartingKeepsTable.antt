@@ -110,6 +110,7 @@ module _ (plan : Plan) (some_number : 1 ≤ plan.counts.numbers) (s : State ℕ 
       omega (arith, same, longer))
       (λ common. absurd (let none : plan.places ≡ 0 = ap (λ (p : Plan). p.places) (sym known.same_plan) ∙ owned in omega (arith, none, common)))
       (λ common. absurd (let none : plan.places ≡ 0 = ap (λ (p : Plan). p.places) (sym known.same_plan) ∙ owned in omega (arith, none, common)))
+      (λ common. absurd (let none : plan.places ≡ 0 = ap (λ (p : Plan). p.places) (sym known.same_plan) ∙ owned in omega (arith, none, common)))
       (λ common. absurd (let none : plan.places ≡ 0 = ap (λ (p : Plan). p.places) (sym known.same_plan) ∙ owned in omega (arith, none, common))) counted_then
 
 pub parting_keeps_table : (plan : Plan) (id : ℕ) (v : View) (keys : List ℕ) → 1 ≤ plan.counts.numbers → v.role ≡ Pass → IsOwned v.plan → ((key : ℕ) → Contains keys key → Contains v.share.keys key)

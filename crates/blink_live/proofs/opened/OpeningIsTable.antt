@@ -21,11 +21,13 @@ use Rattle.blink_live.specs.declared.view.Plan.{Plan}
 use Rattle.blink_live.specs.declared.view.Role.TheVariants.{Pass}
 use Rattle.blink_live.specs.declared.view.View.{View}
 use Rattle.blink_live.specs.Laid.{IsLaidWith}
+use Rattle.blink_live.specs.Reuse.{AgreesWith, AreNamedOnce, HasStock}
 use Rattle.blink_live.specs.Accounts.{AreApart, HasSeenItsOwn, IsAccount, accounts_of}
 use Rattle.blink_live.specs.Rule.{HasNumbers, HasPool, HasRows, Owners, IsPublished, PageWordIs, Knows, IsTable}
-use Rattle.blink_live.specs.Views.{IsCommon, first_span, first_view, span}
+use Rattle.blink_live.specs.Views.{IsCommon, first_span, first_view, no_stock, span}
 use Rattle.blink_live.specs.Words.{RowIs}
 use Rattle.blink_live.proofs.table.CallsOfSeats.{nothing_for_call}
+use Rattle.blink_live.proofs.reuse.ReuseStaysSafe.{agrees_with_none, empty_stock}
 use Rattle.blink_live.proofs.table.AccountsStay.{none_apart}
 
 -- the plan of a table that opens
@@ -117,11 +119,10 @@ module _ (store : PlainStore) (counts : PlainCounts) (places : ℕ) (words : Lis
       ]
 
   -- the rows and page numbers that no page has
-  all_rows : HasRows (plan_over store counts places) (owners_over (length store.pages)) words 1 (span (length store.pages + 2) (counts.rows + 1))
+  all_rows : HasRows (plan_over store counts places) (owners_over (length store.pages)) 1 (span (length store.pages + 2) (counts.rows + 1))
   all_rows = record {
     in_range = (omega arith, omega arith);
     own = λ row late early. owner_on (length store.pages + 2) row late;
-    blank = λ row late early. laid.blank_rows row late (omega arith);
   }
 
   all_numbers : HasNumbers (plan_over store counts places) (owners_over (length store.pages)) (tree_state_over store) 1 (span (length store.pages + 1) counts.numbers)
@@ -132,9 +133,9 @@ module _ (store : PlainStore) (counts : PlainCounts) (places : ℕ) (words : Lis
   }
 
   -- are the keeper's, or the pool's
-  first_rows : (n : ℕ) → HasRows (plan_over store counts places) (owners_over (length store.pages)) words 1 (first_span n (length store.pages + 2) (counts.rows + 1))
+  first_rows : (n : ℕ) → HasRows (plan_over store counts places) (owners_over (length store.pages)) 1 (first_span n (length store.pages + 2) (counts.rows + 1))
   first_rows zero = all_rows
-  first_rows (suc n) = record { in_range = (omega arith, omega arith); own = λ row low high. absurd (omega (arith, low, high)); blank = λ row low high. absurd (omega (arith, low, high)) }
+  first_rows (suc n) = record { in_range = (omega arith, omega arith); own = λ row low high. absurd (omega (arith, low, high)) }
 
   first_numbers : (n : ℕ) → HasNumbers (plan_over store counts places) (owners_over (length store.pages)) (tree_state_over store) 1 (first_span n (length store.pages + 1) counts.numbers)
   first_numbers zero = all_numbers
@@ -142,7 +143,7 @@ module _ (store : PlainStore) (counts : PlainCounts) (places : ℕ) (words : Lis
 
   first_pool : IsCommon (plan_over store counts places) → HasPool (plan_over store counts places) (owners_over (length store.pages)) words (tree_state_over store)
   first_pool common = record {
-    rows = subst (λ (n : ℕ). HasRows (plan_over store counts places) (owners_over (length store.pages)) words 1 (span n (counts.rows + 1))) (sym (laid.pool_rows common)) all_rows;
+    rows = subst (λ (n : ℕ). HasRows (plan_over store counts places) (owners_over (length store.pages)) 1 (span n (counts.rows + 1))) (sym (laid.pool_rows common)) all_rows;
     pages = subst (λ (n : ℕ). HasNumbers (plan_over store counts places) (owners_over (length store.pages)) (tree_state_over store) 1 (span n counts.numbers)) (sym (laid.pool_pages common)) all_numbers;
   }
 
@@ -170,6 +171,24 @@ module _ (store : PlainStore) (counts : PlainCounts) (places : ℕ) (words : Lis
     );
     places_left = λ dealt back is place from. (refl, λ inside. laid.blank_places place inside);
   }
+
+  -- each page has a row of its own
+  once : AreNamedOnce counts words
+  once one other few_one few_other least same =
+      elim (cases_lt one (length store.pages + 1)) [
+        | inl less ↦ elim (cases_lt other (length store.pages + 1)) [
+          | inl also ↦
+              let first = laid.page_words_named one (omega arith) in
+              let second = laid.page_words_named other (omega arith) in
+              omega arith
+          | inr more ↦
+              let none = laid.no_more other (omega arith) (omega arith) in
+              absurd (omega arith)
+        ]
+        | inr more ↦
+            let none = laid.no_more one (omega arith) (omega arith) in
+            absurd (omega arith)
+      ]
 
   -- the table of a tree at rest, as it opens
   pub opens : IsStoreAtRest store → IsLawfulStore store → IsMapOf store (map_of store) → AreBounded counts
@@ -205,6 +224,12 @@ module _ (store : PlainStore) (counts : PlainCounts) (places : ℕ) (words : Lis
             accounts = one_view (λ seat v. (account : Account) → Contains (accounts_of v) account → IsAccount owners.place [] (suc seat) account) (first_view (length store.pages) plan) (λ account has. let inside = has.1 in absurd (omega (arith, inside)));
             apart = one_view (λ seat v. AreApart (accounts_of v)) (first_view (length store.pages) plan) none_apart;
             saw_own = one_view (λ seat v. v.role ≡ Pass → HasSeenItsOwn v) (first_view (length store.pages) plan) (λ is. absurd (cc));
+          };
+          reuse = λ common. record {
+            claim = λ row. 0;
+            named_once = λ one other few_one few_other least same. once one other few_one few_other least same;
+            stocks = one_view (HasStock plan owners.row words (λ row. 0)) (first_view (length store.pages) plan) (empty_stock plan owners.row words (λ row. 0) 0 (first_view (length store.pages) plan) refl refl);
+            agree = λ seat other v u at_v at_u. one_view (λ i a. AgreesWith a.stock u) (first_view (length store.pages) plan) (agrees_with_none no_stock u refl) seat v at_v;
           };
           views = one_view (Knows plan owners words (tree_state_over store) []) (first_view (length store.pages) plan) keeper_knows;
           others_idle = λ seat late. refl;

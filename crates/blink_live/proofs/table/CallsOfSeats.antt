@@ -1,7 +1,5 @@
 -- What a seat has for its call stays its own.
 use Rattle.std.proofs.Common.{◌≡◌, ℕ, ◌<◌, ◌≤◌, None, List, arith}
-use Rattle.std.proofs.lemmas.List.{length-replicate}
-use Rattle.blink_rows.specs.declared.limits.TheConstants.{ROW_WORDS}
 use Rattle.blink_machine.specs.TreeState.{TreeState}
 use Rattle.blink_live.specs.declared.view.Call.{Call}
 use Rattle.blink_live.specs.declared.view.Plan.{Plan}
@@ -13,10 +11,9 @@ pub nothing_for_call : (plan : Plan) (owners : Owners) (words : List ℕ) (tree_
     → HasForCall plan owners words tree_state owner no_call row page
 nothing_for_call plan owners words tree_state owner row page some_row some_page some_number = record {
   before = (some_row, some_page);
-  width = length-replicate {A = ℕ} ROW_WORDS 0;
   first_own = λ some. absurd (omega (arith, some));
   staged = λ some. absurd (omega (arith, some));
-  others = record { in_range = (omega arith, omega arith); own = λ r low high. absurd (omega (arith, low, high)); blank = λ r low high. absurd (omega (arith, low, high)) };
+  others = record { in_range = (omega arith, omega arith); own = λ r low high. absurd (omega (arith, low, high)) };
   numbers = record { in_range = (omega arith, some_number); own = λ number low high. absurd (omega (arith, low, high)); free = λ number low high. absurd (omega (arith, low, high)) };
 }
 
@@ -27,13 +24,11 @@ pub call_still : (plan : Plan) (old new : Owners) (words : List ℕ) (tree_state
 call_still plan old new words tree_state then owner call row page later later_page has less rows pages free =
     let before = has.before in record {
       before = (omega (arith, before, less), omega (arith, before, less));
-      width = has.width;
       first_own = λ some. let own = has.first_own some in (own.0, rows call.rows.next (omega (arith, before, some)) own.1);
       staged = has.staged;
       others = record {
         in_range = has.others.in_range;
         own = λ r low high. rows r (omega (arith, before, high)) (has.others.own r low high);
-        blank = has.others.blank;
       };
       numbers = record {
         in_range = has.numbers.in_range;

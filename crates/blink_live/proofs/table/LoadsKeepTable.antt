@@ -1,5 +1,5 @@
 -- A load keeps the rule: the words stay, and one seat's operation takes a step of the tree that only reads.
-use Rattle.std.proofs.Common.{◌≡◌, ◌≤◌, ℕ, suc, Option, List, length, get_or, set, sym, ap, ◌∙◌, subst, length-set, arith, Some}
+use Rattle.std.proofs.Common.{◌≡◌, ◌≤◌, ℕ, suc, Option, List, length, get_or, set, refl, sym, ap, ◌∙◌, subst, length-set, arith, Some}
 use mathlib.Core.Option.{some}
 use mathlib.Core.List.{IsPrefix}
 use lib.ListN.{get_elem?}
@@ -13,9 +13,11 @@ use Rattle.blink_live.specs.declared.view.Role.TheVariants.{Pass}
 use Rattle.blink_live.specs.declared.view.View.{View}
 use Rattle.blink_live.specs.Changes.{put}
 use Rattle.blink_live.specs.Accounts.{HasSeenItsOwn, accounts_of}
+use Rattle.blink_live.specs.Reuse.{IsReuseSafe}
 use Rattle.blink_live.specs.Rule.{ReadsRow, IsInRole, IsBoundedWay, Knows, IsTableAt, IsTable}
 use Rattle.blink_live.specs.Views.{IsCommon, SameBesideReads}
 use Rattle.blink_live.proofs.table.MapsWithOneChange.{put_here, put_else}
+use Rattle.blink_live.proofs.reuse.ReuseStaysSafe.{MayReadOn, hand_stays, reuse_stays}
 use Rattle.blink_live.proofs.table.AccountsStay.{account, accounts_stay, still_saw}
 use Rattle.blink_live.proofs.table.SeatsThatStay.{at_inside, views_stay, counted_stays}
 use Rattle.blink_live.proofs.table.CallsOfSeats.{call_still}
@@ -38,7 +40,7 @@ module _ (plan : Plan) (s : State ℕ View) (tree_state : TreeState) (h : IsTabl
         operation = put_here tree_state.machines id w.operation;
         bounded = bounded;
         reads = reads;
-        rows = record { in_range = known.rows.in_range; own = known.rows.own; blank = known.rows.blank };
+        rows = record { in_range = known.rows.in_range; own = known.rows.own };
         numbers = record { in_range = known.numbers.in_range; own = known.numbers.own; free = known.numbers.free };
         for_call = call_still plan h.owners h.owners s.words tree_state (moved tree_state id w.operation) (suc id) v.call v.rows.next v.pages.next v.rows.next v.pages.next known.for_call (omega arith, omega arith) (λ r below own. own)
             (λ n below own. own) (λ n none. none);
@@ -52,9 +54,9 @@ module _ (plan : Plan) (s : State ℕ View) (tree_state : TreeState) (h : IsTabl
       } in
       subst (Knows plan h.owners s.words (moved tree_state id w.operation) h.log id) (sym same) knows
 
-  pub load_keeps_with : Invariant (moved tree_state id w.operation) → w.role ≡ v.role → w.plan ≡ v.plan → accounts_of w ≡ accounts_of v → (IsCommon plan → w.role ≡ Pass → HasSeenItsOwn w) → Knows plan h.owners s.words (moved tree_state id w.operation) h.log id w
+  pub load_keeps_with : Invariant (moved tree_state id w.operation) → w.role ≡ v.role → w.plan ≡ v.plan → accounts_of w ≡ accounts_of v → (IsCommon plan → w.role ≡ Pass → HasSeenItsOwn w) → (IsCommon plan → IsReuseSafe plan h.owners.row s.words (set s.views id w)) → Knows plan h.owners s.words (moved tree_state id w.operation) h.log id w
       → IsTable plan record { words = set s.words word (get_or s.words word 0); homes = s.homes; views = set s.views id w }
-  load_keeps_with invariant same_role same_plan same_accounts saw_own knows = subst (λ (words : List ℕ). IsTable plan record { words = words; homes = s.homes; views = set s.views id w }) (sym (set-get_or s.words word 0)) (
+  load_keeps_with invariant same_role same_plan same_accounts saw_own reuse knows = subst (λ (words : List ℕ). IsTable plan record { words = words; homes = s.homes; views = set s.views id w }) (sym (set-get_or s.words word 0)) (
     moved tree_state id w.operation,
     record {
       owners = h.owners;
@@ -76,6 +78,7 @@ module _ (plan : Plan) (s : State ℕ View) (tree_state : TreeState) (h : IsTabl
       nobodys = h.nobodys;
       pool = λ common. let pool = h.pool common in record { rows = pool.rows; pages = record { in_range = pool.pages.in_range; own = pool.pages.own; free = pool.pages.free } };
       accounted = λ common. accounts_stay plan h.owners.place h.log s.views id v w at (h.accounted common) same_accounts (saw_own common);
+      reuse = reuse;
       views = views_stay (Knows plan h.owners s.words (moved tree_state id w.operation) h.log) s.views id w knows
           (λ j u other there. let known = h.views j u there in record {
             same_plan = known.same_plan;
@@ -110,6 +113,9 @@ module _ (plan : Plan) (s : State ℕ View) (tree_state : TreeState) (h : IsTabl
       load_knows_in plan s tree_state h id word v w at (subst (IsInRole plan h.owners h.log id (loaded plan s tree_state h id word v w at)) (sym role) kept) (λ common is m goes. ((h.views id v at).placed common is).busy under.0 under.1)
 
   pub load_keeps : ((k : PlainMachine) × (v.operation ≡ Some k)) → Invariant (moved tree_state id w.operation) → SameBesideReads v w → IsBoundedWay tree_state w → ReadsRow plan h.owners s.words w.reads → IsPrefix w.seen h.log → IsPrefix v.seen w.seen
+      → (IsCommon plan → MayReadOn plan s.words v w)
       → IsTable plan record { words = set s.words word (get_or s.words word 0); homes = s.homes; views = set s.views id w }
-  load_keeps under invariant same bounded reads saw more = load_keeps_with plan s tree_state h id word v w at invariant (ap (λ (x : View). x.role) same) (ap (λ (x : View). x.plan) same) (ap accounts_of same)
-      (λ common is. subst HasSeenItsOwn (sym same) (still_saw plan h.owners.place h.log s.views id v w at (h.accounted common) (account plan h.owners.place h.log s.views id v w at (h.accounted common) role) w.seen more saw role)) (load_knows under same bounded reads saw)
+  load_keeps under invariant same bounded reads saw more may = load_keeps_with plan s tree_state h id word v w at invariant (ap (λ (x : View). x.role) same) (ap (λ (x : View). x.plan) same) (ap accounts_of same)
+      (λ common is. subst HasSeenItsOwn (sym same) (still_saw plan h.owners.place h.log s.views id v w at (h.accounted common) (account plan h.owners.place h.log s.views id v w at (h.accounted common) role) w.seen more saw role))
+      (λ common. reuse_stays plan h.owners.row s.words s.views id v w at (h.reuse common) h.owners.row s.words (λ row is. is) (λ seat r later is apart. is) (λ n few. refl) (ap (λ (x : View). x.stock) same)
+      (hand_stays h.owners.row id v w (ap (λ (x : View). x.rows) same) (ap (λ (x : View). x.call.rows) same)) (may common)) (load_knows under same bounded reads saw)

@@ -1,5 +1,5 @@
 -- A step of one seat leaves what the others know.
-use Rattle.std.proofs.Common.{◌≡◌, ◌≢◌, ℕ, suc, ◌+◌, ◌<◌, ◌≤◌, Option, Some, None, List, sym, ap, ◌∙◌, arith, []}
+use Rattle.std.proofs.Common.{◌≡◌, ◌≢◌, ℕ, suc, ◌+◌, ◌<◌, ◌≤◌, Option, Some, None, List, sym, ap, ◌∙◌, arith}
 use Rattle.std.specs.Prelude.{slice_index}
 use mathlib.Core.Option.{some, some-injective}
 use native.Mathlib.Decide.{dec_le}
@@ -22,7 +22,7 @@ use Rattle.blink_live.specs.declared.view.View.{View}
 use Rattle.blink_live.specs.Changes.{after, states_of}
 use Rattle.blink_live.specs.Rule.{HasNothing, HasPool, Owners, IsPublished, PageWordIs, ReadsRow, HasRows, HasNumbers, HasForCall, IsShare, IsInRole, Knows, IsTableAt}
 use Rattle.blink_live.specs.Views.{IsCommon, IsOwned, span}
-use Rattle.blink_live.specs.Words.{place_word, row_start, RowIs}
+use Rattle.blink_live.specs.Words.{place_word, row_start, RowBegins, RowIs}
 
 -- the words of a row stay
 abbrev pub RowStays : Plan → List ℕ → List ℕ → ℕ → Type 0
@@ -30,6 +30,9 @@ RowStays plan old new row = (i : ℕ) → i < ROW_WORDS → slice_index new (row
 
 pub row_is_still : (plan : Plan) (old new : List ℕ) (row : ℕ) (content : List ℕ) → RowStays plan old new row → RowIs plan.counts old row content → RowIs plan.counts new row content
 row_is_still plan old new row content stays is i inside = stays i inside ∙ is i inside
+
+pub row_begins_still : (plan : Plan) (old new : List ℕ) (row : ℕ) (content : List ℕ) → RowStays plan old new row → RowBegins plan.counts old row content → RowBegins plan.counts new row content
+row_begins_still plan old new row content stays is i inside few = stays i inside ∙ is i inside few
 
 -- a step of the seat `id` after which words, tree state, owners and changes are these touches nothing that another seat has
 pub record LeavesOthers (plan : Plan) (s : State ℕ View) (tree_state then : TreeState) (h : IsTableAt plan s tree_state) (id : ℕ) (words : List ℕ) (new : Owners) (log : List Change) : Type 0 where
@@ -69,14 +72,10 @@ module _ (plan : Plan) (s : State ℕ View) (tree_state then : TreeState) (h : I
     not_pools : (low high n whose : ℕ) → (IsCommon plan → seat ≡ 0 → high ≤ low) → low ≤ n → n < high → whose ≡ suc seat → IsCommon plan → whose ≢ suc 0
     not_pools low high n whose none from to is common pools = let empty = none common (let one : suc seat ≡ suc 0 = sym is ∙ pools in omega (arith, one)) in omega (arith, empty, from, to)
 
-    rows_still : (rows : Span) → (IsCommon plan → seat ≡ 0 → rows.stop ≤ rows.next) → HasRows plan h.owners s.words (suc seat) rows → HasRows plan new words (suc seat) rows
+    rows_still : (rows : Span) → (IsCommon plan → seat ≡ 0 → rows.stop ≤ rows.next) → HasRows plan h.owners (suc seat) rows → HasRows plan new (suc seat) rows
     rows_still rows none has = record {
       in_range = has.in_range;
       own = λ row low high. let least = has.in_range.0 in let most = has.in_range.1 in (leaves.rows row (omega (arith, least, low)) (omega (arith, high, most)) (λ e. apart (sym (has.own row low high) ∙ e)) (not_pools rows.next rows.stop row (h.owners.row row) none low high (has.own row low high))).0 ∙ has.own row low high;
-      blank = λ row low high.
-          let least = has.in_range.0 in
-          let most = has.in_range.1 in
-          row_is_still plan s.words words row [] (leaves.rows row (omega (arith, least, low)) (omega (arith, high, most)) (λ e. apart (sym (has.own row low high) ∙ e)) (not_pools rows.next rows.stop row (h.owners.row row) none low high (has.own row low high))).1 (has.blank row low high);
     }
 
     numbers_still : (pages : Span) → (IsCommon plan → seat ≡ 0 → pages.stop ≤ pages.next) → HasNumbers plan h.owners tree_state (suc seat) pages → HasNumbers plan new then (suc seat) pages
@@ -89,12 +88,11 @@ module _ (plan : Plan) (s : State ℕ View) (tree_state then : TreeState) (h : I
     call_stays : (v : View) → (IsCommon plan → seat ≡ 0 → HasNothing v) → HasForCall plan h.owners s.words tree_state (suc seat) v.call v.rows.next v.pages.next → HasForCall plan new words then (suc seat) v.call v.rows.next v.pages.next
     call_stays v none has = record {
       before = has.before;
-      width = has.width;
       first_own = λ some_row. let own = has.first_own some_row in let most = has.others.in_range.1 in (own.0, (leaves.rows v.call.rows.next own.0 (omega (arith, some_row, most)) (λ e. apart (sym own.1 ∙ e)) (not_pools v.call.rows.next v.call.rows.stop v.call.rows.next (h.owners.row v.call.rows.next) (λ common first. (none common first).2) (omega arith) some_row own.1)).0 ∙ own.1);
       staged = λ some_row.
           let own = has.first_own some_row in
           let most = has.others.in_range.1 in
-          row_is_still plan s.words words v.call.rows.next v.call.staged (leaves.rows v.call.rows.next own.0 (omega (arith, some_row, most)) (λ e. apart (sym own.1 ∙ e)) (not_pools v.call.rows.next v.call.rows.stop v.call.rows.next (h.owners.row v.call.rows.next) (λ common first. (none common first).2) (omega arith) some_row own.1)).1 (has.staged some_row);
+          row_begins_still plan s.words words v.call.rows.next v.call.staged (leaves.rows v.call.rows.next own.0 (omega (arith, some_row, most)) (λ e. apart (sym own.1 ∙ e)) (not_pools v.call.rows.next v.call.rows.stop v.call.rows.next (h.owners.row v.call.rows.next) (λ common first. (none common first).2) (omega arith) some_row own.1)).1 (has.staged some_row);
       others = rows_still (span (suc v.call.rows.next) v.call.rows.stop) (λ common first. let empty = (none common first).2 in omega (arith, empty)) has.others;
       numbers = numbers_still v.call.pages (λ common first. (none common first).3) has.numbers;
     }

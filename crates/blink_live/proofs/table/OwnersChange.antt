@@ -13,6 +13,7 @@ use Rattle.blink_live.specs.declared.view.Role.TheVariants.{Keeper, Pass, Spent}
 use Rattle.blink_live.specs.declared.view.Share.{Share}
 use Rattle.blink_live.specs.declared.view.View.{View}
 use Rattle.blink_live.specs.Accounts.{AreAccounts}
+use Rattle.blink_live.specs.Reuse.{IsReuseSafe}
 use Rattle.blink_live.specs.Rule.{HasPool, Owners, PageWordIs, latch_word, ReadsRow, IsShare, IsInRole, Knows, AreCounted, IsTableAt}
 use Rattle.blink_live.specs.Views.{IsCommon}
 use Rattle.blink_live.proofs.table.CallsOfSeats.{call_still}
@@ -54,7 +55,7 @@ module _ (plan : Plan) (old new : Owners) (words : List ℕ) (log : List Change)
     operation = known.operation;
     bounded = known.bounded;
     reads = reads_still v.reads known.reads;
-    rows = record { in_range = known.rows.in_range; own = λ row low high. owns.row row (known.rows.own row low high); blank = known.rows.blank };
+    rows = record { in_range = known.rows.in_range; own = λ row low high. owns.row row (known.rows.own row low high) };
     numbers = record { in_range = known.numbers.in_range; own = λ number low high. owns.page number (known.numbers.own number low high); free = known.numbers.free };
     for_call = call_still plan old new words tree_state tree_state (suc seat) v.call v.rows.next v.pages.next v.rows.next v.pages.next known.for_call (omega arith, omega arith) (λ r below. owns.row r) (λ n below. owns.page n) (λ n none. none);
     share = share_still (suc seat) (suc seat) v.share owns.key known.share;
@@ -75,9 +76,10 @@ pub owners_change : (plan : Plan) (s : State ℕ View) (tree_state : TreeState) 
     → StaysPublished h.owners new
     → ((number seat : ℕ) → tree_state.holder number ≡ Some seat → new.latch_number seat ≡ h.owners.latch_number seat)
     → ((seat : ℕ) (v : View) → get_elem? views seat ≡ some v → Knows plan new s.words tree_state h.log seat v)
-    → length s.views ≤ length views → (IsCommon plan → (key : ℕ) → new.key key ≡ 0) → (IsCommon plan → HasPool plan new s.words tree_state) → (IsCommon plan → AreAccounts plan new.place h.log views) → AreCounted views
+    → length s.views ≤ length views → (IsCommon plan → (key : ℕ) → new.key key ≡ 0) → (IsCommon plan → HasPool plan new s.words tree_state) → (IsCommon plan → AreAccounts plan new.place h.log views)
+    → (IsCommon plan → IsReuseSafe plan new.row s.words views) → AreCounted views
     → IsTableAt plan record { words = s.words; homes = s.homes; views = views } tree_state
-owners_change plan s tree_state h new views published same_latch knows longer nobodys pool accounted counted = record {
+owners_change plan s tree_state h new views published same_latch knows longer nobodys pool accounted reuse counted = record {
   owners = new;
   log = h.log;
   now = h.now;
@@ -97,6 +99,7 @@ owners_change plan s tree_state h new views published same_latch knows longer no
   nobodys = nobodys;
   pool = pool;
   accounted = accounted;
+  reuse = reuse;
   views = knows;
   others_idle = λ seat beyond. h.others_idle seat (omega (arith, longer, beyond));
   counted = counted;

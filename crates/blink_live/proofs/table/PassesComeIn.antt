@@ -124,7 +124,7 @@ module _ (plan : Plan) (some_number : 1 ≤ plan.counts.numbers) (s : State ℕ 
       operation = known.operation;
       bounded = known.bounded;
       reads = reads_still plan old new s.words h.log published v.reads known.reads;
-      rows = record { in_range = known.rows.in_range; own = known.rows.own; blank = known.rows.blank };
+      rows = record { in_range = known.rows.in_range; own = known.rows.own };
       numbers = record { in_range = known.numbers.in_range; own = known.numbers.own; free = known.numbers.free };
       for_call = call_still plan old new s.words tree_state tree_state (suc id) v.call v.rows.next v.pages.next v.rows.next v.pages.next known.for_call (omega arith, omega arith) (λ r below own. own) (λ n below own. own) (λ n none. none);
       share = share_still plan old new s.words h.log published (suc id) (suc id) v.share
@@ -151,6 +151,7 @@ module _ (plan : Plan) (some_number : 1 ≤ plan.counts.numbers) (s : State ℕ 
         (let one : length (set s.views id both) ≡ length s.views = length-set s.views id both in
         let two : length views_then ≡ length (set s.views id both) = length-set (set s.views id both) other (spent plan) in
         omega (arith, one, two))
+        (λ common. absurd (let none : plan.places ≡ 0 = ap (λ (p : Plan). p.places) (sym known.same_plan) ∙ owned in omega (arith, none, common)))
         (λ common. absurd (let none : plan.places ≡ 0 = ap (λ (p : Plan). p.places) (sym known.same_plan) ∙ owned in omega (arith, none, common)))
         (λ common. absurd (let none : plan.places ≡ 0 = ap (λ (p : Plan). p.places) (sym known.same_plan) ∙ owned in omega (arith, none, common)))
         (λ common. absurd (let none : plan.places ≡ 0 = ap (λ (p : Plan). p.places) (sym known.same_plan) ∙ owned in omega (arith, none, common))) counted_then

@@ -18,7 +18,6 @@ spent_knows plan owners words tree_state log seat told some_number idle heard = 
   rows = record {
     in_range = (omega arith, omega arith);
     own = λ row low high. absurd (omega (arith, low, high));
-    blank = λ row low high. absurd (omega (arith, low, high));
   };
   numbers = record {
     in_range = (omega arith, some_number);

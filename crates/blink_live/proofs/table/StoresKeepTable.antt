@@ -1,5 +1,5 @@
 -- A store to a page word or a latch word keeps the rule, where it is a step of the tree that leaves the prime block.
-use Rattle.std.proofs.Common.{◌≡◌, ℕ, suc, ◌+◌, ◌*◌, ◌<◌, ◌≤◌, Some, None, List, length, set, sym, ◌∙◌, subst, length-set, get_or-set_other, arith, []}
+use Rattle.std.proofs.Common.{◌≡◌, ℕ, ◌+◌, ◌*◌, ◌<◌, ◌≤◌, Some, None, List, length, set, sym, ◌∙◌, subst, length-set, get_or-set_other, arith}
 use Rattle.std.specs.Prelude.{All, slice_index}
 use mathlib.Core.Option.{some}
 use lib.ListN.{get_elem?}
@@ -10,18 +10,18 @@ use Rattle.blink_rows.specs.{prime_words}
 use Rattle.blink_machine.specs.TreeState.{TreeState}
 use Rattle.blink_machine.specs.Invariant.{Invariant}
 use Rattle.blink_machine.specs.{IsMapAt}
-use Rattle.blink_rows.specs.declared.span.Span.{Span}
 use Rattle.blink_live.specs.declared.view.Call.{Call}
 use Rattle.blink_live.specs.declared.view.Change.{Change}
 use Rattle.blink_live.specs.declared.view.Plan.{Plan}
 use Rattle.blink_live.specs.declared.view.View.{View}
 use Rattle.blink_live.specs.Changes.{after}
 use Rattle.blink_live.specs.Accounts.{AreAccounts}
-use Rattle.blink_live.specs.Rule.{Owners, IsPublished, PageWordIs, latch_word, HasRows, HasForCall, Knows, IsTableAt, IsTable}
-use Rattle.blink_live.specs.Views.{IsCommon, span}
+use Rattle.blink_live.specs.Reuse.{IsReuseSafe}
+use Rattle.blink_live.specs.Rule.{Owners, IsPublished, PageWordIs, latch_word, HasForCall, Knows, IsTableAt, IsTable}
+use Rattle.blink_live.specs.Views.{IsCommon}
 use Rattle.blink_live.specs.Words.{RowIs}
 use Rattle.blink_page.specs.{IsPageNumber}
-use Rattle.blink_live.proofs.table.OthersKnowTheSame.{RowStays, row_is_still, LeavesOthers, still_published, other_knows}
+use Rattle.blink_live.proofs.table.OthersKnowTheSame.{RowStays, row_begins_still, row_is_still, LeavesOthers, still_published, other_knows}
 use Rattle.blink_live.proofs.table.SeatsThatStay.{at_inside, views_stay, counted_stays}
 
 -- page words and latch words stand before the rows
@@ -30,17 +30,13 @@ row_stays plan words place x row before i inside = get_or-set_other words place 
 
 -- so whoever stores there has the same rows
 module _ (plan : Plan) (owners : Owners) (old new : List ℕ) (stays : (row : ℕ) → 1 ≤ row → row ≤ plan.counts.rows → RowStays plan old new row) where
-  pub rows_kept : (owner : ℕ) (rows : Span) → HasRows plan owners old owner rows → HasRows plan owners new owner rows
-  rows_kept owner rows has = record { in_range = has.in_range; own = has.own; blank = λ row low high. let least = has.in_range.0 in let most = has.in_range.1 in row_is_still plan old new row [] (stays row (omega (arith, least, low)) (omega (arith, high, most))) (has.blank row low high) }
-
   pub call_kept : (tree_state then : TreeState) (owner : ℕ) (call : Call) (row page : ℕ) → ((number : ℕ) → owners.page number ≡ owner → tree_state.pages number ≡ None → then.pages number ≡ None)
       → HasForCall plan owners old tree_state owner call row page → HasForCall plan owners new then owner call row page
   call_kept tree_state then owner call row page free has = record {
     before = has.before;
-    width = has.width;
     first_own = has.first_own;
-    staged = λ some_row. let most = has.others.in_range.1 in row_is_still plan old new call.rows.next call.staged (stays call.rows.next (has.first_own some_row).0 (omega (arith, some_row, most))) (has.staged some_row);
-    others = rows_kept owner (span (suc call.rows.next) call.rows.stop) has.others;
+    staged = λ some_row. let most = has.others.in_range.1 in row_begins_still plan old new call.rows.next call.staged (stays call.rows.next (has.first_own some_row).0 (omega (arith, some_row, most))) (has.staged some_row);
+    others = has.others;
     numbers = record { in_range = has.numbers.in_range; own = has.numbers.own; free = λ number low high. free number (has.numbers.own number low high) (has.numbers.free number low high) };
   }
 
@@ -69,8 +65,9 @@ prime_still plan s tree_state then h id some_pass words new log leaves same_word
 
 module _ (plan : Plan) (s : State ℕ View) (tree_state then : TreeState) (h : IsTableAt plan s tree_state) (id place x : ℕ) (some_pass : 1 ≤ id) (v w : View) (at : get_elem? s.views id ≡ some v) (new : Owners) (log : List Change) (now : List Entry) where
   pub store_keeps : LeavesOthers plan s tree_state then h id (set s.words place x) new log → IsStored plan s tree_state then h (set s.words place x) new log now → w.role ≡ v.role → w.plan ≡ v.plan → (IsCommon plan → AreAccounts plan new.place log (set s.views id w))
+      → (IsCommon plan → IsReuseSafe plan new.row (set s.words place x) (set s.views id w))
       → Knows plan new (set s.words place x) then log id w → IsTable plan record { words = set s.words place x; homes = s.homes; views = set s.views id w }
-  store_keeps leaves stored same_role same_plan accounted knows =
+  store_keeps leaves stored same_role same_plan accounted reuse knows =
       let words : List ℕ = set s.words place x in (
         then,
         record {
@@ -93,6 +90,7 @@ module _ (plan : Plan) (s : State ℕ View) (tree_state then : TreeState) (h : I
           nobodys = leaves.nobodys;
           pool = leaves.pool;
           accounted = accounted;
+          reuse = reuse;
           views = views_stay (Knows plan new words then log) s.views id w knows (λ j u other there. other_knows plan s tree_state then h id some_pass words new log leaves j u other there);
           others_idle = λ seat beyond.
               let inside = at_inside s.views id v at in

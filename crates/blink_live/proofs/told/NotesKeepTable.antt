@@ -1,5 +1,5 @@
 -- A pass's note of what it has seen is a seat more, and whoever takes it is told: both keep the rule.
-use Rattle.std.proofs.Common.{◌≡◌, ◌≢◌, ℕ, suc, ◌+◌, ◌≤◌, None, List, [], ◌∷◌, ◌++◌, length, set, refl, sym, ◌∙◌, subst, ⊎_elim, length-set, length-append, arith}
+use Rattle.std.proofs.Common.{◌≡◌, ◌≢◌, ℕ, ◌+◌, ◌≤◌, None, List, [], ◌∷◌, ◌++◌, length, set, refl, sym, ◌∙◌, subst, ⊎_elim, length-set, length-append, arith}
 use mathlib.Core.Option.{some}
 use lib.ListN.{get_elem?}
 use Rattle.atomic_table.specs.Table.{State, Splits, Joins}
@@ -14,6 +14,7 @@ use mathlib.Core.List.{IsPrefix}
 use Rattle.blink_live.specs.Rule.{Owners, IsInRole, Knows, passes_in, AreCounted, IsTableAt, IsTable}
 use Rattle.blink_live.specs.Views.{hears, note_of, spent}
 use Rattle.blink_live.proofs.table.AccountsStay.{accounts_longer, accounts_stay, no_accounts, none_apart}
+use Rattle.blink_live.proofs.reuse.ReuseStaysSafe.{hand_stays, reuse_longer, reuse_stays, reuse_without, same_reads}
 use Rattle.blink_live.proofs.table.OwnersChange.{owners_change}
 use Rattle.blink_live.proofs.table.PassesOut.{at_end, passes_more}
 use Rattle.blink_live.proofs.table.SeatsThatStay.{views_stay, counted_stays}
@@ -65,7 +66,8 @@ module _ (plan : Plan) (some_number : 1 ≤ plan.counts.numbers) (s : State ℕ 
     recorded : IsTableAt plan record { words = s.words; homes = s.homes; views = views_then } tree_state
     recorded = owners_change plan s tree_state h h.owners views_then (λ row is. is) (λ number seat holds. refl) all_know
         (let longer : length views_then ≡ length s.views + 1 = length-append s.views (note_of v ∷ []) in omega (arith, longer)) h.nobodys h.pool
-        (λ common. accounts_longer plan h.owners.place h.log s.views (note_of v) (λ account has. let none = has.1 in absurd (omega (arith, none))) none_apart (λ is. absurd (cc)) (h.accounted common)) counted_then
+        (λ common. accounts_longer plan h.owners.place h.log s.views (note_of v) (λ account has. let none = has.1 in absurd (omega (arith, none))) none_apart (λ is. absurd (cc)) (h.accounted common))
+        (λ common. reuse_longer plan h.owners.row s.words s.views (note_of v) refl refl (h.reuse common)) counted_then
 
   -- ---- it is taken
 
@@ -113,6 +115,9 @@ module _ (plan : Plan) (some_number : 1 ≤ plan.counts.numbers) (s : State ℕ 
         let two : length taken ≡ length (set s.views id both) = length-set (set s.views id both) other (spent plan) in
         omega (arith, one, two)) h.nobodys h.pool
         (λ common. accounts_stay plan h.owners.place h.log (set s.views id both) other w (spent plan) there (accounts_stay plan h.owners.place h.log s.views id v both at (h.accounted common) refl ((h.accounted common).saw_own id v at)) (no_accounts w its_role) (λ is. absurd (cc)))
+        (λ common. reuse_without plan h.owners.row s.words (set s.views id both) other w (spent plan) there
+        (reuse_stays plan h.owners.row s.words s.views id v both at (h.reuse common) h.owners.row s.words (λ row is. is) (λ seat r later is apart. is) (λ n few. refl) refl (hand_stays h.owners.row id v both refl refl) (same_reads plan h.owners.row s.words s.views id v both at (h.reuse common) refl refl refl refl))
+        h.owners.row s.words (λ row is. is) (λ seat r later is apart. is) (λ n few. refl) refl refl)
         (counted_stays (set s.views id both) other w (spent plan) there (sym its_role) (sym its.same_plan) (counted_stays s.views id v both at refl refl h.counted))
 
 pub note_keeps_table : (plan : Plan) (id : ℕ) (v : View) → 1 ≤ plan.counts.numbers → Splits (IsTable plan) id v v (note_of v)

@@ -7,7 +7,7 @@ use Rattle.blink_live.specs.Handles.{IsPassOf}
 use Rattle.blink_live.specs.Pendings.{HasBegun, HasRest, IsWaiting}
 use Rattle.blink_live.specs.Updating.{IsUnderWay}
 use Rattle.blink_live.proofs.changed.LatchesAreLeft.{no_latch_waiting}
-use Rattle.blink_live.proofs.changed.PassesSetOut.{can_set_out}
+use Rattle.blink_live.proofs.changed.PassesSetOut.{with_its_shelf, can_set_out}
 use Rattle.blink_live.proofs.table.RefusalsTold.{beside, no_refusal}
 use Rattle.blink_live.proofs.live.Live.begin.Goals as goal
 
@@ -55,7 +55,7 @@ set_out-requires-clause-can_begin c =
 pub set_out-requires-clause-room : goal.set_out-requires-clause-room
 set_out-requires-clause-room c =
     let can = can_set_out c.args.self.now c.args.op c.args.pass c.requires.its_own c.requires.updates c.in_default.ensures.own_key c.in_default.ensures.some_left in
-    c.next_of-room.ensures.room ∙ can.same_room
+    with_its_shelf c.args.op c.args.pass.seat.me.0 c.next_of-room.result (c.next_of-room.ensures.room ∙ can.same_room)
 
 pub set_out-requires-clause-may : goal.set_out-requires-clause-may
 set_out-requires-clause-may c =

@@ -1,7 +1,7 @@
 use Rattle.std.proofs.Common.{Err, ◌∙◌, refl, sym, ap}
 use Rattle.std.proofs.lemmas.Result.{err_from_is_err_and}
 use Rattle.blink_live.proofs.changed.PassesComeBack.{answers_by_share, is_changed, is_whole, knows_its_keys}
-use Rattle.blink_live.proofs.changed.PassesSetOut.{can_set_out}
+use Rattle.blink_live.proofs.changed.PassesSetOut.{with_its_shelf, can_set_out}
 use Rattle.blink_live.proofs.table.RefusalsTold.{no_refusal, passed_on}
 use Rattle.blink_live.proofs.live.Live.change.Goals as goal
 
@@ -38,7 +38,7 @@ update-requires-clause-can_begin g c =
 pub update-requires-clause-room : goal.update-requires-clause-room
 update-requires-clause-room g c =
     let can = can_set_out c.args.self.now c.args.op c.args.pass.now c.requires.its_own c.requires.updates c.in_ok-accepts.ensures.own_key c.in_ok-accepts.ensures.some_left in
-    c.next_of-room.ensures.room ∙ can.same_room
+    with_its_shelf c.args.op c.args.pass.now.seat.me.0 c.next_of-room.result (c.next_of-room.ensures.room ∙ can.same_room)
 
 pub update-requires-clause-may : goal.update-requires-clause-may
 update-requires-clause-may g c =

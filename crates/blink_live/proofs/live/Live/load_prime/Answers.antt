@@ -1,6 +1,7 @@
-use Rattle.std.proofs.Common.{sym, subst, arith}
+use Rattle.std.proofs.Common.{◌≤◌, sym, subst, arith}
 use Rattle.blink_batch.specs.declared.Op.{Op}
 use Rattle.blink_batch.specs.{FitsWords}
+use Rattle.blink_rows.specs.{PlainCounts}
 use Rattle.blink_live.specs.Views.{CanBegin}
 use Rattle.blink_live.proofs.found.OperationBegins.{begins_operation}
 use Rattle.blink_live.proofs.live.Live.load_prime.Goals as goal
@@ -9,5 +10,6 @@ pub load-requires : goal.load-requires
 load-requires g c = (
   c.requires.seat.same_table,
   omega (arith, c.args.self.now.width, c.args.self.now.some_number),
-  begins_operation _ _ _ _ g.B.Begun.op c.requires.seat.role c.requires.idle (subst FitsWords (sym c.requires.picked) c.requires.fits) (subst (λ (o : Op). CanBegin c.args.seat.now.me.0 o) (sym c.requires.picked) c.requires.can_begin),
+  begins_operation _ _ _ _ g.B.Begun.op c.requires.seat.role c.requires.idle (subst FitsWords (sym c.requires.picked) c.requires.fits) (subst (λ (o : Op). CanBegin c.args.seat.now.me.0 o) (sym c.requires.picked) c.requires.can_begin)
+      (subst (λ (counts : PlainCounts). 1 ≤ counts.numbers) c.args.self.now.counts_are c.args.self.now.some_number),
 )

@@ -9,8 +9,8 @@ use Rattle.blink_live.specs.Views.{SeatState, plan_of}
 use Rattle.blink_live.proofs.changed.PublishesKeepTable.{page_is_published}
 use Rattle.blink_live.proofs.live.Live.publish.Goals as goal
 
-pub store-requires : goal.store-requires
-store-requires c =
+pub swap-out-requires : goal.swap-out-requires
+swap-out-requires c =
     let in_range = c.requires.in_range in
     let plan : Plan = plan_of c.args.self.now.table.shared.key in
     let slots : ℕ = c.args.self.now.table.shared.table_id.slots in

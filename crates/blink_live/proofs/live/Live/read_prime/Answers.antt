@@ -1,8 +1,8 @@
-use Rattle.std.proofs.Common.{◌≡◌, ℕ, ◌<◌, List, length, Bool, true, false, ap, sym, ◌∙◌, subst, arith}
+use Rattle.std.proofs.Common.{◌≡◌, ℕ, ◌<◌, ◌≤◌, List, length, Bool, true, false, ap, sym, ◌∙◌, subst, arith}
 use Rattle.std.specs.Bool.{OnTrue, OnFalse}
 use Rattle.std.proofs.lemmas.Bool.{OnTrue_at, OnTrue_from}
 use Rattle.blink_page.specs.declared.limits.TheConstants.{LEVELS}
-use Rattle.blink_rows.specs.{IsPrimeRow}
+use Rattle.blink_rows.specs.{IsPrimeRow, PlainCounts}
 use Rattle.blink_rows.proofs.Offered.{row_has_one_prime}
 use Rattle.blink_machine.specs.{PlainMachine, SeesPrime, WaitsForLevel}
 use Rattle.blink_live.specs.AtomicSteps.{AsksPrime, LoadsPrime}
@@ -15,7 +15,8 @@ pub load-row-requires : goal.load-row-requires
 load-row-requires c = (
   c.requires.seat.same_table,
   omega (arith, c.args.self.now.width, c.args.self.now.some_number),
-  reads_prime_word _ _ _ _ c.args.machine.now c.requires.seat.role c.requires.at c.requires.fits c.requires.needs,
+  reads_prime_word _ _ _ _ c.args.machine.now c.requires.seat.role c.requires.at c.requires.fits c.requires.needs
+      (subst (λ (counts : PlainCounts). 1 ≤ counts.numbers) c.args.self.now.counts_are c.args.self.now.some_number),
 )
 
 -- the prime block that the row's words tell is the one that the page word's load told

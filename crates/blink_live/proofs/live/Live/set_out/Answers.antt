@@ -6,6 +6,6 @@ returns c =
     let descended = c.descend.ensures in record {
       under_way = is_under_way c.args.self.now c.args.op c.args.seat.now c.descend.new.seat c.descend.new.machine c.args.room.now
           (can_update c.args.self.now c.args.op c.args.seat.now c.requires.seat c.requires.updates c.requires.fits c.requires.may c.requires.can_begin descended.rows descended.pages)
-          descended.same_table descended.read descended.at_leaf c.requires.room;
+          descended.same_table descended.read descended.at_leaf c.requires.room c.requires.shelved;
       waits = waits_at_leaf c.args.op _ c.descend.new.machine c.requires.updates descended.at_leaf;
     }

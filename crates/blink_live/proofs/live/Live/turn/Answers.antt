@@ -1,4 +1,4 @@
-use Rattle.std.proofs.Common.{sym, ◌∙◌, subst, arith}
+use Rattle.std.proofs.Common.{sym, ◌∙◌, subst}
 use Rattle.blink_machine.specs.Needs.{TellsNothing}
 use Rattle.blink_live.proofs.changed.LatchesAreLeft.{nearer_done, nearer_page, nearer_prime, no_latch_wanted, stays_unless}
 use Rattle.blink_live.proofs.changed.UpdatesGoOn as on
@@ -47,78 +47,14 @@ let_go-requires c =
       in_range = on.unlatch_in_range is c.in-Unlatch.number needs;
     }
 
-pub write_page-requires : goal.write_page-requires
-write_page-requires c =
-    let is = c.requires.under_way.2 in
-    let needs = sym c.need.ensures ∙ c.in-WritePage.is in record {
-      seat = on.is_its_seat is;
-      at = on.is_its_operation is c.requires.goes_on;
-      fits = on.its_words_fit is;
-      needs = needs;
-      in_range = on.write_in_range is c.in-WritePage.number needs;
-      row = on.row_for_page is c.in-WritePage.number needs;
-      blank = is.updating.left.blank;
-      may = on.may_change is;
-    }
+pub put_page-requires : goal.put_page-requires
+put_page-requires c = record { under_way = c.requires.under_way; goes_on = c.requires.goes_on; needs = sym c.need.ensures ∙ c.in-WritePage.is }
 
-pub write_prime-requires : goal.write_prime-requires
-write_prime-requires c =
-    let is = c.requires.under_way.2 in
-    let needs = sym c.need.ensures ∙ c.in-WritePrime.is in record {
-      seat = on.is_its_seat is;
-      at = on.is_its_operation is c.requires.goes_on;
-      fits = on.its_words_fit is;
-      needs = needs;
-      row = on.row_for_prime is needs;
-      blank = is.updating.left.blank;
-      may = on.may_change is;
-    }
+pub put_prime-requires : goal.put_prime-requires
+put_prime-requires c = record { under_way = c.requires.under_way; goes_on = c.requires.goes_on; needs = sym c.need.ensures ∙ c.in-WritePrime.is }
 
-pub write_new-requires : goal.write_new-requires
-write_new-requires c =
-    let is = c.requires.under_way.2 in
-    let needs = sym c.need.ensures ∙ c.in-WriteNew.is in
-    let number = on.number_for_new is needs in record {
-      seat = on.is_its_seat is;
-      at = on.is_its_operation is c.requires.goes_on;
-      fits = on.its_words_fit is;
-      needs = needs;
-      number = number.0;
-      in_range = (number.1, number.2);
-      row = on.row_for_new is needs;
-      blank = is.updating.left.blank;
-      may = on.may_change is;
-    }
-
-pub overflow_cast-room : goal.overflow_cast-room
-overflow_cast-room c =
-    let number = on.number_for_new c.requires.under_way.2 (sym c.need.ensures ∙ c.in-WriteNew.is) in
-    let most = number.1.1 in
-    omega (arith, most)
-
-pub overflow_add-room : goal.overflow_add-room
-overflow_add-room c =
-    let number = on.number_for_new c.requires.under_way.2 (sym c.need.ensures ∙ c.in-WriteNew.is) in
-    let most = number.1.1 in
-    omega (arith, most)
-
-pub overflow_add-room-in-WriteNew : goal.overflow_add-room-in-WriteNew
-overflow_add-room-in-WriteNew c =
-    let is = c.requires.under_way.2 in
-    let left = on.rows_left is (on.row_for_new is (sym c.need.ensures ∙ c.in-WriteNew.is)).0 in
-    omega (arith, left)
-
-pub overflow_add-room-in-WritePage : goal.overflow_add-room-in-WritePage
-overflow_add-room-in-WritePage c =
-    let is = c.requires.under_way.2 in
-    let left = on.rows_left is (on.row_for_page is c.in-WritePage.number (sym c.need.ensures ∙ c.in-WritePage.is)).0 in
-    omega (arith, left)
-
-pub overflow_add-room-in-WritePrime : goal.overflow_add-room-in-WritePrime
-overflow_add-room-in-WritePrime c =
-    let is = c.requires.under_way.2 in
-    let left = on.rows_left is (on.row_for_prime is (sym c.need.ensures ∙ c.in-WritePrime.is)).0 in
-    omega (arith, left)
+pub put_new-requires : goal.put_new-requires
+put_new-requires c = record { under_way = c.requires.under_way; goes_on = c.requires.goes_on; needs = sym c.need.ensures ∙ c.in-WriteNew.is }
 
 pub returns-in-ReadPrime : goal.returns-in-ReadPrime
 returns-in-ReadPrime c = record {
@@ -151,21 +87,21 @@ returns-in-Unlatch c = record {
 
 pub returns-in-WritePage : goal.returns-in-WritePage
 returns-in-WritePage c = record {
-  under_way = λ op first is. on.after_write_page is c.write_page.ensures.same c.in-WritePage.number c.write_page.ensures.machine c.write_page.ensures.published;
+  under_way = c.put_page.ensures.under_way;
   waits = tt;
-  nearer = nearer_done _ _ 0 (subst TellsNothing (sym (sym c.need.ensures ∙ c.in-WritePage.is)) tt) c.write_page.ensures.machine;
+  nearer = nearer_done _ _ 0 (subst TellsNothing (sym (sym c.need.ensures ∙ c.in-WritePage.is)) tt) c.put_page.ensures.machine;
 }
 
 pub returns-in-WritePrime : goal.returns-in-WritePrime
 returns-in-WritePrime c = record {
-  under_way = λ op first is. on.after_write_prime is c.write_prime.ensures.same c.write_prime.ensures.machine c.write_prime.ensures.published;
+  under_way = c.put_prime.ensures.under_way;
   waits = tt;
-  nearer = nearer_done _ _ 0 (subst TellsNothing (sym (sym c.need.ensures ∙ c.in-WritePrime.is)) tt) c.write_prime.ensures.machine;
+  nearer = nearer_done _ _ 0 (subst TellsNothing (sym (sym c.need.ensures ∙ c.in-WritePrime.is)) tt) c.put_prime.ensures.machine;
 }
 
 pub returns-in-WriteNew : goal.returns-in-WriteNew
 returns-in-WriteNew c = record {
-  under_way = λ op first is. on.after_write_new is c.write_new.ensures.same (sym c.need.ensures ∙ c.in-WriteNew.is) c.write_new.ensures.machine c.write_new.ensures.published;
+  under_way = c.put_new.ensures.under_way;
   waits = tt;
-  nearer = nearer_done _ _ _ (subst TellsNothing (sym (sym c.need.ensures ∙ c.in-WriteNew.is)) tt) c.write_new.ensures.machine;
+  nearer = nearer_done _ _ _ (subst TellsNothing (sym (sym c.need.ensures ∙ c.in-WriteNew.is)) tt) c.put_new.ensures.machine;
 }

@@ -33,6 +33,7 @@ invariant_of-result c =
       idle = again.idle;
       saw_own = c.come_back.ensures.saw_own;
       no_slot = again.no_slot;
+      shelved = again.shelved;
     }
 
 pub returns : goal.returns

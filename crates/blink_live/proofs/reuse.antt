@@ -1,0 +1,5 @@
+pub mod ReuseStaysSafe
+pub mod RowsAreTakenOut
+pub mod StocksChange
+pub mod RowsWait
+pub mod RowsComeIn

@@ -1,0 +1,55 @@
+-- Where a session keeps the rows of its stock between the steps of its operations.
+use Rattle.std.specs.Prelude.{◌≡◌, ℕ, Option, Some, None, List, reverse, ⊤}
+use Rattle.std.specs.Coded.{×_prop, Unit-prop, le_prop}
+use Rattle.std.proofs.Props.{props}
+use Rattle.blink_live.specs.declared.room.Room.{Room}
+use Rattle.blink_live.specs.declared.shelf.Shelf.{Shelf}
+use Rattle.blink_live.specs.declared.view.Stock.{Stock}
+use Rattle.blink_live.specs.declared.view.View.{View}
+use Rattle.blink_live.specs.ComingBack.{takes_in, with_stock}
+use Rattle.blink_live.specs.Views.{IsCommon, SeatState, no_aside, takes_out}
+
+-- the stock whose rows stand on the shelf: what came last is taken first
+abbrev pub stock_of : Shelf → Stock
+stock_of shelf = record {
+  free = reverse shelf.free.items;
+  retired = reverse shelf.retired.items;
+  waiting = reverse shelf.waiting.items;
+  before = shelf.before.items;
+  passed = shelf.passed;
+  aside = no_aside;
+}
+
+-- a session's shelf has its stock; a pass has no shelf
+abbrev pub IsShelved : Option Shelf → View → Type 0
+IsShelved None v = ⊤
+IsShelved (Some shelf) v = IsCommon v.plan × (v.stock ≡ stock_of shelf)
+
+pub IsShelved-prop : (shelf : Option Shelf) (v : View) → IsProp (IsShelved shelf v)
+IsShelved-prop None v = Unit-prop
+IsShelved-prop (Some shelf) v = let same : IsProp (v.stock ≡ stock_of shelf) = hlevel (props) in ×_prop le_prop same
+
+-- but for this row, which the seat has taken out since
+abbrev pub IsShelvedBut : ℕ → Option Shelf → View → Type 0
+IsShelvedBut out None v = ⊤
+IsShelvedBut out (Some shelf) v = IsCommon v.plan × (v.stock ≡ takes_out out (stock_of shelf))
+
+-- the shelf has lent its last free row to the call
+pub record IsLent (row : ℕ) (me then : SeatState) (after : Room) : Type 0 where
+  pub rest : List ℕ
+  pub shelf : Shelf
+  pub is : then ≡ (takes_in me.0 row rest, me.1)
+  pub common : IsCommon me.0.plan
+  pub stock : record me.0.stock { free = rest; aside = no_aside } ≡ stock_of shelf
+  pub same_shelf : after.shelf ≡ Some shelf
+
+-- the seat has another stock, and is else as it was
+pub record HasOtherStock (me then : SeatState) : Type 0 where
+  pub stock : Stock
+  pub is : then ≡ (with_stock me.0 stock, me.1)
+
+-- and so is the room, but for its shelf
+pub record IsSameBesideShelf (room after : Room) : Type 0 where
+  pub rows : after.rows ≡ room.rows
+  pub pages : after.pages ≡ room.pages
+  pub latch_number : after.latch_number ≡ room.latch_number

@@ -1,0 +1,137 @@
+//! How a session brings the rows that it has taken out back onto its shelf.
+ghost use Rattle.std.specs.Prelude.{◌≡◌, ◌+◌, ◌<◌, ◌≤◌, Some, [], IsTrue, length};
+ghost use Rattle.blink_live.specs.Seats.{HasSameNumber, IsPassSeat};
+ghost use Rattle.blink_live.specs.Shelves.{HasOtherStock, IsShelved};
+
+use crate::live::Live;
+use crate::shelf::Shelf;
+use crate::view::View;
+use atomic_table::Seat;
+use std::mem;
+
+impl Live {
+    /// Brings rows that a session has taken out nearer to its free ones. At least `least` rows begin to wait together. They are
+    /// free once each place's session has been found idle, or at another operation than when the wait began. The call waits for
+    /// nobody: it looks at each place once at most, beside the looks with which a wait begins.
+    pub fn recycle(&self, seat: &mut Seat<u8, View>, shelf: &mut Shelf, least: usize)
+        requires seat { IsPassSeat self.now seat.old.table_id seat.old.me }
+        requires shelved { IsShelved (Some shelf.old) seat.old.me.0 }
+        ensures same { HasSameNumber seat.old seat.new }
+        ensures restocked { HasOtherStock seat.old.me seat.new.me }
+        ensures shelved { IsShelved (Some shelf.new) seat.new.me.0 }
+    {
+        if shelf.waiting.is_empty() {
+            if shelf.retired.len() < least {
+                return;
+            }
+            self.start_wait(seat, shelf);
+            self.see_places(seat, shelf);
+        }
+        self.check_places(seat, shelf);
+        if shelf.passed == self.places {
+            self.take_waiting(seat, shelf);
+        }
+    }
+
+    // The rows that were taken out begin to wait.
+    fn start_wait(&self, seat: &mut Seat<u8, View>, shelf: &mut Shelf)
+        requires seat { IsPassSeat self.now seat.old.table_id seat.old.me }
+        requires shelved { IsShelved (Some shelf.old) seat.old.me.0 }
+        requires none_waits { shelf.old.waiting.items ≡ [] }
+        ensures same { HasSameNumber seat.old seat.new }
+        ensures restocked { HasOtherStock seat.old.me seat.new.me }
+        ensures shelved { IsShelved (Some shelf.new) seat.new.me.0 }
+        ensures none_seen { shelf.new.before.items ≡ [] }
+    {
+        mem::swap(&mut shelf.retired, &mut shelf.waiting);
+        shelf.before.clear();
+        shelf.passed = 0;
+        self.begin_wait(seat);
+    }
+
+    // Looks at the mark of each place for the first time.
+    fn see_places(&self, seat: &mut Seat<u8, View>, shelf: &mut Shelf)
+        requires seat { IsPassSeat self.now seat.old.table_id seat.old.me }
+        requires shelved { IsShelved (Some shelf.old) seat.old.me.0 }
+        requires none_seen { shelf.old.before.items ≡ [] }
+        ensures same { HasSameNumber seat.old seat.new }
+        ensures restocked { HasOtherStock seat.old.me seat.new.me }
+        ensures shelved { IsShelved (Some shelf.new) seat.new.me.0 }
+    {
+        for place in 0..self.places {
+            if !self.note_mark(seat, shelf, place) {
+                return;
+            }
+        }
+    }
+
+    // Looks at the mark of one place more for the first time, if there is room to note it.
+    fn note_mark(&self, seat: &mut Seat<u8, View>, shelf: &mut Shelf, place: u64) -> bool
+        requires seat { IsPassSeat self.now seat.old.table_id seat.old.me }
+        requires shelved { IsShelved (Some shelf.old) seat.old.me.0 }
+        requires next { place ≡ length shelf.old.before.items }
+        requires in_range { place < self.now.places }
+        ensures same { HasSameNumber seat.old seat.new }
+        ensures restocked { HasOtherStock seat.old.me seat.new.me }
+        ensures shelved { IsShelved (Some shelf.new) seat.new.me.0 }
+        ensures noted { IsTrue result → length shelf.new.before.items ≡ place + 1 }
+    {
+        if shelf.before.len() == shelf.before.capacity() {
+            return false;
+        }
+        let mark = self.see_place(seat, place);
+        if shelf.before.push(mark).is_err() {
+            unreachable!()
+        }
+        true
+    }
+
+    // Looks at the marks of the places for the second time, until it finds a session that isn't past.
+    fn check_places(&self, seat: &mut Seat<u8, View>, shelf: &mut Shelf)
+        requires seat { IsPassSeat self.now seat.old.table_id seat.old.me }
+        requires shelved { IsShelved (Some shelf.old) seat.old.me.0 }
+        ensures same { HasSameNumber seat.old seat.new }
+        ensures restocked { HasOtherStock seat.old.me seat.new.me }
+        ensures shelved { IsShelved (Some shelf.new) seat.new.me.0 }
+    {
+        for _ in 0..self.places {
+            if !self.find_past(seat, shelf) {
+                return;
+            }
+        }
+    }
+
+    // Looks at the mark of the next place for the second time, and returns whether its session is past.
+    fn find_past(&self, seat: &mut Seat<u8, View>, shelf: &mut Shelf) -> bool
+        requires seat { IsPassSeat self.now seat.old.table_id seat.old.me }
+        requires shelved { IsShelved (Some shelf.old) seat.old.me.0 }
+        ensures same { HasSameNumber seat.old seat.new }
+        ensures restocked { HasOtherStock seat.old.me seat.new.me }
+        ensures shelved { IsShelved (Some shelf.new) seat.new.me.0 }
+    {
+        let place = shelf.passed;
+        if place >= self.places || place as usize >= shelf.before.len() {
+            return false;
+        }
+        let mark = self.check_place(seat, place);
+        if mark != 0 && mark == shelf.before[place as usize] {
+            return false;
+        }
+        shelf.passed = place + 1;
+        true
+    }
+
+    // The rows that waited are free, if there is room for them.
+    fn take_waiting(&self, seat: &mut Seat<u8, View>, shelf: &mut Shelf)
+        requires seat { IsPassSeat self.now seat.old.table_id seat.old.me }
+        requires shelved { IsShelved (Some shelf.old) seat.old.me.0 }
+        requires all_past { shelf.old.passed ≡ self.now.places }
+        ensures same { HasSameNumber seat.old seat.new }
+        ensures restocked { HasOtherStock seat.old.me seat.new.me }
+        ensures shelved { IsShelved (Some shelf.new) seat.new.me.0 }
+    {
+        if shelf.free.append(&mut shelf.waiting).is_ok() {
+            self.collect(seat);
+        }
+    }
+}

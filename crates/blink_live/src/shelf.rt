@@ -1,0 +1,94 @@
+//! Where a session keeps the rows of its stock, and how an operation writes such rows.
+ghost use Rattle.std.specs.Prelude.{◌≡◌, ◌≤◌, IfNone, IfOk, IfSome};
+ghost use Rattle.blink_live.specs.ComingBack.{forgets, with_stock};
+ghost use Rattle.blink_live.specs.Seats.{HasSameNumber, IsPassSeat};
+ghost use Rattle.blink_live.specs.Shelves.{HasOtherStock, IsLent, IsSameBesideShelf, IsShelved, IsShelvedBut, stock_of};
+ghost use Rattle.blink_live.specs.Views.{no_stock};
+ghost use Rattle.blink_live.specs.Words.{IsRowNumber};
+
+use crate::live::Live;
+use crate::room::Room;
+use crate::rule::Forget;
+use crate::view::View;
+use atomic_table::Seat;
+use std::alloc::{AllocError, Global};
+
+/// The rows of a session's stock, and what it has seen of the places while some of them wait. The memory of each list is taken
+/// once.
+#[derive(Drop)]
+pub struct Shelf {
+    /// The rows that no seat reads.
+    pub free: Vec<u64>,
+    /// The rows that were taken out since the waiting ones began to wait.
+    pub retired: Vec<u64>,
+    /// The rows that wait.
+    pub waiting: Vec<u64>,
+    /// The marks of the places as the wait began, from the first place on.
+    pub before: Vec<u64>,
+    /// The number of places, from the first on, whose sessions are past.
+    pub passed: u64,
+}
+
+impl Shelf {
+    /// An empty shelf with room for so many rows of each kind, and for the marks of so many places.
+    pub fn with_room(alloc: Global, rows: usize, places: usize) -> Result<Shelf, AllocError>
+        ensures { IfOk result (λ shelf. stock_of shelf ≡ no_stock) }
+    {
+        Ok(Shelf {
+            free: Vec::with_capacity(alloc, rows)?,
+            retired: Vec::with_capacity(alloc, rows)?,
+            waiting: Vec::with_capacity(alloc, rows)?,
+            before: Vec::with_capacity(alloc, places)?,
+            passed: 0,
+        })
+    }
+}
+
+impl Live {
+    // Takes the shelf's last free row for the call to write, if there is one. The call's other rows are set aside.
+    pub(crate) fn lend(&self, seat: &mut Seat<u8, View>, room: &mut Room) -> Option<u64>
+        requires seat { IsPassSeat self.now seat.old.table_id seat.old.me }
+        requires shelved { IsShelved room.old.shelf seat.old.me.0 }
+        ensures same { HasSameNumber seat.old seat.new }
+        ensures lent { IfSome result (λ row. IsLent row seat.old.me seat.new.me room.new) }
+        ensures in_range { IfSome result (IsRowNumber self.now.counts) }
+        ensures none { IfNone result (seat.new.me ≡ seat.old.me) }
+        ensures shelved { IfNone result (IsShelved room.new.shelf seat.new.me.0) }
+        ensures same_room { IsSameBesideShelf room.old room.new }
+    {
+        let shelf = room.shelf.as_mut()?;
+        let row = shelf.free.pop()?;
+        self.take_row_in(seat);
+        Some(row)
+    }
+
+    // Puts a row that the seat has taken out on the shelf. If the shelf is full, all rows that were taken out since the waiting ones
+    // began to wait are lost.
+    pub(crate) fn keep_out(&self, seat: &mut Seat<u8, View>, room: &mut Room, out: u64)
+        requires seat { IsPassSeat self.now seat.old.table_id seat.old.me }
+        requires shelved { IsShelvedBut out room.old.shelf seat.old.me.0 }
+        ensures same { HasSameNumber seat.old seat.new }
+        ensures restocked { HasOtherStock seat.old.me seat.new.me }
+        ensures shelved { IsShelved room.new.shelf seat.new.me.0 }
+        ensures same_room { IsSameBesideShelf room.old room.new }
+    {
+        let Some(shelf) = room.shelf.as_mut() else {
+            return;
+        };
+        if shelf.retired.len() == shelf.retired.capacity() || shelf.retired.push(out).is_err() {
+            self.forget(seat);
+            shelf.retired.clear();
+        }
+    }
+
+    // Nobody has the rows any more that a session has taken out since the waiting ones began to wait.
+    fn forget(&self, seat: &mut Seat<u8, View>)
+        requires seat { IsPassSeat self.now seat.old.table_id seat.old.me }
+        requires common { 1 ≤ self.now.places }
+        ensures same { HasSameNumber seat.old seat.new }
+        ensures forgotten { seat.new.me
+            ≡ (with_stock seat.old.me.0 (forgets seat.old.me.0.stock), seat.old.me.1) }
+    {
+        self.table.shared.load::<Forget>(seat, 0);
+    }
+}
