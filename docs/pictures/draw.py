@@ -741,7 +741,7 @@ def row_life():
             picture.text(x + wide + gap / 2, top - 10 - 16 * (place % 2), steps[place], size=10.5, fill=BLUE)
     first, last = left + wide / 2, left + 4 * (wide + gap) + wide / 2
     picture.line([(last, top + 62), (last, 150), (first, 150), (first, top + 64)], arrow=True)
-    picture.text((first + last) / 2, 144, "an operation takes it, before it draws from the pool", size=10.5, fill=BLUE)
+    picture.text((first + last) / 2, 144, "an operation takes it before rows that the session drew", size=10.5, fill=BLUE)
     picture.text(left, 184, "A search announces itself before it reads and takes the announcement back after it. It waits for nobody, and reads each row once.", size=11, fill=SOFT, anchor="start")
     picture.save("row-life.svg")
 
