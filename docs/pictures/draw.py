@@ -724,6 +724,27 @@ def fronts():
     picture.text(14, 340, "The record 50 was moved from key 5 to key 11 between two reads, and so it is reported at both.", size=11, fill=SOFT, anchor="start")
     picture.save("fronts.svg")
 
+def row_life():
+    picture = Picture(820, 196)
+    states = [("staged", "words are stored,", "where they differ"), ("named", "one page word", "has its number"), ("retired", "no page word names it;", "somebody may read it"),
+              ("waiting", "each place is", "looked at twice"), ("free", "nobody reads it", "")]
+    steps = ["its number is stored in the page word", "a change swaps it out", "the wait begins", "each session is past"]
+    wide, gap, left, top = 134, 30, 20, 58
+    for place, (name, upper, lower) in enumerate(states):
+        x = left + place * (wide + gap)
+        picture.box(x, top, wide, 62, fill="#dcebf9" if name == "named" else "#f7dcd9" if name in ("retired", "waiting") else "white", round=4)
+        picture.text(x + wide / 2, top + 20, name, bold=True)
+        picture.text(x + wide / 2, top + 38, upper, size=10.5, fill=SOFT)
+        picture.text(x + wide / 2, top + 53, lower, size=10.5, fill=SOFT)
+        if place + 1 < len(states):
+            picture.line([(x + wide + 2, top + 31), (x + wide + gap - 2, top + 31)], arrow=True)
+            picture.text(x + wide + gap / 2, top - 10 - 16 * (place % 2), steps[place], size=10.5, fill=BLUE)
+    first, last = left + wide / 2, left + 4 * (wide + gap) + wide / 2
+    picture.line([(last, top + 62), (last, 150), (first, 150), (first, top + 64)], arrow=True)
+    picture.text((first + last) / 2, 144, "an operation takes it before rows that the session drew", size=10.5, fill=BLUE)
+    picture.text(left, 184, "A search announces itself before it reads and takes the announcement back after it. It waits for nobody, and reads each row once.", size=11, fill=SOFT, anchor="start")
+    picture.save("row-life.svg")
+
 
 # lines that go round what stands between: the column where they go down
 BENT = {("blink_run", "blink_live"): 5.35}
@@ -761,7 +782,7 @@ def main():
     if sys.argv[1:] == ["crates"]:
         print(crates_as_text())
         return
-    for draw in (pages, tree, moving_right, split, posting, overtaking, root_growth, debts, latches, deciding, row, prefixes, one_list, fronts, crates):
+    for draw in (pages, tree, moving_right, split, posting, overtaking, root_growth, debts, latches, deciding, row, prefixes, one_list, fronts, row_life, crates):
         draw()
 
 
