@@ -1,13 +1,14 @@
 -- What a call makes of a session that inserts or replaces.
 use Rattle.std.specs.Prelude.{◌≡◌, ℕ, Option, Some, None, Result, Ok, Err, List, [], ◌∷◌, ◌++◌}
 use mathlib.Core.List.{IsPrefix}
+use Rattle.blink_batch.specs.declared.Op.TheVariants.{Insert}
 use Rattle.blink_batch.specs.{pointer_of}
 use Rattle.blink_live.specs.declared.view.Change.{Change}
 use Rattle.blink_live.specs.Changes.{after}
 use Rattle.blink_map.specs.declared.error.Full.{Full}
 use Rattle.blink_map.specs.declared.map.Map.{Map}
 use Rattle.blink_map.specs.declared.map.Session.{Session}
-use Rattle.blink_map.specs.Sessions.{IsSameMember, made_by, opening_of, place_of, seen_by}
+use Rattle.blink_map.specs.Sessions.{HasRoom, IsSameMember, made_by, opening_of, place_of, seen_by}
 
 -- the session has made no change, and may have seen more
 pub record HasTried (old new : Session) : Type 0 where
@@ -15,6 +16,10 @@ pub record HasTried (old new : Session) : Type 0 where
   pub made : made_by new ≡ made_by old
   pub same_member : IsSameMember old.member new.member
   pub same_places : new.claim.table_id ≡ old.claim.table_id
+
+-- the session has fewer rows or page numbers left than the insertion of an entry may need
+abbrev pub IsShortOfRoom : ℕ → ℕ → Session → Type 0
+IsShortOfRoom key pointer session = ¬ HasRoom (Insert key pointer) session.member.rows session.member.pages
 
 -- a change at a place by which the key has the pointer
 abbrev pub change_to : ℕ → ℕ → ℕ → Change
@@ -34,5 +39,5 @@ pub record IsPut (map : Map) (key pointer : ℕ) (old new : Session) (was : Opti
 -- the session has put the pointer; or it has changed nothing, and was refused or is to try again
 abbrev pub IsTried : Map → ℕ → ℕ → Session → Session → Option (Result (Option ℕ) Full) → Type 0
 IsTried map key pointer old new None = HasTried old new
-IsTried map key pointer old new (Some (Err full)) = HasTried old new
+IsTried map key pointer old new (Some (Err full)) = HasTried old new × IsShortOfRoom key pointer new
 IsTried map key pointer old new (Some (Ok was)) = IsPut map key pointer old new was

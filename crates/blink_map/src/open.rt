@@ -1,5 +1,5 @@
 //! Opening a map over an index.
-ghost use Rattle.std.specs.Prelude.{◌≡◌, ◌⊎◌, ◌↔◌, ◌+◌, ◌++◌, ◌<◌, ◌≤◌, [], ◌∷◌, Some, replicate, IfOk, OnOk, IsErrOf, length};
+ghost use Rattle.std.specs.Prelude.{◌≡◌, ◌⊎◌, ◌↔◌, ◌+◌, ◌++◌, ◌<◌, ◌≤◌, [], ◌∷◌, Some, replicate, IfErr, IfOk, OnOk, IsErrOf, length};
 ghost use Rattle.blink_live.specs.Common.{IsHost};
 ghost use Rattle.blink_live.specs.Shelves.{stock_of};
 ghost use Rattle.blink_live.specs.Views.{no_stock};
@@ -39,6 +39,8 @@ impl Map {
             ↔ ((room.sessions ≡ 0) ⊎ (256 < room.sessions)) }
         ensures too_large { IsErrOf result MapError.TooLarge
             ↔ ((1 ≤ room.sessions) × (room.sessions ≤ 256) × IsTooLarge (length index.now.pages) room) }
+        ensures refused { IfErr result (λ refusal. (refusal ≡ MapError.Sessions)
+            ⊎ ((refusal ≡ MapError.TooLarge) ⊎ (refusal ≡ MapError.OutOfMemory))) }
     {
         if room.sessions == 0 || room.sessions > MAX_SESSIONS {
             return Err(MapError::Sessions);

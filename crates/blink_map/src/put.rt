@@ -1,6 +1,6 @@
 //! Inserting an entry, or replacing the pointer of a key that is there.
 ghost use Rattle.std.specs.Prelude.{IfOk, OnErr};
-ghost use Rattle.blink_map.specs.Putting.{HasTried, IsPut, IsTried};
+ghost use Rattle.blink_map.specs.Putting.{HasTried, IsPut, IsShortOfRoom, IsTried};
 ghost use Rattle.blink_map.specs.Sessions.{IsSessionOf};
 
 use crate::error::Full;
@@ -14,7 +14,8 @@ impl Map {
     /// begins anew where another session has deleted the key between. The call takes no memory. It waits for a page's latch that
     /// another session has, and for a new root that another session is about to make.
     ///
-    /// The call is refused as `insert` and `replace` are. Then it changes nothing.
+    /// The call is refused as `insert` and `replace` are. Then it changes nothing, but for what the session has drawn, and the
+    /// session has less room left than an insertion may need.
     pub fn put<R: Wait>(
         &self,
         rt: &R,
@@ -24,6 +25,7 @@ impl Map {
     ) -> Result<Option<u64>, Full>
         requires its_own { IsSessionOf self.now session.old }
         ensures put { IfOk result (IsPut self.now key pointer session.old session.new) }
+        ensures full { OnErr result (IsShortOfRoom key pointer session.new) }
         ensures unchanged { OnErr result (HasTried session.old session.new) }
     {
         for _ in rt.forever() {
