@@ -10,6 +10,8 @@ mod memory;
 #[cfg(test)]
 mod plain;
 #[cfg(test)]
+mod rows_again;
+#[cfg(test)]
 mod sessions;
 #[cfg(test)]
 mod shared;
