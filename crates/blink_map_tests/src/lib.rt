@@ -10,6 +10,7 @@ mod memory;
 #[cfg(test)]
 mod plain;
 #[cfg(test)]
+mod rows_again;
 mod scanning;
 #[cfg(test)]
 mod sessions;

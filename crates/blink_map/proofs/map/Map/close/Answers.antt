@@ -1,4 +1,4 @@
-use Rattle.std.proofs.Common.{◌≡◌, List, subst}
+use Rattle.std.proofs.Common.{◌≡◌, subst}
 use Rattle.std.specs.Prelude.{All}
 use Rattle.blink_live.specs.declared.view.Account.{Account}
 use Rattle.blink_live.specs.Accounts.{AreApart, made_at}
