@@ -82,6 +82,66 @@ static void looks_up(void) {
     blink_index_free(index);
 }
 
+static void changes_in_place(void) {
+    blink_index index = index_of(4, five, 6);
+    blink_answer answer = {9, 9};
+    CHECK(blink_index_insert(&index, 6, 60, &answer) == BLINK_DONE && answer.kind == BLINK_INSERTED && answer.pointer == 0);
+    CHECK(blink_index_insert(&index, 6, 61, &answer) == BLINK_DONE && answer.kind == BLINK_EXISTS && answer.pointer == 60);
+    blink_index_replace(&index, 6, 62, &answer);
+    CHECK(answer.kind == BLINK_REPLACED && answer.pointer == 60);
+    blink_index_replace(&index, 9, 90, &answer);
+    CHECK(answer.kind == BLINK_ABSENT && answer.pointer == 0);
+    blink_index_delete(&index, 1, &answer);
+    CHECK(answer.kind == BLINK_REMOVED && answer.pointer == 10);
+    blink_index_delete(&index, 1, &answer);
+    CHECK(answer.kind == BLINK_ABSENT);
+    blink_entry entry = {9, 9};
+    CHECK(blink_index_first(&index, &entry) && entry.key == 2 && entry.pointer == 20);
+    CHECK(blink_index_last(&index, &entry) && entry.key == 6 && entry.pointer == 62);
+    CHECK(blink_index_next(&index, 3, &entry) && entry.key == 4 && entry.pointer == 40);
+    CHECK(!blink_index_next(&index, 6, &entry) && entry.key == 4);
+    // the third operation is of no kind, so two are carried out
+    blink_operation all[] = {{BLINK_INSERT, 7, 70}, {BLINK_FIND, 7, 0}, {4, 0, 0}, {BLINK_DELETE, 7, 0}};
+    blink_answer given[4] = {{9, 9}, {9, 9}, {9, 9}, {9, 9}};
+    size_t carried_out = 9;
+    CHECK(blink_index_apply(&index, all, 4, given, 3, &carried_out) == BLINK_WRONG_LENGTH && carried_out == 0);
+    CHECK(blink_index_apply(&index, all, 4, given, 4, &carried_out) == BLINK_UNKNOWN_OPERATION && carried_out == 2);
+    CHECK(given[0].kind == BLINK_INSERTED && given[1].pointer == 70 && given[2].kind == 9 && given[3].kind == 9);
+    CHECK(blink_index_apply(&index, all, 2, given, 2, &carried_out) == BLINK_DONE && carried_out == 2);
+    CHECK(given[0].kind == BLINK_EXISTS && blink_index_len(&index) == 6);
+    blink_index_free(index);
+    CHECK(blink_index_new(4, &index) == BLINK_DONE);
+    CHECK(!blink_index_first(&index, &entry) && !blink_index_last(&index, &entry) && !blink_index_next(&index, 0, &entry));
+    blink_index_free(index);
+}
+
+// Ascending insertions, each with memory refused first: it is asked for once at most, and then the index is as it was.
+static void changes_nothing_without_memory(void) {
+    static uint8_t before[20000], after[20000];
+    size_t bytes_before = 0, bytes_after = 0;
+    blink_index index = {NULL};
+    CHECK(blink_index_new(4, &index) == BLINK_DONE);
+    unsigned refused = 0;
+    for (uint64_t key = 1; key <= 300; key++) {
+        blink_answer answer = {9, 9};
+        CHECK(blink_index_dump(&index, before, sizeof before, &bytes_before) == BLINK_DONE && bytes_before <= sizeof before);
+        refused_at = 0;
+        uint8_t code = blink_index_insert(&index, key, key, &answer);
+        refused_at = -1;
+        if (code == BLINK_DONE)
+            continue;
+        refused++;
+        CHECK(code == BLINK_INDEX_NO_MEMORY && answer.kind == 9);
+        CHECK(blink_index_dump(&index, after, sizeof after, &bytes_after) == BLINK_DONE);
+        CHECK(bytes_after == bytes_before && memcmp(before, after, bytes_before) == 0);
+        refused_at = 1;
+        CHECK(blink_index_insert(&index, key, key, &answer) == BLINK_DONE && answer.kind == BLINK_INSERTED);
+        refused_at = -1;
+    }
+    CHECK(refused > 1 && blink_index_len(&index) == 300);
+    blink_index_free(index);
+}
+
 static void runs_batches(void) {
     blink_index index = index_of(4, five, 6);
     blink_operation all[] = {{BLINK_INSERT, 7, 70}, {BLINK_INSERT, 7, 71}, {BLINK_FIND, 7, 0},     {BLINK_REPLACE, 7, 72},
@@ -574,6 +634,8 @@ static bool uses_memory(void) {
 int main(void) {
     makes_an_index();
     looks_up();
+    changes_in_place();
+    changes_nothing_without_memory();
     runs_batches();
     refuses_at_a_table();
     refuses_in_order();

@@ -5,7 +5,6 @@ use Rattle.blink_batch.specs.declared.Op.{Op}
 use Rattle.blink_batch.specs.{answer_of, answers, map_after, map_after_all}
 use Rattle.blink_index.specs.{IsEditRefusal, map_of}
 use Rattle.blink_index.specs.declared.EditError.{EditError}
-use Rattle.blink_index.specs.declared.EditError.TheVariants
 use Rattle.blink_store.specs.{PlainStore}
 use Rattle.blink_c.specs.declared.raw.RawAnswer.{RawAnswer}
 use Rattle.blink_c.specs.declared.raw.RawEntry.{RawEntry}

@@ -1,10 +1,12 @@
 -- What one operation makes of a tree at rest, in place.
-use Rattle.std.specs.Prelude.{◌≡◌, ◌<◌, ℕ, None, Some, List, length, slice_get}
+use Rattle.std.specs.Prelude.{◌≡◌, ◌+◌, ◌*◌, ◌<◌, ◌≤◌, ℕ, None, Some, List, length, slice_get}
+use Rattle.std.specs.List.{count_by}
 use Rattle.blink_operation.specs.declared.Answer.{Answer}
 use Rattle.blink_operation.specs.declared.Op.{Op}
 use Rattle.blink_operation.specs.declared.Op.TheVariants.{Insert}
-use Rattle.blink_operation.specs.{answer_of, map_after}
+use Rattle.blink_operation.specs.{answer_of, is_insert, map_after}
 use Rattle.blink_page.specs.{ExceedsPageLimit, value_at}
+use Rattle.blink_page.specs.declared.limits.TheConstants.{MAX_NEW_PAGES_PER_INSERT}
 use Rattle.blink_rest.specs.{IsMapOf, IsStoreAtRest}
 use Rattle.blink_store.specs.{IsLeafOf, PlainStore}
 use Rattle.blink_index.specs.declared.error.EditError.{EditError}
@@ -25,6 +27,10 @@ pub record SplitsLeaf (store : PlainStore) (key : ℕ) : Type 0 where
   pub leaf_of : IsLeafOf store number key
   pub absent : value_at key leaf_of.leaf.entries ≡ None
   pub full : length leaf_of.leaf.entries ≡ store.fan
+
+-- the tree has at most so many pages more than before as the insertions among these operations may need
+abbrev pub HasPagesFor : List Op → PlainStore → PlainStore → Type 0
+HasPagesFor ops before after = length after.pages ≤ length before.pages + MAX_NEW_PAGES_PER_INSERT * count_by is_insert ops
 
 -- why an operation may be refused: only an insertion is, if it might need more page numbers than exist, or if it would split a leaf
 abbrev pub IsEditRefusal : PlainStore → Op → EditError → Type 0

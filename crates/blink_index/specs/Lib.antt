@@ -9,7 +9,7 @@ pub use Rattle.blink_index.specs.Dump.{entry_text, text_of_store, words_of}
 -- the entries at the ends of a plain map, and those above a key
 pub use Rattle.blink_index.specs.Ends.{first_of, is_above, last_of}
 -- what one operation makes of a tree at rest, in place
-pub use Rattle.blink_index.specs.Edit.{IsEditRefusal, SplitsLeaf, StopsEdits}
+pub use Rattle.blink_index.specs.Edit.{HasPagesFor, IsEditRefusal, SplitsLeaf, StopsEdits}
 -- the code of each refusal, and the numbers that are no fan
 pub use Rattle.blink_index.specs.Codes.{IsBadFan, code_of, code_of_edit}
 -- laws of the plain map of an index and of its text

@@ -11,6 +11,7 @@ mod memory;
 mod plain;
 #[cfg(test)]
 mod rows_again;
+#[cfg(test)]
 mod scanning;
 #[cfg(test)]
 mod sessions;

@@ -1,11 +1,11 @@
 //! Changes of an index in place, one operation at a time.
-ghost use Rattle.std.specs.Prelude.{◌≡◌, ◌+◌, ◌≤◌, ◌↔◌, [], length, take, vec_capacity, IfErr, IfNone, IfOk, IfSome, IsErrOf, OnErr};
+ghost use Rattle.std.specs.Prelude.{◌≡◌, ◌+◌, ◌≤◌, ◌↔◌, [], ◌∷◌, length, take, vec_capacity, IfErr, IfNone, IfOk, IfSome, IsErrOf, OnErr};
 ghost use Rattle.blink_operation.specs.{answer_of, answers, map_after, map_after_all};
 ghost use Rattle.blink_operation.specs.declared.Op.TheVariants.{Delete, Insert, Replace};
 ghost use Rattle.blink_page.specs.{ExceedsPageLimit};
 ghost use Rattle.blink_page.specs.declared.limits.TheConstants.{MAX_NEW_PAGES_PER_INSERT};
 ghost use Rattle.blink_rest.specs.{IsMapOf};
-ghost use Rattle.blink_index.specs.Edit.{IsEditRefusal, SplitsLeaf, StopsEdits};
+ghost use Rattle.blink_index.specs.Edit.{HasPagesFor, IsEditRefusal, SplitsLeaf, StopsEdits};
 ghost use Rattle.blink_index.specs.Index.{map_of};
 
 use super::Index;
@@ -90,6 +90,7 @@ impl Index {
         ensures map { IfOk result (λ _. map_of self.new ≡ map_after (map_of self.old) op) }
         ensures kept { IsMapOf self.new (map_of self.new) }
         ensures same_fan { self.new.fan ≡ self.old.fan }
+        ensures few_pages { HasPagesFor (op ∷ []) self.old self.new }
         ensures refused { IfErr result (IsEditRefusal self.old op) }
         ensures unchanged { OnErr result (self.new ≡ self.old) }
     {
@@ -115,6 +116,7 @@ impl Index {
             ≡ map_after_all (map_of self.old) (take (length result.answers.items) ops.now) }
         ensures kept { IsMapOf self.new (map_of self.new) }
         ensures same_fan { self.new.fan ≡ self.old.fan }
+        ensures few_pages { HasPagesFor (take (length result.answers.items) ops.now) self.old self.new }
         ensures all { IfNone result.refusal (length result.answers.items ≡ length ops.now) }
         ensures refused { IfSome result.refusal
             (StopsEdits self.new ops.now (length result.answers.items)) }
@@ -139,6 +141,7 @@ impl Index {
             ≡ map_after_all (map_of self.old) (take (length given.new.items) ops.now) }
         ensures kept { IsMapOf self.new (map_of self.new) }
         ensures same_fan { self.new.fan ≡ self.old.fan }
+        ensures few_pages { HasPagesFor (take (length given.new.items) ops.now) self.old self.new }
         ensures all { IfNone result (length given.new.items ≡ length ops.now) }
         ensures refused { IfSome result
             (StopsEdits self.new ops.now (length given.new.items)) }

@@ -38,7 +38,12 @@ fn edits_answer(rt: HostRuntime) {
 fn inserted_to(rt: &impl Abort, alloc: Global, fan: u8, last: u64) -> Index {
     let mut index = given(rt, Index::new(alloc, fan));
     for key in 1..=last {
-        same_for(rt, &given(rt, index.insert(key, key)), &Answer::Inserted, &key);
+        same_for(
+            rt,
+            &given(rt, index.insert(key, key)),
+            &Answer::Inserted,
+            &key,
+        );
     }
     index
 }

@@ -1,4 +1,4 @@
-use Rattle.std.proofs.Common.{◌≡◌, ◌↔◌, ◌∙◌, Option, IsSome, IsTrue, ap, subst}
+use Rattle.std.proofs.Common.{◌↔◌, ◌∙◌, Option, IsSome, IsTrue, ap, subst}
 use Rattle.blink_batch.specs.declared.Entry.{Entry}
 use Rattle.blink_index.specs.{first_of, map_of}
 use Rattle.blink_store.specs.{PlainStore}

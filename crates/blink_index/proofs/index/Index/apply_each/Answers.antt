@@ -4,7 +4,7 @@ use Rattle.blink_operation.specs.declared.Op.TheVariants.{Find}
 use Rattle.blink_store.specs.{PlainStore}
 use Rattle.blink_index.specs.Edit.{IsEditRefusal}
 use Rattle.blink_index.specs.Edit.StopsEdits.{for_next}
-use Rattle.blink_index.proofs.OneOperationMore.{answers-one_more, map_after_all-one_more}
+use Rattle.blink_index.proofs.OneOperationMore.{answers-one_more, map_after_all-one_more, one_more_page_for}
 use Rattle.blink_index.proofs.index.Index.apply_each.Goals as goal
 
 -- one operation more is carried out and answered
@@ -17,6 +17,7 @@ loop-op-preserved c = record {
   carried_out = rw (c.in-Ok.ensures.map, c.loop-op.invariant.carried_out)
       (sym (map_after_all-one_more _ c.args.ops.now c.loop-op.op-index (Find 0) c.loop-op-test.true));
   kept = c.edit.ensures.kept;
+  few_pages = one_more_page_for c.args.ops.now c.loop-op.op-index (Find 0) c.args.self.now c.loop-op.self c.edit.new.self c.loop-op-test.true c.loop-op.invariant.few_pages c.edit.ensures.few_pages;
   same_fan = c.edit.ensures.same_fan ∙ c.loop-op.invariant.same_fan;
 }
 

@@ -1,6 +1,7 @@
 use Rattle.std.proofs.Common.{◌≡◌, ◌≤◌, length, take, vec_capacity}
 use Rattle.blink_operation.specs.{answers, map_after_all}
 use Rattle.blink_rest.specs.{IsMapOf}
+use Rattle.blink_index.specs.Edit.{HasPagesFor}
 use Rattle.blink_index.specs.Index.{map_of}
 use Rattle.blink_index.proofs.index.Index.apply_each.Given as goal
 
@@ -12,5 +13,6 @@ invariant-loop-op l = record {
   room : length l.ops ≤ vec_capacity l.given;
   carried_out : map_of l.self ≡ map_after_all (map_of l.initial.self) (take l.op-index l.ops);
   kept : IsMapOf l.self (map_of l.self);
+  few_pages : HasPagesFor (take l.op-index l.ops) l.initial.self l.self;
   same_fan : l.self.fan ≡ l.initial.self.fan;
 }
