@@ -6,7 +6,7 @@ use Rattle.blink_live.specs.declared.view.Share.{Share}
 use Rattle.blink_live.specs.{IsReport, stop_of}
 use Rattle.blink_live.specs.Accounts.{HasSeenItsOwn}
 use Rattle.blink_live.specs.Views.{SeatState}
-use Rattle.blink_live.proofs.Offered.{first_places, other_places}
+use Rattle.blink_live.proofs.Offered.{first_places, other_places, shelved_so}
 use Rattle.blink_map.proofs.LooksOver.{can_look, has_looked, is_still_its_seat}
 use Rattle.blink_map.proofs.member.Member.scan.Goals as goal
 
@@ -47,6 +47,7 @@ invariant_of-self c =
       idle = ap (λ (x : SeatState). x.0.operation) now ∙ found.idle.idle;
       saw_own = subst HasSeenItsOwn (sym (ap (λ (x : SeatState). x.0) now)) c.mark-2.ensures.saw_own;
       no_slot = ap (λ (x : SeatState). x.1) now ∙ (found.same_slots ∙ (ap (λ (x : SeatState). x.1) marked ∙ old.no_slot));
+      shelved = shelved_so old.shelf old.seat.me.0 c.mark-2.new.seat.me.0 plan (ap (λ (x : SeatState). x.0.stock) now ∙ (found.same_stock ∙ ap (λ (x : SeatState). x.0.stock) marked)) old.shelved;
     }
 
 pub returns-clause-report : goal.returns-clause-report
