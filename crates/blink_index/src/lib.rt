@@ -1,4 +1,4 @@
-//! The index at rest: what a program holds between batches. It is read without a batch.
+//! The index at rest: what a program holds between batches. It is read, and changed in place, without a batch.
 //!
 //! Contracts see an index as its store, the record `PlainStore`, for a layer above that needs its pages. `map_of` of the store
 //! is the plain map, a list of entries in ascending order of their keys, for questions about the entries. The law
