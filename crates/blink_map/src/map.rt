@@ -22,8 +22,8 @@ pub struct Room {
 /// A map from `u64` to `u64`, which any number of threads read and change without a lock, each by sessions of its own.
 ///
 /// A change takes the row of a page's version before out of the tree. The row comes back to its session once no session can still
-/// read it, and is written again. So a map with some rows for each session lives as long as its page numbers last. A session that is
-/// in the midst of one call for so long that another's changes take out 2048 rows meanwhile costs that one half of them.
+/// read it, and is written again. So a map with some rows for each session lives as long as its page numbers last. Where a session
+/// stays in the midst of one call while another's changes take out more than 1024 rows, that one loses these rows.
 #[derive(Drop)]
 pub struct Map {
     pub(crate) live: Live,
