@@ -42,7 +42,7 @@ for program in word_count csv_index session_cache; do
         -o "$work/$program"
 done
 ends_with '10 words, 5 different, "the" 3 times' "$work/word_count" "$work/text"
-ends_with '5: insert,5,50' "$work/csv_index" "$top/examples/scripts/first.csv" 5
+ends_with '5: insert,5,50' "$work/csv_index" "$top/examples/first.csv" 5
 ends_with '200000 requests: each login has ended, or is in the cache' "$work/session_cache"
 
 if ! command -v cargo >/dev/null 2>&1; then

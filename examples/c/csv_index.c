@@ -10,7 +10,7 @@ static void expect(uint8_t code) {
 }
 
 int main(int argc, char **argv) {
-    FILE *file = fopen(argc > 1 ? argv[1] : "../scripts/first.csv", "r");
+    FILE *file = fopen(argc > 1 ? argv[1] : "../first.csv", "r");
     if (!file) return perror("csv_index"), 1;
     char row[1000];
     size_t count = 0, room = 0;

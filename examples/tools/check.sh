@@ -18,7 +18,7 @@ check() {
 
 # Runs the script of this name by threads, with these options and each driver.
 check_run() {
-    script=scripts/$1
+    script=$1
     shift
     for driver in locked live; do
         check "$script" run "$@" --driver $driver
@@ -26,12 +26,12 @@ check_run() {
 }
 
 check_run first --workers 2
-check_run shared_key
-check_run deletions
-check_run replacements
-check_run scans --workers 3 --cut ranges
-check_run pages --workers 2 --fan 4
-check_run splits --workers 3 --fan 4
+check_run scripts/shared_key
+check_run scripts/deletions
+check_run scripts/replacements
+check_run scripts/scans --workers 3 --cut ranges
+check_run scripts/pages --workers 2 --fan 4
+check_run scripts/splits --workers 3 --fan 4
 check tour/half_a_split replay --workers 2 --fan 4 --schedule 1,0,0,0,0,0,0,1,1
 check scripts/waiting replay --workers 3 --fan 4 --schedule 1,1,1,0,0,0,2
 check scripts/replaced replay --workers 2 --fan 4 --schedule 1,1,1,0,0,0,1,1

@@ -19,7 +19,7 @@ if command -v pkg-config >/dev/null; then
     flags=$(PKG_CONFIG_PATH=$top/out pkg-config --cflags --libs blink)
     # shellcheck disable=SC2086
     ${CC:-cc} -std=c11 "$top/examples/c/csv_index.c" $flags -Wl,-rpath,"$top/out" -o "$work/csv_index"
-    [ "$("$work/csv_index" "$top/examples/scripts/first.csv" 5 | tail -n 1)" = "5: insert,5,50" ]
+    [ "$("$work/csv_index" "$top/examples/first.csv" 5 | tail -n 1)" = "5: insert,5,50" ]
 fi
 if command -v valgrind >/dev/null; then
     valgrind -q --leak-check=full --error-exitcode=9 "$work/test"

@@ -1,4 +1,4 @@
-use Rattle.std.proofs.Common.{◌≡◌, Some, length}
+use Rattle.std.proofs.Common.{◌≡◌, Some}
 use Rattle.blink_live.specs.Shelves.{HasOtherStock, IsShelved}
 use Rattle.blink_live.proofs.live.Live.check_places.Given as goal
 
