@@ -20,6 +20,7 @@ ghost use Rattle.blink_map.specs.Sessions.{HasRoom, IsAnswered, IsSameBesideRoom
 use crate::error::Full;
 use crate::map::{Map, Session};
 use crate::member::Member;
+use crate::open::SHELF_ROWS;
 use atomic_table::Seat;
 use blink_batch::{Answer, Op};
 use blink_live::{Live, Room, Shelf, View};
@@ -27,7 +28,7 @@ use blink_machine::Machine;
 use blink_page::MAX_NEW_PAGES_PER_INSERT;
 use blink_rows::{MAX_ROWS_PER_INSERT, Span};
 use std::sync::Wait;
-use std::thread;
+use std::{hint, thread};
 
 // What each session puts into the latch words of pages.
 const LATCH: u64 = 1;
@@ -37,9 +38,15 @@ const ROW_CHUNK: u64 = 1024;
 
 const PAGE_CHUNK: u64 = 512;
 
-// A session with fewer free rows than these lets as many rows wait together, and looks whether those that wait are free. Two looks
-// at each of 256 places are a few loads a change then.
-const FREE_ROWS: usize = 64;
+// As many rows at least wait together, so that two looks at each of 256 places are a few loads a change. A session lets rows wait also
+// while it has free ones: else all its rows would wait at once, and it would need others meanwhile.
+const BATCH_ROWS: usize = 64;
+
+// How many rows that were taken out and don't wait yet are many, where none is free; and how often a session looks again at the places
+// then.
+const MANY_ROWS: usize = 1024;
+
+const LOOKS: u32 = 512;
 
 impl Map {
     /// Adds an entry. It answers `Inserted`, or `Exists` with the pointer that the key has, which stays. The call takes no memory.
@@ -125,7 +132,7 @@ impl Member {
         ensures lacks { ¬ IsTrue result → (¬ HasRoom op self.old.rows self.old.pages)
             × (¬ HasRoom op self.new.rows self.new.pages) }
     {
-        self.recycle(live);
+        self.catch_up(live);
         if self.has_room(op) {
             return true;
         }
@@ -135,7 +142,33 @@ impl Member {
         self.has_room(op)
     }
 
-    // Brings rows that the member's changes have taken out nearer to its free ones, if it has few of these.
+    // Recycles; and does so again for a short while, if the member has taken out many rows meanwhile. So a member that runs ahead of a
+    // session which is held up inside a call slows down, and its shelf isn't soon full.
+    fn catch_up(&mut self, live: &Live)
+        requires its_own { IsMemberOf live.now self.old }
+        ensures drawn { HasDrawn self.old self.new }
+        ensures rows { self.new.rows ≡ self.old.rows }
+        ensures pages { self.new.pages ≡ self.old.pages }
+    {
+        for _ in 0..LOOKS {
+            self.recycle(live);
+            if !self.is_behind() {
+                return;
+            }
+            hint::spin_loop();
+        }
+    }
+
+    // Whether the member has taken out many rows that don't wait yet. Fewer are many where none is free.
+    fn is_behind(&self) -> bool {
+        match &self.shelf {
+            Some(shelf) if shelf.free.is_empty() => shelf.retired.len() >= MANY_ROWS,
+            Some(shelf) => shelf.retired.len() >= SHELF_ROWS / 2,
+            None => false,
+        }
+    }
+
+    // Brings rows that the member's changes have taken out nearer to its free ones.
     fn recycle(&mut self, live: &Live)
         requires its_own { IsMemberOf live.now self.old }
         ensures drawn { HasDrawn self.old self.new }
@@ -150,8 +183,8 @@ impl Member {
             shelf,
         } = self;
         if let Some(shelf) = shelf.as_mut() {
-            if shelf.free.len() < FREE_ROWS {
-                live.recycle(seat, shelf, FREE_ROWS);
+            if has_room_for_next(shelf) {
+                live.recycle(seat, shelf, BATCH_ROWS);
             }
         }
     }
@@ -231,6 +264,16 @@ impl Member {
         *shelf = room.shelf;
         answer
     }
+}
+
+// Whether the shelf has room for the rows that are free next, so that they need no memory.
+fn has_room_for_next(shelf: &Shelf) -> bool {
+    let next = if shelf.waiting.is_empty() {
+        shelf.retired.len()
+    } else {
+        shelf.waiting.len()
+    };
+    shelf.free.len().saturating_add(next) <= SHELF_ROWS
 }
 
 // The number of rows that an operation may need, and of page numbers.

@@ -227,6 +227,30 @@ fn a_map_with_a_dropped_operation_does_not_close() {
 }
 
 #[test]
+fn rows_come_back_while_threads_change_a_map() {
+    const KEYS: u64 = 1_000;
+    const CHANGES: u64 = 400_000;
+    let entries: Vec<Entry> = (0..KEYS).map(|key| Entry { key, pointer: 0 }).collect();
+    // an eighth of the rows that the changes write
+    let map = map_over(&Index::from_entries(32, &entries).unwrap(), 1_000, 200_000, 4);
+    thread::scope(|scope| {
+        for thread in 0..4 {
+            let map = &map;
+            scope.spawn(move || {
+                let mut session = map.session().unwrap();
+                let mut random = thread;
+                for pointer in 0..CHANGES {
+                    let key = next_random(&mut random) % KEYS;
+                    assert!(matches!(session.replace(key, pointer), Ok(Answer::Replaced(_))), "{pointer}");
+                    assert!(session.get((key + 1) % KEYS).is_some());
+                }
+            });
+        }
+    });
+    assert_eq!(map.close().unwrap().len() as u64, KEYS);
+}
+
+#[test]
 fn a_session_of_another_map_is_refused() {
     let index = Index::new(4).unwrap();
     let (one, other) = (map_over(&index, 22, 44, 2), map_over(&index, 22, 44, 2));

@@ -1,22 +1,15 @@
 -- Each operation of the lane is one more, and other lanes' aren't.
-use Rattle.std.proofs.Common.{◌≡◌, ℕ, ◌<◌, true, false, refl, get_or, length, map, count_by, Some, ap, ◌∙◌, arith}
+use Rattle.std.proofs.Common.{◌≡◌, ℕ, ◌<◌, length, map, count_by, Some, ap, ◌∙◌, arith}
 use Rattle.std.specs.List.{slice_get}
 use Rattle.std.proofs.lemmas.Grind.{common_steps}
 use Rattle.std.proofs.lemmas.Option.{slice_get-get_or}
-use Rattle.blink_batch.specs.declared.Op.{Op}
-use Rattle.blink_batch.specs.declared.Op.TheVariants.{Find, Insert}
+use Rattle.blink_batch.specs.declared.Op.TheVariants.{Delete, Find, Insert, Replace}
 use Rattle.blink_batch.specs.{is_insert, key_of}
 use Rattle.blink_run.specs.Lanes.{uses_deletion, lane_ops}
 use Rattle.blink_run.proofs.NeedsOfLane.{needed_from_gathered}
 use Rattle.blink_run.proofs.LaneSoFar.{lane_so_far, lane_so_far-own, lane_so_far-other, lane_so_far-all}
-use Rattle.blink_run.proofs.live.needs.Needs.of.Goals.{then-lanes-place+in_ok-push+in-Find, then-lanes-place+in_ok-push+in-Insert, then-lanes-place+in_ok-push+in_default, else-lanes-place}
+use Rattle.blink_run.proofs.live.needs.Needs.of.Goals.{then-lanes-place+in_ok-push+in-Find, then-lanes-place+in_ok-push+in-Insert, then-lanes-place+in_ok-push+in-Delete, then-lanes-place+in_ok-push+in-Replace, else-lanes-place}
 use Rattle.blink_run.proofs.live.needs.Needs.of.Goals as goal
-
--- an operation that is no search and no insertion uses a deletion
-others_use_deletion : (op : Op) → ((key : ℕ) → op ≡ Find key → ⊥) → ((key pointer : ℕ) → op ≡ Insert key pointer → ⊥) → (is_insert op ≡ false) × (uses_deletion op ≡ true)
-others_use_deletion (Find key) find insert = absurd (find key refl)
-others_use_deletion (Insert key pointer) find insert = absurd (insert key pointer refl)
-others_use_deletion op find insert = (refl, refl)
 
 pub loop-place-preserved : goal.loop-place-preserved
 loop-place-preserved c =
@@ -39,13 +32,18 @@ loop-place-preserved c =
           let own : slice_get lanes place ≡ Some worker = slice_get-get_or lanes place 0 within_lanes ∙ ap Some w.if-lanes-place.true in
           let more = lane_so_far-own ops lanes worker place op there own in
           grind (arith, common_steps, more)
-      | then-lanes-place+in_ok-push+in_default w ↦
-          let op = get_or ops place (Find 0) in
-          let there : slice_get ops place ≡ Some op = slice_get-get_or ops place (Find 0) within in
+      | then-lanes-place+in_ok-push+in-Delete w ↦
+          let op = Delete w.in-Delete.field-0 in
+          let there : slice_get ops place ≡ Some op = slice_get-get_or ops place (Find 0) within ∙ ap Some w.in-Delete.is in
           let own : slice_get lanes place ≡ Some worker = slice_get-get_or lanes place 0 within_lanes ∙ ap Some w.if-lanes-place.true in
           let more = lane_so_far-own ops lanes worker place op there own in
-          let kind = others_use_deletion op w.in_default.not-Find w.in_default.not-Insert in
-          grind (arith, common_steps, more, kind.0, kind.1)
+          grind (arith, common_steps, more)
+      | then-lanes-place+in_ok-push+in-Replace w ↦
+          let op = Replace w.in-Replace.field-0 w.in-Replace.field-1 in
+          let there : slice_get ops place ≡ Some op = slice_get-get_or ops place (Find 0) within ∙ ap Some w.in-Replace.is in
+          let own : slice_get lanes place ≡ Some worker = slice_get-get_or lanes place 0 within_lanes ∙ ap Some w.if-lanes-place.true in
+          let more = lane_so_far-own ops lanes worker place op there own in
+          grind (arith, common_steps, more)
       | else-lanes-place w ↦
           let same = lane_so_far-other ops lanes worker place within_lanes w.if-lanes-place.false in
           grind (arith, common_steps, same)
