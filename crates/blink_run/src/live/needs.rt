@@ -40,7 +40,8 @@ impl Needs {
                 match op {
                     Op::Find(_) => {}
                     Op::Insert(..) => inserts += 1,
-                    Op::Delete(_) | Op::Replace(..) => deletes += 1,
+                    Op::Delete(_) => deletes += 1,
+                    Op::Replace(..) => deletes += 1,
                 }
             }
         }
