@@ -46,7 +46,7 @@ const BATCH_ROWS: usize = 64;
 // then.
 const MANY_ROWS: usize = 1024;
 
-const LOOKS: u32 = 512;
+const LOOKS: u32 = 1024;
 
 impl Map {
     /// Adds an entry. It answers `Inserted`, or `Exists` with the pointer that the key has, which stays. The call takes no memory.

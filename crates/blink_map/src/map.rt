@@ -22,8 +22,9 @@ pub struct Room {
 /// A map from `u64` to `u64`, which any number of threads read and change without a global lock, each by sessions of its own.
 ///
 /// A change takes the row of a page's version before out of the tree. The row comes back to its session once no session can still
-/// read it, and is written again. So a map with a thousand rows for each session takes changes as long as its page numbers last.
-/// Where a session stays in the midst of one call while another's changes take out more than 16,384 rows, that one loses these rows.
+/// read it, and is written again. So a map with a thousand rows for each session, or 14,000 where threads are more than cores, takes
+/// changes as long as its page numbers last. Where a session stays in the midst of one call, others slow down once their changes have
+/// taken out many rows, and lose what they take out beyond 4,096.
 #[derive(Drop)]
 pub struct Map {
     pub(crate) live: Live,

@@ -26,7 +26,7 @@ pub const MAX_SESSIONS: u32 = 256;
 
 // The number of rows of each kind that the shelf of a place has room for: those that a session's changes take out while another
 // session is in the midst of one call.
-pub(crate) const SHELF_ROWS: usize = 16_384;
+pub(crate) const SHELF_ROWS: usize = 4096;
 
 impl Map {
     /// Opens a map over the index's tree. The index stays as it is. Sessions draw the rows and page numbers of `room` from a pool.
