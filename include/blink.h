@@ -276,11 +276,10 @@ void blink_pass_free(blink_pass pass);
  * numbers, and every write of a page one of `rows` rows. An insertion writes one page mostly, and has to have 22 numbers and 44 rows
  * when it begins; a deletion or a replacement has to have one row. Sessions draw both from the map's pool, at most 512 numbers and
  * 1,024 rows at once; what one draws no other gets, before its place is taken again. Tested: a row that a write replaces comes back to
- * its session, once no session is in a call that began before. So a thousand rows a session last, or 14,000 where threads are more than
- * cores and are held up inside calls. `number` is one that no other map of the
- * process has while it or a session of it lives: by it sessions of two maps are told apart. Refused: BLINK_BAD_SESSIONS, exactly if
- * there are to be none or more than 256; then BLINK_MAP_TOO_LARGE, exactly if the index's pages and `pages` are above 1,048,575;
- * BLINK_MAP_NO_MEMORY. */
+ * its session, once each session has been seen between two calls since. So a thousand rows a session last, or 14,000 where threads are
+ * more than cores and are held up inside calls. `number` is one that no other map of the process has while it or a session of it lives:
+ * by it sessions of two maps are told apart. Refused: BLINK_BAD_SESSIONS, exactly if there are to be none or more than 256; then
+ * BLINK_MAP_TOO_LARGE, exactly if the index's pages and `pages` are above 1,048,575; BLINK_MAP_NO_MEMORY. */
 uint8_t blink_map_open(blink_index *index, uint32_t pages, uint32_t rows, uint32_t sessions, uint64_t number, blink_map *out);
 
 /* Gives one more handle of the map. Threads that each have one call at the same time: one joins without waiting for another. It takes

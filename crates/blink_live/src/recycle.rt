@@ -11,8 +11,8 @@ use std::mem;
 
 impl Live {
     /// Brings rows that a session has taken out nearer to its free ones. At least `least` rows begin to wait together. They are
-    /// free once each place's session has been found idle, or at another operation than when the wait began. The call waits for
-    /// nobody: it looks at each place once at most, beside the looks with which a wait begins.
+    /// free once each place has been found with no mark at one of two looks, of which the first stands where the wait begins. The
+    /// call waits for nobody: it looks at each place once at most, beside the first looks.
     pub fn recycle(&self, seat: &mut Seat<u8, View>, shelf: &mut Shelf, least: usize)
         requires seat { IsPassSeat self.now seat.old.table_id seat.old.me }
         requires shelved { IsShelved (Some shelf.old) seat.old.me.0 }

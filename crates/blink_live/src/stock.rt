@@ -41,8 +41,8 @@ impl Live {
             .load::<SeePlace>(seat, start + PLACE_WORDS * place as usize)
     }
 
-    /// Looks at the mark of a place for the second time, and returns it. The session of the place is past if it is idle, or if it
-    /// has begun another operation since. The places come in their order.
+    /// Looks at the mark of a place for the second time, and returns it. The session of the place is past if the place has no mark
+    /// now, or another one than at the first look. The places come in their order.
     pub fn check_place(&self, seat: &mut Seat<u8, View>, place: u64) -> u64
         requires seat { IsPassSeat self.now seat.old.table_id seat.old.me }
         requires next { place ≡ seat.old.me.0.stock.passed }

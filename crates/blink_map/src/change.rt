@@ -159,11 +159,13 @@ impl Member {
         }
     }
 
-    // Whether the member has taken out many rows that don't wait yet. Fewer are many where none is free.
+    // Whether the member has taken out many rows that don't wait yet. Fewer are many where none is free. Where the next ones have no
+    // room, a look at the places brings nothing.
     fn is_behind(&self) -> bool {
         match &self.shelf {
             Some(shelf) if shelf.free.is_empty() => shelf.retired.len() >= MANY_ROWS,
-            Some(shelf) => shelf.retired.len() >= SHELF_ROWS / 2,
+            Some(shelf) if has_room_for_next(shelf) => shelf.retired.len() >= SHELF_ROWS / 2,
+            Some(_) => false,
             None => false,
         }
     }

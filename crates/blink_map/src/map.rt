@@ -24,7 +24,7 @@ pub struct Room {
 /// A change takes the row of a page's version before out of the tree. The row comes back to its session once no session can still
 /// read it, and is written again. So a map with a thousand rows for each session, or 14,000 where threads are more than cores, takes
 /// changes as long as its page numbers last. Where a session stays in the midst of one call, others slow down once their changes have
-/// taken out many rows, and lose what they take out beyond 4,096.
+/// taken out many rows. One that has taken out 4,096 rows which don't wait yet loses them all with the next.
 #[derive(Drop)]
 pub struct Map {
     pub(crate) live: Live,
