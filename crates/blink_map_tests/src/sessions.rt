@@ -3,18 +3,24 @@ use crate::shared::Two;
 use blink_batch::{Answer, Op};
 use blink_index::Index;
 use blink_map::{Full, Map, MapError, Room};
+use std::alloc::Global;
 use std::process::Abort;
+use std::sync::Wait;
+
+// Of two sessions one has inserted a key, and then the other has replaced its pointer.
+fn with_replaced_key<R: Abort + Wait>(rt: &R, alloc: Global) -> Two {
+    let mut two = Two::open(rt, alloc, 200, 2000);
+    assert_eq!(rt; two.insert(rt, 7, 70), Ok(Answer::Inserted));
+    assert_eq!(rt; two.find(7), Some(70));
+    let mut two = two.turn();
+    assert_eq!(rt; two.insert(rt, 7, 71), Ok(Answer::Exists(70)));
+    assert_eq!(rt; two.replace(rt, 7, 72), Ok(Answer::Replaced(70)));
+    two.turn()
+}
 
 #[test]
 fn sessions_change_one_key(rt: HostRuntime) {
-    let alloc = rt.alloc();
-    let mut two = Two::open(&rt, alloc, 200, 2000);
-    assert_eq!(&rt; two.insert(&rt, 7, 70), Ok(Answer::Inserted));
-    assert_eq!(&rt; two.find(7), Some(70));
-    let mut two = two.turn();
-    assert_eq!(&rt; two.insert(&rt, 7, 71), Ok(Answer::Exists(70)));
-    assert_eq!(&rt; two.replace(&rt, 7, 72), Ok(Answer::Replaced(70)));
-    let mut two = two.turn();
+    let mut two = with_replaced_key(&rt, rt.alloc());
     two.tell();
     assert_eq!(&rt; two.find(7), Some(72));
     assert_eq!(&rt; two.delete(&rt, 7), Ok(Answer::Removed(72)));
