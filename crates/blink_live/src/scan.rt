@@ -1,8 +1,9 @@
 //! Scans: the entries of a range of keys in ascending order, while other passes change the tree.
 //!
 //! A scan goes from leaf to leaf. For each leaf it descends anew, with a find for the first key that it hasn't covered. The load of
-//! the leaf's page word tells the seat the state of each key from there to the leaf's high key, and the row that it names never
-//! changes. So the entries of one leaf are those of one time; those of the leaf to the right are of a later one.
+//! the leaf's page word tells the seat the state of each key from there to the leaf's high key, and nobody stores to the row that it
+//! names while the scan reads there. So the entries of one leaf are those of one time; those of the leaf to the right are of a later
+//! one.
 ghost use Rattle.std.specs.Prelude.{◌≡◌, ◌+◌, ◌<◌, ◌≤◌, List, IfSome, length, take, drop};
 ghost use Rattle.blink_batch.specs.declared.Entry.{Entry};
 ghost use Rattle.blink_live.specs.Finding.{IsIdle};
