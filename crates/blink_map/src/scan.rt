@@ -1,10 +1,9 @@
 //! Scans: the entries of a range of keys in ascending order, while other sessions change the map.
 ghost use Rattle.std.specs.Prelude.{◌≡◌, ◌≤◌, IfSome, drop, length, take};
-ghost use Rattle.blink_live.specs.Handles.{opening_of as opening_of_table};
 ghost use Rattle.blink_live.specs.{IsReport, StoppedFull, stop_of};
-ghost use Rattle.blink_map.specs.Finding.{HasLooked};
+ghost use Rattle.blink_map.specs.Finding.{HasLooked, HasReported};
 ghost use Rattle.blink_map.specs.Places.{IsMemberOf};
-ghost use Rattle.blink_map.specs.Sessions.{IsSameBesideSeen, IsSessionOf, opening_of, seen_by, seen_of_member};
+ghost use Rattle.blink_map.specs.Sessions.{IsSameBesideSeen, IsSessionOf, opening_of, seen_by};
 
 use crate::map::{Map, Session};
 use crate::member::Member;
@@ -43,7 +42,7 @@ impl Member {
     // Scans a range of the tree. While it does, the member's place is marked.
     fn scan(&mut self, live: &Live, lo: u64, hi: u64, into: &mut [Entry]) -> Scanned
         requires its_own { IsMemberOf live.now self.old }
-        ensures report { IsReport (opening_of_table live.now) (seen_of_member self.old) (seen_of_member self.new)
+        ensures report { HasReported live.now self.old self.new
             lo (stop_of hi result.next) (take result.filled into.new) }
         ensures stopped { IfSome result.next (StoppedFull lo hi (length into.old) result.filled) }
         ensures filled { result.filled ≤ length into.old }
