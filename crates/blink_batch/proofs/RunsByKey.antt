@@ -5,7 +5,7 @@ use Rattle.std.proofs.lemmas.Bool.Decides.{nat_tests}
 use Rattle.std.specs.List.{AllByRecursion, zip, filter}
 use Rattle.blink_operation.specs.declared.entry.Entry.{Entry}
 use Rattle.blink_operation.specs.declared.operation.Op.{Op}
-use Rattle.blink_operation.specs.declared.operation.Op.TheVariants.{Find, Insert, Delete, Replace}
+use Rattle.blink_operation.specs.declared.operation.Op.TheVariants.{Find, Insert, Delete, Replace, Exchange}
 use Rattle.blink_operation.specs.declared.operation.Answer.{Answer}
 use Rattle.blink_operation.specs.PlainMap.{entry, IsAscending, pointer_of, added, removed, replaced}
 use Rattle.blink_operation.specs.Operation.{key_of, answer_at, cell_after, map_at, answer_of, map_after, answers, map_after_all}
@@ -59,6 +59,11 @@ pointer_of-map_after_own m (Find key) k own = refl
 pointer_of-map_after_own m (Insert key p) k own = subst (λ (q : ℕ). pointer_of (map_after m (Insert key p)) q ≡ cell_after (Insert key p) (pointer_of m q)) own ((elim (pointer_of m key) as (λ kept. pointer_of m key ≡ kept → pointer_of (map_at (Insert key p) kept m) key ≡ cell_after (Insert key p) kept) [ Some there ↦ λ h. h | None ↦ λ h. pointer_of-added m key p h ]) refl)
 pointer_of-map_after_own m (Delete key) k own = subst (λ (q : ℕ). pointer_of (map_after m (Delete key)) q ≡ None) own ((elim (pointer_of m key) as (λ kept. pointer_of m key ≡ kept → pointer_of (map_at (Delete key) kept m) key ≡ None) [ Some there ↦ λ h. pointer_of-removed m key | None ↦ λ h. h ]) refl)
 pointer_of-map_after_own m (Replace key p) k own = subst (λ (q : ℕ). pointer_of (map_after m (Replace key p)) q ≡ cell_after (Replace key p) (pointer_of m q)) own ((elim (pointer_of m key) as (λ kept. pointer_of m key ≡ kept → pointer_of (map_at (Replace key p) kept m) key ≡ cell_after (Replace key p) kept) [ Some there ↦ λ h. pointer_of-replaced m key p there h | None ↦ λ h. h ]) refl)
+pointer_of-map_after_own m (Exchange key e p) k own = subst (λ (q : ℕ). pointer_of (map_after m (Exchange key e p)) q ≡ cell_after (Exchange key e p) (pointer_of m q)) own
+    ((elim (pointer_of m key) as (λ kept. pointer_of m key ≡ kept → pointer_of (map_at (Exchange key e p) kept m) key ≡ cell_after (Exchange key e p) kept) [
+      | Some there ↦ λ h. elim (cases_eq there e) [ inl same ↦ rw (eq-eqb there e same) (pointer_of-replaced m key p there h) | inr other ↦ rw (ne_eqb there e other) h ]
+      | None ↦ λ h. h
+    ]) refl)
 
 -- and leaves every other key alone
 pub pointer_of-map_after_other : (m : List Entry) (op : Op) (k : ℕ) → (key_of op ≡ k → ⊥) → pointer_of (map_after m op) k ≡ pointer_of m k
@@ -66,6 +71,10 @@ pointer_of-map_after_other m (Find key) k other = refl
 pointer_of-map_after_other m (Insert key p) k other = elim (pointer_of m key) as (λ kept. pointer_of (map_at (Insert key p) kept m) k ≡ pointer_of m k) [ Some there ↦ refl | None ↦ pointer_of-added_elsewhere m key p k other ]
 pointer_of-map_after_other m (Delete key) k other = elim (pointer_of m key) as (λ kept. pointer_of (map_at (Delete key) kept m) k ≡ pointer_of m k) [ Some there ↦ pointer_of-removed_elsewhere m key k other | None ↦ refl ]
 pointer_of-map_after_other m (Replace key p) k other = elim (pointer_of m key) as (λ kept. pointer_of (map_at (Replace key p) kept m) k ≡ pointer_of m k) [ Some there ↦ pointer_of-replaced_elsewhere m key p k other | None ↦ refl ]
+pointer_of-map_after_other m (Exchange key e p) k other = elim (pointer_of m key) as (λ kept. pointer_of (map_at (Exchange key e p) kept m) k ≡ pointer_of m k) [
+  | Some there ↦ elim (cases_eq there e) [ inl same ↦ rw (eq-eqb there e same) (pointer_of-replaced_elsewhere m key p k other) | inr differs ↦ rw (ne_eqb there e differs) refl ]
+  | None ↦ refl
+]
 
 -- ---- ascending keys
 
@@ -121,6 +130,10 @@ IsAscending-map_after m (Find key) ascending = ascending
 IsAscending-map_after m (Insert key p) ascending = (elim (pointer_of m key) as (λ kept. pointer_of m key ≡ kept → IsAscending (map_at (Insert key p) kept m)) [ Some there ↦ λ h. ascending | None ↦ λ h. IsAscending-added m key p h ascending ]) refl
 IsAscending-map_after m (Delete key) ascending = elim (pointer_of m key) as (λ kept. IsAscending (map_at (Delete key) kept m)) [ Some there ↦ IsAscending-removed m key ascending | None ↦ ascending ]
 IsAscending-map_after m (Replace key p) ascending = elim (pointer_of m key) as (λ kept. IsAscending (map_at (Replace key p) kept m)) [ Some there ↦ IsAscending-replaced m key p ascending | None ↦ ascending ]
+IsAscending-map_after m (Exchange key e p) ascending = elim (pointer_of m key) as (λ kept. IsAscending (map_at (Exchange key e p) kept m)) [
+  | Some there ↦ elim (cases_eq there e) [ inl same ↦ rw (eq-eqb there e same) (IsAscending-replaced m key p ascending) | inr differs ↦ rw (ne_eqb there e differs) ascending ]
+  | None ↦ ascending
+]
 
 -- and so does a run of them
 pub IsAscending-map_after_all : (m : List Entry) (ops : List Op) → IsAscending m → IsAscending (map_after_all m ops)

@@ -127,5 +127,6 @@ fn is_insert(op: &Op) -> bool
         Op::Insert(_key, _pointer) => true,
         Op::Delete(_key) => false,
         Op::Replace(_key, _pointer) => false,
+        Op::Exchange(_key, _expected, _pointer) => false,
     }
 }

@@ -1,6 +1,7 @@
 //! The plain map of one thread.
 ghost use Rattle.std.specs.Prelude.{◌≡◌, ℕ, [], List, Option, Some, None, IsOk, IfOk, IfErr, OnOk, OnErr, MatchResult, take};
 ghost use Rattle.blink_operation.specs.declared.entry.Entry.{Entry};
+ghost use Rattle.blink_operation.specs.declared.operation.Op.TheVariants.{Exchange};
 ghost use Rattle.blink_batch.specs.Search.{IsPlaceOf, IsGapFor};
 ghost use Rattle.blink_operation.specs.PlainMap.{IsAscending, pointer_of, replaced};
 ghost use Rattle.blink_operation.specs.Operation.{AddsEntry, StopsForMemory, answer_of, map_after, answers, map_after_all};
@@ -56,6 +57,10 @@ impl Plain {
                 Ok(Answer::Replaced(self.replace_at(at, key, pointer)))
             }
             (Op::Replace(_, _), Err(_)) => Ok(Answer::Absent),
+            (Op::Exchange(key, expected, pointer), Ok(at)) => {
+                Ok(self.exchange_at(at, key, expected, pointer))
+            }
+            (Op::Exchange(_, _, _), Err(_)) => Ok(Answer::Absent),
         }
     }
 
@@ -94,6 +99,19 @@ impl Plain {
         let before = self.entries[at].pointer;
         self.entries[at] = Entry { key, pointer };
         before
+    }
+
+    // Replaces the pointer of the key, which stands at the place, if it is the expected one.
+    fn exchange_at(&mut self, at: usize, key: u64, expected: u64, pointer: u64) -> Answer
+        requires place { IsPlaceOf self.old key at }
+        ensures answer { result ≡ answer_of self.old (Exchange key expected pointer) }
+        ensures map { self.new ≡ map_after self.old (Exchange key expected pointer) }
+    {
+        let before = self.entries[at].pointer;
+        if before != expected {
+            return Answer::Exists(before);
+        }
+        Answer::Replaced(self.replace_at(at, key, pointer))
     }
 
     // The place of the key, or the place where it would go.

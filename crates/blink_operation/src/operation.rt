@@ -15,6 +15,8 @@ pub enum Op {
     Delete(u64),
     /// Replaces the pointer of a key, if the key is present.
     Replace(u64, u64),
+    /// Replaces the pointer of a key, if it is the expected one: the key, the pointer expected, and the new one.
+    Exchange(u64, u64, u64),
 }
 
 impl Op {
@@ -27,6 +29,7 @@ impl Op {
             Op::Insert(key, _) => key,
             Op::Delete(key) => key,
             Op::Replace(key, _) => key,
+            Op::Exchange(key, _, _) => key,
         }
     }
 
@@ -35,7 +38,7 @@ impl Op {
         ensures { result ≡ pointer_with self.now }
     {
         match *self {
-            Op::Insert(_, pointer) | Op::Replace(_, pointer) => pointer,
+            Op::Insert(_, pointer) | Op::Replace(_, pointer) | Op::Exchange(_, _, pointer) => pointer,
             Op::Find(_) | Op::Delete(_) => 0,
         }
     }
@@ -50,7 +53,14 @@ impl Op {
             (Op::Insert(..), None) => Answer::Inserted,
             (Op::Delete(_), Some(pointer)) => Answer::Removed(pointer),
             (Op::Replace(..), Some(pointer)) => Answer::Replaced(pointer),
-            (Op::Find(_) | Op::Delete(_) | Op::Replace(..), None) => Answer::Absent,
+            (Op::Exchange(_, expected, _), Some(pointer)) => {
+                if pointer == expected {
+                    Answer::Replaced(pointer)
+                } else {
+                    Answer::Exists(pointer)
+                }
+            }
+            (Op::Find(_) | Op::Delete(_) | Op::Replace(..) | Op::Exchange(..), None) => Answer::Absent,
         }
     }
 }
@@ -64,11 +74,12 @@ pub enum Answer {
     Absent,
     /// An insertion: the key now has the pointer.
     Inserted,
-    /// An insertion: the key had this pointer, and nothing changed.
+    /// An insertion: the key had this pointer, and nothing changed. An exchange: the key had this pointer, which isn't the
+    /// expected one, and nothing changed.
     Exists(u64),
     /// A deletion: the key had this pointer, and is absent now.
     Removed(u64),
-    /// A replacement: the key had this pointer, and has the new one now.
+    /// A replacement or an exchange: the key had this pointer, and has the new one now.
     Replaced(u64),
 }
 

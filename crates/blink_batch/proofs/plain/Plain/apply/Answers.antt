@@ -121,3 +121,16 @@ returns-in-Replace-Err-clause-map c =
     let gap = rw c.in-Replace-Err.is-1 at c.place-place.ensures.gap in
     let absent = pointer_of-gap _ _ _ gap in
     rw c.in-Replace-Err.is-0 (rw (rw (c.key.ensures, c.in-Replace-Err.is-0) at absent) refl)
+
+-- there is nothing to exchange
+pub returns-in-Exchange-Err-clause-answer : goal.returns-in-Exchange-Err-clause-answer
+returns-in-Exchange-Err-clause-answer c =
+    let gap = rw c.in-Exchange-Err.is-1 at c.place-place.ensures.gap in
+    let absent = pointer_of-gap _ _ _ gap in
+    rw c.in-Exchange-Err.is-0 (rw (rw (c.key.ensures, c.in-Exchange-Err.is-0) at absent) refl)
+
+pub returns-in-Exchange-Err-clause-map : goal.returns-in-Exchange-Err-clause-map
+returns-in-Exchange-Err-clause-map c =
+    let gap = rw c.in-Exchange-Err.is-1 at c.place-place.ensures.gap in
+    let absent = pointer_of-gap _ _ _ gap in
+    rw c.in-Exchange-Err.is-0 (rw (rw (c.key.ensures, c.in-Exchange-Err.is-0) at absent) refl)
