@@ -1,4 +1,5 @@
 pub mod WhatJobsAreAbout
+pub mod PointersReplaced
 pub mod LevelsOfJobs
 pub mod StatesByNeed
 pub mod PageAtWork

@@ -1,6 +1,5 @@
 -- The page that an operation has read under its latch, and that page with the operation's change.
 use Rattle.std.proofs.Common.{◌≡◌, ℕ, ◌+◌, ◌<◌, ◌≤◌, Option, Some, None, length, refl, sym, ap, subst, ◌∙◌, arith}
-use Rattle.blink_operation.specs.{FitsWords}
 use Rattle.blink_page.specs.{value_at, IsPageNumber, PlainPage, IsLawfulPage, with_entries, lower_half, upper_half}
 use Rattle.blink_page.specs.declared.limits.TheConstants.{GREATEST_KEY}
 use Rattle.blink_page.proofs.Offered.{lawful_entries_with, lawful_lower, lawful_removed, lawful_replaced, lawful_upper, lawful_with_room, length-entries_with}
@@ -18,6 +17,7 @@ use Rattle.blink_machine.specs.Table.{IsChange, IsFullFor, overfull}
 use Rattle.blink_machine.specs.Tree.{BeginsBelow}
 use Rattle.blink_machine.specs.TreeWithDebts.{Levels}
 use Rattle.blink_machine.proofs.tree.TreeStatements.{TreeLaws, IsOfLevel, Replaces}
+use Rattle.blink_machine.proofs.operation.PointersReplaced.{swaps-fits}
 use Rattle.blink_machine.proofs.tree.PageGainsOrLoses.{pointer_fits}
 
 -- what a job brings is in the range of its level
@@ -97,9 +97,9 @@ module _ (laws : TreeLaws) (tree_state : TreeState) (levels : Levels) (invariant
             same_high = refl;
             same_right = refl;
           })
-      change_replaces changed kept (IsChange.exchanges key new pointer leaf op there some same) =
+      change_replaces changed kept (IsChange.swaps key new pointer leaf op there some same) =
           subst (Replaces tree_state.fan page) (sym same) (record {
-            lawful = lawful_replaced tree_state.fan page read_of_level.lawful key new (read_of_level.has_level ∙ ap level_of leaf) (let words = subst FitsWords op (invariant.placed worker m under).words in let below = words.1 in omega arith);
+            lawful = lawful_replaced tree_state.fan page read_of_level.lawful key new (read_of_level.has_level ∙ ap level_of leaf) (let below = swaps-fits m.op key new pointer op (invariant.placed worker m under).words in omega arith);
             same_level = refl;
             same_floor = refl;
             same_high = refl;

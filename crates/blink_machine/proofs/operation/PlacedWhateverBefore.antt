@@ -11,7 +11,7 @@ use Rattle.blink_machine.specs.Machine.{PlainMachine, at_state}
 use Rattle.blink_machine.specs.TreeState.{TreeState, IsItsOperation, under_way, taken_on}
 use Rattle.blink_machine.specs.Placed.{StandsAt, IsAtWork, HasRead, HasHalved, HasSplit, PlacedForNext, PlacedAt, IsPlaced}
 use Rattle.blink_machine.specs.Invariant.{InvariantWith}
-use Rattle.blink_machine.specs.Table.{IsChange, IsFullFor, gains, loses, exchanges}
+use Rattle.blink_machine.specs.Table.{IsChange, IsFullFor, gains, loses, swaps}
 use Rattle.blink_machine.specs.TreeWithDebts.{Levels}
 
 module _ (tree_state : TreeState) (levels : Levels) (m : PlainMachine) (s : State) where
@@ -35,7 +35,7 @@ module _ (tree_state : TreeState) (levels : Levels) (m : PlainMachine) (s : Stat
   IsChange-moved : (page changed : PlainPage) (kept : Option ℕ) → IsChange m page changed kept → IsChange (at_state m s) page changed kept
   IsChange-moved page changed kept (gains brings absent room none is_changed) = gains brings absent room none is_changed
   IsChange-moved page changed kept (loses key pointer leaf op there some is_changed) = loses key pointer leaf op there some is_changed
-  IsChange-moved page changed kept (exchanges key new pointer leaf op there some is_changed) = exchanges key new pointer leaf op there some is_changed
+  IsChange-moved page changed kept (swaps key new pointer leaf op there some is_changed) = swaps key new pointer leaf op there some is_changed
 
   -- the page of which it has written the upper half
   HasHalved-moved : (number : ℕ) (lower : PlainPage) (debt : Debt) → HasHalved tree_state m number lower debt → HasHalved tree_state (at_state m s) number lower debt

@@ -14,7 +14,7 @@ use Rattle.blink_machine.specs.TreeState.{TreeState}
 use Rattle.blink_machine.specs.Owned.{debt_of, debt_at, debt_of_job, unlinked_at, split_at}
 use Rattle.blink_machine.specs.Placed.{HasAnswer, IsPlaced}
 use Rattle.blink_machine.specs.Invariant.{Invariant, InvariantWith}
-use Rattle.blink_machine.specs.Table.{IsChange, gains, loses, exchanges, decided_with}
+use Rattle.blink_machine.specs.Table.{IsChange, gains, loses, swaps, decided_with}
 use Rattle.blink_machine.specs.TreeWithDebts.{Levels, IsInChain}
 use Rattle.blink_machine.proofs.tree.TreeStatements.{TreeLaws, IsReplaced, InnerGains}
 use Rattle.blink_machine.proofs.tree_state.WhoseOperation.{Turns}
@@ -22,6 +22,7 @@ use Rattle.blink_machine.proofs.tree.DebtsWhereKeysChange.{KeysPass, above_gains
 use Rattle.blink_machine.proofs.operation.PlacedWhateverBefore.{placed_at}
 use Rattle.blink_machine.proofs.operation.WriteOfOwnPage.{WritesOwn, replaced_has_invariant}
 use Rattle.blink_machine.proofs.operation.PageAtWork.{WorksOn, works_on}
+use Rattle.blink_machine.proofs.operation.PointersReplaced.{swaps-key, swaps-pointer}
 use Rattle.blink_machine.proofs.operation.ChangeOfTree.{leaf_gains, leaf_loses, leaf_exchanges, inner_gains}
 
 module _ (fan : ℕ) (prime : List ℕ) (after : Pages) (levels : Levels) (c : Cell) (page : PlainPage) (before : Option Debt) where
@@ -72,9 +73,9 @@ module _ (laws : TreeLaws) (old new : TreeState) (levels : Levels) (invariant : 
             (keys_unchanged old.fan old.prime new.pages levels work.cell changed (debt_of m) 0 it.new it.replaced it.same_above (ap (debt_at m.job) here ∙ ap debt_of_job leaf))
             (ap unlinked_at here) (ap split_at here),
       )
-  leaf_is_changed page (exchanges key to pointer is_leaf op found some is_changed) leaf work same turn =
-      let on : target m ≡ key = rw (leaf, op) refl in
-      let entry : ◌≡◌ {A = ℕ × ℕ} (entry_of m) (key, to) = rw (leaf, op) refl in
+  leaf_is_changed page (swaps key to pointer is_leaf op found some is_changed) leaf work same turn =
+      let on : target m ≡ key = rw leaf (swaps-key m.op key to pointer op) in
+      let entry : ◌≡◌ {A = ℕ × ℕ} (entry_of m) (key, to) = rw (leaf, swaps-key m.op key to pointer op, swaps-pointer m.op key to pointer op) refl in
       let it = leaf_exchanges laws old new levels invariant worker m placed number changed page own work same leaf pointer (rw on found) (rw entry is_changed) in (
         it.new,
         replaced_has_invariant laws old new levels invariant worker m number changed own (is_chained 0 work) placed (Some (answer_at m.op kept)) refl turn 0 work.cell changed it.new it.page_replaced work.same_number
@@ -93,7 +94,7 @@ module _ (laws : TreeLaws) (old new : TreeState) (levels : Levels) (invariant : 
             (keys_posted old.fan old.prime new.pages levels work.cell changed (debt_of m) debt it owes) (ap unlinked_at here) (ap split_at here),
       )
   inner_is_changed debt page (loses key pointer is_leaf op found some is_changed) job work same answered turn = absurd cc
-  inner_is_changed debt page (exchanges key to pointer is_leaf op found some is_changed) job work same answered turn = absurd cc
+  inner_is_changed debt page (swaps key to pointer is_leaf op found some is_changed) job work same answered turn = absurd cc
 
   -- of either
   pub change_has_invariant : (job : Job) → m.job ≡ job → Turns old.machines new.machines worker m (decided_with m job (Leave number Finish) kept) → Invariant new

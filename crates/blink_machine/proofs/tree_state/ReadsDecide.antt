@@ -22,6 +22,7 @@ use Rattle.blink_machine.proofs.operation.OperationIsPlaced.{its_own, at_state}
 use Rattle.blink_machine.specs.StepLaw.{Decides}
 use Rattle.blink_machine.proofs.tree.TreeStatements.{TreeLaws}
 use Rattle.blink_machine.proofs.operation.PageUnderLatch.{stands_here, of_level}
+use Rattle.blink_machine.proofs.operation.PointersReplaced.{refused_unchanged}
 use Rattle.blink_machine.proofs.operation.WhatJobsAreAbout.{target-leaf}
 
 -- no read of the prime block decides
@@ -69,7 +70,7 @@ module _ (laws : TreeLaws) (old new : TreeState) (levels : Levels) (invariant : 
   way_read_decides level is placed (SeesOnItsWay.find_answers there_level key going leads op same) = find_decides level key placed leads.0 leads.1 op (ap (λ (x : PlainMachine). x.answer) same)
   way_read_decides level is placed (SeesOnItsWay.update_wants there_level going leads is_update same) = decides_nothing new m after entries _ same refl keeps
 
-  -- an insertion, a deletion or a replacement that finds its answer under the latch
+  -- an update that finds its answer under the latch
   held_decides : (op : Op) (found : Option ℕ) → PlacedAt old levels m (Held number) → target m ≤ page.high → m.job ≡ Leaf → m.op ≡ op → value_at (key_of op) page.entries ≡ found
       → after.answer ≡ Some (answer_at op found) → map_at op found entries ≡ entries → Decides new m after entries
   held_decides op found placed inside leaf is finds answer unchanged =
@@ -85,6 +86,10 @@ module _ (laws : TreeLaws) (old new : TreeState) (levels : Levels) (invariant : 
       held_decides _ None placed inside leaf op finds (ap (λ (x : PlainMachine). x.answer) same) refl
   latched_read_decides placed (SeesUnderLatch.replacement_finds_none key pointer inside leaf op finds same) =
       held_decides _ None placed inside leaf op finds (ap (λ (x : PlainMachine). x.answer) same) refl
+  latched_read_decides placed (SeesUnderLatch.exchange_finds_other key expected pointer inside leaf op differs same) =
+      held_decides _ (value_at key page.entries) placed inside leaf op refl
+      (ap (λ (x : PlainMachine). x.answer) same ∙ ap (λ (o : Op). Some (answer_at o (value_at key page.entries))) op)
+      (refused_unchanged key expected pointer entries (value_at key page.entries) differs)
   latched_read_decides placed (SeesUnderLatch.posting_finds_separator debt child inside job finds same) = decides_nothing new m after entries _ same refl keeps
   latched_read_decides placed (SeesUnderLatch.is_to_change changed found inside change same) = decides_nothing new m after entries _ same refl keeps
   latched_read_decides placed (SeesUnderLatch.is_to_split inside full same) = decides_nothing new m after entries _ same refl keeps

@@ -26,6 +26,7 @@ use Rattle.blink_machine.proofs.tree_state.ReadsDecide.{unanswered_on_leaf}
 use Rattle.blink_machine.specs.StepLaw.{Decides}
 use Rattle.blink_machine.proofs.tree.TreeStatements.{TreeLaws}
 use Rattle.blink_machine.proofs.tree_state.WritesChangeEntries.{read_stands_at, leaf_gains, leaf_loses, leaf_exchanges, posting_leaves_entries, leaf_split_gains, inner_split_leaves_entries}
+use Rattle.blink_machine.proofs.operation.PointersReplaced.{swaps-key, map_at-swaps}
 use Rattle.blink_machine.proofs.operation.WhatJobsAreAbout.{target-leaf}
 
 -- what an insertion brings to a leaf
@@ -95,16 +96,17 @@ module _ (laws : TreeLaws) (old new : TreeState) (levels : Levels) (invariant : 
         (leaf_loses laws old levels invariant worker m under owes number page at_work read new.pages changed found change writes key pointer leaf (target-leaf m _ leaf op) there eq)
         (ap (removed key) (sym joined) ∙ removed-pairs_of key entries ascending)
         (answer_on_leaf _ state found (Some pointer) op leaf some same)
-    changes_decide Leaf leaf (IsChange.exchanges key to pointer leaf_too op there some eq) =
-        found_decides _ pointer op leaf answered there _
-        (leaf_exchanges laws old levels invariant worker m under owes number page at_work read new.pages changed found change writes key to pointer leaf (target-leaf m _ leaf op) there eq)
-        (ap (replaced (key, to)) (sym joined) ∙ replaced-pairs_of key to entries)
-        (answer_on_leaf _ state found (Some pointer) op leaf some same)
+    changes_decide Leaf leaf (IsChange.swaps key to pointer leaf_too op there some eq) =
+        let own : key_of m.op ≡ key = swaps-key m.op key to pointer op in
+        found_decides m.op pointer refl leaf answered (ap (λ k. value_at k page.entries) own ∙ there) _
+        (leaf_exchanges laws old levels invariant worker m under owes number page at_work read new.pages changed found change writes key to pointer leaf (target-leaf m m.op leaf refl ∙ own) there eq)
+        (ap (replaced (key, to)) (sym joined) ∙ replaced-pairs_of key to entries ∙ ap pairs_of (sym (map_at-swaps m.op key to pointer entries op)))
+        (answer_on_leaf m.op state found (Some pointer) refl leaf some same)
     changes_decide (Parent debt) job (IsChange.gains brings absent room nothing eq) =
         decides_nothing new m after entries _ same (answer_above debt state found job)
         (has_entries_old (posting_leaves_entries laws old levels invariant worker m under owes number page at_work read new.pages changed found change writes debt job absent eq))
     changes_decide (Parent debt) job (IsChange.loses key pointer leaf op there some eq) = absurd (cc (job, leaf))
-    changes_decide (Parent debt) job (IsChange.exchanges key to pointer leaf op there some eq) = absurd (cc (job, leaf))
+    changes_decide (Parent debt) job (IsChange.swaps key to pointer leaf op there some eq) = absurd (cc (job, leaf))
 
     -- whatever its job
     pub change_decides : Decides new m after entries

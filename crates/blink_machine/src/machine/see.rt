@@ -155,7 +155,7 @@ impl Machine {
             }
             Way::Here => match self.op {
                 Op::Find(key) => self.decide(State::Ended, Op::Find(key).answer(kept)),
-                Op::Insert(..) | Op::Delete(_) | Op::Replace(..) => {
+                Op::Insert(..) | Op::Delete(_) | Op::Replace(..) | Op::Exchange(..) => {
                     self.state = State::Want(number);
                 }
             },
@@ -178,6 +178,9 @@ impl Machine {
             (Job::Leaf, Op::Insert(key, pointer)) => self.insert(number, page, key, pointer),
             (Job::Leaf, Op::Delete(key)) => self.delete(number, page, key),
             (Job::Leaf, Op::Replace(key, pointer)) => self.replace(number, page, key, pointer),
+            (Job::Leaf, Op::Exchange(key, expected, pointer)) => {
+                self.exchange(number, page, key, expected, pointer);
+            }
             (Job::Leaf, Op::Find(_)) => unreachable!(),
             (Job::Parent(debt), _) => self.post(number, page, debt),
         }
@@ -232,6 +235,26 @@ impl Machine {
         let mut changed = page.copy();
         match changed.swap(key, pointer) {
             Some(before) => self.state = State::Change(number, changed, Some(before)),
+            None => self.decide(State::Leave(number, Next::Finish), Answer::Absent),
+        }
+    }
+
+    // Replaces the key's pointer in the leaf by the operation's, if it is the expected one.
+    fn exchange(&mut self, number: u32, page: &Page, key: u64, expected: u64, pointer: u64)
+        requires state { self.old.state ≡ State.Held number }
+        requires job { self.old.job ≡ Job.Leaf }
+        requires op { self.old.op ≡ Op.Exchange key expected pointer }
+        requires level { page.now.level ≡ 0 }
+        requires not_right { key ≤ page.now.high }
+        ensures { SeesUnderLatch self.old number page.now self.new }
+    {
+        match page.look(key) {
+            Some(kept) if kept == expected => {
+                let mut changed = page.copy();
+                changed.swap(key, pointer);
+                self.state = State::Change(number, changed, Some(kept));
+            }
+            Some(kept) => self.decide(State::Leave(number, Next::Finish), Answer::Exists(kept)),
             None => self.decide(State::Leave(number, Next::Finish), Answer::Absent),
         }
     }
