@@ -10,6 +10,8 @@
 //! beside small           runs a little of every workload, to see that the answers are right, and prints nothing
 //! beside planted         the same with one wrong sum, which it has to find
 //! beside life            measures the life of a map: joining, opening, and what an insertion uses up
+//! beside soak FAN CHANGES
+//!                        changes a map by eight threads so many times, looks everything up, and tells time and memory
 //! beside side NAME FILE  what a process of its own does: runs the cases of a file by this side
 //! beside batch ENTRIES   a batch of insertions into a BTreeMap, as the program `inside` runs one
 //! beside script make|run a script of 40,000 rows, or the answers to one from a BTreeMap; `make small` has 400
@@ -23,6 +25,7 @@ mod report;
 mod rounds;
 mod script;
 mod side;
+mod soak;
 mod workload;
 
 use map::Map;
@@ -107,6 +110,7 @@ fn main() -> Result<(), Box<dyn Error>> {
             ours::life();
             Ok(())
         }
+        ["soak", fan, changes] => Ok(soak::soak(fan.parse()?, changes.parse()?)?),
         ["small"] => small(false),
         ["planted"] => small(true),
         ["side", name, file] => side(name, Path::new(file)),

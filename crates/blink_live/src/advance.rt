@@ -86,7 +86,8 @@ impl Live {
         ensures waits { IfErr result (λ pending. IsWaiting pending.now.machine) }
     {
         let Pending { mut now, begun } = pending;
-        match self.take_steps(&mut now.seat, &mut now.machine, &mut now.room, tries) {
+        let mut machine = now.machine.resume();
+        match self.take_steps(&mut now.seat, &mut machine, &mut now.room, tries) {
             Some(answer) => {
                 let UnderWay {
                     seat,
@@ -104,7 +105,10 @@ impl Live {
                 };
                 Ok((pass, answer))
             }
-            None => Err(Pending { now, begun }),
+            None => {
+                now.machine = machine.rest();
+                Err(Pending { now, begun })
+            }
         }
     }
 
@@ -139,7 +143,7 @@ impl Live {
             keys,
             rows,
             pages,
-            machine,
+            machine: machine.rest(),
             room,
         };
         Ok(Pending { now, begun })

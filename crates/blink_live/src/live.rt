@@ -14,7 +14,7 @@ use crate::room::Room;
 use crate::rule::InvariantOfTree;
 use crate::view::{Opened, View};
 use atomic_table::{Seat, Table};
-use blink_machine::Machine;
+use blink_machine::Resting;
 use blink_rows::{Counts, Span};
 use std::alloc::Global;
 use std::snapshot::Snapshot;
@@ -104,6 +104,6 @@ pub(crate) struct UnderWay {
     pub keys: Vec<u64>,
     pub rows: Span,
     pub pages: Span,
-    pub machine: Machine,
+    pub machine: Resting,
     pub room: Room,
 }

@@ -19,6 +19,16 @@ pub struct Room {
     pub shelf: Option<Shelf>,
 }
 
+impl Room {
+    // The row that the operation writes first.
+    pub(crate) fn first_row(&self) -> u64 {
+        match &self.shelf {
+            Some(shelf) => *shelf.free.last().unwrap_or(&self.rows.next),
+            None => self.rows.next,
+        }
+    }
+}
+
 // The number of insertions that these page numbers are enough for.
 pub(crate) fn inserts_left(pages: &Span) -> u64
     ensures { result ≡ inserts_left pages.now }

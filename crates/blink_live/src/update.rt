@@ -81,7 +81,7 @@ impl Live {
         ensures under_way { IsUnderWay self.now op seat.old seat.new machine.new room.now }
         ensures waits { IsWaiting machine.new }
     {
-        self.fetch_row(room.rows.next);
+        self.fetch_row(room.first_row());
         self.descend(seat, machine, op);
     }
 
@@ -288,8 +288,7 @@ impl Live {
         ensures machine { machine.new ≡ done machine.old 0 }
         ensures published { PublishesPage number result machine.old seat.old.me seat.new.me }
     {
-        let page = machine.page_out(0);
-        let words = page_row(&page);
+        let words = page_row(machine.page_in_place(number));
         self.stage_row(seat, row, &words);
         self.publish(seat, machine, number, row)
     }

@@ -9,5 +9,5 @@ mod remembered;
 mod step;
 
 pub use error::StepError;
-pub use machine::{Debt, Job, Machine, Need, Next, State};
+pub use machine::{Debt, Job, Machine, Need, Next, Resting, State};
 pub use step::{Kind, Step};

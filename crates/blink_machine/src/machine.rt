@@ -6,12 +6,14 @@ ghost use Rattle.blink_machine.specs.Machine.{fresh, need_at, target, value_of_j
 ghost use Rattle.blink_machine.specs.Kept.{KeptAt};
 
 mod done;
+mod resting;
 mod see;
 mod write;
 
 use crate::remembered::Remembered;
 use blink_operation::{Answer, Op};
 use blink_page::{Page, Prime};
+pub use resting::Resting;
 use std::marker::Model;
 
 /// What a split owes: the separator between its two pages, and the number of the new page. The operation has to post both to the

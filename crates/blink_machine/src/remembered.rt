@@ -30,6 +30,15 @@ impl Remembered {
         }
     }
 
+    /// The same pages.
+    pub(crate) fn copy(&self) -> Remembered
+        ensures { result ≡ self.now }
+    {
+        let mut pages = ArrayVec::new();
+        let _fits = pages.try_extend_from_slice(&self.pages);
+        Remembered { pages }
+    }
+
     /// The pages, the top level first.
     pub(crate) fn pages(&self) -> &[u32]
         ensures { self.now ≡ reverse result.now }

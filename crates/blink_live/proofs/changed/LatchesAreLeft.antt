@@ -12,7 +12,7 @@ use Rattle.blink_machine.specs.declared.machine.Next.{Next}
 use Rattle.blink_machine.specs.declared.machine.Next.TheVariants.{Finish, MoveRight, Post}
 use Rattle.blink_machine.specs.declared.machine.State.{State}
 use Rattle.blink_machine.specs.declared.machine.State.TheVariants.{Start, Going, Want, Held, Change, SplitNew, SplitOld, AskPrime, Root, NewPrime, Leave, Posting, Ended}
-use Rattle.blink_machine.specs.{NeedsLatch, PlainMachine, SeesPrime, SeesPage, SeesOnItsWay, SeesUnderLatch, decided_with, done, done_at, latch_at, latch_of, leaves_for, need_at, sets_out}
+use Rattle.blink_machine.specs.{IsResting, NeedsLatch, PlainMachine, SeesPrime, SeesPage, SeesOnItsWay, SeesUnderLatch, decided_with, done, done_at, latch_at, latch_of, leaves_for, need_at, sets_out}
 use Rattle.blink_live.specs.AtomicSteps.{AsksPrime}
 use Rattle.blink_live.specs.Pendings.{IsWaiting, for_latch, for_level}
 use Rattle.blink_live.specs.Updating.{ComesNearer, IsPastDescent, steps_to_leave}
@@ -22,6 +22,10 @@ use Rattle.blink_live.specs.Updating.{ComesNearer, IsPastDescent, steps_to_leave
 pub no_latch_waiting : (m : PlainMachine) → IsWaiting m → latch_of m ≡ None
 no_latch_waiting m (for_latch page at) = ap latch_at at
 no_latch_waiting m (for_level at) = ap latch_at at
+
+pub rests_waiting : (m : PlainMachine) → IsWaiting m → IsResting m.state
+rests_waiting m (for_latch page at) = subst IsResting (sym at) tt
+rests_waiting m (for_level at) = subst IsResting (sym at) tt
 
 pub past_waiting : (m : PlainMachine) → IsWaiting m → m.state ≢ Ended
 past_waiting m (for_latch page at) ends = absurd (cc)

@@ -1,5 +1,6 @@
 use Rattle.std.proofs.Common.{◌≡◌, ◌∙◌, sym, subst, refl}
 use Rattle.blink_batch.specs.declared.Op.{Op}
+use Rattle.blink_machine.specs.{PlainMachine}
 use Rattle.blink_live.specs.declared.live.Live.{Live}
 use Rattle.blink_live.specs.declared.live.Pass.{Pass}
 use Rattle.blink_live.specs.declared.live.Pending.{Pending}
@@ -62,13 +63,13 @@ set_out-requires-clause-may c =
     (can_set_out c.args.self.now c.args.op c.args.pass c.requires.its_own c.requires.updates c.in_default.ensures.own_key c.in_default.ensures.some_left).may
 
 pub returns-clause-begun : goal.returns-clause-begun
-returns-clause-begun c = has_begun c.args.self.now c.args.op c.args.pass _ c.of-begun.ensures c.requires.its_own c.set_out.ensures.under_way record {
+returns-clause-begun c = has_begun c.args.self.now c.args.op c.args.pass _ c.of-begun.ensures c.requires.its_own (subst (λ (m : PlainMachine). IsUnderWay c.args.self.now c.args.op c.args.pass.seat c.set_out.new.seat m c.next_of-room.result) (sym c.rest.ensures) c.set_out.ensures.under_way) record {
   own_key = c.in_default.ensures.own_key;
   some_left = c.in_default.ensures.some_left;
   same_keys = refl;
   rows_are = c.next_of-room.ensures.rows;
   pages_are = c.next_of-room.ensures.pages;
-} c.set_out.ensures.waits
+} (subst IsWaiting (sym c.rest.ensures) c.set_out.ensures.waits)
 
 pub returns-clause-not_yours : goal.returns-clause-not_yours
 returns-clause-not_yours c = no_refusal _ _ (λ foreign. foreign c.in_default.ensures.own_key)
