@@ -109,6 +109,21 @@ impl Machine {
     {
         match self.state {
             State::Going(number, level) => self.read_on_its_way(number, level, page),
+            State::Held(number) => self.read_under_latch(number, page.copy()),
+            _ => unreachable!(),
+        }
+    }
+
+    /// Hands the operation the page as `saw_page` does. An operation that changes the page makes no copy of it.
+    pub fn saw_own_page(&mut self, page: Page)
+        requires needs { NeedsSomePage self.old }
+        requires level { page.level ≡ level_read self.old }
+        requires below { least_above page.floor ≤ target self.old }
+        requires at_most_fan { length page.entries ≤ self.old.fan }
+        ensures { (number : ℕ) → NeedsPage self.old number → SeesPage self.old number page self.new }
+    {
+        match self.state {
+            State::Going(number, level) => self.read_on_its_way(number, level, &page),
             State::Held(number) => self.read_under_latch(number, page),
             _ => unreachable!(),
         }
@@ -163,12 +178,12 @@ impl Machine {
     }
 
     // Reads the page again under its latch. No other worker changes it now; it may have been split before.
-    fn read_under_latch(&mut self, number: u32, page: &Page)
+    fn read_under_latch(&mut self, number: u32, page: Page)
         requires state { self.old.state ≡ State.Held number }
-        requires level { page.now.level ≡ level_of self.old.job }
-        requires below { least_above page.now.floor ≤ target self.old }
-        requires at_most_fan { length page.now.entries ≤ self.old.fan }
-        ensures { SeesUnderLatch self.old number page.now self.new }
+        requires level { page.level ≡ level_of self.old.job }
+        requires below { least_above page.floor ≤ target self.old }
+        requires at_most_fan { length page.entries ≤ self.old.fan }
+        ensures { SeesUnderLatch self.old number page self.new }
     {
         if let Way::Right(next) = page.way(self.target()) {
             self.state = State::Leave(number, Next::MoveRight(next));
@@ -187,17 +202,17 @@ impl Machine {
     }
 
     // Adds the operation's entry to the leaf unless the key is present, or splits the leaf.
-    fn insert(&mut self, number: u32, page: &Page, key: u64, pointer: u64)
+    fn insert(&mut self, number: u32, page: Page, key: u64, pointer: u64)
         requires state { self.old.state ≡ State.Held number }
         requires job { self.old.job ≡ Job.Leaf }
         requires op { self.old.op ≡ Op.Insert key pointer }
-        requires level { page.now.level ≡ 0 }
-        requires above { least_above page.now.floor ≤ key }
-        requires not_right { key ≤ page.now.high }
-        requires at_most_fan { length page.now.entries ≤ self.old.fan }
-        ensures { SeesUnderLatch self.old number page.now self.new }
+        requires level { page.level ≡ 0 }
+        requires above { least_above page.floor ≤ key }
+        requires not_right { key ≤ page.high }
+        requires at_most_fan { length page.entries ≤ self.old.fan }
+        ensures { SeesUnderLatch self.old number page self.new }
     {
-        let mut changed = page.copy();
+        let mut changed = page;
         match changed.put(self.fan, key, pointer) {
             Put::Done => self.state = State::Change(number, changed, None),
             Put::Present(kept) => {
@@ -208,15 +223,15 @@ impl Machine {
     }
 
     // Removes the key's entry from the leaf, if the key is present.
-    fn delete(&mut self, number: u32, page: &Page, key: u64)
+    fn delete(&mut self, number: u32, page: Page, key: u64)
         requires state { self.old.state ≡ State.Held number }
         requires job { self.old.job ≡ Job.Leaf }
         requires op { self.old.op ≡ Op.Delete key }
-        requires level { page.now.level ≡ 0 }
-        requires not_right { key ≤ page.now.high }
-        ensures { SeesUnderLatch self.old number page.now self.new }
+        requires level { page.level ≡ 0 }
+        requires not_right { key ≤ page.high }
+        ensures { SeesUnderLatch self.old number page self.new }
     {
-        let mut changed = page.copy();
+        let mut changed = page;
         match changed.take(key) {
             Some(kept) => self.state = State::Change(number, changed, Some(kept)),
             None => self.decide(State::Leave(number, Next::Finish), Answer::Absent),
@@ -224,15 +239,15 @@ impl Machine {
     }
 
     // Replaces the key's pointer in the leaf by the operation's, if the key is present.
-    fn replace(&mut self, number: u32, page: &Page, key: u64, pointer: u64)
+    fn replace(&mut self, number: u32, page: Page, key: u64, pointer: u64)
         requires state { self.old.state ≡ State.Held number }
         requires job { self.old.job ≡ Job.Leaf }
         requires op { self.old.op ≡ Op.Replace key pointer }
-        requires level { page.now.level ≡ 0 }
-        requires not_right { key ≤ page.now.high }
-        ensures { SeesUnderLatch self.old number page.now self.new }
+        requires level { page.level ≡ 0 }
+        requires not_right { key ≤ page.high }
+        ensures { SeesUnderLatch self.old number page self.new }
     {
-        let mut changed = page.copy();
+        let mut changed = page;
         match changed.swap(key, pointer) {
             Some(before) => self.state = State::Change(number, changed, Some(before)),
             None => self.decide(State::Leave(number, Next::Finish), Answer::Absent),
@@ -240,17 +255,17 @@ impl Machine {
     }
 
     // Replaces the key's pointer in the leaf by the operation's, if it is the expected one.
-    fn exchange(&mut self, number: u32, page: &Page, key: u64, expected: u64, pointer: u64)
+    fn exchange(&mut self, number: u32, page: Page, key: u64, expected: u64, pointer: u64)
         requires state { self.old.state ≡ State.Held number }
         requires job { self.old.job ≡ Job.Leaf }
         requires op { self.old.op ≡ Op.Exchange key expected pointer }
-        requires level { page.now.level ≡ 0 }
-        requires not_right { key ≤ page.now.high }
-        ensures { SeesUnderLatch self.old number page.now self.new }
+        requires level { page.level ≡ 0 }
+        requires not_right { key ≤ page.high }
+        ensures { SeesUnderLatch self.old number page self.new }
     {
         match page.look(key) {
             Some(kept) if kept == expected => {
-                let mut changed = page.copy();
+                let mut changed = page;
                 changed.swap(key, pointer);
                 self.state = State::Change(number, changed, Some(kept));
             }
@@ -260,16 +275,16 @@ impl Machine {
     }
 
     // Posts the debt to the page unless its separator is present, or splits the page.
-    fn post(&mut self, number: u32, page: &Page, debt: Debt)
+    fn post(&mut self, number: u32, page: Page, debt: Debt)
         requires state { self.old.state ≡ State.Held number }
         requires job { self.old.job ≡ Job.Parent debt }
-        requires level { page.now.level ≡ debt.level + 1 }
-        requires above { least_above page.now.floor ≤ debt.separator }
-        requires not_right { debt.separator ≤ page.now.high }
-        requires at_most_fan { length page.now.entries ≤ self.old.fan }
-        ensures { SeesUnderLatch self.old number page.now self.new }
+        requires level { page.level ≡ debt.level + 1 }
+        requires above { least_above page.floor ≤ debt.separator }
+        requires not_right { debt.separator ≤ page.high }
+        requires at_most_fan { length page.entries ≤ self.old.fan }
+        ensures { SeesUnderLatch self.old number page self.new }
     {
-        let mut changed = page.copy();
+        let mut changed = page;
         match changed.post(self.fan, debt.separator, debt.page) {
             Post::Done => self.state = State::Change(number, changed, None),
             Post::Already => self.state = State::Leave(number, Next::Finish),

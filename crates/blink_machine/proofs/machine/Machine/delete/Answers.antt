@@ -9,9 +9,9 @@ use Rattle.blink_machine.proofs.machine.Machine.delete.Goals as goal
 
 pub returns-in-Some : goal.returns-in-Some
 returns-in-Some c =
-    let copy : c.copy-changed.result ≡ c.args.page.now = c.copy-changed.ensures in
+    let copy : c.args.page ≡ c.args.page = refl in
     let own : target c.args.self.now ≡ c.args.key = target-leaf c.args.self.now (Delete c.args.key) c.requires.job c.requires.op in
-    let there : value_at c.args.key c.args.page.now.entries ≡ Some c.in-Some.kept = sym (rw copy at c.in-Some.ensures.value) in
+    let there : value_at c.args.key c.args.page.entries ≡ Some c.in-Some.kept = sym (rw copy at c.in-Some.ensures.value) in
     let made = c.take.ensures.entries ∙ ap (λ (p : PlainPage). with_entries p (removed c.args.key p.entries)) copy in
     is_to_change c.take.new.self (Some c.in-Some.kept) (omega (arith, own, c.requires.not_right))
     (loses c.args.key c.in-Some.kept c.requires.job c.requires.op there refl made)
@@ -19,7 +19,7 @@ returns-in-Some c =
 
 pub returns-in-None : goal.returns-in-None
 returns-in-None c =
-    let copy : c.copy-changed.result ≡ c.args.page.now = c.copy-changed.ensures in
+    let copy : c.args.page ≡ c.args.page = refl in
     let own : target c.args.self.now ≡ c.args.key = target-leaf c.args.self.now (Delete c.args.key) c.requires.job c.requires.op in
-    let absent : value_at c.args.key c.args.page.now.entries ≡ None = sym (rw copy at c.in-None.ensures.value) in
+    let absent : value_at c.args.key c.args.page.entries ≡ None = sym (rw copy at c.in-None.ensures.value) in
     deletion_finds_none c.args.key (omega (arith, own, c.requires.not_right)) c.requires.job c.requires.op absent c.decide.ensures

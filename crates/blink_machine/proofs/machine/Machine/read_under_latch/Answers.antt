@@ -9,6 +9,6 @@ use Rattle.blink_machine.proofs.machine.Machine.read_under_latch.Goals as goal
 
 pub returns-in-Right : goal.returns-in-Right
 returns-in-Right c =
-    let leads : Leads c.args.page.now (target c.args.self.now) (Right c.in-Right.next) = rw (← c.target.ensures) c.in-Right.ensures in
+    let leads : Leads c.args.page (target c.args.self.now) (Right c.in-Right.next) = rw (← c.target.ensures) c.in-Right.ensures in
     is_above_high_key c.in-Right.next leads.0 leads.1
     (ap (λ (m : PlainMachine). at_state m (Leave c.args.number (MoveRight c.in-Right.next))) c.self.view_is)
