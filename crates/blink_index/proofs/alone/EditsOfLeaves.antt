@@ -1,5 +1,5 @@
 -- What a deletion, a replacement or an insertion in one leaf makes of a tree at rest.
-use Rattle.std.proofs.Common.{◌≡◌, ◌<◌, ◌≤◌, ℕ, Option, Some, None, length, refl, sym, ap, subst, ◌∙◌}
+use Rattle.std.proofs.Common.{◌≡◌, ◌<◌, ◌≤◌, ℕ, Option, Some, None, length, inl, refl, sym, ap, subst, ◌∙◌}
 use Rattle.std.specs.Prelude.{IfNone}
 use Rattle.blink_operation.specs.declared.Answer.TheVariants.{Exists, Inserted}
 use Rattle.blink_operation.specs.declared.Op.{Op}
@@ -64,7 +64,7 @@ module _ (old new : PlainStore) (lawful : IsLawfulStore old) (at_rest : IsStoreA
       → WritesPage old new number (with_entries leaf (replaced (key, value) leaf.entries)) → IfNone kept (new ≡ old) → IsEdited old new (Replace key value) (answer_at (Replace key value) kept)
   replacement_edits value words None is writes unchanged = stays (Replace key value) None refl is refl unchanged
   replacement_edits value words (Some kept) is writes unchanged =
-      changes (Replace key value) (Some kept) (with_entries leaf (replaced (key, value) leaf.entries)) refl tt words (IsChange.exchanges key value kept refl refl (sym is) refl refl) writes
+      changes (Replace key value) (Some kept) (with_entries leaf (replaced (key, value) leaf.entries)) refl tt words (IsChange.swaps key value kept refl (inl refl) (sym is) refl refl) writes
 
   -- an insertion that finds its key changes nothing
   pub finding_edits : (value kept : ℕ) → value_at key leaf.entries ≡ Some kept → new ≡ old → IsEdited old new (Insert key value) (answer_at (Insert key value) (Some kept))

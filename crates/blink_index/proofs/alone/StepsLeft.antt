@@ -1,7 +1,7 @@
 -- How far a worker alone still has to go: each step brings the operation nearer to its end.
 use Rattle.std.proofs.Common.{◌≡◌, ℕ, ◌+◌, ◌-◌, ◌*◌, ◌<◌, ◌≤◌, Option, Some, None, List, [], ◌∷◌, length, refl, ap, ◌∙◌, arith}
 use Rattle.blink_operation.specs.declared.Op.{Op}
-use Rattle.blink_operation.specs.declared.Op.TheVariants.{Find, Insert, Delete, Replace}
+use Rattle.blink_operation.specs.declared.Op.TheVariants.{Find, Insert, Delete, Replace, Exchange}
 use Rattle.blink_operation.specs.{FitsWords, key_of}
 use Rattle.blink_page.specs.{PlainPage, least_above}
 use Rattle.blink_rest.specs.{Pages}
@@ -65,6 +65,7 @@ key_in_range (Find key) words = omega (arith, words)
 key_in_range (Insert key pointer) words = omega (arith, words.0)
 key_in_range (Delete key) words = omega (arith, words)
 key_in_range (Replace key pointer) words = omega (arith, words.0)
+key_in_range (Exchange key expected pointer) words = omega (arith, words.0)
 
 -- ---- steps that read nothing
 
@@ -196,6 +197,10 @@ module _ (tree_state : TreeState) (invariant : Invariant tree_state) (worker : �
         let before = ap (left_at tree_state.prime tree_state.pages (target m)) held in
         omega (arith, then, before)
     latched_nearer held sees (SeesUnderLatch.replacement_finds_none key pointer below job op found is) =
+        let then = ap (left tree_state.prime tree_state.pages) is in
+        let before = ap (left_at tree_state.prime tree_state.pages (target m)) held in
+        omega (arith, then, before)
+    latched_nearer held sees (SeesUnderLatch.exchange_finds_other key expected pointer below job op found is) =
         let then = ap (left tree_state.prime tree_state.pages) is in
         let before = ap (left_at tree_state.prime tree_state.pages (target m)) held in
         omega (arith, then, before)

@@ -1,7 +1,7 @@
 //! Changes of an index in place, one operation at a time.
 ghost use Rattle.std.specs.Prelude.{◌≡◌, ◌+◌, ◌≤◌, ◌↔◌, [], ◌∷◌, length, take, vec_capacity, IfErr, IfNone, IfOk, IfSome, IsErrOf, OnErr};
 ghost use Rattle.blink_operation.specs.{answer_of, answers, map_after, map_after_all};
-ghost use Rattle.blink_operation.specs.declared.Op.TheVariants.{Delete, Insert, Replace};
+ghost use Rattle.blink_operation.specs.declared.Op.TheVariants.{Delete, Exchange, Insert, Replace};
 ghost use Rattle.blink_page.specs.{ExceedsPageLimit};
 ghost use Rattle.blink_page.specs.declared.limits.TheConstants.{MAX_NEW_PAGES_PER_INSERT};
 ghost use Rattle.blink_rest.specs.{IsMapOf};
@@ -84,7 +84,28 @@ impl Index {
         Op::Replace(key, pointer).answer(before)
     }
 
-    /// Carries one operation out in place, as `find`, `insert`, `delete` and `replace` do. Only an insertion is refused.
+    /// Replaces the pointer of a key, in place, if it is the expected one, and answers as a batch of that one exchange does:
+    /// `Replaced` with the expected pointer, `Exists` with the other pointer that the key has, or `Absent`. The call takes no
+    /// memory. It reads one page for each level, and reads them again where it replaces.
+    pub fn exchange(&mut self, key: u64, expected: u64, pointer: u64) -> Answer
+        ensures answer { result ≡ answer_of (map_of self.old) (Exchange key expected pointer) }
+        ensures map { map_of self.new
+            ≡ map_after (map_of self.old) (Exchange key expected pointer) }
+        ensures kept { IsMapOf self.new (map_of self.new) }
+        ensures same_fan { self.new.fan ≡ self.old.fan }
+        ensures same_page_count { length self.new.pages ≡ length self.old.pages }
+    {
+        // Called for the proof: a tree at rest has its entries as a map.
+        let _rest = self.rest();
+        match self.find(key) {
+            Some(kept) if kept == expected => self.replace(key, pointer),
+            Some(kept) => Answer::Exists(kept),
+            None => Answer::Absent,
+        }
+    }
+
+    /// Carries one operation out in place, as `find`, `insert`, `delete`, `replace` and `exchange` do. Only an insertion is
+    /// refused.
     pub fn edit(&mut self, op: Op) -> Result<Answer, EditError>
         ensures answer { IfOk result (λ answer. answer ≡ answer_of (map_of self.old) op) }
         ensures map { IfOk result (λ _. map_of self.new ≡ map_after (map_of self.old) op) }
@@ -101,6 +122,7 @@ impl Index {
             Op::Insert(key, pointer) => self.insert(key, pointer),
             Op::Delete(key) => Ok(self.delete(key)),
             Op::Replace(key, pointer) => Ok(self.replace(key, pointer)),
+            Op::Exchange(key, expected, pointer) => Ok(self.exchange(key, expected, pointer)),
         }
     }
 

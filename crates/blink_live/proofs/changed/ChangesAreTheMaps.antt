@@ -1,11 +1,12 @@
 -- The change that an operation makes does to the entries, key by key, what the operation does to the map.
-use Rattle.std.proofs.Common.{◌≡◌, ◌≢◌, ℕ, zero, suc, Bool, true, false, Option, Some, None, List, [], ◌∷◌, ◌++◌, refl, sym, ap, ◌∙◌, subst, eq-eqb, ne_eqb, arith}
+use Rattle.std.proofs.Common.{◌≡◌, ◌≢◌, ℕ, zero, suc, Bool, true, false, Option, Some, None, List, [], ◌∷◌, ◌++◌, refl, sym, ap, ◌∙◌, subst, eq-eqb, ne_eqb, inl, inr, arith}
 use Rattle.std.specs.Prelude.{if◌then◌else◌}
+use Rattle.std.proofs.lemmas.Bool.{cases_eq}
 use mathlib.Core.Logic.{dite}
 use native.Mathlib.Decide.{ℕ_discrete}
 use Rattle.blink_batch.specs.declared.Entry.{Entry}
 use Rattle.blink_batch.specs.declared.Op.{Op}
-use Rattle.blink_batch.specs.declared.Op.TheVariants.{Find}
+use Rattle.blink_batch.specs.declared.Op.TheVariants.{Exchange, Find}
 use Rattle.blink_batch.specs.{answer_at, cell_after, key_of, map_after, map_at, pointer_of}
 use Rattle.blink_batch.proofs.Offered.{pointer_of-map_after_own, pointer_of-map_after_other}
 use Rattle.blink_live.specs.declared.view.Change.{Change}
@@ -32,13 +33,27 @@ states_of-append key (change ∷ xs) ys = dite (ℕ_discrete change.key key)
 -- an operation that doesn't answer that it made a change leaves the state of its key, and the map
 stays_unchanged : (op : Op) (kept : Option ℕ) → has_changed (answer_at op kept) ≡ false → cell_after op kept ≡ kept
 stays_unchanged (Find key) kept none = refl
+stays_unchanged (Exchange key expected pointer) (Some kept) none = elim (cases_eq kept expected) [
+  | inl same ↦ (let changed = rw (eq-eqb kept expected same) at none in absurd (cc))
+  | inr differs ↦ rw (ne_eqb kept expected differs) refl
+]
 stays_unchanged op (Some kept) none = cc
 stays_unchanged op None none = cc
 
 pub map_unchanged : (op : Op) (kept : Option ℕ) (map : List Entry) → has_changed (answer_at op kept) ≡ false → map_at op kept map ≡ map
 map_unchanged (Find key) kept map none = refl
+map_unchanged (Exchange key expected pointer) (Some kept) map none = elim (cases_eq kept expected) [
+  | inl same ↦ (let changed = rw (eq-eqb kept expected same) at none in absurd (cc))
+  | inr differs ↦ rw (ne_eqb kept expected differs) refl
+]
 map_unchanged op (Some kept) map none = cc
 map_unchanged op None map none = cc
+
+-- an exchange that doesn't find the expected pointer answers so
+pub refusal_changes_nothing : (op : Op) (key expected pointer : ℕ) (kept : Option ℕ) → op ≡ Exchange key expected pointer → (kept ≡ Some expected → ⊥)
+    → has_changed (answer_at op kept) ≡ false
+refusal_changes_nothing op key expected pointer (Some kept) is differs = rw (is, ne_eqb kept expected (λ same. differs (ap Some same))) refl
+refusal_changes_nothing op key expected pointer None is differs = rw is refl
 
 -- one change or none, at another key and at its own
 module _ (change : Change) where

@@ -6,7 +6,7 @@ use Rattle.blink_batch.specs.declared.Answer.{Answer}
 use Rattle.blink_batch.specs.declared.Answer.TheVariants.{Absent, Exists}
 use Rattle.blink_batch.specs.declared.Op.{Op}
 use Rattle.blink_batch.specs.{answer_at, answer_of, key_of, map_at, pointer_of}
-use Rattle.blink_page.specs.{PlainPage}
+use Rattle.blink_page.specs.{PlainPage, value_at}
 use Rattle.blink_rows.specs.{page_words}
 use Rattle.blink_rows.specs.declared.span.Span.{Span}
 use Rattle.blink_machine.specs.declared.machine.Debt.{Debt}
@@ -26,7 +26,7 @@ use Rattle.blink_live.specs.declared.view.View.{View}
 use Rattle.blink_live.specs.Changes.{changes_made, has_changed}
 use Rattle.blink_live.specs.AtomicSteps.{AnswersAfter, AsksPrime, state_after, CanGoOn, Decided, deciding, other, GoesOn, LoadsPage, LoadsPrime, PublishesFrom}
 use Rattle.blink_live.specs.Updating.{SameBesideCall, IsPastDescent}
-use Rattle.blink_live.proofs.changed.ChangesAreTheMaps.{map_unchanged, none_made}
+use Rattle.blink_live.proofs.changed.ChangesAreTheMaps.{map_unchanged, none_made, refusal_changes_nothing}
 use Rattle.blink_live.specs.Views.{SeatState, KnowsItsOwn, changed_by, reading}
 
 -- what a step of the operation makes of it and of its seat's view, but for what the call has left
@@ -135,6 +135,11 @@ module _ (m after : PlainMachine) (number : ℕ) (page : PlainPage) (v : View) (
   )
   under_latch (SeesUnderLatch.replacement_finds_none key pointer below job is_op value is) = (
     answers_by_seen m after v seen Absent saw own (ap (λ (x : PlainMachine). x.answer) is) refl answers,
+    subst (λ (x : PlainMachine). IsPastDescent x.state) (sym is) tt,
+  )
+  under_latch (SeesUnderLatch.exchange_finds_other key expected pointer below job is_op differs is) = (
+    answers_by_seen m after v seen (answer_at m.op (value_at key page.entries)) saw own (ap (λ (x : PlainMachine). x.answer) is)
+        (refusal_changes_nothing m.op key expected pointer (value_at key page.entries) is_op differs) answers,
     subst (λ (x : PlainMachine). IsPastDescent x.state) (sym is) tt,
   )
   under_latch (SeesUnderLatch.posting_finds_separator debt child below job value is) = (other (ap (λ (x : PlainMachine). x.answer) is) refl, subst (λ (x : PlainMachine). IsPastDescent x.state) (sym is) tt)
