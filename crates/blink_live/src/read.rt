@@ -244,7 +244,7 @@ impl Live {
     {
         let row = self.table.shared.load::<LoadPage>(seat, number as usize);
         let page = self.page_in_row(seat, row);
-        machine.saw_page(&page);
+        machine.saw_own_page(page);
     }
 
     // The page whose row the seat reads. Its words aren't tested, since they are a lawful page's.

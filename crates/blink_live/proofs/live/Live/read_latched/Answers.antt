@@ -24,18 +24,18 @@ reads_it loads = record { reads = ap (λ (x : SeatState). x.0.reads) loads.is; l
 readable : {m machine : PlainMachine} {number row : ℕ} {me then : SeatState} {page : PlainPage} → (loads : LoadsPage m number me row machine then) → page ≡ loads.page → IsReadable m page
 readable {m} loads same = subst (IsReadable m) (sym same) loads.readable
 
-pub saw_page-requires-clause-level : goal.saw_page-requires-clause-level
-saw_page-requires-clause-level c =
+pub saw_own_page-requires-clause-level : goal.saw_own_page-requires-clause-level
+saw_own_page-requires-clause-level c =
     let loads = (c.load-row.ensures.2 c.args.machine.now c.requires.at c.requires.needs).1 in
     (readable loads (c.page_in_row-page.ensures.page loads.page (reads_it loads))).has_level
 
-pub saw_page-requires-clause-below : goal.saw_page-requires-clause-below
-saw_page-requires-clause-below c =
+pub saw_own_page-requires-clause-below : goal.saw_own_page-requires-clause-below
+saw_own_page-requires-clause-below c =
     let loads = (c.load-row.ensures.2 c.args.machine.now c.requires.at c.requires.needs).1 in
     (readable loads (c.page_in_row-page.ensures.page loads.page (reads_it loads))).floor_below
 
-pub saw_page-requires-clause-at_most_fan : goal.saw_page-requires-clause-at_most_fan
-saw_page-requires-clause-at_most_fan c =
+pub saw_own_page-requires-clause-at_most_fan : goal.saw_own_page-requires-clause-at_most_fan
+saw_own_page-requires-clause-at_most_fan c =
     let loads = (c.load-row.ensures.2 c.args.machine.now c.requires.at c.requires.needs).1 in
     (readable loads (c.page_in_row-page.ensures.page loads.page (reads_it loads))).at_most_fan
 
@@ -44,9 +44,9 @@ returns-clause-read c =
     let m : PlainMachine = c.args.machine.now in
     let me : SeatState = c.args.seat.now.me in
     let row = c.load-row.result in
-    let after : PlainMachine = c.saw_page.new.self in
+    let after : PlainMachine = c.saw_own_page.new.self in
     let loads = c.load-row.ensures.2 m c.requires.at c.requires.needs in
     let page_is = sym (c.page_in_row-page.ensures.page loads.1.page (reads_it loads.1)) in
-    let sees : SeesPage m c.args.number loads.1.page after = subst (λ (page : PlainPage). SeesPage m c.args.number page after) (sym page_is) (c.saw_page.ensures c.args.number c.requires.needs) in
+    let sees : SeesPage m c.args.number loads.1.page after = subst (λ (page : PlainPage). SeesPage m c.args.number page after) (sym page_is) (c.saw_own_page.ensures c.args.number c.requires.needs) in
     let same : after ≡ loads.0 = loads.1.only after sees in
     (row, subst (λ (x : PlainMachine × SeatState). LoadsPage m c.args.number me row x.0 x.1) (λ i. (sym same i, sym c.page_in_row-page.ensures.same.2 i)) loads.1)
