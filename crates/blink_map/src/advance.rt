@@ -4,7 +4,7 @@ ghost use Rattle.std.specs.Prelude.{◌≡◌, Some, IfErr, IfOk};
 ghost use Rattle.blink_batch.specs.{FitsWords};
 ghost use Rattle.blink_batch.specs.declared.Answer.{Answer};
 ghost use Rattle.blink_batch.specs.declared.Op.{Op};
-ghost use Rattle.blink_batch.specs.declared.Op.TheVariants.{Delete, Insert, Replace};
+ghost use Rattle.blink_batch.specs.declared.Op.TheVariants.{Delete, Exchange, Insert, Replace};
 ghost use Rattle.blink_machine.specs.{IsUpdate};
 ghost use Rattle.blink_machine.specs.declared.machine.State.TheVariants.{Ended};
 ghost use Rattle.blink_live.specs.Pendings.{IsWaiting};
@@ -74,8 +74,28 @@ impl Map {
         self.begin(session, Op::Replace(key, pointer))
     }
 
+    /// Begins an exchange: what `exchange` does, with no wait. The call reads the tree down to the key's leaf. It takes no
+    /// memory, waits for nobody, and returns. The exchange goes on by `advance`.
+    ///
+    /// The call refuses as `exchange` does, and gives the session back.
+    pub fn begin_exchange(
+        &self,
+        session: Session,
+        key: u64,
+        expected: u64,
+        pointer: u64,
+    ) -> Result<Pending, (Session, Full)>
+        requires its_own { IsSessionOf self.now session }
+        ensures begun { IfOk result (HasBegun self.now (Exchange key expected pointer) session) }
+        ensures full { IfErr result
+            (λ refused. LacksRoom (Exchange key expected pointer) session refused.0) }
+        ensures unchanged { IfErr result (λ refused. IsSameBesideRoom session refused.0) }
+    {
+        self.begin(session, Op::Exchange(key, expected, pointer))
+    }
+
     /// Takes the operation's next steps. It returns the session and the operation's answer once the operation has ended, exactly
-    /// those of `insert`, `delete` or `replace`. It gives the operation back, whole and with its session, after `tries` steps in
+    /// those of `insert`, `delete`, `replace` or `exchange`. It gives the operation back, whole and with its session, after `tries` steps in
     /// vain, at least one: another session had the latch of the page that it wants, or was about to make the root of a new level
     /// that it posts to. Then it holds no page's latch. The next call goes on from there. The call takes no memory, waits for
     /// nobody, and returns.

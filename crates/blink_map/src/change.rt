@@ -1,9 +1,9 @@
-//! The operations that change a map: insert, delete and replace, by any session, at any key.
+//! The operations that change a map: insert, delete, replace and exchange, by any session, at any key.
 ghost use Rattle.std.specs.Prelude.{◌≡◌, ◌↔◌, ◌+◌, ◌<◌, ◌≤◌, ℕ, None, Some, IfOk, IsTrue, OnErr};
 ghost use Rattle.atomic_table.specs.declared.Seat.{Seat};
 ghost use Rattle.blink_batch.specs.{FitsWords};
 ghost use Rattle.blink_batch.specs.declared.Op.{Op};
-ghost use Rattle.blink_batch.specs.declared.Op.TheVariants.{Delete, Insert, Replace};
+ghost use Rattle.blink_batch.specs.declared.Op.TheVariants.{Delete, Exchange, Insert, Replace};
 ghost use Rattle.blink_machine.specs.{IsUpdate};
 ghost use Rattle.blink_machine.specs.declared.machine.State.TheVariants.{Ended};
 ghost use Rattle.blink_live.specs.declared.view.View.{View};
@@ -99,6 +99,28 @@ impl Map {
         ensures unchanged { OnErr result (IsSameBesideRoom session.old session.new) }
     {
         self.change(rt, session, Op::Replace(key, pointer))
+    }
+
+    /// Replaces a key's pointer, if it is the expected one. It answers `Replaced` with the expected pointer, also if the new one
+    /// is the same; `Exists` with the other pointer that the key has, which stays; or `Absent`. No other session changes the key
+    /// between the test and the replacement. The call takes no memory. It waits for a page's latch that another session has.
+    ///
+    /// The call is refused if the session has no row left, and the pool has none. Then it changes nothing.
+    pub fn exchange<R: Wait>(
+        &self,
+        rt: &R,
+        session: &mut Session,
+        key: u64,
+        expected: u64,
+        pointer: u64,
+    ) -> Result<Answer, Full>
+        requires its_own { IsSessionOf self.now session.old }
+        ensures answered { IfOk result
+            (IsAnswered self.now (Exchange key expected pointer) session.old session.new) }
+        ensures full { OnErr result (LacksRoom (Exchange key expected pointer) session.old session.new) }
+        ensures unchanged { OnErr result (IsSameBesideRoom session.old session.new) }
+    {
+        self.change(rt, session, Op::Exchange(key, expected, pointer))
     }
 
     // Runs an operation that changes the tree.
@@ -285,7 +307,7 @@ fn needed_by(op: Op) -> (u64, u64)
     match op {
         Op::Find(_) => (0, 0),
         Op::Insert(..) => (MAX_ROWS_PER_INSERT, MAX_NEW_PAGES_PER_INSERT),
-        Op::Delete(_) | Op::Replace(..) => (1, 0),
+        Op::Delete(_) | Op::Replace(..) | Op::Exchange(..) => (1, 0),
     }
 }
 
