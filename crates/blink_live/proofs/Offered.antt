@@ -27,3 +27,5 @@ pub use Rattle.blink_live.proofs.changed.ChangesAreTheMaps.{after-append}
 pub use Rattle.blink_live.proofs.table.AccountsStay.{AreBy, made_at-append, made_elsewhere, made_between, made_here, nothing_more, prefix_made}
 -- what a slice has when its first places are filled
 pub use Rattle.blink_live.proofs.scanned.PlacesAreFilled.{first_places, other_places}
+-- an operation goes on under another mark
+pub use Rattle.blink_live.proofs.changed.OperationsRest.{marked, under_way_marked}

@@ -16,3 +16,4 @@ pub mod PendingsAreSent
 pub mod PlacesAreMarked
 pub mod RoomComesBack
 pub mod PoolIsDrawn
+pub mod OperationsRest

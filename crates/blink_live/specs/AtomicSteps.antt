@@ -22,7 +22,7 @@ use Rattle.blink_live.specs.declared.view.Stock.{Stock}
 use Rattle.blink_live.specs.declared.view.View.{View}
 use Rattle.blink_live.specs.Changes.{after, changes_made, states_of, Learns}
 use Rattle.blink_live.specs.Accounts.{HasSeenItsOwn}
-use Rattle.blink_live.specs.Views.{SeatState, KnowsItsOwn, ShowsNoMore, for_call, going_on, has_pages, has_rows, is_busy, knows_word, stage_word, changed_by, publishes_from, reading, forgets_told, learns_of_others, span, takes_out, SawItsOwn}
+use Rattle.blink_live.specs.Views.{SeatState, IsAnnounced, KnowsItsOwn, ShowsNoMore, for_call, going_on, has_pages, has_rows, is_busy, knows_word, stage_word, changed_by, publishes_from, reading, forgets_told, learns_of_others, span, takes_out, SawItsOwn}
 use Rattle.blink_live.specs.Words.{AreNumbersIn, AreRowsIn, IsRowNumber, row_start}
 
 -- the page of this number has a page word
@@ -54,6 +54,7 @@ pub record Begins (op : Op) (me : SeatState) (row : ℕ) (machine : PlainMachine
   pub only : (other : PlainMachine) → SeesPrime (fresh me.0.plan.fan op) prime other → other ≡ machine
   pub rows_in_range : AreRowsIn me.0.plan.counts me.0.rows
   pub knows_own : KnowsItsOwn then.0
+  pub announced : IsAnnounced then.0
   pub pages_in_range : AreNumbersIn me.0.plan.counts me.0.pages
   pub next : CanGoOn me.0.plan machine
 

@@ -1,6 +1,6 @@
 -- The steps by which the rows that a session has taken out come back to it: they wait until no seat can still read them, are free then,
 -- and are written one by one.
-use Rattle.std.specs.Prelude.{◌≡◌, ◌≢◌, ◌⊎◌, ℕ, suc, List, [], ◌∷◌, ◌++◌, slice_index}
+use Rattle.std.specs.Prelude.{◌≡◌, ◌≢◌, ◌⊎◌, ℕ, suc, ◌≤◌, List, [], ◌∷◌, ◌++◌, slice_index}
 use Rattle.atomic_table.specs.Table.{Step}
 use Rattle.blink_live.specs.declared.view.Stock.{Stock}
 use Rattle.blink_live.specs.declared.view.View.{View}
@@ -24,9 +24,9 @@ sees_mark mark stock = record stock { before = stock.before ++ mark ∷ [] }
 abbrev pub sees_place : Step ℕ → SeatState → ℕ → SeatState → Type 0
 sees_place st me found then = then ≡ (with_stock me.0 (sees_mark found me.0.stock), me.1)
 
--- and a second: the session of the place is idle, or has begun another operation since
+-- and a second: the session of the place reads nothing, or has begun another call since
 abbrev pub IsPast : Stock → ℕ → Type 0
-IsPast stock mark = (mark ≡ 0) ⊎ (mark ≢ slice_index stock.before stock.passed)
+IsPast stock mark = (mark ≤ 1) ⊎ (mark ≢ slice_index stock.before stock.passed)
 
 abbrev pub finds_past : Stock → Stock
 finds_past stock = record stock { passed = suc stock.passed }

@@ -2,7 +2,7 @@
 use Rattle.std.specs.Prelude.{◌≡◌, ℕ, ◌≤◌, Option, None, List, [], ◌∷◌, Contains}
 use mathlib.Core.List.{IsPrefix}
 use Rattle.blink_live.specs.declared.view.View.{View}
-use Rattle.blink_live.specs.Views.{IsCommon, SeatState, KnowsItsOwn, known_of}
+use Rattle.blink_live.specs.Views.{IsAnnounced, SeatState, KnowsItsOwn, known_of}
 
 -- each of these keys is one of the pass's own
 abbrev pub AllAreOwn : List ℕ → List ℕ → Type 0
@@ -18,7 +18,7 @@ pub record IsIdle (v : View) : Type 0 where
   pub rows : v.rows.next ≤ v.rows.stop
   pub pages : v.pages.next ≤ v.pages.stop
   pub knows_own : KnowsItsOwn v
-  pub announced : IsCommon v.plan → 1 ≤ v.busy
+  pub announced : IsAnnounced v
 
 -- between finds the seat is idle, and it knows what it knew before them, except that it may have seen more
 pub record HasSearched (first me : SeatState) : Type 0 where

@@ -62,9 +62,9 @@ pub record HasAside (plan : Plan) (whose : ℕ → ℕ) (seat : ℕ) (v : View) 
   pub own : (row : ℕ) → IsAside v.stock.aside row → whose row ≡ suc seat
   pub apart : (row : ℕ) → IsAside v.stock.aside row → ¬ IsAtHand v row
 
--- what a seat may say of its stock; and it is a session at an operation while it reads a row
+-- what a seat may say of its stock; and while it reads a row, it is a session whose mark says so
 pub record HasStock (plan : Plan) (whose : ℕ → ℕ) (words : List ℕ) (claim : ℕ → ℕ) (seat : ℕ) (v : View) : Type 0 where
-  pub awake : (row : ℕ) (content : List ℕ) → v.reads ≡ Some (row, content) → (v.role ≡ Pass) × (1 ≤ v.busy)
+  pub awake : (row : ℕ) (content : List ℕ) → v.reads ≡ Some (row, content) → (v.role ≡ Pass) × (2 ≤ v.busy)
   pub once : HasRowsOnce v.stock
   pub free : (row : ℕ) → Contains v.stock.free row → IsTakenOut plan whose words claim seat row
   pub retired : (row : ℕ) → Contains v.stock.retired row → IsTakenOut plan whose words claim seat row

@@ -20,7 +20,7 @@ use Rattle.blink_live.specs.declared.view.Role.{Role}
 use Rattle.blink_live.specs.declared.view.Role.TheVariants.{Pass}
 use Rattle.blink_live.specs.declared.view.View.{View}
 use Rattle.blink_live.specs.AtomicSteps.{Begins, CanGoOn, LoadsPage}
-use Rattle.blink_live.specs.Views.{SeatState, KnowsItsOwn, SameBesideReads, known_of, plan_of}
+use Rattle.blink_live.specs.Views.{SeatState, IsAnnounced, KnowsItsOwn, SameBesideReads, known_of, plan_of}
 
 -- the seat is that of a pass of this table
 pub record IsPassSeat (live : Live) (table : TableId) (me : SeatState) : Type 0 where
@@ -91,6 +91,7 @@ pub record HasRead (op : Op) (first me : SeatState) (m : PlainMachine) : Type 0 
   pub same_op : m.op ≡ op
   pub same_job : m.job ≡ Leaf
   pub next : CanGoOn first.0.plan m
+  pub announced : IsAnnounced me.0
 
 -- ---- a descent, a page at a time
 
@@ -109,6 +110,7 @@ pub record IsAtPage (me : SeatState) (key number level : ℕ) : Type 0 where
   pub same_job : machine.job ≡ Leaf
   pub same_key : key_of machine.op ≡ key
   pub fits : FitsWords machine.op
+  pub announced : IsAnnounced me.0
 
 -- the operation has read the page of this number in this row, and from there the key leads this way
 pub record ReadsWay (m : PlainMachine) (key number row : ℕ) (me : SeatState) (way : Way) (kept : Option ℕ) (then : SeatState) : Type 0 where

@@ -145,11 +145,15 @@ abbrev pub pages_of : Op → ℕ
 pages_of (Insert key pointer) = MAX_NEW_PAGES_PER_INSERT
 pages_of op = 0
 
+-- of a session: its mark says that it reads. At 0 it is idle, and at 1 it has an operation that rests
+abbrev pub IsAnnounced : View → Type 0
+IsAnnounced v = IsCommon v.plan → 2 ≤ v.busy
+
 -- the seat has these rows and page numbers, and a session has announced that it begins
 pub record CanBegin (v : View) (op : Op) : Type 0 where
   pub rows : v.rows.next + rows_of op ≤ v.rows.stop
   pub pages : v.pages.next + pages_of op ≤ v.pages.stop
-  pub announced : IsCommon v.plan → 1 ≤ v.busy
+  pub announced : IsAnnounced v
 
 -- the first of them go to the call that begins
 abbrev pub for_call : View → Op → View

@@ -12,7 +12,7 @@ ghost use Rattle.blink_rows.specs.declared.limits.TheConstants.{ROW_WORDS};
 ghost use Rattle.blink_rows.specs.{IsPrimeRow, page_words};
 ghost use Rattle.blink_machine.specs.{PlainMachine, fresh, NeedsPage, NeedsPrime, SeesPrime};
 ghost use Rattle.blink_live.specs.Seats.{BeginsAt, HasRead, HasSameNumber, IsAtLeaf, IsAtPage, IsPassSeat, IsSameSeat, ReadsPage, ReadsWay, TellsWayFor, ReadsPrime};
-ghost use Rattle.blink_live.specs.Views.{CanBegin, for_call, known_of};
+ghost use Rattle.blink_live.specs.Views.{CanBegin, IsAnnounced, for_call, known_of};
 ghost use Rattle.blink_live.specs.Words.{AreNumbersIn, AreRowsIn, IsRowNumber, IsSameOutside, row_start, word_count};
 ghost use Rattle.blink_live.specs.AtomicSteps.{Begins, LoadsPage, LoadsPrime};
 
@@ -239,6 +239,7 @@ impl Live {
         requires fits { FitsWords machine.old.op }
         requires needs { NeedsPage machine.old number }
         requires in_range { (1 ≤ number) × (number < self.now.counts.numbers) }
+        requires announced { IsAnnounced seat.old.me.0 }
         ensures same { HasSameNumber seat.old seat.new }
         ensures read { (row : ℕ) × LoadsPage machine.old number seat.old.me row machine.new seat.new.me }
     {
@@ -310,6 +311,7 @@ impl Live {
         requires at { seat.old.me.0.operation ≡ Some machine.old }
         requires fits { FitsWords machine.old.op }
         requires needs { NeedsPrime machine.old }
+        requires announced { IsAnnounced seat.old.me.0 }
         ensures same { HasSameNumber seat.old seat.new }
         ensures read { (row : ℕ) × LoadsPrime machine.old seat.old.me row machine.new seat.new.me }
         ensures moved { OnTrue result ((prime : List ℕ) × SeesPrime machine.old prime machine.new) }

@@ -11,7 +11,7 @@ use std::mem;
 
 impl Live {
     /// Brings rows that a session has taken out nearer to its free ones. At least `least` rows begin to wait together. They are
-    /// free once each place has been found with no mark at one of two looks, of which the first stands where the wait begins. The
+    /// free once each place has been found reading nothing, or with another mark than where the wait began. The
     /// call waits for nobody: it looks at each place once at most, beside the first looks.
     pub fn recycle(&self, seat: &mut Seat<u8, View>, shelf: &mut Shelf, least: usize)
         requires seat { IsPassSeat self.now seat.old.table_id seat.old.me }
@@ -114,7 +114,7 @@ impl Live {
             return false;
         }
         let mark = self.check_place(seat, place);
-        if mark != 0 && mark == shelf.before[place as usize] {
+        if mark > 1 && mark == shelf.before[place as usize] {
             return false;
         }
         shelf.passed = place + 1;

@@ -69,9 +69,9 @@ module _ {live : Live} {op : Op} {first last : Seat ℕ View} {m : PlainMachine}
       omega (arith, at, inside, next)
 
   -- what the operation has answered, where the seat was the member's before, and is again
-  pub in_order : (answer : Answer) (old new : Member) → HasEnded op first last answer → IsMemberOf live old → first.me.0 ≡ is_busy old.seat.me.0 1 → new.seat.me.0 ≡ is_busy (gives_back last.me.0) 0
+  pub in_order : (answer : Answer) (old new : Member) (mark : ℕ) → HasEnded op first last answer → IsMemberOf live old → first.me.0 ≡ is_busy old.seat.me.0 mark → new.seat.me.0 ≡ is_busy (gives_back last.me.0) 0
       → AnswersInOrder (opening_of live) op old new answer
-  in_order answer old new ended its begun now =
+  in_order answer old new mark ended its begun now =
       let told = ended.answers in
       let same_plan : first.me.0.plan ≡ plan_of live.table.shared.key = ap (λ (v : View). v.plan) begun ∙ its.same_plan in
       let same_place : first.me.0.place ≡ place_of_member old = ap (λ (v : View). v.place) begun in

@@ -1,6 +1,7 @@
 mod PlacesKept
 mod ChangesOfMembers
 mod MembersComeBack
+mod OperationsRest
 mod PendingsGoOn
 pub mod PendingsAreSent
 mod LooksOver

@@ -23,8 +23,8 @@ no_key_in : (keys : List ℕ) (key : ℕ) → keys ≡ [] → Contains keys key 
 no_key_in keys key none has = let has_none : Contains [] key = subst (λ (l : List ℕ). Contains l key) none has in let inside = has_none.1 in omega (arith, inside)
 
 -- a member may find where its place is marked
-pub can_look : (old : Member) (me : SeatState) → me ≡ (is_busy old.seat.me.0 1, old.seat.me.1) → IsIdle me.0
-can_look old me marked =
+pub can_look : (old : Member) (mark : ℕ) (me : SeatState) → 2 ≤ mark → me ≡ (is_busy old.seat.me.0 mark, old.seat.me.1) → IsIdle me.0
+can_look old mark me works marked =
     let view = ap (λ (x : SeatState). x.0) marked in
     let no_key : me.0.share.keys ≡ [] = ap (λ (v : View). v.share.keys) view ∙ old.no_key in record {
       idle = ap (λ (v : View). v.operation) view ∙ old.idle;
@@ -34,10 +34,10 @@ can_look old me marked =
         state = λ key has. absurd (no_key_in me.0.share.keys key no_key has);
         changes = λ key has. absurd (no_key_in me.0.share.keys key no_key has);
       };
-      announced = λ common. subst (λ (v : View). 1 ≤ v.busy) (sym view) (omega arith);
+      announced = λ common. subst (λ (v : View). 2 ≤ v.busy) (sym view) works;
     }
 
-module _ (old : Member) (first found : SeatState) (marked : first ≡ (is_busy old.seat.me.0 1, old.seat.me.1)) (searched : HasSearched first found) where
+module _ (old : Member) (mark : ℕ) (first found : SeatState) (marked : first ≡ (is_busy old.seat.me.0 mark, old.seat.me.1)) (searched : HasSearched first found) where
   -- afterwards the seat is still the member's
   pub is_still_its_seat : (live : Live) (table : TableId) → table ≡ old.seat.table_id → IsMemberOf live old → IsPassSeat live table found
   is_still_its_seat live table same its = record {

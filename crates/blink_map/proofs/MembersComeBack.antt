@@ -38,7 +38,7 @@ pub record IsIdleAgain (old : Member) (room : CallRoom) (seat : Seat ℕ View) :
   pub shelved : IsShelved room.shelf seat.me.0
 
 module _ {live : Live} {op : Op} {old : Member} {seat : Seat ℕ View} {m : PlainMachine} {room : CallRoom} (out : HasSetOut live op old seat m room) where
-  begun : out.first.me.0 ≡ is_busy old.seat.me.0 1
+  begun : out.first.me.0 ≡ is_busy old.seat.me.0 out.mark
   begun = ap (λ (x : SeatState). x.0) out.marked
 
   pub its_seat : IsPassSeat live seat.table_id seat.me
@@ -124,7 +124,7 @@ module _ {live : Live} {op : Op} {old : Member} {seat : Seat ℕ View} {m : Plai
       let next_page = ap (λ (s : Span). s.next) pages in
       let some_rows = few_rows_used in
       let some_pages = few_pages_used in record {
-        in_order = in_order out.under_way answer old new ended its begun now;
+        in_order = in_order out.under_way answer old new out.mark ended its begun now;
         rows = (ap (λ (s : Span). s.stop) rows, omega (arith, next_row, some_rows));
         pages = (ap (λ (s : Span). s.stop) pages, omega (arith, next_page, some_pages));
         same_member = record {

@@ -15,7 +15,7 @@ use Rattle.blink_map.specs.declared.map.Pending.{Pending}
 use Rattle.blink_map.specs.declared.map.Session.{Session}
 use Rattle.blink_map.specs.declared.member.Member.{Member}
 use Rattle.blink_map.specs.declared.member.UnderWay.{UnderWay}
-use Rattle.blink_map.specs.Changing.{HasChanged, HasDrawn, IsAtWork}
+use Rattle.blink_map.specs.Changing.{HasChanged, HasDrawn, IsAtRest, IsAtWork}
 use Rattle.blink_map.specs.Pendings.{HasBegun, op_of, session_of}
 use Rattle.blink_map.specs.Places.{IsMemberOf}
 use Rattle.blink_map.specs.Sessions.{IsAnswered, IsSessionOf, made_by_member, opening_of, place_of_member, seen_by}
@@ -31,15 +31,15 @@ its_member live old drawn its has_drawn = record {
 }
 
 -- the operation has begun, where its member may have drawn before
-pub has_begun : (map : Map) (op : Op) (session : Session) (drawn : Member) (pending : Pending) → IsSessionOf map session → session_of pending ≡ session → HasDrawn session.member drawn → IsAtWork map.live op drawn pending.now
+pub has_begun : (map : Map) (op : Op) (session : Session) (drawn : Member) (pending : Pending) → IsSessionOf map session → session_of pending ≡ session → HasDrawn session.member drawn → IsAtRest map.live op drawn pending.now
     → pending.claim.table_id ≡ session.claim.table_id → IsWaiting pending.now.machine → HasBegun map op session pending
-has_begun map op session drawn pending its same_session has_drawn at_work same_places waits =
-    let same_op : op_of pending ≡ op = at_work.set_out.under_way.updating.same_op in record {
+has_begun map op session drawn pending its same_session has_drawn at_rest same_places waits =
+    let same_op : op_of pending ≡ op = at_rest.rest.set_out.under_way.updating.same_op in record {
       its_own = record {
         its_own = subst (IsSessionOf map) (sym same_session) its;
         drawn = drawn;
         has_drawn = subst (λ (s : Session). HasDrawn s.member drawn) (sym same_session) has_drawn;
-        at_work = subst (λ (o : Op). IsAtWork map.live o drawn pending.now) (sym same_op) at_work;
+        at_rest = subst (λ (o : Op). IsAtRest map.live o drawn pending.now) (sym same_op) at_rest;
         same_places = same_places ∙ ap (λ (s : Session). s.claim.table_id) (sym same_session);
         waits = waits;
         no_latch = no_latch_waiting pending.now.machine waits;
@@ -52,10 +52,8 @@ has_begun map op session drawn pending its same_session has_drawn at_work same_p
 pub goes_on : (live : Live) (op : Op) (old : Member) (now next : UnderWay) → (work : IsAtWork live op old now) → IsUnderWay live op work.set_out.first next.seat next.machine next.room
     → next.rows ≡ now.rows → next.pages ≡ now.pages → next.place ≡ now.place → IsAtWork live op old next
 goes_on live op old now next work under_way rows pages place = record {
-  set_out = record { first = work.set_out.first; marked = work.set_out.marked; same_number = work.set_out.same_number; under_way = under_way };
-  rows = rows ∙ work.rows;
-  pages = pages ∙ work.pages;
-  place = place ∙ work.place;
+  set_out = record { first = work.set_out.first; mark = work.set_out.mark; marked = work.set_out.marked; same_number = work.set_out.same_number; under_way = under_way };
+  beside = record { rows = rows ∙ work.beside.rows; pages = pages ∙ work.beside.pages; place = place ∙ work.beside.place };
 }
 
 -- the answer of an operation before which its member may have drawn

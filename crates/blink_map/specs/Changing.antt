@@ -28,16 +28,33 @@ pub record HasDrawn (old new : Member) : Type 0 where
   pub made : made_by_member new ≡ made_by_member old
   pub same_member : IsSameMember old new
 
--- the operation of a member, which was `old` before, is under way at this seat: it began where the member's place had been marked
+-- the operation of a member, which was `old` before, is under way at this seat: it is as if it had begun with the mark that the
+-- member's place has
 pub record HasSetOut (live : Live) (op : Op) (old : Member) (seat : Seat ℕ View) (m : PlainMachine) (room : CallRoom) : Type 0 where
   pub first : Seat ℕ View
-  pub marked : first.me ≡ (is_busy old.seat.me.0 1, old.seat.me.1)
+  pub mark : ℕ
+  pub marked : first.me ≡ (is_busy old.seat.me.0 mark, old.seat.me.1)
   pub same_number : HasSameNumber old.seat first
   pub under_way : IsUnderWay live op first seat m room
 
--- and what the member has beside its seat is as it was
-pub record IsAtWork (live : Live) (op : Op) (old : Member) (now : UnderWay) : Type 0 where
-  pub set_out : HasSetOut live op old now.seat now.machine now.room
+-- and since then the place was marked as one whose operation rests
+pub record HasComeToRest (live : Live) (op : Op) (old : Member) (seat : Seat ℕ View) (m : PlainMachine) (room : CallRoom) : Type 0 where
+  pub awake : Seat ℕ View
+  pub set_out : HasSetOut live op old awake m room
+  pub same_number : HasSameNumber awake seat
+  pub rests : seat.me ≡ (is_busy awake.me.0 1, awake.me.1)
+
+-- what the member has beside its seat is as it was
+pub record HasBeside (old : Member) (now : UnderWay) : Type 0 where
   pub rows : now.rows ≡ old.rows
   pub pages : now.pages ≡ old.pages
   pub place : now.place ≡ old.place
+
+-- the operation takes steps, or rests
+pub record IsAtWork (live : Live) (op : Op) (old : Member) (now : UnderWay) : Type 0 where
+  pub set_out : HasSetOut live op old now.seat now.machine now.room
+  pub beside : HasBeside old now
+
+pub record IsAtRest (live : Live) (op : Op) (old : Member) (now : UnderWay) : Type 0 where
+  pub rest : HasComeToRest live op old now.seat now.machine now.room
+  pub beside : HasBeside old now

@@ -7,7 +7,7 @@ use Rattle.blink_map.specs.declared.map.Map.{Map}
 use Rattle.blink_map.specs.declared.map.Pending.{Pending}
 use Rattle.blink_map.specs.declared.map.Session.{Session}
 use Rattle.blink_map.specs.declared.member.Member.{Member}
-use Rattle.blink_map.specs.Changing.{HasDrawn, IsAtWork}
+use Rattle.blink_map.specs.Changing.{HasDrawn, IsAtRest}
 use Rattle.blink_map.specs.Sessions.{IsSessionOf}
 
 -- the operation
@@ -18,13 +18,13 @@ op_of pending = pending.now.machine.op
 abbrev pub session_of : Pending → Session
 session_of pending = pending.begun.value
 
--- an operation of a session of this map is under way, for which the session may have drawn rows and page numbers. It holds no
--- page's latch
+-- an operation of a session of this map is under way, for which the session may have drawn rows and page numbers. It rests: it
+-- holds no page's latch, and its place's mark says that it reads nothing
 pub record IsPendingOf (map : Map) (pending : Pending) : Type 0 where
   pub its_own : IsSessionOf map (session_of pending)
   pub drawn : Member
   pub has_drawn : HasDrawn (session_of pending).member drawn
-  pub at_work : IsAtWork map.live (op_of pending) drawn pending.now
+  pub at_rest : IsAtRest map.live (op_of pending) drawn pending.now
   pub same_places : pending.claim.table_id ≡ (session_of pending).claim.table_id
   pub waits : IsWaiting pending.now.machine
   pub no_latch : latch_of pending.now.machine ≡ None

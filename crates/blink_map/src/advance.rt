@@ -9,7 +9,7 @@ ghost use Rattle.blink_machine.specs.{IsUpdate};
 ghost use Rattle.blink_machine.specs.declared.machine.State.TheVariants.{Ended};
 ghost use Rattle.blink_live.specs.Pendings.{IsWaiting};
 ghost use Rattle.blink_map.specs.declared.member.Member.{Member};
-ghost use Rattle.blink_map.specs.Changing.{HasChanged, IsAtWork};
+ghost use Rattle.blink_map.specs.Changing.{HasChanged, IsAtRest, IsAtWork};
 ghost use Rattle.blink_map.specs.Pendings.{GoesOn, HasBegun, IsPendingOf, op_of, session_of};
 ghost use Rattle.blink_map.specs.Places.{IsMemberOf};
 ghost use Rattle.blink_map.specs.Sessions.{HasRoom, IsAnswered, IsSameBesideRoom, IsSessionOf, LacksRoom};
@@ -17,7 +17,7 @@ ghost use Rattle.blink_map.specs.Sessions.{HasRoom, IsAnswered, IsSameBesideRoom
 use crate::change::{come_back, room_of};
 use crate::error::Full;
 use crate::map::{Map, Pending, Session};
-use crate::member::{Member, UnderWay};
+use crate::member::{Member, REST, UnderWay, next_mark};
 use blink_batch::{Answer, Op};
 use blink_live::Live;
 use blink_machine::Machine;
@@ -112,6 +112,7 @@ impl Map {
             place,
             begun,
         } = pending;
+        now.wake(&self.live);
         match self
             .live
             .take_steps(&mut now.seat, &mut now.machine, &mut now.room, tries)
@@ -125,12 +126,15 @@ impl Map {
                 };
                 Ok((session, answer))
             }
-            None => Err(Pending {
-                now,
-                claim,
-                place,
-                begun,
-            }),
+            None => {
+                now.rest(&self.live);
+                Err(Pending {
+                    now,
+                    claim,
+                    place,
+                    begun,
+                })
+            }
         }
     }
 
@@ -168,13 +172,13 @@ impl Map {
 }
 
 impl Member {
-    // Begins an operation that changes the tree. The member's place stays marked until it has ended.
+    // Begins an operation that changes the tree, and lets it rest at its leaf.
     fn begin(self, live: &Live, op: Op) -> UnderWay
         requires its_own { IsMemberOf live.now self }
         requires updates { IsUpdate op }
         requires fits { FitsWords op }
         requires room { HasRoom op self.rows self.pages }
-        ensures at_work { IsAtWork live.now op self result }
+        ensures at_rest { IsAtRest live.now op self result }
         ensures waits { IsWaiting result.machine }
     {
         let Member {
@@ -183,11 +187,13 @@ impl Member {
             pages,
             place,
             shelf,
+            mut mark,
         } = self;
-        live.mark(&mut seat, place, 1);
+        live.mark(&mut seat, place, next_mark(&mut mark));
         let room = room_of(op, &rows, &pages, shelf);
         let mut machine = Machine::new(op, live.fan());
         live.set_out(&mut seat, &mut machine, &room, op);
+        live.mark(&mut seat, place, REST);
         UnderWay {
             seat,
             rows,
@@ -195,11 +201,45 @@ impl Member {
             place,
             machine,
             room,
+            mark,
         }
     }
 }
 
 impl UnderWay {
+    // The operation goes on: it may read rows again.
+    fn wake(&mut self, live: &Live)
+        requires at_rest { (op : Op) × (old : Member) × IsMemberOf live.now old
+            × IsAtRest live.now op old self.old }
+        ensures at_work { (op : Op) (old : Member) → IsMemberOf live.now old
+            → IsAtRest live.now op old self.old
+            → IsAtWork live.now op old self.new }
+        ensures machine { self.new.machine ≡ self.old.machine }
+    {
+        let UnderWay {
+            seat,
+            rows: _,
+            pages: _,
+            place,
+            machine: _,
+            room: _,
+            mark,
+        } = self;
+        live.mark(seat, *place, next_mark(mark));
+    }
+
+    // The operation rests: it reads no row, and holds no row back.
+    fn rest(&mut self, live: &Live)
+        requires at_work { (op : Op) × (old : Member) × IsMemberOf live.now old
+            × IsAtWork live.now op old self.old }
+        ensures at_rest { (op : Op) (old : Member) → IsMemberOf live.now old
+            → IsAtWork live.now op old self.old
+            → IsAtRest live.now op old self.new }
+        ensures machine { self.new.machine ≡ self.old.machine }
+    {
+        live.mark(&mut self.seat, self.place, REST);
+    }
+
     // The member when its operation has ended. What the operation hasn't used of its rows and page numbers is the member's again.
     fn end(self, live: &Live) -> Member
         requires at_work { (op : Op) × (old : Member) × IsMemberOf live.now old
@@ -218,6 +258,7 @@ impl UnderWay {
             place,
             machine: _machine,
             room,
+            mark,
         } = self;
         come_back(live, &mut seat, place);
         Member {
@@ -232,6 +273,7 @@ impl UnderWay {
             },
             place,
             shelf: room.shelf,
+            mark,
         }
     }
 }

@@ -1,25 +1,23 @@
 //! The operations that change a map: insert, delete, replace and exchange, by any session, at any key.
 ghost use Rattle.std.specs.Prelude.{◌≡◌, ◌↔◌, ◌+◌, ◌<◌, ◌≤◌, ℕ, None, Some, IfOk, IsTrue, OnErr};
-ghost use Rattle.atomic_table.specs.declared.Seat.{Seat};
 ghost use Rattle.blink_batch.specs.{FitsWords};
 ghost use Rattle.blink_batch.specs.declared.Op.{Op};
 ghost use Rattle.blink_batch.specs.declared.Op.TheVariants.{Delete, Exchange, Insert, Replace};
 ghost use Rattle.blink_machine.specs.{IsUpdate};
 ghost use Rattle.blink_machine.specs.declared.machine.State.TheVariants.{Ended};
-ghost use Rattle.blink_live.specs.declared.view.View.{View};
 ghost use Rattle.blink_live.specs.GivingBack.{CanGiveBack, gives_back};
 ghost use Rattle.blink_live.specs.Accounts.{HasSeenItsOwn};
 ghost use Rattle.blink_live.specs.Pendings.{IsWaiting};
 ghost use Rattle.blink_live.specs.Seats.{HasSameNumber, IsPassSeat};
-ghost use Rattle.blink_live.specs.Updating.{IsUnderWay};
 ghost use Rattle.blink_live.specs.Views.{is_busy, pages_of, rows_of, span};
-ghost use Rattle.blink_map.specs.Changing.{HasChanged, HasDrawn};
+ghost use Rattle.blink_map.specs.declared.member.Member.{Member};
+ghost use Rattle.blink_map.specs.Changing.{HasChanged, HasDrawn, HasSetOut};
 ghost use Rattle.blink_map.specs.Places.{IsMemberOf};
 ghost use Rattle.blink_map.specs.Sessions.{HasRoom, IsAnswered, IsSameBesideRoom, IsSessionOf, LacksRoom};
 
 use crate::error::Full;
 use crate::map::{Map, Session};
-use crate::member::Member;
+use crate::member::{Member, REST, next_mark};
 use crate::open::SHELF_ROWS;
 use atomic_table::Seat;
 use blink_batch::{Answer, Op};
@@ -205,6 +203,7 @@ impl Member {
             pages: _,
             place: _,
             shelf,
+            mark: _,
         } = self;
         if let Some(shelf) = shelf.as_mut() {
             if has_room_for_next(shelf) {
@@ -225,6 +224,7 @@ impl Member {
             pages: _,
             place: _,
             shelf: _,
+            mark: _,
         } = self;
         if rows.len() < least {
             if let Some(drawn) = live.draw_rows(seat, least, ROW_CHUNK) {
@@ -245,6 +245,7 @@ impl Member {
             pages,
             place: _,
             shelf: _,
+            mark: _,
         } = self;
         if pages.len() < least {
             if let Some(drawn) = live.draw_pages(seat, least, PAGE_CHUNK) {
@@ -276,12 +277,13 @@ impl Member {
             pages,
             place,
             shelf,
+            mark,
         } = self;
-        live.mark(seat, *place, 1);
+        live.mark(seat, *place, next_mark(mark));
         let mut room = room_of(op, rows, pages, shelf.take());
         let mut machine = Machine::new(op, live.fan());
         live.set_out(seat, &mut machine, &room, op);
-        let answer = to_end(rt, live, seat, &mut machine, &mut room);
+        let answer = to_end(rt, live, seat, *place, mark, &mut machine, &mut room);
         come_back(live, seat, *place);
         rows.next = room.rows.next;
         pages.next = room.pages.next;
@@ -337,27 +339,32 @@ pub(crate) fn room_of(op: Op, rows: &Span, pages: &Span, shelf: Option<Shelf>) -
     }
 }
 
-// Takes steps of the operation until it has ended, and returns its answer.
+// Takes steps of the operation until it has ended, and returns its answer. The operation rests between its tries.
 fn to_end<R: Wait>(
     rt: &R,
     live: &Live,
     seat: &mut Seat<u8, View>,
+    place: u64,
+    mark: &mut u64,
     machine: &mut Machine,
     room: &mut Room,
 ) -> Answer
-    requires under_way { (op : Op) × (first : Seat ℕ View)
-        × IsUnderWay live.now op first seat.old machine.old room.old }
+    requires set_out { (op : Op) × (old : Member) × IsMemberOf live.now old
+        × HasSetOut live.now op old seat.old machine.old room.old
+        × (place ≡ old.place) }
     requires waits { IsWaiting machine.old }
-    ensures under_way { (op : Op) (first : Seat ℕ View)
-        → IsUnderWay live.now op first seat.old machine.old room.old
-        → IsUnderWay live.now op first seat.new machine.new room.new }
+    ensures set_out { (op : Op) (old : Member)
+        → HasSetOut live.now op old seat.old machine.old room.old
+        → HasSetOut live.now op old seat.new machine.new room.new }
     ensures ended { (machine.new.state ≡ Ended) × (machine.new.answer ≡ Some result) }
 {
     for _ in rt.forever() {
         if let Some(answer) = live.take_steps(seat, machine, room, 1) {
             return answer;
         }
+        live.mark(seat, place, REST);
         thread::yield_now();
+        live.mark(seat, place, next_mark(mark));
     }
     unreachable!()
 }

@@ -81,6 +81,7 @@ fn settle(live: &Live, host: &mut Seat<u8, View>, member: Member)
         pages: _,
         place: _,
         shelf: _,
+        mark: _,
     } = member;
     live.settle_with(host, seat);
 }

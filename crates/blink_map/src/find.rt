@@ -8,7 +8,7 @@ ghost use Rattle.blink_map.specs.Places.{IsMemberOf};
 ghost use Rattle.blink_map.specs.Sessions.{IsSameBesideSeen, IsSessionOf, opening_of, seen_by, state_seen};
 
 use crate::map::{Map, Session};
-use crate::member::Member;
+use crate::member::{Member, next_mark};
 use blink_batch::Answer;
 use blink_live::Live;
 
@@ -43,8 +43,9 @@ impl Member {
             pages: _,
             place,
             shelf: _,
+            mark,
         } = self;
-        live.mark(seat, *place, 1);
+        live.mark(seat, *place, next_mark(mark));
         let answer = live.search(seat, key, None);
         live.mark(seat, *place, 0);
         match answer {

@@ -6,7 +6,7 @@ ghost use Rattle.blink_map.specs.Places.{IsMemberOf};
 ghost use Rattle.blink_map.specs.Sessions.{AnswersAsSeen, IsSameBesideSeen, IsSessionOf, opening_of, seen_by, seen_of_member};
 
 use crate::map::{Map, Session};
-use crate::member::Member;
+use crate::member::{Member, next_mark};
 use blink_live::Live;
 
 impl Map {
@@ -45,8 +45,9 @@ impl Member {
             pages: _,
             place,
             shelf: _,
+            mark,
         } = self;
-        live.mark(seat, *place, 1);
+        live.mark(seat, *place, next_mark(mark));
         live.search_all(seat, keys, answers);
         live.mark(seat, *place, 0);
     }

@@ -1,6 +1,6 @@
 //! What a session has beside its place: a seat of the tree's table, and the rows and page numbers that it may still use; also
 //! while an operation is under way.
-ghost use Rattle.std.specs.Prelude.{◌≡◌, ◌<◌, ◌≤◌, [], None};
+ghost use Rattle.std.specs.Prelude.{◌≡◌, ◌≢◌, ◌<◌, ◌≤◌, [], None};
 ghost use Rattle.blink_live.specs.declared.view.Role.TheVariants.{Pass};
 ghost use Rattle.blink_live.specs.Accounts.{HasSeenItsOwn};
 ghost use Rattle.blink_live.specs.Shelves.{IsShelved, IsShelved-prop};
@@ -21,6 +21,8 @@ pub(crate) struct Member {
     pub place: u64,
     // The rows that the member's changes have taken out, and their way back.
     pub shelf: Option<Shelf>,
+    // The mark that its place had last while it worked.
+    pub mark: u64,
     ghost rows_are: { rows ≡ seat.me.0.rows },
     ghost pages_are: { pages ≡ seat.me.0.pages },
     ghost place_is: { (place ≡ seat.me.0.place) × (place < seat.me.0.plan.places) },
@@ -45,4 +47,22 @@ pub(crate) struct UnderWay {
     pub place: u64,
     pub machine: Machine,
     pub room: Room,
+    pub mark: u64,
+}
+
+/// The mark of a place whose operation rests: the session reads nothing, and the map can't close.
+pub(crate) const REST: u64 = 1;
+
+// The least mark of a session at work.
+const WORK: u64 = 2;
+
+/// The mark for a session that begins to work. It is another one than the last, so that whoever looks at the place twice sees that
+/// the session has ended what it read.
+pub(crate) fn next_mark(mark: &mut u64) -> u64
+    ensures works { 2 ≤ result }
+    ensures other { result ≢ mark.old }
+    ensures kept { mark.new ≡ result }
+{
+    *mark = mark.wrapping_add(1).max(WORK);
+    *mark
 }

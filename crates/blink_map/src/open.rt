@@ -133,5 +133,6 @@ fn admit<B: Dealt>(live: &Live, host: &mut Seat<u8, View>, place: u64, shelf: Sh
         pages: Span { next: 1, stop: 1 },
         place,
         shelf: Some(shelf),
+        mark: 0,
     }
 }

@@ -6,7 +6,7 @@ ghost use Rattle.blink_map.specs.Places.{IsMemberOf};
 ghost use Rattle.blink_map.specs.Sessions.{IsSameBesideSeen, IsSessionOf, opening_of, seen_by};
 
 use crate::map::{Map, Session};
-use crate::member::Member;
+use crate::member::{Member, next_mark};
 use blink_batch::Entry;
 use blink_live::{Live, Scanned};
 
@@ -55,8 +55,9 @@ impl Member {
             pages: _,
             place,
             shelf: _,
+            mark,
         } = self;
-        live.mark(seat, *place, 1);
+        live.mark(seat, *place, next_mark(mark));
         let scanned = live.scan_by(seat, lo, hi, into);
         live.mark(seat, *place, 0);
         scanned

@@ -52,6 +52,7 @@ impl Member {
             pages: _,
             place: _,
             shelf: _,
+            mark: _,
         } = self;
         let Member {
             seat,
@@ -59,6 +60,7 @@ impl Member {
             pages: _,
             place,
             shelf: _,
+            mark: _,
         } = other;
         live.pass_on(teller, seat);
         live.look_up(seat);

@@ -27,7 +27,7 @@ use Rattle.blink_live.specs.Changes.{changes_made}
 use Rattle.blink_live.specs.Seats.{HasSameNumber, IsFirst, IsPassSeat}
 use Rattle.blink_live.specs.Shelves.{IsShelved}
 use Rattle.blink_live.specs.Updating.{SameBesideCall, HasDecided, not_yet, decided, HasLeft, IsUpdating, HasEnded, IsUnderWay}
-use Rattle.blink_live.specs.Views.{IsCommon, MayChange, SeatState, changed_by, for_call, latch_number_by, no_words, pages_of, rows_of, span}
+use Rattle.blink_live.specs.Views.{IsAnnounced, IsCommon, MayChange, SeatState, changed_by, for_call, latch_number_by, no_words, pages_of, rows_of, span}
 use Rattle.blink_live.specs.Words.{IsRowNumber}
 use Rattle.blink_live.proofs.told.PrefixesOfOneList.{prefix_of_prefix}
 use Rattle.blink_live.proofs.changed.RowsAreLent.{shelved_so}
@@ -159,6 +159,9 @@ module _ {live : Live} {op : Op} {first seat : Seat ℕ View} {m : PlainMachine}
     same_plan = ap (λ (v : View). v.plan) is.updating.same.0 ∙ is.can.seat.same_plan;
     role = ap (λ (v : View). v.role) is.updating.same.0 ∙ is.can.seat.role;
   }
+
+  pub is_announced : IsAnnounced seat.me.0
+  is_announced = subst IsAnnounced (sym is.updating.same.0) is.can.can_begin.announced
 
   pub is_its_operation : m.state ≢ Ended → seat.me.0.operation ≡ Some m
   is_its_operation goes = is.updating.operation ∙ goes_unless_ended m m.state goes

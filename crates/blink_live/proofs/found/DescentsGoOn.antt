@@ -53,6 +53,7 @@ module _ (op : Op) (number level : ℕ) (me then : SeatState) (begun : BeginsAt 
         same_op = ap (λ (m : PlainMachine). m.op) is_at_root;
         same_job = ap (λ (m : PlainMachine). m.job) is_at_root;
         next = begins.next;
+        announced = begins.announced;
       }
 
   pub state_at_root : begun.machine.state ≡ Going number level
@@ -71,6 +72,7 @@ at_page op key number level first me m read fits same_key state = record {
   same_job = read.same_job;
   same_key = ap key_of read.same_op ∙ same_key;
   fits = subst FitsWords (sym read.same_op) fits;
+  announced = read.announced;
 }
 
 -- what an operation in its descent learns from the row

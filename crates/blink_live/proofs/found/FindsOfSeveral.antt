@@ -71,7 +71,7 @@ searched_once key me new was saw own ended same slots =
         rows = subst (λ (s : Span). s.next ≤ s.stop) (sym rows) was.rows;
         pages = subst (λ (s : Span). s.next ≤ s.stop) (sym pages) was.pages;
         knows_own = own;
-        announced = λ common. subst (λ (v : View). 1 ≤ v.busy) (sym same) (was.announced (subst (λ (v : View). IsCommon v.plan) same common));
+        announced = λ common. subst (λ (v : View). 2 ≤ v.busy) (sym same) (was.announced (subst (λ (v : View). IsCommon v.plan) same common));
       };
       same_plan = ap (λ (v : View). v.plan) same;
       same_role = ap (λ (v : View). v.role) same;

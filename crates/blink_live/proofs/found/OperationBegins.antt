@@ -97,7 +97,7 @@ module _ (plan : Plan) (s : State ℕ View) (tree_state : TreeState) (h : IsTabl
         saw = ([], append-nil h.log);
         heard = known.heard;
         in_role = subst (IsInRole plan h.owners h.log id w) (sym role) kept;
-        placed = λ common is. let p = known.placed common is in record { in_range = p.in_range; own = p.own; word = p.word; busy = λ m goes. can.announced (subst IsCommon (sym known.same_plan) common) };
+        placed = λ common is. let p = known.placed common is in record { in_range = p.in_range; own = p.own; word = p.word; busy = λ m goes. let marked = can.announced (subst IsCommon (sym known.same_plan) common) in omega (arith, marked) };
         places_left = λ dealt back is. absurd (let e : Pass ≡ Keeper dealt back = sym role ∙ is in cc);
         nothing = λ common dealt back is. absurd (let e : Pass ≡ Keeper dealt back = sym role ∙ is in cc);
       }
@@ -152,6 +152,7 @@ begins_operation plan slots id me op role idle fits enough some_number s table h
           only = first.only;
           rows_in_range = subst (λ (p : Plan). (1 ≤ me.0.rows.next) × (me.0.rows.stop ≤ p.counts.rows + 1)) (sym known.same_plan) known.rows.in_range;
           knows_own = share_is_known plan h.owners (suc id) w known.same_plan known.share;
+          announced = enough.announced;
           pages_in_range = subst (λ (p : Plan). (1 ≤ me.0.pages.next) × (me.0.pages.stop ≤ p.counts.numbers) × (p.counts.numbers ≤ MAX_PAGE + 1)) (sym known.same_plan) (known.numbers.in_range.0, known.numbers.in_range.1, h.bounded.numbers_bounded);
           next = next_page_is_there plan (moved tree_state id (goes_on after after.state)) (record { no_page = h.no_other_page; no_latch = h.no_other_latch }) me.0.plan id after known.same_plan invariant (put_here tree_state.machines id (goes_on after after.state));
         },

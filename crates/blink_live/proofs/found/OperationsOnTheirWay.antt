@@ -17,7 +17,7 @@ use Rattle.blink_live.specs.declared.view.View.{View}
 use Rattle.blink_live.specs.Changes.{after}
 use Rattle.blink_live.specs.AtomicSteps.{LoadsPage, AnswersAfter, CanGoOn}
 use Rattle.blink_live.specs.Seats.{IsGoing, IsAtLeaf, IsPassSeat, found, wants, IsDescending, going, at_leaf, HasRead}
-use Rattle.blink_live.specs.Views.{SeatState, SameBesideReads, reading, known_of}
+use Rattle.blink_live.specs.Views.{IsAnnounced, SeatState, SameBesideReads, reading, known_of}
 use Rattle.blink_live.proofs.told.PrefixesOfOneList.{prefix_of_prefix}
 
 pub same_trans : (u v w : View) → SameBesideReads u v → SameBesideReads v w → SameBesideReads u w
@@ -37,6 +37,7 @@ module _ (op : Op) (number row : ℕ) (first me : SeatState) (m then : PlainMach
     same_op = same_op ∙ has.same_op;
     same_job = same_job ∙ has.same_job;
     next = subst (λ (p : Plan). CanGoOn p then) (ap (λ (v : View). v.plan) has.same.0) loads.next;
+    announced = subst (λ (x : SeatState). IsAnnounced x.0) (sym loads.is) has.announced;
   }
 
   -- what it answers now is what its key maps to after the changes that the seat has seen

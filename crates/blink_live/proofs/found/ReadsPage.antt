@@ -20,7 +20,7 @@ use Rattle.blink_live.specs.declared.view.View.{View}
 use Rattle.blink_live.specs.Changes.{after}
 use Rattle.blink_live.specs.AtomicSteps.{loads_page, LoadsPage, AnswersAfter, TellsStates}
 use Rattle.blink_live.specs.Rule.{IsTable, IsTableAt, PageWordIs}
-use Rattle.blink_live.specs.Views.{SeatState, reading}
+use Rattle.blink_live.specs.Views.{IsAnnounced, IsCommon, SeatState, reading}
 use Rattle.blink_live.proofs.reuse.ReuseStaysSafe.{row_is}
 use Rattle.blink_live.proofs.table.LoadsKeepTable.{moved, load_keeps}
 use Rattle.blink_live.proofs.table.SharesAreKnown.{share_is_known}
@@ -61,9 +61,9 @@ lawful_within fan page less lawful = record {
 }
 
 pub reads_page_word : (plan : Plan) (slots id number : ℕ) (me : SeatState) (m : PlainMachine) → me.0.role ≡ Pass → me.0.operation ≡ Some m → FitsWords m.op → NeedsPage m number
-    → 1 ≤ number → number < plan.counts.numbers
+    → 1 ≤ number → number < plan.counts.numbers → IsAnnounced me.0
     → Allows (IsTable plan) slots id me number (λ k. k) (loads_page (step slots number 0 0 none) me)
-reads_page_word plan slots id number me m role at_m fits needs some_number in_range s table homes at small =
+reads_page_word plan slots id number me m role at_m fits needs some_number in_range announced s table homes at small =
     let tree_state : TreeState = table.0 in
     let h : IsTableAt plan s tree_state = table.1 in
     let known = h.views id me.0 at in
@@ -89,7 +89,7 @@ reads_page_word plan slots id number me m role at_m fits needs some_number in_ra
           is_page
           ([], append-nil h.log)
           (h.views id me.0 at).saw
-          (λ common other content is. record { awake = (role, (known.placed common role).busy m at_m); from = inr (number, in_range, row_is row other (page_words reads.page) content is) }),
+          (λ common other content is. record { awake = (role, announced (subst IsCommon (sym known.same_plan) common)); from = inr (number, in_range, row_is row other (page_words reads.page) content is) }),
       λ same at_same needed. subst (λ (k : PlainMachine). (machine : PlainMachine) × LoadsPage k number me row machine (w, me.1)) (let e : m ≡ same = cc in e) (
         then,
         record {

@@ -18,7 +18,7 @@ use Rattle.blink_live.specs.declared.view.Role.TheVariants.{Pass}
 use Rattle.blink_live.specs.declared.view.View.{View}
 use Rattle.blink_live.specs.AtomicSteps.{AsksPrime, NeedsNoMore, loads_prime, LoadsPrime}
 use Rattle.blink_live.specs.Rule.{IsTable, IsTableAt}
-use Rattle.blink_live.specs.Views.{SeatState, reading}
+use Rattle.blink_live.specs.Views.{IsAnnounced, IsCommon, SeatState, reading}
 use Rattle.blink_live.proofs.reuse.ReuseStaysSafe.{row_is}
 use Rattle.blink_live.proofs.table.LoadsKeepTable.{moved, load_keeps}
 use Rattle.blink_live.proofs.table.SharesAreKnown.{share_is_known}
@@ -67,9 +67,9 @@ module _ (tree_state : TreeState) (invariant : Invariant tree_state) (worker : �
         uses = record { same_op = uses.same_op; numbers = omega (arith, numbers); page_writes = omega (arith, page_writes); prime_writes = omega (arith, prime_writes) };
       }
 
-pub reads_prime_word : (plan : Plan) (slots id : ℕ) (me : SeatState) (m : PlainMachine) → me.0.role ≡ Pass → me.0.operation ≡ Some m → FitsWords m.op → NeedsPrime m → 1 ≤ plan.counts.numbers
+pub reads_prime_word : (plan : Plan) (slots id : ℕ) (me : SeatState) (m : PlainMachine) → me.0.role ≡ Pass → me.0.operation ≡ Some m → FitsWords m.op → NeedsPrime m → 1 ≤ plan.counts.numbers → IsAnnounced me.0
     → Allows (IsTable plan) slots id me 0 (λ k. k) (loads_prime (step slots 0 0 0 none) me)
-reads_prime_word plan slots id me m role at_m fits needs some_number s table homes at small =
+reads_prime_word plan slots id me m role at_m fits needs some_number announced s table homes at small =
     let tree_state : TreeState = table.0 in
     let h : IsTableAt plan s tree_state = table.1 in
     let known = h.views id me.0 at in
@@ -84,7 +84,7 @@ reads_prime_word plan slots id me m role at_m fits needs some_number s table hom
       keeps,
       tt,
       load_keeps plan s tree_state h id 0 me.0 w at role (m, at_m) comes.invariant refl (λ some_other is. ap (descent_bound tree_state.pages) (sym (goes_on_as then then.state some_other is))) h.prime ([], append-nil h.log) (h.views id me.0 at).saw
-          (λ common other content is. record { awake = (role, (known.placed common role).busy m at_m); from = inr (0, omega (arith, some_number), row_is row other (prime_words tree_state.prime) content is) }),
+          (λ common other content is. record { awake = (role, announced (subst IsCommon (sym known.same_plan) common)); from = inr (0, omega (arith, some_number), row_is row other (prime_words tree_state.prime) content is) }),
       λ same at_same needed. subst (λ (k : PlainMachine). (machine : PlainMachine) × LoadsPrime k me row machine (w, me.1)) (let e : m ≡ same = cc in e) (
         then,
         record {

@@ -111,7 +111,7 @@ row_is row other content words is = let same : ◌≡◌ {A = ℕ × List ℕ} (
 
 -- the seat reads what it read, or a row that a page word names
 pub record MayRead (plan : Plan) (words : List ℕ) (v w : View) (row : ℕ) : Type 0 where
-  pub awake : (w.role ≡ Pass) × (1 ≤ w.busy)
+  pub awake : (w.role ≡ Pass) × (2 ≤ w.busy)
   pub from : ((content : List ℕ) × (v.reads ≡ Some (row, content)) × (w.place ≡ v.place) × (w.busy ≡ v.busy)) ⊎ ((number : ℕ) × (number < plan.counts.numbers) × (slice_index words number ≡ row))
 
 abbrev pub MayReadOn : Plan → List ℕ → View → View → Type 0

@@ -1,6 +1,7 @@
 -- Rows wait, until each place's session is idle or has begun anew since: then nobody reads them, and they are free.
 use Rattle.std.proofs.Common.{◌≡◌, ◌≢◌, ⊎_elim, ℕ, suc, ◌+◌, ◌<◌, ◌≤◌, Some, List, [], ◌∷◌, ◌++◌, length, set, refl, sym, ap, ◌∙◌, subst, inl, inr, length-append, arith}
 use Rattle.std.specs.Prelude.{Contains, slice_index}
+use Rattle.std.proofs.Math.Decide.{dec_le}
 use Rattle.std.proofs.lemmas.List.Elements.{Contains-append_cases}
 use mathlib.Core.Option.{some, none}
 use mathlib.Core.Logic.{dite}
@@ -96,7 +97,7 @@ module _ (plan : Plan) (s : State ℕ View) (tree_state : TreeState) (h : IsTabl
             λ e.
             let found : u.busy ≡ slice_index s.words (place_word plan.counts v.stock.passed) = sym (reader_has_place seat u row content there is).word ∙ ap (λ (n : ℕ). slice_index s.words (place_word plan.counts n)) e in
             ⊎_elim
-            (λ (idle : slice_index s.words (place_word plan.counts v.stock.passed) ≡ 0). let awake = ((safe.stocks seat u there).awake row content is).1 in let none_there : u.busy ≡ 0 = found ∙ idle in omega (arith, awake, none_there))
+            (λ (idle : slice_index s.words (place_word plan.counts v.stock.passed) ≤ 1). let awake = ((safe.stocks seat u there).awake row content is).1 in omega (arith, awake, found, idle))
             (λ (differs : slice_index s.words (place_word plan.counts v.stock.passed) ≢ slice_index v.stock.before v.stock.passed). differs (sym found ∙ (held.same (omega (arith, e, looked)) ∙ ap (slice_index v.stock.before) e)))
             past in
             record { later = omega (arith, later, not_here); same = held.same };
@@ -161,10 +162,10 @@ sees_place_at plan slots id place me role common next more s table homes at smal
     )
 
 past_or_not : (stock : Stock) (mark : ℕ) → Dec (IsPast stock mark)
-past_or_not stock mark = elim (ℕ_discrete mark 0) [
+past_or_not stock mark = elim (dec_le mark 1) [
   | yes idle ↦ yes (inl idle)
   | no busy ↦ elim (ℕ_discrete mark (slice_index stock.before stock.passed)) [
-    | yes same ↦ no (λ past. ⊎_elim (λ (idle : mark ≡ 0). busy idle) (λ (differs : mark ≢ slice_index stock.before stock.passed). differs same) past)
+    | yes same ↦ no (λ past. ⊎_elim (λ (idle : mark ≤ 1). busy idle) (λ (differs : mark ≢ slice_index stock.before stock.passed). differs same) past)
     | no differs ↦ yes (inr differs)
   ]
 ]

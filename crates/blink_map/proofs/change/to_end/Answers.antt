@@ -1,12 +1,41 @@
+use Rattle.std.proofs.Common.{◌≡◌, ◌<◌, ℕ, inr, sym, ◌∙◌, subst, arith}
+use Rattle.blink_map.proofs.MembersComeBack.{its_place, its_seat}
+use Rattle.blink_map.proofs.OperationsRest.{comes_to_rest, goes_on_from_rest, place_at_rest, seat_at_rest, steps_on}
 use Rattle.blink_map.proofs.change.to_end.Goals as goal
 
 pub take_steps-requires : goal.take_steps-requires
 take_steps-requires g c =
-    let is = c.requires.under_way in
-    record { under_way = (is.0, is.1, c.loop.invariant.under_way is.0 is.1 is.2); waits = c.loop.invariant.waits }
+    let is = c.requires.set_out in
+    let out = c.loop.invariant.set_out is.0 is.1 is.3 in
+    record { under_way = (is.0, out.first, out.under_way); waits = c.loop.invariant.waits }
+
+pub returns-in-Some-take_steps-clause-set_out : goal.returns-in-Some-take_steps-clause-set_out
+returns-in-Some-take_steps-clause-set_out g c op old is =
+    let out = c.loop.invariant.set_out op old is in steps_on out (c.take_steps.ensures.under_way op out.first out.under_way)
+
+pub mark-requires : goal.mark-requires
+mark-requires g c =
+    let is = c.requires.set_out in
+    let out = c.loop.invariant.set_out is.0 is.1 is.3 in
+    let now = steps_on out (c.take_steps.ensures.under_way is.0 out.first out.under_way) in
+    let place = its_place now is.2 in
+    record { seat = its_seat now; place = (is.4 ∙ place.0, subst (λ (n : ℕ). n < c.args.live.now.places) (sym is.4) place.1); idle = inr (omega arith) }
+
+pub mark-requires-in-loop : goal.mark-requires-in-loop
+mark-requires-in-loop g c =
+    let is = c.requires.set_out in
+    let out = c.loop.invariant.set_out is.0 is.1 is.3 in
+    let rest = comes_to_rest (steps_on out (c.take_steps.ensures.under_way is.0 out.first out.under_way)) c.mark.new.seat c.mark.ensures.same c.mark.ensures.marked in
+    let place = place_at_rest rest is.2 in
+    let works = c.next_mark.ensures.works in
+    record { seat = seat_at_rest rest; place = (is.4 ∙ place.0, subst (λ (n : ℕ). n < c.args.live.now.places) (sym is.4) place.1); idle = inr (omega (arith, works)) }
 
 pub loop-preserved : goal.loop-preserved
-loop-preserved g c = record { turns = (tt, tt); under_way = λ op first is. c.take_steps.ensures.under_way op first (c.loop.invariant.under_way op first is); waits = c.in_default.ensures.waits }
-
-pub returns-in-Some-take_steps-clause-under_way : goal.returns-in-Some-take_steps-clause-under_way
-returns-in-Some-take_steps-clause-under_way g c op first is = c.take_steps.ensures.under_way op first (c.loop.invariant.under_way op first is)
+loop-preserved g c = record {
+  turns = (tt, tt);
+  set_out = λ op old is.
+      let out = c.loop.invariant.set_out op old is in
+      let rest = comes_to_rest (steps_on out (c.take_steps.ensures.under_way op out.first out.under_way)) c.mark.new.seat c.mark.ensures.same c.mark.ensures.marked in
+      goes_on_from_rest rest c.next_mark.result c.next_mark.ensures.works c.mark-in-loop.new.seat c.mark-in-loop.ensures.same c.mark-in-loop.ensures.marked;
+  waits = c.in_default.ensures.waits;
+}

@@ -1,14 +1,13 @@
 use Rattle.std.proofs.Common.{ℕ}
-use Rattle.atomic_table.specs.declared.Seat.{Seat}
 use Rattle.blink_batch.specs.declared.Op.{Op}
-use Rattle.blink_live.specs.declared.view.View.{View}
 use Rattle.blink_live.specs.Pendings.{IsWaiting}
-use Rattle.blink_live.specs.Updating.{IsUnderWay}
+use Rattle.blink_map.specs.declared.member.Member.{Member}
+use Rattle.blink_map.specs.Changing.{HasSetOut}
 use Rattle.blink_map.proofs.change.to_end.Given as goal
 
 abbrev pub invariant-loop : goal.invariant-loop
 invariant-loop g l = record {
   turns : (goal.iterator-loop g).can_next l.iterator' × (goal.iterator-loop g).is_finite l.iterator';
-  under_way : (op : Op) (first : Seat ℕ View) → IsUnderWay l.live op first l.fn.seat l.fn.machine l.fn.room → IsUnderWay l.live op first l.seat l.machine l.room;
+  set_out : (op : Op) (old : Member) → HasSetOut l.live op old l.fn.seat l.fn.machine l.fn.room → HasSetOut l.live op old l.seat l.machine l.room;
   waits : IsWaiting l.machine;
 }

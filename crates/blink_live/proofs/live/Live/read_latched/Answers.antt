@@ -14,7 +14,7 @@ load-row-requires c =
       c.requires.seat.same_table,
       omega (arith, c.args.self.now.width, in_range),
       reads_page_word _ _ _ _ _ c.args.machine.now c.requires.seat.role c.requires.at c.requires.fits c.requires.needs in_range.0
-          (subst (λ (counts : PlainCounts). c.args.number < counts.numbers) c.args.self.now.counts_are in_range.1),
+          (subst (λ (counts : PlainCounts). c.args.number < counts.numbers) c.args.self.now.counts_are in_range.1) c.requires.announced,
     )
 
 -- the page that the row's words tell is the one that the page word's load told

@@ -17,7 +17,7 @@ load-row-requires c =
       c.requires.seat.same_table,
       omega (arith, c.args.self.now.width, in_range),
       reads_page_word _ _ _ _ _ at.machine c.requires.seat.role at.operation at.fits (ap need_at at.state) in_range.0
-          (subst (λ (counts : PlainCounts). c.args.number < counts.numbers) c.args.self.now.counts_are in_range.1),
+          (subst (λ (counts : PlainCounts). c.args.number < counts.numbers) c.args.self.now.counts_are in_range.1) at.announced,
     )
 
 reads_page : {machine : PlainMachine} {key number level row : ℕ} {me then : SeatState} (at : IsAtPage me key number level) → (loads : LoadsPage at.machine number me row machine then) → ReadsPage then row loads.page × (loads.page.level ≡ level)

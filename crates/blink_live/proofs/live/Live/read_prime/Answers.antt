@@ -16,7 +16,7 @@ load-row-requires c = (
   c.requires.seat.same_table,
   omega (arith, c.args.self.now.width, c.args.self.now.some_number),
   reads_prime_word _ _ _ _ c.args.machine.now c.requires.seat.role c.requires.at c.requires.fits c.requires.needs
-      (subst (λ (counts : PlainCounts). 1 ≤ counts.numbers) c.args.self.now.counts_are c.args.self.now.some_number),
+      (subst (λ (counts : PlainCounts). 1 ≤ counts.numbers) c.args.self.now.counts_are c.args.self.now.some_number) c.requires.announced,
 )
 
 -- the prime block that the row's words tell is the one that the page word's load told

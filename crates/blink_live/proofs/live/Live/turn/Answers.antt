@@ -11,6 +11,7 @@ read_prime-requires c =
       at = on.is_its_operation is c.requires.goes_on;
       fits = on.its_words_fit is;
       needs = sym c.need.ensures ∙ c.in-ReadPrime.is;
+      announced = on.is_announced is;
     }
 
 pub read_latched-requires : goal.read_latched-requires
@@ -22,6 +23,7 @@ read_latched-requires c =
       fits = on.its_words_fit is;
       needs = needs;
       in_range = on.page_in_range is c.in-ReadPage.number needs;
+      announced = on.is_announced is;
     }
 
 pub try_latch-requires : goal.try_latch-requires

@@ -1,10 +1,18 @@
-use Rattle.std.proofs.Common.{refl}
+use Rattle.std.proofs.Common.{refl, inr, arith}
+use Rattle.blink_map.specs.Changing.{HasSetOut}
+use Rattle.blink_map.proofs.MembersComeBack.{its_place, its_seat}
+use Rattle.blink_map.proofs.OperationsRest.{comes_to_rest}
 use Rattle.blink_map.proofs.member.Member.begin.Goals as goal
 
-pub returns-clause-at_work : goal.returns-clause-at_work
-returns-clause-at_work c = record {
-  set_out = record { first = c.mark.new.seat; marked = c.mark.ensures.marked; same_number = c.mark.ensures.same; under_way = c.set_out.ensures.under_way };
-  rows = refl;
-  pages = refl;
-  place = refl;
-}
+pub mark-requires-2 : goal.mark-requires-2
+mark-requires-2 c =
+    let out : HasSetOut c.args.live.now c.args.op c.args.self c.set_out.new.seat c.set_out.new.machine c.room_of-room.result = record { first = c.mark.new.seat; mark = c.next_mark.result; marked = c.mark.ensures.marked; same_number = c.mark.ensures.same; under_way = c.set_out.ensures.under_way } in
+    record { seat = its_seat out; place = its_place out c.requires.its_own; idle = inr (omega arith) }
+
+pub returns-clause-at_rest : goal.returns-clause-at_rest
+returns-clause-at_rest c =
+    let out : HasSetOut c.args.live.now c.args.op c.args.self c.set_out.new.seat c.set_out.new.machine c.room_of-room.result = record { first = c.mark.new.seat; mark = c.next_mark.result; marked = c.mark.ensures.marked; same_number = c.mark.ensures.same; under_way = c.set_out.ensures.under_way } in
+    record {
+      rest = comes_to_rest out c.mark-2.new.seat c.mark-2.ensures.same c.mark-2.ensures.marked;
+      beside = record { rows = refl; pages = refl; place = refl };
+    }

@@ -11,7 +11,7 @@ use Rattle.blink_map.proofs.LooksOver.{can_look, found_as_seen, has_looked, is_s
 use Rattle.blink_map.proofs.member.Member.look_over.Goals as goal
 
 pub search_all-requires-clause-idle : goal.search_all-requires-clause-idle
-search_all-requires-clause-idle c = can_look c.args.self.now c.mark.new.seat.me c.mark.ensures.marked
+search_all-requires-clause-idle c = can_look c.args.self.now c.next_mark.result c.mark.new.seat.me c.next_mark.ensures.works c.mark.ensures.marked
 
 pub mark-requires-2 : goal.mark-requires-2
 mark-requires-2 c =
@@ -21,7 +21,7 @@ mark-requires-2 c =
     let found = c.search_all.ensures.searched in
     let inside = old.place_is.1 in
     let same : old.seat.me.0.plan.places ≡ live.places = ap (λ (p : Plan). p.places) c.requires.its_own.same_plan ∙ sym live.places_are in record {
-      seat = is_still_its_seat old c.mark.new.seat.me c.search_all.new.seat.me marked found live _ (c.search_all.ensures.same_table.0 ∙ c.mark.ensures.same.0) c.requires.its_own;
+      seat = is_still_its_seat old c.next_mark.result c.mark.new.seat.me c.search_all.new.seat.me marked found live _ (c.search_all.ensures.same_table.0 ∙ c.mark.ensures.same.0) c.requires.its_own;
       place = (old.place_is.0 ∙ sym (found.same_place ∙ ap (λ (x : SeatState). x.0.place) marked), omega (arith, inside, same));
       idle = inl found.idle.idle;
     }
@@ -60,4 +60,4 @@ returns-clause-answers c =
 
 pub returns-clause-looked : goal.returns-clause-looked
 returns-clause-looked c =
-    has_looked c.args.self.now c.mark.new.seat.me c.search_all.new.seat.me c.mark.ensures.marked c.search_all.ensures.searched _ c.mark-2.ensures.marked (c.mark-2.ensures.same.0 ∙ (c.search_all.ensures.same_table.0 ∙ c.mark.ensures.same.0)) refl refl
+    has_looked c.args.self.now c.next_mark.result c.mark.new.seat.me c.search_all.new.seat.me c.mark.ensures.marked c.search_all.ensures.searched _ c.mark-2.ensures.marked (c.mark-2.ensures.same.0 ∙ (c.search_all.ensures.same_table.0 ∙ c.mark.ensures.same.0)) refl refl

@@ -11,7 +11,7 @@ use Rattle.blink_map.proofs.LooksOver.{can_look, has_looked, is_still_its_seat}
 use Rattle.blink_map.proofs.member.Member.scan.Goals as goal
 
 pub scan_by-scanned-requires-clause-idle : goal.scan_by-scanned-requires-clause-idle
-scan_by-scanned-requires-clause-idle c = can_look c.args.self.now c.mark.new.seat.me c.mark.ensures.marked
+scan_by-scanned-requires-clause-idle c = can_look c.args.self.now c.next_mark.result c.mark.new.seat.me c.next_mark.ensures.works c.mark.ensures.marked
 
 pub mark-requires-2 : goal.mark-requires-2
 mark-requires-2 c =
@@ -21,7 +21,7 @@ mark-requires-2 c =
     let found = c.scan_by-scanned.ensures.scanned.3.searched in
     let inside = old.place_is.1 in
     let same : old.seat.me.0.plan.places ≡ live.places = ap (λ (p : Plan). p.places) c.requires.its_own.same_plan ∙ sym live.places_are in record {
-      seat = is_still_its_seat old c.mark.new.seat.me c.scan_by-scanned.new.seat.me marked found live _ (c.scan_by-scanned.ensures.same_table.0 ∙ c.mark.ensures.same.0) c.requires.its_own;
+      seat = is_still_its_seat old c.next_mark.result c.mark.new.seat.me c.scan_by-scanned.new.seat.me marked found live _ (c.scan_by-scanned.ensures.same_table.0 ∙ c.mark.ensures.same.0) c.requires.its_own;
       place = (old.place_is.0 ∙ sym (found.same_place ∙ ap (λ (x : SeatState). x.0.place) marked), omega (arith, inside, same));
       idle = inl found.idle.idle;
     }
@@ -69,4 +69,4 @@ returns-clause-others c = let scanned = c.scan_by-scanned.ensures.scanned in oth
 
 pub returns-clause-looked : goal.returns-clause-looked
 returns-clause-looked c =
-    has_looked c.args.self.now c.mark.new.seat.me c.scan_by-scanned.new.seat.me c.mark.ensures.marked c.scan_by-scanned.ensures.scanned.3.searched _ c.mark-2.ensures.marked (c.mark-2.ensures.same.0 ∙ (c.scan_by-scanned.ensures.same_table.0 ∙ c.mark.ensures.same.0)) refl refl
+    has_looked c.args.self.now c.next_mark.result c.mark.new.seat.me c.scan_by-scanned.new.seat.me c.mark.ensures.marked c.scan_by-scanned.ensures.scanned.3.searched _ c.mark-2.ensures.marked (c.mark-2.ensures.same.0 ∙ (c.scan_by-scanned.ensures.same_table.0 ∙ c.mark.ensures.same.0)) refl refl
