@@ -4,6 +4,7 @@ pub mod opened
 pub mod dealt
 pub mod found
 pub mod scanned
+pub mod looked
 pub mod changed
 pub mod told
 pub mod retired

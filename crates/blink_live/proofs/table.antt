@@ -15,3 +15,5 @@ pub mod StoresKeepTable
 pub mod SharesAreKnown
 pub mod RefusalsTold
 pub mod PoolStays
+pub mod LooksStay
+pub mod LeavesStayInChain

@@ -14,6 +14,8 @@ pub use Rattle.blink_live.specs.Handing.{AllAreYours, HasGiven, HasReceived, IsF
 pub use Rattle.blink_live.specs.Finding.{HasForeign}
 -- what a scan reports of a range of keys while others change them
 pub use Rattle.blink_live.specs.Scanning.{IsReport, ReportLaw, ReportTells, SaysOfKeys, StoppedFull, stop_of}
+-- what a snapshot says of a range of keys: all of it in one tree state
+pub use Rattle.blink_live.specs.Snapshots.{IsSnapshot}
 -- an operation under way: the pass before it, which one it is, and what it waits for
 pub use Rattle.blink_live.specs.Pendings.{HasBegun, IsPendingOf, IsWaiting, op_of, pass_of}
 -- the entries of a table when all its passes are back: the merge of their shares
@@ -35,6 +37,7 @@ pub use Rattle.blink_live.specs.Views.{span}
 pub mod Handles
 pub mod Changes
 pub mod Accounts
+pub mod Looks
 pub mod Reuse
 pub mod ComingBack
 pub mod Shelves
@@ -54,6 +57,7 @@ pub mod Parcels
 pub mod Handing
 pub mod Finding
 pub mod Scanning
+pub mod Snapshots
 pub mod KeyTest
 pub mod Words
 pub mod Laid

@@ -62,9 +62,13 @@ pub record HasAside (plan : Plan) (whose : ℕ → ℕ) (seat : ℕ) (v : View) 
   pub own : (row : ℕ) → IsAside v.stock.aside row → whose row ≡ suc seat
   pub apart : (row : ℕ) → IsAside v.stock.aside row → ¬ IsAtHand v row
 
--- what a seat may say of its stock; and while it reads a row, it is a session whose mark says so
+-- the seat reads the row, or has noted it for a snapshot
+abbrev pub HoldsRow : View → ℕ → List ℕ → Type 0
+HoldsRow v row content = (v.reads ≡ Some (row, content)) ⊎ ((number : ℕ) × Contains v.look.leaves (number, row))
+
+-- what a seat may say of its stock; and while it holds a row, it is a session whose mark says so
 pub record HasStock (plan : Plan) (whose : ℕ → ℕ) (words : List ℕ) (claim : ℕ → ℕ) (seat : ℕ) (v : View) : Type 0 where
-  pub awake : (row : ℕ) (content : List ℕ) → v.reads ≡ Some (row, content) → (v.role ≡ Pass) × (2 ≤ v.busy)
+  pub awake : (row : ℕ) (content : List ℕ) → HoldsRow v row content → (v.role ≡ Pass) × (2 ≤ v.busy)
   pub once : HasRowsOnce v.stock
   pub free : (row : ℕ) → Contains v.stock.free row → IsTakenOut plan whose words claim seat row
   pub retired : (row : ℕ) → Contains v.stock.retired row → IsTakenOut plan whose words claim seat row
@@ -83,7 +87,7 @@ pub record IsReadBesides (stock : Stock) (u : View) (row : ℕ) : Type 0 where
 
 -- what a seat reads agrees with a stock
 abbrev pub AgreesWith : Stock → View → Type 0
-AgreesWith stock u = (row : ℕ) (content : List ℕ) → u.reads ≡ Some (row, content) → IsReadBesides stock u row
+AgreesWith stock u = (row : ℕ) (content : List ℕ) → HoldsRow u row content → IsReadBesides stock u row
 
 -- each seat's stock is right, and what the seats read agrees with it
 pub record IsReuseSafe (plan : Plan) (whose : ℕ → ℕ) (words : List ℕ) (views : List View) : Type 0 where

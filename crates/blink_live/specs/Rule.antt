@@ -22,6 +22,7 @@ use Rattle.blink_live.specs.declared.view.Share.{Share}
 use Rattle.blink_live.specs.declared.view.View.{View}
 use Rattle.blink_live.specs.Changes.{after, states_of}
 use Rattle.blink_live.specs.Accounts.{AreAccounts}
+use Rattle.blink_live.specs.Looks.{HasLooked}
 use Rattle.blink_live.specs.Reuse.{IsReuseSafe}
 use Rattle.blink_live.specs.Views.{IsCommon, IsOwned, latch_number_by, span}
 use Rattle.blink_live.specs.Words.{word_count, place_word, pool_page, pool_row, IsRowNumber, RowBegins, RowIs}
@@ -62,6 +63,10 @@ latch_word owners (Some seat) = owners.latch_number seat
 abbrev pub ReadsRow : Plan → Owners → List ℕ → Option (ℕ × List ℕ) → Type 0
 ReadsRow plan owners words None = ⊤
 ReadsRow plan owners words (Some (row, content)) = IsPublished plan owners row × RowIs plan.counts words row content
+
+-- and so are the rows that it has noted
+abbrev pub Reads : Plan → Owners → List ℕ → TreeState → View → Type 0
+Reads plan owners words tree_state v = ReadsRow plan owners words v.reads × HasLooked plan owners.row words tree_state.fan tree_state.prime tree_state.pages v.look
 
 -- these rows have this owner
 pub record HasRows (plan : Plan) (owners : Owners) (owner : ℕ) (rows : Span) : Type 0 where
@@ -137,7 +142,7 @@ pub record Knows (plan : Plan) (owners : Owners) (words : List ℕ) (tree_state 
   pub same_plan : v.plan ≡ plan
   pub operation : tree_state.machines seat ≡ v.operation
   pub bounded : IsBoundedWay tree_state v
-  pub reads : ReadsRow plan owners words v.reads
+  pub reads : Reads plan owners words tree_state v
   pub rows : HasRows plan owners (suc seat) v.rows
   pub numbers : HasNumbers plan owners tree_state (suc seat) v.pages
   pub for_call : HasForCall plan owners words tree_state (suc seat) v.call v.rows.next v.pages.next

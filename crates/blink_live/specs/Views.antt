@@ -14,6 +14,7 @@ use Rattle.blink_machine.specs.{PlainMachine, goes_on}
 use Rattle.blink_live.specs.declared.view.Aside.{Aside}
 use Rattle.blink_live.specs.declared.view.Call.{Call}
 use Rattle.blink_live.specs.declared.view.Change.{Change}
+use Rattle.blink_live.specs.declared.view.Look.{Look}
 use Rattle.blink_live.specs.declared.view.Opened.{Opened}
 use Rattle.blink_live.specs.declared.view.Plan.{Plan}
 use Rattle.blink_live.specs.declared.view.Role.{Role}
@@ -52,6 +53,10 @@ no_aside = record { rows = span 1 1; call = span 1 1 }
 abbrev pub no_stock : Stock
 no_stock = record { free = []; retired = []; waiting = []; before = []; passed = 0; aside = no_aside }
 
+-- nothing is noted for a snapshot
+abbrev pub no_look : Look
+no_look = record { leaves = []; marked = None }
+
 -- a seat without an operation that has seen nothing
 abbrev pub seat_for : Plan → Role → Span → Span → Share → View
 seat_for plan role rows pages share = record {
@@ -72,6 +77,7 @@ seat_for plan role rows pages share = record {
   reads = None;
   seen = [];
   told = [];
+  look = no_look;
 }
 
 -- the keeper's first rows or page numbers: none in a common table, where they are the pool's
@@ -180,9 +186,9 @@ has_rows v rows = record v { rows = rows; call = no_call }
 abbrev pub has_pages : View → Span → View
 has_pages v pages = record v { pages = pages; call = no_call }
 
--- the place's word is this now, and the seat reads no row
+-- the place's word is this now, and the seat reads no row and has noted none
 abbrev pub is_busy : View → ℕ → View
-is_busy v busy = record v { busy = busy; reads = None }
+is_busy v busy = record v { busy = busy; reads = None; look = no_look }
 
 -- these are the first words of the call's first row
 abbrev pub is_staged : View → List ℕ → View

@@ -30,9 +30,9 @@ use std::marker::Brand;
 // The places of a row's head words.
 const LEVEL: usize = 0;
 
-const HAS_FLOOR: usize = 1;
+pub(crate) const HAS_FLOOR: usize = 1;
 
-const FLOOR: usize = 2;
+pub(crate) const FLOOR: usize = 2;
 
 pub(crate) const HIGH_KEY: usize = 3;
 

@@ -96,6 +96,33 @@ impl Play<u8, View> for LoadWord {
     ghost then = { loads_word };
 }
 
+/// The load of a leaf's page word by an operation that has come to the leaf. The seat notes the row.
+pub struct NoteLeaf;
+
+impl Play<u8, View> for NoteLeaf {
+    ghost use Rattle.blink_live.specs.Snapshots.{notes_leaf};
+
+    ghost then = { notes_leaf };
+}
+
+/// The load of the prime block's page word that marks a tree state.
+pub struct MarkState;
+
+impl Play<u8, View> for MarkState {
+    ghost use Rattle.blink_live.specs.Snapshots.{marks_state};
+
+    ghost then = { marks_state };
+}
+
+/// The second load of a page word that a seat may have noted.
+pub struct LookAgain;
+
+impl Play<u8, View> for LookAgain {
+    ghost use Rattle.blink_live.specs.Snapshots.{looks_again};
+
+    ghost then = { looks_again };
+}
+
 /// The compare-and-exchange in a latch word of 0 for the seat's own number.
 pub struct TryLatch;
 

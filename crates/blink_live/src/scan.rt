@@ -123,7 +123,7 @@ impl Live {
     }
 
     // Copies entries of the leaf that the seat reads: those from `from` on, up to `hi`, and as many as there are places.
-    fn copy_leaf(
+    pub(crate) fn copy_leaf(
         &self,
         seat: &mut Seat<u8, View>,
         row: u64,

@@ -70,6 +70,14 @@ pub struct Stock {
     pub aside: Aside,
 }
 
+/// What a seat has noted for a snapshot.
+pub struct Look {
+    /// The numbers of leaves, each with a row that its page word named.
+    pub leaves: LinkedList<(u64, u64)>,
+    /// The changes of all keys up to the tree state that the seat has marked since.
+    pub marked: Option<LinkedList<Change>>,
+}
+
 /// The role of a seat.
 pub enum Role {
     /// The keeper's seat, with the number of passes dealt and the number of passes that came back.
@@ -116,4 +124,6 @@ pub struct View {
     /// The changes of all keys that the seat has seen, and those of the note that it holds.
     pub seen: LinkedList<Change>,
     pub told: LinkedList<Change>,
+    /// What it has noted for a snapshot.
+    pub look: Look,
 }

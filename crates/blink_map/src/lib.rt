@@ -16,6 +16,7 @@ mod rest;
 mod room;
 mod scan;
 mod sessions;
+mod snapshot;
 mod tell;
 
 pub use blink_live::Scanned;

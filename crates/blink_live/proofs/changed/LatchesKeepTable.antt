@@ -32,7 +32,7 @@ use Rattle.blink_live.proofs.table.MapsWithOneChange.{put_here, put_else}
 use Rattle.blink_live.proofs.table.NextPageIsThere.{next_page_is_there}
 use Rattle.blink_live.proofs.reuse.ReuseStaysSafe.{hand_stays, reuse_stays, same_reads}
 use Rattle.blink_live.proofs.table.AccountsStay.{accounts_stay}
-use Rattle.blink_live.proofs.table.OthersKnowTheSame.{LeavesOthers, RowStays, page_word_still, reads_still}
+use Rattle.blink_live.proofs.table.OthersKnowTheSame.{LeavesOthers, RowStays, page_word_still, seat_reads_still}
 use Rattle.blink_live.proofs.table.StoresKeepTable.{row_stays, call_kept, IsStored, prime_still, store_keeps}
 
 -- a latch word of 0 says that nobody has the latch
@@ -75,6 +75,8 @@ module _ (plan : Plan) (s : State ℕ View) (tree_state : TreeState) (h : IsTabl
     place_words = λ place inside apart. other_place place;
     latch_numbers = λ seat. refl;
     longer = λ seen is. is;
+    in_chain = λ n is. is;
+    named = λ n row least few unowned is. (sym (get_or-set_other s.words (plan.counts.numbers + number) n x 0 (λ e. omega (arith, e, few))) ∙ is, refl);
   }
 
   -- the seat knows what it knew, but for its operation
@@ -86,7 +88,7 @@ module _ (plan : Plan) (s : State ℕ View) (tree_state : TreeState) (h : IsTabl
         same_plan = known.same_plan;
         operation = put_here tree_state.machines id (goes_on after after.state);
         bounded = bounded;
-        reads = reads_still plan s tree_state then h id kept.0 words h.owners h.log leaves v.reads known.reads;
+        reads = seat_reads_still plan s tree_state then h id kept.0 words h.owners h.log leaves v known.reads;
         rows = known.rows;
         numbers = record { in_range = known.numbers.in_range; own = known.numbers.own; free = known.numbers.free };
         for_call = call_kept plan h.owners s.words words stays tree_state then (suc id) v.call v.rows.next v.pages.next (λ n own free. free) known.for_call;
@@ -137,7 +139,7 @@ module _ (plan : Plan) (s : State ℕ View) (tree_state : TreeState) (h : IsTabl
   passes_latch invariant bounded is some_number =
       let kept = subst (IsInRole plan h.owners h.log id v) role (h.views id v at).in_role in
       store_keeps plan s tree_state then h id (plan.counts.numbers + number) x kept.0 v w at h.owners h.log h.now leaves (stored invariant is some_number) refl refl (λ common. accounts_stay plan h.owners.place h.log s.views id v w at (h.accounted common) refl ((h.accounted common).saw_own id v at))
-      (λ common. reuse_stays plan h.owners.row s.words s.views id v w at (h.reuse common) h.owners.row words (λ row is. is) (λ seat r later is apart. is) (λ n few. get_or-set_other s.words (plan.counts.numbers + number) n x 0 (λ e. omega (arith, e, few))) refl (hand_stays h.owners.row id v w refl refl) (same_reads plan h.owners.row s.words s.views id v w at (h.reuse common) refl refl refl refl)) (knows bounded)
+      (λ common. reuse_stays plan h.owners.row s.words s.views id v w at (h.reuse common) h.owners.row words (λ row is. is) (λ seat r later is apart. is) (λ n few. get_or-set_other s.words (plan.counts.numbers + number) n x 0 (λ e. omega (arith, e, few))) refl (hand_stays h.owners.row id v w refl refl) (same_reads plan h.owners.row s.words s.views id v w at (h.reuse common) refl refl refl refl refl)) (knows bounded)
 
 -- ---- the latch is got, or not
 

@@ -14,7 +14,8 @@ use Rattle.blink_live.specs.Rule.{HasPlace, PageWordIs, IsInRole, Knows, IsTable
 use Rattle.blink_live.specs.Views.{IsCommon, SeatState, is_busy}
 use Rattle.blink_live.specs.Words.{place_word, row_start, word_count}
 use Rattle.blink_live.proofs.table.PoolStays.{pool_stays}
-use Rattle.blink_live.proofs.reuse.ReuseStaysSafe.{hand_stays, reuse_stays}
+use Rattle.blink_live.proofs.reuse.ReuseStaysSafe.{hand_stays, holds_nothing, reuse_stays}
+use Rattle.blink_live.proofs.table.LooksStay.{nothing_noted}
 use Rattle.blink_live.proofs.table.AccountsStay.{accounts_stay}
 use Rattle.blink_live.proofs.table.OthersKnowTheSame.{LeavesOthers, RowStays, page_word_still}
 use Rattle.blink_live.proofs.table.StoresKeepTable.{call_kept, prime_still, store_keeps}
@@ -63,6 +64,8 @@ module _ (plan : Plan) (s : State ℕ View) (tree_state : TreeState) (h : IsTabl
         get_or-set_other s.words place (place_word plan.counts other) x 0 (λ e. let same : v.place ≡ other = omega (arith, e) in apart (ap h.owners.place (sym same) ∙ its.own));
     latch_numbers = λ seat. refl;
     longer = λ seen is. is;
+    in_chain = λ n is. is;
+    named = λ n row least few unowned is. (sym (before n (omega (arith, few))) ∙ is, refl);
   }
 
   knows : Knows plan h.owners words tree_state h.log id w
@@ -70,7 +73,7 @@ module _ (plan : Plan) (s : State ℕ View) (tree_state : TreeState) (h : IsTabl
     same_plan = known.same_plan;
     operation = known.operation;
     bounded = known.bounded;
-    reads = tt;
+    reads = (tt, nothing_noted plan h.owners.row words tree_state.fan tree_state.prime tree_state.pages);
     rows = known.rows;
     numbers = record { in_range = known.numbers.in_range; own = known.numbers.own; free = known.numbers.free };
     for_call = call_kept plan h.owners s.words words stays tree_state tree_state (suc id) v.call v.rows.next v.pages.next (λ n own free. free) known.for_call;
@@ -103,7 +106,7 @@ module _ (plan : Plan) (s : State ℕ View) (tree_state : TreeState) (h : IsTabl
     is_map = h.is_map;
     kept = h.kept;
   } refl refl (λ is_common. accounts_stay plan h.owners.place h.log s.views id v w at (h.accounted is_common) refl ((h.accounted is_common).saw_own id v at))
-      (λ is_common. reuse_stays plan h.owners.row s.words s.views id v w at (h.reuse is_common) h.owners.row words (λ row is. is) (λ seat r later is apart. is) (λ n few. before n (omega (arith, few))) refl (hand_stays h.owners.row id v w refl refl) (λ row content is. absurd (let e : None ≡ Some (row, content) = is in cc))) knows
+      (λ is_common. reuse_stays plan h.owners.row s.words s.views id v w at (h.reuse is_common) h.owners.row words (λ row is. is) (λ seat r later is apart. is) (λ n few. before n (omega (arith, few))) refl (hand_stays h.owners.row id v w refl refl) (λ row content is. absurd (holds_nothing w refl refl row content is))) knows
 
 pub place_is_marked : (plan : Plan) (slots id x : ℕ) (me : SeatState) → me.0.role ≡ Pass → IsCommon plan → 1 ≤ plan.counts.numbers → (me.0.operation ≡ None) ⊎ (1 ≤ x)
     → Allows (IsTable plan) slots id me (place_word plan.counts me.0.place) (λ n. x) (λ n. marks_place (step slots (place_word plan.counts me.0.place) x 0 none) me x)

@@ -21,7 +21,7 @@ use Rattle.blink_live.specs.Words.{place_word, pool_page, pool_row, row_start, w
 use Rattle.blink_live.proofs.table.CallsOfSeats.{nothing_for_call}
 use Rattle.blink_live.proofs.reuse.ReuseStaysSafe.{reuse_stays, same_reads}
 use Rattle.blink_live.proofs.table.AccountsStay.{accounts_stay}
-use Rattle.blink_live.proofs.table.OthersKnowTheSame.{LeavesOthers, RowStays, page_word_still, reads_still}
+use Rattle.blink_live.proofs.table.OthersKnowTheSame.{LeavesOthers, RowStays, page_word_still, seat_reads_still}
 use Rattle.blink_live.proofs.table.OwnersInRange.{ranged, ranged_in, ranged_out}
 use Rattle.blink_live.proofs.table.StoresKeepTable.{prime_still, store_keeps}
 
@@ -113,6 +113,8 @@ module _ (plan : Plan) (s : State ℕ View) (tree_state : TreeState) (h : IsTabl
       place_words = λ place within apart. other_place 1 (omega arith) (omega arith) place;
       latch_numbers = λ seat. refl;
       longer = λ seen is. is;
+      in_chain = λ n is. is;
+      named = λ n row least few unowned is. (sym (before 1 (omega arith) (omega arith) n (omega (arith, few))) ∙ is, refl);
     }
 
     rows_knows : Knows plan row_owners (words 1 (omega arith) (omega arith)) tree_state h.log id (has_rows v (span old new))
@@ -120,7 +122,7 @@ module _ (plan : Plan) (s : State ℕ View) (tree_state : TreeState) (h : IsTabl
       same_plan = known.same_plan;
       operation = known.operation;
       bounded = known.bounded;
-      reads = reads_still plan s tree_state tree_state h id kept.0 (words 1 (omega arith) (omega arith)) row_owners h.log rows_leave v.reads known.reads;
+      reads = seat_reads_still plan s tree_state tree_state h id kept.0 (words 1 (omega arith) (omega arith)) row_owners h.log rows_leave v known.reads;
       rows = record {
         in_range = (pool_rows.in_range.0, end);
         own = λ row low high. ranged_in old new (suc id) h.owners.row row low high;
@@ -147,7 +149,7 @@ module _ (plan : Plan) (s : State ℕ View) (tree_state : TreeState) (h : IsTabl
     rows_drawn = draw_keeps 1 (omega arith) (omega arith) row_owners (has_rows v (span old new)) rows_leave refl refl refl (accounts_stay plan h.owners.place h.log s.views id v (has_rows v (span old new)) at (h.accounted common) refl ((h.accounted common).saw_own id v at))
         (reuse_stays plan h.owners.row s.words s.views id v (has_rows v (span old new)) at (h.reuse common) row_owners.row (words 1 (omega arith) (omega arith)) (λ row is. row_else row (λ e. let one : 0 ≡ suc 0 = sym is ∙ e in omega (arith, one)) ∙ is)
         (λ seat row later is apart. row_else row (λ e. let one : suc seat ≡ suc 0 = sym is ∙ e in omega (arith, one, later)) ∙ is)
-        (λ n few. before 1 (omega arith) (omega arith) n (omega (arith, few))) refl drawn_rows (same_reads plan h.owners.row s.words s.views id v (has_rows v (span old new)) at (h.reuse common) refl refl refl refl)) rows_knows
+        (λ n few. before 1 (omega arith) (omega arith) n (omega (arith, few))) refl drawn_rows (same_reads plan h.owners.row s.words s.views id v (has_rows v (span old new)) at (h.reuse common) refl refl refl refl refl)) rows_knows
 
   -- ---- page numbers
 
@@ -186,6 +188,8 @@ module _ (plan : Plan) (s : State ℕ View) (tree_state : TreeState) (h : IsTabl
       place_words = λ place within apart. other_place 2 (omega arith) (omega arith) place;
       latch_numbers = λ seat. refl;
       longer = λ seen is. is;
+      in_chain = λ n is. is;
+      named = λ n row least few unowned is. (sym (before 2 (omega arith) (omega arith) n (omega (arith, few))) ∙ is, refl);
     }
 
     pages_knows : Knows plan page_owners (words 2 (omega arith) (omega arith)) tree_state h.log id (has_pages v (span old new))
@@ -193,7 +197,7 @@ module _ (plan : Plan) (s : State ℕ View) (tree_state : TreeState) (h : IsTabl
       same_plan = known.same_plan;
       operation = known.operation;
       bounded = known.bounded;
-      reads = reads_still plan s tree_state tree_state h id kept.0 (words 2 (omega arith) (omega arith)) page_owners h.log pages_leave v.reads known.reads;
+      reads = seat_reads_still plan s tree_state tree_state h id kept.0 (words 2 (omega arith) (omega arith)) page_owners h.log pages_leave v known.reads;
       rows = record { in_range = known.rows.in_range; own = known.rows.own };
       numbers = record {
         in_range = (pool_pages.in_range.0, end);
@@ -216,7 +220,7 @@ module _ (plan : Plan) (s : State ℕ View) (tree_state : TreeState) (h : IsTabl
     pages_drawn : IsTable plan record { words = words 2 (omega arith) (omega arith); homes = s.homes; views = set s.views id (has_pages v (span old new)) }
     pages_drawn = draw_keeps 2 (omega arith) (omega arith) page_owners (has_pages v (span old new)) pages_leave refl refl refl (accounts_stay plan h.owners.place h.log s.views id v (has_pages v (span old new)) at (h.accounted common) refl ((h.accounted common).saw_own id v at))
         (reuse_stays plan h.owners.row s.words s.views id v (has_pages v (span old new)) at (h.reuse common) page_owners.row (words 2 (omega arith) (omega arith)) (λ row is. is) (λ seat r later is apart. is)
-        (λ n few. before 2 (omega arith) (omega arith) n (omega (arith, few))) refl (no_call_rows id v (span old new)) (same_reads plan h.owners.row s.words s.views id v (has_pages v (span old new)) at (h.reuse common) refl refl refl refl)) pages_knows
+        (λ n few. before 2 (omega arith) (omega arith) n (omega (arith, few))) refl (no_call_rows id v (span old new)) (same_reads plan h.owners.row s.words s.views id v (has_pages v (span old new)) at (h.reuse common) refl refl refl refl refl)) pages_knows
 
 -- ---- the steps
 

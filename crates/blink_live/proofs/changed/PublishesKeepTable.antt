@@ -14,7 +14,7 @@ use Rattle.blink_machine.specs.declared.machine.State.TheVariants.{Ended}
 use Rattle.blink_machine.specs.declared.step.Kind.{Kind}
 use Rattle.blink_machine.specs.declared.step.Step.TheVariants.{Moved}
 use Rattle.blink_machine.specs.declared.step.Kind.TheVariants as kinds
-use Rattle.blink_machine.specs.{UsesUp, write_page, write_prime, PlainMachine, NeedsNew, NeedsWrite, NeedsPrimeWrite, goes_on, Steps, writes_page, writes_new, writes_prime, IsItsOperation, under_way, descent_bound, deciding, other, done, page_out, PrimeOut, HasEntries}
+use Rattle.blink_machine.specs.{UsesUp, write_page, write_prime, PlainMachine, NeedsNew, NeedsWrite, NeedsPrimeWrite, goes_on, Steps, writes_page, writes_new, writes_prime, IsItsOperation, IsWorkersNow, under_way, descent_bound, deciding, other, done, page_out, PrimeOut, HasEntries}
 use Rattle.blink_machine.specs.TreeState.{TreeState}
 use Rattle.blink_machine.proofs.Offered.{step_law, has_answer_at_end}
 use Rattle.blink_live.specs.declared.view.Change.{Change}
@@ -25,6 +25,7 @@ use Rattle.blink_live.specs.declared.view.Stock.{Stock}
 use Rattle.blink_live.specs.declared.view.View.{View}
 use Rattle.blink_live.specs.Changes.{put, after, states_of, changes_made, Learns}
 use Rattle.blink_live.specs.AtomicSteps.{AnswersInOrder, Decided, CanGoOn, EndsWithOwn, PublishesPage, PublishesNew, PublishesPrime, publishes_page, publishes_new, publishes_prime}
+use Rattle.blink_live.specs.Looks.{IsLeafInChain}
 use Rattle.blink_live.specs.Reuse.{IsAtHand, IsReuseSafe, IsWithin}
 use Rattle.blink_live.specs.Rule.{IsOwnKey, IsShare, HasNumbers, Knows, IsTableAt, IsTable, PageWordIs}
 use Rattle.blink_live.specs.Views.{IsCommon, IsOwned, MayChange, SeatState, KnowsItsOwn, adds, span, changed_by, publishes, takes_out}
@@ -32,6 +33,7 @@ use Rattle.blink_live.proofs.changed.ChangesAreTheMaps.{all_by_author, states_of
 use Rattle.blink_live.proofs.changed.RowsArePublished.{gives_row, IsStepOfTree, ChangesOwn, publish_keeps}
 use Rattle.blink_live.proofs.found.OperationBegins.{goes_on_as}
 use Rattle.blink_live.proofs.reuse.RowsAreTakenOut.{new_page_is_safe, page_is_safe}
+use Rattle.blink_live.proofs.table.LeavesStayInChain.{leaves_stay, new_is_unlinked, none_after_prime, none_after_write}
 use Rattle.blink_live.proofs.table.MapsWithOneChange.{put_here, put_else}
 use Rattle.blink_live.proofs.table.NextPageIsThere.{EndsAt, next_page_is_there}
 use Rattle.blink_live.proofs.table.SeatsThatStay.{views_stay}
@@ -61,7 +63,7 @@ module _ (plan : Plan) (s : State ℕ View) (tree_state then : TreeState) (h : I
     (at : get_elem? s.views id ≡ some me.0) (role : me.0.role ≡ Pass) (under : (k : PlainMachine) × (me.0.operation ≡ Some k)) (its : IsItsOperation tree_state id m) (fits : FitsWords m.op) (stepped : Steps tree_state id m (Moved kind) after_it then)
     (tree : IsStepOfTree plan s tree_state then h id number (descent_bound then.pages after_it) me.0 after_it content pages stock at role)
     (in_range : number < plan.counts.numbers) (room : me.0.call.rows.next < me.0.call.rows.stop) (is_row : IsRowOf me.0.call.staged content) (may : MayChange me.0 (key_of m.op))
-    (reuse : (w : View) → w.reads ≡ me.0.reads → w.role ≡ me.0.role → w.busy ≡ me.0.busy → w.place ≡ me.0.place → w.stock ≡ stock → w.rows ≡ me.0.rows → w.call.rows ≡ span (suc me.0.call.rows.next) me.0.call.rows.stop → IsCommon plan → IsReuseSafe plan (gives_row h.owners me.0.call.rows.next).row (set s.words number me.0.call.rows.next) (set s.views id w)) where
+    (reuse : (w : View) → w.reads ≡ me.0.reads → w.role ≡ me.0.role → w.busy ≡ me.0.busy → w.place ≡ me.0.place → w.look.leaves ≡ me.0.look.leaves → w.stock ≡ stock → w.rows ≡ me.0.rows → w.call.rows ≡ span (suc me.0.call.rows.next) me.0.call.rows.stop → IsCommon plan → IsReuseSafe plan (gives_row h.owners me.0.call.rows.next).row (set s.words number me.0.call.rows.next) (set s.views id w)) where
   known : Knows plan h.owners s.words tree_state h.log id me.0
   known = h.views id me.0 at
 
@@ -192,7 +194,7 @@ module _ (plan : Plan) (s : State ℕ View) (tree_state then : TreeState) (h : I
           share = decided_share.0;
           seen = h.log ++ its_changes;
           table = publish_keeps plan s tree_state then h id number way me.0 after_it content pages stock at role under tree in_range room is_row its_changes (map_after h.now m.op) decided_share.0 (decides_here decided_share.0 decided_share.1 has_entries) bounded
-              (reuse (publishes me.0 after_it way pages decided_share.0 (h.log ++ its_changes) stock) refl refl refl refl refl refl refl);
+              (reuse (publishes me.0 after_it way pages decided_share.0 (h.log ++ its_changes) stock) refl refl refl refl refl refl refl refl);
           learns = learns its_changes;
           decided = Decided.deciding none_yet (in_order decided_share.0 decided_share.1 answers);
           next = next;
@@ -207,7 +209,7 @@ module _ (plan : Plan) (s : State ℕ View) (tree_state then : TreeState) (h : I
           share = me.0.share;
           seen = h.log ++ [];
           table = publish_keeps plan s tree_state then h id number way me.0 after_it content pages stock at role under tree in_range room is_row [] h.now me.0.share (decides_nothing has_entries) bounded
-              (reuse (publishes me.0 after_it way pages me.0.share (h.log ++ []) stock) refl refl refl refl refl refl refl);
+              (reuse (publishes me.0 after_it way pages me.0.share (h.log ++ []) stock) refl refl refl refl refl refl refl refl);
           learns = learns [];
           decided = Decided.other same_answer refl;
           next = next;
@@ -238,10 +240,11 @@ module _ (plan : Plan) (s : State ℕ View) (tree_state : TreeState) (h : IsTabl
   numbers_else numbers differ has = record { in_range = has.in_range; own = has.own; free = λ n low high. free_else n (differ n low high) (has.free n low high) }
 
   tree_written : Rattle.blink_machine.specs.Invariant.Invariant after_write → Rattle.blink_machine.specs.Places.KeepsPlaces tree_state.pages after_write.pages
+      → ((n : ℕ) → IsLeafInChain tree_state.fan tree_state.prime tree_state.pages n → IsLeafInChain after_write.fan after_write.prime after_write.pages n)
       → ((n : ℕ) → h.owners.page n ≢ suc id → tree_state.pages n ≡ None → n ≢ number)
       → HasNumbers plan h.owners after_write (suc id) v.pages → HasNumbers plan h.owners after_write (suc id) pages → pages.stop ≤ v.pages.next
       → IsStepOfTree plan s tree_state after_write h id number way v after_it (page_words page) pages stock at role
-  tree_written invariant places apart own_free call_free call_before = record {
+  tree_written invariant places in_chain apart own_free call_free call_before = record {
     same_fan = refl;
     same_holder = λ n. refl;
     own = put_here tree_state.machines id (goes_on after_it after_it.state);
@@ -258,6 +261,7 @@ module _ (plan : Plan) (s : State ℕ View) (tree_state : TreeState) (h : IsTabl
     call_free = call_free;
     call_before = call_before;
     no_other_page = λ n beyond. free_else n (λ same. omega (arith, same, beyond, in_range)) (h.no_other_page n beyond);
+    in_chain = in_chain;
   }
 
 -- the row that it publishes isn't at hand any more
@@ -279,21 +283,23 @@ page_becomes_published plan s table id number me m at role at_m fits needs some_
     let well = (step_law.invariant_gives_order tree_state h.invariant).writes_page id number m its needs in
     let page : PlainPage = page_out m 0 in
     let then : TreeState = written tree_state number page id (goes_on after_it after_it.state) in
+    let workers : IsWorkersNow tree_state.machines then.machines id after_it = record { own = put_here tree_state.machines id (goes_on after_it after_it.state); others = λ seat ne. put_else tree_state.machines id seat (goes_on after_it after_it.state) ne } in
     let stepped : Steps tree_state id m (Moved (kinds.WritePage number)) after_it then = writes_page number needs refl refl refl refl
     (record { written = put_here tree_state.pages number (Some page); others = λ n ne. put_else tree_state.pages number n (Some page) ne })
     refl
-    (record { own = put_here tree_state.machines id (goes_on after_it after_it.state); others = λ seat ne. put_else tree_state.machines id seat (goes_on after_it after_it.state) ne }) in
+    workers in
     let invariant = step_law.step_keeps_invariant tree_state then id m after_it (Moved (kinds.WritePage number)) h.invariant fits its stepped in
     let places = step_law.places_stay.stay tree_state then id m after_it (Moved (kinds.WritePage number)) h.invariant its stepped in
     let differs : (n : ℕ) → tree_state.pages n ≡ None → n ≢ number = λ n none_there same. let there : tree_state.pages n ≡ Some well.before = ap tree_state.pages same ∙ well.there in cc in
     let way : ℕ = descent_bound then.pages after_it in
     let out : Stock = takes_out (slice_index s.words number) me.0.stock in
-    let tree = tree_written plan s tree_state h id number way me.0 after_it page me.0.call.pages out at role some_number in_range invariant places (λ n not_own none_there. differs n none_there)
+    let tree = tree_written plan s tree_state h id number way me.0 after_it page me.0.call.pages out at role some_number in_range invariant places
+    (leaves_stay tree_state then id m after_it h.invariant invariant its workers places (λ n unlinked. absurd (none_after_write m number n needs unlinked))) (λ n not_own none_there. differs n none_there)
     (numbers_else plan s tree_state h id number way me.0 after_it page me.0.call.pages out at role some_number in_range me.0.pages (λ n low high. differs n (known.numbers.free n low high)) known.numbers)
     (numbers_else plan s tree_state h id number way me.0 after_it page me.0.call.pages out at role some_number in_range me.0.call.pages (λ n low high. differs n (known.for_call.numbers.free n low high)) known.for_call.numbers)
     known.for_call.before.1 in
     becomes_published plan s tree_state then h id number (kinds.WritePage number) me.0.call.pages out me m after_it (page_words page) at role (m, at_m) its fits stepped tree in_range room is_row may
-    (λ w reads its_role busy place stock rows call common. page_is_safe plan s tree_state h id number me.0.call.rows.next me.0 w at (h.reuse common) in_range (known.for_call.first_own room).1 reads its_role busy place (inr (omega arith, room)) (rows_after h.owners.row id me.0 w rows call)
+    (λ w reads its_role busy place look stock rows call common. page_is_safe plan s tree_state h id number me.0.call.rows.next me.0 w at (h.reuse common) in_range (known.for_call.first_own room).1 reads its_role busy place look (inr (omega arith, room)) (rows_after h.owners.row id me.0 w rows call)
     (subst (PageWordIs plan h.owners s.words (slice_index s.words number)) well.there (h.pages number some_number in_range)).0 stock)
 
 pub page_is_published : (plan : Plan) (slots id number : ℕ) (me : SeatState) (m : PlainMachine) → me.0.role ≡ Pass → me.0.operation ≡ Some m → FitsWords m.op → NeedsWrite m number
@@ -333,21 +339,23 @@ new_becomes_published plan s table id me m at role at_m fits needs number_left r
     let page : PlainPage = page_out m number in
     let then : TreeState = written tree_state number page id (goes_on after_it after_it.state) in
     let none_there : tree_state.pages number ≡ None = numbers.free number (omega arith) number_left in
+    let workers : IsWorkersNow tree_state.machines then.machines id after_it = record { own = put_here tree_state.machines id (goes_on after_it after_it.state); others = λ seat ne. put_else tree_state.machines id seat (goes_on after_it after_it.state) ne } in
     let stepped : Steps tree_state id m (Moved (kinds.WritePage number)) after_it then = writes_new number needs (some_number, omega (arith, in_range, few)) none_there refl refl refl refl
     (record { written = put_here tree_state.pages number (Some page); others = λ n ne. put_else tree_state.pages number n (Some page) ne })
     refl
-    (record { own = put_here tree_state.machines id (goes_on after_it after_it.state); others = λ seat ne. put_else tree_state.machines id seat (goes_on after_it after_it.state) ne }) in
+    workers in
     let invariant = step_law.step_keeps_invariant tree_state then id m after_it (Moved (kinds.WritePage number)) h.invariant fits its stepped in
     let places = step_law.places_stay.stay tree_state then id m after_it (Moved (kinds.WritePage number)) h.invariant its stepped in
     let way : ℕ = descent_bound then.pages after_it in
     let before = known.for_call.before.1 in
-    let tree = tree_written plan s tree_state h id number way me.0 after_it page rest me.0.stock at role some_number in_range invariant places (λ n not_own free same. not_own (ap h.owners.page same ∙ numbers.own number (omega arith) number_left))
+    let tree = tree_written plan s tree_state h id number way me.0 after_it page rest me.0.stock at role some_number in_range invariant places
+    (leaves_stay tree_state then id m after_it h.invariant invariant its workers places (λ n unlinked. ap tree_state.pages (sym (new_is_unlinked m number n needs unlinked)) ∙ none_there)) (λ n not_own free same. not_own (ap h.owners.page same ∙ numbers.own number (omega arith) number_left))
     (numbers_else plan s tree_state h id number way me.0 after_it page rest me.0.stock at role some_number in_range me.0.pages (λ n low high same. omega (arith, low, same, before, number_left)) known.numbers)
     (numbers_else plan s tree_state h id number way me.0 after_it page rest me.0.stock at role some_number in_range rest (λ n low high same. omega (arith, low, same))
     (record { in_range = (omega arith, last); own = λ n low high. numbers.own n (omega (arith, low)) high; free = λ n low high. numbers.free n (omega (arith, low)) high }))
     before in
     becomes_published plan s tree_state then h id number (kinds.WritePage number) rest me.0.stock me m after_it (page_words page) at role (m, at_m) its fits stepped tree in_range room is_row may
-    (λ w reads its_role busy place stock rows call common. new_page_is_safe plan s tree_state h id number me.0.call.rows.next me.0 w at (h.reuse common) in_range (known.for_call.first_own room).1 reads its_role busy place (inr (omega arith, room)) (rows_after h.owners.row id me.0 w rows call) stock)
+    (λ w reads its_role busy place look stock rows call common. new_page_is_safe plan s tree_state h id number me.0.call.rows.next me.0 w at (h.reuse common) in_range (known.for_call.first_own room).1 reads its_role busy place look (inr (omega arith, room)) (rows_after h.owners.row id me.0 w rows call) stock)
 
 pub new_is_published : (plan : Plan) (slots id : ℕ) (me : SeatState) (m : PlainMachine) → me.0.role ≡ Pass → me.0.operation ≡ Some m → FitsWords m.op → NeedsNew m
     → me.0.call.pages.next < me.0.call.pages.stop → me.0.call.rows.next < me.0.call.rows.stop → IsRowOf me.0.call.staged (page_words (page_out m me.0.call.pages.next)) → MayChange me.0 (key_of m.op)
@@ -381,8 +389,9 @@ prime_becomes_published plan s table id me m prime at role at_m fits needs out s
     let after_it : PlainMachine = done m 0 in
     let its : IsItsOperation tree_state id m = under_way (known.operation ∙ at_m) in
     let then : TreeState = grown tree_state prime id (goes_on after_it after_it.state) in
+    let workers : IsWorkersNow tree_state.machines then.machines id after_it = record { own = put_here tree_state.machines id (goes_on after_it after_it.state); others = λ seat ne. put_else tree_state.machines id seat (goes_on after_it after_it.state) ne } in
     let stepped : Steps tree_state id m (Moved kinds.WritePrime) after_it then = writes_prime needs out refl refl refl refl refl
-    (record { own = put_here tree_state.machines id (goes_on after_it after_it.state); others = λ seat ne. put_else tree_state.machines id seat (goes_on after_it after_it.state) ne }) in
+    workers in
     let invariant = step_law.step_keeps_invariant tree_state then id m after_it (Moved kinds.WritePrime) h.invariant fits its stepped in
     let places = step_law.places_stay.stay tree_state then id m after_it (Moved kinds.WritePrime) h.invariant its stepped in
     let way : ℕ = descent_bound then.pages after_it in
@@ -403,9 +412,10 @@ prime_becomes_published plan s table id me m prime at role at_m fits needs out s
       call_free = record { in_range = known.for_call.numbers.in_range; own = known.for_call.numbers.own; free = known.for_call.numbers.free };
       call_before = known.for_call.before.1;
       no_other_page = h.no_other_page;
+      in_chain = leaves_stay tree_state then id m after_it h.invariant invariant its workers places (λ n unlinked. absurd (none_after_prime m n needs unlinked));
     } in
     becomes_published plan s tree_state then h id 0 kinds.WritePrime me.0.call.pages (takes_out (slice_index s.words 0) me.0.stock) me m after_it (prime_words prime) at role (m, at_m) its fits stepped tree (omega (arith, some_number)) room is_row may
-    (λ w reads its_role busy place stock rows call common. page_is_safe plan s tree_state h id 0 me.0.call.rows.next me.0 w at (h.reuse common) (omega (arith, some_number)) (known.for_call.first_own room).1 reads its_role busy place (inr (omega arith, room)) (rows_after h.owners.row id me.0 w rows call) h.prime.0 stock)
+    (λ w reads its_role busy place look stock rows call common. page_is_safe plan s tree_state h id 0 me.0.call.rows.next me.0 w at (h.reuse common) (omega (arith, some_number)) (known.for_call.first_own room).1 reads its_role busy place look (inr (omega arith, room)) (rows_after h.owners.row id me.0 w rows call) h.prime.0 stock)
 
 pub prime_is_published : (plan : Plan) (slots id : ℕ) (me : SeatState) (m : PlainMachine) (prime : List ℕ) → me.0.role ≡ Pass → me.0.operation ≡ Some m → FitsWords m.op → NeedsPrimeWrite m → PrimeOut m prime
     → 1 ≤ plan.counts.numbers → me.0.call.rows.next < me.0.call.rows.stop → IsRowOf me.0.call.staged (prime_words prime) → MayChange me.0 (key_of m.op)

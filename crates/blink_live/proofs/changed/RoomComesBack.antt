@@ -93,7 +93,7 @@ module _ (plan : Plan) (some_number : 1 ≤ plan.counts.numbers) (s : State ℕ 
         same_machines = put_same tree_state.machines id v.operation known.operation;
       }) h.invariant in
       load_keeps_with plan s tree_state h id 0 v (gives_back v) at still refl refl refl (λ common. (h.accounted common).saw_own id v at)
-      (λ common. reuse_stays plan h.owners.row s.words s.views id v (gives_back v) at (h.reuse common) h.owners.row s.words (λ row is. is) (λ seat r later is apart. is) (λ n few. refl) refl hand_before (same_reads plan h.owners.row s.words s.views id v (gives_back v) at (h.reuse common) refl refl refl refl)) knows
+      (λ common. reuse_stays plan h.owners.row s.words s.views id v (gives_back v) at (h.reuse common) h.owners.row s.words (λ row is. is) (λ seat r later is apart. is) (λ n few. refl) refl hand_before (same_reads plan h.owners.row s.words s.views id v (gives_back v) at (h.reuse common) refl refl refl refl refl)) knows
 
 pub room_comes_back : (plan : Plan) (slots id : ℕ) (me : SeatState) → 1 ≤ plan.counts.numbers → me.0.role ≡ Pass → CanGiveBack me.0
     → Allows (IsTable plan) slots id me 0 (λ k. k) (giving_back (step slots 0 0 0 none) me)

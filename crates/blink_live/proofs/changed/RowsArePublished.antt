@@ -28,13 +28,14 @@ use Rattle.blink_live.specs.declared.view.View.{View}
 use Rattle.blink_live.specs.Changes.{put, after, states_of}
 use Rattle.blink_live.specs.Accounts.{AreAccounts}
 use Rattle.blink_live.specs.Reuse.{IsReuseSafe}
+use Rattle.blink_live.specs.Looks.{IsLeafInChain}
 use Rattle.blink_live.specs.Rule.{Owners, IsPublished, PageWordIs, latch_word, HasRows, HasNumbers, IsShare, IsInRole, IsBoundedWay, Knows, IsTableAt, IsTable}
 use Rattle.blink_live.specs.Views.{IsCommon, IsOwned, span, publishes}
 use Rattle.blink_live.specs.Words.{place_word, word_count, RowIs}
 use Rattle.blink_live.proofs.changed.ChangesAreTheMaps.{after-append, states_of-append}
 use Rattle.blink_live.proofs.table.PoolStays.{pool_stays}
 use Rattle.blink_live.proofs.table.MapsWithOneChange.{put_here, put_else}
-use Rattle.blink_live.proofs.table.OthersKnowTheSame.{LeavesOthers, RowStays, page_word_still, reads_still}
+use Rattle.blink_live.proofs.table.OthersKnowTheSame.{LeavesOthers, RowStays, page_word_still, seat_reads_still}
 use Rattle.blink_live.proofs.table.AccountsStay.{AreBy, accounts_grow}
 use Rattle.blink_live.proofs.table.StoresKeepTable.{row_stays, IsStored, prime_still, store_keeps}
 
@@ -71,6 +72,7 @@ module _ (plan : Plan) (s : State ℕ View) (tree_state then : TreeState) (h : I
     pub call_free : HasNumbers plan h.owners then (suc id) pages
     pub call_before : pages.stop ≤ v.pages.next
     pub no_other_page : (n : ℕ) → plan.counts.numbers ≤ n → then.pages n ≡ None
+    pub in_chain : (n : ℕ) → IsLeafInChain tree_state.fan tree_state.prime tree_state.pages n → IsLeafInChain then.fan then.prime then.pages n
 
   module _ (under : (m : PlainMachine) × (v.operation ≡ Some m)) (step : IsStepOfTree) (in_range : number < plan.counts.numbers) (room : v.call.rows.next < v.call.rows.stop) (is_row : IsRowOf v.call.staged content) (made : List Change) (now : List Entry) (share : Share) where
     abbrev pub words : List ℕ
@@ -134,6 +136,15 @@ module _ (plan : Plan) (s : State ℕ View) (tree_state then : TreeState) (h : I
         place_words = λ place inside apart. other_place place;
         latch_numbers = λ seat. refl;
         longer = λ seen is. (is.0 ++ made, sym (append_assoc seen is.0 made) ∙ ap (λ (l : List Change). l ++ made) is.1);
+        in_chain = step.in_chain;
+        named = λ n row least few unowned is. dite (ℕ_discrete n number)
+            (λ same.
+            let wide = h.width in
+            let here : slice_index words number ≡ v.call.rows.next = get_or-set_same s.words number v.call.rows.next 0 (omega (arith, wide, in_range)) in
+            let its : row ≡ v.call.rows.next = sym is ∙ (ap (slice_index words) same ∙ here) in
+            let one : 0 ≡ suc id = sym unowned ∙ (ap h.owners.row its ∙ (known.for_call.first_own room).1) in
+            absurd (omega (arith, one)))
+            (λ differ. (sym (get_or-set_other s.words number n v.call.rows.next 0 differ) ∙ is, step.other_pages n least differ));
       }
 
       row_number : 1 ≤ v.call.rows.next
@@ -154,7 +165,7 @@ module _ (plan : Plan) (s : State ℕ View) (tree_state then : TreeState) (h : I
             same_plan = known.same_plan;
             operation = step.own;
             bounded = bounded;
-            reads = reads_still plan s tree_state then h id kept.0 words new log leaves v.reads known.reads;
+            reads = seat_reads_still plan s tree_state then h id kept.0 words new log leaves v known.reads;
             rows = later_rows v.rows (let before_rows = known.for_call.before.0 in omega (arith, before_rows, room)) known.rows;
             numbers = still_numbers v.pages step.own_free;
             for_call = record {

@@ -19,7 +19,7 @@ use Rattle.blink_live.specs.Words.{row_start, RowBegins, place_word, word_count}
 use Rattle.blink_live.proofs.table.PoolStays.{pool_stays}
 use Rattle.blink_live.proofs.reuse.ReuseStaysSafe.{hand_stays, reuse_stays, same_reads}
 use Rattle.blink_live.proofs.table.AccountsStay.{accounts_stay}
-use Rattle.blink_live.proofs.table.OthersKnowTheSame.{LeavesOthers, RowStays, page_word_still, reads_still}
+use Rattle.blink_live.proofs.table.OthersKnowTheSame.{LeavesOthers, RowStays, page_word_still, seat_reads_still}
 use Rattle.blink_live.proofs.table.LoadsKeepTable.{moved, load_keeps_with}
 use Rattle.blink_live.proofs.table.MapsWithOneChange.{put_here, put_same}
 use Rattle.blink_live.proofs.table.StoresKeepTable.{prime_still, store_keeps}
@@ -84,6 +84,8 @@ module _ (plan : Plan) (s : State ℕ View) (tree_state : TreeState) (h : IsTabl
     place_words = λ other inside apart. other_place other;
     latch_numbers = λ seat. refl;
     longer = λ seen is. is;
+    in_chain = λ n is. is;
+    named = λ n r least few unowned is. (sym (get_or-set_other s.words place n x 0 (λ e. omega (arith, e, few))) ∙ is, refl);
   }
 
   inside_words : place < length s.words
@@ -106,7 +108,7 @@ module _ (plan : Plan) (s : State ℕ View) (tree_state : TreeState) (h : IsTabl
     same_plan = known.same_plan;
     operation = known.operation;
     bounded = known.bounded;
-    reads = reads_still plan s tree_state tree_state h id kept.0 words h.owners h.log leaves v.reads known.reads;
+    reads = seat_reads_still plan s tree_state tree_state h id kept.0 words h.owners h.log leaves v known.reads;
     rows = known.rows;
     numbers = known.numbers;
     for_call = record {
@@ -143,7 +145,7 @@ module _ (plan : Plan) (s : State ℕ View) (tree_state : TreeState) (h : IsTabl
     is_map = h.is_map;
     kept = h.kept;
   } refl refl (λ common. accounts_stay plan h.owners.place h.log s.views id v w at (h.accounted common) refl ((h.accounted common).saw_own id v at))
-      (λ common. reuse_stays plan h.owners.row s.words s.views id v w at (h.reuse common) h.owners.row words (λ r is. is) (λ seat r later is apart. is) (λ n few. before_rows n (omega (arith, few))) refl (hand_stays h.owners.row id v w refl refl) (same_reads plan h.owners.row s.words s.views id v w at (h.reuse common) refl refl refl refl)) knows
+      (λ common. reuse_stays plan h.owners.row s.words s.views id v w at (h.reuse common) h.owners.row words (λ r is. is) (λ seat r later is apart. is) (λ n few. before_rows n (omega (arith, few))) refl (hand_stays h.owners.row id v w refl refl) (same_reads plan h.owners.row s.words s.views id v w at (h.reuse common) refl refl refl refl refl)) knows
 
 pub word_is_staged : (plan : Plan) (slots id i x : ℕ) (me : SeatState) → me.0.role ≡ Pass → me.0.call.rows.next < me.0.call.rows.stop → i < ROW_WORDS → 1 ≤ plan.counts.numbers
     → Allows (IsTable plan) slots id me (row_start plan.counts me.0.call.rows.next + i) (λ n. x) (λ n. stores_word (step slots (row_start plan.counts me.0.call.rows.next + i) x 0 none) me x)
@@ -208,7 +210,7 @@ module _ (plan : Plan) (s : State ℕ View) (tree_state : TreeState) (h : IsTabl
         same_machines = put_same tree_state.machines id v.operation known.operation;
       }) h.invariant in
       load_keeps_with plan s tree_state h id word v then at still refl refl refl (λ common. (h.accounted common).saw_own id v at)
-      (λ common. reuse_stays plan h.owners.row s.words s.views id v then at (h.reuse common) h.owners.row s.words (λ r is. is) (λ seat r later is apart. is) (λ n few. refl) refl (hand_stays h.owners.row id v then refl refl) (same_reads plan h.owners.row s.words s.views id v then at (h.reuse common) refl refl refl refl)) knows_then
+      (λ common. reuse_stays plan h.owners.row s.words s.views id v then at (h.reuse common) h.owners.row s.words (λ r is. is) (λ seat r later is apart. is) (λ n few. refl) refl (hand_stays h.owners.row id v then refl refl) (same_reads plan h.owners.row s.words s.views id v then at (h.reuse common) refl refl refl refl refl)) knows_then
 
 pub word_is_known : (plan : Plan) (slots id i : ℕ) (me : SeatState) → me.0.role ≡ Pass → me.0.call.rows.next < me.0.call.rows.stop → i ≡ length me.0.call.staged
     → Allows (IsTable plan) slots id me (row_start plan.counts me.0.call.rows.next + i) (λ k. k) (knows_more (step slots (row_start plan.counts me.0.call.rows.next + i) 0 0 none) me)

@@ -22,7 +22,7 @@ use Rattle.blink_live.proofs.table.CallsOfSeats.{call_still}
 use Rattle.blink_live.proofs.table.AccountsStay.{none_apart}
 use Rattle.blink_live.proofs.table.MapsWithOneChange.{put_here, put_else}
 use Rattle.blink_live.proofs.reuse.ReuseStaysSafe.{hand_stays, reuse_stays, reuse_without, same_reads}
-use Rattle.blink_live.proofs.table.OwnersChange.{StillOwns, reads_still, share_still, knows_still, owners_change}
+use Rattle.blink_live.proofs.table.OwnersChange.{StillOwns, seat_reads_still, share_still, knows_still, owners_change}
 use Rattle.blink_live.proofs.table.SeatsThatStay.{at_put, views_stay}
 use Rattle.blink_live.proofs.table.SpentSeats.{spent_knows}
 
@@ -94,7 +94,7 @@ module _ (plan : Plan) (some_number : 1 ≤ plan.counts.numbers) (s : State ℕ 
     same_plan = known.same_plan;
     operation = known.operation;
     bounded = known.bounded;
-    reads = reads_still plan old new s.words h.log (λ row is. is) v.reads known.reads;
+    reads = seat_reads_still plan old new s.words h.log (λ row is. is) tree_state v known.reads;
     rows = record { in_range = known.rows.in_range; own = known.rows.own };
     numbers = record { in_range = known.numbers.in_range; own = known.numbers.own; free = known.numbers.free };
     for_call = call_still plan old new s.words tree_state tree_state (suc id) v.call v.rows.next v.pages.next v.rows.next v.pages.next known.for_call (omega arith, omega arith) (λ r below own. own) (λ n below own. own) (λ n none. none);
@@ -193,8 +193,8 @@ module _ (plan : Plan) (some_number : 1 ≤ plan.counts.numbers) (s : State ℕ 
       omega (arith, one, two))
       h.nobodys (λ is_common. pool_then) (λ is_common. accounts_then)
       (λ is_common. reuse_without plan old.row s.words (set s.views id both) other w (spent plan) there
-      (reuse_stays plan old.row s.words s.views id v both at (h.reuse is_common) old.row s.words (λ row is. is) (λ seat r later is apart. is) (λ n few. refl) refl (hand_stays old.row id v both refl refl) (same_reads plan old.row s.words s.views id v both at (h.reuse is_common) refl refl refl refl))
-      new.row s.words (λ row is. is) (λ seat r later is apart. is) (λ n few. refl) refl refl) counted_then
+      (reuse_stays plan old.row s.words s.views id v both at (h.reuse is_common) old.row s.words (λ row is. is) (λ seat r later is apart. is) (λ n few. refl) refl (hand_stays old.row id v both refl refl) (same_reads plan old.row s.words s.views id v both at (h.reuse is_common) refl refl refl refl refl))
+      new.row s.words (λ row is. is) (λ seat r later is apart. is) (λ n few. refl) refl refl refl) counted_then
 
 pub taking_account_keeps_table : (plan : Plan) (id other : ℕ) (v w : View) (dealt back : ℕ) → 1 ≤ plan.counts.numbers → v.role ≡ Keeper dealt back → IsCommon plan → w.role ≡ Pass → w.operation ≡ None
     → Joins (IsTable plan) id v other w (takes_account v w) (spent plan)

@@ -24,11 +24,12 @@ use Rattle.blink_live.proofs.told.EntriesAfterChanges.{after-same_states, entrie
 use Rattle.blink_live.proofs.table.AccountsStay.{accounts_longer, accounts_stay, accounts_with_place, nothing_more, one_apart, only_account, prefix_made}
 use Rattle.blink_live.proofs.table.MapsWithOneChange.{put_here, put_else}
 use Rattle.blink_live.proofs.reuse.ReuseStaysSafe.{reuse_longer, reuse_stays}
-use Rattle.blink_live.proofs.table.OwnersChange.{StaysPublished, StillOwns, reads_still, share_still, knows_still, owners_change}
+use Rattle.blink_live.proofs.table.OwnersChange.{StaysPublished, StillOwns, seat_reads_still, share_still, knows_still, owners_change}
 use Rattle.blink_live.proofs.table.OwnersInRange.{ranged, ranged_in, ranged_out}
 use Rattle.blink_live.proofs.table.PassesOut.{at_end, passes_more, passes_role}
 use Rattle.blink_live.proofs.table.SeatsThatStay.{at_inside, at_put, views_stay}
 use Rattle.blink_live.proofs.table.CallsOfSeats.{call_still, nothing_for_call}
+use Rattle.blink_live.proofs.table.LooksStay.{nothing_noted}
 
 -- whose is what after the deal
 abbrev owners_after : Owners → ℕ → View → ℕ → ℕ → List ℕ → Owners
@@ -148,7 +149,7 @@ module _ (plan : Plan) (s : State ℕ View) (tree_state : TreeState) (h : IsTabl
     same_plan = known.same_plan;
     operation = known.operation;
     bounded = known.bounded;
-    reads = reads_still plan old new s.words h.log published v.reads known.reads;
+    reads = seat_reads_still plan old new s.words h.log published tree_state v known.reads;
     rows = record {
       in_range = (let low = known.rows.in_range.0 in omega (arith, low), known.rows.in_range.1);
       own = λ row low high. ranged_out v.rows.next (v.rows.next + rows) (suc new_seat) old.row row (λ a b. omega (arith, low, b)) ∙ known.rows.own row (omega (arith, low)) high;
@@ -197,7 +198,7 @@ module _ (plan : Plan) (s : State ℕ View) (tree_state : TreeState) (h : IsTabl
     same_plan = known.same_plan;
     operation = h.others_idle new_seat (omega arith);
     bounded = λ m is. absurd (cc);
-    reads = tt;
+    reads = (tt, nothing_noted plan new.row s.words tree_state.fan tree_state.prime tree_state.pages);
     rows = record {
       in_range = (known.rows.in_range.0, let enough = can.enough_rows in let high = known.rows.in_range.1 in omega (arith, enough, high));
       own = λ row low high. ranged_in v.rows.next (v.rows.next + rows) (suc new_seat) old.row row low high;
@@ -329,7 +330,7 @@ module _ (plan : Plan) (s : State ℕ View) (tree_state : TreeState) (h : IsTabl
   fewer_rows row hand = ⊎_elim (λ (t : (v.rows.next + rows ≤ row) × (row < v.rows.stop)). inl (inl (omega (arith, t), t.1))) (λ (t : (v.call.rows.next ≤ row) × (row < v.call.rows.stop)). inl (inr t)) hand
 
   reuse_then : IsCommon plan → IsReuseSafe plan new.row s.words views_then
-  reuse_then common = reuse_longer plan new.row s.words (set s.views id left) right refl refl
+  reuse_then common = reuse_longer plan new.row s.words (set s.views id left) right refl refl refl
       (reuse_stays plan old.row s.words s.views id v left at (h.reuse common) new.row s.words published
       (λ seat row later is apart. ranged_out v.rows.next (v.rows.next + rows) (suc new_seat) old.row row (λ low high. let enough = can.enough_rows in let mine = known.rows.own row low (omega (arith, high, enough)) in let first = in_role.0 in let one : suc seat ≡ suc id = sym is ∙ mine in omega (arith, one, first, later)) ∙ is)
       (λ n few. refl) refl fewer_rows

@@ -1,5 +1,5 @@
 -- The load of the prime block's page word is the first step of an operation.
-use Rattle.std.proofs.Common.{◌≡◌, ℕ, suc, ◌+◌, ◌≤◌, Some, None, List, [], refl, sym, ap, ◌∙◌, subst, inl, inr, ⊎_elim, ◌⊎◌, ◌≢◌, ◌<◌, arith}
+use Rattle.std.proofs.Common.{◌≡◌, ℕ, suc, ◌+◌, ◌≤◌, Some, None, List, [], refl, sym, ap, ◌∙◌, subst, inl, ⊎_elim, ◌⊎◌, ◌≢◌, ◌<◌, arith}
 use mathlib.Core.Option.{some}
 use lib.ListN.{get_elem?}
 use Rattle.std.specs.Prelude.{slice_index}
@@ -24,7 +24,7 @@ use Rattle.blink_live.specs.AtomicSteps.{begins}
 use Rattle.blink_live.specs.Reuse.{IsAtHand}
 use Rattle.blink_live.specs.Rule.{ReadsRow, IsInRole, IsBoundedWay, Knows, IsTable, IsTableAt}
 use Rattle.blink_live.specs.Views.{rows_of, IsCommon, SeatState, CanBegin, for_call, reading}
-use Rattle.blink_live.proofs.reuse.ReuseStaysSafe.{reuse_stays, row_is}
+use Rattle.blink_live.proofs.reuse.ReuseStaysSafe.{reads_named, reuse_stays}
 use Rattle.blink_live.proofs.table.AccountsStay.{account, still_saw}
 use Rattle.blink_live.proofs.table.LoadsKeepTable.{moved, load_keeps_with}
 use Rattle.blink_live.proofs.table.SharesAreKnown.{share_is_known}
@@ -69,7 +69,7 @@ module _ (plan : Plan) (s : State ℕ View) (tree_state : TreeState) (h : IsTabl
         same_plan = known.same_plan;
         operation = put_here tree_state.machines id (goes_on after after.state);
         bounded = bounded;
-        reads = reads;
+        reads = (reads, known.reads.1);
         rows = record {
           in_range = (omega (arith, low_row), high_row);
           own = λ r low high. known.rows.own r (omega (arith, low)) high;
@@ -134,7 +134,7 @@ begins_operation plan slots id me op role idle fits enough some_number s table h
       load_keeps_with plan s tree_state h id 0 me.0 w at invariant refl refl refl
           (λ common role. still_saw plan h.owners.place h.log s.views id me.0 w at (h.accounted common) (account plan h.owners.place h.log s.views id me.0 w at (h.accounted common) role) h.log known.saw ([], append-nil h.log) role)
           (λ common. reuse_stays plan h.owners.row s.words s.views id me.0 w at (h.reuse common) h.owners.row s.words (λ other is. is) (λ seat r later is apart. is) (λ n few. refl) refl (call_of_rows plan s tree_state h id me.0 op at enough)
-          (λ other content is. record { awake = (role, enough.announced (subst IsCommon (sym known.same_plan) common)); from = inr (0, omega (arith, some_number), row_is row other (prime_words tree_state.prime) content is) }))
+          (reads_named plan s.words me.0 w 0 row (prime_words tree_state.prime) refl refl refl refl role (enough.announced (subst IsCommon (sym known.same_plan) common)) (omega (arith, some_number)) refl))
           (begin_knows plan s tree_state h id me.0 after row way (prime_words tree_state.prime) at role op enough (λ other is. ap (descent_bound tree_state.pages) (sym (goes_on_as after after.state other is))) h.prime),
       (
         after,

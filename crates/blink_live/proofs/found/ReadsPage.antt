@@ -21,7 +21,7 @@ use Rattle.blink_live.specs.Changes.{after}
 use Rattle.blink_live.specs.AtomicSteps.{loads_page, LoadsPage, AnswersAfter, TellsStates}
 use Rattle.blink_live.specs.Rule.{IsTable, IsTableAt, PageWordIs}
 use Rattle.blink_live.specs.Views.{IsAnnounced, IsCommon, SeatState, reading}
-use Rattle.blink_live.proofs.reuse.ReuseStaysSafe.{row_is}
+use Rattle.blink_live.proofs.reuse.ReuseStaysSafe.{reads_named}
 use Rattle.blink_live.proofs.table.LoadsKeepTable.{moved, load_keeps}
 use Rattle.blink_live.proofs.table.SharesAreKnown.{share_is_known}
 use Rattle.blink_live.proofs.table.MapsWithOneChange.{put_here, put_else}
@@ -47,7 +47,7 @@ tells_states kept m leaf now is leaf_tells key not_before not_behind =
     sym (leaf_tells.states key (omega (arith, below, not_before), not_behind)) ∙ is key
 
 -- a page of some tree is lawful under the greatest fan
-lawful_within : (fan : ℕ) (page : PlainPage) → fan ≤ MAX_FAN → IsLawfulPage fan page → IsLawfulPage MAX_FAN page
+pub lawful_within : (fan : ℕ) (page : PlainPage) → fan ≤ MAX_FAN → IsLawfulPage fan page → IsLawfulPage MAX_FAN page
 lawful_within fan page less lawful = record {
   level_in_range = lawful.level_in_range;
   high_in_range = lawful.high_in_range;
@@ -89,7 +89,7 @@ reads_page_word plan slots id number me m role at_m fits needs some_number in_ra
           is_page
           ([], append-nil h.log)
           (h.views id me.0 at).saw
-          (λ common other content is. record { awake = (role, announced (subst IsCommon (sym known.same_plan) common)); from = inr (number, in_range, row_is row other (page_words reads.page) content is) }),
+          (λ common. reads_named plan s.words me.0 w number row (page_words reads.page) refl refl refl refl role (announced (subst IsCommon (sym known.same_plan) common)) in_range refl),
       λ same at_same needed. subst (λ (k : PlainMachine). (machine : PlainMachine) × LoadsPage k number me row machine (w, me.1)) (let e : m ≡ same = cc in e) (
         then,
         record {

@@ -1,5 +1,5 @@
 -- The load of the prime block's page word is the tree's read of the prime block, or a wait that changes nothing.
-use Rattle.std.proofs.Common.{◌≡◌, ℕ, suc, ◌≤◌, Some, [], refl, sym, ap, ◌∙◌, subst, inr, arith}
+use Rattle.std.proofs.Common.{◌≡◌, ℕ, suc, ◌≤◌, Some, [], refl, sym, ap, ◌∙◌, subst, arith}
 use Rattle.std.specs.Prelude.{slice_index}
 use mathlib.Core.Option.{none}
 use mathlib.Core.List.{append-nil}
@@ -19,7 +19,7 @@ use Rattle.blink_live.specs.declared.view.View.{View}
 use Rattle.blink_live.specs.AtomicSteps.{AsksPrime, NeedsNoMore, loads_prime, LoadsPrime}
 use Rattle.blink_live.specs.Rule.{IsTable, IsTableAt}
 use Rattle.blink_live.specs.Views.{IsAnnounced, IsCommon, SeatState, reading}
-use Rattle.blink_live.proofs.reuse.ReuseStaysSafe.{row_is}
+use Rattle.blink_live.proofs.reuse.ReuseStaysSafe.{reads_named}
 use Rattle.blink_live.proofs.table.LoadsKeepTable.{moved, load_keeps}
 use Rattle.blink_live.proofs.table.SharesAreKnown.{share_is_known}
 use Rattle.blink_live.proofs.table.MapsWithOneChange.{put_here, put_same}
@@ -84,7 +84,7 @@ reads_prime_word plan slots id me m role at_m fits needs some_number announced s
       keeps,
       tt,
       load_keeps plan s tree_state h id 0 me.0 w at role (m, at_m) comes.invariant refl (λ some_other is. ap (descent_bound tree_state.pages) (sym (goes_on_as then then.state some_other is))) h.prime ([], append-nil h.log) (h.views id me.0 at).saw
-          (λ common other content is. record { awake = (role, announced (subst IsCommon (sym known.same_plan) common)); from = inr (0, omega (arith, some_number), row_is row other (prime_words tree_state.prime) content is) }),
+          (λ common. reads_named plan s.words me.0 w 0 row (prime_words tree_state.prime) refl refl refl refl role (announced (subst IsCommon (sym known.same_plan) common)) (omega (arith, some_number)) refl),
       λ same at_same needed. subst (λ (k : PlainMachine). (machine : PlainMachine) × LoadsPrime k me row machine (w, me.1)) (let e : m ≡ same = cc in e) (
         then,
         record {

@@ -23,7 +23,7 @@ reads_row_word plan slots id word me s table homes at small =
       record {
         same = refl;
         is_its = λ row i content reads inside is.
-            let its : ReadsRow plan h.owners s.words (Some (row, content)) = subst (ReadsRow plan h.owners s.words) reads known.reads in
+            let its : ReadsRow plan h.owners s.words (Some (row, content)) = subst (ReadsRow plan h.owners s.words) reads known.reads.0 in
             ap (slice_index s.words) (is ∙ ap (λ (p : Plan). row_start p.counts row + i) known.same_plan) ∙ its.1 i inside;
       },
     )

@@ -10,7 +10,7 @@ use Rattle.blink_live.specs.declared.view.Role.TheVariants.{Keeper, Pass, Spent}
 use Rattle.blink_live.specs.declared.view.Share.{Share}
 use Rattle.blink_live.specs.declared.view.View.{View}
 use Rattle.blink_live.specs.Rule.{Owners, IsShare, IsInRole, Knows}
-use Rattle.blink_live.proofs.table.OwnersChange.{reads_still, share_still}
+use Rattle.blink_live.proofs.table.OwnersChange.{seat_reads_still, share_still}
 use Rattle.blink_live.proofs.table.CallsOfSeats.{call_still}
 
 -- whose is what after these keys have got this owner
@@ -58,7 +58,7 @@ module _ (plan : Plan) (old : Owners) (words : List ℕ) (tree_state : TreeState
     same_plan = known.same_plan;
     operation = known.operation;
     bounded = known.bounded;
-    reads = reads_still plan old new words log (λ row was. was) v.reads known.reads;
+    reads = seat_reads_still plan old new words log (λ row was. was) tree_state v known.reads;
     rows = record { in_range = known.rows.in_range; own = known.rows.own };
     numbers = record { in_range = known.numbers.in_range; own = known.numbers.own; free = known.numbers.free };
     for_call = call_still plan old new words tree_state tree_state (suc seat) v.call v.rows.next v.pages.next v.rows.next v.pages.next known.for_call (omega arith, omega arith) (λ r below own. own) (λ n below own. own) (λ n none. none);

@@ -26,6 +26,7 @@ use Rattle.blink_live.specs.Accounts.{AreApart, HasSeenItsOwn, IsAccount, accoun
 use Rattle.blink_live.specs.Rule.{HasNumbers, HasPool, HasRows, Owners, IsPublished, PageWordIs, Knows, IsTable}
 use Rattle.blink_live.specs.Views.{IsCommon, first_span, first_view, no_stock, span}
 use Rattle.blink_live.specs.Words.{RowIs}
+use Rattle.blink_live.proofs.table.LooksStay.{nothing_noted}
 use Rattle.blink_live.proofs.table.CallsOfSeats.{nothing_for_call}
 use Rattle.blink_live.proofs.reuse.ReuseStaysSafe.{agrees_with_none, empty_stock}
 use Rattle.blink_live.proofs.table.AccountsStay.{none_apart}
@@ -153,7 +154,7 @@ module _ (store : PlainStore) (counts : PlainCounts) (places : ℕ) (words : Lis
     same_plan = refl;
     operation = refl;
     bounded = λ m is. absurd (cc);
-    reads = tt;
+    reads = (tt, nothing_noted (plan_over store counts places) (owners_over (length store.pages)).row words (tree_state_over store).fan (tree_state_over store).prime (tree_state_over store).pages);
     rows = first_rows places;
     numbers = first_numbers places;
     for_call = nothing_for_call (plan_over store counts places) (owners_over (length store.pages)) words (tree_state_over store) 1 (first_span places (length store.pages + 2) (counts.rows + 1)).next (first_span places (length store.pages + 1) counts.numbers).next
@@ -228,7 +229,7 @@ module _ (store : PlainStore) (counts : PlainCounts) (places : ℕ) (words : Lis
           reuse = λ common. record {
             claim = λ row. 0;
             named_once = λ one other few_one few_other least same. once one other few_one few_other least same;
-            stocks = one_view (HasStock plan owners.row words (λ row. 0)) (first_view (length store.pages) plan) (empty_stock plan owners.row words (λ row. 0) 0 (first_view (length store.pages) plan) refl refl);
+            stocks = one_view (HasStock plan owners.row words (λ row. 0)) (first_view (length store.pages) plan) (empty_stock plan owners.row words (λ row. 0) 0 (first_view (length store.pages) plan) refl refl refl);
             agree = λ seat other v u at_v at_u. one_view (λ i a. AgreesWith a.stock u) (first_view (length store.pages) plan) (agrees_with_none no_stock u refl) seat v at_v;
           };
           views = one_view (Knows plan owners words (tree_state_over store) []) (first_view (length store.pages) plan) keeper_knows;

@@ -1,22 +1,35 @@
 -- A step of one seat after which its stock is right, and agrees with what the seats read, keeps reuse safe.
-use Rattle.std.proofs.Common.{◌≡◌, ◌≢◌, ◌⊎◌, ⊎_elim, ℕ, suc, ◌+◌, ◌<◌, ◌≤◌, Option, Some, None, List, [], ◌∷◌, ◌++◌, set, length, refl, sym, ap, ◌∙◌, subst, inl, arith}
+use Rattle.std.proofs.Common.{◌≡◌, ◌≢◌, ◌⊎◌, ⊎_elim, ℕ, suc, ◌+◌, ◌<◌, ◌≤◌, Option, Some, None, List, [], ◌∷◌, ◌++◌, set, length, refl, sym, ap, ◌∙◌, subst, inl, inr, arith}
 use Rattle.std.specs.Prelude.{Contains, slice_index}
 use mathlib.Core.Option.{some}
 use lib.ListN.{get_elem?}
 use Rattle.blink_rows.specs.declared.span.Span.{Span}
 use Rattle.blink_live.specs.declared.view.Aside.{Aside}
+use Rattle.blink_live.specs.declared.view.Look.{Look}
 use Rattle.blink_live.specs.declared.view.Plan.{Plan}
 use Rattle.blink_live.specs.declared.view.Role.TheVariants.{Pass}
 use Rattle.blink_live.specs.declared.view.Stock.{Stock}
 use Rattle.blink_live.specs.declared.view.View.{View}
-use Rattle.blink_live.specs.Reuse.{AgreesWith, AreNamedOnce, HasAside, HasRowsOnce, HasStock, IsAside, IsAtHand, IsReadBesides, IsReuseSafe, IsTakenOut, IsWithin}
-use Rattle.blink_live.specs.Views.{no_aside, no_stock}
+use Rattle.blink_live.specs.Reuse.{AgreesWith, AreNamedOnce, HasAside, HasRowsOnce, HasStock, HoldsRow, IsAside, IsAtHand, IsReadBesides, IsReuseSafe, IsTakenOut, IsWithin}
+use Rattle.blink_live.specs.Views.{no_aside, no_look, no_stock}
+use Rattle.blink_live.proofs.table.LooksStay.{none_noted}
 use Rattle.blink_live.proofs.table.PassesOut.{at_end}
 use Rattle.blink_live.proofs.table.SeatsThatStay.{views_stay}
 
--- a seat that reads no row agrees with every stock
-pub reads_nothing : (stock : Stock) (u : View) → u.reads ≡ None → AgreesWith stock u
-reads_nothing stock u none row content is = absurd (let e : None ≡ Some (row, content) = sym none ∙ is in cc)
+-- a seat that reads no row, and has noted none, holds none
+pub holds_nothing : (u : View) → u.reads ≡ None → u.look ≡ no_look → (row : ℕ) (content : List ℕ) → ¬ HoldsRow u row content
+holds_nothing u none unnoted row content is = ⊎_elim
+    (λ (reads : u.reads ≡ Some (row, content)). let e : None ≡ Some (row, content) = sym none ∙ reads in cc)
+    (λ (noted : (number : ℕ) × Contains u.look.leaves (number, row)). none_noted noted.0 row (subst (λ (l : Look). Contains l.leaves (noted.0, row)) unnoted noted.1)) is
+
+-- one that reads and has noted the same holds the same rows
+pub holds_same : (v w : View) → w.reads ≡ v.reads → w.look.leaves ≡ v.look.leaves → (row : ℕ) (content : List ℕ) → HoldsRow w row content → HoldsRow v row content
+holds_same v w reads look row content is = ⊎_elim (λ (its : w.reads ≡ Some (row, content)). inl (sym reads ∙ its))
+    (λ (noted : (number : ℕ) × Contains w.look.leaves (number, row)). inr (noted.0, subst (λ (l : List (ℕ × ℕ)). Contains l (noted.0, row)) look noted.1)) is
+
+-- it agrees with every stock
+pub reads_nothing : (stock : Stock) (u : View) → u.reads ≡ None → u.look ≡ no_look → AgreesWith stock u
+reads_nothing stock u none unnoted row content is = absurd (holds_nothing u none unnoted row content is)
 
 -- and every seat agrees with an empty stock
 none_listed : (row : ℕ) → ¬ Contains [] row
@@ -41,9 +54,9 @@ empty_aside plan whose seat v none =
     }
 
 -- such a stock is right
-pub empty_stock : (plan : Plan) (whose : ℕ → ℕ) (words : List ℕ) (claim : ℕ → ℕ) (seat : ℕ) (v : View) → v.stock ≡ no_stock → v.reads ≡ None → HasStock plan whose words claim seat v
-empty_stock plan whose words claim seat v none blind = record {
-  awake = λ row content is. absurd (let e : None ≡ Some (row, content) = sym blind ∙ is in cc);
+pub empty_stock : (plan : Plan) (whose : ℕ → ℕ) (words : List ℕ) (claim : ℕ → ℕ) (seat : ℕ) (v : View) → v.stock ≡ no_stock → v.reads ≡ None → v.look ≡ no_look → HasStock plan whose words claim seat v
+empty_stock plan whose words claim seat v none blind unnoted = record {
+  awake = λ row content is. absurd (holds_nothing v blind unnoted row content is);
   once = subst HasRowsOnce (sym none) (record { free = tt; retired = tt; waiting = tt; free_retired = λ row has. absurd (none_listed row has); free_waiting = λ row has. absurd (none_listed row has); retired_waiting = λ row has. absurd (none_listed row has) });
   free = λ row has. absurd (none_listed row (subst (λ (x : Stock). Contains x.free row) none has));
   retired = λ row has. absurd (none_listed row (subst (λ (x : Stock). Contains x.retired row) none has));
@@ -109,22 +122,22 @@ module _ (plan : Plan) (whose new : ℕ → ℕ) (words then : List ℕ) (views 
 pub row_is : (row other : ℕ) (content words : List ℕ) → ◌≡◌ {A = Option (ℕ × List ℕ)} (Some (row, content)) (Some (other, words)) → row ≡ other
 row_is row other content words is = let same : ◌≡◌ {A = ℕ × List ℕ} (row, content) (other, words) = cc in ap (λ (x : ℕ × List ℕ). x.0) same
 
--- the seat reads what it read, or a row that a page word names
+-- the seat holds what it held, or a row that a page word names
 pub record MayRead (plan : Plan) (words : List ℕ) (v w : View) (row : ℕ) : Type 0 where
   pub awake : (w.role ≡ Pass) × (2 ≤ w.busy)
-  pub from : ((content : List ℕ) × (v.reads ≡ Some (row, content)) × (w.place ≡ v.place) × (w.busy ≡ v.busy)) ⊎ ((number : ℕ) × (number < plan.counts.numbers) × (slice_index words number ≡ row))
+  pub from : ((content : List ℕ) × HoldsRow v row content × (w.place ≡ v.place) × (w.busy ≡ v.busy)) ⊎ ((number : ℕ) × (number < plan.counts.numbers) × (slice_index words number ≡ row))
 
 abbrev pub MayReadOn : Plan → List ℕ → View → View → Type 0
-MayReadOn plan words v w = (row : ℕ) (content : List ℕ) → w.reads ≡ Some (row, content) → MayRead plan words v w row
+MayReadOn plan words v w = (row : ℕ) (content : List ℕ) → HoldsRow w row content → MayRead plan words v w row
 
 module _ (plan : Plan) (whose : ℕ → ℕ) (words : List ℕ) (views : List View) (id : ℕ) (v w : View) (at : get_elem? views id ≡ some v) (safe : IsReuseSafe plan whose words views) where
   abbrev its : HasStock plan whose words safe.claim id v
   its = safe.stocks id v at
 
   -- it reads what it read
-  pub same_reads : w.reads ≡ v.reads → w.role ≡ v.role → w.busy ≡ v.busy → w.place ≡ v.place → MayReadOn plan words v w
-  same_reads reads role busy place row content is =
-      let was : v.reads ≡ Some (row, content) = sym reads ∙ is in
+  pub same_reads : w.reads ≡ v.reads → w.role ≡ v.role → w.busy ≡ v.busy → w.place ≡ v.place → w.look.leaves ≡ v.look.leaves → MayReadOn plan words v w
+  same_reads reads role busy place look row content is =
+      let was = holds_same v w reads look row content is in
       let awake = its.awake row content was in
       let marked = awake.1 in
       record { awake = (role ∙ awake.0, omega (arith, busy, marked)); from = inl (content, was, place, busy) }
@@ -132,7 +145,7 @@ module _ (plan : Plan) (whose : ℕ → ℕ) (words : List ℕ) (views : List Vi
   -- then it agrees with each stock
   pub agrees_on : MayReadOn plan words v w → (seat : ℕ) (u : View) → get_elem? views seat ≡ some u → AgreesWith u.stock w
   agrees_on may seat u there row content is = ⊎_elim
-      (λ (t : (before : List ℕ) × (v.reads ≡ Some (row, before)) × (w.place ≡ v.place) × (w.busy ≡ v.busy)).
+      (λ (t : (before : List ℕ) × HoldsRow v row before × (w.place ≡ v.place) × (w.busy ≡ v.busy)).
       let besides = safe.agree seat id u v there at row t.0 t.1 in
       record {
         not_free = besides.not_free;
@@ -188,29 +201,38 @@ module _ (plan : Plan) (whose : ℕ → ℕ) (words : List ℕ) (views : List Vi
     }
 
     -- the seat has no stock any more, and reads nothing
-    pub reuse_without : w.stock ≡ no_stock → w.reads ≡ None → IsReuseSafe plan new then (set views id w)
-    reuse_without none blind = safe_then plan whose new words then views id w safe record {
+    pub reuse_without : w.stock ≡ no_stock → w.reads ≡ None → w.look ≡ no_look → IsReuseSafe plan new then (set views id w)
+    reuse_without none blind unnoted = safe_then plan whose new words then views id w safe record {
       claim = safe.claim;
       named_once = once_still;
-      own = empty_stock plan new then safe.claim id w none blind;
+      own = empty_stock plan new then safe.claim id w none blind unnoted;
       others = λ seat u differ there. stock_kept plan whose new words then safe.claim safe.claim seat u (out_still seat) (λ row later is not_there. owned seat row later is (λ e. absurd (differ e))) (safe.stocks seat u there);
       own_reads = agrees_with_none w.stock w none;
       others_read = λ seat u differ there. agrees_with_none w.stock u none;
-      reads_theirs = λ seat u differ there. reads_nothing u.stock w blind;
+      reads_theirs = λ seat u differ there. reads_nothing u.stock w blind unnoted;
     }
+
+-- it reads a row that a page word names
+pub reads_named : (plan : Plan) (words : List ℕ) (v w : View) (number row : ℕ) (content : List ℕ) → w.reads ≡ Some (row, content) → w.look.leaves ≡ v.look.leaves → w.place ≡ v.place → w.busy ≡ v.busy → w.role ≡ Pass → 2 ≤ w.busy
+    → number < plan.counts.numbers → slice_index words number ≡ row → MayReadOn plan words v w
+reads_named plan words v w number row content reads look place busy role awake few named other its is = record {
+  awake = (role, awake);
+  from = ⊎_elim (λ (now : w.reads ≡ Some (other, its)). inr (number, few, named ∙ row_is row other content its (sym reads ∙ now)))
+      (λ (noted : (k : ℕ) × Contains w.look.leaves (k, other)). inl (its, inr (noted.0, subst (λ (l : List (ℕ × ℕ)). Contains l (noted.0, other)) look noted.1), place, busy)) is;
+}
 
 -- ---- one more seat
 
-pub reuse_longer : (plan : Plan) (whose : ℕ → ℕ) (words : List ℕ) (views : List View) (more : View) → more.stock ≡ no_stock → more.reads ≡ None → IsReuseSafe plan whose words views → IsReuseSafe plan whose words (views ++ more ∷ [])
-reuse_longer plan whose words views more none blind safe = record {
+pub reuse_longer : (plan : Plan) (whose : ℕ → ℕ) (words : List ℕ) (views : List View) (more : View) → more.stock ≡ no_stock → more.reads ≡ None → more.look ≡ no_look → IsReuseSafe plan whose words views → IsReuseSafe plan whose words (views ++ more ∷ [])
+reuse_longer plan whose words views more none blind unnoted safe = record {
   claim = safe.claim;
   named_once = safe.named_once;
   stocks = λ seat u there. ⊎_elim (λ (t : get_elem? views seat ≡ some u). safe.stocks seat u t)
-      (λ (t : (seat ≡ length views) × (more ≡ u)). subst (λ (x : View). HasStock plan whose words safe.claim seat x) t.1 (empty_stock plan whose words safe.claim seat more none blind))
+      (λ (t : (seat ≡ length views) × (more ≡ u)). subst (λ (x : View). HasStock plan whose words safe.claim seat x) t.1 (empty_stock plan whose words safe.claim seat more none blind unnoted))
       (at_end views more u seat there);
   agree = λ seat other v u at_v at_u. ⊎_elim
       (λ (t : get_elem? views seat ≡ some v). ⊎_elim (λ (q : get_elem? views other ≡ some u). safe.agree seat other v u t q)
-      (λ (q : (other ≡ length views) × (more ≡ u)). subst (AgreesWith v.stock) q.1 (reads_nothing v.stock more blind))
+      (λ (q : (other ≡ length views) × (more ≡ u)). subst (AgreesWith v.stock) q.1 (reads_nothing v.stock more blind unnoted))
       (at_end views more u other at_u))
       (λ (t : (seat ≡ length views) × (more ≡ v)). subst (λ (x : View). AgreesWith x.stock u) t.1 (agrees_with_none more.stock u none))
       (at_end views more v seat at_v);

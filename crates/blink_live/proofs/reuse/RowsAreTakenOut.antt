@@ -25,7 +25,7 @@ word_is_published plan owners words word None least is = absurd (omega (arith, l
 word_is_published plan owners words word (Some page) least is = is.0
 
 module _ (plan : Plan) (s : State ℕ View) (tree_state : TreeState) (h : IsTableAt plan s tree_state) (id number row : ℕ) (v w : View) (at : get_elem? s.views id ≡ some v) (safe : IsReuseSafe plan h.owners.row s.words s.views)
-    (in_range : number < plan.counts.numbers) (own : h.owners.row row ≡ suc id) (same_reads_as : w.reads ≡ v.reads) (same_role : w.role ≡ v.role) (same_busy : w.busy ≡ v.busy) (same_place : w.place ≡ v.place)
+    (in_range : number < plan.counts.numbers) (own : h.owners.row row ≡ suc id) (same_reads_as : w.reads ≡ v.reads) (same_role : w.role ≡ v.role) (same_busy : w.busy ≡ v.busy) (same_place : w.place ≡ v.place) (same_look : w.look.leaves ≡ v.look.leaves)
     (at_hand : IsAtHand v row) (hand : (r : ℕ) → IsAtHand w r → IsAtHand v r ⊎ (h.owners.row r ≢ suc id)) where
   abbrev then : List ℕ
   then = set s.words number row
@@ -86,7 +86,7 @@ module _ (plan : Plan) (s : State ℕ View) (tree_state : TreeState) (h : IsTabl
 
   pub new_page_is_safe : w.stock ≡ v.stock → IsReuseSafe plan new then (set s.views id w)
   new_page_is_safe same_stock =
-      let may = same_reads plan h.owners.row s.words s.views id v w at safe same_reads_as same_role same_busy same_place in
+      let may = same_reads plan h.owners.row s.words s.views id v w at safe same_reads_as same_role same_busy same_place same_look in
       let kept = stock_kept plan h.owners.row new s.words then safe.claim safe.claim id v (λ r is. out_then safe.claim id r refl is) (λ r later is not_there. owned_then id r is (λ e. not_there)) its in
       safe_then plan h.owners.row new s.words then s.views id w safe record {
         claim = safe.claim;
@@ -150,7 +150,7 @@ module _ (plan : Plan) (s : State ℕ View) (tree_state : TreeState) (h : IsTabl
 
     pub page_is_safe : IsReuseSafe plan new then (set s.views id w)
     page_is_safe =
-        let may = same_reads plan h.owners.row s.words s.views id v w at safe same_reads_as same_role same_busy same_place in
+        let may = same_reads plan h.owners.row s.words s.views id v w at safe same_reads_as same_role same_busy same_place same_look in
         safe_then plan h.owners.row new s.words then s.views id w safe record {
           claim = claim;
           named_once = once_then;

@@ -1,5 +1,5 @@
 -- A free row is its session's own again: nobody reads it, and no page word names it.
-use Rattle.std.proofs.Common.{◌≡◌, ◌≢◌, ⊎_elim, ℕ, suc, ◌<◌, ◌≤◌, Option, Some, None, List, ◌∷◌, length, get_or, set, refl, sym, ap, ◌∙◌, subst, inl, inr, length-set, arith}
+use Rattle.std.proofs.Common.{◌≡◌, ◌≢◌, ⊎_elim, ℕ, suc, ◌<◌, ◌≤◌, Option, Some, None, List, [], ◌∷◌, length, get_or, set, refl, sym, ap, ◌∙◌, subst, inl, inr, length-set, arith}
 use Rattle.std.specs.Prelude.{Contains, slice_index}
 use mathlib.Core.Option.{some, none}
 use mathlib.Core.Logic.{dite}
@@ -18,8 +18,9 @@ use Rattle.blink_live.specs.declared.view.Share.{Share}
 use Rattle.blink_live.specs.declared.view.View.{View}
 use Rattle.blink_live.specs.Changes.{put}
 use Rattle.blink_live.specs.ComingBack.{puts_back, puts_rows_back, takes_in, takes_row_in}
+use Rattle.blink_live.specs.Looks.{HasLooked}
 use Rattle.blink_live.specs.Reuse.{AgreesWith, HasAside, HasEachOnce, HasStock, IsAside, IsReuseSafe, IsTakenOut}
-use Rattle.blink_live.specs.Rule.{IsInRole, IsShare, IsTable, IsTableAt, Knows, Owners, PageWordIs, ReadsRow, latch_word}
+use Rattle.blink_live.specs.Rule.{IsInRole, IsShare, IsTable, IsTableAt, Knows, Owners, PageWordIs, Reads, ReadsRow, latch_word}
 use Rattle.blink_live.specs.Views.{IsCommon, SeatState}
 use Rattle.blink_live.specs.Words.{IsRowNumber}
 use Rattle.blink_live.proofs.changed.PoolIsDrawn.{latch_still}
@@ -28,6 +29,7 @@ use Rattle.blink_live.proofs.reuse.StocksChange.{same_reader}
 use Rattle.blink_live.proofs.table.AccountsStay.{accounts_stay}
 use Rattle.blink_live.proofs.table.CallsOfSeats.{call_still}
 use Rattle.blink_live.proofs.table.LoadsKeepTable.{moved, load_keeps_with}
+use Rattle.blink_live.proofs.table.LooksStay.{looks_stay}
 use Rattle.blink_live.proofs.table.MapsWithOneChange.{put_here, put_else, put_same}
 use Rattle.blink_live.proofs.table.SeatsThatStay.{views_stay, counted_stays}
 
@@ -46,7 +48,7 @@ module _ (plan : Plan) (old : Owners) (row : ℕ → ℕ) (words : List ℕ) (tr
   role_same seat v Spent is = is
 
   -- a seat that owns what it did, and whose row is published still, knows what it knew
-  row_owners_knows : (seat : ℕ) (v : View) → ((r : ℕ) → old.row r ≡ suc seat → row r ≡ suc seat) → ReadsRow plan (with_row old row) words v.reads → Knows plan old words tree_state log seat v → Knows plan (with_row old row) words tree_state log seat v
+  row_owners_knows : (seat : ℕ) (v : View) → ((r : ℕ) → old.row r ≡ suc seat → row r ≡ suc seat) → Reads plan (with_row old row) words tree_state v → Knows plan old words tree_state log seat v → Knows plan (with_row old row) words tree_state log seat v
   row_owners_knows seat v owns reads known = record {
     same_plan = known.same_plan;
     operation = known.operation;
@@ -118,17 +120,25 @@ module _ (plan : Plan) (s : State ℕ View) (tree_state : TreeState) (h : IsTabl
   reads_then : (seat : ℕ) (u : View) → get_elem? s.views seat ≡ some u → (reads : Option (ℕ × List ℕ)) → u.reads ≡ reads → ReadsRow plan h.owners s.words reads → ReadsRow plan new s.words reads
   reads_then seat u there None same is = is
   reads_then seat u there (Some (r, content)) same is =
-      ((is.0.0, else_same r (λ e. (safe.agree id seat v u at there r content same).not_free (subst (Contains v.stock.free) (sym e) row_is_free)) ∙ is.0.1), is.1)
+      ((is.0.0, else_same r (λ e. (safe.agree id seat v u at there r content (inl same)).not_free (subst (Contains v.stock.free) (sym e) row_is_free)) ∙ is.0.1), is.1)
+
+  -- nor has anybody noted it
+  looks_then : (seat : ℕ) (u : View) → get_elem? s.views seat ≡ some u → HasLooked plan h.owners.row s.words tree_state.fan tree_state.prime tree_state.pages u.look → HasLooked plan whose s.words tree_state.fan tree_state.prime tree_state.pages u.look
+  looks_then seat u there = looks_stay plan h.owners.row whose s.words s.words tree_state.fan tree_state.fan tree_state.prime tree_state.prime tree_state.pages tree_state.pages u.look
+      (λ number r has in_range unowned. else_same r (λ e. (safe.agree id seat v u at there r [] (inr (number, has))).not_free (subst (Contains v.stock.free) (sym e) row_is_free)) ∙ unowned) (λ number in_chain. in_chain) (λ number r least few unowned is. (is, refl))
+
+  reads_all : (seat : ℕ) (u : View) → get_elem? s.views seat ≡ some u → Reads plan h.owners s.words tree_state u → Reads plan new s.words tree_state u
+  reads_all seat u there is = (reads_then seat u there u.reads refl is.0, looks_then seat u there is.1)
 
   others_know : (seat : ℕ) (u : View) → get_elem? s.views seat ≡ some u → Knows plan new s.words tree_state h.log seat u
-  others_know seat u there = let was = h.views seat u there in row_owners_knows plan h.owners whose s.words tree_state h.log seat u (owns seat) (reads_then seat u there u.reads refl was.reads) was
+  others_know seat u there = let was = h.views seat u there in row_owners_knows plan h.owners whose s.words tree_state h.log seat u (owns seat) (reads_all seat u there was.reads) was
 
   own_knows : Knows plan new s.words tree_state h.log id w
   own_knows = record {
     same_plan = known.same_plan;
     operation = known.operation;
     bounded = known.bounded;
-    reads = reads_then id v at v.reads refl known.reads;
+    reads = reads_all id v at known.reads;
     rows = record { in_range = let range = is_out.in_range in (omega arith, omega (arith, range)); own = λ r low high. absurd (omega (arith, low, high)) };
     numbers = record { in_range = known.numbers.in_range; own = known.numbers.own; free = known.numbers.free };
     for_call = record {
@@ -206,9 +216,9 @@ module _ (plan : Plan) (s : State ℕ View) (tree_state : TreeState) (h : IsTabl
     others = λ seat u apart there.
         let was = safe.stocks seat u there in
         stock_kept plan h.owners.row whose s.words s.words safe.claim safe.claim seat u (λ r is. out_still seat r (others_row seat r apart is) is) (λ r later is not_there. owns seat r is) was;
-    own_reads = agrees_then w (same_reader v.stock v w refl refl refl (safe.agree id id v v at at));
+    own_reads = agrees_then w (same_reader v.stock v w refl refl refl refl (safe.agree id id v v at at));
     others_read = λ seat u apart there. agrees_then u (safe.agree id seat v u at there);
-    reads_theirs = λ seat u apart there. same_reader u.stock v w refl refl refl (safe.agree seat id u v there at);
+    reads_theirs = λ seat u apart there. same_reader u.stock v w refl refl refl refl (safe.agree seat id u v there at);
   }
 
   same_latch_word : (holder : Option ℕ) → latch_word h.owners holder ≡ latch_word new holder
@@ -320,9 +330,9 @@ module _ (plan : Plan) (s : State ℕ View) (tree_state : TreeState) (h : IsTabl
           aside = empty_aside plan h.owners.row id back refl;
         };
         others = λ seat u apart there. before.stocks seat u there;
-        own_reads = agrees_back back (same_reader v.stock v back refl refl refl (before.agree id id v v at at));
+        own_reads = agrees_back back (same_reader v.stock v back refl refl refl refl (before.agree id id v v at at));
         others_read = λ seat u apart there. agrees_back u (before.agree id seat v u at there);
-        reads_theirs = λ seat u apart there. same_reader u.stock v back refl refl refl (before.agree seat id u v there at);
+        reads_theirs = λ seat u apart there. same_reader u.stock v back refl refl refl refl (before.agree seat id u v there at);
       }
 
   pub rows_are_back : IsTable plan record { words = set s.words 0 (get_or s.words 0 0); homes = s.homes; views = set s.views id (puts_back v) }

@@ -1,5 +1,5 @@
 -- Rows wait, until each place's session is idle or has begun anew since: then nobody reads them, and they are free.
-use Rattle.std.proofs.Common.{◌≡◌, ◌≢◌, ⊎_elim, ℕ, suc, ◌+◌, ◌<◌, ◌≤◌, Some, List, [], ◌∷◌, ◌++◌, length, set, refl, sym, ap, ◌∙◌, subst, inl, inr, length-append, arith}
+use Rattle.std.proofs.Common.{◌≡◌, ◌≢◌, ⊎_elim, ℕ, suc, ◌+◌, ◌<◌, ◌≤◌, List, [], ◌∷◌, ◌++◌, length, set, refl, sym, ap, ◌∙◌, subst, inl, inr, length-append, arith}
 use Rattle.std.specs.Prelude.{Contains, slice_index}
 use Rattle.std.proofs.Math.Decide.{dec_le}
 use Rattle.std.proofs.lemmas.List.Elements.{Contains-append_cases}
@@ -16,7 +16,7 @@ use Rattle.blink_live.specs.declared.view.Role.TheVariants.{Pass}
 use Rattle.blink_live.specs.declared.view.Stock.{Stock}
 use Rattle.blink_live.specs.declared.view.View.{View}
 use Rattle.blink_live.specs.ComingBack.{IsPast, begins_to_wait, begins_wait, checks_place, collects, finds_past, forgets, loses_rows, gets_waiting, sees_mark, sees_place, with_stock}
-use Rattle.blink_live.specs.Reuse.{HasEachOnce, HasStock, HaveNoneInCommon, IsReuseSafe}
+use Rattle.blink_live.specs.Reuse.{HasEachOnce, HasStock, HaveNoneInCommon, HoldsRow, IsReuseSafe}
 use Rattle.blink_live.specs.Rule.{HasPlace, IsTable, IsTableAt}
 use Rattle.blink_live.specs.Views.{IsCommon, SeatState}
 use Rattle.blink_live.specs.Words.{place_word}
@@ -42,7 +42,7 @@ module _ (plan : Plan) (s : State ℕ View) (tree_state : TreeState) (h : IsTabl
   its = safe.stocks id v at
 
   -- whoever reads has a place, with its mark
-  reader_has_place : (seat : ℕ) (u : View) (row : ℕ) (content : List ℕ) → get_elem? s.views seat ≡ some u → u.reads ≡ Some (row, content) → HasPlace plan h.owners s.words seat u
+  reader_has_place : (seat : ℕ) (u : View) (row : ℕ) (content : List ℕ) → get_elem? s.views seat ≡ some u → HoldsRow u row content → HasPlace plan h.owners s.words seat u
   reader_has_place seat u row content there is = (h.views seat u there).placed common ((safe.stocks seat u there).awake row content is).0
 
   pub wait_begins : v.stock.waiting ≡ [] → IsReuseSafe plan h.owners.row s.words (set s.views id (with_stock v (begins_to_wait v.stock)))

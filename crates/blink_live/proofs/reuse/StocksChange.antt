@@ -13,14 +13,14 @@ use Rattle.blink_live.specs.declared.view.View.{View}
 use Rattle.blink_live.specs.ComingBack.{with_stock}
 use Rattle.blink_live.specs.Reuse.{AgreesWith, HasRowsOnce, IsReuseSafe, IsTakenOut}
 use Rattle.blink_live.specs.Rule.{IsInRole, Knows, IsTable, IsTableAt}
-use Rattle.blink_live.proofs.reuse.ReuseStaysSafe.{aside_kept, safe_then}
+use Rattle.blink_live.proofs.reuse.ReuseStaysSafe.{aside_kept, holds_same, safe_then}
 use Rattle.blink_live.proofs.table.LoadsKeepTable.{moved, load_keeps_with}
 use Rattle.blink_live.proofs.table.MapsWithOneChange.{put_here, put_same}
 
 -- a seat that reads the same agrees with the same stocks
-pub same_reader : (stock : Stock) (v w : View) → w.reads ≡ v.reads → w.place ≡ v.place → w.busy ≡ v.busy → AgreesWith stock v → AgreesWith stock w
-same_reader stock v w reads place busy agrees row content is =
-    let besides = agrees row content (sym reads ∙ is) in record {
+pub same_reader : (stock : Stock) (v w : View) → w.reads ≡ v.reads → w.look.leaves ≡ v.look.leaves → w.place ≡ v.place → w.busy ≡ v.busy → AgreesWith stock v → AgreesWith stock w
+same_reader stock v w reads look place busy agrees row content is =
+    let besides = agrees row content (holds_same v w reads look row content is) in record {
       not_free = besides.not_free;
       not_past = λ waits.
           let held = besides.not_past waits in
@@ -52,9 +52,9 @@ reuse_moves plan whose words views id v stock at safe same_aside out agree =
         aside = aside_kept plan whose whose id v w same_aside (λ row later is apart. is) (λ row hand. inl hand) its.aside;
       };
       others = λ seat u differ there. safe.stocks seat u there;
-      own_reads = same_reader stock v w refl refl refl (agree id v at);
+      own_reads = same_reader stock v w refl refl refl refl (agree id v at);
       others_read = λ seat u differ there. agree seat u there;
-      reads_theirs = λ seat u differ there. same_reader u.stock v w refl refl refl (safe.agree seat id u v there at);
+      reads_theirs = λ seat u differ there. same_reader u.stock v w refl refl refl refl (safe.agree seat id u v there at);
     }
 
 module _ (plan : Plan) (s : State ℕ View) (tree_state : TreeState) (h : IsTableAt plan s tree_state) (id word : ℕ) (v : View) (stock : Stock) (at : get_elem? s.views id ≡ some v) (role : v.role ≡ Pass) where

@@ -30,13 +30,13 @@ module _ (lo mid stop : ℕ) (first second : List Entry) (left : AllByRecursion 
       let above = all.0.0 in
       grind (arith, nat_tests, further, above)
 
-  says_first : (es : List Entry) (key : ℕ) → key < mid → pointer_of (es ++ second) key ≡ pointer_of es key
+  pub says_first : (es : List Entry) (key : ℕ) → key < mid → pointer_of (es ++ second) key ≡ pointer_of es key
   says_first [] key less = none_of_second second key right less
   says_first (e ∷ es) key less =
       let further : pointer_of (es ++ second) key ≡ pointer_of es key = says_first es key less in
       grind (arith, nat_tests, further)
 
-  says_second : (es : List Entry) (key : ℕ) → AllByRecursion (IsBetween lo mid) es → mid ≤ key → pointer_of (es ++ second) key ≡ pointer_of second key
+  pub says_second : (es : List Entry) (key : ℕ) → AllByRecursion (IsBetween lo mid) es → mid ≤ key → pointer_of (es ++ second) key ≡ pointer_of second key
   says_second [] key all more = refl
   says_second (e ∷ es) key all more =
       let further : pointer_of (es ++ second) key ≡ pointer_of second key = says_second es key all.1 more in
@@ -47,7 +47,7 @@ module _ (lo mid stop : ℕ) (first second : List Entry) (left : AllByRecursion 
   all_second [] all = tt
   all_second (e ∷ es) all = let low = all.0.0 in ((omega (arith, low, begins), all.0.1), all_second es all.1)
 
-  all_of_both : (es : List Entry) → AllByRecursion (IsBetween lo mid) es → AllByRecursion (IsBetween lo stop) (es ++ second)
+  pub all_of_both : (es : List Entry) → AllByRecursion (IsBetween lo mid) es → AllByRecursion (IsBetween lo stop) (es ++ second)
   all_of_both [] all = all_second second right
   all_of_both (e ∷ es) all = let high = all.0.1 in ((all.0.0, omega (arith, high, ends)), all_of_both es all.1)
 
@@ -59,7 +59,7 @@ module _ (lo mid stop : ℕ) (first second : List Entry) (left : AllByRecursion 
   above_both least [] less all = all_above least second less right
   above_both least (e ∷ es) less all = (all.0, above_both least es less all.1)
 
-  both_ascend : (es : List Entry) → AllByRecursion (IsBetween lo mid) es → IsAscending es → IsAscending second → IsAscending (es ++ second)
+  pub both_ascend : (es : List Entry) → AllByRecursion (IsBetween lo mid) es → IsAscending es → IsAscending second → IsAscending (es ++ second)
   both_ascend [] all ascends further = further
   both_ascend (e ∷ es) all ascends further = (above_both e.key es all.0.1 ascends.0, both_ascend es all.1 ascends.1 further)
 

@@ -39,7 +39,7 @@ module _ (plan : Plan) (s : State ℕ View) (tree_state : TreeState) (h : IsTabl
         same_plan = known.same_plan;
         operation = put_here tree_state.machines id w.operation;
         bounded = bounded;
-        reads = reads;
+        reads = (reads, known.reads.1);
         rows = record { in_range = known.rows.in_range; own = known.rows.own };
         numbers = record { in_range = known.numbers.in_range; own = known.numbers.own; free = known.numbers.free };
         for_call = call_still plan h.owners h.owners s.words tree_state (moved tree_state id w.operation) (suc id) v.call v.rows.next v.pages.next v.rows.next v.pages.next known.for_call (omega arith, omega arith) (λ r below own. own)

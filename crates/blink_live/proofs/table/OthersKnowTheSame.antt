@@ -20,9 +20,11 @@ use Rattle.blink_live.specs.declared.view.Role.TheVariants.{Keeper, Pass, Spent}
 use Rattle.blink_live.specs.declared.view.Share.{Share}
 use Rattle.blink_live.specs.declared.view.View.{View}
 use Rattle.blink_live.specs.Changes.{after, states_of}
-use Rattle.blink_live.specs.Rule.{HasNothing, HasPool, Owners, IsPublished, PageWordIs, ReadsRow, HasRows, HasNumbers, HasForCall, IsShare, IsInRole, Knows, IsTableAt}
+use Rattle.blink_live.specs.Looks.{IsLeafInChain}
+use Rattle.blink_live.specs.Rule.{HasNothing, HasPool, Owners, IsPublished, PageWordIs, Reads, ReadsRow, HasRows, HasNumbers, HasForCall, IsShare, IsInRole, Knows, IsTableAt}
 use Rattle.blink_live.specs.Views.{IsCommon, IsOwned, span}
 use Rattle.blink_live.specs.Words.{place_word, row_start, RowBegins, RowIs}
+use Rattle.blink_live.proofs.table.LooksStay.{looks_stay}
 
 -- the words of a row stay
 abbrev pub RowStays : Plan → List ℕ → List ℕ → ℕ → Type 0
@@ -48,6 +50,8 @@ pub record LeavesOthers (plan : Plan) (s : State ℕ View) (tree_state then : Tr
   pub place_words : (place : ℕ) → place < plan.places → h.owners.place place ≢ suc id → slice_index words (place_word plan.counts place) ≡ slice_index s.words (place_word plan.counts place)
   pub latch_numbers : (seat : ℕ) → new.latch_number seat ≡ h.owners.latch_number seat
   pub longer : (seen : List Change) → IsPrefix seen h.log → IsPrefix seen log
+  pub in_chain : (number : ℕ) → IsLeafInChain tree_state.fan tree_state.prime tree_state.pages number → IsLeafInChain then.fan then.prime then.pages number
+  pub named : (number row : ℕ) → 1 ≤ number → number < plan.counts.numbers → h.owners.row row ≡ 0 → slice_index words number ≡ row → (slice_index s.words number ≡ row) × (then.pages number ≡ tree_state.pages number)
 
 module _ (plan : Plan) (s : State ℕ View) (tree_state then : TreeState) (h : IsTableAt plan s tree_state) (id : ℕ) (some_pass : 1 ≤ id) (words : List ℕ) (new : Owners) (log : List Change)
     (leaves : LeavesOthers plan s tree_state then h id words new log) where
@@ -63,6 +67,12 @@ module _ (plan : Plan) (s : State ℕ View) (tree_state then : TreeState) (h : I
   pub reads_still : (reads : Option (ℕ × List ℕ)) → ReadsRow plan h.owners s.words reads → ReadsRow plan new words reads
   reads_still None is = tt
   reads_still (Some (row, content)) is = let t = still_published row is.0 in (t.0, row_is_still plan s.words words row content t.1 is.1)
+
+  pub seat_reads_still : (v : View) → Reads plan h.owners s.words tree_state v → Reads plan new words then v
+  seat_reads_still v is = (
+    reads_still v.reads is.0,
+    looks_stay plan h.owners.row new.row s.words words tree_state.fan then.fan tree_state.prime then.prime tree_state.pages then.pages v.look (λ number row has in_range unowned. (still_published row (in_range, unowned)).0.1) leaves.in_chain leaves.named is.1,
+  )
 
   module _ (seat : ℕ) (other : seat ≢ id) where
     apart : suc seat ≢ suc id
@@ -145,7 +155,7 @@ module _ (plan : Plan) (s : State ℕ View) (tree_state then : TreeState) (h : I
         same_plan = known.same_plan;
         operation = leaves.machines seat other ∙ known.operation;
         bounded = λ m is. leaves.ways seat m other (known.operation ∙ is) ∙ known.bounded m is;
-        reads = reads_still v.reads known.reads;
+        reads = seat_reads_still v known.reads;
         rows = rows_still seat other v.rows (λ common first. (none common first).0) known.rows;
         numbers = numbers_still seat other v.pages (λ common first. (none common first).1) known.numbers;
         for_call = call_stays seat other v none known.for_call;

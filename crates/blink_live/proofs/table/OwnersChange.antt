@@ -14,9 +14,10 @@ use Rattle.blink_live.specs.declared.view.Share.{Share}
 use Rattle.blink_live.specs.declared.view.View.{View}
 use Rattle.blink_live.specs.Accounts.{AreAccounts}
 use Rattle.blink_live.specs.Reuse.{IsReuseSafe}
-use Rattle.blink_live.specs.Rule.{HasPool, Owners, PageWordIs, latch_word, ReadsRow, IsShare, IsInRole, Knows, AreCounted, IsTableAt}
+use Rattle.blink_live.specs.Rule.{HasPool, Owners, PageWordIs, latch_word, Reads, ReadsRow, IsShare, IsInRole, Knows, AreCounted, IsTableAt}
 use Rattle.blink_live.specs.Views.{IsCommon}
 use Rattle.blink_live.proofs.table.CallsOfSeats.{call_still}
+use Rattle.blink_live.proofs.table.LooksStay.{looks_stay}
 
 -- what was published is
 abbrev pub StaysPublished : Owners → Owners → Type 0
@@ -39,6 +40,13 @@ module _ (plan : Plan) (old new : Owners) (words : List ℕ) (log : List Change)
   reads_still None is = is
   reads_still (Some (row, content)) is = ((is.0.0, published row is.0.1), is.1)
 
+  pub seat_reads_still : (tree_state : TreeState) (v : View) → Reads plan old words tree_state v → Reads plan new words tree_state v
+  seat_reads_still tree_state v is = (
+    reads_still v.reads is.0,
+    looks_stay plan old.row new.row words words tree_state.fan tree_state.fan tree_state.prime tree_state.prime tree_state.pages tree_state.pages v.look (λ number row has in_range. published row) (λ number in_chain. in_chain)
+        (λ number row least few unowned is. (is, refl)) is.1,
+  )
+
   -- a share whose keys have another owner
   pub share_still : (owner other : ℕ) (share : Share) → ((key : ℕ) → old.key key ≡ owner → new.key key ≡ other) → IsShare plan old log owner share → IsShare plan new log other share
   share_still owner other share same is key has = let known = is key has in record { own = same key known.own; kept = known.kept; changes = known.changes }
@@ -54,7 +62,7 @@ module _ (plan : Plan) (old new : Owners) (words : List ℕ) (log : List Change)
     same_plan = known.same_plan;
     operation = known.operation;
     bounded = known.bounded;
-    reads = reads_still v.reads known.reads;
+    reads = seat_reads_still tree_state v known.reads;
     rows = record { in_range = known.rows.in_range; own = λ row low high. owns.row row (known.rows.own row low high) };
     numbers = record { in_range = known.numbers.in_range; own = λ number low high. owns.page number (known.numbers.own number low high); free = known.numbers.free };
     for_call = call_still plan old new words tree_state tree_state (suc seat) v.call v.rows.next v.pages.next v.rows.next v.pages.next known.for_call (omega arith, omega arith) (λ r below. owns.row r) (λ n below. owns.page n) (λ n none. none);

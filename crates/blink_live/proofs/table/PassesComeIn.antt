@@ -14,7 +14,7 @@ use Rattle.blink_live.specs.declared.view.Share.{Share}
 use Rattle.blink_live.specs.declared.view.View.{View}
 use Rattle.blink_live.specs.Rule.{ArePlacesLeft, Owners, IsFree, IsShare, IsInRole, Knows, pass_count, passes_in, AreCounted, IsTableAt}
 use Rattle.blink_live.specs.Views.{IsOwned, spent, takes_one}
-use Rattle.blink_live.proofs.table.OwnersChange.{StaysPublished, StillOwns, reads_still, share_still, knows_still, owners_change}
+use Rattle.blink_live.proofs.table.OwnersChange.{StaysPublished, StillOwns, seat_reads_still, share_still, knows_still, owners_change}
 use Rattle.blink_live.proofs.table.PassesOut.{passes_role}
 use Rattle.blink_live.proofs.table.SeatsThatStay.{at_put, views_stay}
 use Rattle.blink_live.proofs.table.CallsOfSeats.{call_still}
@@ -123,7 +123,7 @@ module _ (plan : Plan) (some_number : 1 ≤ plan.counts.numbers) (s : State ℕ 
       same_plan = known.same_plan;
       operation = known.operation;
       bounded = known.bounded;
-      reads = reads_still plan old new s.words h.log published v.reads known.reads;
+      reads = seat_reads_still plan old new s.words h.log published tree_state v known.reads;
       rows = record { in_range = known.rows.in_range; own = known.rows.own };
       numbers = record { in_range = known.numbers.in_range; own = known.numbers.own; free = known.numbers.free };
       for_call = call_still plan old new s.words tree_state tree_state (suc id) v.call v.rows.next v.pages.next v.rows.next v.pages.next known.for_call (omega arith, omega arith) (λ r below own. own) (λ n below own. own) (λ n none. none);

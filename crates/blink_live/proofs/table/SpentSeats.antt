@@ -7,6 +7,7 @@ use Rattle.blink_live.specs.declared.view.Plan.{Plan}
 use Rattle.blink_live.specs.Rule.{Owners, Knows}
 use Rattle.blink_live.specs.Views.{spent}
 use Rattle.blink_live.proofs.table.CallsOfSeats.{nothing_for_call}
+use Rattle.blink_live.proofs.table.LooksStay.{nothing_noted}
 
 pub spent_knows : (plan : Plan) (owners : Owners) (words : List ℕ) (tree_state : TreeState) (log : List Change) (seat : ℕ) (told : List Change) → 1 ≤ plan.counts.numbers → tree_state.machines seat ≡ None → IsPrefix told log
     → Knows plan owners words tree_state log seat (record (spent plan) { told = told })
@@ -14,7 +15,7 @@ spent_knows plan owners words tree_state log seat told some_number idle heard = 
   same_plan = refl;
   operation = idle;
   bounded = λ m is. absurd (cc);
-  reads = tt;
+  reads = (tt, nothing_noted plan owners.row words tree_state.fan tree_state.prime tree_state.pages);
   rows = record {
     in_range = (omega arith, omega arith);
     own = λ row low high. absurd (omega (arith, low, high));

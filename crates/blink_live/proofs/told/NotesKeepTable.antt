@@ -67,7 +67,7 @@ module _ (plan : Plan) (some_number : 1 ≤ plan.counts.numbers) (s : State ℕ 
     recorded = owners_change plan s tree_state h h.owners views_then (λ row is. is) (λ number seat holds. refl) all_know
         (let longer : length views_then ≡ length s.views + 1 = length-append s.views (note_of v ∷ []) in omega (arith, longer)) h.nobodys h.pool
         (λ common. accounts_longer plan h.owners.place h.log s.views (note_of v) (λ account has. let none = has.1 in absurd (omega (arith, none))) none_apart (λ is. absurd (cc)) (h.accounted common))
-        (λ common. reuse_longer plan h.owners.row s.words s.views (note_of v) refl refl (h.reuse common)) counted_then
+        (λ common. reuse_longer plan h.owners.row s.words s.views (note_of v) refl refl refl (h.reuse common)) counted_then
 
   -- ---- it is taken
 
@@ -116,8 +116,8 @@ module _ (plan : Plan) (some_number : 1 ≤ plan.counts.numbers) (s : State ℕ 
         omega (arith, one, two)) h.nobodys h.pool
         (λ common. accounts_stay plan h.owners.place h.log (set s.views id both) other w (spent plan) there (accounts_stay plan h.owners.place h.log s.views id v both at (h.accounted common) refl ((h.accounted common).saw_own id v at)) (no_accounts w its_role) (λ is. absurd (cc)))
         (λ common. reuse_without plan h.owners.row s.words (set s.views id both) other w (spent plan) there
-        (reuse_stays plan h.owners.row s.words s.views id v both at (h.reuse common) h.owners.row s.words (λ row is. is) (λ seat r later is apart. is) (λ n few. refl) refl (hand_stays h.owners.row id v both refl refl) (same_reads plan h.owners.row s.words s.views id v both at (h.reuse common) refl refl refl refl))
-        h.owners.row s.words (λ row is. is) (λ seat r later is apart. is) (λ n few. refl) refl refl)
+        (reuse_stays plan h.owners.row s.words s.views id v both at (h.reuse common) h.owners.row s.words (λ row is. is) (λ seat r later is apart. is) (λ n few. refl) refl (hand_stays h.owners.row id v both refl refl) (same_reads plan h.owners.row s.words s.views id v both at (h.reuse common) refl refl refl refl refl))
+        h.owners.row s.words (λ row is. is) (λ seat r later is apart. is) (λ n few. refl) refl refl refl)
         (counted_stays (set s.views id both) other w (spent plan) there (sym its_role) (sym its.same_plan) (counted_stays s.views id v both at refl refl h.counted))
 
 pub note_keeps_table : (plan : Plan) (id : ℕ) (v : View) → 1 ≤ plan.counts.numbers → Splits (IsTable plan) id v v (note_of v)

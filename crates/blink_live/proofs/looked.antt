@@ -1,0 +1,2 @@
+pub mod LeavesAreNoted
+pub mod SnapshotsGoOn
