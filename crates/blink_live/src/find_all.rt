@@ -23,15 +23,10 @@ use atomic_table::Seat;
 use blink_batch::Answer;
 use blink_page::LEVELS;
 use blink_rows::HEAD_WORDS;
+use blink_rows::layout::{COUNT, ENTRY_WORDS};
 
 // The number of keys that a scout goes down for at once.
 const GROUP: usize = 8;
-
-// The place of a row's head word that tells how many entries a page has, or how many levels the tree has.
-const COUNT: usize = 5;
-
-// The number of words of an entry.
-const ENTRY_WORDS: usize = 2;
 
 // The steps of a search by halves in a page: with any number of entries, their sum reaches behind the last.
 const STEPS: [u8; 6] = [16, 8, 4, 2, 1, 1];

@@ -24,21 +24,9 @@ use atomic_table::Seat;
 use blink_batch::Op;
 use blink_machine::{Machine, State};
 use blink_page::{Page, Way};
+use blink_rows::layout::{COUNT, FLOOR, HAS_FLOOR, HIGH_KEY, LEVEL, RIGHT_LINK};
 use blink_rows::{HEAD_WORDS, ROW_WORDS, row_prime};
 use std::marker::Brand;
-
-// The places of a row's head words.
-const LEVEL: usize = 0;
-
-pub(crate) const HAS_FLOOR: usize = 1;
-
-pub(crate) const FLOOR: usize = 2;
-
-pub(crate) const HIGH_KEY: usize = 3;
-
-const RIGHT_LINK: usize = 4;
-
-pub(crate) const COUNT: usize = 5;
 
 impl Live {
     // Runs the descent of an operation that has not begun, to the leaf of its key. The operation stays where its caller made it,

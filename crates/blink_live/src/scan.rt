@@ -14,11 +14,11 @@ ghost use Rattle.blink_live.specs.Views.{known_of};
 ghost use Rattle.blink_live.specs.Words.{IsRowNumber};
 
 use crate::live::{Live, Pass};
-use crate::read::{COUNT, HIGH_KEY};
 use crate::view::View;
 use atomic_table::Seat;
 use blink_batch::Entry;
 use blink_rows::HEAD_WORDS;
+use blink_rows::layout::{COUNT, HIGH_KEY};
 
 /// How far a scan came.
 #[derive(Clone, Copy, Debug, PartialEq, Eq)]

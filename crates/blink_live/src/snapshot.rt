@@ -14,12 +14,12 @@ ghost use Rattle.blink_live.specs.Snapshots.{AreNotedIn, IsNotedIn, IsSameBeside
 ghost use Rattle.blink_live.specs.Words.{IsRowNumber};
 
 use crate::live::{Live, Pass};
-use crate::read::{FLOOR, HAS_FLOOR, HIGH_KEY};
 use crate::rule::{LookAgain, MarkState, NoteLeaf};
 use crate::view::View;
 use atomic_table::Seat;
 use blink_batch::{Entry, Op};
 use blink_page::{MAX_FAN, Way};
+use blink_rows::layout::{FLOOR, HAS_FLOOR, HIGH_KEY};
 use std::alloc::{AllocError, Global};
 
 /// A leaf that a seat has noted for a snapshot.

@@ -34,7 +34,7 @@ use std::{hint, thread};
 const LINE_WORDS: usize = 8;
 
 // The number of lines that a row takes up, where it begins with one.
-const ROW_LINES: usize = 9;
+const ROW_LINES: usize = (ROW_WORDS + LINE_WORDS - 1) / LINE_WORDS;
 
 impl Live {
     // Changes the tree by an operation of a key that the seat may change, with the rows and page numbers of `room`. The call retries a

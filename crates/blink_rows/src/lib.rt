@@ -6,6 +6,7 @@
 mod allowance;
 mod counts;
 mod lawful;
+pub mod layout;
 mod limits;
 mod pages;
 mod primes;

@@ -4,6 +4,7 @@ ghost use Rattle.blink_page.specs.{IsPageNumber, ValuesWithin};
 ghost use Rattle.blink_rows.specs.Row.{flat, flag, IsPageRow, IsRowOfNoPage};
 
 use crate::lawful::is_lawful;
+use crate::layout::{COUNT, FLOOR, HAS_FLOOR, HIGH_KEY, LEVEL, RIGHT_LINK};
 use crate::limits::{HEAD_WORDS, ROW_WORDS};
 use crate::words::{content, page_number, row_of};
 use arrayvec::ArrayVec;
@@ -34,11 +35,11 @@ pub fn row_page(words: &[u64; ROW_WORDS]) -> Option<Page>
     ensures page { IfSome result (λ page. IsPageRow page words.now) }
     ensures none { IfNone result (IsRowOfNoPage words.now) }
 {
-    let level = level_of(words[0])?;
-    let floor = floor_of(words[1], words[2])?;
-    let high = words[3];
-    let right = link_of(words[4])?;
-    let count = count_of(words[5])?;
+    let level = level_of(words[LEVEL])?;
+    let floor = floor_of(words[HAS_FLOOR], words[FLOOR])?;
+    let high = words[HIGH_KEY];
+    let right = link_of(words[RIGHT_LINK])?;
+    let count = count_of(words[COUNT])?;
     let items = entries_of(content(words, 2 * count)?, count);
     if !is_lawful(level, floor, high, right, &items) {
         return None;

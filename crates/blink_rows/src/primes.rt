@@ -3,6 +3,7 @@ ghost use Rattle.std.specs.Prelude.{◌≡◌, ◌≤◌, All, IfSome, IfNone, l
 ghost use Rattle.blink_page.specs.{IsPageNumber};
 ghost use Rattle.blink_rows.specs.Row.{IsPrimeRow, IsRowOfNoPrime};
 
+use crate::layout::COUNT;
 use crate::limits::{HEAD_WORDS, ROW_WORDS};
 use crate::words::{are_zero, content, page_number, row_of};
 use arrayvec::ArrayVec;
@@ -24,8 +25,8 @@ pub fn row_prime(words: &[u64; ROW_WORDS]) -> Option<Prime>
     ensures prime { IfSome result (λ prime. IsPrimeRow prime words.now) }
     ensures none { IfNone result (IsRowOfNoPrime words.now) }
 {
-    let levels = words[HEAD_WORDS - 1];
-    if !are_zero(&words[..HEAD_WORDS - 1]) || levels == 0 || levels > LEVELS as u64 {
+    let levels = words[COUNT];
+    if !are_zero(&words[..COUNT]) || levels == 0 || levels > LEVELS as u64 {
         return None;
     }
     let leftmost = page_numbers(content(words, levels as usize)?)?;
