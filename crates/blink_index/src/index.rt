@@ -11,6 +11,7 @@ ghost use Rattle.blink_index.specs.Scan.{is_from, is_within, BringsInOrder};
 
 mod change;
 mod ends;
+mod sorted;
 
 use crate::down::leaf_for;
 use crate::dump::tree_text;
