@@ -7,3 +7,4 @@ pub mod BuiltIsAtRest
 pub mod NoTreeHasFewer
 pub mod NumbersSuffice
 pub mod SortedEntries
+pub mod EntriesOfScan

@@ -10,6 +10,7 @@ ghost use Rattle.blink_index.specs.Index.{map_of};
 ghost use Rattle.blink_index.specs.Scan.{is_from, is_within, BringsInOrder};
 
 mod change;
+mod compact;
 mod ends;
 mod sorted;
 

@@ -1,6 +1,7 @@
 -- No tree at rest has fewer pages than its entries need.
 use Rattle.std.proofs.Common.{◌≡◌, ℕ, ◌+◌, ◌*◌, ◌≤◌, suc, Option, Some, None, List, [], ◌∷◌, length, refl, ap, arith, length-append}
 use Rattle.std.specs.List.{flat_map, sum}
+use Rattle.std.proofs.Math.Nat.{mul-le-mul_right}
 use Rattle.std.proofs.lemmas.List.{length-map}
 use Rattle.blink_page.specs.declared.limits.TheConstants.{GREATEST_KEY}
 use Rattle.blink_rest.specs.{AreChains, AreEntries, AreLevels, EachIsParent, InLine, IsParentOf, IsStoreAtRest, Pages, TopHasOne, entries_along, numbers_of}
@@ -72,3 +73,19 @@ no_tree_has_fewer store entries count at_rest are needs = by store.prime at_rest
         let most = levels_at_most (length store.pages) store.fan (page_of store) (store_numbered store) 0 (leftmost ∷ prime) (cells ∷ above) are.chains in
         let all = needs.all in
         omega (arith, least, most, all)
+
+-- a tree's pages have at most so many entries
+pub few_entries : (store : PlainStore) (entries : List (ℕ × ℕ)) → IsStoreAtRest store → AreEntries store.fan store.prime (page_of store) entries → length entries ≤ length store.pages * store.fan
+few_entries store entries at_rest are = by store.prime at_rest.0 at_rest.1 are
+  where
+    by : (prime : List ℕ) (levels : List (List Cell)) → AreLevels store.fan prime (page_of store) levels → AreEntries store.fan prime (page_of store) entries → length entries ≤ length store.pages * store.fan
+    by prime [] are its = absurd are.one_root
+    by [] (cells ∷ above) are its = absurd are.chains
+    by (leftmost ∷ prime) (cells ∷ above) are its =
+        let own : AreEntries store.fan (leftmost ∷ prime) (page_of store) (entries_along cells) = record { leftmost = leftmost; is_first = refl; leaves = cells; chain = are.chains.0; joined = refl } in
+        let same = ap length (same_entries store.fan (page_of store) (leftmost ∷ prime) entries (entries_along cells) its own) in
+        let holds = line_holds store.fan 0 None (Some leftmost) cells (Some GREATEST_KEY) None are.chains.0.in_line in
+        let most = levels_at_most (length store.pages) store.fan (page_of store) (store_numbered store) 0 (leftmost ∷ prime) (cells ∷ above) are.chains in
+        let total = total-cons cells above in
+        let times : length cells * store.fan ≤ length store.pages * store.fan = mul-le-mul_right store.fan (omega (arith, most, total)) in
+        omega (arith, same, holds, times)
