@@ -9,4 +9,5 @@ pub mod alone
 pub mod OneOperationMore
 pub mod EndsOfMaps
 pub mod LastLeaves
+pub mod packed
 pub mod Offered

@@ -4,6 +4,7 @@ use Rattle.blink_page.specs.declared.limits.TheConstants.{MIN_FAN, MAX_FAN}
 use Rattle.blink_index.specs.declared.error.IndexError.{IndexError}
 use Rattle.blink_index.specs.declared.error.IndexError.TheVariants.{BadFan, OutOfMemory}
 use Rattle.blink_index.specs.declared.error.EditError.{EditError}
+use Rattle.blink_index.specs.declared.error.SortedError.{SortedError}
 
 abbrev pub code_of : IndexError → ℕ
 code_of BadFan = 40
@@ -12,6 +13,12 @@ code_of OutOfMemory = 41
 abbrev pub code_of_edit : EditError → ℕ
 code_of_edit EditError.OutOfMemory = 41
 code_of_edit EditError.TooLarge = 32
+
+abbrev pub code_of_sorted : SortedError → ℕ
+code_of_sorted SortedError.BadFan = 40
+code_of_sorted (SortedError.NotAscending place) = 42
+code_of_sorted SortedError.TooLarge = 32
+code_of_sorted SortedError.OutOfMemory = 41
 
 -- no tree allows its pages this many entries
 abbrev pub IsBadFan : ℕ → Type 0

@@ -10,10 +10,14 @@ pub use Rattle.blink_index.specs.Dump.{entry_text, text_of_store, words_of}
 pub use Rattle.blink_index.specs.Ends.{first_of, is_above, last_of}
 -- what one operation makes of a tree at rest, in place
 pub use Rattle.blink_index.specs.Edit.{HasPagesFor, IsEditRefusal, SplitsLeaf, StopsEdits}
+-- why an index can't be made of entries
+pub use Rattle.blink_index.specs.Sorted.{CanBePacked, IsFirstUnsorted, IsSortedRefusal}
 -- the code of each refusal, and the numbers that are no fan
-pub use Rattle.blink_index.specs.Codes.{IsBadFan, code_of, code_of_edit}
+pub use Rattle.blink_index.specs.Codes.{IsBadFan, code_of, code_of_edit, code_of_sorted}
 -- laws of the plain map of an index and of its text
 pub use Rattle.blink_index.specs.Laws.{MapIsKept, NoOtherMapIsKept, TextIsOfLevels}
+-- trees in as few pages as their entries need
+pub use Rattle.blink_index.specs.Packed.{AreFewest, ExceedsNumbers, IsFewest, IsInOrder, NeedsPages, numbered}
 -- ---- for proofs above
 pub use Rattle.blink_index.specs.Edit.{IsEdited, for_answers, for_next}
 -- ---- the files
@@ -22,6 +26,9 @@ pub mod Leaf
 pub mod Ends
 pub mod Edit
 pub mod Drive
+pub mod Packed
+pub mod Packing
+pub mod Sorted
 pub mod Scan
 pub mod Dump
 pub mod Codes

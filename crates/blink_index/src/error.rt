@@ -1,6 +1,6 @@
 //! The refusals of an index.
 ghost use Rattle.std.specs.Prelude.{◌≡◌};
-ghost use Rattle.blink_index.specs.Codes.{code_of, code_of_edit};
+ghost use Rattle.blink_index.specs.Codes.{code_of, code_of_edit, code_of_sorted};
 
 use thiserror::Error;
 
@@ -46,6 +46,37 @@ impl EditError {
         match self {
             EditError::OutOfMemory => 41,
             EditError::TooLarge => 32,
+        }
+    }
+}
+
+/// Why an index can't be made of entries. The reasons are checked in this order.
+#[derive(Clone, Copy, Debug, PartialEq, Eq, Error)]
+pub enum SortedError {
+    /// The number of entries that a page may have isn't from 4 to 32.
+    #[error("bad fan")]
+    BadFan,
+    /// The key at this place, counted from 0, isn't above the one before. It is the first such place.
+    #[error("entry {0}: not ascending")]
+    NotAscending(usize),
+    /// The entries need more pages than there are numbers.
+    #[error("too large")]
+    TooLarge,
+    /// Memory was refused.
+    #[error("out of memory")]
+    OutOfMemory,
+}
+
+impl SortedError {
+    /// Returns the refusal's code, the same in every release. Other calls that refuse for the same reason have the same code.
+    pub fn code(&self) -> u8
+        ensures { result ≡ code_of_sorted self.now }
+    {
+        match self {
+            SortedError::BadFan => 40,
+            SortedError::NotAscending(_) => 42,
+            SortedError::TooLarge => 32,
+            SortedError::OutOfMemory => 41,
         }
     }
 }

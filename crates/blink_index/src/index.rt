@@ -10,7 +10,9 @@ ghost use Rattle.blink_index.specs.Index.{map_of};
 ghost use Rattle.blink_index.specs.Scan.{is_from, is_within, BringsInOrder};
 
 mod change;
+mod compact;
 mod ends;
+mod sorted;
 
 use crate::down::leaf_for;
 use crate::dump::tree_text;

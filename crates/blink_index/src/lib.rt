@@ -12,9 +12,10 @@ mod edit;
 mod error;
 mod index;
 pub mod laws;
+mod pack;
 mod scan;
 
 pub use dump::{OrDash, push_entries};
-pub use error::{EditError, IndexError};
+pub use error::{EditError, IndexError, SortedError};
 pub use index::{Applied, Index};
 pub use scan::Scan;

@@ -1,0 +1,10 @@
+pub mod LeavesGrow
+pub mod PagesOver
+pub mod FewestPages
+pub mod LevelsGrow
+pub mod TreeIsBuilt
+pub mod BuiltIsAtRest
+pub mod NoTreeHasFewer
+pub mod NumbersSuffice
+pub mod SortedEntries
+pub mod EntriesOfScan

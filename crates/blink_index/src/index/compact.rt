@@ -1,0 +1,79 @@
+//! Packing an index into as few pages as its entries need.
+ghost use Rattle.std.specs.Prelude.{◌≡◌, ◌≤◌, length, IfOk, IsOkUnless, OnErr, OnOk};
+ghost use Rattle.blink_rest.specs.{IsMapOf};
+ghost use Rattle.blink_index.specs.Index.{map_of};
+ghost use Rattle.blink_index.specs.Packed.{IsInOrder, NeedsPages};
+
+use super::Index;
+use crate::error::EditError;
+use crate::pack::{add_entry, first_leaf, pages_needed, tree_over};
+use blink_rest::Rest;
+use std::alloc::{AllocError, Global};
+
+impl Index {
+    /// Packs the entries into as few pages as they need, in place. Each leaf but the last is full then, and no leaf is empty
+    /// unless the index is. The pages are numbered from 1, level 0 first, and each level from the left. The call takes time in
+    /// proportion to the pages and the entries, and asks for the memory of all new pages at once; that of the old pages is given
+    /// back at the end.
+    ///
+    /// An insertion into a full leaf splits it. So the call serves an index that has lost many entries, or one that won't grow
+    /// soon. The call refuses with `OutOfMemory`, if memory was refused, and with nothing else: no tree of these entries has
+    /// fewer pages, so there are numbers for them. A refusal leaves the index as it was.
+    pub fn compact(&mut self, alloc: Global) -> Result<(), EditError>
+        ensures map { map_of self.new ≡ map_of self.old }
+        ensures kept { IsMapOf self.new (map_of self.new) }
+        ensures same_fan { self.new.fan ≡ self.old.fan }
+        ensures pages { OnOk result
+            (NeedsPages self.old.fan (length (map_of self.old)) (length self.new.pages)) }
+        ensures no_more_pages { length self.new.pages ≤ length self.old.pages }
+        ensures numbered { OnOk result (IsInOrder self.new) }
+        ensures refused { IsOkUnless result EditError.OutOfMemory }
+        ensures unchanged { OnErr result (self.new ≡ self.old) }
+    {
+        // Called for the proof: a tree at rest has its entries as a map.
+        let _rest = self.rest();
+        match self.repacked(alloc) {
+            Ok(rest) => {
+                self.rest = rest;
+                Ok(())
+            }
+            Err(_) => Err(EditError::OutOfMemory),
+        }
+    }
+
+    // The tree of the same entries in as few pages as they need.
+    fn repacked(&self, alloc: Global) -> Result<Rest, AllocError>
+        ensures fan { IfOk result (λ rest. rest.fan ≡ self.now.fan) }
+        ensures map { IfOk result (λ rest. map_of rest ≡ map_of self.now) }
+        ensures in_order { IfOk result IsInOrder }
+        ensures pages { IfOk result
+            (λ rest. NeedsPages self.now.fan (length (map_of self.now)) (length rest.pages)) }
+        ensures no_more { IfOk result (λ rest. length rest.pages ≤ length self.now.pages) }
+    {
+        // Called for the proof: there are no more pages than numbers.
+        let _pages = self.page_count();
+        let fan = self.store().fan();
+        let count = pages_needed(self.entry_count(), fan);
+        let mut pages = first_leaf(alloc, count)?;
+        let mut scan = self.scan(0, u64::MAX);
+        'entries: while let Some(entry) = scan.next() {
+            add_entry(&mut pages, fan, entry.key, entry.pointer)?;
+        }
+        tree_over(pages, fan)
+    }
+
+    // The number of entries.
+    fn entry_count(&self) -> usize
+        ensures { result ≡ length (map_of self.now) }
+    {
+        // Called for the proof: pages and their entries are bounded.
+        let _pages = self.page_count();
+        let _fan = self.store().fan();
+        let mut scan = self.scan(0, u64::MAX);
+        let mut count = 0;
+        'entries: while let Some(_entry) = scan.next() {
+            count += 1;
+        }
+        count
+    }
+}
