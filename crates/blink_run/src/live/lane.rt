@@ -70,6 +70,9 @@ fn answer_at<R: Wait>(rt: &R, live: &Live, pass: &mut Pass, op: Op) -> Answer
         Op::Insert(key, pointer) => answer_of(live.insert(rt, pass, key, pointer)),
         Op::Delete(key) => answer_of(live.delete(rt, pass, key)),
         Op::Replace(key, pointer) => answer_of(live.replace(rt, pass, key, pointer)),
+        Op::Exchange(key, expected, pointer) => {
+            answer_of(live.exchange(rt, pass, key, expected, pointer))
+        }
     }
 }
 

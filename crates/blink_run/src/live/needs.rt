@@ -42,6 +42,7 @@ impl Needs {
                     Op::Insert(..) => inserts += 1,
                     Op::Delete(_) => deletes += 1,
                     Op::Replace(..) => deletes += 1,
+                    Op::Exchange(..) => deletes += 1,
                 }
             }
         }

@@ -29,3 +29,9 @@ answer_of-requires-in-Replace g c =
     let its = subst (λ (op : Op). Contains (keys_of c.args.pass.now) (key_of op)) c.in-Replace.is c.requires.key in
     let some = subst (λ (op : Op). count_by uses_deletion (op ∷ []) ≤ deletes_left c.args.pass.now.pages c.args.pass.now.rows) c.in-Replace.is c.requires.deletes in
     not_refused c.replace.result (λ is. c.replace.ensures.not_yours.0 is its) (λ is. let none = (c.replace.ensures.spent.0 is).1 in omega arith)
+
+pub answer_of-requires-in-Exchange : goal.answer_of-requires-in-Exchange
+answer_of-requires-in-Exchange g c =
+    let its = subst (λ (op : Op). Contains (keys_of c.args.pass.now) (key_of op)) c.in-Exchange.is c.requires.key in
+    let some = subst (λ (op : Op). count_by uses_deletion (op ∷ []) ≤ deletes_left c.args.pass.now.pages c.args.pass.now.rows) c.in-Exchange.is c.requires.deletes in
+    not_refused c.exchange.result (λ is. c.exchange.ensures.not_yours.0 is its) (λ is. let none = (c.exchange.ensures.spent.0 is).1 in omega arith)
