@@ -105,9 +105,10 @@ impl Map {
 
     /// Replaces a key's pointer, if it is the expected one. It answers `Replaced` with the expected pointer, also if the new one
     /// is the same; `Exists` with the other pointer that the key has, which stays; or `Absent`. No other session changes the key
-    /// between the test and the replacement. The call takes no memory. It waits for a page's latch that another session has.
+    /// between the test and the replacement. The call takes no memory. It waits for a page's latch that another session has, and
+    /// for a row to come back as `insert` does.
     ///
-    /// The call is refused if the session has no row left, and the pool has none. Then it changes nothing.
+    /// The call is refused if the session has no row at all, and the pool has none. Then it changes nothing.
     pub fn exchange<R: Wait>(
         &self,
         rt: &R,
@@ -120,6 +121,7 @@ impl Map {
         ensures answered { IfOk result
             (IsAnswered self.now (Exchange key expected pointer) session.old session.new) }
         ensures full { OnErr result (LacksRoom (Exchange key expected pointer) session.old session.new) }
+        ensures in_all { OnErr result (LacksRoomInAll (Exchange key expected pointer) session.new) }
         ensures unchanged { OnErr result (IsSameBesideRoom session.old session.new) }
     {
         self.change(rt, session, Op::Exchange(key, expected, pointer))
