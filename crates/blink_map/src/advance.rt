@@ -9,7 +9,7 @@ ghost use Rattle.blink_machine.specs.{IsUpdate};
 ghost use Rattle.blink_machine.specs.declared.machine.State.TheVariants.{Ended};
 ghost use Rattle.blink_live.specs.Pendings.{IsWaiting};
 ghost use Rattle.blink_map.specs.declared.member.Member.{Member};
-ghost use Rattle.blink_map.specs.Changing.{HasChanged, IsAtRest, IsAtWork};
+ghost use Rattle.blink_map.specs.Changing.{HasBeside, HasChanged, HasSetOut, IsAtRest, IsAtWork};
 ghost use Rattle.blink_map.specs.Pendings.{GoesOn, HasBegun, IsPendingOf, op_of, session_of};
 ghost use Rattle.blink_map.specs.Places.{IsMemberOf};
 ghost use Rattle.blink_map.specs.Sessions.{HasRoom, IsAnswered, IsSameBesideRoom, IsSessionOf, LacksRoom};
@@ -114,9 +114,10 @@ impl Map {
             begun,
         } = pending;
         now.wake(&self.live);
+        let mut machine = now.machine.resume();
         match self
             .live
-            .take_steps(&mut now.seat, &mut now.machine, &mut now.room, tries)
+            .take_steps(&mut now.seat, &mut machine, &mut now.room, tries)
         {
             Some(answer) => {
                 let mut member = now.end(&self.live);
@@ -129,6 +130,7 @@ impl Map {
                 Ok((session, answer))
             }
             None => {
+                now.machine = machine.rest();
                 now.rest(&self.live);
                 Err(Pending {
                     now,
@@ -201,7 +203,7 @@ impl Member {
             rows,
             pages,
             place,
-            machine,
+            machine: machine.rest(),
             room,
             mark,
         }
@@ -243,14 +245,15 @@ impl UnderWay {
     }
 
     // The member when its operation has ended. What the operation hasn't used of its rows and page numbers is the member's again.
-    fn end(self, live: &Live) -> Member
+    fn end(self, live: &Live, machine: &Machine) -> Member
         requires at_work { (op : Op) × (old : Member) × IsMemberOf live.now old
-            × IsAtWork live.now op old self }
-        requires ended { (answer : Answer) × (self.machine.state ≡ Ended)
-            × (self.machine.answer ≡ Some answer) }
+            × HasSetOut live.now op old self.seat machine.now self.room × HasBeside old self }
+        requires ended { (answer : Answer) × (machine.now.state ≡ Ended)
+            × (machine.now.answer ≡ Some answer) }
         ensures { (op : Op) (old : Member) (answer : Answer) → IsMemberOf live.now old
-            → IsAtWork live.now op old self
-            → self.machine.answer ≡ Some answer
+            → HasSetOut live.now op old self.seat machine.now self.room
+            → HasBeside old self
+            → machine.now.answer ≡ Some answer
             → HasChanged live.now op old result answer }
     {
         let UnderWay {
@@ -258,7 +261,7 @@ impl UnderWay {
             rows,
             pages,
             place,
-            machine: _machine,
+            machine: _rested,
             room,
             mark,
         } = self;

@@ -8,7 +8,7 @@ ghost use Rattle.blink_live.specs.Views.{IsCommon};
 
 use atomic_table::Seat;
 use blink_live::{Room, Shelf, View};
-use blink_machine::Machine;
+use blink_machine::Resting;
 use blink_rows::Span;
 
 /// It rests at its place while no session has the place, and keeps what the last session left.
@@ -45,7 +45,7 @@ pub(crate) struct UnderWay {
     pub rows: Span,
     pub pages: Span,
     pub place: u64,
-    pub machine: Machine,
+    pub machine: Resting,
     pub room: Room,
     pub mark: u64,
 }

@@ -1,5 +1,6 @@
-use Rattle.std.proofs.Common.{refl, inr, arith}
-use Rattle.blink_map.specs.Changing.{HasSetOut}
+use Rattle.std.proofs.Common.{refl, inr, arith, subst, sym}
+use Rattle.blink_machine.specs.{PlainMachine}
+use Rattle.blink_map.specs.Changing.{HasComeToRest, HasSetOut}
 use Rattle.blink_map.proofs.MembersComeBack.{its_place, its_seat}
 use Rattle.blink_map.proofs.OperationsRest.{comes_to_rest}
 use Rattle.blink_map.proofs.member.Member.begin.Goals as goal
@@ -13,6 +14,6 @@ pub returns-clause-at_rest : goal.returns-clause-at_rest
 returns-clause-at_rest c =
     let out : HasSetOut c.args.live.now c.args.op c.args.self c.set_out.new.seat c.set_out.new.machine c.room_of-room.result = record { first = c.mark.new.seat; mark = c.next_mark.result; marked = c.mark.ensures.marked; same_number = c.mark.ensures.same; under_way = c.set_out.ensures.under_way } in
     record {
-      rest = comes_to_rest out c.mark-2.new.seat c.mark-2.ensures.same c.mark-2.ensures.marked;
+      rest = subst (λ (m : PlainMachine). HasComeToRest c.args.live.now c.args.op c.args.self c.mark-2.new.seat m c.room_of-room.result) (sym c.rest.ensures) (comes_to_rest out c.mark-2.new.seat c.mark-2.ensures.same c.mark-2.ensures.marked);
       beside = record { rows = refl; pages = refl; place = refl };
     }

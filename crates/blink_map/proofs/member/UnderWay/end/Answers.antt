@@ -8,24 +8,24 @@ pub come_back-requires : goal.come_back-requires
 come_back-requires c =
     let work = c.requires.at_work in
     let ended = c.requires.ended in
-    let out = work.3.set_out in
+    let out = work.3 in
     let place = its_place out work.2 in record {
       seat = its_seat out;
       can = gives out;
       ended = (its_end out ended.0 ended.1 ended.2).idle;
-      place = (work.3.beside.place ∙ place.0, subst (λ (n : ℕ). n < c.args.live.now.places) (sym work.3.beside.place) place.1);
+      place = (work.4.place ∙ place.0, subst (λ (n : ℕ). n < c.args.live.now.places) (sym work.4.place) place.1);
     }
 
 pub invariant_of-result : goal.invariant_of-result
 invariant_of-result c =
     let work = c.requires.at_work in
     let ended = c.requires.ended in
-    let out = work.3.set_out in
+    let out = work.3 in
     let again = is_idle_again out ended.0 c.come_back.new.seat (its_end out ended.0 ended.1 ended.2) c.come_back.ensures.idle in record {
-      rows_are = ap (λ (s : Span). span c.args.self.room.rows.next s.stop) work.3.beside.rows ∙ again.rows_are;
-      pages_are = ap (λ (s : Span). span c.args.self.room.pages.next s.stop) work.3.beside.pages ∙ again.pages_are;
-      place_is = (work.3.beside.place ∙ again.place_is.0, subst (λ (n : ℕ). n < c.come_back.new.seat.me.0.plan.places) (sym work.3.beside.place) again.place_is.1);
-      in_order = (subst (λ (s : Span). c.args.self.room.rows.next ≤ s.stop) (sym work.3.beside.rows) again.in_order.0, subst (λ (s : Span). c.args.self.room.pages.next ≤ s.stop) (sym work.3.beside.pages) again.in_order.1);
+      rows_are = ap (λ (s : Span). span c.args.self.room.rows.next s.stop) work.4.rows ∙ again.rows_are;
+      pages_are = ap (λ (s : Span). span c.args.self.room.pages.next s.stop) work.4.pages ∙ again.pages_are;
+      place_is = (work.4.place ∙ again.place_is.0, subst (λ (n : ℕ). n < c.come_back.new.seat.me.0.plan.places) (sym work.4.place) again.place_is.1);
+      in_order = (subst (λ (s : Span). c.args.self.room.rows.next ≤ s.stop) (sym work.4.rows) again.in_order.0, subst (λ (s : Span). c.args.self.room.pages.next ≤ s.stop) (sym work.4.pages) again.in_order.1);
       role_is = again.role_is;
       common = again.common;
       no_key = again.no_key;
@@ -37,6 +37,6 @@ invariant_of-result c =
     }
 
 pub returns : goal.returns
-returns c op old answer its work given =
+returns c op old answer its out beside given =
     let ended = c.requires.ended in
-    has_changed work.set_out answer _ its (its_end work.set_out answer ended.1 given) c.come_back.ensures.same c.come_back.ensures.idle (ap (λ (s : Span). span c.args.self.room.rows.next s.stop) work.beside.rows) (ap (λ (s : Span). span c.args.self.room.pages.next s.stop) work.beside.pages)
+    has_changed out answer _ its (its_end out answer ended.1 given) c.come_back.ensures.same c.come_back.ensures.idle (ap (λ (s : Span). span c.args.self.room.rows.next s.stop) beside.rows) (ap (λ (s : Span). span c.args.self.room.pages.next s.stop) beside.pages)
