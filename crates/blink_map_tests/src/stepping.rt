@@ -144,7 +144,9 @@ impl Two {
             one,
             mut other,
         } = self;
-        let begun = begin(&map, one, op).ok().expect(rt, "refused");
+        let Ok(begun) = begin(&map, one, op) else {
+            panic!(rt; "refused");
+        };
         if dropped {
             drop(begun);
             turn_over(rt, &map, &mut other);
