@@ -99,7 +99,7 @@ enum {
     BLINK_BAD_SESSIONS = 102,      /* there are to be no sessions, or more than 256 */
     BLINK_NO_PLACE = 103,          /* each place for a session was taken */
     BLINK_LOST_UNDER_WAY = 104,    /* a session's handle was freed with an operation under way */
-    BLINK_FULL = 105,              /* the session has too few rows or page numbers left, and the map's pool too */
+    BLINK_FULL = 105,              /* the session has too few free rows or page numbers, and the map's pool too */
     BLINK_SESSION_MISSING = 106    /* the handle of a session, or another handle of the map, isn't freed */
 };
 
@@ -276,8 +276,8 @@ void blink_pass_free(blink_pass pass);
  * numbers, and every write of a page one of `rows` rows. An insertion writes one page mostly, and has to have 22 numbers and 44 rows
  * when it begins; a deletion or a replacement has to have one row. Sessions draw both from the map's pool, at most 512 numbers and
  * 1,024 rows at once; what one draws no other gets, before its place is taken again. Tested: a row that a write replaces comes back to
- * its session, once each session has been seen between two calls since. So a thousand rows a session last, or 14,000 where threads are
- * more than cores and are held up inside calls. `number` is one that no other map of the process has while it or a session of it lives:
+ * its session, once each call that was in progress has ended. So a few hundred rows a session last. While a thread is held up inside a
+ * call no row comes back, and BLINK_FULL may be the answer to a change that is let through later. `number` is one that no other map of the process has while it or a session of it lives:
  * by it sessions of two maps are told apart. Refused: BLINK_BAD_SESSIONS, exactly if there are to be none or more than 256; then
  * BLINK_MAP_TOO_LARGE, exactly if the index's pages and `pages` are above 1,048,575; BLINK_MAP_NO_MEMORY. */
 uint8_t blink_map_open(blink_index *index, uint32_t pages, uint32_t rows, uint32_t sessions, uint64_t number, blink_map *out);

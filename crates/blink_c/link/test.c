@@ -429,12 +429,14 @@ static void refuses_at_a_map(void) {
     CHECK(blink_session_insert(&two, 7, 70, 100, &answer) == BLINK_FULL && blink_session_put(&two, 3, 33, 100, &answer) == BLINK_FULL);
     CHECK(answer.kind == 9 && is(changes(&two, BLINK_FIND, 3, NONE), BLINK_FOUND, 30));
     CHECK(is(changes(&two, BLINK_REPLACE, 3, 31), BLINK_REPLACED, 30) && is(changes(&two, BLINK_DELETE, 1, NONE), BLINK_REMOVED, 10));
-    CHECK(blink_session_delete(&two, 2, 100, &answer) == BLINK_FULL && blink_session_replace(&two, 2, 21, 100, &answer) == BLINK_FULL);
-    CHECK(blink_session_delete(&foreign, 2, 100, &answer) == BLINK_FULL);
+    // a row that is written over comes back
+    for (uint64_t pointer = 21; pointer < 1000; pointer++)
+        CHECK(is(changes(&two, BLINK_REPLACE, 2, pointer), BLINK_REPLACED, pointer == 21 ? 20 : pointer - 1));
+    CHECK(blink_session_delete(&foreign, 2, 100, &answer) == BLINK_FULL && blink_session_replace(&foreign, 2, 21, 100, &answer) == BLINK_FULL);
     // the place of a session that is freed can be taken again, with what it has drawn
     blink_session_free(two);
     two = (blink_session){NULL};
-    CHECK(blink_map_join(&map, &two) == BLINK_DONE && blink_session_delete(&two, 2, 100, &answer) == BLINK_FULL);
+    CHECK(blink_map_join(&map, &two) == BLINK_DONE && is(changes(&two, BLINK_DELETE, 2, NONE), BLINK_REMOVED, 999));
     blink_session_free(two);
     two = (blink_session){NULL};
     // another handle of a map that isn't freed: the first is given up by a close that is refused, and the map lives by the other

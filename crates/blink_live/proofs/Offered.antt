@@ -29,3 +29,5 @@ pub use Rattle.blink_live.proofs.table.AccountsStay.{AreBy, made_at-append, made
 pub use Rattle.blink_live.proofs.scanned.PlacesAreFilled.{first_places, other_places}
 -- an operation goes on under another mark
 pub use Rattle.blink_live.proofs.changed.OperationsRest.{marked, under_way_marked}
+-- how many rows an operation takes
+pub use Rattle.blink_live.proofs.changed.RowsTaken.{enough_taken, few_taken, less_space, taken_in_order}

@@ -4,6 +4,7 @@ pub mod RowsAreStaged
 pub mod ChangesAreTheMaps
 pub mod RowsArePublished
 pub mod PublishesKeepTable
+pub mod RowsTaken
 pub mod UpdatesBegin
 pub mod OwnChangesByKey
 pub mod RowsAreLent

@@ -45,13 +45,6 @@ gets_waiting stock = record stock { free = stock.waiting ++ stock.free; waiting 
 abbrev pub collects : Step ℕ → SeatState → ℕ → SeatState → Type 0
 collects st me found then = then ≡ (with_stock me.0 (gets_waiting me.0.stock), me.1)
 
--- the rows taken out are lost
-abbrev pub forgets : Stock → Stock
-forgets stock = record stock { retired = [] }
-
-abbrev pub loses_rows : Step ℕ → SeatState → ℕ → SeatState → Type 0
-loses_rows st me found then = then ≡ (with_stock me.0 (forgets me.0.stock), me.1)
-
 -- the call may use a free row, and that row alone: the others are set aside
 abbrev pub takes_in : View → ℕ → List ℕ → View
 takes_in v row rest = record v {

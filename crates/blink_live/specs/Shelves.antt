@@ -1,5 +1,5 @@
 -- Where a session keeps the rows of its stock between the steps of its operations.
-use Rattle.std.specs.Prelude.{◌≡◌, ℕ, Option, Some, None, List, reverse, ⊤}
+use Rattle.std.specs.Prelude.{◌≡◌, ℕ, ◌+◌, ◌≤◌, Option, Some, None, List, reverse, ⊤}
 use Rattle.std.specs.Coded.{×_prop, Unit-prop, le_prop}
 use Rattle.std.proofs.Props.{props}
 use Rattle.blink_live.specs.declared.room.Room.{Room}
@@ -19,6 +19,21 @@ stock_of shelf = record {
   passed = shelf.passed;
   aside = no_aside;
 }
+
+-- the number of the shelf's free rows
+abbrev pub free_in : Option Shelf → ℕ
+free_in None = 0
+free_in (Some shelf) = shelf.free.len
+
+-- and of all its rows, also those that are on their way back
+abbrev pub rows_on : Option Shelf → ℕ
+rows_on None = 0
+rows_on (Some shelf) = shelf.free.len + shelf.waiting.len + shelf.retired.len
+
+-- the shelf has room for so many more rows that are taken out; what a pass takes out needs none
+abbrev pub HasSpaceFor : Option Shelf → ℕ → Type 0
+HasSpaceFor None count = ⊤
+HasSpaceFor (Some shelf) count = shelf.retired.len + count ≤ shelf.retired.cap
 
 -- a session's shelf has its stock; a pass has no shelf
 abbrev pub IsShelved : Option Shelf → View → Type 0

@@ -16,13 +16,13 @@ use Rattle.blink_live.specs.declared.view.Call.{Call}
 use Rattle.blink_live.specs.declared.view.View.{View}
 use Rattle.blink_live.specs.AtomicSteps.{AnswersInOrder, CanGoOn}
 use Rattle.blink_live.specs.Seats.{HasSameNumber, IsPassSeat}
-use Rattle.blink_live.specs.Shelves.{IsShelved}
-use Rattle.blink_live.specs.Views.{SeatState, KnowsItsOwn, CanBegin, MayChange, for_call, latch_number_by, no_words, pages_of, rows_of, span}
+use Rattle.blink_live.specs.Shelves.{HasSpaceFor, IsShelved, free_in}
+use Rattle.blink_live.specs.Views.{SeatState, KnowsItsOwn, CanBegin, MayChange, for_call, latch_number_by, no_words, pages_of, rows_of, rows_taken, span}
 use Rattle.blink_live.specs.Words.{AreNumbersIn, AreRowsIn}
 
 -- what an operation may use of its seat's rows and page numbers: the first of them
 abbrev pub room_in : Op → View → Option Shelf → Room
-room_in op v shelf = record { rows = span v.rows.next (v.rows.next + rows_of op); pages = span v.pages.next (v.pages.next + pages_of op); latch_number = latch_number_by v; shelf = shelf }
+room_in op v shelf = record { rows = span v.rows.next (v.rows.next + rows_taken op v.rows); pages = span v.pages.next (v.pages.next + pages_of op); latch_number = latch_number_by v; shelf = shelf }
 
 -- and of a pass's, whose latch number is that of its last row
 abbrev pub room_for : Op → Span → Span → Room
@@ -60,9 +60,12 @@ steps_to_leave state = 0
 abbrev pub ComesNearer : PlainMachine → PlainMachine → Type 0
 ComesNearer m after = latch_of m ≢ None → steps_to_leave after.state < steps_to_leave m.state
 
--- what the call has left is enough: a row for each write of a page or of the prime block, and the page numbers
-pub record HasLeft (first call : Call) (m : PlainMachine) : Type 0 where
-  pub rows : call.rows.next + (writes_left m + primes_left m) ≤ call.rows.stop
+-- what the call and the shelf have left is enough: a row for each write of a page or of the prime block, and the page numbers. And
+-- the shelf has room for the rows that these writes take out
+pub record HasLeft (shelf : Option Shelf) (first call : Call) (m : PlainMachine) : Type 0 where
+  pub rows : call.rows.next + (writes_left m + primes_left m) ≤ call.rows.stop + free_in shelf
+  pub space : HasSpaceFor shelf (writes_left m + primes_left m)
+  pub in_order : call.rows.next ≤ call.rows.stop
   pub pages : call.pages.next + numbers_left m ≤ call.pages.stop
   pub later : (first.rows.next ≤ call.rows.next) × (first.pages.next ≤ call.pages.next)
   pub same_stop : (call.rows.stop ≡ first.rows.stop) × (call.pages.stop ≡ first.pages.stop)
@@ -76,7 +79,6 @@ pub record IsUpdating (op : Op) (first me : SeatState) (m : PlainMachine) : Type
   pub operation : me.0.operation ≡ goes_on m m.state
   pub same_op : m.op ≡ op
   pub next : CanGoOn first.0.plan m
-  pub left : HasLeft first.0.call me.0.call m
   pub has_decided : HasDecided op first.0 me.0 m
   pub past_descent : IsPastDescent m.state
   pub answers_at_end : m.state ≡ Ended → IsSome m.answer
@@ -91,6 +93,11 @@ pub record HasEnded (op : Op) (first seat : Seat ℕ View) (answer : Answer) : T
   pub saw : IsPrefix first.me.0.seen seat.me.0.seen
   pub same : SameBesideCall (for_call first.me.0 op) seat.me.0
   pub same_slots : seat.me.1 ≡ first.me.1
+
+-- the rows that the operation takes and the shelf's free ones are as many as it may need, and the shelf has room for as many more
+pub record HasRowsFor (op : Op) (rows : Span) (shelf : Option Shelf) : Type 0 where
+  pub enough : rows_of op ≤ rows_taken op rows + free_in shelf
+  pub space : HasSpaceFor shelf (rows_of op)
 
 -- the seat can make such a call
 pub record CanUpdate (live : Live) (op : Op) (first : Seat ℕ View) : Type 0 where
@@ -112,3 +119,4 @@ pub record IsUnderWay (live : Live) (op : Op) (first seat : Seat ℕ View) (m : 
   pub room_is : (room.rows ≡ seat.me.0.call.rows) × (room.pages ≡ seat.me.0.call.pages)
   pub latch_number : room.latch_number ≡ latch_number_by first.me.0
   pub shelved : IsShelved room.shelf seat.me.0
+  pub left : HasLeft room.shelf (for_call first.me.0 op).call seat.me.0.call m

@@ -1,5 +1,5 @@
 -- The views of seats: how they begin, and what each kind of step makes of them.
-use Rattle.std.specs.Prelude.{Option, ◌≡◌, ◌⊎◌, ℕ, zero, suc, ◌+◌, ◌-◌, ◌≤◌, List, [], ◌∷◌, ◌++◌, length, slice_set, Some, None, ◌||◌, ◌==◌, Bool, false, filter, Contains}
+use Rattle.std.specs.Prelude.{Option, ◌≡◌, ◌⊎◌, ℕ, zero, suc, ◌+◌, ◌-◌, ◌≤◌, min, List, [], ◌∷◌, ◌++◌, length, slice_set, Some, None, ◌||◌, ◌==◌, Bool, false, filter, Contains}
 use mathlib.Core.List.{IsPrefix}
 use Rattle.atomic_table.specs.Table.{Me}
 use Rattle.blink_batch.specs.declared.Entry.{Entry}
@@ -141,6 +141,11 @@ rows_of (Find key) = 0
 rows_of (Insert key pointer) = MAX_ROWS_PER_INSERT
 rows_of op = 1
 
+-- of a seat that has fewer it takes all
+abbrev pub rows_taken : Op → Span → ℕ
+rows_taken (Find key) rows = 0
+rows_taken op rows = min (rows_of op) (rows.stop - rows.next)
+
 abbrev pub pages_of : Op → ℕ
 pages_of (Insert key pointer) = MAX_NEW_PAGES_PER_INSERT
 pages_of op = 0
@@ -151,16 +156,16 @@ IsAnnounced v = IsCommon v.plan → 2 ≤ v.busy
 
 -- the seat has these rows and page numbers, and a session has announced that it begins
 pub record CanBegin (v : View) (op : Op) : Type 0 where
-  pub rows : v.rows.next + rows_of op ≤ v.rows.stop
+  pub rows : v.rows.next + rows_taken op v.rows ≤ v.rows.stop
   pub pages : v.pages.next + pages_of op ≤ v.pages.stop
   pub announced : IsAnnounced v
 
 -- the first of them go to the call that begins
 abbrev pub for_call : View → Op → View
 for_call v op = record v {
-  rows = span (v.rows.next + rows_of op) v.rows.stop;
+  rows = span (v.rows.next + rows_taken op v.rows) v.rows.stop;
   pages = span (v.pages.next + pages_of op) v.pages.stop;
-  call = record { rows = span v.rows.next (v.rows.next + rows_of op); pages = span v.pages.next (v.pages.next + pages_of op); staged = no_words };
+  call = record { rows = span v.rows.next (v.rows.next + rows_taken op v.rows); pages = span v.pages.next (v.pages.next + pages_of op); staged = no_words };
 }
 
 -- w is v, except for its operation, and for what it reads and has seen

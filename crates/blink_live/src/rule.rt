@@ -231,15 +231,6 @@ impl Play<u8, View> for Collect {
     ghost then = { collects };
 }
 
-/// The load of the prime block's page word by a session that gives up the rows that it has taken out.
-pub struct Forget;
-
-impl Play<u8, View> for Forget {
-    ghost use Rattle.blink_live.specs.ComingBack.{loses_rows};
-
-    ghost then = { loses_rows };
-}
-
 /// The load of the prime block's page word by a session whose call is to write a free row.
 pub struct TakeRowIn;
 

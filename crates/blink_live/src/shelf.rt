@@ -1,14 +1,12 @@
 //! Where a session keeps the rows of its stock, and how an operation writes such rows.
-ghost use Rattle.std.specs.Prelude.{◌≡◌, ◌≤◌, IfNone, IfOk, IfSome};
-ghost use Rattle.blink_live.specs.ComingBack.{forgets, with_stock};
+ghost use Rattle.std.specs.Prelude.{◌≡◌, ℕ, suc, IfNone, IfOk, IfSome};
 ghost use Rattle.blink_live.specs.Seats.{HasSameNumber, IsPassSeat};
-ghost use Rattle.blink_live.specs.Shelves.{HasOtherStock, IsLent, IsSameBesideShelf, IsShelved, IsShelvedBut, stock_of};
+ghost use Rattle.blink_live.specs.Shelves.{HasSpaceFor, IsLent, IsSameBesideShelf, IsShelved, IsShelvedBut, free_in, stock_of};
 ghost use Rattle.blink_live.specs.Views.{no_stock};
 ghost use Rattle.blink_live.specs.Words.{IsRowNumber};
 
 use crate::live::Live;
 use crate::room::Room;
-use crate::rule::Forget;
 use crate::view::View;
 use atomic_table::Seat;
 use std::alloc::{AllocError, Global};
@@ -52,7 +50,11 @@ impl Live {
         ensures same { HasSameNumber seat.old seat.new }
         ensures lent { IfSome result (λ row. IsLent row seat.old.me seat.new.me room.new) }
         ensures in_range { IfSome result (IsRowNumber self.now.counts) }
+        ensures one_less { IfSome result
+            (λ _. free_in room.old.shelf ≡ suc (free_in room.new.shelf)) }
         ensures none { IfNone result (seat.new.me ≡ seat.old.me) }
+        ensures none_free { IfNone result (free_in room.old.shelf ≡ 0) }
+        ensures space { (count : ℕ) → HasSpaceFor room.old.shelf count → HasSpaceFor room.new.shelf count }
         ensures shelved { IfNone result (IsShelved room.new.shelf seat.new.me.0) }
         ensures same_room { IsSameBesideShelf room.old room.new }
     {
@@ -62,33 +64,20 @@ impl Live {
         Some(row)
     }
 
-    // Puts a row that the seat has taken out on the shelf. If the shelf is full, all rows that were taken out since the waiting ones
-    // began to wait are lost.
-    pub(crate) fn keep_out(&self, seat: &mut Seat<u8, View>, room: &mut Room, out: u64)
-        requires seat { IsPassSeat self.now seat.old.table_id seat.old.me }
-        requires shelved { IsShelvedBut out room.old.shelf seat.old.me.0 }
-        ensures same { HasSameNumber seat.old seat.new }
-        ensures restocked { HasOtherStock seat.old.me seat.new.me }
-        ensures shelved { IsShelved room.new.shelf seat.new.me.0 }
+    // Puts a row that the seat has taken out on the shelf, which has room for it.
+    pub(crate) fn keep_out(_seat: &Seat<u8, View>, room: &mut Room, out: u64)
+        requires shelved { IsShelvedBut out room.old.shelf _seat.now.me.0 }
+        requires space { HasSpaceFor room.old.shelf 1 }
+        ensures shelved { IsShelved room.new.shelf _seat.now.me.0 }
         ensures same_room { IsSameBesideShelf room.old room.new }
+        ensures same_free { free_in room.new.shelf ≡ free_in room.old.shelf }
+        ensures space { (count : ℕ) → HasSpaceFor room.old.shelf (suc count) → HasSpaceFor room.new.shelf count }
     {
         let Some(shelf) = room.shelf.as_mut() else {
             return;
         };
-        if shelf.retired.len() == shelf.retired.capacity() || shelf.retired.push(out).is_err() {
-            self.forget(seat);
-            shelf.retired.clear();
+        if shelf.retired.push(out).is_err() {
+            unreachable!()
         }
-    }
-
-    // Nobody has the rows any more that a session has taken out since the waiting ones began to wait.
-    fn forget(&self, seat: &mut Seat<u8, View>)
-        requires seat { IsPassSeat self.now seat.old.table_id seat.old.me }
-        requires common { 1 ≤ self.now.places }
-        ensures same { HasSameNumber seat.old seat.new }
-        ensures forgotten { seat.new.me
-            ≡ (with_stock seat.old.me.0 (forgets seat.old.me.0.stock), seat.old.me.1) }
-    {
-        self.table.shared.load::<Forget>(seat, 0);
     }
 }

@@ -13,7 +13,7 @@ ghost use Rattle.blink_machine.specs.{IsUpdate, fresh, done, PrimeOut, page_out,
 ghost use Rattle.blink_live.specs.declared.view.View.{View};
 ghost use Rattle.blink_live.specs.Seats.{HasSameNumber, IsPassSeat, IsFirst};
 ghost use Rattle.blink_live.specs.Shelves.{IsShelved};
-ghost use Rattle.blink_live.specs.Updating.{HasEnded, IsUnderWay, room_in, ComesNearer, IsPastDescent};
+ghost use Rattle.blink_live.specs.Updating.{HasEnded, HasRowsFor, IsUnderWay, room_in, ComesNearer, IsPastDescent};
 ghost use Rattle.blink_live.specs.Views.{CanBegin, MayChange, is_staged, knows_word, latch_number_by, no_words, stage_word};
 ghost use Rattle.blink_live.specs.Pendings.{IsWaiting};
 ghost use Rattle.blink_live.specs.AtomicSteps.{PublishesNew, PublishesPage, PublishesPrime, GoesOn};
@@ -53,6 +53,7 @@ impl Live {
         requires can_begin { CanBegin seat.old.me.0 op }
         requires room { room ≡ room_in op seat.old.me.0 room.shelf }
         requires shelved { IsShelved room.shelf seat.old.me.0 }
+        requires enough { HasRowsFor op seat.old.me.0.rows room.shelf }
         requires may { MayChange seat.old.me.0 (key_of op) }
         ensures ended { HasEnded op seat.old seat.new result }
     {
@@ -77,6 +78,7 @@ impl Live {
         requires can_begin { CanBegin seat.old.me.0 op }
         requires room { room.now ≡ room_in op seat.old.me.0 room.now.shelf }
         requires shelved { IsShelved room.now.shelf seat.old.me.0 }
+        requires enough { HasRowsFor op seat.old.me.0.rows room.now.shelf }
         requires may { MayChange seat.old.me.0 (key_of op) }
         ensures under_way { IsUnderWay self.now op seat.old seat.new machine.new room.now }
         ensures waits { IsWaiting machine.new }
@@ -211,12 +213,12 @@ impl Live {
         if let Some(row) = self.lend(seat, room) {
             let out = self.write_page(seat, machine, number, row);
             self.put_rows_back(seat);
-            self.keep_out(seat, room, out);
+            Self::keep_out(seat, room, out);
             return;
         }
         let out = self.write_page(seat, machine, number, room.rows.next);
         room.rows.next += 1;
-        self.keep_out(seat, room, out);
+        Self::keep_out(seat, room, out);
     }
 
     // Writes the prime block with the operation's new root, in the same way.
@@ -235,12 +237,12 @@ impl Live {
         if let Some(row) = self.lend(seat, room) {
             let out = self.write_prime(seat, machine, row);
             self.put_rows_back(seat);
-            self.keep_out(seat, room, out);
+            Self::keep_out(seat, room, out);
             return;
         }
         let out = self.write_prime(seat, machine, room.rows.next);
         room.rows.next += 1;
-        self.keep_out(seat, room, out);
+        Self::keep_out(seat, room, out);
     }
 
     // Writes the operation's new page, in the same way.

@@ -16,7 +16,7 @@ use Rattle.blink_live.specs.Changes.{after, changes_made}
 use Rattle.blink_live.specs.GivingBack.{CanGiveBack, gives_back}
 use Rattle.blink_live.specs.Handles.{opening_of}
 use Rattle.blink_live.specs.Updating.{HasEnded, IsUnderWay}
-use Rattle.blink_live.specs.Views.{is_busy, latch_in, pages_of, plan_of, rows_of}
+use Rattle.blink_live.specs.Views.{is_busy, latch_in, pages_of, plan_of, rows_taken}
 use Rattle.blink_live.proofs.Offered.{IsAfterCall, after_call}
 use Rattle.blink_map.specs.declared.member.Member.{Member}
 use Rattle.blink_map.specs.Places.{IsMemberOf}
@@ -33,11 +33,10 @@ module _ {live : Live} {op : Op} {first last : Seat ℕ View} {m : PlainMachine}
 
   pub can_give_back : CanGiveBack last.me.0
   can_give_back =
-      let left = is.updating.left in
-      let rows = left.rows in
+      let left = is.left in
       let pages = left.pages in
       record {
-        rows = (omega (arith, rows), left.same_stop.0 ∙ sym (ap (λ (s : Span). s.next) used.rows));
+        rows = (left.in_order, left.same_stop.0 ∙ sym (ap (λ (s : Span). s.next) used.rows));
         pages = (omega (arith, pages), left.same_stop.1 ∙ sym (ap (λ (s : Span). s.next) used.pages));
       }
 
@@ -54,7 +53,7 @@ module _ {live : Live} {op : Op} {first last : Seat ℕ View} {m : PlainMachine}
   pub pages_stop : last.me.0.pages.stop ≡ first.me.0.pages.stop
   pages_stop = ap (λ (s : Span). s.stop) used.pages
 
-  pub few_rows : room.rows.next ≤ first.me.0.rows.next + rows_of op
+  pub few_rows : room.rows.next ≤ first.me.0.rows.next + rows_taken op first.me.0.rows
   few_rows =
       let at = rows_back in
       let inside = can_give_back.rows in

@@ -1,5 +1,6 @@
 mod PlacesKept
 mod ChangesOfMembers
+mod RoomOfMembers
 mod MembersComeBack
 mod OperationsRest
 mod PendingsGoOn

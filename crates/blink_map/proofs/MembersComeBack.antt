@@ -17,7 +17,7 @@ use Rattle.blink_live.specs.Updating.{HasEnded}
 use Rattle.blink_live.specs.Shelves.{IsShelved}
 use Rattle.blink_live.proofs.Offered.{shelved_so}
 use Rattle.blink_live.specs.Views.{IsCommon, SeatState, is_busy, pages_of, rows_of, span}
-use Rattle.blink_live.proofs.Offered.{at_end, is_its_seat}
+use Rattle.blink_live.proofs.Offered.{at_end, few_taken, is_its_seat}
 use Rattle.blink_map.specs.declared.member.Member.{Member}
 use Rattle.blink_map.specs.Changing.{HasChanged, HasSetOut}
 use Rattle.blink_map.specs.Places.{IsMemberOf}
@@ -71,8 +71,9 @@ module _ {live : Live} {op : Op} {old : Member} {seat : Seat ℕ View} {m : Plai
   few_rows_used : room.rows.next ≤ old.rows.next + rows_of op
   few_rows_used =
       let few = few_rows out.under_way in
+      let taken = few_taken op out.first.me.0.rows in
       let same : out.first.me.0.rows.next ≡ old.rows.next = ap (λ (v : View). v.rows.next) begun ∙ sym (ap (λ (s : Span). s.next) old.rows_are) in
-      omega (arith, few, same)
+      omega (arith, few, taken, same)
 
   few_pages_used : room.pages.next ≤ old.pages.next + pages_of op
   few_pages_used =

@@ -1,5 +1,5 @@
 -- An operation of a session that is under way.
-use Rattle.std.proofs.Common.{◌≡◌, ℕ, None, List, ◌++◌, sym, ap, ◌∙◌, subst}
+use Rattle.std.proofs.Common.{◌≡◌, ℕ, ◌+◌, ◌≤◌, None, List, ◌++◌, sym, ap, ◌∙◌, subst}
 use mathlib.Core.List.{IsPrefix}
 use Rattle.blink_batch.specs.declared.Answer.{Answer}
 use Rattle.blink_batch.specs.declared.Op.{Op}
@@ -8,6 +8,9 @@ use Rattle.blink_machine.specs.{PlainMachine, latch_at, latch_of}
 use Rattle.blink_live.specs.declared.live.Live.{Live}
 use Rattle.blink_live.specs.declared.view.Change.{Change}
 use Rattle.blink_live.specs.Changes.{after, changes_made}
+use Rattle.blink_live.specs.Handles.{opening_of as opening_of_table}
+use Rattle.blink_live.specs.Views.{pages_of, rows_of}
+use Rattle.blink_rows.specs.declared.span.Span.{Span}
 use Rattle.blink_live.specs.Pendings.{IsWaiting, for_latch, for_level}
 use Rattle.blink_live.specs.Updating.{IsUnderWay}
 use Rattle.blink_map.specs.declared.map.Map.{Map}
@@ -55,6 +58,27 @@ goes_on live op old now next work under_way rows pages place = record {
   set_out = record { first = work.set_out.first; mark = work.set_out.mark; marked = work.set_out.marked; same_number = work.set_out.same_number; under_way = under_way };
   beside = record { rows = rows ∙ work.beside.rows; pages = pages ∙ work.beside.pages; place = place ∙ work.beside.place };
 }
+
+-- a member whose rows have come nearer since has changed as it had
+pub changed_then : (live : Live) (op : Op) (old new then : Member) (answer : Answer) → HasChanged live op old new answer → HasDrawn new then → then.rows ≡ new.rows → then.pages ≡ new.pages → HasChanged live op old then answer
+changed_then live op old new then answer changed drawn rows pages =
+    let told = changed.in_order in
+    record {
+      in_order = record {
+        before = told.before;
+        saw = told.saw;
+        answers = told.answers;
+        goes_on = subst (λ (seen : List Change). IsPrefix (told.before ++ changes_made (place_of_member old) op (after (pointer_of (opening_of_table live)) told.before (key_of op))) seen) (sym drawn.seen) told.goes_on;
+        made = drawn.made ∙ told.made;
+      };
+      rows = subst (λ (s : Span). (s.stop ≡ old.rows.stop) × (s.next ≤ old.rows.next + rows_of op)) (sym rows) changed.rows;
+      pages = subst (λ (s : Span). (s.stop ≡ old.pages.stop) × (s.next ≤ old.pages.next + pages_of op)) (sym pages) changed.pages;
+      same_member = record {
+        same_table = drawn.same_member.same_table ∙ changed.same_member.same_table;
+        same_plan = drawn.same_member.same_plan ∙ changed.same_member.same_plan;
+        same_place = drawn.same_member.same_place ∙ changed.same_member.same_place;
+      };
+    }
 
 -- the answer of an operation before which its member may have drawn
 pub answered : (map : Map) (op : Op) (old new : Session) (drawn : Member) (answer : Answer) → HasDrawn old.member drawn → HasChanged map.live op drawn new.member answer → new.claim.table_id ≡ old.claim.table_id → IsAnswered map op old new answer

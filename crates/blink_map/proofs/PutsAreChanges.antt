@@ -14,7 +14,7 @@ use Rattle.blink_map.specs.declared.error.Full.{Full}
 use Rattle.blink_map.specs.declared.map.Map.{Map}
 use Rattle.blink_map.specs.declared.map.Session.{Session}
 use Rattle.blink_map.specs.Putting.{HasTried, IsPut, IsShortOfRoom, IsTried, change_to}
-use Rattle.blink_map.specs.Sessions.{IsAnswered, IsSameBesideRoom, IsSessionOf, made_by, opening_of, place_of, seen_by}
+use Rattle.blink_map.specs.Sessions.{IsAnswered, IsSameBesideRoom, IsSessionOf, LacksRoomInAll, made_by, opening_of, place_of, seen_by}
 
 -- ---- by the state of the key before
 
@@ -116,6 +116,6 @@ module _ (old middle new : Session) (first : HasTried old middle) where
 
 -- a try after others is one from the beginning on
 pub tried_from_first : (map : Map) (key pointer : ℕ) (old middle new : Session) (was : Result (Option ℕ) Full) → HasTried old middle → IsTried map key pointer middle new (Some was)
-    → IfOk was (IsPut map key pointer old new) × OnErr was (HasTried old new) × OnErr was (IsShortOfRoom key pointer new)
-tried_from_first map key pointer old middle new (Ok kept) first is = (put_then old middle new first map key pointer kept is, tt, tt)
-tried_from_first map key pointer old middle new (Err full) first is = (tt, tried_twice old middle new first is.0, is.1)
+    → IfOk was (IsPut map key pointer old new) × OnErr was (HasTried old new) × OnErr was (IsShortOfRoom key pointer new) × OnErr was (LacksRoomInAll (Insert key pointer) new)
+tried_from_first map key pointer old middle new (Ok kept) first is = (put_then old middle new first map key pointer kept is, tt, tt, tt)
+tried_from_first map key pointer old middle new (Err full) first is = (tt, tried_twice old middle new first is.0, is.1, is.2)

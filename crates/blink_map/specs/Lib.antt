@@ -1,7 +1,7 @@
 -- What a caller of `blink_map` reads, in this order; then the files themselves.
 
 -- a map and its sessions
-pub use Rattle.blink_map.specs.Sessions.{AnswersAsSeen, HasRoom, IsAnswered, IsClosedWith, IsOpenedWith, IsTooLarge, IsSameBesideRoom, IsSameBesideSeen, IsSameSession, IsSessionOf, LacksRoom, made_by, opening_of, place_of, places_of, seen_by}
+pub use Rattle.blink_map.specs.Sessions.{AnswersAsSeen, HasRoom, IsAnswered, IsClosedWith, IsOpenedWith, IsTooLarge, IsSameBesideRoom, IsSameBesideSeen, IsSameSession, IsSessionOf, LacksRoom, LacksRoomInAll, made_by, opening_of, place_of, places_of, seen_by}
 -- an operation under way: which one it is, and the session before it
 pub use Rattle.blink_map.specs.Pendings.{GoesOn, HasBegun, IsPendingOf, op_of, session_of}
 -- an entry that is put

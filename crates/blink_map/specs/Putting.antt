@@ -8,7 +8,7 @@ use Rattle.blink_live.specs.Changes.{after}
 use Rattle.blink_map.specs.declared.error.Full.{Full}
 use Rattle.blink_map.specs.declared.map.Map.{Map}
 use Rattle.blink_map.specs.declared.map.Session.{Session}
-use Rattle.blink_map.specs.Sessions.{HasRoom, IsSameMember, made_by, opening_of, place_of, seen_by}
+use Rattle.blink_map.specs.Sessions.{HasRoom, IsSameMember, LacksRoomInAll, made_by, opening_of, place_of, seen_by}
 
 -- the session has made no change, and may have seen more
 pub record HasTried (old new : Session) : Type 0 where
@@ -17,9 +17,9 @@ pub record HasTried (old new : Session) : Type 0 where
   pub same_member : IsSameMember old.member new.member
   pub same_places : new.claim.table_id ≡ old.claim.table_id
 
--- the session has fewer rows or page numbers left than the insertion of an entry may need
+-- the session hasn't the room that the insertion of an entry may need
 abbrev pub IsShortOfRoom : ℕ → ℕ → Session → Type 0
-IsShortOfRoom key pointer session = ¬ HasRoom (Insert key pointer) session.member.rows session.member.pages
+IsShortOfRoom key pointer session = ¬ HasRoom (Insert key pointer) session.member
 
 -- a change at a place by which the key has the pointer
 abbrev pub change_to : ℕ → ℕ → ℕ → Change
@@ -39,5 +39,5 @@ pub record IsPut (map : Map) (key pointer : ℕ) (old new : Session) (was : Opti
 -- the session has put the pointer; or it has changed nothing, and was refused or is to try again
 abbrev pub IsTried : Map → ℕ → ℕ → Session → Session → Option (Result (Option ℕ) Full) → Type 0
 IsTried map key pointer old new None = HasTried old new
-IsTried map key pointer old new (Some (Err full)) = HasTried old new × IsShortOfRoom key pointer new
+IsTried map key pointer old new (Some (Err full)) = HasTried old new × IsShortOfRoom key pointer new × LacksRoomInAll (Insert key pointer) new
 IsTried map key pointer old new (Some (Ok was)) = IsPut map key pointer old new was

@@ -7,7 +7,6 @@ use Rattle.blink_batch.specs.declared.Op.{Op}
 use Rattle.blink_batch.specs.{answer_at, key_of, pointer_of}
 use Rattle.blink_index.specs.{map_of}
 use Rattle.blink_page.specs.declared.limits.TheConstants.{MAX_PAGE}
-use Rattle.blink_rows.specs.declared.span.Span.{Span}
 use Rattle.blink_store.specs.{PlainStore}
 use Rattle.blink_live.specs.declared.live.Live.{Live}
 use Rattle.blink_live.specs.declared.view.Change.{Change}
@@ -15,6 +14,7 @@ use Rattle.blink_live.specs.Allowed.{length_of}
 use Rattle.blink_live.specs.Changes.{after, changes_made}
 use Rattle.blink_live.specs.Handles.{opening_of as opening_of_table}
 use Rattle.blink_live.specs.Accounts.{HaveAuthors, made_at}
+use Rattle.blink_live.specs.Shelves.{HasSpaceFor, free_in, rows_on}
 use Rattle.blink_live.specs.Views.{pages_of, rows_of}
 use Rattle.blink_map.specs.declared.map.Map.{Map}
 use Rattle.blink_map.specs.declared.map.Room.{Room}
@@ -63,10 +63,21 @@ state_seen live member key = after (pointer_of (opening_of_table live)) (seen_of
 abbrev pub made_by : Session → List Change
 made_by session = made_by_member session.member
 
--- the session has the rows and page numbers that the operation may need
-pub record HasRoom (op : Op) (rows pages : Span) : Type 0 where
-  pub enough_rows : rows_of op ≤ length_of rows
-  pub enough_pages : pages_of op ≤ length_of pages
+-- the member has the rows that the operation may need, those of its span and the free ones of its shelf together, and the page
+-- numbers; and its shelf has room for as many rows that are taken out
+pub record HasRoom (op : Op) (member : Member) : Type 0 where
+  pub enough_rows : rows_of op ≤ length_of member.rows + free_in member.shelf
+  pub enough_pages : pages_of op ≤ length_of member.pages
+  pub space : HasSpaceFor member.shelf (rows_of op)
+
+-- it has them once all rows that it has taken out have come back
+pub record HasRoomInAll (op : Op) (member : Member) : Type 0 where
+  pub enough_rows : rows_of op ≤ length_of member.rows + rows_on member.shelf
+  pub enough_pages : pages_of op ≤ length_of member.pages
+
+-- the session lacks them even then
+abbrev pub LacksRoomInAll : Op → Session → Type 0
+LacksRoomInAll op session = ¬ HasRoomInAll op session.member
 
 -- ---- what a call makes of it
 
@@ -117,10 +128,11 @@ AnswersAsSeen opening old [] [] new = IsPrefix old new
 AnswersAsSeen opening old (key ∷ keys) (answer ∷ answers) new = (seen : List Change) × IsPrefix old seen × (answer ≡ after (pointer_of opening) seen key) × AnswersAsSeen opening seen keys answers new
 AnswersAsSeen opening old keys answers new = ⊥
 
--- the session had fewer rows or page numbers than the operation may need, and has fewer still, though it drew what it could
+-- the session had not the room that the operation may need, and has it not now, though it drew what it could and took back what had
+-- come back
 pub record LacksRoom (op : Op) (old new : Session) : Type 0 where
-  pub before : ¬ HasRoom op old.member.rows old.member.pages
-  pub still : ¬ HasRoom op new.member.rows new.member.pages
+  pub before : ¬ HasRoom op old.member
+  pub still : ¬ HasRoom op new.member
 
 -- the session is as it was, but for its rows and page numbers
 pub record IsSameBesideRoom (old new : Session) : Type 0 where

@@ -14,7 +14,7 @@ ghost use Rattle.blink_map.specs.Pendings.{GoesOn, HasBegun, IsPendingOf, op_of,
 ghost use Rattle.blink_map.specs.Places.{IsMemberOf};
 ghost use Rattle.blink_map.specs.Sessions.{HasRoom, IsAnswered, IsSameBesideRoom, IsSessionOf, LacksRoom};
 
-use crate::change::{come_back, room_of};
+use crate::change::{BATCH_ROWS, come_back, room_of};
 use crate::error::Full;
 use crate::map::{Map, Pending, Session};
 use crate::member::{Member, REST, UnderWay, next_mark};
@@ -28,7 +28,8 @@ impl Map {
     /// Begins an insertion: what `insert` does, with no wait. The call reads the tree down to the key's leaf. It takes no memory,
     /// waits for nobody, and returns. The insertion goes on by `advance`.
     ///
-    /// The call refuses as `insert` does, and gives the session back.
+    /// The call refuses as `insert` does, and gives the session back. But it doesn't wait: it refuses also where the session's rows
+    /// are on their way back, or its shelf is full. Then a later call may be let through.
     pub fn begin_insert(
         &self,
         session: Session,
@@ -46,7 +47,7 @@ impl Map {
     /// Begins a deletion: what `delete` does, with no wait. The call reads the tree down to the key's leaf. It takes no memory,
     /// waits for nobody, and returns. The deletion goes on by `advance`.
     ///
-    /// The call refuses as `delete` does, and gives the session back.
+    /// The call refuses as `delete` does, and gives the session back; also where the session's rows are on their way back.
     pub fn begin_delete(&self, session: Session, key: u64) -> Result<Pending, (Session, Full)>
         requires its_own { IsSessionOf self.now session }
         ensures begun { IfOk result (HasBegun self.now (Delete key) session) }
@@ -59,7 +60,7 @@ impl Map {
     /// Begins a replacement: what `replace` does, with no wait. The call reads the tree down to the key's leaf. It takes no
     /// memory, waits for nobody, and returns. The replacement goes on by `advance`.
     ///
-    /// The call refuses as `replace` does, and gives the session back.
+    /// The call refuses as `replace` does, and gives the session back; also where the session's rows are on their way back.
     pub fn begin_replace(
         &self,
         session: Session,
@@ -98,7 +99,8 @@ impl Map {
             .take_steps(&mut now.seat, &mut now.machine, &mut now.room, tries)
         {
             Some(answer) => {
-                let member = now.end(&self.live);
+                let mut member = now.end(&self.live);
+                member.recycle(&self.live, BATCH_ROWS);
                 let session = Session {
                     member,
                     claim,
@@ -157,7 +159,7 @@ impl Member {
         requires its_own { IsMemberOf live.now self }
         requires updates { IsUpdate op }
         requires fits { FitsWords op }
-        requires room { HasRoom op self.rows self.pages }
+        requires room { HasRoom op self }
         ensures at_rest { IsAtRest live.now op self result }
         ensures waits { IsWaiting result.machine }
     {

@@ -1,5 +1,5 @@
 //! The operations that change a map: insert, delete and replace, by any session, at any key.
-ghost use Rattle.std.specs.Prelude.{◌≡◌, ◌↔◌, ◌+◌, ◌<◌, ◌≤◌, ℕ, None, Some, IfOk, IsTrue, OnErr};
+ghost use Rattle.std.specs.Prelude.{◌≡◌, ◌↔◌, ◌+◌, ◌-◌, ◌<◌, ◌≤◌, ℕ, None, Some, IfOk, IsTrue, OnErr};
 ghost use Rattle.blink_batch.specs.{FitsWords};
 ghost use Rattle.blink_batch.specs.declared.Op.{Op};
 ghost use Rattle.blink_batch.specs.declared.Op.TheVariants.{Delete, Insert, Replace};
@@ -9,11 +9,13 @@ ghost use Rattle.blink_live.specs.GivingBack.{CanGiveBack, gives_back};
 ghost use Rattle.blink_live.specs.Accounts.{HasSeenItsOwn};
 ghost use Rattle.blink_live.specs.Pendings.{IsWaiting};
 ghost use Rattle.blink_live.specs.Seats.{HasSameNumber, IsPassSeat};
-ghost use Rattle.blink_live.specs.Views.{is_busy, pages_of, rows_of, span};
+ghost use Rattle.blink_live.specs.Views.{is_busy, pages_of, rows_of, rows_taken, span};
+ghost use Rattle.blink_live.specs.Allowed.{length_of};
+ghost use Rattle.blink_live.specs.Shelves.{HasSpaceFor, free_in, rows_on};
 ghost use Rattle.blink_map.specs.declared.member.Member.{Member};
 ghost use Rattle.blink_map.specs.Changing.{HasChanged, HasDrawn, HasSetOut};
 ghost use Rattle.blink_map.specs.Places.{IsMemberOf};
-ghost use Rattle.blink_map.specs.Sessions.{HasRoom, IsAnswered, IsSameBesideRoom, IsSessionOf, LacksRoom};
+ghost use Rattle.blink_map.specs.Sessions.{HasRoom, HasRoomInAll, IsAnswered, IsSameBesideRoom, IsSessionOf, LacksRoom, LacksRoomInAll};
 
 use crate::error::Full;
 use crate::map::{Map, Session};
@@ -38,20 +40,19 @@ const PAGE_CHUNK: u64 = 512;
 
 // As many rows at least wait together, so that two looks at each of 256 places are a few loads a change. A session lets rows wait also
 // while it has free ones: else all its rows would wait at once, and it would need others meanwhile.
-const BATCH_ROWS: usize = 64;
+pub(crate) const BATCH_ROWS: usize = 64;
 
-// How many rows that were taken out and don't wait yet are many, where none is free; and how often a session looks again at the places
-// then.
-const MANY_ROWS: usize = 1024;
-
-const LOOKS: u32 = 1024;
+// How often a session that is short of rows looks whether they come back, before it waits or is refused.
+const LOOKS: u32 = 64;
 
 impl Map {
     /// Adds an entry. It answers `Inserted`, or `Exists` with the pointer that the key has, which stays. The call takes no memory.
-    /// It waits for a page's latch that another session has, and for a new root that another session is about to make.
+    /// It waits for a page's latch that another session has, for a new root that another session is about to make, and, where the
+    /// session is short of rows and the pool too, for those that its changes have taken out and other sessions may still read.
     ///
-    /// The call is refused if the session has fewer than 44 rows or 22 page numbers, and the pool has fewer too. Then it changes
-    /// nothing, but for what the session has drawn.
+    /// The call is refused if the session has fewer than 44 rows in all, those that are on their way back too, or fewer than 22 page
+    /// numbers, and the pool can't give them. Then it changes nothing, but for what the session has drawn. The refusal lasts: no
+    /// row or page number comes back to the session later.
     pub fn insert<R: Wait>(
         &self,
         rt: &R,
@@ -62,28 +63,30 @@ impl Map {
         requires its_own { IsSessionOf self.now session.old }
         ensures answered { IfOk result (IsAnswered self.now (Insert key pointer) session.old session.new) }
         ensures full { OnErr result (LacksRoom (Insert key pointer) session.old session.new) }
+        ensures in_all { OnErr result (LacksRoomInAll (Insert key pointer) session.new) }
         ensures unchanged { OnErr result (IsSameBesideRoom session.old session.new) }
     {
         self.change(rt, session, Op::Insert(key, pointer))
     }
 
     /// Removes a key. It answers `Removed` with the key's pointer, or `Absent`. The call takes no memory. It waits for a page's
-    /// latch that another session has.
+    /// latch that another session has, and for a row to come back as `insert` does.
     ///
-    /// The call is refused if the session has no row left, and the pool has none. Then it changes nothing.
+    /// The call is refused if the session has no row at all, and the pool has none. Then it changes nothing.
     pub fn delete<R: Wait>(&self, rt: &R, session: &mut Session, key: u64) -> Result<Answer, Full>
         requires its_own { IsSessionOf self.now session.old }
         ensures answered { IfOk result (IsAnswered self.now (Delete key) session.old session.new) }
         ensures full { OnErr result (LacksRoom (Delete key) session.old session.new) }
+        ensures in_all { OnErr result (LacksRoomInAll (Delete key) session.new) }
         ensures unchanged { OnErr result (IsSameBesideRoom session.old session.new) }
     {
         self.change(rt, session, Op::Delete(key))
     }
 
     /// Replaces a key's pointer. It answers `Replaced` with the pointer before, also if both are the same, or `Absent`. The call
-    /// takes no memory. It waits for a page's latch that another session has.
+    /// takes no memory. It waits for a page's latch that another session has, and for a row to come back as `insert` does.
     ///
-    /// The call is refused if the session has no row left, and the pool has none. Then it changes nothing.
+    /// The call is refused if the session has no row at all, and the pool has none. Then it changes nothing.
     pub fn replace<R: Wait>(
         &self,
         rt: &R,
@@ -94,6 +97,7 @@ impl Map {
         requires its_own { IsSessionOf self.now session.old }
         ensures answered { IfOk result (IsAnswered self.now (Replace key pointer) session.old session.new) }
         ensures full { OnErr result (LacksRoom (Replace key pointer) session.old session.new) }
+        ensures in_all { OnErr result (LacksRoomInAll (Replace key pointer) session.new) }
         ensures unchanged { OnErr result (IsSameBesideRoom session.old session.new) }
     {
         self.change(rt, session, Op::Replace(key, pointer))
@@ -106,6 +110,7 @@ impl Map {
         requires fits { FitsWords op }
         ensures answered { IfOk result (IsAnswered self.now op session.old session.new) }
         ensures full { OnErr result (LacksRoom op session.old session.new) }
+        ensures in_all { OnErr result (LacksRoomInAll op session.new) }
         ensures unchanged { OnErr result (IsSameBesideRoom session.old session.new) }
     {
         let Session {
@@ -113,63 +118,79 @@ impl Map {
             claim: _,
             place: _,
         } = session;
-        if !member.draw(&self.live, op) {
+        if !member.wait_for_room(rt, &self.live, op) {
             return Err(Full);
         }
-        Ok(member.change(rt, &self.live, op))
+        let answer = member.change(rt, &self.live, op);
+        member.recycle(&self.live, BATCH_ROWS);
+        Ok(answer)
     }
 }
 
 impl Member {
-    // Draws rows or page numbers from the pool, if the member has fewer than the operation may need, and returns whether it has
-    // enough then. What it had before of a kind that it draws is lost.
+    // Waits until the member has the room that the operation may need, and returns whether it has. It waits only for rows that the
+    // member has taken out and that come back, and while it does its place isn't marked.
+    fn wait_for_room<R: Wait>(&mut self, rt: &R, live: &Live, op: Op) -> bool
+        requires its_own { IsMemberOf live.now self.old }
+        ensures drawn { HasDrawn self.old self.new }
+        ensures enough { IsTrue result → HasRoom op self.new }
+        ensures lacks { ¬ IsTrue result → (¬ HasRoom op self.old) × (¬ HasRoom op self.new) }
+        ensures in_all { ¬ IsTrue result → ¬ HasRoomInAll op self.new }
+    {
+        for _ in rt.forever() {
+            if self.draw(live, op) {
+                return true;
+            }
+            if !self.will_have_room(op) {
+                return false;
+            }
+            thread::yield_now();
+        }
+        unreachable!()
+    }
+
+    // Where the member hasn't the room that the operation may need, it takes back the rows that have come back, and draws from the
+    // pool what it still lacks. Returns whether it has the room then. What it had left before of its span, or of its page numbers,
+    // is lost where it draws others.
     pub(crate) fn draw(&mut self, live: &Live, op: Op) -> bool
         requires its_own { IsMemberOf live.now self.old }
         ensures drawn { HasDrawn self.old self.new }
-        ensures enough { IsTrue result → HasRoom op self.new.rows self.new.pages }
-        ensures lacks { ¬ IsTrue result → (¬ HasRoom op self.old.rows self.old.pages)
-            × (¬ HasRoom op self.new.rows self.new.pages) }
+        ensures enough { IsTrue result → HasRoom op self.new }
+        ensures lacks { ¬ IsTrue result → (¬ HasRoom op self.old) × (¬ HasRoom op self.new) }
     {
-        self.catch_up(live);
+        if self.has_room(op) {
+            return true;
+        }
+        self.recycle(live, 1);
         if self.has_room(op) {
             return true;
         }
         let (rows, pages) = needed_by(op);
         self.draw_rows(live, rows);
         self.draw_pages(live, pages);
+        self.catch_up(live, op)
+    }
+
+    // Looks some times whether the rows come back that the operation may need, and returns whether the member has the room then. So
+    // a call that is in progress elsewhere, and ends soon, refuses no operation that mustn't wait.
+    fn catch_up(&mut self, live: &Live, op: Op) -> bool
+        requires its_own { IsMemberOf live.now self.old }
+        ensures drawn { HasDrawn self.old self.new }
+        ensures enough { IsTrue result → HasRoom op self.new }
+        ensures lacks { ¬ IsTrue result → ¬ HasRoom op self.new }
+    {
+        for _ in 0..LOOKS {
+            if self.has_room(op) || !self.will_have_room(op) {
+                break;
+            }
+            hint::spin_loop();
+            self.recycle(live, 1);
+        }
         self.has_room(op)
     }
 
-    // Recycles; and does so again for a short while, if the member has taken out many rows meanwhile. So a member that runs ahead of a
-    // session which is held up inside a call slows down, and its shelf isn't soon full.
-    fn catch_up(&mut self, live: &Live)
-        requires its_own { IsMemberOf live.now self.old }
-        ensures drawn { HasDrawn self.old self.new }
-        ensures rows { self.new.rows ≡ self.old.rows }
-        ensures pages { self.new.pages ≡ self.old.pages }
-    {
-        for _ in 0..LOOKS {
-            self.recycle(live);
-            if !self.is_behind() {
-                return;
-            }
-            hint::spin_loop();
-        }
-    }
-
-    // Whether the member has taken out many rows that don't wait yet. Fewer are many where none is free. Where the next ones have no
-    // room, a look at the places brings nothing.
-    fn is_behind(&self) -> bool {
-        match &self.shelf {
-            Some(shelf) if shelf.free.is_empty() => shelf.retired.len() >= MANY_ROWS,
-            Some(shelf) if has_room_for_next(shelf) => shelf.retired.len() >= SHELF_ROWS / 2,
-            Some(_) => false,
-            None => false,
-        }
-    }
-
-    // Brings rows that the member's changes have taken out nearer to its free ones.
-    fn recycle(&mut self, live: &Live)
+    // Brings rows that the member's changes have taken out nearer to its free ones. At least `least` rows begin to wait together.
+    pub(crate) fn recycle(&mut self, live: &Live, least: usize)
         requires its_own { IsMemberOf live.now self.old }
         ensures drawn { HasDrawn self.old self.new }
         ensures rows { self.new.rows ≡ self.old.rows }
@@ -184,18 +205,21 @@ impl Member {
             mark: _,
         } = self;
         if let Some(shelf) = shelf.as_mut() {
-            if has_room_for_next(shelf) {
-                live.recycle(seat, shelf, BATCH_ROWS);
-            }
+            live.recycle(seat, shelf, least);
         }
     }
 
-    // Draws rows, if the member has fewer than these.
+    // Draws rows, if the member has fewer than these, and not so many already that its shelf hasn't room for more.
     fn draw_rows(&mut self, live: &Live, least: u64)
         requires its_own { IsMemberOf live.now self.old }
         requires few { least ≤ ROW_CHUNK }
         ensures { HasDrawn self.old self.new }
     {
+        let has = self.rows.len().saturating_add(free_in(&self.shelf));
+        let most = (SHELF_ROWS as u64 - ROW_CHUNK).saturating_sub(self.rows.len());
+        if has >= least || lacking_on(&self.shelf, most) == 0 {
+            return;
+        }
         let Member {
             seat,
             rows,
@@ -204,7 +228,7 @@ impl Member {
             shelf: _,
             mark: _,
         } = self;
-        if rows.len() < least {
+        if least >= 1 {
             if let Some(drawn) = live.draw_rows(seat, least, ROW_CHUNK) {
                 *rows = drawn;
             }
@@ -232,12 +256,22 @@ impl Member {
         }
     }
 
-    // Whether the member has the rows and page numbers that the operation may need.
+    // Whether the member has the room that the operation may need.
     fn has_room(&self, op: Op) -> bool
-        ensures { IsTrue result ↔ HasRoom op self.now.rows self.now.pages }
+        ensures { IsTrue result ↔ HasRoom op self.now }
     {
         let (rows, pages) = needed_by(op);
-        rows <= self.rows.len() && pages <= self.pages.len()
+        rows.saturating_sub(self.rows.len()) <= free_in(&self.shelf)
+            && pages <= self.pages.len()
+            && has_space(&self.shelf, rows)
+    }
+
+    // Whether it will have it once all its rows have come back.
+    fn will_have_room(&self, op: Op) -> bool
+        ensures { IsTrue result ↔ HasRoomInAll op self.now }
+    {
+        let (rows, pages) = needed_by(op);
+        lacking_on(&self.shelf, rows) <= self.rows.len() && pages <= self.pages.len()
     }
 
     // Runs an operation that changes the tree. While it does, the member's place is marked. What it hasn't used of its rows and
@@ -246,7 +280,7 @@ impl Member {
         requires its_own { IsMemberOf live.now self.old }
         requires updates { IsUpdate op }
         requires fits { FitsWords op }
-        requires room { HasRoom op self.old.rows self.old.pages }
+        requires room { HasRoom op self.old }
         ensures { HasChanged live.now op self.old self.new result }
     {
         let Member {
@@ -270,14 +304,40 @@ impl Member {
     }
 }
 
-// Whether the shelf has room for the rows that are free next, so that they need no memory.
-fn has_room_for_next(shelf: &Shelf) -> bool {
-    let next = if shelf.waiting.is_empty() {
-        shelf.retired.len()
-    } else {
-        shelf.waiting.len()
-    };
-    shelf.free.len().saturating_add(next) <= SHELF_ROWS
+// The number of the shelf's free rows.
+fn free_in(shelf: &Option<Shelf>) -> u64
+    ensures { result ≡ free_in shelf.now }
+{
+    match shelf {
+        Some(shelf) => shelf.free.len() as u64,
+        None => 0,
+    }
+}
+
+// How many of so many rows the shelf hasn't, also once all its rows are free.
+fn lacking_on(shelf: &Option<Shelf>, rows: u64) -> u64
+    ensures { result ≡ rows - rows_on shelf.now }
+{
+    match shelf {
+        Some(shelf) => rows
+            .saturating_sub(shelf.free.len() as u64)
+            .saturating_sub(shelf.waiting.len() as u64)
+            .saturating_sub(shelf.retired.len() as u64),
+        None => rows,
+    }
+}
+
+// Whether the shelf has room for so many more rows that are taken out.
+fn has_space(shelf: &Option<Shelf>, count: u64) -> bool
+    ensures { IsTrue result ↔ HasSpaceFor shelf.now count }
+{
+    match shelf {
+        Some(shelf) => {
+            let (taken, room) = (shelf.retired.len(), shelf.retired.capacity());
+            taken <= room && count <= (room - taken) as u64
+        }
+        None => true,
+    }
 }
 
 // The number of rows that an operation may need, and of page numbers.
@@ -291,11 +351,11 @@ fn needed_by(op: Op) -> (u64, u64)
     }
 }
 
-// The first of these rows and page numbers, for an operation.
+// The first of these rows and page numbers, for an operation, with the shelf whose free rows it writes first.
 pub(crate) fn room_of(op: Op, rows: &Span, pages: &Span, shelf: Option<Shelf>) -> Room
     requires in_order { (rows.now.next ≤ rows.now.stop) × (pages.now.next ≤ pages.now.stop) }
-    requires room { HasRoom op rows.now pages.now }
-    ensures rows { result.rows ≡ span rows.now.next (rows.now.next + rows_of op) }
+    requires pages { pages_of op ≤ length_of pages.now }
+    ensures rows { result.rows ≡ span rows.now.next (rows.now.next + rows_taken op rows.now) }
     ensures pages { result.pages ≡ span pages.now.next (pages.now.next + pages_of op) }
     ensures latch { result.latch_number ≡ 1 }
     ensures shelf { result.shelf ≡ shelf }
@@ -306,7 +366,7 @@ pub(crate) fn room_of(op: Op, rows: &Span, pages: &Span, shelf: Option<Shelf>) -
     Room {
         rows: Span {
             next: rows.next,
-            stop: rows.next + row_count,
+            stop: rows.next + row_count.min(rows.len()),
         },
         pages: Span {
             next: pages.next,

@@ -24,9 +24,11 @@ use std::snapshot::Snapshot;
 /// The greatest number of sessions of a map.
 pub const MAX_SESSIONS: u32 = 256;
 
-// The number of rows of each kind that the shelf of a place has room for: those that a session's changes take out while another
-// session is in the midst of one call.
+// The greatest number of rows that a session draws, so that its shelf has room for them.
 pub(crate) const SHELF_ROWS: usize = 4096;
+
+// The number of rows of each kind that the shelf of a place has room for: all that the session has, and those of one operation more.
+const SHELF_ROOM: usize = SHELF_ROWS + 44;
 
 impl Map {
     /// Opens a map over the index's tree. The index stays as it is. Sessions draw the rows and page numbers of `room` from a pool.
@@ -91,7 +93,7 @@ fn members(
 {
     let mut members = Vec::with_capacity(alloc, sessions as usize)?;
     for place in 0..u64::from(sessions) {
-        let shelf = Shelf::with_room(alloc, SHELF_ROWS, sessions as usize)?;
+        let shelf = Shelf::with_room(alloc, SHELF_ROOM, sessions as usize)?;
         let member = admit::<Brand>(live, host, place, shelf);
         let Ok(()) = push(&mut members, member) else {
             return Err(AllocError);

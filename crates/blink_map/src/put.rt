@@ -1,7 +1,8 @@
 //! Inserting an entry, or replacing the pointer of a key that is there.
 ghost use Rattle.std.specs.Prelude.{IfOk, OnErr};
+ghost use Rattle.blink_batch.specs.declared.Op.TheVariants.{Insert};
 ghost use Rattle.blink_map.specs.Putting.{HasTried, IsPut, IsShortOfRoom, IsTried};
-ghost use Rattle.blink_map.specs.Sessions.{IsSessionOf};
+ghost use Rattle.blink_map.specs.Sessions.{IsSessionOf, LacksRoomInAll};
 
 use crate::error::Full;
 use crate::map::{Map, Session};
@@ -26,6 +27,7 @@ impl Map {
         requires its_own { IsSessionOf self.now session.old }
         ensures put { IfOk result (IsPut self.now key pointer session.old session.new) }
         ensures full { OnErr result (IsShortOfRoom key pointer session.new) }
+        ensures in_all { OnErr result (LacksRoomInAll (Insert key pointer) session.new) }
         ensures unchanged { OnErr result (HasTried session.old session.new) }
     {
         for _ in rt.forever() {

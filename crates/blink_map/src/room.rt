@@ -3,7 +3,7 @@ use crate::map::Map;
 
 impl Map {
     /// Returns the number of rows that the pool has left, and of page numbers, for a look. Sessions may draw at any time, so the
-    /// counts prove nothing. What sessions have drawn and haven't used isn't counted.
+    /// counts prove nothing. What sessions have drawn isn't counted.
     pub fn room(&self) -> (u64, u64) {
         self.live.pool()
     }

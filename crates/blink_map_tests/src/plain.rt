@@ -55,3 +55,24 @@ fn a_map_answers_as_the_plain_map(rt: HostRuntime) {
     let entries = index.entries(alloc).expect(&rt, "no memory");
     assert_eq!(&rt; entries.as_slice(), plain.entries());
 }
+
+// So many operations with so few rows: each row is written hundreds of times.
+const MANY_OPERATIONS: u64 = 200_000;
+
+const FEW_ROWS: u32 = 600;
+
+#[test]
+fn a_map_with_few_rows_answers_as_the_plain_map(rt: HostRuntime) {
+    let alloc = rt.alloc();
+    let mut plain = Plain::new(alloc);
+    let mut two = Two::open(&rt, alloc, 4_000, FEW_ROWS);
+    let mut drawn = 2;
+    for turn in 0..MANY_OPERATIONS {
+        drawn = next(drawn);
+        let op = operation(drawn);
+        let (then, answer) = run(&rt, two, op, turn % 3 == 0);
+        let expected = plain.apply(op).expect(&rt, "no memory");
+        assert_eq!(&rt; answer, Ok(expected), "{op:?}");
+        two = if turn % 5 == 0 { then.turn() } else { then };
+    }
+}

@@ -60,11 +60,13 @@ fn a_small_pool_is_used_up(rt: HostRuntime) {
     let alloc = rt.alloc();
     let mut two = Two::open(&rt, alloc, 22, 44);
     assert_eq!(&rt; two.insert(&rt, 1, 10), Ok(Answer::Inserted));
-    assert_eq!(&rt; two.insert(&rt, 2, 20), Err(Full));
+    assert_eq!(&rt; two.insert(&rt, 2, 20), Ok(Answer::Inserted));
     assert_eq!(&rt; two.delete(&rt, 1), Ok(Answer::Removed(10)));
     let mut two = two.turn();
-    assert_eq!(&rt; two.delete(&rt, 1), Err(Full));
+    assert_eq!(&rt; two.delete(&rt, 2), Err(Full));
+    assert_eq!(&rt; two.insert(&rt, 3, 30), Err(Full));
     assert_eq!(&rt; two.find(1), None);
+    assert_eq!(&rt; two.find(2), Some(20));
 }
 
 #[test]

@@ -81,6 +81,19 @@ fn apply_all<R: Wait + Abort>(rt: &R, map: &Map, session: &mut Session, steps: &
     }
 }
 
+// Inserts a key and deletes it, many times.
+fn turn_over<R: Wait + Abort>(rt: &R, map: &Map, session: &mut Session)
+    requires { IsSessionOf map.now session.old }
+    ensures { IsSessionOf map.now session.new }
+{
+    for pointer in 0..TURNS {
+        let inserted = apply(rt, map, session, Op::Insert(9, pointer));
+        assert_eq!(rt; inserted, Ok(Answer::Inserted));
+        let deleted = apply(rt, map, session, Op::Delete(9));
+        assert_eq!(rt; deleted, Ok(Answer::Removed(pointer)));
+    }
+}
+
 // An operation that rests half-way, what the other session does meanwhile with which answers, and the operation's own answer.
 struct Interrupted {
     begun: Op,
@@ -121,6 +134,27 @@ impl Two {
         let _lost = begin(&map, one, op).ok().expect(rt, "refused");
         apply_all(rt, &map, &mut other, meanwhile);
         map.close(alloc, Vec::new(alloc))
+    }
+
+    // The first session begins the operation. While that rests, the second writes each of its rows many times. Returns the answer
+    // of the operation, or `None` if it is dropped.
+    fn rest_meanwhile<R: Wait + Abort>(self, rt: &R, op: Op, dropped: bool) -> Option<Answer> {
+        let Two {
+            map,
+            one,
+            mut other,
+        } = self;
+        let Ok(begun) = begin(&map, one, op) else {
+            panic!(rt; "refused");
+        };
+        if dropped {
+            drop(begun);
+            turn_over(rt, &map, &mut other);
+            return None;
+        }
+        turn_over(rt, &map, &mut other);
+        let (_, answer) = end(rt, &map, begun);
+        Some(answer)
     }
 
     // The first session runs the operation in steps.
@@ -210,16 +244,16 @@ fn a_dropped_operation_leaves_no_latch_and_the_map_is_not_closed(rt: HostRuntime
     assert_eq!(&rt; closed.err(), Some(MapError::UnderWay));
 }
 
-// With 44 rows the first insertion leaves 43, which are too few for another.
+// The first session draws all 44 rows, so the second has none.
 #[test]
 fn begun_operations_are_refused_as_calls_are(rt: HostRuntime) {
     let alloc = rt.alloc();
     let two = Two::open(&rt, alloc, 22, 44);
     let (two, answer) = two.apply_in_steps(&rt, Op::Insert(1, 10));
     assert_eq!(&rt; answer, Ok(Answer::Inserted));
-    let (two, answer) = two.apply_in_steps(&rt, Op::Insert(2, 20));
+    let (two, answer) = two.turn().apply_in_steps(&rt, Op::Insert(2, 20));
     assert_eq!(&rt; answer, Err(Full));
-    let (two, answer) = two.apply_in_steps(&rt, Op::Replace(1, 11));
+    let (two, answer) = two.turn().apply_in_steps(&rt, Op::Replace(1, 11));
     assert_eq!(&rt; answer, Ok(Answer::Replaced(10)));
     let (two, answer) = two.turn().apply_in_steps(&rt, Op::Delete(1));
     assert_eq!(&rt; answer, Err(Full));
@@ -229,4 +263,22 @@ fn begun_operations_are_refused_as_calls_are(rt: HostRuntime) {
     assert_eq!(&rt; two.find(2), None);
     let index = two.close(alloc).expect(&rt, "not closed");
     assert_eq!(&rt; index.find(1), None);
+}
+
+// So often each of the few rows is written some hundred times.
+const TURNS: u64 = 10_000;
+
+#[test]
+fn an_operation_that_rests_holds_no_row_back(rt: HostRuntime) {
+    let two = Two::open(&rt, rt.alloc(), 100, 200);
+    assert_eq!(&rt;
+        two.rest_meanwhile(&rt, Op::Insert(7, 70), false),
+        Some(Answer::Inserted)
+    );
+}
+
+#[test]
+fn an_operation_that_is_dropped_holds_no_row_back(rt: HostRuntime) {
+    let two = Two::open(&rt, rt.alloc(), 100, 200);
+    assert_eq!(&rt; two.rest_meanwhile(&rt, Op::Insert(7, 70), true), None);
 }

@@ -17,9 +17,9 @@ pub struct Room {
     /// Page numbers. A split of a page takes one. An insertion has to have 22 when it begins, and uses none mostly.
     pub pages: u32,
     /// Rows, of 560 bytes. Each write of a page takes one. An insertion has to have 44 when it begins, and writes one page mostly;
-    /// a deletion or a replacement has to have one. The row that a write replaces comes back to its session, once each session has
-    /// been seen between two calls since. So a thousand rows a session last, or 14,000 where threads are more than cores and are held
-    /// up inside calls.
+    /// a deletion or a replacement has to have one. The row that a write replaces comes back to its session, once each
+    /// call that was in progress has ended. So a few hundred rows a session last. While a thread is held up inside a call no row
+    /// comes back, and a change that is refused with [`Error::Full`] may be let through later.
     pub rows: u32,
     /// Places for sessions, 1 to 256.
     pub sessions: u32,

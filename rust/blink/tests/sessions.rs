@@ -157,19 +157,19 @@ fn a_map_without_rows_is_full() {
 }
 
 #[test]
-fn a_full_map_is_changed_until_its_last_row() {
+fn a_map_with_three_rows_takes_any_number_of_changes_that_need_one() {
     let index = Index::from_entries(4, &[(1, 10), (2, 20)].map(Entry::from)).unwrap();
     let map = map_over(&index, 0, 3, 1);
     let mut session = map.session().unwrap();
     assert_eq!(session.insert(3, 30), Err(Error::Full));
-    assert_eq!(session.replace(1, 11), Ok(Answer::Replaced(10)));
+    for pointer in 10..1000 {
+        assert_eq!(session.replace(1, pointer + 1), Ok(Answer::Replaced(pointer)));
+    }
     assert_eq!(session.remove(2), Ok(Answer::Removed(20)));
-    assert_eq!(session.replace(1, 12), Ok(Answer::Replaced(11)));
-    assert_eq!(session.remove(1), Err(Error::Full));
-    assert_eq!(session.replace(1, 13), Err(Error::Full));
-    assert_eq!((session.get(1), session.get(2), map.room()), (Some(12), None, Left { pages: 0, rows: 0 }));
+    assert_eq!(session.insert(3, 30), Err(Error::Full));
+    assert_eq!((session.get(1), session.get(2), map.room()), (Some(1000), None, Left { pages: 0, rows: 2 }));
     drop(session);
-    assert!(map.close().unwrap().scan(..).eq([(1, 12)].map(Entry::from)));
+    assert!(map.close().unwrap().scan(..).eq([(1, 1000)].map(Entry::from)));
 }
 
 #[test]
@@ -193,11 +193,16 @@ fn an_operation_that_begins_ends_where_nobody_has_its_page() {
             begun => panic!("{op:?}: {begun:?}"),
         }
     }
-    // an insertion has to have 44 rows, and the session has 41
-    let (session, error) = session.begin(Op::Insert(3, 30), 1).unwrap_err();
-    assert_eq!(error, Error::Full);
+    // the session has drawn all rows, and another has none
     drop(session);
     assert!(map.close().unwrap().scan(..).eq([(2, 21)].map(Entry::from)));
+    let map = map_over(&index, 22, 44, 2);
+    let (mut session, other) = (map.session().unwrap(), map.session().unwrap());
+    assert_eq!(session.insert(2, 20), Ok(Answer::Inserted));
+    let (other, error) = other.begin(Op::Insert(3, 30), 1).unwrap_err();
+    assert_eq!(error, Error::Full);
+    drop((session, other));
+    assert!(map.close().unwrap().scan(..).eq([(1, 10), (2, 20)].map(Entry::from)));
 }
 
 // Replaces one key by steps, until an operation rests or that many have ended. One that rests is dropped.

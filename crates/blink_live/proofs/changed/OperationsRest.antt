@@ -5,9 +5,10 @@ use Rattle.blink_batch.specs.declared.Op.{Op}
 use Rattle.blink_machine.specs.{PlainMachine}
 use Rattle.blink_live.specs.declared.live.Live.{Live}
 use Rattle.blink_live.specs.declared.room.Room.{Room}
+use Rattle.blink_live.specs.declared.view.Call.{Call}
 use Rattle.blink_live.specs.declared.view.View.{View}
 use Rattle.blink_live.specs.Seats.{HasSameNumber}
-use Rattle.blink_live.specs.Updating.{CanUpdate, HasDecided, IsUnderWay, IsUpdating, decided, not_yet}
+use Rattle.blink_live.specs.Updating.{CanUpdate, HasDecided, HasLeft, IsUnderWay, IsUpdating, decided, not_yet}
 use Rattle.blink_live.specs.Views.{SeatState, for_call, is_busy}
 use Rattle.blink_live.proofs.changed.RowsAreLent.{shelved_so}
 
@@ -40,7 +41,6 @@ module _ (live : Live) (op : Op) (first seat : Seat ℕ View) (m : PlainMachine)
     operation = is.updating.operation;
     same_op = is.updating.same_op;
     next = is.updating.next;
-    left = is.updating.left;
     has_decided = its_decision is.updating.has_decided;
     past_descent = is.updating.past_descent;
     answers_at_end = is.updating.answers_at_end;
@@ -54,4 +54,5 @@ module _ (live : Live) (op : Op) (first seat : Seat ℕ View) (m : PlainMachine)
     room_is = (is.room_is.0 ∙ ap (λ (x : SeatState). x.0.call.rows) (sym now), is.room_is.1 ∙ ap (λ (x : SeatState). x.0.call.pages) (sym now));
     latch_number = is.latch_number;
     shelved = shelved_so room.shelf seat.me.0 then.me.0 (ap (λ (x : SeatState). x.0.plan) now) (ap (λ (x : SeatState). x.0.stock) now) is.shelved;
+    left = subst (λ (c : Call). HasLeft room.shelf (for_call first.me.0 op).call c m) (ap (λ (x : SeatState). x.0.call) (sym now)) is.left;
   }

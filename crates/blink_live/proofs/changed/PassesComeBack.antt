@@ -18,6 +18,7 @@ use Rattle.blink_live.specs.Changes.{after}
 use Rattle.blink_live.specs.Handles.{IsChangedBy, IsPassOf, KnowsItsKeys, keys_of, place_of, share_of}
 use Rattle.blink_live.specs.Updating.{HasEnded}
 use Rattle.blink_live.specs.Views.{IsCommon, IsOwned, MayChange, changed_by, span, rows_of, pages_of}
+use Rattle.blink_live.proofs.changed.RowsTaken.{all_taken}
 use Rattle.blink_live.proofs.changed.UpdatesGoOn.{after_call, of_own_key}
 use Rattle.blink_live.proofs.dealt.ChangesLeft.{takes_some}
 
@@ -43,9 +44,10 @@ pub is_whole : (op : Op) (pass : Pass) (seat : Seat ℕ View) (answer : Answer) 
     → rows ≡ span (pass.rows.next + rows_of op) pass.rows.stop → pages ≡ span (pass.pages.next + pages_of op) pass.pages.stop → IsWhole seat keys rows pages
 is_whole op pass seat answer keys rows pages updates some ended same_keys rows_are pages_are =
     let takes = takes_some pass.pages pass.rows pass.for_changes pass.in_order op updates some in
+    let all = all_taken op pass.seat.me.0.rows (subst (λ (s : Span). s.next + rows_of op ≤ s.stop) pass.rows_are takes.enough_rows) in
     let after = after_call op pass.seat.me.0 seat.me.0 ended.same in record {
       keys_are = same_keys ∙ (pass.keys_are ∙ sym ended.answers.keys);
-      rows_are = rows_are ∙ (ap (λ (s : Span). span (s.next + rows_of op) s.stop) pass.rows_are ∙ sym after.rows);
+      rows_are = rows_are ∙ (ap (λ (s : Span). span (s.next + rows_of op) s.stop) pass.rows_are ∙ (ap (λ (n : ℕ). span (pass.seat.me.0.rows.next + n) pass.seat.me.0.rows.stop) (sym all) ∙ sym after.rows));
       pages_are = pages_are ∙ (ap (λ (s : Span). span (s.next + pages_of op) s.stop) pass.pages_are ∙ sym after.pages);
       in_order = (subst (λ (s : Span). s.next ≤ s.stop) (sym rows_are) takes.enough_rows, subst (λ (s : Span). s.next ≤ s.stop) (sym pages_are) takes.enough_pages);
       for_changes = subst (λ (s : Span × Span). AreForChanges s.0 s.1) (λ i. (sym pages_are i, sym rows_are i)) takes.rest;

@@ -1,5 +1,5 @@
 -- An update begins where its way down ends, with all that it may need left.
-use Rattle.std.proofs.Common.{◌≡◌, ℕ, zero, suc, Option, ◌+◌, ◌≤◌, ap, sym, ◌∙◌, subst, refl, arith}
+use Rattle.std.proofs.Common.{◌≡◌, ℕ, zero, suc, Option, Some, None, List, ◌+◌, ◌≤◌, ap, sym, ◌∙◌, subst, refl, arith}
 use Rattle.atomic_table.specs.declared.Seat.{Seat}
 use Rattle.blink_batch.specs.{FitsWords, key_of}
 use Rattle.blink_batch.specs.declared.Op.{Op}
@@ -9,15 +9,17 @@ use Rattle.blink_machine.specs.declared.machine.State.TheVariants.{Want}
 use Rattle.blink_machine.specs.{numbers_left, writes_left, primes_left, PlainMachine, IsUpdate}
 use Rattle.blink_live.specs.declared.live.Live.{Live}
 use Rattle.blink_live.specs.declared.room.Room.{Room}
+use Rattle.blink_live.specs.declared.shelf.Shelf.{Shelf}
 use Rattle.blink_live.specs.declared.view.Call.{Call}
 use Rattle.blink_live.specs.declared.view.View.{View}
 use Rattle.blink_live.specs.Seats.{HasRead, HasSameNumber, IsAtLeaf, IsPassSeat, found, wants as wants_leaf}
-use Rattle.blink_live.specs.Updating.{SameBesideCall, not_yet, HasLeft, IsUpdating, IsPastDescent, CanUpdate, IsUnderWay, room_in}
-use Rattle.blink_live.specs.Views.{SeatState, CanBegin, MayChange, SameBesideReads, latch_in, rows_of, pages_of, for_call, known_of}
+use Rattle.blink_live.specs.Updating.{SameBesideCall, not_yet, HasLeft, HasRowsFor, IsUpdating, IsPastDescent, CanUpdate, IsUnderWay, room_in}
+use Rattle.blink_live.specs.Views.{SeatState, CanBegin, MayChange, SameBesideReads, latch_in, latch_number_by, rows_of, rows_taken, pages_of, for_call, known_of}
 use Rattle.blink_live.specs.Pendings.{IsWaiting, for_latch}
 use Rattle.blink_live.specs.Shelves.{IsShelved}
 use Rattle.blink_live.specs.Words.{AreNumbersIn, AreRowsIn}
 use Rattle.blink_live.proofs.changed.RowsAreLent.{shelved_so}
+use Rattle.blink_live.proofs.changed.RowsTaken.{less_space}
 
 within_call : (v w : View) → SameBesideReads v w → SameBesideCall v w
 within_call v w same =
@@ -43,26 +45,35 @@ left_at_leaf op m page same_op same_job at =
 update_begins : (op : Op) (v : View) (first me : SeatState) (m : PlainMachine) (kept : Option ℕ) → IsUpdate op → first.0 ≡ for_call v op → HasRead op first me m → IsAtLeaf op kept m → IsUpdating op first me m
 update_begins op v first me m kept updates is read (found key is_find at_end answer) = absurd (subst IsUpdate is_find updates)
 update_begins op v first me m kept updates is read (wants_leaf page update at none_yet) =
-    let left = left_at_leaf op m page read.same_op read.same_job at in
-    let enough_rows = left.0 in
-    let enough_pages = left.1 in
-    let call : me.0.call ≡ first.0.call = ap (λ (x : View). x.call) read.same.0 in record {
+    record {
       same = (within_call first.0 me.0 read.same.0, read.same.1);
       saw = read.saw;
       knows_own = read.knows_own;
       operation = read.operation;
       same_op = read.same_op;
       next = read.next;
-      left = subst (λ (c : Call). HasLeft first.0.call c m) (sym call) (subst (λ (c : Call). HasLeft c c m) (sym (ap (λ (x : View). x.call) is)) record {
-        rows = omega (arith, enough_rows);
-        pages = omega (arith, enough_pages);
-        later = (omega arith, omega arith);
-        same_stop = (refl, refl);
-        blank = refl;
-      });
       has_decided = not_yet none_yet (ap (λ (x : View). x.share) read.same.0);
       past_descent = subst IsPastDescent (sym at) tt;
       answers_at_end = λ ends. absurd (cc);
+    }
+
+-- and what it may need is left
+left_begins : (op : Op) (v : View) (slots : List (ℕ × ℕ)) (me : SeatState) (m : PlainMachine) (kept : Option ℕ) (shelf : Option Shelf) → IsUpdate op → HasRead op (for_call v op, slots) me m → IsAtLeaf op kept m → HasRowsFor op v.rows shelf → HasLeft shelf (for_call v op).call me.0.call m
+left_begins op v slots me m kept shelf updates read (found key is_find at_end answer) has = absurd (subst IsUpdate is_find updates)
+left_begins op v slots me m kept shelf updates read (wants_leaf page update at none_yet) has =
+    let left = left_at_leaf op m page read.same_op read.same_job at in
+    let enough_rows = left.0 in
+    let enough_pages = left.1 in
+    let enough = has.enough in
+    let call : me.0.call ≡ (for_call v op).call = ap (λ (x : View). x.call) read.same.0 in
+    subst (λ (c : Call). HasLeft shelf (for_call v op).call c m) (sym call) record {
+      rows = omega (arith, enough_rows, enough);
+      space = less_space shelf _ _ enough_rows has.space;
+      in_order = omega arith;
+      pages = omega (arith, enough_pages);
+      later = (omega arith, omega arith);
+      same_stop = (refl, refl);
+      blank = refl;
     }
 
 -- it wants its leaf's latch
@@ -80,25 +91,35 @@ some_latch : (places stop : ℕ) → 2 ≤ stop → 1 ≤ latch_in places stop
 some_latch zero stop enough = omega (arith, enough)
 some_latch (suc places) stop enough = omega arith
 
+-- a pass has a last row, and a session's number is 1
+pub some_latch_for : (op : Op) (v : View) (shelf : Option Shelf) → IsUpdate op → HasRowsFor op v.rows shelf → IsShelved shelf v → v.rows.next + rows_taken op v.rows ≤ v.rows.stop → 1 ≤ v.rows.next → 1 ≤ latch_number_by v
+some_latch_for op v None updates has shelved rows low =
+    let some = takes_a_row op updates in
+    let enough = has.enough in
+    some_latch v.plan.places v.rows.stop (omega (arith, some, enough, rows, low))
+some_latch_for op v (Some shelf) updates has shelved rows low = latch_of_common v.plan.places v.rows.stop shelved.0
+  where
+    latch_of_common : (places stop : ℕ) → 1 ≤ places → 1 ≤ latch_in places stop
+    latch_of_common zero stop common = absurd (omega (arith, common))
+    latch_of_common (suc places) stop common = omega arith
+
 pub can_update : (live : Live) (op : Op) (first : Seat ℕ View) → IsPassSeat live first.table_id first.me → IsUpdate op → FitsWords op → MayChange first.me.0 (key_of op) → CanBegin first.me.0 op
-    → AreRowsIn live.counts first.me.0.rows → AreNumbersIn live.counts first.me.0.pages → CanUpdate live op first
-can_update live op first seat updates fits may can rows pages =
-    let enough = can.rows in
-    let some = takes_a_row op updates in record {
-      seat = seat;
-      updates = updates;
-      fits = fits;
-      some_latch = some_latch first.me.0.plan.places first.me.0.rows.stop (omega (arith, enough, some, rows));
-      may_change = may;
-      can_begin = can;
-      rows = rows;
-      pages = pages;
-    }
+    → AreRowsIn live.counts first.me.0.rows → AreNumbersIn live.counts first.me.0.pages → 1 ≤ latch_number_by first.me.0 → CanUpdate live op first
+can_update live op first seat updates fits may can rows pages some = record {
+  seat = seat;
+  updates = updates;
+  fits = fits;
+  some_latch = some;
+  may_change = may;
+  can_begin = can;
+  rows = rows;
+  pages = pages;
+}
 
 pub is_under_way : (live : Live) (op : Op) (first seat : Seat ℕ View) (m : PlainMachine) (room : Room) → CanUpdate live op first → HasSameNumber first seat
     → HasRead op (for_call first.me.0 op, first.me.1) seat.me m → IsAtLeaf op (known_of seat.me.0 (key_of op)) m
-    → room ≡ room_in op first.me.0 room.shelf → IsShelved room.shelf first.me.0 → IsUnderWay live op first seat m room
-is_under_way live op first seat m room can same read at_leaf takes shelved =
+    → room ≡ room_in op first.me.0 room.shelf → IsShelved room.shelf first.me.0 → HasRowsFor op first.me.0.rows room.shelf → IsUnderWay live op first seat m room
+is_under_way live op first seat m room can same read at_leaf takes shelved has =
     let call : seat.me.0.call ≡ (for_call first.me.0 op).call = ap (λ (v : View). v.call) read.same.0 in record {
       can = can;
       same_number = same;
@@ -106,4 +127,5 @@ is_under_way live op first seat m room can same read at_leaf takes shelved =
       room_is = (ap (λ (r : Room). r.rows) takes ∙ sym (ap (λ (c : Call). c.rows) call), ap (λ (r : Room). r.pages) takes ∙ sym (ap (λ (c : Call). c.pages) call));
       latch_number = ap (λ (r : Room). r.latch_number) takes;
       shelved = shelved_so room.shelf first.me.0 seat.me.0 (ap (λ (v : View). v.plan) read.same.0) (ap (λ (v : View). v.stock) read.same.0) shelved;
+      left = left_begins op first.me.0 first.me.1 seat.me m (known_of seat.me.0 (key_of op)) room.shelf can.updates read at_leaf has;
     }

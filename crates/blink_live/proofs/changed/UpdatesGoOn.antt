@@ -1,5 +1,5 @@
 -- What is so of an update under way is so after each of its turns too.
-use Rattle.std.proofs.Common.{◌≡◌, ◌≢◌, ◌⊎◌, ℕ, suc, ◌+◌, ◌<◌, ◌≤◌, Bool, true, false, Option, Some, List, ◌++◌, ap, sym, ◌∙◌, subst, refl, arith}
+use Rattle.std.proofs.Common.{◌≡◌, ◌≢◌, ◌⊎◌, ⊎_elim, inl, inr, ℕ, suc, ◌+◌, ◌<◌, ◌≤◌, Bool, true, false, Option, Some, List, ◌++◌, ap, sym, ◌∙◌, subst, refl, arith}
 use Rattle.std.specs.Prelude.{IsTrue, Contains}
 use mathlib.Core.List.{IsPrefix}
 use Rattle.atomic_table.specs.declared.Seat.{Seat}
@@ -17,6 +17,7 @@ use Rattle.blink_machine.specs.declared.step.Kind.{Kind}
 use Rattle.blink_machine.specs.declared.step.Step.TheVariants.{Moved}
 use Rattle.blink_live.specs.declared.live.Live.{Live}
 use Rattle.blink_live.specs.declared.room.Room.{Room}
+use Rattle.blink_live.specs.declared.shelf.Shelf.{Shelf}
 use Rattle.blink_live.specs.declared.view.Call.{Call}
 use Rattle.blink_live.specs.declared.view.Plan.{Plan}
 use Rattle.blink_live.specs.declared.view.Share.{Share}
@@ -25,12 +26,13 @@ use Rattle.blink_live.specs.declared.view.View.{View}
 use Rattle.blink_live.specs.AtomicSteps.{AnswersInOrder, CanGoOn, Decided, deciding, other, state_after, GoesOn, LoadsPage, LoadsPrime, PublishesFrom}
 use Rattle.blink_live.specs.Changes.{changes_made}
 use Rattle.blink_live.specs.Seats.{HasSameNumber, IsFirst, IsPassSeat}
-use Rattle.blink_live.specs.Shelves.{IsShelved}
+use Rattle.blink_live.specs.Shelves.{HasSpaceFor, IsShelved, free_in}
 use Rattle.blink_live.specs.Updating.{SameBesideCall, HasDecided, not_yet, decided, HasLeft, IsUpdating, HasEnded, IsUnderWay}
-use Rattle.blink_live.specs.Views.{IsAnnounced, IsCommon, MayChange, SeatState, changed_by, for_call, latch_number_by, no_words, pages_of, rows_of, span}
+use Rattle.blink_live.specs.Views.{IsAnnounced, IsCommon, MayChange, SeatState, changed_by, for_call, latch_number_by, no_words, pages_of, rows_of, rows_taken, span}
 use Rattle.blink_live.specs.Words.{IsRowNumber}
 use Rattle.blink_live.proofs.told.PrefixesOfOneList.{prefix_of_prefix}
 use Rattle.blink_live.proofs.changed.RowsAreLent.{shelved_so}
+use Rattle.blink_live.proofs.changed.RowsTaken.{less_space}
 use Rattle.blink_live.proofs.changed.StepsOfUpdates.{Takes, latch_answers, unlatch_answers, goes_on_takes, page_takes, prime_takes, publish_takes}
 
 -- ---- what a step makes of the operation
@@ -80,15 +82,14 @@ module _ (op : Op) (first now then : View) (m after : PlainMachine) (same : m.op
   decided_on more (decided given) (deciding was answers) = absurd (let once = given.answers in cc)
   decided_on more (decided given) (other kept stays) = decided (still_in_order kept stays more given)
 
-updating_on : (op : Op) (first me then : SeatState) (m after : PlainMachine) → IsUpdating op first me m → Takes m after me then → HasLeft first.0.call then.0.call after → IsUpdating op first then after
-updating_on op first me then m after is takes left = record {
+updating_on : (op : Op) (first me then : SeatState) (m after : PlainMachine) → IsUpdating op first me m → Takes m after me then → IsUpdating op first then after
+updating_on op first me then m after is takes = record {
   same = (same_call_trans first.0 me.0 then.0 is.same.0 takes.same.0, takes.same.1 ∙ is.same.1);
   saw = prefix_of_prefix first.0.seen me.0.seen then.0.seen is.saw takes.saw;
   knows_own = takes.knows_own;
   operation = takes.operation;
   same_op = takes.same_op ∙ is.same_op;
   next = subst (λ (p : Plan). CanGoOn p after) (ap (λ (v : View). v.plan) is.same.0) takes.next;
-  left = left;
   has_decided = decided_on op first.0 me.0 then.0 m after is.same_op (ap (λ (v : View). v.plan) is.same.0) (ap (λ (v : View). v.place) is.same.0) is.saw takes.saw is.has_decided takes.decides;
   past_descent = takes.past_descent;
   answers_at_end = takes.answers_at_end;
@@ -96,13 +97,15 @@ updating_on op first me then m after is takes left = record {
 
 -- ---- what the call has left
 
-still_left : (first call then : Call) (m after : PlainMachine) → HasLeft first call m → then ≡ call → writes_left after ≤ writes_left m → primes_left after ≤ primes_left m → numbers_left after ≤ numbers_left m
-    → HasLeft first then after
-still_left first call then m after left same writes primes numbers =
+still_left : (shelf : Option Shelf) (first call then : Call) (m after : PlainMachine) → HasLeft shelf first call m → then ≡ call → writes_left after ≤ writes_left m → primes_left after ≤ primes_left m → numbers_left after ≤ numbers_left m
+    → HasLeft shelf first then after
+still_left shelf first call then m after left same writes primes numbers =
     let rows = left.rows in
     let pages = left.pages in
-    subst (λ (c : Call). HasLeft first c after) (sym same) record {
+    subst (λ (c : Call). HasLeft shelf first c after) (sym same) record {
       rows = omega (arith, rows, writes, primes);
+      space = less_space shelf _ _ (omega (arith, writes, primes)) left.space;
+      in_order = left.in_order;
       pages = omega (arith, pages, numbers);
       later = left.later;
       same_stop = left.same_stop;
@@ -110,15 +113,17 @@ still_left first call then m after left same writes primes numbers =
     }
 
 -- these rows and page numbers are left
-row_is_used : (first call then : Call) (rows pages : Span) (m after : PlainMachine) → HasLeft first call m → then ≡ record { rows = rows; pages = pages; staged = no_words }
-    → (rows.stop ≡ call.rows.stop) × (call.rows.next ≤ rows.next) → rows.next + (writes_left after + primes_left after) ≤ rows.stop → (pages.stop ≡ call.pages.stop) × (call.pages.next ≤ pages.next) → pages.next + numbers_left after ≤ pages.stop
-    → HasLeft first then after
-row_is_used first call then rows pages m after left is kept writes later numbers =
+row_is_used : (before shelf : Option Shelf) (first call then : Call) (rows pages : Span) (m after : PlainMachine) → HasLeft before first call m → then ≡ record { rows = rows; pages = pages; staged = no_words }
+    → (rows.stop ≡ call.rows.stop) × (call.rows.next ≤ rows.next) × (rows.next ≤ rows.stop) → (rows.next + (writes_left after + primes_left after) ≤ rows.stop + free_in shelf) × HasSpaceFor shelf (writes_left after + primes_left after) → (pages.stop ≡ call.pages.stop) × (call.pages.next ≤ pages.next) → pages.next + numbers_left after ≤ pages.stop
+    → HasLeft shelf first then after
+row_is_used before_shelf shelf first call then rows pages m after left is kept writes later numbers =
     let before = left.later in
-    subst (λ (c : Call). HasLeft first c after) (sym is) record {
-      rows = writes;
+    subst (λ (c : Call). HasLeft shelf first c after) (sym is) record {
+      rows = writes.0;
+      space = writes.1;
+      in_order = kept.2;
       pages = numbers;
-      later = (omega (arith, before, kept), omega (arith, before, later));
+      later = (omega (arith, before, kept.1), omega (arith, before, later));
       same_stop = (kept.0 ∙ left.same_stop.0, later.0 ∙ left.same_stop.1);
       blank = refl;
     }
@@ -143,6 +148,11 @@ one_less numbers others same =
 abbrev pub rows_after : Bool → Span → Span
 rows_after true rows = rows
 rows_after false rows = span (suc rows.next) rows.stop
+
+-- the numbers of the shelf's free rows before and after: one was written, or there was none
+abbrev WritesFree : Bool → ℕ → ℕ → Type 0
+WritesFree true free then = free ≡ suc then
+WritesFree false free then = free ≡ 0
 
 -- ---- a turn
 
@@ -199,31 +209,44 @@ module _ {live : Live} {op : Op} {first seat : Seat ℕ View} {m : PlainMachine}
   pub unlatch_in_range : (number : ℕ) → NeedsUnlatch m number → number < live.counts.numbers
   unlatch_in_range number needs = subst (λ (counts : PlainCounts). number < counts.numbers) same_counts (is.updating.next.unlatches number needs)
 
-  -- the next row is there, and the next page number
-  row_is_there : 1 ≤ writes_left m + primes_left m → IsFirst room.rows.next seat.me.0.call.rows × IsRowNumber live.counts room.rows.next
-  row_is_there some =
-      let left = is.updating.left in
+  -- the next row is there where the shelf has none, and the next page number
+  row_is_there : 1 ≤ writes_left m + primes_left m → free_in room.shelf ≡ 0 → IsFirst room.rows.next seat.me.0.call.rows × IsRowNumber live.counts room.rows.next
+  row_is_there some none =
+      let left = is.left in
       let left_rows = left.rows in
       let later = left.later in
       let same_stop = left.same_stop in
       let at = ap (λ (s : Span). s.next) is.room_is.0 in
       let begin = is.can.can_begin.rows in
       let range = is.can.rows in
-      ((at, omega (arith, at, left_rows, some)), (omega (arith, at, later, range), omega (arith, at, left_rows, some, same_stop, begin, range)))
+      ((at, omega (arith, at, left_rows, some, none)), (omega (arith, at, later, range), omega (arith, at, left_rows, some, none, same_stop, begin, range)))
 
-  pub row_for_page : (number : ℕ) → NeedsWrite m number → IsFirst room.rows.next seat.me.0.call.rows × IsRowNumber live.counts room.rows.next
-  row_for_page number needs = row_is_there (let some = is.updating.next.enough.page_writes (subst IsPageWrite (sym needs) tt) in omega (arith, some))
+  some_write : NeedsNew m ⊎ ((number : ℕ) × NeedsWrite m number) → 1 ≤ writes_left m + primes_left m
+  some_write needs = let some = is.updating.next.enough.page_writes (⊎_elim (λ (new : NeedsNew m). subst IsPageWrite (sym new) tt) (λ (page : (number : ℕ) × NeedsWrite m number). subst IsPageWrite (sym page.1) tt) needs) in omega (arith, some)
 
-  pub row_for_new : NeedsNew m → IsFirst room.rows.next seat.me.0.call.rows × IsRowNumber live.counts room.rows.next
-  row_for_new needs = row_is_there (let some = is.updating.next.enough.page_writes (subst IsPageWrite (sym needs) tt) in omega (arith, some))
+  some_prime : NeedsPrimeWrite m → 1 ≤ writes_left m + primes_left m
+  some_prime needs = let some = is.updating.next.enough.prime_writes needs in omega (arith, some)
 
-  pub row_for_prime : NeedsPrimeWrite m → IsFirst room.rows.next seat.me.0.call.rows × IsRowNumber live.counts room.rows.next
-  row_for_prime needs = row_is_there (let some = is.updating.next.enough.prime_writes needs in omega (arith, some))
+  pub row_for_page : (number : ℕ) → NeedsWrite m number → free_in room.shelf ≡ 0 → IsFirst room.rows.next seat.me.0.call.rows × IsRowNumber live.counts room.rows.next
+  row_for_page number needs = row_is_there (some_write (inr (number, needs)))
+
+  pub row_for_new : NeedsNew m → free_in room.shelf ≡ 0 → IsFirst room.rows.next seat.me.0.call.rows × IsRowNumber live.counts room.rows.next
+  row_for_new needs = row_is_there (some_write (inl needs))
+
+  pub row_for_prime : NeedsPrimeWrite m → free_in room.shelf ≡ 0 → IsFirst room.rows.next seat.me.0.call.rows × IsRowNumber live.counts room.rows.next
+  row_for_prime needs = row_is_there (some_prime needs)
+
+  -- the shelf has room for the row that is taken out
+  pub space_for_page : (number : ℕ) → NeedsWrite m number → HasSpaceFor room.shelf 1
+  space_for_page number needs = less_space room.shelf _ 1 (some_write (inr (number, needs))) is.left.space
+
+  pub space_for_prime : NeedsPrimeWrite m → HasSpaceFor room.shelf 1
+  space_for_prime needs = less_space room.shelf _ 1 (some_prime needs) is.left.space
 
   pub number_for_new : NeedsNew m → IsFirst room.pages.next seat.me.0.call.pages × IsPageNumber room.pages.next × (room.pages.next < live.counts.numbers)
   number_for_new needs =
       let some = is.updating.next.enough.numbers needs in
-      let left = is.updating.left in
+      let left = is.left in
       let left_pages = left.pages in
       let later = left.later in
       let same_stop = left.same_stop in
@@ -236,10 +259,10 @@ module _ {live : Live} {op : Op} {first seat : Seat ℕ View} {m : PlainMachine}
       )
 
   -- its first row is used, or none where it wrote a free one
-  fewer_rows : (lent : Bool) (k : PlainMachine) → suc (writes_left k + primes_left k) ≤ writes_left m + primes_left m
-      → ((rows_after lent seat.me.0.call.rows).stop ≡ seat.me.0.call.rows.stop) × (seat.me.0.call.rows.next ≤ (rows_after lent seat.me.0.call.rows).next) × ((rows_after lent seat.me.0.call.rows).next + (writes_left k + primes_left k) ≤ (rows_after lent seat.me.0.call.rows).stop)
-  fewer_rows true k writes = let rows = is.updating.left.rows in (refl, omega arith, omega (arith, rows, writes))
-  fewer_rows false k writes = let rows = is.updating.left.rows in (refl, omega arith, omega (arith, rows, writes))
+  fewer_rows : (lent : Bool) (k : PlainMachine) (free : ℕ) → suc (writes_left k + primes_left k) ≤ writes_left m + primes_left m → WritesFree lent (free_in room.shelf) free
+      → ((rows_after lent seat.me.0.call.rows).stop ≡ seat.me.0.call.rows.stop) × (seat.me.0.call.rows.next ≤ (rows_after lent seat.me.0.call.rows).next) × ((rows_after lent seat.me.0.call.rows).next ≤ (rows_after lent seat.me.0.call.rows).stop) × ((rows_after lent seat.me.0.call.rows).next + (writes_left k + primes_left k) ≤ (rows_after lent seat.me.0.call.rows).stop + free)
+  fewer_rows true k free writes free_row = let rows = is.left.rows in let order = is.left.in_order in (refl, omega arith, order, omega (arith, rows, writes, free_row))
+  fewer_rows false k free writes none_free = let rows = is.left.rows in (refl, omega arith, omega (arith, rows, writes, none_free), omega (arith, rows, writes, none_free))
 
   -- the first of its rows is used
   pub first_row_used : span (room.rows.next + 1) room.rows.stop ≡ rows_after false seat.me.0.call.rows
@@ -253,19 +276,20 @@ module _ {live : Live} {op : Op} {first seat : Seat ℕ View} {m : PlainMachine}
 
   -- after a turn
   module _ {after : PlainMachine} {next : Seat ℕ View} (same : HasSameNumber seat next) where
-    turned : (then : Room) → Takes m after seat.me next.me → HasLeft begun.0.call next.me.0.call after → (then.rows ≡ next.me.0.call.rows) × (then.pages ≡ next.me.0.call.pages) → then.latch_number ≡ room.latch_number → IsShelved then.shelf next.me.0 → IsUnderWay live op first next after then
+    turned : (then : Room) → Takes m after seat.me next.me → HasLeft then.shelf begun.0.call next.me.0.call after → (then.rows ≡ next.me.0.call.rows) × (then.pages ≡ next.me.0.call.pages) → then.latch_number ≡ room.latch_number → IsShelved then.shelf next.me.0 → IsUnderWay live op first next after then
     turned then takes left same_room same_latch shelved = record {
       can = is.can;
       same_number = (same.0 ∙ is.same_number.0, same.1 ∙ is.same_number.1);
-      updating = updating_on op begun seat.me next.me m after is.updating takes left;
+      updating = updating_on op begun seat.me next.me m after is.updating takes;
       room_is = same_room;
       latch_number = same_latch ∙ is.latch_number;
       shelved = shelved;
+      left = left;
     }
 
     -- which uses nothing of its room
     in_its_room : Takes m after seat.me next.me → (next.me.0.plan ≡ seat.me.0.plan) × (next.me.0.stock ≡ seat.me.0.stock) → next.me.0.call ≡ seat.me.0.call → writes_left after ≤ writes_left m → primes_left after ≤ primes_left m → numbers_left after ≤ numbers_left m → IsUnderWay live op first next after room
-    in_its_room takes same_stock same_call writes primes numbers = turned room takes (still_left begun.0.call seat.me.0.call next.me.0.call m after is.updating.left same_call writes primes numbers)
+    in_its_room takes same_stock same_call writes primes numbers = turned room takes (still_left room.shelf begun.0.call seat.me.0.call next.me.0.call m after is.left same_call writes primes numbers)
         (is.room_is.0 ∙ ap (λ (c : Call). c.rows) (sym same_call), is.room_is.1 ∙ ap (λ (c : Call). c.pages) (sym same_call)) refl (shelved_so room.shelf seat.me.0 next.me.0 same_stock.0 same_stock.1 is.shelved)
 
     pub after_page : (number row : ℕ) → LoadsPage m number seat.me row after next.me → IsUnderWay live op first next after room
@@ -305,52 +329,53 @@ module _ {live : Live} {op : Op} {first seat : Seat ℕ View} {m : PlainMachine}
           room_is = subst (λ (x : SeatState). (room.rows ≡ x.0.call.rows) × (room.pages ≡ x.0.call.pages)) (sym same_view) is.room_is;
           latch_number = is.latch_number;
           shelved = subst (λ (x : SeatState). IsShelved room.shelf x.0) (sym same_view) is.shelved;
+          left = subst (λ (x : SeatState × PlainMachine). HasLeft room.shelf begun.0.call x.0.0.call x.1) (λ i. (sym same_view i, sym same_machine i)) is.left;
         }
 
     -- which publishes a row
     after_write : (kind : Kind) (rows pages : Span) (stock : Stock) (new : ℕ) (then : Room) → after ≡ done m new → PublishesFrom kind rows pages stock m (done m new) seat.me next.me
-        → (rows.stop ≡ seat.me.0.call.rows.stop) × (seat.me.0.call.rows.next ≤ rows.next) → rows.next + (writes_left (done m new) + primes_left (done m new)) ≤ rows.stop → (pages.stop ≡ seat.me.0.call.pages.stop) × (seat.me.0.call.pages.next ≤ pages.next)
+        → (rows.stop ≡ seat.me.0.call.rows.stop) × (seat.me.0.call.rows.next ≤ rows.next) × (rows.next ≤ rows.stop) → (rows.next + (writes_left (done m new) + primes_left (done m new)) ≤ rows.stop + free_in then.shelf) × HasSpaceFor then.shelf (writes_left (done m new) + primes_left (done m new)) → (pages.stop ≡ seat.me.0.call.pages.stop) × (seat.me.0.call.pages.next ≤ pages.next)
         → pages.next + numbers_left (done m new) ≤ pages.stop → (then.rows ≡ rows) × (then.pages ≡ pages) → then.latch_number ≡ room.latch_number → IsShelved then.shelf next.me.0 → IsUnderWay live op first next after then
     after_write kind rows pages stock new then is_done does kept writes later numbers same_room same_latch shelved =
         let call : next.me.0.call ≡ record { rows = rows; pages = pages; staged = no_words } = ap (λ (x : SeatState). x.0.call) does.is in
         turned then
         (subst (λ (k : PlainMachine). Takes m k seat.me next.me) (sym is_done) (publish_takes kind rows pages stock m new seat.me next.me is.updating.past_descent does))
-        (subst (λ (k : PlainMachine). HasLeft begun.0.call next.me.0.call k) (sym is_done) (row_is_used begun.0.call seat.me.0.call next.me.0.call rows pages m (done m new) is.updating.left call kept writes later numbers))
+        (subst (λ (k : PlainMachine). HasLeft then.shelf begun.0.call next.me.0.call k) (sym is_done) (row_is_used room.shelf then.shelf begun.0.call seat.me.0.call next.me.0.call rows pages m (done m new) is.left call kept writes later numbers))
         (same_room.0 ∙ sym (ap (λ (c : Call). c.rows) call), same_room.1 ∙ sym (ap (λ (c : Call). c.pages) call)) same_latch shelved
 
     pub after_write_page : (lent : Bool) (number : ℕ) (stock : Stock) (then : Room) → after ≡ done m 0 → PublishesFrom (write_page number) (rows_after lent seat.me.0.call.rows) seat.me.0.call.pages stock m (done m 0) seat.me next.me
-        → then.rows ≡ rows_after lent seat.me.0.call.rows → then.pages ≡ room.pages → then.latch_number ≡ room.latch_number → IsShelved then.shelf next.me.0 → IsUnderWay live op first next after then
-    after_write_page lent number stock then is_done does same_rows same_pages same_latch shelved =
+        → then.rows ≡ rows_after lent seat.me.0.call.rows → then.pages ≡ room.pages → then.latch_number ≡ room.latch_number → IsShelved then.shelf next.me.0 → WritesFree lent (free_in room.shelf) (free_in then.shelf) → ((count : ℕ) → HasSpaceFor room.shelf (suc count) → HasSpaceFor then.shelf count) → IsUnderWay live op first next after then
+    after_write_page lent number stock then is_done does same_rows same_pages same_latch shelved uses space =
         let pages = does.uses.numbers in
         let writes = does.uses.page_writes in
         let primes = does.uses.prime_writes in
-        let left = is.updating.left.pages in
-        let fewer = fewer_rows lent (done m 0) (omega (arith, writes, primes)) in
-        after_write (write_page number) (rows_after lent seat.me.0.call.rows) seat.me.0.call.pages stock 0 then is_done does (fewer.0, fewer.1) fewer.2 (refl, omega arith) (omega (arith, pages, left)) (same_rows, same_pages ∙ is.room_is.1) same_latch shelved
+        let left = is.left.pages in
+        let fewer = fewer_rows lent (done m 0) (free_in then.shelf) (omega (arith, writes, primes)) uses in
+        after_write (write_page number) (rows_after lent seat.me.0.call.rows) seat.me.0.call.pages stock 0 then is_done does (fewer.0, fewer.1, fewer.2) (fewer.3, space _ (less_space room.shelf _ _ (omega (arith, writes, primes)) is.left.space)) (refl, omega arith) (omega (arith, pages, left)) (same_rows, same_pages ∙ is.room_is.1) same_latch shelved
 
     pub after_write_prime : (lent : Bool) (stock : Stock) (then : Room) → after ≡ done m 0 → PublishesFrom write_prime (rows_after lent seat.me.0.call.rows) seat.me.0.call.pages stock m (done m 0) seat.me next.me
-        → then.rows ≡ rows_after lent seat.me.0.call.rows → then.pages ≡ room.pages → then.latch_number ≡ room.latch_number → IsShelved then.shelf next.me.0 → IsUnderWay live op first next after then
-    after_write_prime lent stock then is_done does same_rows same_pages same_latch shelved =
+        → then.rows ≡ rows_after lent seat.me.0.call.rows → then.pages ≡ room.pages → then.latch_number ≡ room.latch_number → IsShelved then.shelf next.me.0 → WritesFree lent (free_in room.shelf) (free_in then.shelf) → ((count : ℕ) → HasSpaceFor room.shelf (suc count) → HasSpaceFor then.shelf count) → IsUnderWay live op first next after then
+    after_write_prime lent stock then is_done does same_rows same_pages same_latch shelved uses space =
         let pages = does.uses.numbers in
         let writes = does.uses.page_writes in
         let primes = does.uses.prime_writes in
-        let left = is.updating.left.pages in
-        let fewer = fewer_rows lent (done m 0) (omega (arith, writes, primes)) in
-        after_write write_prime (rows_after lent seat.me.0.call.rows) seat.me.0.call.pages stock 0 then is_done does (fewer.0, fewer.1) fewer.2 (refl, omega arith) (omega (arith, pages, left)) (same_rows, same_pages ∙ is.room_is.1) same_latch shelved
+        let left = is.left.pages in
+        let fewer = fewer_rows lent (done m 0) (free_in then.shelf) (omega (arith, writes, primes)) uses in
+        after_write write_prime (rows_after lent seat.me.0.call.rows) seat.me.0.call.pages stock 0 then is_done does (fewer.0, fewer.1, fewer.2) (fewer.3, space _ (less_space room.shelf _ _ (omega (arith, writes, primes)) is.left.space)) (refl, omega arith) (omega (arith, pages, left)) (same_rows, same_pages ∙ is.room_is.1) same_latch shelved
 
     pub after_write_new : (lent : Bool) (stock : Stock) (then : Room) → NeedsNew m → after ≡ done m room.pages.next
         → PublishesFrom (write_page seat.me.0.call.pages.next) (rows_after lent seat.me.0.call.rows) (span (suc seat.me.0.call.pages.next) seat.me.0.call.pages.stop) stock m (done m seat.me.0.call.pages.next) seat.me next.me
-        → then.rows ≡ rows_after lent seat.me.0.call.rows → then.pages ≡ span (room.pages.next + 1) room.pages.stop → then.latch_number ≡ room.latch_number → IsShelved then.shelf next.me.0 → IsUnderWay live op first next after then
-    after_write_new lent stock then needs is_done does same_rows same_pages same_latch shelved =
+        → then.rows ≡ rows_after lent seat.me.0.call.rows → then.pages ≡ span (room.pages.next + 1) room.pages.stop → then.latch_number ≡ room.latch_number → IsShelved then.shelf next.me.0 → WritesFree lent (free_in room.shelf) (free_in then.shelf) → ((count : ℕ) → HasSpaceFor room.shelf (count) → HasSpaceFor then.shelf count) → IsUnderWay live op first next after then
+    after_write_new lent stock then needs is_done does same_rows same_pages same_latch shelved uses space =
         let at : room.pages.next ≡ seat.me.0.call.pages.next = ap (λ (s : Span). s.next) is.room_is.1 in
         let writes = does.uses.page_writes in
         let primes = does.uses.prime_writes in
-        let left = is.updating.left.pages in
+        let left = is.left.pages in
         let now : after ≡ done m seat.me.0.call.pages.next = is_done ∙ ap (done m) at in
         let numbers = new_uses_number m (done m seat.me.0.call.pages.next) (write_page seat.me.0.call.pages.next) needs does.uses in
-        let fewer = fewer_rows lent (done m seat.me.0.call.pages.next) (omega (arith, writes, primes)) in
+        let fewer = fewer_rows lent (done m seat.me.0.call.pages.next) (free_in then.shelf) (omega (arith, writes, primes)) uses in
         after_write (write_page seat.me.0.call.pages.next) (rows_after lent seat.me.0.call.rows) (span (suc seat.me.0.call.pages.next) seat.me.0.call.pages.stop) stock seat.me.0.call.pages.next then now does
-        (fewer.0, fewer.1) fewer.2 (refl, omega arith) (omega (arith, numbers, left)) (same_rows, same_pages ∙ one_less room.pages seat.me.0.call.pages is.room_is.1) same_latch shelved
+        (fewer.0, fewer.1, fewer.2) (fewer.3, space _ (less_space room.shelf _ _ (omega (arith, writes, primes)) is.left.space)) (refl, omega arith) (omega (arith, numbers, left)) (same_rows, same_pages ∙ one_less room.pages seat.me.0.call.pages is.room_is.1) same_latch shelved
 
 -- ---- its end
 
@@ -381,7 +406,7 @@ of_own_key op first seat answer ended mine =
 
 -- the seat has used what the operation takes
 pub record IsAfterCall (op : Op) (v w : View) : Type 0 where
-  pub rows : w.rows ≡ span (v.rows.next + rows_of op) v.rows.stop
+  pub rows : w.rows ≡ span (v.rows.next + rows_taken op v.rows) v.rows.stop
   pub pages : w.pages ≡ span (v.pages.next + pages_of op) v.pages.stop
   pub role : w.role ≡ v.role
   pub told : w.told ≡ v.told

@@ -23,7 +23,7 @@ use Rattle.blink_live.specs.declared.view.View.{View}
 use Rattle.blink_live.specs.AtomicSteps.{begins}
 use Rattle.blink_live.specs.Reuse.{IsAtHand}
 use Rattle.blink_live.specs.Rule.{ReadsRow, IsInRole, IsBoundedWay, Knows, IsTable, IsTableAt}
-use Rattle.blink_live.specs.Views.{rows_of, IsCommon, SeatState, CanBegin, for_call, reading}
+use Rattle.blink_live.specs.Views.{rows_taken, IsCommon, SeatState, CanBegin, for_call, reading}
 use Rattle.blink_live.proofs.reuse.ReuseStaysSafe.{reuse_stays, row_is}
 use Rattle.blink_live.proofs.table.AccountsStay.{account, still_saw}
 use Rattle.blink_live.proofs.table.LoadsKeepTable.{moved, load_keeps_with}
@@ -107,8 +107,8 @@ call_of_rows : (plan : Plan) (s : State ℕ View) (tree_state : TreeState) (h : 
     → (row : ℕ) → IsAtHand (for_call v op) row → IsAtHand v row ⊎ (h.owners.row row ≢ suc id)
 call_of_rows plan s tree_state h id v op at can row = λ hand.
     let enough = can.rows in
-    ⊎_elim (λ (t : (v.rows.next + rows_of op ≤ row) × (row < v.rows.stop)). inl (inl (omega (arith, t), t.1)))
-    (λ (t : (v.rows.next ≤ row) × (row < v.rows.next + rows_of op)). inl (inl (t.0, omega (arith, t, enough)))) hand
+    ⊎_elim (λ (t : (v.rows.next + rows_taken op v.rows ≤ row) × (row < v.rows.stop)). inl (inl (omega (arith, t), t.1)))
+    (λ (t : (v.rows.next ≤ row) × (row < v.rows.next + rows_taken op v.rows)). inl (inl (t.0, omega (arith, t, enough)))) hand
 
 pub begins_operation : (plan : Plan) (slots id : ℕ) (me : SeatState) (op : Op) → me.0.role ≡ Pass → me.0.operation ≡ None → FitsWords op → CanBegin me.0 op → 1 ≤ plan.counts.numbers
     → Allows (IsTable plan) slots id me 0 (λ k. k) (begins op (step slots 0 0 0 none) me)

@@ -15,7 +15,7 @@ use Rattle.blink_live.specs.declared.view.Plan.{Plan}
 use Rattle.blink_live.specs.declared.view.Role.TheVariants.{Pass}
 use Rattle.blink_live.specs.declared.view.Stock.{Stock}
 use Rattle.blink_live.specs.declared.view.View.{View}
-use Rattle.blink_live.specs.ComingBack.{IsPast, begins_to_wait, begins_wait, checks_place, collects, finds_past, forgets, loses_rows, gets_waiting, sees_mark, sees_place, with_stock}
+use Rattle.blink_live.specs.ComingBack.{IsPast, begins_to_wait, begins_wait, checks_place, collects, finds_past, gets_waiting, sees_mark, sees_place, with_stock}
 use Rattle.blink_live.specs.Reuse.{HasEachOnce, HasStock, HaveNoneInCommon, IsReuseSafe}
 use Rattle.blink_live.specs.Rule.{HasPlace, IsTable, IsTableAt}
 use Rattle.blink_live.specs.Views.{IsCommon, SeatState}
@@ -128,18 +128,6 @@ module _ (plan : Plan) (s : State ℕ View) (tree_state : TreeState) (h : IsTabl
         not_past = λ waits. absurd (none_in_empty row waits);
       })
 
-  pub rows_are_lost : IsReuseSafe plan h.owners.row s.words (set s.views id (with_stock v (forgets v.stock)))
-  rows_are_lost = reuse_moves plan h.owners.row s.words s.views id v (forgets v.stock) at safe refl
-      record {
-        once = record { free = its.once.free; retired = tt; waiting = its.once.waiting; free_retired = λ row has none_there. none_in_empty row none_there; free_waiting = its.once.free_waiting; retired_waiting = λ row has. absurd (none_in_empty row has) };
-        free = its.free;
-        retired = λ row has. absurd (none_in_empty row has);
-        waiting = its.waiting;
-      }
-      (λ seat u there row content is.
-      let besides = safe.agree id seat v u at there row content is in
-      record { not_free = besides.not_free; not_past = λ waits. let held = besides.not_past waits in record { later = held.later; same = held.same } })
-
 -- ---- the steps
 
 pub begins_wait_at : (plan : Plan) (slots id : ℕ) (me : SeatState) → me.0.role ≡ Pass → IsCommon plan → me.0.stock.waiting ≡ []
@@ -196,7 +184,3 @@ pub collects_at : (plan : Plan) (slots id : ℕ) (me : SeatState) → me.0.role 
     → Allows (IsTable plan) slots id me 0 (λ k. k) (collects (step slots 0 0 0 none) me)
 collects_at plan slots id me role common all s table homes at small =
     (with_stock me.0 (gets_waiting me.0.stock), keeps, tt, stock_keeps plan s table.0 table.1 id 0 me.0 (gets_waiting me.0.stock) at role (rows_are_free plan s table.0 table.1 id me.0 at common all), refl)
-
-pub loses_rows_at : (plan : Plan) (slots id : ℕ) (me : SeatState) → me.0.role ≡ Pass → IsCommon plan → Allows (IsTable plan) slots id me 0 (λ k. k) (loses_rows (step slots 0 0 0 none) me)
-loses_rows_at plan slots id me role common s table homes at small =
-    (with_stock me.0 (forgets me.0.stock), keeps, tt, stock_keeps plan s table.0 table.1 id 0 me.0 (forgets me.0.stock) at role (rows_are_lost plan s table.0 table.1 id me.0 at common), refl)

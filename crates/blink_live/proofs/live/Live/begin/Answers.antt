@@ -1,13 +1,14 @@
-use Rattle.std.proofs.Common.{◌≡◌, ◌∙◌, sym, subst, refl}
+use Rattle.std.proofs.Common.{◌≡◌, ◌∙◌, sym, ap, subst, refl}
 use Rattle.blink_batch.specs.declared.Op.{Op}
 use Rattle.blink_live.specs.declared.live.Live.{Live}
 use Rattle.blink_live.specs.declared.live.Pass.{Pass}
 use Rattle.blink_live.specs.declared.live.Pending.{Pending}
+use Rattle.blink_live.specs.declared.room.Room.{Room}
 use Rattle.blink_live.specs.Handles.{IsPassOf}
 use Rattle.blink_live.specs.Pendings.{HasBegun, HasRest, IsWaiting}
 use Rattle.blink_live.specs.Updating.{IsUnderWay}
 use Rattle.blink_live.proofs.changed.LatchesAreLeft.{no_latch_waiting}
-use Rattle.blink_live.proofs.changed.PassesSetOut.{with_its_shelf, can_set_out}
+use Rattle.blink_live.proofs.changed.PassesSetOut.{with_its_shelf, has_its_shelf, can_set_out}
 use Rattle.blink_live.proofs.table.RefusalsTold.{beside, no_refusal}
 use Rattle.blink_live.proofs.live.Live.begin.Goals as goal
 
@@ -60,6 +61,10 @@ set_out-requires-clause-room c =
 pub set_out-requires-clause-may : goal.set_out-requires-clause-may
 set_out-requires-clause-may c =
     (can_set_out c.args.self.now c.args.op c.args.pass c.requires.its_own c.requires.updates c.in_default.ensures.own_key c.in_default.ensures.some_left).may
+
+pub set_out-requires-clause-enough : goal.set_out-requires-clause-enough
+set_out-requires-clause-enough c =
+    has_its_shelf _ _ _ (ap (λ (r : Room). r.shelf) c.next_of-room.ensures.room) (can_set_out c.args.self.now c.args.op c.args.pass c.requires.its_own c.requires.updates c.in_default.ensures.own_key c.in_default.ensures.some_left).enough
 
 pub returns-clause-begun : goal.returns-clause-begun
 returns-clause-begun c = has_begun c.args.self.now c.args.op c.args.pass _ c.of-begun.ensures c.requires.its_own c.set_out.ensures.under_way record {

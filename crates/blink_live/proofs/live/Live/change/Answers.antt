@@ -1,7 +1,8 @@
 use Rattle.std.proofs.Common.{Err, ◌∙◌, refl, sym, ap}
+use Rattle.blink_live.specs.declared.room.Room.{Room}
 use Rattle.std.proofs.lemmas.Result.{err_from_is_err_and}
 use Rattle.blink_live.proofs.changed.PassesComeBack.{answers_by_share, is_changed, is_whole, knows_its_keys}
-use Rattle.blink_live.proofs.changed.PassesSetOut.{with_its_shelf, can_set_out}
+use Rattle.blink_live.proofs.changed.PassesSetOut.{with_its_shelf, has_its_shelf, can_set_out}
 use Rattle.blink_live.proofs.table.RefusalsTold.{no_refusal, passed_on}
 use Rattle.blink_live.proofs.live.Live.change.Goals as goal
 
@@ -43,6 +44,10 @@ update-requires-clause-room g c =
 pub update-requires-clause-may : goal.update-requires-clause-may
 update-requires-clause-may g c =
     (can_set_out c.args.self.now c.args.op c.args.pass.now c.requires.its_own c.requires.updates c.in_ok-accepts.ensures.own_key c.in_ok-accepts.ensures.some_left).may
+
+pub update-requires-clause-enough : goal.update-requires-clause-enough
+update-requires-clause-enough g c =
+    has_its_shelf _ _ _ (ap (λ (r : Room). r.shelf) c.next_of-room.ensures.room) (can_set_out c.args.self.now c.args.op c.args.pass.now c.requires.its_own c.requires.updates c.in_ok-accepts.ensures.own_key c.in_ok-accepts.ensures.some_left).enough
 
 pub invariant_of-pass : goal.invariant_of-pass
 invariant_of-pass g c =

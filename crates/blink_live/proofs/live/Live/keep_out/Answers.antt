@@ -1,8 +1,8 @@
-use Rattle.std.proofs.Common.{refl}
+use Rattle.std.proofs.Common.{◌≡◌, ℕ, suc, Option, Some, sym, subst, arith}
+use Rattle.blink_live.specs.declared.shelf.Shelf.{Shelf}
+use Rattle.blink_live.specs.Shelves.{HasSpaceFor}
+use Rattle.blink_live.proofs.changed.RowsTaken.{less_space}
 use Rattle.blink_live.proofs.live.Live.keep_out.Goals as goal
 
-pub returns-in_default-clause-restocked : goal.returns-in_default-clause-restocked
-returns-in_default-clause-restocked c = record { stock = c.args.seat.now.me.0.stock; is = refl }
-
-pub returns-else-is_err-clause-restocked : goal.returns-else-is_err-clause-restocked
-returns-else-is_err-clause-restocked c = record { stock = c.args.seat.now.me.0.stock; is = refl }
+pub returns-in_default-clause-space : goal.returns-in_default-clause-space
+returns-in_default-clause-space c count has = less_space c.args.room.now.shelf (suc count) count (omega arith) has

@@ -3,7 +3,7 @@ use Rattle.std.proofs.lemmas.List.{reverse-append}
 use Rattle.blink_live.specs.declared.shelf.Shelf.{Shelf}
 use Rattle.blink_live.specs.declared.view.Stock.{Stock}
 use Rattle.blink_live.specs.declared.view.View.{View}
-use Rattle.blink_live.specs.Shelves.{IsShelved}
+use Rattle.blink_live.specs.Shelves.{HasSpaceFor, IsShelved}
 use Rattle.blink_live.specs.Views.{no_aside}
 use Rattle.blink_live.proofs.live.Live.lend.Goals as goal
 
@@ -34,3 +34,9 @@ pub returns-clause-in_range : goal.returns-clause-in_range
 returns-clause-in_range c =
     let first = first_free c.in_ok-shelf.shelf.now c.args.room.now.shelf c.args.seat.now.me.0 c.pop.new.self.items c.in_ok-row.row c.in_ok-shelf.ensures.value c.in_ok-row.ensures.items c.requires.shelved in
     (c.take_row_in.ensures.taken c.in_ok-row.row (reverse c.pop.new.self.items) first).1
+
+pub returns-in_err-row-clause-space : goal.returns-in_err-row-clause-space
+returns-in_err-row-clause-space c count has = subst (λ (x : Option Shelf). HasSpaceFor x count) (sym c.in_ok-shelf.ensures.value) has
+
+pub returns-clause-space : goal.returns-clause-space
+returns-clause-space c count has = subst (λ (x : Option Shelf). HasSpaceFor x count) (sym c.in_ok-shelf.ensures.value) has

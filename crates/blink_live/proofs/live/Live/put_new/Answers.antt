@@ -28,7 +28,7 @@ returns-in-Some-clause-under_way c op first is =
     let stock = ap (λ (x : SeatState). x.0.stock) last.is in
     let shelved : IsShelved c.lend.new.room.shelf c.put_rows_back.new.seat.me.0 = subst (λ (x : Option Shelf). IsShelved x c.put_rows_back.new.seat.me.0) (sym lent.same_shelf) (subst IsCommon (sym plan) lent.common, stock ∙ lent.stock) in
     on.after_write_new is (three.0 ∙ (two.0 ∙ one.0), three.1 ∙ (two.1 ∙ one.1)) true (record (takes_in me.0 row lent.rest).stock { aside = no_aside }) _ c.requires.needs (c.write_new.ensures.machine ∙ ap (λ (s : Span). done m s.next) room.pages) last
-    (room.rows ∙ is.room_is.0) (λ i. span ((room.pages i).next + 1) (room.pages i).stop) room.latch_number shelved
+    (room.rows ∙ is.room_is.0) (λ i. span ((room.pages i).next + 1) (room.pages i).stop) room.latch_number shelved c.in-Some.ensures.one_less (λ count has. c.lend.ensures.space count has)
 
 pub returns-clause-under_way : goal.returns-clause-under_way
 returns-clause-under_way c op first is =
@@ -41,4 +41,4 @@ returns-clause-under_way c op first is =
     let room = c.lend.ensures.same_room in
     let shelved : IsShelved c.lend.new.room.shelf c.write_new-2.new.seat.me.0 = shelved_so c.lend.new.room.shelf c.lend.new.seat.me.0 c.write_new-2.new.seat.me.0 (ap (λ (x : SeatState). x.0.plan) c.write_new-2.ensures.published.is) (ap (λ (x : SeatState). x.0.stock) c.write_new-2.ensures.published.is) c.in_default.ensures.shelved in
     on.after_write_new is (two.0 ∙ one.0, two.1 ∙ one.1) false me.0.stock _ c.requires.needs (c.write_new-2.ensures.machine ∙ ap (λ (s : Span). done m s.next) room.pages) does
-    ((λ i. span ((room.rows i).next + 1) (room.rows i).stop) ∙ on.first_row_used is) (λ i. span ((room.pages i).next + 1) (room.pages i).stop) room.latch_number shelved
+    ((λ i. span ((room.rows i).next + 1) (room.rows i).stop) ∙ on.first_row_used is) (λ i. span ((room.pages i).next + 1) (room.pages i).stop) room.latch_number shelved c.in_default.ensures.none_free (λ count has. c.lend.ensures.space count has)

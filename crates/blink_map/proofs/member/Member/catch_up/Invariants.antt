@@ -1,4 +1,3 @@
-use Rattle.std.proofs.Common.{◌≡◌}
 use Rattle.blink_map.specs.Changing.{HasDrawn}
 use Rattle.blink_map.specs.Places.{IsMemberOf}
 use Rattle.blink_map.proofs.member.Member.catch_up.Given as goal
@@ -7,6 +6,4 @@ abbrev pub invariant-loop : goal.invariant-loop
 invariant-loop l = record {
   its_own : IsMemberOf l.live l.self;
   drawn : HasDrawn l.fn.self l.self;
-  rows : l.self.rows ≡ l.fn.self.rows;
-  pages : l.self.pages ≡ l.fn.self.pages;
 }

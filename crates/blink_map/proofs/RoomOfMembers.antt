@@ -1,0 +1,40 @@
+-- What a member's room is enough for.
+use Rattle.std.proofs.Common.{◌≡◌, ℕ, ◌+◌, ◌≤◌, sym, subst, arith}
+use Rattle.blink_batch.specs.declared.Op.{Op}
+use Rattle.blink_batch.specs.declared.Op.TheVariants.{Insert, Replace}
+use Rattle.blink_rows.specs.declared.span.Span.{Span}
+use Rattle.blink_live.specs.declared.view.View.{View}
+use Rattle.blink_live.specs.Shelves.{free_in}
+use Rattle.blink_live.specs.Updating.{HasRowsFor}
+use Rattle.blink_live.specs.Views.{CanBegin, IsCommon, rows_of, rows_taken, pages_of}
+use Rattle.blink_live.proofs.Offered.{enough_taken, less_space, taken_in_order}
+use Rattle.blink_map.specs.declared.member.Member.{Member}
+use Rattle.blink_map.specs.Sessions.{HasRoom, HasRoomInAll}
+
+-- an operation that may need no more than the room can begin
+pub has_rows_for : (op : Op) (member : Member) (v : View) → v.rows ≡ member.rows → HasRoom op member → HasRowsFor op v.rows member.shelf
+has_rows_for op member v same has = record {
+  enough = subst (λ (s : Span). rows_of op ≤ rows_taken op s + free_in member.shelf) (sym same) (enough_taken op member.rows (free_in member.shelf) has.enough_rows);
+  space = has.space;
+}
+
+pub can_begin : (op : Op) (member : Member) (v : View) → v.rows ≡ member.rows → v.pages ≡ member.pages → 2 ≤ v.busy → HasRoom op member → CanBegin v op
+can_begin op member v rows pages works has = record {
+  rows = taken_in_order op v.rows (subst (λ (s : Span). s.next ≤ s.stop) (sym rows) member.in_order.0);
+  pages = subst (λ (s : Span). s.next + pages_of op ≤ s.stop) (sym pages) (let order = member.in_order.1 in let enough = has.enough_pages in omega (arith, order, enough));
+  announced = λ common. works;
+}
+
+-- a member that hasn't the room for a replacement hasn't that for an insertion
+pub short_of_more : (key pointer : ℕ) (member : Member) → ¬ HasRoom (Replace key pointer) member → ¬ HasRoom (Insert key pointer) member
+short_of_more key pointer member short has = short (record {
+  enough_rows = let enough = has.enough_rows in omega (arith, enough);
+  enough_pages = omega arith;
+  space = less_space member.shelf (rows_of (Insert key pointer)) (rows_of (Replace key pointer)) (omega arith) has.space;
+})
+
+pub short_of_more_in_all : (key pointer : ℕ) (member : Member) → ¬ HasRoomInAll (Replace key pointer) member → ¬ HasRoomInAll (Insert key pointer) member
+short_of_more_in_all key pointer member short has = short (record {
+  enough_rows = let enough = has.enough_rows in omega (arith, enough);
+  enough_pages = omega arith;
+})

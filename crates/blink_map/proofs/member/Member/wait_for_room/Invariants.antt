@@ -1,0 +1,13 @@
+use Rattle.std.proofs.Common.{◌≡◌}
+use Rattle.blink_map.specs.Changing.{HasDrawn}
+use Rattle.blink_map.specs.Places.{IsMemberOf}
+use Rattle.blink_map.specs.Sessions.{HasRoom}
+use Rattle.blink_map.proofs.member.Member.wait_for_room.Given as goal
+
+abbrev pub invariant-loop : goal.invariant-loop
+invariant-loop g l = record {
+  turns : (goal.iterator-loop g).can_next l.iterator' × (goal.iterator-loop g).is_finite l.iterator';
+  its_own : IsMemberOf l.live l.self;
+  drawn : HasDrawn l.fn.self l.self;
+  lacked : ¬ HasRoom l.op l.self → ¬ HasRoom l.op l.fn.self;
+}
