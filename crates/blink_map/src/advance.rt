@@ -120,7 +120,7 @@ impl Map {
             .take_steps(&mut now.seat, &mut machine, &mut now.room, tries)
         {
             Some(answer) => {
-                let mut member = now.end(&self.live);
+                let mut member = now.end(&self.live, &machine);
                 member.recycle(&self.live, BATCH_ROWS);
                 let session = Session {
                     member,
