@@ -38,7 +38,8 @@ impl Op {
         ensures { result ≡ pointer_with self.now }
     {
         match *self {
-            Op::Insert(_, pointer) | Op::Replace(_, pointer) | Op::Exchange(_, _, pointer) => pointer,
+            Op::Insert(_, pointer) | Op::Replace(_, pointer) | Op::Exchange(_, _, pointer) =>
+                pointer,
             Op::Find(_) | Op::Delete(_) => 0,
         }
     }
@@ -60,7 +61,8 @@ impl Op {
                     Answer::Exists(pointer)
                 }
             }
-            (Op::Find(_) | Op::Delete(_) | Op::Replace(..) | Op::Exchange(..), None) => Answer::Absent,
+            (Op::Find(_) | Op::Delete(_) | Op::Replace(..) | Op::Exchange(..), None) =>
+                Answer::Absent,
         }
     }
 }
