@@ -81,5 +81,6 @@ pub(crate) fn push_op(text: &mut String, op: Op) -> Result<(), AllocError>
         Op::Insert(key, pointer) => write!(text, "insert {key} {pointer}"),
         Op::Delete(key) => write!(text, "delete {key}"),
         Op::Replace(key, pointer) => write!(text, "replace {key} {pointer}"),
+        Op::Exchange(key, expected, pointer) => write!(text, "exchange {key} {expected} {pointer}"),
     }
 }

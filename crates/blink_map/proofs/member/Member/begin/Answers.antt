@@ -1,5 +1,6 @@
 use Rattle.std.proofs.Common.{refl, inr, arith, subst, sym}
 use Rattle.blink_machine.specs.{PlainMachine}
+use Rattle.blink_live.specs.Pendings.{IsWaiting}
 use Rattle.blink_map.specs.Changing.{HasComeToRest, HasSetOut}
 use Rattle.blink_map.proofs.MembersComeBack.{its_place, its_seat}
 use Rattle.blink_map.proofs.OperationsRest.{comes_to_rest}
@@ -17,3 +18,6 @@ returns-clause-at_rest c =
       rest = subst (λ (m : PlainMachine). HasComeToRest c.args.live.now c.args.op c.args.self c.mark-2.new.seat m c.room_of-room.result) (sym c.rest.ensures) (comes_to_rest out c.mark-2.new.seat c.mark-2.ensures.same c.mark-2.ensures.marked);
       beside = record { rows = refl; pages = refl; place = refl };
     }
+
+pub returns-clause-waits : goal.returns-clause-waits
+returns-clause-waits c = subst IsWaiting (sym c.rest.ensures) c.set_out.ensures.waits
