@@ -43,7 +43,8 @@ typedef struct { void *at; } blink_session;
 /* A key with its record pointer. */
 typedef struct { uint64_t key, pointer; } blink_entry;
 
-/* An operation. A find and a deletion don't read the pointer. */
+/* An operation. A find and a deletion don't read the pointer. An exchange has a third number, for which there is no place here, so it
+ * has functions of its own: blink_index_exchange, blink_pass_begin_exchange and blink_session_exchange. */
 typedef struct { uint64_t kind, key, pointer; } blink_operation;
 
 /* An answer. The pointer is 0 where the answer tells none. */
@@ -63,12 +64,13 @@ enum {
 
 /* The kinds of answers. */
 enum {
-    BLINK_ABSENT = 0,   /* a find, a deletion or a replacement: the key isn't there, and nothing changed */
+    BLINK_ABSENT = 0,   /* a find, a deletion, a replacement or an exchange: the key isn't there, and nothing changed */
     BLINK_FOUND = 1,    /* a find: the key maps to the pointer */
     BLINK_INSERTED = 2, /* an insertion: the key wasn't there, and maps to the pointer now */
-    BLINK_EXISTS = 3,   /* an insertion: the key maps to this pointer, and nothing changed */
+    BLINK_EXISTS = 3,   /* an insertion: the key maps to this pointer, and nothing changed; an exchange: the same, and this isn't the
+                         * expected pointer */
     BLINK_REMOVED = 4,  /* a deletion: the key mapped to this pointer, and is no longer there */
-    BLINK_REPLACED = 5  /* a replacement: the key mapped to this pointer, and maps to the new one now */
+    BLINK_REPLACED = 5  /* a replacement or an exchange: the key mapped to this pointer, and maps to the new one now */
 };
 
 /* What a call returns: BLINK_DONE, or why it is refused. A refused call changes nothing but where its comment says so. */
@@ -138,6 +140,10 @@ void blink_index_delete(blink_index *index, uint64_t key, blink_answer *answer);
 /* Replaces the pointer of a key in place: BLINK_REPLACED, or BLINK_ABSENT. It takes no memory. */
 void blink_index_replace(blink_index *index, uint64_t key, uint64_t pointer, blink_answer *answer);
 
+/* Replaces the pointer of a key in place, if it is `expected`: BLINK_REPLACED, and `expected`; BLINK_EXISTS, and the other pointer that
+ * the key maps to; or BLINK_ABSENT. It takes no memory. */
+void blink_index_exchange(blink_index *index, uint64_t key, uint64_t expected, uint64_t pointer, blink_answer *answer);
+
 /* Carries operations out in place, one after another, up to the first that is refused, and gives the answer of each at its place. It
  * stores how many were carried out. The other places stay as they were. Refused: BLINK_WRONG_LENGTH, if there aren't as many places
  * for answers as operations, and then none is carried out; or, of the operation next to those carried out,
@@ -187,14 +193,15 @@ void blink_index_free(blink_index index);
 /* ---- The table: the index's entries, which threads change together. ----
  *
  * A table deals passes. A pass has some keys, which no other pass has, and room for some changes. Its thread finds, inserts,
- * deletes and replaces its own keys, with the answers of its own plain map, and glances at all keys and scans ranges of them. A
+ * deletes, replaces and exchanges its own keys, with the answers of its own plain map, and glances at all keys and scans ranges of them. A
  * pass hands keys to another, or goes back, and then its keys can be dealt again. In the end every pass goes back, every handle of
  * a pass is freed, and the table is closed to an index.
  */
 
-/* Opens a table over the index, which stays as it is, with room for so many insertions and deletions; a replacement uses a
- * deletion. `number` is one that no other table of the process has while it or a pass of it lives: by it passes of two tables are
- * told apart. Refused: BLINK_TABLE_TOO_LARGE, exactly if 1 + pages + 22 for each insertion is above 1,048,576; BLINK_NO_MEMORY. */
+/* Opens a table over the index, which stays as it is, with room for so many insertions and deletions; a replacement or an
+ * exchange uses a deletion. `number` is one that no other table of the process has while it or a pass of it lives: by it passes
+ * of two tables are told apart. Refused: BLINK_TABLE_TOO_LARGE, exactly if 1 + pages + 22 for each insertion is above 1,048,576;
+ * BLINK_NO_MEMORY. */
 uint8_t blink_table_open(blink_index *index, uint32_t inserts, uint32_t deletes, uint64_t number, blink_table *out);
 
 /* Deals a pass with these keys, in any order, and room for so many changes. A key that was dealt before has the state that its last
@@ -244,12 +251,13 @@ uint8_t blink_pass_tell(blink_pass *from, blink_pass *to);
  * `bad_key` stays as it was. A refusal leaves both passes as they were. */
 uint8_t blink_pass_hand(blink_pass *from, blink_pass *to, const uint64_t *keys, size_t count, uint64_t *bad_key);
 
-/* Begin an insertion, a deletion or a replacement of a key of the pass. It goes on by blink_pass_advance, and until it has ended
- * the pass can do nothing else. Each uses one insertion, or one deletion, of the pass, whatever it answers. Refused:
+/* Begin an insertion, a deletion, a replacement or an exchange of a key of the pass; the last answers as blink_index_exchange does.
+ * It goes on by blink_pass_advance, and until it has ended the pass can do nothing else. Each uses one insertion, or one deletion, of the pass, whatever it answers. Refused:
  * BLINK_NOT_YOURS, for every key that isn't the pass's; then BLINK_SPENT; BLINK_PENDING; BLINK_RETURNED. */
 uint8_t blink_pass_begin_insert(blink_pass *pass, uint64_t key, uint64_t pointer);
 uint8_t blink_pass_begin_delete(blink_pass *pass, uint64_t key);
 uint8_t blink_pass_begin_replace(blink_pass *pass, uint64_t key, uint64_t pointer);
+uint8_t blink_pass_begin_exchange(blink_pass *pass, uint64_t key, uint64_t expected, uint64_t pointer);
 
 /* Takes the next steps of the operation under way. It returns BLINK_DONE and the answer once the operation has ended, and
  * BLINK_PENDING if it hasn't: then the operation holds no page, so that no other pass waits for it, and the thread may do something
@@ -262,7 +270,7 @@ void blink_pass_free(blink_pass pass);
 
 /* ---- The map: the index's entries, which threads change together at any key. ----
  *
- * A thread joins a map, and has a session then. By its session it finds, inserts, deletes, replaces and puts any key, and scans
+ * A thread joins a map, and has a session then. By its session it finds, inserts, deletes, replaces, exchanges and puts any key, and scans
  * ranges. There is one list of changes of all keys. Each call answers as on the entries after a part of the list, which goes on from
  * all that the session had seen; a change of its own follows there at once, and then the session has seen both. A session never un-
  * sees a change that it has seen. Tested: a call sees every change of a call that ended before it began. In the end every handle of
@@ -274,8 +282,8 @@ void blink_pass_free(blink_pass pass);
 
 /* Opens a map over the index, which stays as it is, with places for 1 to 256 sessions. A split of a page takes one of `pages` page
  * numbers, and every write of a page one of `rows` rows. An insertion writes one page mostly, and has to have 22 numbers and 44 rows
- * when it begins; a deletion or a replacement has to have one row. Sessions draw both from the map's pool, at most 512 numbers and
- * 1,024 rows at once; what one draws no other gets, before its place is taken again. Tested: a row that a write replaces comes back to
+ * when it begins; a deletion, a replacement or an exchange has to have one row. Sessions draw both from the map's pool, at most
+ * 512 numbers and 1,024 rows at once; what one draws no other gets, before its place is taken again. Tested: a row that a write replaces comes back to
  * its session, once each call that was in progress has ended. So a few hundred rows a session last. While a thread is held up inside a
  * call no row comes back, and BLINK_FULL may be the answer to a change that is let through later. `number` is one that no other map of the process has while it or a session of it lives:
  * by it sessions of two maps are told apart. Refused: BLINK_BAD_SESSIONS, exactly if there are to be none or more than 256; then
@@ -313,13 +321,16 @@ uint8_t blink_session_find(blink_session *session, uint64_t key, blink_answer *a
 uint8_t blink_session_scan(blink_session *session, uint64_t lo, uint64_t hi, blink_entry *entries, size_t places,
                            blink_scanned *scanned);
 
-/* Insert, delete or replace any key. It returns BLINK_DONE and the answer once the operation has ended, and BLINK_PENDING if it
+/* Insert, delete, replace or exchange any key; the last answers as blink_index_exchange does, and no other session changes the key
+ * between the test and the replacement. It returns BLINK_DONE and the answer once the operation has ended, and BLINK_PENDING if it
  * hasn't: then it goes on by blink_session_advance, and until it has ended the session can do nothing else. Tested: that is after
  * `tries` steps in vain, since another session has the page that it wants. Refused: BLINK_FULL, and then nothing changes but what
  * the session has drawn; BLINK_PENDING, if an operation was under way before, and then nothing changes. */
 uint8_t blink_session_insert(blink_session *session, uint64_t key, uint64_t pointer, uint32_t tries, blink_answer *answer);
 uint8_t blink_session_delete(blink_session *session, uint64_t key, uint32_t tries, blink_answer *answer);
 uint8_t blink_session_replace(blink_session *session, uint64_t key, uint64_t pointer, uint32_t tries, blink_answer *answer);
+uint8_t blink_session_exchange(blink_session *session, uint64_t key, uint64_t expected, uint64_t pointer, uint32_t tries,
+                               blink_answer *answer);
 
 /* Maps any key to the pointer: BLINK_INSERTED, if nothing was there, or BLINK_REPLACED and the pointer that was there. It inserts, and
  * where the key is there it replaces; it begins anew where another session has deleted the key between. It goes on as an insertion

@@ -91,6 +91,14 @@ static void changes_in_place(void) {
     CHECK(answer.kind == BLINK_REPLACED && answer.pointer == 60);
     blink_index_replace(&index, 9, 90, &answer);
     CHECK(answer.kind == BLINK_ABSENT && answer.pointer == 0);
+    blink_index_exchange(&index, 6, 62, 63, &answer);
+    CHECK(answer.kind == BLINK_REPLACED && answer.pointer == 62);
+    blink_index_exchange(&index, 6, 62, 64, &answer);
+    CHECK(answer.kind == BLINK_EXISTS && answer.pointer == 63);
+    blink_index_exchange(&index, 9, 90, 91, &answer);
+    CHECK(answer.kind == BLINK_ABSENT && answer.pointer == 0);
+    blink_index_exchange(&index, 6, 63, 62, &answer);
+    CHECK(answer.kind == BLINK_REPLACED && answer.pointer == 63);
     blink_index_delete(&index, 1, &answer);
     CHECK(answer.kind == BLINK_REMOVED && answer.pointer == 10);
     blink_index_delete(&index, 1, &answer);
@@ -198,6 +206,7 @@ static void refuses_at_a_table(void) {
     CHECK(blink_pass_tell(&pass, &foreign) == BLINK_FOREIGN && blink_table_return(&other, &pass) == BLINK_FOREIGN);
     CHECK(blink_pass_advance(&pass, 1, &answer) == BLINK_IDLE);
     CHECK(blink_pass_begin_insert(&pass, 2, 0) == BLINK_NOT_YOURS && blink_pass_begin_replace(&pass, 3, 0) == BLINK_NOT_YOURS);
+    CHECK(blink_pass_begin_exchange(&pass, 3, 30, 0) == BLINK_NOT_YOURS);
     CHECK(blink_pass_begin_insert(&pass, 6, 60) == BLINK_DONE);
     CHECK(blink_pass_find(&pass, 1, &answer) == BLINK_PENDING && blink_pass_glance(&pass, 1, &answer) == BLINK_PENDING);
     CHECK(blink_pass_tell(&pass, &more) == BLINK_PENDING && blink_pass_tell(&more, &pass) == BLINK_PENDING);
@@ -208,7 +217,7 @@ static void refuses_at_a_table(void) {
     CHECK(blink_pass_begin_delete(&pass, 1) == BLINK_DONE);
     answer = ended(&pass);
     CHECK(answer.kind == BLINK_REMOVED && answer.pointer == 10);
-    CHECK(blink_pass_begin_replace(&pass, 6, 61) == BLINK_SPENT);
+    CHECK(blink_pass_begin_replace(&pass, 6, 61) == BLINK_SPENT && blink_pass_begin_exchange(&pass, 6, 60, 61) == BLINK_SPENT);
     CHECK(blink_pass_tell(&pass, &more) == BLINK_DONE);
     CHECK(blink_pass_glance(&more, 6, &answer) == BLINK_DONE && answer.kind == BLINK_FOUND && answer.pointer == 60);
     CHECK(blink_table_return(&table, &pass) == BLINK_DONE && blink_table_return(&table, &pass) == BLINK_RETURNED);
@@ -306,7 +315,7 @@ static void hands_keys_over(void) {
 
 enum { THREADS = 2, KEYS = 2000 };
 
-// Inserts, replaces and deletes the thread's own keys by its own pass, and looks at them all.
+// Inserts, replaces, exchanges and deletes the thread's own keys by its own pass, and looks at them all.
 static void *changes_its_keys(void *at) {
     blink_pass *pass = at;
     blink_answer answer;
@@ -317,6 +326,10 @@ static void *changes_its_keys(void *at) {
         CHECK(blink_pass_begin_replace(pass, key, key + 1) == BLINK_DONE);
         answer = ended(pass);
         CHECK(answer.kind == BLINK_REPLACED && answer.pointer == key);
+        CHECK(blink_pass_begin_exchange(pass, key, key, key + 2) == BLINK_DONE);
+        answer = ended(pass);
+        CHECK(answer.kind == BLINK_EXISTS && answer.pointer == key + 1);
+        CHECK(blink_pass_begin_exchange(pass, key, key + 1, key + 1) == BLINK_DONE && ended(pass).kind == BLINK_REPLACED);
         if (key % 3 == 0) CHECK(blink_pass_begin_delete(pass, key) == BLINK_DONE && ended(pass).kind == BLINK_REMOVED);
         CHECK(blink_pass_find(pass, key, &answer) == BLINK_DONE && answer.kind == (key % 3 ? BLINK_FOUND : BLINK_ABSENT));
     }
@@ -330,10 +343,10 @@ static void shares_a_table(void) {
     pthread_t threads[THREADS];
     uint64_t taken, keys[KEYS];
     CHECK(blink_index_new(4, &index) == BLINK_DONE);
-    CHECK(blink_table_open(&index, THREADS * KEYS, THREADS * KEYS * 2, 1, &table) == BLINK_DONE);
+    CHECK(blink_table_open(&index, THREADS * KEYS, THREADS * KEYS * 4, 1, &table) == BLINK_DONE);
     for (uint64_t i = 0; i < THREADS; i++) {
         for (uint64_t k = 0; k < KEYS; k++) keys[k] = k * THREADS + i;
-        CHECK(blink_table_deal(&table, keys, KEYS, KEYS, KEYS * 2, &passes[i], &taken) == BLINK_DONE);
+        CHECK(blink_table_deal(&table, keys, KEYS, KEYS, KEYS * 4, &passes[i], &taken) == BLINK_DONE);
     }
     for (int i = 0; i < THREADS; i++) CHECK(pthread_create(&threads[i], NULL, changes_its_keys, &passes[i]) == 0);
     for (int i = 0; i < THREADS; i++) {
@@ -377,6 +390,11 @@ static blink_answer puts_so(blink_session *session, uint64_t key, uint64_t point
     return answered(session, blink_session_put(session, key, pointer, 100, &answer), answer);
 }
 
+static blink_answer exchanges(blink_session *session, uint64_t key, uint64_t expected, uint64_t pointer) {
+    blink_answer answer = {9, 9};
+    return answered(session, blink_session_exchange(session, key, expected, pointer, 100, &answer), answer);
+}
+
 static bool is(blink_answer answer, uint64_t kind, uint64_t pointer) { return answer.kind == kind && answer.pointer == pointer; }
 
 // Keys 1 to 5 map to 10 to 50. One session changes keys 2, 3, 6 and 7, and tells another; then both leave, and the map is closed.
@@ -395,6 +413,8 @@ static void changes_a_map(void) {
     CHECK(is(changes(&one, BLINK_DELETE, 2, NONE), BLINK_REMOVED, 20) && is(changes(&one, BLINK_DELETE, 2, NONE), BLINK_ABSENT, 0));
     CHECK(is(puts_so(&one, 7, 71), BLINK_INSERTED, 0) && is(puts_so(&one, 7, 72), BLINK_REPLACED, 71));
     CHECK(is(puts_so(&one, 3, 33), BLINK_REPLACED, 30) && is(changes(&one, BLINK_FIND, 3, NONE), BLINK_FOUND, 33));
+    CHECK(is(exchanges(&one, 7, 72, 73), BLINK_REPLACED, 72) && is(exchanges(&one, 7, 72, 74), BLINK_EXISTS, 73));
+    CHECK(is(exchanges(&one, 7, 73, 72), BLINK_REPLACED, 73) && is(exchanges(&one, 9, 0, 90), BLINK_ABSENT, 0));
     CHECK(blink_session_tell(&one, &other) == BLINK_DONE);
     CHECK(is(changes(&other, BLINK_FIND, 7, NONE), BLINK_FOUND, 72) && is(changes(&other, BLINK_FIND, 2, NONE), BLINK_ABSENT, 0));
     CHECK(is(changes(&other, BLINK_DELETE, 6, NONE), BLINK_REMOVED, 62));
@@ -433,6 +453,7 @@ static void refuses_at_a_map(void) {
     for (uint64_t pointer = 21; pointer < 1000; pointer++)
         CHECK(is(changes(&two, BLINK_REPLACE, 2, pointer), BLINK_REPLACED, pointer == 21 ? 20 : pointer - 1));
     CHECK(blink_session_delete(&foreign, 2, 100, &answer) == BLINK_FULL && blink_session_replace(&foreign, 2, 21, 100, &answer) == BLINK_FULL);
+    CHECK(blink_session_exchange(&foreign, 2, 20, 21, 100, &answer) == BLINK_FULL);
     // the place of a session that is freed can be taken again, with what it has drawn
     blink_session_free(two);
     two = (blink_session){NULL};
@@ -473,6 +494,7 @@ static void refuses_under_way(void) {
     CHECK(blink_session_find(&one, 3, &answer) == BLINK_PENDING && blink_session_insert(&one, 9, 90, 100, &answer) == BLINK_PENDING);
     CHECK(blink_session_delete(&one, 3, 100, &answer) == BLINK_PENDING && blink_session_put(&one, 9, 90, 100, &answer) == BLINK_PENDING);
     CHECK(blink_session_replace(&one, 3, 34, 100, &answer) == BLINK_PENDING);
+    CHECK(blink_session_exchange(&one, 3, 30, 34, 100, &answer) == BLINK_PENDING);
     CHECK(blink_session_tell(&one, &other) == BLINK_PENDING && blink_session_tell(&other, &one) == BLINK_PENDING);
     CHECK(answer.kind == 9 && is(changes(&other, BLINK_FIND, 3, NONE), BLINK_FOUND, 30));
     CHECK(blink_session_advance(&one, 1, &answer) == BLINK_DONE && is(answer, BLINK_REPLACED, 30));

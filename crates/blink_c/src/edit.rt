@@ -1,6 +1,6 @@
 //! The exports that change an index in place by one operation, and that give the entries at its ends.
 ghost use Rattle.std.specs.Prelude.{◌≡◌, ◌≢◌, ◌↔◌, IsSome, IsTrue, IfSome, filter, length};
-ghost use Rattle.blink_batch.specs.declared.Op.TheVariants.{Delete, Insert, Replace};
+ghost use Rattle.blink_batch.specs.declared.Op.TheVariants.{Delete, Exchange, Insert, Replace};
 ghost use Rattle.blink_index.specs.{first_of, is_above, last_of, map_of};
 ghost use Rattle.blink_page.specs.{ExceedsPageLimit};
 ghost use Rattle.blink_c.specs.Codes.{code_of};
@@ -60,6 +60,21 @@ pub extern "C" fn blink_index_replace(
     ensures replaced { HasEdited index.old.value (Replace key pointer) answer.new index.new.value }
 {
     *answer = RawAnswer::of(index.get().replace(key, pointer));
+}
+
+/// Replaces the pointer of a key in place, if it is the expected one, and gives the answer.
+#[unsafe(no_mangle)]
+pub extern "C" fn blink_index_exchange(
+    index: &mut IndexHandle,
+    key: u64,
+    expected: u64,
+    pointer: u64,
+    answer: &mut RawAnswer,
+)
+    ensures exchanged { HasEdited index.old.value (Exchange key expected pointer) answer.new
+        index.new.value }
+{
+    *answer = RawAnswer::of(index.get().exchange(key, expected, pointer));
 }
 
 /// Gives the entry with the least key, if there is one, or leaves `entry` as it was.

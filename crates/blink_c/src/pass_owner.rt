@@ -1,6 +1,6 @@
 //! What the box of a pass's handle holds: an owner of the table, and the pass or its operation.
 ghost use Rattle.std.specs.Prelude.{◌≡◌, ◌≢◌, IfErr, IfOk, OnErr, OnOk};
-ghost use Rattle.blink_batch.specs.declared.Op.TheVariants.{Delete, Insert, Replace};
+ghost use Rattle.blink_batch.specs.declared.Op.TheVariants.{Delete, Exchange, Insert, Replace};
 ghost use Rattle.blink_live.specs.{IsPassOf, IsPendingOf};
 ghost use Rattle.blink_c.specs.Passes.{Begins, Ends, Finds, Glances, Hands, IsAdvanceRefusal, IsBeginRefusal, IsFindRefusal, IsHandRefusal, IsNotBusy, IsNotFree, IsOwn, IsTellRefusal, Scans, TellsOn, table_of};
 
@@ -205,6 +205,32 @@ impl PassOwner {
     {
         let pass = self.take_free()?;
         match self.live.begin_replace(pass, key, pointer) {
+            Ok(pending) => {
+                self.held = Held::Busy(pending);
+                Ok(())
+            }
+            Err((pass, refusal)) => {
+                self.held = Held::Free(pass);
+                Err(TableRefusal::Pass(refusal))
+            }
+        }
+    }
+
+    /// Begins an exchange of a key of the pass.
+    pub(crate) fn begin_exchange(
+        &mut self,
+        key: u64,
+        expected: u64,
+        pointer: u64,
+    ) -> Result<(), TableRefusal>
+        requires its_own { IsOwn self.old }
+        ensures its_own { IsOwn self.new }
+        ensures begun { OnOk result (Begins (Exchange key expected pointer) self.old self.new) }
+        ensures refused { IfErr result (IsBeginRefusal (Exchange key expected pointer) self.old.held) }
+        ensures unchanged { OnErr result (self.new ≡ self.old) }
+    {
+        let pass = self.take_free()?;
+        match self.live.begin_exchange(pass, key, expected, pointer) {
             Ok(pending) => {
                 self.held = Held::Busy(pending);
                 Ok(())

@@ -1,6 +1,6 @@
 //! The exports of a session.
 ghost use Rattle.std.specs.Prelude.{◌≡◌, ◌≢◌};
-ghost use Rattle.blink_batch.specs.declared.Op.TheVariants.{Delete, Insert, Replace};
+ghost use Rattle.blink_batch.specs.declared.Op.TheVariants.{Delete, Exchange, Insert, Replace};
 ghost use Rattle.blink_c.specs.Codes.{TellsWhy};
 ghost use Rattle.blink_c.specs.MapCodes.{code_of};
 ghost use Rattle.blink_c.specs.Sessions.{Answers, EndsFrom, Finds, IsAdvanceRefusal, IsChangeRefusal, IsNotFree, IsOwnSession, IsPutRefusal, IsTellRefusal, Puts, Scans, TellsOn, in_map};
@@ -113,6 +113,31 @@ pub extern "C" fn blink_session_replace(
         &session
             .get()
             .change(Op::Replace(key, pointer), tries, answer),
+    )
+}
+
+/// Replaces a key's pointer, if it is the expected one. It may be under way then as an insertion.
+#[unsafe(no_mangle)]
+pub extern "C" fn blink_session_exchange(
+    session: &mut SessionHandle,
+    key: u64,
+    expected: u64,
+    pointer: u64,
+    tries: u32,
+    answer: &mut RawAnswer,
+) -> u8
+    requires its_own { IsOwnSession session.old.value }
+    ensures its_own { IsOwnSession session.new.value }
+    ensures answered { result ≡ 0
+        → Answers (Exchange key expected pointer) session.old.value session.new.value answer.new }
+    ensures refused { TellsWhy code_of
+        (IsChangeRefusal (Exchange key expected pointer) session.old.value session.new.value) result }
+    ensures unchanged { result ≢ 0 → answer.new ≡ answer.old }
+{
+    code_of(
+        &session
+            .get()
+            .change(Op::Exchange(key, expected, pointer), tries, answer),
     )
 }
 

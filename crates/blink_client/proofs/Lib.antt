@@ -1,1 +1,2 @@
 pub mod ReportsAreCounted
+pub mod CountersRise

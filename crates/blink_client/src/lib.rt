@@ -2,6 +2,7 @@
 #![tactic(auto)]
 
 mod count;
+mod counter;
 
 ghost use Rattle.std.specs.Prelude.{◌≡◌, ◌≢◌, ℕ, Some, None, [], Contains, IfOk, OnErr, OnOk};
 ghost use Rattle.blink_batch.specs.{pointer_of};
@@ -14,6 +15,7 @@ use blink_index::Index;
 use blink_live::{Keeper, Live, LiveError, Pass, PassError};
 use blink_rows::Allowance;
 pub use count::count_own;
+pub use counter::raise_own;
 use std::alloc::Global;
 use std::sync::Wait;
 use std::thread::{Threads, join_mut};

@@ -1,4 +1,4 @@
-//! Replacements with passes.
+//! Replacements and exchanges with passes.
 use crate::indexes::Look::Dump;
 use crate::shared::Meeting::Tells;
 use crate::steps::Step::{Call, Glance};
@@ -57,6 +57,34 @@ const THREE_REPLACEMENTS: Story = Story {
 #[test]
 fn each_accepted_call_uses_a_deletion(rt: HostRuntime) {
     play(&rt, rt.alloc(), &THREE_REPLACEMENTS);
+}
+
+// Each exchange that is accepted uses a deletion of the pass, whatever it answers.
+const FOUR_EXCHANGES: Story = Story {
+    over: (4, 5),
+    room: (0, 4),
+    acts: &[
+        Deal(&[5, 6], 0, 4),
+        Take(
+            0,
+            &[
+                Call(Op::Exchange(7, 70, 71), Err(PassError::NotYours)),
+                Call(Op::Exchange(5, 50, 51), Ok(Answer::Replaced(50))),
+                Call(Op::Exchange(5, 50, 52), Ok(Answer::Exists(51))),
+                Call(Op::Exchange(6, 60, 61), Ok(Answer::Absent)),
+                Call(Op::Exchange(5, 51, 51), Ok(Answer::Replaced(51))),
+                Call(Op::Exchange(5, 51, 52), Err(PassError::Spent)),
+                Call(Op::Exchange(7, 70, 71), Err(PassError::NotYours)),
+                Glance(5, Some(51)),
+            ],
+        ),
+    ],
+    end: End::Closes(&[Dump("0 1 - 18446744073709551615 - 5:51\n")]),
+};
+
+#[test]
+fn an_exchange_answers_by_what_it_finds(rt: HostRuntime) {
+    play(&rt, rt.alloc(), &FOUR_EXCHANGES);
 }
 
 // The tree of four keys, each with eleven times the key.

@@ -28,6 +28,7 @@ fn begin(live: &Live, pass: Pass, op: Op) -> Result<Pending, (Pass, Option<PassE
         Op::Insert(key, pointer) => live.begin_insert(pass, key, pointer),
         Op::Delete(key) => live.begin_delete(pass, key),
         Op::Replace(key, pointer) => live.begin_replace(pass, key, pointer),
+        Op::Exchange(key, expected, pointer) => live.begin_exchange(pass, key, expected, pointer),
     };
     match begun {
         Ok(pending) => Ok(pending),

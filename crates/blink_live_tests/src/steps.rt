@@ -24,6 +24,7 @@ fn call<R: Wait>(rt: &R, live: &Live, pass: &mut Pass, op: Op) -> Result<Answer,
         Op::Insert(key, pointer) => live.insert(rt, pass, key, pointer),
         Op::Delete(key) => live.delete(rt, pass, key),
         Op::Replace(key, pointer) => live.replace(rt, pass, key, pointer),
+        Op::Exchange(key, expected, pointer) => live.exchange(rt, pass, key, expected, pointer),
     }
 }
 

@@ -9,6 +9,9 @@ const OPERATIONS: u64 = 800;
 
 const KEYS: u64 = 60;
 
+// Few pointers, so that an exchange often finds the one that it expects.
+const POINTERS: u64 = 3;
+
 // The number after this one in a fixed sequence that looks like chance.
 fn next(drawn: u64) -> u64 {
     drawn
@@ -19,11 +22,12 @@ fn next(drawn: u64) -> u64 {
 // The operation that a number stands for: of its high bits, which look most like chance.
 fn operation(drawn: u64) -> Op {
     let key = (drawn >> 40) % KEYS;
-    let pointer = drawn >> 8;
-    match drawn >> 62 {
+    let pointer = (drawn >> 32) % POINTERS;
+    match drawn >> 61 {
         0 => Op::Find(key),
-        1 => Op::Delete(key),
-        2 => Op::Replace(key, pointer),
+        1 | 2 => Op::Delete(key),
+        3 => Op::Replace(key, pointer),
+        4 | 5 => Op::Exchange(key, pointer, (drawn >> 36) % POINTERS),
         _ => Op::Insert(key, pointer),
     }
 }

@@ -29,6 +29,27 @@ fn sessions_change_one_key(rt: HostRuntime) {
     assert_eq!(&rt; two.find(7), None);
 }
 
+// One session exchanges a pointer that it has seen. The other expects the same one, and finds the new one.
+#[test]
+fn one_of_two_exchanges_finds_what_it_expects(rt: HostRuntime) {
+    let mut two = with_replaced_key(&rt, rt.alloc());
+    assert_eq!(&rt;
+        two.apply(&rt, Op::Exchange(7, 72, 73)),
+        Ok(Answer::Replaced(72))
+    );
+    let mut two = two.turn();
+    assert_eq!(&rt;
+        two.apply(&rt, Op::Exchange(7, 72, 74)),
+        Ok(Answer::Exists(73))
+    );
+    assert_eq!(&rt;
+        two.apply(&rt, Op::Exchange(7, 73, 74)),
+        Ok(Answer::Replaced(73))
+    );
+    assert_eq!(&rt; two.apply(&rt, Op::Exchange(8, 73, 74)), Ok(Answer::Absent));
+    assert_eq!(&rt; two.find(7), Some(74));
+}
+
 #[test]
 fn what_sessions_inserted_is_in_the_index(rt: HostRuntime) {
     let alloc = rt.alloc();

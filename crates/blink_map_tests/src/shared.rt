@@ -138,5 +138,6 @@ pub(crate) fn apply<R: Wait>(
         Op::Insert(key, pointer) => map.insert(rt, session, key, pointer),
         Op::Delete(key) => map.delete(rt, session, key),
         Op::Replace(key, pointer) => map.replace(rt, session, key, pointer),
+        Op::Exchange(key, expected, pointer) => map.exchange(rt, session, key, expected, pointer),
     }
 }

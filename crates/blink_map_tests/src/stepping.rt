@@ -29,6 +29,9 @@ fn begin(
         Op::Insert(key, pointer) => map.begin_insert(session, key, pointer),
         Op::Delete(key) => map.begin_delete(session, key),
         Op::Replace(key, pointer) => map.begin_replace(session, key, pointer),
+        Op::Exchange(key, expected, pointer) => {
+            map.begin_exchange(session, key, expected, pointer)
+        }
     };
     match begun {
         Ok(pending) => Ok(pending),

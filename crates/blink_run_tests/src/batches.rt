@@ -148,6 +148,21 @@ const AFTER_REPLACEMENTS: [Answer; 4] = [
     Answer::Found(41),
 ];
 
+// Exchanges use the allowance of deletions too, also those that change nothing.
+const EXCHANGES: [Op; 4] = [
+    Op::Exchange(4, 40, 41),
+    Op::Exchange(6, 60, 61),
+    Op::Exchange(4, 40, 42),
+    Op::Find(4),
+];
+
+const AFTER_EXCHANGES: [Answer; 4] = [
+    Answer::Replaced(40),
+    Answer::Absent,
+    Answer::Exists(41),
+    Answer::Found(41),
+];
+
 const REPLACED_PAGES: &str = "1 3 - 18446744073709551615 - 3:1 18446744073709551615:2
 0 1 - 3 2 1:10 2:20 3:30
 0 2 3 18446744073709551615 - 4:41 5:50
@@ -158,7 +173,7 @@ const FIVE_PAGES: &str = "1 3 - 18446744073709551615 - 3:1 18446744073709551615:
 0 2 3 18446744073709551615 - 4:40 5:50
 ";
 
-const EXAMPLES: [Example<'static>; 5] = [
+const EXAMPLES: [Example<'static>; 6] = [
     // A batch runs by two workers.
     Example {
         last: 4,
@@ -201,6 +216,13 @@ const EXAMPLES: [Example<'static>; 5] = [
         ops: &REPLACEMENTS,
         lanes: Lanes::ByRemainder(4),
         answers: &AFTER_REPLACEMENTS,
+        pages: REPLACED_PAGES,
+    },
+    Example {
+        last: 5,
+        ops: &EXCHANGES,
+        lanes: Lanes::ByRemainder(4),
+        answers: &AFTER_EXCHANGES,
         pages: REPLACED_PAGES,
     },
     // An empty batch changes nothing.

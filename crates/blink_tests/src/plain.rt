@@ -202,6 +202,43 @@ fn replacements_change_what_is_there(rt: HostRuntime) {
     goes(&rt, rt.alloc(), &REPLACEMENTS);
 }
 
+// An exchange that finds the pointer that it expects, one that finds another, and one that finds none.
+const EXCHANGES: [Stage; 2] = [
+    Stage {
+        at_once: true,
+        work: Work {
+            ops: &[
+                Op::Insert(7, 1),
+                Op::Exchange(7, 1, 2),
+                Op::Exchange(7, 1, 3),
+                Op::Exchange(7, 2, 2),
+                Op::Exchange(8, 0, 1),
+            ],
+            answers: &[
+                Answer::Inserted,
+                Answer::Replaced(1),
+                Answer::Exists(2),
+                Answer::Replaced(2),
+                Answer::Absent,
+            ],
+        },
+        entries: Some(&[(7, 2)]),
+    },
+    Stage {
+        at_once: false,
+        work: Work {
+            ops: &[Op::Exchange(7, 3, 4)],
+            answers: &[Answer::Exists(2)],
+        },
+        entries: Some(&[(7, 2)]),
+    },
+];
+
+#[test]
+fn exchanges_change_what_is_expected(rt: HostRuntime) {
+    goes(&rt, rt.alloc(), &EXCHANGES);
+}
+
 const WORDS: [(Answer, &str); 6] = [
     (Answer::Found(7), "found 7"),
     (Answer::Absent, "absent"),
@@ -219,11 +256,18 @@ fn answers_have_their_words(rt: HostRuntime) {
 }
 
 // What an operation brings, and what it answers where its key is there with the pointer 1, and where it isn't there.
-const ROWS: [(Op, u64, Answer, Answer); 4] = [
+const ROWS: [(Op, u64, Answer, Answer); 6] = [
     (Op::Find(7), 0, Answer::Found(1), Answer::Absent),
     (Op::Insert(7, 2), 2, Answer::Exists(1), Answer::Inserted),
     (Op::Delete(7), 0, Answer::Removed(1), Answer::Absent),
     (Op::Replace(7, 2), 2, Answer::Replaced(1), Answer::Absent),
+    (
+        Op::Exchange(7, 1, 2),
+        2,
+        Answer::Replaced(1),
+        Answer::Absent,
+    ),
+    (Op::Exchange(7, 3, 2), 2, Answer::Exists(1), Answer::Absent),
 ];
 
 #[test]

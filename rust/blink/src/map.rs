@@ -17,8 +17,8 @@ pub struct Room {
     /// Page numbers. A split of a page takes one. An insertion has to have 22 when it begins, and uses none mostly.
     pub pages: u32,
     /// Rows, of 560 bytes. Each write of a page takes one. An insertion has to have 44 when it begins, and writes one page mostly;
-    /// a deletion or a replacement has to have one. The row that a write replaces comes back to its session, once each
-    /// call that was in progress has ended. So a few hundred rows a session last. While a thread is held up inside a call no row
+    /// a deletion, a replacement or an exchange has to have one. The row that a write replaces comes back to its session, once
+    /// each call that was in progress has ended. So a few hundred rows a session last. While a thread is held up inside a call no row
     /// comes back, and a change that is refused with [`Error::Full`] may be let through later.
     pub rows: u32,
     /// Places for sessions, 1 to 256.
@@ -236,6 +236,72 @@ impl<'map> Session<'map> {
         self.ended(|handle, answer| unsafe { sys::blink_session_replace(handle, key, pointer, TRIES, answer) })
     }
 
+    /// Maps a key to `new`, if it maps to `expected`, and returns `expected`. Otherwise it returns what the key maps to, or none if it
+    /// isn't there, and the key stays as it was. No other session changes the key between the test and the change. The outer error is
+    /// a refusal, as of [`Session::replace`].
+    ///
+    /// ```
+    /// use blink::{Entry, Index, Map, Room};
+    ///
+    /// let index = Index::from_entries(8, &[(1, 10)].map(Entry::from))?;
+    /// let map = Map::open(&index, Room { pages: 22, rows: 44, sessions: 1 })?;
+    /// let mut session = map.session()?;
+    /// assert_eq!(session.compare_exchange(1, 10, 11)?, Ok(10));
+    /// assert_eq!(session.compare_exchange(1, 10, 12)?, Err(Some(11)));
+    /// assert_eq!(session.compare_exchange(2, 10, 12)?, Err(None));
+    /// # Ok::<(), blink::Error>(())
+    /// ```
+    pub fn compare_exchange(&mut self, key: u64, expected: u64, new: u64) -> Result<Result<u64, Option<u64>>, Error> {
+        // SAFETY: as in `get`.
+        let answer = self.ended(|handle, answer| unsafe {
+            sys::blink_session_exchange(handle, key, expected, new, TRIES, answer)
+        })?;
+        Ok(answer.exchanged())
+    }
+
+    /// Maps a key to what `next` makes of the pointer that it maps to, or of none, in one step: no other session changes the key
+    /// between what `next` is given and the change. It returns what `next` was given last. Where another session is faster, `next` is
+    /// called again, with what that has left. Where `next` returns none, nothing changes, and what it was given is the inner error; so
+    /// `next` also ends the call if it has been called often enough. This is `AtomicU64::fetch_update` for a key.
+    ///
+    /// The outer error is a refusal, as of [`Session::insert`]. The key isn't taken away: a removal can't test what it removes.
+    ///
+    /// ```
+    /// use blink::{Index, Map, Room};
+    ///
+    /// let map = Map::open(&Index::new(16)?, Room { pages: 22, rows: 100, sessions: 1 })?;
+    /// let mut session = map.session()?;
+    /// let one_more = |count: Option<u64>| Some(count.unwrap_or(0) + 1);
+    /// assert_eq!(session.update(5, one_more)?, Ok(None));
+    /// assert_eq!(session.update(5, one_more)?, Ok(Some(1)));
+    /// assert_eq!(session.update(5, |count| count.filter(|count| *count > 2))?, Err(Some(2)));
+    /// assert_eq!(session.get(5), Some(2));
+    /// # Ok::<(), blink::Error>(())
+    /// ```
+    pub fn update(
+        &mut self,
+        key: u64,
+        mut next: impl FnMut(Option<u64>) -> Option<u64>,
+    ) -> Result<Result<Option<u64>, Option<u64>>, Error> {
+        let mut present = self.get(key);
+        loop {
+            let Some(new) = next(present) else {
+                return Ok(Err(present));
+            };
+            let tried = match present {
+                Some(expected) => self.compare_exchange(key, expected, new)?.map(Some),
+                None => match self.insert(key, new)? {
+                    Answer::Inserted => Ok(None),
+                    other => Err(other.pointer()),
+                },
+            };
+            match tried {
+                Ok(before) => return Ok(Ok(before)),
+                Err(other) => present = other,
+            }
+        }
+    }
+
     /// Maps a key to a pointer, whether the key is there or not, and returns the pointer that was there.
     ///
     /// ```
@@ -303,6 +369,26 @@ impl<'map> Session<'map> {
                 Op::Replace(key, pointer) => sys::blink_session_replace(handle, key, pointer, tries, &mut answer),
             }
         };
+        self.begins(code, answer)
+    }
+
+    /// Begins an exchange of an expected pointer, as [`Session::begin`] begins an operation. Its answer is [`Answer::Replaced`] with the
+    /// expected pointer, [`Answer::Exists`] with another one, which stays, or [`Answer::Absent`].
+    pub fn begin_exchange(
+        mut self,
+        key: u64,
+        expected: u64,
+        pointer: u64,
+        tries: u32,
+    ) -> Result<Begun<'map>, (Session<'map>, Error)> {
+        let mut answer = RawAnswer::NONE;
+        // SAFETY: the handle is full and this call's own.
+        let code = unsafe { sys::blink_session_exchange(&mut self.handle, key, expected, pointer, tries, &mut answer) };
+        self.begins(code, answer)
+    }
+
+    // What has become of an operation that was to begin.
+    fn begins(self, code: u8, answer: RawAnswer) -> Result<Begun<'map>, (Session<'map>, Error)> {
         match code {
             0 | sys::PENDING => Ok(self.begun(code, answer)),
             code => Err((self, Error::of(code))),

@@ -18,7 +18,8 @@ impl From<(u64, u64)> for Entry {
     }
 }
 
-/// One operation of a batch.
+/// One operation of a batch. An exchange of an expected pointer isn't among them: it is a call of its own, as
+/// [`Session::compare_exchange`](crate::Session::compare_exchange).
 #[derive(Clone, Copy, Debug, PartialEq, Eq, Hash)]
 pub enum Op {
     /// Looks a key up.
@@ -46,17 +47,17 @@ impl Op {
 /// What an operation found and did.
 #[derive(Clone, Copy, Debug, PartialEq, Eq, Hash)]
 pub enum Answer {
-    /// A find, a deletion or a replacement: the key isn't there, and nothing changed.
+    /// A find, a deletion, a replacement or an exchange: the key isn't there, and nothing changed.
     Absent,
     /// A find: the key maps to this pointer.
     Found(u64),
     /// An insertion: the key wasn't there, and maps to the pointer now.
     Inserted,
-    /// An insertion: the key maps to this pointer, and nothing changed.
+    /// An insertion or an exchange: the key maps to this pointer, and nothing changed.
     Exists(u64),
     /// A deletion: the key mapped to this pointer, and is no longer there.
     Removed(u64),
-    /// A replacement: the key mapped to this pointer, and maps to the new one now.
+    /// A replacement or an exchange: the key mapped to this pointer, and maps to the new one now.
     Replaced(u64),
 }
 
@@ -70,6 +71,14 @@ impl Answer {
             4 => Answer::Removed(raw.pointer),
             5 => Answer::Replaced(raw.pointer),
             kind => unreachable!("libblink gave an answer of kind {kind}"),
+        }
+    }
+
+    /// What became of an exchange: the expected pointer, which was replaced; or what the key has instead.
+    pub(crate) fn exchanged(self) -> Result<u64, Option<u64>> {
+        match self {
+            Answer::Replaced(before) => Ok(before),
+            other => Err(other.pointer()),
         }
     }
 

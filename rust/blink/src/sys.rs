@@ -67,6 +67,13 @@ extern "C" {
     pub(crate) fn blink_index_insert(index: *mut Handle, key: u64, pointer: u64, answer: *mut RawAnswer) -> u8;
     pub(crate) fn blink_index_delete(index: *mut Handle, key: u64, answer: *mut RawAnswer);
     pub(crate) fn blink_index_replace(index: *mut Handle, key: u64, pointer: u64, answer: *mut RawAnswer);
+    pub(crate) fn blink_index_exchange(
+        index: *mut Handle,
+        key: u64,
+        expected: u64,
+        pointer: u64,
+        answer: *mut RawAnswer,
+    );
     pub(crate) fn blink_index_first(index: *mut Handle, entry: *mut crate::Entry) -> bool;
     pub(crate) fn blink_index_last(index: *mut Handle, entry: *mut crate::Entry) -> bool;
     pub(crate) fn blink_index_next(index: *mut Handle, key: u64, entry: *mut crate::Entry) -> bool;
@@ -150,6 +157,7 @@ extern "C" {
     pub(crate) fn blink_pass_begin_insert(pass: *mut Handle, key: u64, pointer: u64) -> u8;
     pub(crate) fn blink_pass_begin_delete(pass: *mut Handle, key: u64) -> u8;
     pub(crate) fn blink_pass_begin_replace(pass: *mut Handle, key: u64, pointer: u64) -> u8;
+    pub(crate) fn blink_pass_begin_exchange(pass: *mut Handle, key: u64, expected: u64, pointer: u64) -> u8;
     pub(crate) fn blink_pass_advance(pass: *mut Handle, tries: u32, answer: *mut RawAnswer) -> u8;
     pub(crate) fn blink_pass_free(pass: Handle);
 
@@ -186,6 +194,14 @@ extern "C" {
     pub(crate) fn blink_session_replace(
         session: *mut Handle,
         key: u64,
+        pointer: u64,
+        tries: u32,
+        answer: *mut RawAnswer,
+    ) -> u8;
+    pub(crate) fn blink_session_exchange(
+        session: *mut Handle,
+        key: u64,
+        expected: u64,
         pointer: u64,
         tries: u32,
         answer: *mut RawAnswer,

@@ -45,7 +45,7 @@ static NEXT: AtomicU64 = AtomicU64::new(0);
 
 impl Table {
     /// Opens a table over the entries of an index, which stays as it is. The table has room for so many insertions and deletions;
-    /// a replacement uses a deletion. It takes about 25 KB for each insertion.
+    /// a replacement or an exchange uses a deletion. It takes about 25 KB for each insertion.
     pub fn open(index: &Index, inserts: u32, deletes: u32) -> Result<Table, Error> {
         let number = NEXT.fetch_add(1, Ordering::Relaxed);
         let mut handle = Handle::EMPTY;
@@ -280,6 +280,27 @@ impl Pass {
         self.ended(|handle| unsafe { sys::blink_pass_begin_replace(handle, key, pointer) })
     }
 
+    /// Maps a key of the pass to `new`, if it maps to `expected`, and returns `expected`. Otherwise it returns what the key maps to,
+    /// or none if it isn't there, and the key stays as it was. The outer error is a refusal, as of [`Pass::replace`].
+    ///
+    /// ```
+    /// use blink::{Entry, Error, Index, Table};
+    ///
+    /// let index = Index::from_entries(8, &[(1, 10)].map(Entry::from))?;
+    /// let mut table = Table::open(&index, 0, 3)?;
+    /// let mut pass = table.deal(&[1, 2], 0, 3)?;
+    /// assert_eq!(pass.compare_exchange(1, 10, 11)?, Ok(10));
+    /// assert_eq!(pass.compare_exchange(1, 10, 12)?, Err(Some(11)));
+    /// assert_eq!(pass.compare_exchange(2, 10, 12)?, Err(None));
+    /// assert_eq!(pass.compare_exchange(1, 11, 12), Err(Error::Spent));
+    /// # Ok::<(), Error>(())
+    /// ```
+    pub fn compare_exchange(&mut self, key: u64, expected: u64, new: u64) -> Result<Result<u64, Option<u64>>, Error> {
+        // SAFETY: as in `find`.
+        let answer = self.ended(|handle| unsafe { sys::blink_pass_begin_exchange(handle, key, expected, new) })?;
+        Ok(answer.exchanged())
+    }
+
     // Begins an operation, and takes its steps to the end.
     fn ended(&mut self, begin: impl FnOnce(*mut Handle) -> u8) -> Result<Answer, Error> {
         let handle = self.handle.get_mut();
@@ -325,6 +346,13 @@ impl Pass {
     pub fn begin_replace(self, key: u64, pointer: u64) -> Result<Pending, (Pass, Error)> {
         // SAFETY: as in `find`.
         self.begun(|handle| unsafe { sys::blink_pass_begin_replace(handle, key, pointer) })
+    }
+
+    /// Begins an exchange of an expected pointer, likewise: its answer is [`Answer::Replaced`] with the expected pointer,
+    /// [`Answer::Exists`] with another one, which stays, or [`Answer::Absent`].
+    pub fn begin_exchange(self, key: u64, expected: u64, pointer: u64) -> Result<Pending, (Pass, Error)> {
+        // SAFETY: as in `find`.
+        self.begun(|handle| unsafe { sys::blink_pass_begin_exchange(handle, key, expected, pointer) })
     }
 
     fn begun(mut self, begin: impl FnOnce(*mut Handle) -> u8) -> Result<Pending, (Pass, Error)> {

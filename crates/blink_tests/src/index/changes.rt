@@ -9,12 +9,16 @@ use std::process::Abort;
 
 // Operations on the index of five entries, one after another, and their answers. The insertion of 6 splits nothing, since the
 // right leaf has two of four entries.
-const EDITS: [(Op, Answer); 10] = [
+const EDITS: [(Op, Answer); 14] = [
     (Op::Find(3), Answer::Found(30)),
     (Op::Insert(3, 31), Answer::Exists(30)),
     (Op::Insert(6, 60), Answer::Inserted),
     (Op::Replace(6, 61), Answer::Replaced(60)),
     (Op::Replace(7, 70), Answer::Absent),
+    (Op::Exchange(6, 61, 62), Answer::Replaced(61)),
+    (Op::Exchange(6, 61, 63), Answer::Exists(62)),
+    (Op::Exchange(7, 70, 71), Answer::Absent),
+    (Op::Exchange(6, 62, 61), Answer::Replaced(62)),
     (Op::Delete(1), Answer::Removed(10)),
     (Op::Delete(1), Answer::Absent),
     (Op::Find(1), Answer::Absent),
@@ -62,18 +66,22 @@ fn insertions_leave_the_pages_of_a_batch(rt: HostRuntime) {
     is_as_batch(&rt, rt.alloc(), 32, 100);
 }
 
-const OPS: [Op; 4] = [
+const OPS: [Op; 6] = [
     Op::Insert(6, 60),
     Op::Delete(2),
     Op::Find(2),
     Op::Replace(4, 41),
+    Op::Exchange(4, 40, 42),
+    Op::Exchange(4, 41, 43),
 ];
 
-const ANSWERS: [Answer; 4] = [
+const ANSWERS: [Answer; 6] = [
     Answer::Inserted,
     Answer::Removed(20),
     Answer::Absent,
     Answer::Replaced(40),
+    Answer::Exists(41),
+    Answer::Replaced(41),
 ];
 
 fn applies(rt: &impl Abort, alloc: Global, mut index: Index) {
@@ -81,7 +89,7 @@ fn applies(rt: &impl Abort, alloc: Global, mut index: Index) {
     same(rt, &refusal, &None);
     same(rt, &answers.as_slice(), &ANSWERS.as_slice());
     same(rt, &index.find(6), &Some(60));
-    same(rt, &index.find(4), &Some(41));
+    same(rt, &index.find(4), &Some(43));
 }
 
 #[test]

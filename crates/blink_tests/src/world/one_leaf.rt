@@ -180,6 +180,40 @@ fn a_replacement_writes_its_leaf_once(rt: HostRuntime) {
     leaves(&rt, rt.alloc(), &REPLACEMENTS, &FOUR_REPLACED);
 }
 
+// One worker exchanges the pointer of 4, then finds that it is no longer the expected one, and then that 6 isn't there. Only the first
+// writes.
+const EXCHANGES: Example = Example {
+    tree: Tree::TwoLeaves,
+    work: Work {
+        ops: &[
+            Op::Exchange(4, 40, 41),
+            Op::Exchange(4, 40, 42),
+            Op::Exchange(6, 60, 61),
+        ],
+        workers: 1,
+        lanes: &[0; 3],
+    },
+    schedule: &[],
+    acts: &[
+        Act::Take(0, &TO_SECOND_LEAF),
+        Act::Take(0, &[WritePage(2), Unlatch(2)]),
+        Act::Take(0, &TO_SECOND_LEAF),
+        Act::Take(0, &[Unlatch(2)]),
+        Act::Take(0, &TO_SECOND_LEAF),
+        Act::Take(0, &[Unlatch(2)]),
+        Act::See(Sight::Answers(&[
+            Some(Answer::Replaced(40)),
+            Some(Answer::Exists(41)),
+            Some(Answer::Absent),
+        ])),
+    ],
+};
+
+#[test]
+fn an_exchange_writes_only_over_the_expected_pointer(rt: HostRuntime) {
+    leaves(&rt, rt.alloc(), &EXCHANGES, &FOUR_REPLACED);
+}
+
 const NO_WORKERS_NUMBER: Example = Example {
     tree: Tree::Empty,
     work: Work {
