@@ -54,6 +54,9 @@ typedef struct { uint64_t kind, pointer; } blink_answer;
  * full before the end of the range: then another scan goes on from the key `next`. At the end of the range both are 0. */
 typedef struct { uint64_t filled, more, next; } blink_scanned;
 
+/* What became of a snapshot. `taken` is 1 if it was taken, and then `there` is the number of its entries; else both are 0. */
+typedef struct { uint64_t taken, there; } blink_taken;
+
 /* The kinds of operations. */
 enum {
     BLINK_FIND = 0,    /* looks the key up */
@@ -239,6 +242,15 @@ uint8_t blink_pass_glance(blink_pass *pass, uint64_t key, blink_answer *answer);
  * takes no memory. Refused: BLINK_PENDING; BLINK_RETURNED; then nothing changes. */
 uint8_t blink_pass_scan(blink_pass *pass, uint64_t lo, uint64_t hi, blink_entry *entries, size_t places, blink_scanned *scanned);
 
+/* Takes a snapshot: the entries whose keys are from `lo` to `hi`, both included, in ascending order, as all of them were at one time in
+ * the call. They are what the changes that the pass has seen then leave of each of these keys. The array gets as many as there are
+ * places, and `taken` says how many there are; other places stay as they were. If some leaf of the range was changed at each of `tries`
+ * tries, there is no snapshot, and the places stay as they were: try again, or scan. It waits for nobody. It takes memory for the
+ * entries and 16 bytes for each leaf, and frees it again. Refused: BLINK_PENDING; BLINK_RETURNED; BLINK_NO_MEMORY, and then the pass may
+ * have seen more. */
+uint8_t blink_pass_snapshot(blink_pass *pass, uint64_t lo, uint64_t hi, uint32_t tries, blink_entry *entries, size_t places,
+                            blink_taken *taken);
+
 /* Tells pass `to` what pass `from` has seen: then `to` has seen all that `from` has seen. The two handles are different. Refused,
  * looked for in this order: BLINK_FOREIGN, if the passes are of two tables; BLINK_PENDING or BLINK_RETURNED, if `from` isn't free;
  * the same, if `to` isn't. */
@@ -320,6 +332,15 @@ uint8_t blink_session_find(blink_session *session, uint64_t key, blink_answer *a
  * memory. Refused: BLINK_PENDING; then nothing changes. */
 uint8_t blink_session_scan(blink_session *session, uint64_t lo, uint64_t hi, blink_entry *entries, size_t places,
                            blink_scanned *scanned);
+
+/* Takes a snapshot: the entries whose keys are from `lo` to `hi`, both included, in ascending order, as all of them were at one time in
+ * the call. They are what the changes that the session has seen then leave of each of these keys. The array gets as many as there are
+ * places, and `taken` says how many there are; other places stay as they were. If some leaf of the range was changed at each of `tries`
+ * tries, there is no snapshot, and the places stay as they were: try again, or scan. It waits for nobody. It takes memory for the
+ * entries and 16 bytes for each leaf, and frees it again. Refused: BLINK_PENDING; BLINK_MAP_NO_MEMORY, and then the session may have seen
+ * more. */
+uint8_t blink_session_snapshot(blink_session *session, uint64_t lo, uint64_t hi, uint32_t tries, blink_entry *entries, size_t places,
+                               blink_taken *taken);
 
 /* Insert, delete, replace or exchange any key; the last answers as blink_index_exchange does, and no other session changes the key
  * between the test and the replacement. It returns BLINK_DONE and the answer once the operation has ended, and BLINK_PENDING if it

@@ -203,6 +203,13 @@ static void refuses_at_a_table(void) {
     CHECK(range[0].key == 2 && range[0].pointer == 20 && range[1].key == 3 && range[1].pointer == 30);
     CHECK(blink_pass_scan(&pass, 4, 4, range, 2, &scanned) == BLINK_DONE && scanned.filled == 1 && scanned.more == 0 && scanned.next == 0);
     CHECK(range[0].key == 4 && range[1].key == 3);
+    blink_taken snapshot = {9, 9};
+    CHECK(blink_pass_snapshot(&pass, 2, 3, 1, range, 2, &snapshot) == BLINK_DONE && snapshot.taken == 1 && snapshot.there == 2);
+    CHECK(range[0].key == 2 && range[0].pointer == 20 && range[1].key == 3 && range[1].pointer == 30);
+    CHECK(blink_pass_snapshot(&pass, 1, 4, 1, range, 1, &snapshot) == BLINK_DONE && snapshot.taken == 1 && snapshot.there == 4);
+    CHECK(range[0].key == 1 && range[1].key == 3);
+    CHECK(blink_pass_snapshot(&pass, 1, 4, 0, range, 2, &snapshot) == BLINK_DONE && snapshot.taken == 0 && snapshot.there == 0);
+    CHECK(range[0].key == 1 && range[1].key == 3);
     CHECK(blink_pass_tell(&pass, &foreign) == BLINK_FOREIGN && blink_table_return(&other, &pass) == BLINK_FOREIGN);
     CHECK(blink_pass_advance(&pass, 1, &answer) == BLINK_IDLE);
     CHECK(blink_pass_begin_insert(&pass, 2, 0) == BLINK_NOT_YOURS && blink_pass_begin_replace(&pass, 3, 0) == BLINK_NOT_YOURS);
@@ -489,7 +496,12 @@ static void refuses_under_way(void) {
     blink_scanned scanned = {9, 9, 9};
     CHECK(blink_session_scan(&one, 4, 9, range, 2, &scanned) == BLINK_DONE && scanned.filled == 2 && scanned.more == 0);
     CHECK(range[0].key == 4 && range[0].pointer == 40 && range[1].key == 5 && range[1].pointer == 50);
+    blink_taken snapshot = {9, 9};
+    CHECK(blink_session_snapshot(&one, 5, 9, 1, range, 2, &snapshot) == BLINK_DONE && snapshot.taken == 1 && snapshot.there == 1);
+    CHECK(range[0].key == 5 && range[0].pointer == 50 && range[1].key == 5);
+    CHECK(blink_session_scan(&one, 4, 9, range, 2, &scanned) == BLINK_DONE && scanned.filled == 2);
     CHECK(blink_session_put(&one, 3, 33, 100, &answer) == BLINK_PENDING);
+    CHECK(blink_session_snapshot(&one, 0, 9, 1, range, 2, &snapshot) == BLINK_PENDING && snapshot.there == 1);
     CHECK(blink_session_scan(&one, 0, 9, range, 2, &scanned) == BLINK_PENDING && range[0].key == 4 && scanned.filled == 2);
     CHECK(blink_session_find(&one, 3, &answer) == BLINK_PENDING && blink_session_insert(&one, 9, 90, 100, &answer) == BLINK_PENDING);
     CHECK(blink_session_delete(&one, 3, 100, &answer) == BLINK_PENDING && blink_session_put(&one, 9, 90, 100, &answer) == BLINK_PENDING);

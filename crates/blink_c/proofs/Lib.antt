@@ -14,6 +14,7 @@ pub mod MapAsBox
 pub mod SessionAsBox
 pub mod SessionsCross
 pub mod SessionsGoOn
+pub mod SnapshotsAreGiven
 pub mod AnswersOfPuts
 pub mod CodesOfMaps
 pub mod Codes

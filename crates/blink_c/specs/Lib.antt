@@ -12,16 +12,16 @@ pub use Rattle.blink_c.specs.Codes.{TellsNewFault, TellsWhy}
 -- what the look-ups give, and the caller's arrays after a scan, a page or a dump
 pub use Rattle.blink_c.specs.Found.{found_answer, pointer_or}
 pub use Rattle.blink_c.specs.Filled.{overlaid, put_if_fits}
--- what a scan of a table or a map gives
-pub use Rattle.blink_c.specs.Reports.{HasReported}
+-- what a scan of a table or a map gives, and a snapshot
+pub use Rattle.blink_c.specs.Reports.{HasReported, TellsTaken}
 -- a table behind a handle: what the calls make of it, and why they are refused
 pub use Rattle.blink_c.specs.Tables.{DealsTo, IsNewTable, IsOwnTable, IsReturnRefusal, TakesBack, TellsDealFault}
 -- a pass behind a handle likewise
-pub use Rattle.blink_c.specs.Passes.{Begins, Ends, Finds, Glances, Hands, IsAdvanceRefusal, IsBeginRefusal, IsFindRefusal, IsHandRefusal, IsOwn, IsTellRefusal, Scans, TellsHandFault, TellsOn}
+pub use Rattle.blink_c.specs.Passes.{Begins, Ends, Finds, Glances, Hands, IsAdvanceRefusal, IsBeginRefusal, IsFindRefusal, IsHandRefusal, IsOwn, IsTakeRefusal, IsTellRefusal, Scans, Takes, TellsHandFault, TellsOn}
 -- a map behind a handle: what the calls make of it, and why they are refused
 pub use Rattle.blink_c.specs.Maps.{HasBadSessions, IsNewMap, IsTooLargeMap, Joins}
 -- a session behind a handle likewise
-pub use Rattle.blink_c.specs.Sessions.{Answers, EndsFrom, Finds as SessionFinds, IsAdvanceRefusal as IsSessionAdvanceRefusal, IsChangeRefusal, IsOwnSession, IsPutRefusal, IsTellRefusal as IsSessionTellRefusal, Puts, Scans as SessionScans, TellsOn as SessionTellsOn}
+pub use Rattle.blink_c.specs.Sessions.{Answers, EndsFrom, Finds as SessionFinds, IsAdvanceRefusal as IsSessionAdvanceRefusal, IsChangeRefusal, IsOwnSession, IsPutRefusal, IsTakeRefusal as IsSessionTakeRefusal, IsTellRefusal as IsSessionTellRefusal, Puts, Scans as SessionScans, Takes as SessionTakes, TellsOn as SessionTellsOn}
 -- ---- the files
 pub mod Raw
 pub mod Runs

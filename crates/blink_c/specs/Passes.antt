@@ -12,18 +12,20 @@ use Rattle.blink_live.specs.declared.live.Pass.{Pass}
 use Rattle.blink_live.specs.declared.live.Pending.{Pending}
 use Rattle.blink_live.specs.declared.error.HandError.{HandError}
 use Rattle.blink_live.specs.declared.error.HandError.TheVariants as hand
+use Rattle.blink_live.specs.declared.error.LiveError.TheVariants.{OutOfMemory}
 use Rattle.blink_live.specs.declared.error.PassError.TheVariants.{NotYours, Spent}
 use Rattle.blink_live.specs.{AllAreYours, HasBegun, IsChangedBy, IsHandRefusal as IsRefusalOfKeys, IsHanded, IsPassOf, IsPendingOf, IsSameBesideSeen, IsSamePass, IsWaiting, KnowsItsKeys, SawAllOf, SaysOfKeys, after, keys_of, op_of, opening_of, pass_of, seen_of, share_of, stop_of}
 use Rattle.blink_live.specs.Allowed.{changes_left}
 use Rattle.blink_c.specs.declared.raw.RawAnswer.{RawAnswer}
 use Rattle.blink_c.specs.declared.raw.RawScanned.{RawScanned}
+use Rattle.blink_c.specs.declared.raw.RawTaken.{RawTaken}
 use Rattle.blink_c.specs.declared.pass_owner.Held.{Held}
 use Rattle.blink_c.specs.declared.pass_owner.Held.TheVariants.{Free, Busy, Gone}
 use Rattle.blink_c.specs.declared.pass_owner.PassOwner.{PassOwner}
 use Rattle.blink_c.specs.declared.table_refusal.TableRefusal.{TableRefusal}
 use Rattle.blink_c.specs.declared.table_refusal.TableRefusal.TheVariants as refused
 use Rattle.blink_c.specs.Raw.{raw_answer, raw_shown}
-use Rattle.blink_c.specs.Reports.{HasReported}
+use Rattle.blink_c.specs.Reports.{HasReported, TellsTaken}
 use Rattle.blink_c.specs.TableCodes.{code_of}
 
 -- the table
@@ -91,6 +93,26 @@ pub record Scans (lo hi : ℕ) (old new : PassOwner) (places filled : List Entry
   pub own : SaysOfKeys (keys_of before) (share_of before) lo (stop_of hi reported.scanned.next) (take reported.scanned.filled filled)
   pub same : IsSameBesideSeen before now
   pub knows : KnowsItsKeys (table_of old) now
+
+-- a snapshot of a range is taken, or couldn't be
+pub record Takes (lo hi : ℕ) (old new : PassOwner) (places filled : List Entry) (given : RawTaken) : Type 0 where
+  pub before : Pass
+  pub now : Pass
+  pub free : StaysFree old new before now
+  pub told : TellsTaken (opening_of (table_of old)) (seen_of now) lo hi places filled given
+  pub same : IsSameBesideSeen before now
+  pub knows : KnowsItsKeys (table_of old) now
+
+-- a free pass may have seen more, and is as it was otherwise
+pub record MaySeeMore (old new : PassOwner) : Type 0 where
+  pub before : Pass
+  pub now : Pass
+  pub free : StaysFree old new before now
+  pub same : IsSameBesideSeen before now
+
+-- memory was refused; or no pass is free, and nothing has changed
+abbrev pub IsTakeRefusal : PassOwner → PassOwner → TableRefusal → Type 0
+IsTakeRefusal old new refusal = ((refusal ≡ refused.Live OutOfMemory) × MaySeeMore old new) ⊎ (IsNotFree old.held refusal × (new ≡ old))
 
 -- ---- what a pass is told
 

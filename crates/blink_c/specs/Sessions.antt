@@ -8,12 +8,14 @@ use Rattle.blink_batch.specs.declared.Op.{Op}
 use Rattle.blink_batch.specs.declared.Op.TheVariants.{Insert, Replace}
 use Rattle.blink_batch.specs.{pointer_of}
 use Rattle.blink_live.specs.{after}
+use Rattle.blink_map.specs.declared.error.MapError.TheVariants.{OutOfMemory}
 use Rattle.blink_map.specs.declared.map.Map.{Map}
 use Rattle.blink_map.specs.declared.map.Session.{Session}
 use Rattle.blink_map.specs.declared.map.Pending.{Pending}
 use Rattle.blink_map.specs.{GoesOn, HasBegun, HasTried, IsAnswered, IsPendingOf, IsPut, IsSameBesideRoom, IsSameBesideSeen, IsSameSession, IsSessionOf, LacksRoom, op_of, opening_of, seen_by, session_of}
 use Rattle.blink_c.specs.declared.raw.RawAnswer.{RawAnswer}
 use Rattle.blink_c.specs.declared.raw.RawScanned.{RawScanned}
+use Rattle.blink_c.specs.declared.raw.RawTaken.{RawTaken}
 use Rattle.blink_c.specs.declared.raw.TheConstants.{INSERTED, REPLACED}
 use Rattle.blink_c.specs.declared.map_refusal.MapRefusal.{MapRefusal}
 use Rattle.blink_c.specs.declared.map_refusal.MapRefusal.TheVariants as refused
@@ -21,7 +23,7 @@ use Rattle.blink_c.specs.declared.session_owner.HeldSession.{HeldSession}
 use Rattle.blink_c.specs.declared.session_owner.HeldSession.TheVariants.{Free, Busy, Putting, Gone}
 use Rattle.blink_c.specs.declared.session_owner.SessionOwner.{SessionOwner}
 use Rattle.blink_c.specs.Raw.{raw_answer, raw_shown}
-use Rattle.blink_c.specs.Reports.{HasReported}
+use Rattle.blink_c.specs.Reports.{HasReported, TellsTaken}
 
 -- the map
 abbrev pub in_map : SessionOwner → Map
@@ -79,6 +81,25 @@ pub record Scans (lo hi : ℕ) (old new : SessionOwner) (places filled : List En
   pub free : StaysFree old new before now
   pub reported : HasReported (opening_of (in_map old)) (seen_by before) (seen_by now) lo hi places filled given
   pub same : IsSameBesideSeen before now
+
+-- a snapshot of a range is taken, or couldn't be
+pub record Takes (lo hi : ℕ) (old new : SessionOwner) (places filled : List Entry) (given : RawTaken) : Type 0 where
+  pub before : Session
+  pub now : Session
+  pub free : StaysFree old new before now
+  pub told : TellsTaken (opening_of (in_map old)) (seen_by now) lo hi places filled given
+  pub same : IsSameBesideSeen before now
+
+-- a free session may have seen more, and is as it was otherwise
+pub record MaySeeMore (old new : SessionOwner) : Type 0 where
+  pub before : Session
+  pub now : Session
+  pub free : StaysFree old new before now
+  pub same : IsSameBesideSeen before now
+
+-- memory was refused; or the session isn't free, and nothing has changed
+abbrev pub IsTakeRefusal : SessionOwner → SessionOwner → MapRefusal → Type 0
+IsTakeRefusal old new refusal = ((refusal ≡ refused.Map OutOfMemory) × MaySeeMore old new) ⊎ (IsNotFree old.held refusal × (new ≡ old))
 
 pub record TellsOn (from from_new to to_new : SessionOwner) : Type 0 where
   pub teller : Session

@@ -2,15 +2,16 @@
 ghost use Rattle.std.specs.Prelude.{◌≡◌, ◌≢◌};
 ghost use Rattle.blink_batch.specs.declared.Op.TheVariants.{Delete, Exchange, Insert, Replace};
 ghost use Rattle.blink_c.specs.Codes.{TellsWhy};
-ghost use Rattle.blink_c.specs.Passes.{Begins, Ends, Finds, Glances, Hands, IsAdvanceRefusal, IsBeginRefusal, IsFindRefusal, IsNotFree, IsOwn, IsTellRefusal, Scans, TellsHandFault, TellsOn, table_of};
+ghost use Rattle.blink_c.specs.Passes.{Begins, Ends, Finds, Glances, Hands, IsAdvanceRefusal, IsBeginRefusal, IsFindRefusal, IsNotFree, IsOwn, IsTakeRefusal, IsTellRefusal, Scans, Takes, TellsHandFault, TellsOn, table_of};
 ghost use Rattle.blink_c.specs.TableCodes.{code_of};
 
 use crate::pass_handle::PassHandle;
-use crate::raw::{RawAnswer, RawScanned};
+use crate::raw::{RawAnswer, RawScanned, RawTaken};
 use crate::refusal::DONE;
 use crate::table_refusal::{TableRefusal, code_of};
 use blink_batch::Entry;
 use blink_live::HandError;
+use std::alloc::Global;
 
 /// Looks a key of the pass up.
 #[unsafe(no_mangle)]
@@ -54,6 +55,28 @@ pub extern "C" fn blink_pass_scan(
         × (entries.new ≡ entries.old) × (scanned.new ≡ scanned.old) }
 {
     code_of(&pass.get().scan(lo, hi, entries, scanned))
+}
+
+/// Takes a snapshot of the entries whose keys are from `lo` to `hi`, as all of them were at one time. It tries so many times, and
+/// tells whether one was taken, and how many entries it has.
+#[unsafe(no_mangle)]
+pub extern "C" fn blink_pass_snapshot(
+    alloc: Global,
+    pass: &mut PassHandle,
+    lo: u64,
+    hi: u64,
+    tries: u32,
+    entries: &mut [Entry],
+    taken: &mut RawTaken,
+) -> u8
+    requires its_own { IsOwn pass.old.value }
+    ensures its_own { IsOwn pass.new.value }
+    ensures taken { result ≡ 0
+        → Takes lo hi pass.old.value pass.new.value entries.old entries.new taken.new }
+    ensures refused { TellsWhy code_of (IsTakeRefusal pass.old.value pass.new.value) result }
+    ensures unchanged { result ≢ 0 → (entries.new ≡ entries.old) × (taken.new ≡ taken.old) }
+{
+    code_of(&pass.get().snapshot(alloc, (lo, hi), tries, entries, taken))
 }
 
 /// Tells pass `to` what pass `from` has seen. Passes of two tables are told apart by the numbers that the caller gave these. The

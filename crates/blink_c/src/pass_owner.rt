@@ -2,12 +2,13 @@
 ghost use Rattle.std.specs.Prelude.{◌≡◌, ◌≢◌, IfErr, IfOk, OnErr, OnOk};
 ghost use Rattle.blink_batch.specs.declared.Op.TheVariants.{Delete, Exchange, Insert, Replace};
 ghost use Rattle.blink_live.specs.{IsPassOf, IsPendingOf};
-ghost use Rattle.blink_c.specs.Passes.{Begins, Ends, Finds, Glances, Hands, IsAdvanceRefusal, IsBeginRefusal, IsFindRefusal, IsHandRefusal, IsNotBusy, IsNotFree, IsOwn, IsTellRefusal, Scans, TellsOn, table_of};
+ghost use Rattle.blink_c.specs.Passes.{Begins, Ends, Finds, Glances, Hands, IsAdvanceRefusal, IsBeginRefusal, IsFindRefusal, IsHandRefusal, IsNotBusy, IsNotFree, IsOwn, IsTakeRefusal, IsTellRefusal, Scans, Takes, TellsOn, table_of};
 
-use crate::raw::{RawAnswer, RawScanned};
+use crate::raw::{RawAnswer, RawScanned, RawTaken};
 use crate::table_refusal::TableRefusal;
 use blink_batch::Entry;
-use blink_live::{Live, Pass, Pending};
+use blink_live::{Live, LiveError, Pass, Pending};
+use std::alloc::Global;
 use std::mem;
 use std::sync::Arc;
 
@@ -100,6 +101,36 @@ impl PassOwner {
         let came = self.live.scan(pass, lo, hi, entries);
         *scanned = RawScanned::of(came);
         Ok(())
+    }
+
+    /// Takes a snapshot of a range of keys.
+    pub(crate) fn snapshot(
+        &mut self,
+        alloc: Global,
+        range: (u64, u64),
+        tries: u32,
+        entries: &mut [Entry],
+        taken: &mut RawTaken,
+    ) -> Result<(), TableRefusal>
+        requires its_own { IsOwn self.old }
+        ensures its_own { IsOwn self.new }
+        ensures taken { OnOk result
+            (Takes range.0 range.1 self.old self.new entries.old entries.new taken.new) }
+        ensures refused { IfErr result (IsTakeRefusal self.old self.new) }
+        ensures unchanged { OnErr result
+            ((entries.new ≡ entries.old) × (taken.new ≡ taken.old)) }
+    {
+        let Held::Free(pass) = &mut self.held else {
+            return Err(self.held.why_not_free());
+        };
+        let (lo, hi) = range;
+        match self.live.snapshot(alloc, pass, lo, hi, tries) {
+            Ok(found) => {
+                *taken = RawTaken::of(&found, entries);
+                Ok(())
+            }
+            Err(_) => Err(TableRefusal::Live(LiveError::OutOfMemory)),
+        }
     }
 
     /// Tells the other pass what this one has seen.

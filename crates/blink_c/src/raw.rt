@@ -1,5 +1,6 @@
 //! Entries, operations and answers as the caller passes them: structs of numbers.
-ghost use Rattle.std.specs.Prelude.{◌≡◌, ◌↔◌, IsSome, IsTrue};
+ghost use Rattle.std.specs.Prelude.{◌≡◌, ◌↔◌, IfNone, IfSome, IsSome, IsTrue};
+ghost use Rattle.blink_c.specs.Reports.{AreTaken, IsNotTaken};
 ghost use Rattle.blink_c.specs.Raw.{op_of, raw_answer, raw_entry, raw_given, raw_scanned, raw_shown};
 
 use blink_batch::{Answer, Entry, Op};
@@ -38,6 +39,14 @@ pub struct RawScanned {
     pub filled: u64,
     pub more: u64,
     pub next: u64,
+}
+
+/// What became of a snapshot: 1 if it was taken, and then the number of its entries; or 0 and 0.
+#[repr(C)]
+#[derive(Clone, Copy)]
+pub struct RawTaken {
+    pub taken: u64,
+    pub there: u64,
 }
 
 // The kinds of operations.
@@ -117,6 +126,25 @@ impl RawScanned {
                 more: 0,
                 next: 0,
             },
+        }
+    }
+}
+
+impl RawTaken {
+    /// What became of the snapshot, as the caller gets it. Its entries stand in the first places, as many as there are places.
+    pub(crate) fn of(found: &Option<Vec<Entry>>, entries: &mut [Entry]) -> RawTaken
+        ensures none { IfNone found.now (IsNotTaken entries.old entries.new result) }
+        ensures some { IfSome found.now (λ taken.
+            AreTaken taken.items entries.old entries.new result) }
+    {
+        let Some(taken) = found else {
+            return RawTaken { taken: 0, there: 0 };
+        };
+        let fitted = taken.len().min(entries.len());
+        entries[..fitted].copy_from_slice(&taken[..fitted]);
+        RawTaken {
+            taken: 1,
+            there: taken.len() as u64,
         }
     }
 }

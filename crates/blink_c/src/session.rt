@@ -3,13 +3,14 @@ ghost use Rattle.std.specs.Prelude.{◌≡◌, ◌≢◌};
 ghost use Rattle.blink_batch.specs.declared.Op.TheVariants.{Delete, Exchange, Insert, Replace};
 ghost use Rattle.blink_c.specs.Codes.{TellsWhy};
 ghost use Rattle.blink_c.specs.MapCodes.{code_of};
-ghost use Rattle.blink_c.specs.Sessions.{Answers, EndsFrom, Finds, IsAdvanceRefusal, IsChangeRefusal, IsNotFree, IsOwnSession, IsPutRefusal, IsTellRefusal, Puts, Scans, TellsOn, in_map};
+ghost use Rattle.blink_c.specs.Sessions.{Answers, EndsFrom, Finds, IsAdvanceRefusal, IsChangeRefusal, IsNotFree, IsOwnSession, IsPutRefusal, IsTakeRefusal, IsTellRefusal, Puts, Scans, Takes, TellsOn, in_map};
 
 use crate::map_refusal::code_of;
-use crate::raw::{RawAnswer, RawScanned};
+use crate::raw::{RawAnswer, RawScanned, RawTaken};
 use crate::session_handle::SessionHandle;
 use crate::session_owner::{HeldSession, SessionOwner};
 use blink_batch::{Entry, Op};
+use std::alloc::Global;
 
 /// Looks any key up, as the session has seen it by the end of the call.
 #[unsafe(no_mangle)]
@@ -46,6 +47,32 @@ pub extern "C" fn blink_session_scan(
         × (entries.new ≡ entries.old) × (scanned.new ≡ scanned.old) }
 {
     code_of(&session.get().scan(lo, hi, entries, scanned))
+}
+
+/// Takes a snapshot of the entries whose keys are from `lo` to `hi`, as all of them were at one time. It tries so many times, and
+/// tells whether one was taken, and how many entries it has.
+#[unsafe(no_mangle)]
+pub extern "C" fn blink_session_snapshot(
+    alloc: Global,
+    session: &mut SessionHandle,
+    lo: u64,
+    hi: u64,
+    tries: u32,
+    entries: &mut [Entry],
+    taken: &mut RawTaken,
+) -> u8
+    requires its_own { IsOwnSession session.old.value }
+    ensures its_own { IsOwnSession session.new.value }
+    ensures taken { result ≡ 0
+        → Takes lo hi session.old.value session.new.value entries.old entries.new taken.new }
+    ensures refused { TellsWhy code_of (IsTakeRefusal session.old.value session.new.value) result }
+    ensures unchanged { result ≢ 0 → (entries.new ≡ entries.old) × (taken.new ≡ taken.old) }
+{
+    code_of(
+        &session
+            .get()
+            .snapshot(alloc, (lo, hi), tries, entries, taken),
+    )
 }
 
 /// Adds an entry. After `tries` steps in vain the call returns with the insertion under way, which goes on by

@@ -3,12 +3,13 @@ ghost use Rattle.std.specs.Prelude.{◌≡◌, ◌≢◌, IfErr, IfOk, OnErr, On
 ghost use Rattle.blink_batch.specs.{FitsWords};
 ghost use Rattle.blink_machine.specs.{IsUpdate};
 ghost use Rattle.blink_map.specs.{IsPendingOf, IsSessionOf, op_of, session_of};
-ghost use Rattle.blink_c.specs.Sessions.{Answers, EndsFrom, Finds, HasAnswered, HasPut, IsAdvanceRefusal, IsChangeRefusal, IsFree, IsNotFree, IsNotPut, IsOfPut, IsOwnSession, IsPutRefusal, IsTellRefusal, Puts, Scans, StaysBusy, TellsOn, in_map};
+ghost use Rattle.blink_c.specs.Sessions.{Answers, EndsFrom, Finds, HasAnswered, HasPut, IsAdvanceRefusal, IsChangeRefusal, IsFree, IsNotFree, IsNotPut, IsOfPut, IsOwnSession, IsPutRefusal, IsTakeRefusal, IsTellRefusal, Puts, Scans, StaysBusy, Takes, TellsOn, in_map};
 
 use crate::map_refusal::MapRefusal;
-use crate::raw::{RawAnswer, RawScanned};
+use crate::raw::{RawAnswer, RawScanned, RawTaken};
 use blink_batch::{Answer, Entry, Op};
-use blink_map::{Map, Pending, Session};
+use blink_map::{Map, MapError, Pending, Session};
+use std::alloc::Global;
 use std::mem;
 use std::sync::Arc;
 
@@ -70,6 +71,36 @@ impl SessionOwner {
         let came = self.shared.scan(session, lo, hi, entries);
         *scanned = RawScanned::of(came);
         Ok(())
+    }
+
+    /// Takes a snapshot of a range of keys.
+    pub(crate) fn snapshot(
+        &mut self,
+        alloc: Global,
+        range: (u64, u64),
+        tries: u32,
+        entries: &mut [Entry],
+        taken: &mut RawTaken,
+    ) -> Result<(), MapRefusal>
+        requires its_own { IsOwnSession self.old }
+        ensures its_own { IsOwnSession self.new }
+        ensures taken { OnOk result
+            (Takes range.0 range.1 self.old self.new entries.old entries.new taken.new) }
+        ensures refused { IfErr result (IsTakeRefusal self.old self.new) }
+        ensures unchanged { OnErr result
+            ((entries.new ≡ entries.old) × (taken.new ≡ taken.old)) }
+    {
+        let HeldSession::Free(session) = &mut self.held else {
+            return Err(MapRefusal::UnderWay);
+        };
+        let (lo, hi) = range;
+        match self.shared.snapshot(alloc, session, lo, hi, tries) {
+            Ok(found) => {
+                *taken = RawTaken::of(&found, entries);
+                Ok(())
+            }
+            Err(_) => Err(MapRefusal::Map(MapError::OutOfMemory)),
+        }
     }
 
     /// Tells the other session what this one has seen.

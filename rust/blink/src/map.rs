@@ -1,6 +1,6 @@
 //! The map and its sessions.
 
-use crate::range::Range;
+use crate::range::{snapshot, Range};
 use crate::sys::{self, Handle, RawAnswer};
 use crate::table::TRIES;
 use crate::{Answer, Error, Index, Op};
@@ -213,6 +213,26 @@ impl<'map> Session<'map> {
     /// ```
     pub fn range(&mut self, range: impl RangeBounds<u64>) -> Range<'_> {
         Range::new(&mut self.handle, sys::blink_session_scan, &range)
+    }
+
+    /// Returns the entries whose keys are in the range, in ascending order, as all of them were at one time; `None`, if some leaf of
+    /// the range was changed at each of so many tries. Then try again, or fall back on [`Session::range`], which always gives entries, but not
+    /// those of one time. It waits for nobody.
+    ///
+    /// It is refused with an error only if memory is.
+    ///
+    /// ```
+    /// use blink::{Entry, Index, Map, Room};
+    ///
+    /// let index = Index::from_entries(8, &[(1, 10), (3, 30), (5, 50)].map(Entry::from))?;
+    /// let map = Map::open(&index, Room { pages: 22, rows: 44, sessions: 1 })?;
+    /// let mut session = map.session()?;
+    /// session.insert(4, 40)?;
+    /// assert_eq!(session.snapshot(2..5, 10)?, Some(vec![(3, 30), (4, 40)]));
+    /// # Ok::<(), blink::Error>(())
+    /// ```
+    pub fn snapshot(&mut self, range: impl RangeBounds<u64>, tries: u32) -> Result<Option<Vec<(u64, u64)>>, Error> {
+        snapshot(&mut self.handle, sys::blink_session_snapshot, &range, tries)
     }
 
     /// Maps a key to a pointer, unless the key is there: [`Answer::Inserted`] or [`Answer::Exists`].

@@ -1,7 +1,7 @@
 //! Ranges of keys, and their entries while others change them.
 
-use crate::sys::{Handle, RawScanned, ScanCall};
-use crate::Entry;
+use crate::sys::{Handle, RawScanned, RawTaken, ScanCall, SnapshotCall};
+use crate::{Entry, Error};
 use std::fmt;
 use std::ops::{Bound, RangeBounds};
 
@@ -18,6 +18,33 @@ pub(crate) fn first_and_last(range: &impl RangeBounds<u64>) -> Option<(u64, u64)
         Bound::Unbounded => Some(u64::MAX),
     };
     lo.zip(hi).filter(|(lo, hi)| lo <= hi)
+}
+
+// The entries of a range as all of them were at one time; `None`, if no try succeeded. The handle is full, and of what the call takes;
+// no operation is under way.
+pub(crate) fn snapshot(handle: &mut Handle, call: SnapshotCall, range: &impl RangeBounds<u64>, tries: u32) -> Result<Option<Vec<(u64, u64)>>, Error> {
+    let Some((lo, hi)) = first_and_last(range) else {
+        return Ok(Some(Vec::new()));
+    };
+    let mut entries = vec![Entry { key: 0, pointer: 0 }; 64];
+    loop {
+        let mut taken = RawTaken { taken: 0, there: 0 };
+        // SAFETY: the handle is full and borrowed for writing; the array has that many elements.
+        let code = unsafe { call(handle, lo, hi, tries, entries.as_mut_ptr(), entries.len(), &mut taken) };
+        if code != 0 {
+            return Err(Error::of(code));
+        }
+        if taken.taken == 0 {
+            return Ok(None);
+        }
+        let there = taken.there as usize;
+        if there <= entries.len() {
+            entries.truncate(there);
+            return Ok(Some(entries.into_iter().map(<(u64, u64)>::from).collect()));
+        }
+        // Too few places. The next snapshot has some more, since entries may be added meanwhile.
+        entries.resize(there + there / 8, Entry { key: 0, pointer: 0 });
+    }
 }
 
 /// The entries of a table or a map whose keys are in a range, in ascending order, while other threads change them.

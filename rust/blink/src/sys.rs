@@ -51,6 +51,16 @@ pub(crate) struct RawScanned {
     pub(crate) next: u64,
 }
 
+/// What became of a snapshot; `taken` is 1 if it was taken, and then it has `there` entries.
+#[repr(C)]
+pub(crate) struct RawTaken {
+    pub(crate) taken: u64,
+    pub(crate) there: u64,
+}
+
+/// A snapshot by a pass or a session.
+pub(crate) type SnapshotCall = unsafe extern "C" fn(*mut Handle, u64, u64, u32, *mut crate::Entry, usize, *mut RawTaken) -> u8;
+
 /// A scan by a pass or a session.
 pub(crate) type ScanCall =
     unsafe extern "C" fn(*mut Handle, u64, u64, *mut crate::Entry, usize, *mut RawScanned) -> u8;
@@ -146,6 +156,15 @@ extern "C" {
         places: usize,
         scanned: *mut RawScanned,
     ) -> u8;
+    pub(crate) fn blink_pass_snapshot(
+        pass: *mut Handle,
+        lo: u64,
+        hi: u64,
+        tries: u32,
+        entries: *mut crate::Entry,
+        places: usize,
+        taken: *mut RawTaken,
+    ) -> u8;
     pub(crate) fn blink_pass_tell(from: *mut Handle, to: *mut Handle) -> u8;
     pub(crate) fn blink_pass_hand(
         from: *mut Handle,
@@ -182,6 +201,15 @@ extern "C" {
         entries: *mut crate::Entry,
         places: usize,
         scanned: *mut RawScanned,
+    ) -> u8;
+    pub(crate) fn blink_session_snapshot(
+        session: *mut Handle,
+        lo: u64,
+        hi: u64,
+        tries: u32,
+        entries: *mut crate::Entry,
+        places: usize,
+        taken: *mut RawTaken,
     ) -> u8;
     pub(crate) fn blink_session_insert(
         session: *mut Handle,

@@ -1,6 +1,6 @@
 //! The table and its passes.
 
-use crate::range::Range;
+use crate::range::{snapshot, Range};
 use crate::sys::{self, Handle, RawAnswer};
 use crate::{Answer, Error, Index};
 use std::cell::UnsafeCell;
@@ -213,6 +213,26 @@ impl Pass {
     /// ```
     pub fn scan(&mut self, range: impl RangeBounds<u64>) -> Range<'_> {
         Range::new(self.handle.get_mut(), sys::blink_pass_scan, &range)
+    }
+
+    /// Returns the entries whose keys are in the range, whosever they are, in ascending order, as all of them were at one time; `None`, if some leaf of
+    /// the range was changed at each of so many tries. Then try again, or fall back on [`Pass::scan`], which always gives entries, but not
+    /// those of one time. It waits for nobody.
+    ///
+    /// It is refused with an error only if memory is.
+    ///
+    /// ```
+    /// use blink::{Entry, Index, Table};
+    ///
+    /// let index = Index::from_entries(8, &[(1, 10), (3, 30), (5, 50)].map(Entry::from))?;
+    /// let mut table = Table::open(&index, 1, 0)?;
+    /// let mut pass = table.deal(&[4], 1, 0)?;
+    /// pass.insert(4, 40)?;
+    /// assert_eq!(pass.snapshot(3.., 10)?, Some(vec![(3, 30), (4, 40), (5, 50)]));
+    /// # Ok::<(), blink::Error>(())
+    /// ```
+    pub fn snapshot(&mut self, range: impl RangeBounds<u64>, tries: u32) -> Result<Option<Vec<(u64, u64)>>, Error> {
+        snapshot(self.handle.get_mut(), sys::blink_pass_snapshot, &range, tries)
     }
 
     /// Tells the other pass what this one has seen: then the other has seen all that this one has.

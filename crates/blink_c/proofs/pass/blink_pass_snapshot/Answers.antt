@@ -1,0 +1,17 @@
+use Rattle.std.proofs.Common.{IfErr, subst}
+use Rattle.blink_c.specs.declared.pass_owner.PassOwner.{PassOwner}
+use Rattle.blink_c.specs.TableCodes.{code_of}
+use Rattle.blink_c.specs.Passes.{IsTakeRefusal, Takes}
+use Rattle.blink_c.proofs.Codes.{on_done, told_why}
+use Rattle.blink_c.proofs.CodesOfTables.{not_done}
+use Rattle.blink_c.proofs.pass.blink_pass_snapshot.Goals as goal
+
+pub returns-clause-taken : goal.returns-clause-taken
+returns-clause-taken c zero =
+    subst (λ (owner : PassOwner). Takes c.args.lo c.args.hi owner c.snapshot.new.self c.args.entries.now c.snapshot.new.entries c.snapshot.new.taken) c.get.ensures.value
+    (on_done code_of not_done c.snapshot.result c.code_of.result c.code_of.ensures c.snapshot.ensures.taken zero)
+
+pub returns-clause-refused : goal.returns-clause-refused
+returns-clause-refused c =
+    told_why code_of (IsTakeRefusal c.args.pass.now.value c.snapshot.new.self) c.snapshot.result c.code_of.result c.code_of.ensures
+    (subst (λ (owner : PassOwner). IfErr c.snapshot.result (IsTakeRefusal owner c.snapshot.new.self)) c.get.ensures.value c.snapshot.ensures.refused)
