@@ -1,5 +1,6 @@
 //! The index at rest.
 mod changes;
+mod packing;
 mod schedules;
 
 use crate::fixtures::stores::{Sight, is_seen, page_at};
