@@ -38,6 +38,8 @@ mod shared;
 #[cfg(test)]
 mod sights;
 #[cfg(test)]
+mod snapshots;
+#[cfg(test)]
 mod stepping;
 #[cfg(test)]
 mod steps;

@@ -18,6 +18,8 @@ mod sessions;
 #[cfg(test)]
 mod shared;
 #[cfg(test)]
+mod snapshots;
+#[cfg(test)]
 mod stepping;
 #[cfg(test)]
 mod threads;
