@@ -85,6 +85,7 @@ enum {
     BLINK_INDEX_TOO_LARGE = 32,    /* 1 + pages + 22 for each insertion is above 1,048,576 */
     BLINK_BAD_FAN = 40,            /* the fan isn't from 4 to 32 */
     BLINK_INDEX_NO_MEMORY = 41,    /* memory was refused, of an index */
+    BLINK_NOT_ASCENDING = 42,      /* a key of the entries isn't above the one before */
     BLINK_NO_MEMORY = 50,          /* memory was refused, of a table */
     BLINK_TAKEN = 51,              /* a pass has the key that wasn't given back, or it stands twice in the list */
     BLINK_NO_ALLOWANCE = 52,       /* the table has fewer insertions or deletions left, or has dealt 2^32 - 1 passes */
@@ -122,6 +123,12 @@ uint8_t blink_index_new(uint8_t fan, blink_index *out);
  * above 1,048,576. */
 uint8_t blink_index_from_entries(uint8_t fan, const blink_entry *entries, size_t count, blink_index *out);
 
+/* Makes an index of entries whose keys strictly ascend, in as few pages as any tree of these entries has: each leaf but the last is
+ * full. Refused, looked for in this order: BLINK_BAD_FAN; BLINK_NOT_ASCENDING, and `bad_place` is the first place, counted from 0,
+ * whose key isn't above the one before; BLINK_INDEX_TOO_LARGE, exactly if the entries need more than 1,048,575 pages;
+ * BLINK_INDEX_NO_MEMORY. Without BLINK_NOT_ASCENDING, `bad_place` stays as it was. */
+uint8_t blink_index_from_sorted(uint8_t fan, const blink_entry *entries, size_t count, blink_index *out, size_t *bad_place);
+
 /* Makes a copy, page by page. Refused: BLINK_INDEX_NO_MEMORY. */
 uint8_t blink_index_copy(blink_index *index, blink_index *out);
 
@@ -153,6 +160,11 @@ void blink_index_exchange(blink_index *index, uint64_t key, uint64_t expected, u
  * BLINK_UNKNOWN_OPERATION, BLINK_INDEX_TOO_LARGE or BLINK_INDEX_NO_MEMORY. */
 uint8_t blink_index_apply(blink_index *index, const blink_operation *operations, size_t count, blink_answer *answers,
                           size_t places, size_t *carried_out);
+
+/* Packs the entries into as few pages as any tree of these entries has, in place: each leaf but the last is full then, so that an
+ * insertion splits it. It takes memory for all new pages, before the old ones are freed. Refused: BLINK_INDEX_NO_MEMORY, and then the
+ * index is as it was. */
+uint8_t blink_index_compact(blink_index *index);
 
 /* Looks a key up: true, and its record pointer; or false, and `pointer` stays as it was. */
 bool blink_index_find(blink_index *index, uint64_t key, uint64_t *pointer);

@@ -86,6 +86,7 @@ UNKNOWN_OPERATION specs/Codes.antt UnknownOperation
 INDEX_TOO_LARGE specs/Codes.antt TooLarge
 BAD_FAN specs/Codes.antt BadFan
 INDEX_NO_MEMORY specs/Codes.antt OutOfMemory
+NOT_ASCENDING ../blink_index/specs/Codes.antt SortedError.NotAscending
 NO_MEMORY ../blink_live/specs/Codes.antt OutOfMemory
 TAKEN ../blink_live/specs/Codes.antt Taken
 NO_ALLOWANCE ../blink_live/specs/Codes.antt NoAllowance

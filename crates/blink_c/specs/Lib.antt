@@ -5,6 +5,8 @@
 pub use Rattle.blink_c.specs.Raw.{AreOperations, insertion_of, op_of, raw_answer, raw_entry, raw_given, raw_scanned, raw_shown}
 -- a batch that one thread runs over an index, an index made of entries, and why they are refused
 pub use Rattle.blink_c.specs.Runs.{HasEntriesOf, HasPagesFor, HasPagesOf, HasRun, IsMakeRefusal, IsRunRefusal}
+-- why an index isn't made of entries that have to ascend
+pub use Rattle.blink_c.specs.Sorted.{TellsSortedFault}
 -- one operation on an index in place, and the entry that a call may give
 pub use Rattle.blink_c.specs.Edits.{HasApplied, HasEdited, IsApplyRefusal, TellsEditFault, entry_or}
 -- what the code of a refused call tells
@@ -25,6 +27,7 @@ pub use Rattle.blink_c.specs.Sessions.{Answers, EndsFrom, Finds as SessionFinds,
 -- ---- the files
 pub mod Raw
 pub mod Runs
+pub mod Sorted
 pub mod Edits
 pub mod Found
 pub mod Filled
