@@ -105,8 +105,9 @@ enum {
     BLINK_BAD_SESSIONS = 102,      /* there are to be no sessions, or more than 256 */
     BLINK_NO_PLACE = 103,          /* each place for a session was taken */
     BLINK_LOST_UNDER_WAY = 104,    /* a session's handle was freed with an operation under way */
-    BLINK_FULL = 105,              /* the session has too few free rows or page numbers, and the map's pool too */
-    BLINK_SESSION_MISSING = 106    /* the handle of a session, or another handle of the map, isn't freed */
+    BLINK_FULL = 105,              /* the session has too few rows or page numbers in all, and the map's pool too */
+    BLINK_SESSION_MISSING = 106,   /* the handle of a session, or another handle of the map, isn't freed */
+    BLINK_ROWS_BUSY = 107          /* the session has enough rows and page numbers in all, but some rows are on their way back */
 };
 
 /* The greatest number of operations that run at once. */
@@ -309,8 +310,8 @@ void blink_pass_free(blink_pass pass);
  * when it begins; a deletion, a replacement or an exchange has to have one row. Sessions draw both from the map's pool, at most
  * 512 numbers and 1,024 rows at once; what one draws no other gets, before its place is taken again. Tested: a row that a write replaces comes back to
  * its session, once each call that was in progress has ended. So a few hundred rows a session last. While a thread is held up inside a
- * call no row comes back, and BLINK_FULL may be the answer to a change that is let through later. `number` is one that no other map of the process has while it or a session of it lives:
- * by it sessions of two maps are told apart. Refused: BLINK_BAD_SESSIONS, exactly if there are to be none or more than 256; then
+ * call no row comes back, and a change may be refused with BLINK_ROWS_BUSY, and let through later. `number` is one that no other map
+ * of the process has while it or a session of it lives: by it sessions of two maps are told apart. Refused: BLINK_BAD_SESSIONS, exactly if there are to be none or more than 256; then
  * BLINK_MAP_TOO_LARGE, exactly if the index's pages and `pages` are above 1,048,575; BLINK_MAP_NO_MEMORY. */
 uint8_t blink_map_open(blink_index *index, uint32_t pages, uint32_t rows, uint32_t sessions, uint64_t number, blink_map *out);
 
@@ -357,8 +358,10 @@ uint8_t blink_session_snapshot(blink_session *session, uint64_t lo, uint64_t hi,
 /* Insert, delete, replace or exchange any key; the last answers as blink_index_exchange does, and no other session changes the key
  * between the test and the replacement. It returns BLINK_DONE and the answer once the operation has ended, and BLINK_PENDING if it
  * hasn't: then it goes on by blink_session_advance, and until it has ended the session can do nothing else. Tested: that is after
- * `tries` steps in vain, since another session has the page that it wants. Refused: BLINK_FULL, and then nothing changes but what
- * the session has drawn; BLINK_PENDING, if an operation was under way before, and then nothing changes. */
+ * `tries` steps in vain, since another session has the page that it wants. Refused: BLINK_FULL, only if the session lacks the room that
+ * the operation may need also once all its rows have come back; BLINK_ROWS_BUSY, only if it has the room then, so that the call may be
+ * made again. Both change nothing but what the session has drawn. Refused also: BLINK_PENDING, if an operation was under way before,
+ * and then nothing changes. */
 uint8_t blink_session_insert(blink_session *session, uint64_t key, uint64_t pointer, uint32_t tries, blink_answer *answer);
 uint8_t blink_session_delete(blink_session *session, uint64_t key, uint32_t tries, blink_answer *answer);
 uint8_t blink_session_replace(blink_session *session, uint64_t key, uint64_t pointer, uint32_t tries, blink_answer *answer);
@@ -373,8 +376,8 @@ uint8_t blink_session_put(blink_session *session, uint64_t key, uint64_t pointer
 
 /* Takes the next steps of the operation or the put that is under way. It returns BLINK_DONE and the answer once that has ended, and
  * BLINK_PENDING if it hasn't: then it holds no page, so that no other session waits for it, and the thread may do something else,
- * yield or wait as it likes, and calls again. It never waits itself. Refused: BLINK_IDLE, if nothing is under way; BLINK_FULL, of a
- * put. */
+ * yield or wait as it likes, and calls again. It never waits itself. Refused: BLINK_IDLE, if nothing is under way; BLINK_FULL or
+ * BLINK_ROWS_BUSY, of a put, which has then ended without a change. */
 uint8_t blink_session_advance(blink_session *session, uint32_t tries, blink_answer *answer);
 
 /* Tells session `to` what session `from` has seen: then `to` has seen all that `from` has seen. The two handles are different.

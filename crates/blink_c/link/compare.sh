@@ -108,6 +108,7 @@ NO_PLACE ../blink_map/specs/Codes.antt NoPlace
 LOST_UNDER_WAY ../blink_map/specs/Codes.antt UnderWay
 FULL specs/MapCodes.antt Full
 SESSION_MISSING specs/MapCodes.antt Missing
+ROWS_BUSY specs/MapCodes.antt RowsBusy
 WORDS
     # The structs of numbers, field by field.
     awk '/^pub struct (Raw|Entry)/ { name = $3; on = 1; print "struct " name " {"; next }

@@ -23,7 +23,7 @@ pub use Rattle.blink_c.specs.Passes.{Begins, Ends, Finds, Glances, Hands, IsAdva
 -- a map behind a handle: what the calls make of it, and why they are refused
 pub use Rattle.blink_c.specs.Maps.{HasBadSessions, IsNewMap, IsTooLargeMap, Joins}
 -- a session behind a handle likewise
-pub use Rattle.blink_c.specs.Sessions.{Answers, EndsFrom, Finds as SessionFinds, IsAdvanceRefusal as IsSessionAdvanceRefusal, IsChangeRefusal, IsOwnSession, IsPutRefusal, IsTakeRefusal as IsSessionTakeRefusal, IsTellRefusal as IsSessionTellRefusal, Puts, Scans as SessionScans, Takes as SessionTakes, TellsOn as SessionTellsOn}
+pub use Rattle.blink_c.specs.Sessions.{Answers, EndsFrom, Finds as SessionFinds, IsAdvanceRefusal as IsSessionAdvanceRefusal, IsChangeRefusal, IsOwnSession, IsPutRefusal, IsShortage, IsTakeRefusal as IsSessionTakeRefusal, IsTellRefusal as IsSessionTellRefusal, Puts, Scans as SessionScans, Takes as SessionTakes, TellsOn as SessionTellsOn}
 -- ---- the files
 pub mod Raw
 pub mod Runs

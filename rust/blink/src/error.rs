@@ -35,8 +35,11 @@ pub enum Error {
     NoPlace,
     /// An operation of a session was dropped before it had ended.
     LostUnderWay,
-    /// The session has too few rows or page numbers left for the change, and the map's pool too.
+    /// The session has too few rows or page numbers in all for the change, and the map's pool too.
     Full,
+    /// The session has enough rows and page numbers in all for the change, but some rows are on their way back. The same change may be
+    /// let through later.
+    RowsBusy,
 }
 
 impl Error {
@@ -55,6 +58,7 @@ impl Error {
             103 => Error::NoPlace,
             104 => Error::LostUnderWay,
             105 => Error::Full,
+            107 => Error::RowsBusy,
             _ => unreachable!("libblink returned code {code}"),
         }
     }
@@ -85,6 +89,7 @@ impl fmt::Display for Error {
             Error::NoPlace => f.write_str("no place for a session"),
             Error::LostUnderWay => f.write_str("an operation was dropped before it had ended"),
             Error::Full => f.write_str("full"),
+            Error::RowsBusy => f.write_str("rows are on their way back"),
         }
     }
 }

@@ -70,6 +70,9 @@ pub(crate) const NOT_ASCENDING: u8 = 42;
 
 pub(crate) const BATCH_LIMIT: usize = 8192;
 
+/// The code of a change for which the session has room once its rows have come back.
+pub(crate) const ROWS_BUSY: u8 = 107;
+
 /// The code of an operation that is under way.
 pub(crate) const PENDING: u8 = 90;
 
