@@ -85,6 +85,7 @@ enum {
     BLINK_INDEX_TOO_LARGE = 32,    /* 1 + pages + 22 for each insertion is above 1,048,576 */
     BLINK_BAD_FAN = 40,            /* the fan isn't from 4 to 32 */
     BLINK_INDEX_NO_MEMORY = 41,    /* memory was refused, of an index */
+    BLINK_NOT_ASCENDING = 42,      /* a key of the entries isn't above the one before */
     BLINK_NO_MEMORY = 50,          /* memory was refused, of a table */
     BLINK_TAKEN = 51,              /* a pass has the key that wasn't given back, or it stands twice in the list */
     BLINK_NO_ALLOWANCE = 52,       /* the table has fewer insertions or deletions left, or has dealt 2^32 - 1 passes */
@@ -104,8 +105,9 @@ enum {
     BLINK_BAD_SESSIONS = 102,      /* there are to be no sessions, or more than 256 */
     BLINK_NO_PLACE = 103,          /* each place for a session was taken */
     BLINK_LOST_UNDER_WAY = 104,    /* a session's handle was freed with an operation under way */
-    BLINK_FULL = 105,              /* the session has too few free rows or page numbers, and the map's pool too */
-    BLINK_SESSION_MISSING = 106    /* the handle of a session, or another handle of the map, isn't freed */
+    BLINK_FULL = 105,              /* the session has too few rows or page numbers in all, and the map's pool too */
+    BLINK_SESSION_MISSING = 106,   /* the handle of a session, or another handle of the map, isn't freed */
+    BLINK_ROWS_BUSY = 107          /* the session has enough rows and page numbers in all, but some rows are on their way back */
 };
 
 /* The greatest number of operations that run at once. */
@@ -121,6 +123,12 @@ uint8_t blink_index_new(uint8_t fan, blink_index *out);
  * each entry. Refused: BLINK_BAD_FAN; then BLINK_INDEX_NO_MEMORY, or BLINK_INDEX_TOO_LARGE, only if 2 and 22 for each entry are
  * above 1,048,576. */
 uint8_t blink_index_from_entries(uint8_t fan, const blink_entry *entries, size_t count, blink_index *out);
+
+/* Makes an index of entries whose keys strictly ascend, in as few pages as any tree of these entries has: each leaf but the last is
+ * full. Refused, looked for in this order: BLINK_BAD_FAN; BLINK_NOT_ASCENDING, and `bad_place` is the first place, counted from 0,
+ * whose key isn't above the one before; BLINK_INDEX_TOO_LARGE, exactly if the entries need more than 1,048,575 pages;
+ * BLINK_INDEX_NO_MEMORY. Without BLINK_NOT_ASCENDING, `bad_place` stays as it was. */
+uint8_t blink_index_from_sorted(uint8_t fan, const blink_entry *entries, size_t count, blink_index *out, size_t *bad_place);
 
 /* Makes a copy, page by page. Refused: BLINK_INDEX_NO_MEMORY. */
 uint8_t blink_index_copy(blink_index *index, blink_index *out);
@@ -153,6 +161,11 @@ void blink_index_exchange(blink_index *index, uint64_t key, uint64_t expected, u
  * BLINK_UNKNOWN_OPERATION, BLINK_INDEX_TOO_LARGE or BLINK_INDEX_NO_MEMORY. */
 uint8_t blink_index_apply(blink_index *index, const blink_operation *operations, size_t count, blink_answer *answers,
                           size_t places, size_t *carried_out);
+
+/* Packs the entries into as few pages as any tree of these entries has, in place: each leaf but the last is full then, so that an
+ * insertion splits it. It takes memory for all new pages, before the old ones are freed. Refused: BLINK_INDEX_NO_MEMORY, and then the
+ * index is as it was. */
+uint8_t blink_index_compact(blink_index *index);
 
 /* Looks a key up: true, and its record pointer; or false, and `pointer` stays as it was. */
 bool blink_index_find(blink_index *index, uint64_t key, uint64_t *pointer);
@@ -297,8 +310,8 @@ void blink_pass_free(blink_pass pass);
  * when it begins; a deletion, a replacement or an exchange has to have one row. Sessions draw both from the map's pool, at most
  * 512 numbers and 1,024 rows at once; what one draws no other gets, before its place is taken again. Tested: a row that a write replaces comes back to
  * its session, once each call that was in progress has ended. So a few hundred rows a session last. While a thread is held up inside a
- * call no row comes back, and BLINK_FULL may be the answer to a change that is let through later. `number` is one that no other map of the process has while it or a session of it lives:
- * by it sessions of two maps are told apart. Refused: BLINK_BAD_SESSIONS, exactly if there are to be none or more than 256; then
+ * call no row comes back, and a change may be refused with BLINK_ROWS_BUSY, and let through later. `number` is one that no other map
+ * of the process has while it or a session of it lives: by it sessions of two maps are told apart. Refused: BLINK_BAD_SESSIONS, exactly if there are to be none or more than 256; then
  * BLINK_MAP_TOO_LARGE, exactly if the index's pages and `pages` are above 1,048,575; BLINK_MAP_NO_MEMORY. */
 uint8_t blink_map_open(blink_index *index, uint32_t pages, uint32_t rows, uint32_t sessions, uint64_t number, blink_map *out);
 
@@ -345,8 +358,10 @@ uint8_t blink_session_snapshot(blink_session *session, uint64_t lo, uint64_t hi,
 /* Insert, delete, replace or exchange any key; the last answers as blink_index_exchange does, and no other session changes the key
  * between the test and the replacement. It returns BLINK_DONE and the answer once the operation has ended, and BLINK_PENDING if it
  * hasn't: then it goes on by blink_session_advance, and until it has ended the session can do nothing else. Tested: that is after
- * `tries` steps in vain, since another session has the page that it wants. Refused: BLINK_FULL, and then nothing changes but what
- * the session has drawn; BLINK_PENDING, if an operation was under way before, and then nothing changes. */
+ * `tries` steps in vain, since another session has the page that it wants. Refused: BLINK_FULL, only if the session lacks the room that
+ * the operation may need also once all its rows have come back; BLINK_ROWS_BUSY, only if it has the room then, so that the call may be
+ * made again. Both change nothing but what the session has drawn. Refused also: BLINK_PENDING, if an operation was under way before,
+ * and then nothing changes. */
 uint8_t blink_session_insert(blink_session *session, uint64_t key, uint64_t pointer, uint32_t tries, blink_answer *answer);
 uint8_t blink_session_delete(blink_session *session, uint64_t key, uint32_t tries, blink_answer *answer);
 uint8_t blink_session_replace(blink_session *session, uint64_t key, uint64_t pointer, uint32_t tries, blink_answer *answer);
@@ -361,8 +376,8 @@ uint8_t blink_session_put(blink_session *session, uint64_t key, uint64_t pointer
 
 /* Takes the next steps of the operation or the put that is under way. It returns BLINK_DONE and the answer once that has ended, and
  * BLINK_PENDING if it hasn't: then it holds no page, so that no other session waits for it, and the thread may do something else,
- * yield or wait as it likes, and calls again. It never waits itself. Refused: BLINK_IDLE, if nothing is under way; BLINK_FULL, of a
- * put. */
+ * yield or wait as it likes, and calls again. It never waits itself. Refused: BLINK_IDLE, if nothing is under way; BLINK_FULL or
+ * BLINK_ROWS_BUSY, of a put, which has then ended without a change. */
 uint8_t blink_session_advance(blink_session *session, uint32_t tries, blink_answer *answer);
 
 /* Tells session `to` what session `from` has seen: then `to` has seen all that `from` has seen. The two handles are different.

@@ -86,6 +86,7 @@ UNKNOWN_OPERATION specs/Codes.antt UnknownOperation
 INDEX_TOO_LARGE specs/Codes.antt TooLarge
 BAD_FAN specs/Codes.antt BadFan
 INDEX_NO_MEMORY specs/Codes.antt OutOfMemory
+NOT_ASCENDING ../blink_index/specs/Codes.antt SortedError.NotAscending
 NO_MEMORY ../blink_live/specs/Codes.antt OutOfMemory
 TAKEN ../blink_live/specs/Codes.antt Taken
 NO_ALLOWANCE ../blink_live/specs/Codes.antt NoAllowance
@@ -107,6 +108,7 @@ NO_PLACE ../blink_map/specs/Codes.antt NoPlace
 LOST_UNDER_WAY ../blink_map/specs/Codes.antt UnderWay
 FULL specs/MapCodes.antt Full
 SESSION_MISSING specs/MapCodes.antt Missing
+ROWS_BUSY specs/MapCodes.antt RowsBusy
 WORDS
     # The structs of numbers, field by field.
     awk '/^pub struct (Raw|Entry)/ { name = $3; on = 1; print "struct " name " {"; next }

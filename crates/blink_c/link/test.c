@@ -59,6 +59,38 @@ static void makes_an_index(void) {
     blink_index_free(copy);
 }
 
+// Ten entries in as few pages as they need: three leaves of fan 4, and the root. Seven of them are deleted, which leaves the pages as
+// they are; then the other three are packed into one.
+static void packs_an_index(void) {
+    blink_entry ten[10];
+    for (size_t place = 0; place < 10; place++) ten[place] = (blink_entry){place + 1, 10 * (place + 1)};
+    blink_index index = {NULL};
+    size_t bad_place = 77;
+    CHECK(blink_index_from_sorted(3, ten, 10, &index, &bad_place) == BLINK_BAD_FAN && bad_place == 77);
+    refused_at = 0;
+    CHECK(blink_index_from_sorted(4, ten, 10, &index, &bad_place) == BLINK_INDEX_NO_MEMORY && bad_place == 77);
+    refused_at = -1;
+    ten[6].key = ten[5].key;
+    CHECK(blink_index_from_sorted(4, ten, 10, &index, &bad_place) == BLINK_NOT_ASCENDING && bad_place == 6);
+    ten[6].key = 7;
+    bad_place = 77;
+    CHECK(blink_index_from_sorted(4, ten, 10, &index, &bad_place) == BLINK_DONE && bad_place == 77);
+    CHECK(blink_index_fan(&index) == 4 && blink_index_len(&index) == 10 && blink_index_pages(&index) == 4);
+    blink_answer answer = {9, 9};
+    for (uint64_t key = 1; key <= 7; key++) {
+        blink_index_delete(&index, key, &answer);
+        CHECK(answer.kind == BLINK_REMOVED && answer.pointer == 10 * key);
+    }
+    CHECK(blink_index_len(&index) == 3 && blink_index_pages(&index) == 4);
+    refused_at = 0;
+    CHECK(blink_index_compact(&index) == BLINK_INDEX_NO_MEMORY && blink_index_pages(&index) == 4);
+    refused_at = -1;
+    CHECK(blink_index_compact(&index) == BLINK_DONE && blink_index_len(&index) == 3 && blink_index_pages(&index) == 1);
+    uint64_t pointer = 7;
+    CHECK(blink_index_find(&index, 8, &pointer) && pointer == 80 && !blink_index_find(&index, 7, &pointer));
+    blink_index_free(index);
+}
+
 static void looks_up(void) {
     blink_index index = index_of(4, five, 6);
     uint64_t pointer = 7;
@@ -669,6 +701,7 @@ static bool uses_memory(void) {
 
 int main(void) {
     makes_an_index();
+    packs_an_index();
     looks_up();
     changes_in_place();
     changes_nothing_without_memory();

@@ -2,7 +2,7 @@
 use Rattle.std.proofs.Common.{◌≡◌, arith}
 use Rattle.blink_map.specs.declared.error.MapError.TheVariants as map
 use Rattle.blink_c.specs.declared.map_refusal.MapRefusal.{MapRefusal}
-use Rattle.blink_c.specs.declared.map_refusal.MapRefusal.TheVariants.{Map, Full, Missing, Foreign, UnderWay, Idle}
+use Rattle.blink_c.specs.declared.map_refusal.MapRefusal.TheVariants.{Map, Full, RowsBusy, Missing, Foreign, UnderWay, Idle}
 use Rattle.blink_c.specs.MapCodes.{code_of}
 
 -- no refusal has the code of a call that isn't refused
@@ -13,6 +13,7 @@ not_done (Map map.Sessions) is = omega (arith, is)
 not_done (Map map.NoPlace) is = omega (arith, is)
 not_done (Map map.UnderWay) is = omega (arith, is)
 not_done Full is = omega (arith, is)
+not_done RowsBusy is = omega (arith, is)
 not_done Missing is = omega (arith, is)
 not_done Foreign is = omega (arith, is)
 not_done UnderWay is = omega (arith, is)

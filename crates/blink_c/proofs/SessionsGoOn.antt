@@ -11,7 +11,7 @@ use Rattle.blink_c.specs.declared.raw.RawAnswer.{RawAnswer}
 use Rattle.blink_c.specs.declared.map_refusal.MapRefusal.{MapRefusal}
 use Rattle.blink_c.specs.declared.map_refusal.MapRefusal.TheVariants as refused
 use Rattle.blink_c.specs.declared.session_owner.SessionOwner.{SessionOwner}
-use Rattle.blink_c.specs.Sessions.{HasAnswered, HasPut, IsNotPut, IsOfSameMap, StaysBusy, in_map}
+use Rattle.blink_c.specs.Sessions.{HasAnswered, HasPut, IsNotEnded, IsNotPut, IsOfSameMap, LacksRoomFor, LacksRoomToPut, StaysBusy, in_map}
 
 -- ---- by the outcome
 
@@ -65,8 +65,20 @@ module _ (old gone new : SessionOwner) (same : IsOfSameMap old gone) where
     put = subst (λ (map : Map). IsPut map key pointer before has.now has.was_there) one_map has.put;
   }
 
+  lacks_through : (key pointer : ℕ) (before : Session) (refusal : MapRefusal) → LacksRoomToPut key pointer before gone new refusal → LacksRoomToPut key pointer before old new refusal
+  lacks_through key pointer before refusal lacks = record {
+    now = lacks.now;
+    is = lacks.is;
+    same = same_through lacks.same;
+    op = lacks.op;
+    of_put = lacks.of_put;
+    shortage = lacks.shortage;
+    tried = lacks.tried;
+  }
+
   pub not_put_through : (key pointer : ℕ) (before : Session) (refusal : MapRefusal) → IsNotPut key pointer before gone new refusal → IsNotPut key pointer before old new refusal
-  not_put_through key pointer before refused.Full lacks = record { now = lacks.now; is = lacks.is; same = same_through lacks.same; tried = lacks.tried }
+  not_put_through key pointer before refused.Full lacks = lacks_through key pointer before refused.Full lacks
+  not_put_through key pointer before refused.RowsBusy lacks = lacks_through key pointer before refused.RowsBusy lacks
   not_put_through key pointer before refused.UnderWay on = record {
     pending = on.pending;
     is = on.is;
@@ -80,15 +92,44 @@ module _ (old gone new : SessionOwner) (same : IsOfSameMap old gone) where
   not_put_through key pointer before refused.Foreign is = is
   not_put_through key pointer before refused.Idle is = is
 
--- a put that hasn't ended, where the session had tried before
-pub not_put_before : (key pointer : ℕ) (first before : Session) (old new : SessionOwner) (refusal : MapRefusal) → HasTried first before → IsNotPut key pointer before old new refusal
-    → IsNotPut key pointer first old new refusal
-not_put_before key pointer first before old new refused.Full tried lacks = record {
+-- ---- a session that lacks room
+
+pub not_ended_for_room : (op : Op) (before : Session) (old new : SessionOwner) (refusal : MapRefusal) → LacksRoomFor op before old new refusal → IsNotEnded op before old new refusal
+not_ended_for_room op before old new refused.Full lacks = lacks
+not_ended_for_room op before old new refused.RowsBusy lacks = lacks
+not_ended_for_room op before old new refused.UnderWay lacks = absurd lacks.shortage
+not_ended_for_room op before old new (refused.Map refusal) lacks = lacks.shortage
+not_ended_for_room op before old new refused.Missing lacks = lacks.shortage
+not_ended_for_room op before old new refused.Foreign lacks = lacks.shortage
+not_ended_for_room op before old new refused.Idle lacks = lacks.shortage
+
+pub not_put_for_room : (key pointer : ℕ) (before : Session) (old new : SessionOwner) (refusal : MapRefusal) → LacksRoomToPut key pointer before old new refusal
+    → IsNotPut key pointer before old new refusal
+not_put_for_room key pointer before old new refused.Full lacks = lacks
+not_put_for_room key pointer before old new refused.RowsBusy lacks = lacks
+not_put_for_room key pointer before old new refused.UnderWay lacks = absurd lacks.shortage
+not_put_for_room key pointer before old new (refused.Map refusal) lacks = lacks.shortage
+not_put_for_room key pointer before old new refused.Missing lacks = lacks.shortage
+not_put_for_room key pointer before old new refused.Foreign lacks = lacks.shortage
+not_put_for_room key pointer before old new refused.Idle lacks = lacks.shortage
+
+lacks_before : (key pointer : ℕ) (first before : Session) (old new : SessionOwner) (refusal : MapRefusal) → HasTried first before
+    → LacksRoomToPut key pointer before old new refusal → LacksRoomToPut key pointer first old new refusal
+lacks_before key pointer first before old new refusal tried lacks = record {
   now = lacks.now;
   is = lacks.is;
   same = lacks.same;
+  op = lacks.op;
+  of_put = lacks.of_put;
+  shortage = lacks.shortage;
   tried = tried_twice first before lacks.now tried lacks.tried;
 }
+
+-- a put that hasn't ended, where the session had tried before
+pub not_put_before : (key pointer : ℕ) (first before : Session) (old new : SessionOwner) (refusal : MapRefusal) → HasTried first before → IsNotPut key pointer before old new refusal
+    → IsNotPut key pointer first old new refusal
+not_put_before key pointer first before old new refused.Full tried lacks = lacks_before key pointer first before old new refused.Full tried lacks
+not_put_before key pointer first before old new refused.RowsBusy tried lacks = lacks_before key pointer first before old new refused.RowsBusy tried lacks
 not_put_before key pointer first before old new refused.UnderWay tried on = record {
   pending = on.pending;
   is = on.is;

@@ -12,7 +12,7 @@ use Rattle.blink_map.specs.declared.error.MapError.TheVariants.{OutOfMemory}
 use Rattle.blink_map.specs.declared.map.Map.{Map}
 use Rattle.blink_map.specs.declared.map.Session.{Session}
 use Rattle.blink_map.specs.declared.map.Pending.{Pending}
-use Rattle.blink_map.specs.{GoesOn, HasBegun, HasTried, IsAnswered, IsPendingOf, IsPut, IsSameBesideRoom, IsSameBesideSeen, IsSameSession, IsSessionOf, LacksRoom, op_of, opening_of, seen_by, session_of}
+use Rattle.blink_map.specs.{GoesOn, HasBegun, HasTried, IsAnswered, IsPendingOf, IsPut, IsSameBesideRoom, IsSameBesideSeen, IsSameSession, IsSessionOf, LacksRoom, LacksRoomInAll, op_of, opening_of, seen_by, session_of}
 use Rattle.blink_c.specs.declared.raw.RawAnswer.{RawAnswer}
 use Rattle.blink_c.specs.declared.raw.RawScanned.{RawScanned}
 use Rattle.blink_c.specs.declared.raw.RawTaken.{RawTaken}
@@ -144,17 +144,25 @@ pub record IsBusyWith (op : Op) (before : Session) (old new : SessionOwner) : Ty
   pub same : IsOfSameMap old new
   pub begun : HasBegun (in_map old) op before pending
 
+-- why a session can't begin an operation for lack of room: it lacks it for good, or it will have it once its rows have come back
+abbrev pub IsShortage : Op → Session → MapRefusal → Type 0
+IsShortage op session refused.Full = LacksRoomInAll op session
+IsShortage op session refused.RowsBusy = ¬ LacksRoomInAll op session
+IsShortage op session refusal = ⊥
+
 -- the session lacked room, and is as it was beside
-pub record LacksRoomFor (op : Op) (before : Session) (old new : SessionOwner) : Type 0 where
+pub record LacksRoomFor (op : Op) (before : Session) (old new : SessionOwner) (refusal : MapRefusal) : Type 0 where
   pub now : Session
   pub is : new.held ≡ Free now
   pub same : IsOfSameMap old new
   pub lacks : LacksRoom op before now
+  pub shortage : IsShortage op now refusal
   pub unchanged : IsSameBesideRoom before now
 
 -- why the operation of a free session hasn't ended
 abbrev pub IsNotEnded : Op → Session → SessionOwner → SessionOwner → MapRefusal → Type 0
-IsNotEnded op before old new refused.Full = LacksRoomFor op before old new
+IsNotEnded op before old new refused.Full = LacksRoomFor op before old new refused.Full
+IsNotEnded op before old new refused.RowsBusy = LacksRoomFor op before old new refused.RowsBusy
 IsNotEnded op before old new refused.UnderWay = IsBusyWith op before old new
 IsNotEnded op before old new refusal = ⊥
 
@@ -195,16 +203,20 @@ pub record IsPuttingOn (key pointer : ℕ) (before : Session) (old new : Session
   pub of_put : IsOfPut key pointer (op_of pending)
   pub tried : HasTried before (session_of pending)
 
--- the session lacked room for the put, and has made no change
-pub record LacksRoomToPut (before : Session) (old new : SessionOwner) : Type 0 where
+-- the session lacked room for an operation of the put, and has made no change
+pub record LacksRoomToPut (key pointer : ℕ) (before : Session) (old new : SessionOwner) (refusal : MapRefusal) : Type 0 where
   pub now : Session
   pub is : new.held ≡ Free now
   pub same : IsOfSameMap old new
+  pub op : Op
+  pub of_put : IsOfPut key pointer op
+  pub shortage : IsShortage op now refusal
   pub tried : HasTried before now
 
 -- why a put hasn't ended
 abbrev pub IsNotPut : ℕ → ℕ → Session → SessionOwner → SessionOwner → MapRefusal → Type 0
-IsNotPut key pointer before old new refused.Full = LacksRoomToPut before old new
+IsNotPut key pointer before old new refused.Full = LacksRoomToPut key pointer before old new refused.Full
+IsNotPut key pointer before old new refused.RowsBusy = LacksRoomToPut key pointer before old new refused.RowsBusy
 IsNotPut key pointer before old new refused.UnderWay = IsPuttingOn key pointer before old new
 IsNotPut key pointer before old new refusal = ⊥
 

@@ -1,7 +1,7 @@
-//! The exports that change an index in place by one operation, and that give the entries at its ends.
-ghost use Rattle.std.specs.Prelude.{◌≡◌, ◌≢◌, ◌↔◌, IsSome, IsTrue, IfSome, filter, length};
+//! The exports that change an index in place by one operation, that pack it, and that give the entries at its ends.
+ghost use Rattle.std.specs.Prelude.{◌≡◌, ◌≢◌, ◌↔◌, ◌≤◌, IsSome, IsTrue, IfSome, filter, length};
 ghost use Rattle.blink_batch.specs.declared.Op.TheVariants.{Delete, Exchange, Insert, Replace};
-ghost use Rattle.blink_index.specs.{first_of, is_above, last_of, map_of};
+ghost use Rattle.blink_index.specs.{IsInOrder, NeedsPages, first_of, is_above, last_of, map_of};
 ghost use Rattle.blink_page.specs.{ExceedsPageLimit};
 ghost use Rattle.blink_c.specs.Codes.{code_of};
 ghost use Rattle.blink_c.specs.Edits.{HasEdited, TellsEditFault, entry_or};
@@ -12,6 +12,7 @@ use crate::raw::{RawAnswer, RawEntry};
 use crate::refusal::{DONE, Refusal};
 use blink_batch::{Answer, Entry};
 use blink_index::EditError;
+use std::alloc::Global;
 
 /// Adds a key with its pointer in place, unless the key is present, and gives the answer. A refusal leaves the index and the
 /// answer as they were.
@@ -75,6 +76,24 @@ pub extern "C" fn blink_index_exchange(
         index.new.value }
 {
     *answer = RawAnswer::of(index.get().exchange(key, expected, pointer));
+}
+
+/// Packs the entries into as few pages as they need, in place. A refusal leaves the index as it was.
+#[unsafe(no_mangle)]
+pub extern "C" fn blink_index_compact(alloc: Global, index: &mut IndexHandle) -> u8
+    ensures map { map_of index.new.value ≡ map_of index.old.value }
+    ensures same_fan { index.new.value.fan ≡ index.old.value.fan }
+    ensures pages { result ≡ 0
+        → NeedsPages index.old.value.fan (length (map_of index.old.value)) (length index.new.value.pages) }
+    ensures no_more_pages { length index.new.value.pages ≤ length index.old.value.pages }
+    ensures numbered { result ≡ 0 → IsInOrder index.new.value }
+    ensures refused { result ≢ 0 → result ≡ code_of Refusal.OutOfMemory }
+    ensures unchanged { result ≢ 0 → index.new.value ≡ index.old.value }
+{
+    match index.get().compact(alloc) {
+        Ok(()) => DONE,
+        Err(_) => Refusal::OutOfMemory.code(),
+    }
 }
 
 /// Gives the entry with the least key, if there is one, or leaves `entry` as it was.

@@ -1,19 +1,20 @@
-//! The export that makes an index of entries.
+//! The exports that make an index of entries.
 ghost use Rattle.std.specs.Prelude.{◌≡◌, ◌≢◌, ◌≤◌, None, IsSome, IfOk, IfErr, IfSome, length, map};
 ghost use Rattle.blink_batch.specs.{map_after_all};
 ghost use Rattle.blink_batch.specs.declared.batch.TheConstants.{BATCH_LIMIT};
-ghost use Rattle.blink_index.specs.{map_of};
+ghost use Rattle.blink_index.specs.{IsInOrder, IsSortedRefusal, NeedsPages, map_of};
 ghost use Rattle.blink_c.specs.Codes.{TellsWhy, code_of};
 ghost use Rattle.blink_c.specs.Raw.{insertion_of};
+ghost use Rattle.blink_c.specs.Sorted.{TellsSortedFault};
 ghost use Rattle.blink_c.specs.Runs.{HasEntriesOf, HasPagesFor, HasPagesOf, IsMakeRefusal, IsStartRefusal};
 
 use crate::batch::run_to_end;
 use crate::index::{fill, new_index};
 use crate::index_slot::IndexSlot;
 use crate::raw::RawEntry;
-use crate::refusal::Refusal;
-use blink_batch::{BATCH_LIMIT, Batch, Op};
-use blink_index::Index;
+use crate::refusal::{DONE, Refusal};
+use blink_batch::{BATCH_LIMIT, Batch, Entry, Op};
+use blink_index::{Index, SortedError};
 use std::alloc::{AllocError, Global};
 
 /// Makes an index of entries in any order. Of two with one key the first stays.
@@ -82,4 +83,55 @@ fn insertions(alloc: Global, entries: &[RawEntry]) -> Result<Vec<Op>, AllocError
         ops.push_reserved(Op::Insert(entry.key, entry.pointer));
     }
     Ok(ops)
+}
+
+/// Makes an index of entries whose keys strictly ascend, in as few pages as they need. If they don't ascend, the call tells the
+/// first place, counted from 0, whose key isn't above the one before.
+#[unsafe(no_mangle)]
+pub extern "C" fn blink_index_from_sorted(
+    alloc: Global,
+    fan: u8,
+    entries: &[Entry],
+    out: &mut IndexSlot,
+    bad_place: &mut usize,
+) -> u8
+    requires { out.old.value ≡ None }
+    ensures made { result ≡ 0 → IsSome out.new.value }
+    ensures map { IfSome out.new.value (λ index. map_of index ≡ entries.now) }
+    ensures fan { IfSome out.new.value (λ index. index.fan ≡ fan) }
+    ensures pages { IfSome out.new.value
+        (λ index. NeedsPages fan (length entries.now) (length index.pages)) }
+    ensures numbered { IfSome out.new.value IsInOrder }
+    ensures refused { result ≢ 0 → TellsSortedFault fan entries.now result bad_place.new }
+    ensures no_place { result ≢ 42 → bad_place.new ≡ bad_place.old }
+    ensures unchanged { result ≢ 0 → out.new.value ≡ None }
+{
+    match packed(alloc, fan, entries) {
+        Ok(index) => {
+            *out = IndexSlot::of(index);
+            DONE
+        }
+        Err(refusal) => {
+            if let SortedError::NotAscending(place) = refusal {
+                *bad_place = place;
+            }
+            refusal.code()
+        }
+    }
+}
+
+// The index of ascending entries, in a box.
+fn packed(alloc: Global, fan: u8, entries: &[Entry]) -> Result<Box<Index>, SortedError>
+    ensures map { IfOk result (λ index. map_of index.value ≡ entries.now) }
+    ensures fan { IfOk result (λ index. index.value.fan ≡ fan) }
+    ensures pages { IfOk result
+        (λ index. NeedsPages fan (length entries.now) (length index.value.pages)) }
+    ensures numbered { IfOk result (λ index. IsInOrder index.value) }
+    ensures refused { IfErr result (IsSortedRefusal fan entries.now) }
+{
+    let index = Index::from_sorted(alloc, fan, entries)?;
+    match Box::new(alloc, index) {
+        Ok(index) => Ok(index),
+        Err(_) => Err(SortedError::OutOfMemory),
+    }
 }

@@ -11,8 +11,10 @@ use blink_map::MapError;
 pub(crate) enum MapRefusal {
     /// A map can't be opened, joined or closed.
     Map(MapError),
-    /// The session has too few rows or page numbers left, and the map's pool too.
+    /// The session has too few rows or page numbers in all, and the map's pool too.
     Full,
+    /// The session has enough rows in all, but some are on their way back.
+    RowsBusy,
     /// The handle of a session isn't freed.
     Missing,
     /// The session is of another map.
@@ -31,6 +33,7 @@ impl MapRefusal {
         match self {
             MapRefusal::Map(refusal) => refusal.code(),
             MapRefusal::Full => 105,
+            MapRefusal::RowsBusy => 107,
             MapRefusal::Missing => 106,
             MapRefusal::Foreign => 63,
             MapRefusal::UnderWay => 90,

@@ -3,7 +3,7 @@ ghost use Rattle.std.specs.Prelude.{◌≡◌, ◌≢◌, IfErr, IfOk, OnErr, On
 ghost use Rattle.blink_batch.specs.{FitsWords};
 ghost use Rattle.blink_machine.specs.{IsUpdate};
 ghost use Rattle.blink_map.specs.{IsPendingOf, IsSessionOf, op_of, session_of};
-ghost use Rattle.blink_c.specs.Sessions.{Answers, EndsFrom, Finds, HasAnswered, HasPut, IsAdvanceRefusal, IsChangeRefusal, IsFree, IsNotFree, IsNotPut, IsOfPut, IsOwnSession, IsPutRefusal, IsTakeRefusal, IsTellRefusal, Puts, Scans, StaysBusy, Takes, TellsOn, in_map};
+ghost use Rattle.blink_c.specs.Sessions.{Answers, EndsFrom, Finds, HasAnswered, HasPut, IsAdvanceRefusal, IsChangeRefusal, IsFree, IsNotFree, IsNotPut, IsOfPut, IsOwnSession, IsPutRefusal, IsShortage, IsTakeRefusal, IsTellRefusal, Puts, Scans, StaysBusy, Takes, TellsOn, in_map};
 
 use crate::map_refusal::MapRefusal;
 use crate::raw::{RawAnswer, RawScanned, RawTaken};
@@ -146,8 +146,9 @@ impl SessionOwner {
         match self.shared.begin(session, op) {
             Ok(pending) => self.go_on(pending, tries, answer),
             Err((session, _full)) => {
+                let refusal = shortage(&session, op);
                 self.held = HeldSession::Free(session);
-                Err(MapRefusal::Full)
+                Err(refusal)
             }
         }
     }
@@ -170,8 +171,9 @@ impl SessionOwner {
         match self.shared.begin(session, Op::Insert(key, pointer)) {
             Ok(pending) => self.put_on(pending, key, pointer, tries, answer),
             Err((session, _full)) => {
+                let refusal = shortage(&session, Op::Insert(key, pointer));
                 self.held = HeldSession::Free(session);
-                Err(MapRefusal::Full)
+                Err(refusal)
             }
         }
     }
@@ -279,8 +281,9 @@ impl SessionOwner {
                 MapRefusal::UnderWay
             }
             Err((session, _full)) => {
+                let refusal = shortage(&session, op);
                 self.held = HeldSession::Free(session);
-                MapRefusal::Full
+                refusal
             }
         }
     }
@@ -301,5 +304,16 @@ impl SessionOwner {
                 Err(MapRefusal::UnderWay)
             }
         }
+    }
+}
+
+// Why a session that lacks room can't begin an operation.
+fn shortage(session: &Session, op: Op) -> MapRefusal
+    ensures { IsShortage op session.now result }
+{
+    if session.lacks_room_in_all(op) {
+        MapRefusal::Full
+    } else {
+        MapRefusal::RowsBusy
     }
 }

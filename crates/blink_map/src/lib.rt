@@ -16,6 +16,7 @@ mod rest;
 mod room;
 mod scan;
 mod sessions;
+mod shortage;
 mod snapshot;
 mod tell;
 

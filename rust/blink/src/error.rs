@@ -9,10 +9,12 @@ pub enum Error {
     /// The fan isn't from 4 to 32.
     BadFan,
     /// More page numbers might be needed than exist: 1 + pages + 22 for each insertion is above 1,048,576; or, of a map, the
-    /// index's pages and the page numbers of its room are above 1,048,575.
+    /// index's pages and the page numbers of its room are above 1,048,575; or ascending entries need more than 1,048,575 pages.
     TooLarge,
     /// Memory was refused.
     OutOfMemory,
+    /// The key at this place of the entries, counted from 0, isn't above the one before. It is the first such place.
+    NotAscending(usize),
     /// A pass has this key that wasn't given back, or it stands twice in the list.
     Taken(u64),
     /// The table has fewer insertions or deletions left to deal.
@@ -33,8 +35,11 @@ pub enum Error {
     NoPlace,
     /// An operation of a session was dropped before it had ended.
     LostUnderWay,
-    /// The session has too few rows or page numbers left for the change, and the map's pool too.
+    /// The session has too few rows or page numbers in all for the change, and the map's pool too.
     Full,
+    /// The session has enough rows and page numbers in all for the change, but some rows are on their way back. The same change may be
+    /// let through later.
+    RowsBusy,
 }
 
 impl Error {
@@ -53,6 +58,7 @@ impl Error {
             103 => Error::NoPlace,
             104 => Error::LostUnderWay,
             105 => Error::Full,
+            107 => Error::RowsBusy,
             _ => unreachable!("libblink returned code {code}"),
         }
     }
@@ -71,6 +77,7 @@ impl fmt::Display for Error {
             Error::BadFan => f.write_str("bad fan"),
             Error::TooLarge => f.write_str("too large"),
             Error::OutOfMemory => f.write_str("out of memory"),
+            Error::NotAscending(place) => write!(f, "entry {place}: not ascending"),
             Error::Taken(key) => write!(f, "key {key} is taken"),
             Error::NoAllowance => f.write_str("no allowance"),
             Error::NotYours => f.write_str("not yours"),
@@ -82,6 +89,7 @@ impl fmt::Display for Error {
             Error::NoPlace => f.write_str("no place for a session"),
             Error::LostUnderWay => f.write_str("an operation was dropped before it had ended"),
             Error::Full => f.write_str("full"),
+            Error::RowsBusy => f.write_str("rows are on their way back"),
         }
     }
 }

@@ -72,6 +72,35 @@ impl Index {
         })
     }
 
+    /// Makes an index of entries whose keys strictly ascend, in as few pages as any tree of these entries has: each leaf but the last
+    /// is full. The first place whose key isn't above the one before is told by [`Error::NotAscending`].
+    ///
+    /// ```
+    /// use blink::{Entry, Error, Index};
+    ///
+    /// let mut entries: Vec<Entry> = (1..=10).map(|key| Entry { key, pointer: 10 * key }).collect();
+    /// let index = Index::from_sorted(4, &entries)?;
+    /// // three leaves and the root
+    /// assert_eq!((index.len(), index.pages(), index.find(7)), (10, 4, Some(70)));
+    /// entries[6].key = 6;
+    /// assert_eq!(Index::from_sorted(4, &entries).unwrap_err(), Error::NotAscending(6));
+    /// # Ok::<(), Error>(())
+    /// ```
+    pub fn from_sorted(fan: u8, entries: &[Entry]) -> Result<Index, Error> {
+        let mut bad_place = 0;
+        let mut handle = Handle::EMPTY;
+        // SAFETY: `entries` is a slice of numbers, and `handle` an empty handle.
+        let code = unsafe {
+            sys::blink_index_from_sorted(fan, entries.as_ptr(), entries.len(), &mut handle, &mut bad_place)
+        };
+        match code {
+            sys::NOT_ASCENDING => Err(Error::NotAscending(bad_place)),
+            code => Error::check(code).map(|()| Index {
+                handle: UnsafeCell::new(handle),
+            }),
+        }
+    }
+
     /// Makes a copy.
     pub fn try_clone(&self) -> Result<Index, Error> {
         Index::filled(|out| {
@@ -177,6 +206,27 @@ impl Index {
             answers: given.into_iter().map(Answer::of).collect(),
             error: Error::check(code).err(),
         }
+    }
+
+    /// Packs the entries into as few pages as any tree of these entries has, in place: each leaf but the last is full then, so that an
+    /// insertion splits it. Only memory may be refused, and then the index is as it was.
+    ///
+    /// ```
+    /// use blink::{Entry, Index};
+    ///
+    /// let entries: Vec<Entry> = (1..=10).map(|key| Entry { key, pointer: 10 * key }).collect();
+    /// let mut index = Index::from_sorted(4, &entries)?;
+    /// for key in 1..=7 {
+    ///     index.remove(key);
+    /// }
+    /// assert_eq!((index.len(), index.pages()), (3, 4));
+    /// index.compact()?;
+    /// assert_eq!((index.len(), index.pages(), index.find(8)), (3, 1, Some(80)));
+    /// # Ok::<(), blink::Error>(())
+    /// ```
+    pub fn compact(&mut self) -> Result<(), Error> {
+        // SAFETY: as in `insert`.
+        Error::check(unsafe { sys::blink_index_compact(self.handle.get()) })
     }
 
     /// Runs operations one after another, and returns their answers. Each 8,192 of them run on a copy of the index, which then

@@ -19,7 +19,7 @@ pub struct Room {
     /// Rows, of 560 bytes. Each write of a page takes one. An insertion has to have 44 when it begins, and writes one page mostly;
     /// a deletion, a replacement or an exchange has to have one. The row that a write replaces comes back to its session, once
     /// each call that was in progress has ended. So a few hundred rows a session last. While a thread is held up inside a call no row
-    /// comes back, and a change that is refused with [`Error::Full`] may be let through later.
+    /// comes back, and a change may have to wait, or is refused with [`Error::RowsBusy`] where it mustn't wait.
     pub rows: u32,
     /// Places for sessions, 1 to 256.
     pub sessions: u32,
@@ -238,7 +238,8 @@ impl<'map> Session<'map> {
     /// Maps a key to a pointer, unless the key is there: [`Answer::Inserted`] or [`Answer::Exists`].
     ///
     /// It is refused with [`Error::Full`], as [`Session::remove`], [`Session::replace`] and [`Session::put`] are, if the session has
-    /// too little room left and the map's pool too. Then the map is as it was.
+    /// too little room in all and the map's pool too. Then the map is as it was. The call waits where the session has the room once its
+    /// rows have come back.
     pub fn insert(&mut self, key: u64, pointer: u64) -> Result<Answer, Error> {
         // SAFETY: as in `get`.
         self.ended(|handle, answer| unsafe { sys::blink_session_insert(handle, key, pointer, TRIES, answer) })
@@ -360,7 +361,8 @@ impl<'map> Session<'map> {
     /// Begins an operation and takes its first steps, which wait for nobody. Where another session has the page that it wants for
     /// `tries` steps, it rests as an [`Unfinished`], and the thread may do something else. A find ends at once.
     ///
-    /// It is refused with [`Error::Full`] as [`Session::insert`] is. A refusal hands the session back.
+    /// It is refused with [`Error::Full`] as [`Session::insert`] is, and with [`Error::RowsBusy`] where that waits. A refusal hands the
+    /// session back.
     ///
     /// ```
     /// use blink::{Answer, Begun, Index, Map, Op, Room};
@@ -424,19 +426,21 @@ impl<'map> Session<'map> {
         }
     }
 
-    // Begins an operation, and takes its steps to the end.
-    fn ended(&mut self, begin: impl FnOnce(*mut Handle, *mut RawAnswer) -> u8) -> Result<Answer, Error> {
+    // Begins an operation, and takes its steps to the end. It begins again where the session's rows were on their way back.
+    fn ended(&mut self, mut begin: impl FnMut(*mut Handle, *mut RawAnswer) -> u8) -> Result<Answer, Error> {
         let mut answer = RawAnswer::NONE;
         let mut code = begin(&mut self.handle, &mut answer);
-        while code == sys::PENDING {
-            // SAFETY: as in `get`; an operation is under way.
-            code = unsafe { sys::blink_session_advance(&mut self.handle, TRIES, &mut answer) };
-            if code == sys::PENDING {
+        loop {
+            code = match code {
+                // SAFETY: as in `get`; an operation is under way.
+                sys::PENDING => unsafe { sys::blink_session_advance(&mut self.handle, TRIES, &mut answer) },
+                sys::ROWS_BUSY => begin(&mut self.handle, &mut answer),
+                code => return Error::check(code).map(|()| Answer::of(answer)),
+            };
+            if matches!(code, sys::PENDING | sys::ROWS_BUSY) {
                 thread::yield_now();
             }
         }
-        Error::check(code)?;
-        Ok(Answer::of(answer))
     }
 }
 

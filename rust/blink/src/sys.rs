@@ -65,7 +65,13 @@ pub(crate) type SnapshotCall = unsafe extern "C" fn(*mut Handle, u64, u64, u32, 
 pub(crate) type ScanCall =
     unsafe extern "C" fn(*mut Handle, u64, u64, *mut crate::Entry, usize, *mut RawScanned) -> u8;
 
+/// The code of entries whose keys don't ascend.
+pub(crate) const NOT_ASCENDING: u8 = 42;
+
 pub(crate) const BATCH_LIMIT: usize = 8192;
+
+/// The code of a change for which the session has room once its rows have come back.
+pub(crate) const ROWS_BUSY: u8 = 107;
 
 /// The code of an operation that is under way.
 pub(crate) const PENDING: u8 = 90;
@@ -73,6 +79,14 @@ pub(crate) const PENDING: u8 = 90;
 extern "C" {
     pub(crate) fn blink_index_new(fan: u8, out: *mut Handle) -> u8;
     pub(crate) fn blink_index_from_entries(fan: u8, entries: *const crate::Entry, count: usize, out: *mut Handle) -> u8;
+    pub(crate) fn blink_index_from_sorted(
+        fan: u8,
+        entries: *const crate::Entry,
+        count: usize,
+        out: *mut Handle,
+        bad_place: *mut usize,
+    ) -> u8;
+    pub(crate) fn blink_index_compact(index: *mut Handle) -> u8;
     pub(crate) fn blink_index_copy(index: *mut Handle, out: *mut Handle) -> u8;
     pub(crate) fn blink_index_insert(index: *mut Handle, key: u64, pointer: u64, answer: *mut RawAnswer) -> u8;
     pub(crate) fn blink_index_delete(index: *mut Handle, key: u64, answer: *mut RawAnswer);

@@ -4,7 +4,7 @@
 //! Gong do: a call may come next if no other that is left ended before it began. Every pointer is stored by one call alone, so that a value
 //! read tells which call stored it.
 
-use blink::{Answer, Begun, Entry, Index, Map, Op, Room, Session};
+use blink::{Answer, Begun, Entry, Error, Index, Map, Op, Room, Session};
 use std::collections::{BTreeSet, HashMap, HashSet};
 use std::thread;
 use std::time::{Duration, Instant};
@@ -116,10 +116,22 @@ fn told_by(op: Op, answer: Answer) -> (State, State) {
     }
 }
 
+// An operation that begins, also where the session's rows are on their way back for a while.
+fn begins(mut session: Session, op: Op) -> Begun {
+    loop {
+        match session.begin(op, 1) {
+            Ok(begun) => return begun,
+            Err((free, Error::RowsBusy)) => session = free,
+            Err((_, error)) => panic!("{op:?}: {error}"),
+        }
+        thread::yield_now();
+    }
+}
+
 // An operation that rests where another session has its page, while its thread does something else. Returns how often it rested.
 fn by_steps<'map>(session: Session<'map>, op: Op, random: &mut u64) -> (Session<'map>, Answer, u64) {
     let mut rests = 0;
-    let mut begun = session.begin(op, 1).map_err(|(_, error)| error).unwrap();
+    let mut begun = begins(session, op);
     loop {
         match begun {
             Begun::Ended(session, answer) => return (session, answer, rests),

@@ -208,13 +208,23 @@ fn an_operation_that_begins_ends_where_nobody_has_its_page() {
 // Replaces one key by steps, until an operation rests or that many have ended. One that rests is dropped.
 fn drops_one_that_rests(map: &Map, most: u64) -> bool {
     let mut session = map.session().unwrap();
-    for pointer in 0..most {
-        match session.begin(Op::Replace(1, pointer), 1).unwrap() {
-            Begun::Ended(ended, _) => session = ended,
-            Begun::Resting(unfinished) => {
+    let mut pointer = 0;
+    while pointer < most {
+        match session.begin(Op::Replace(1, pointer), 1) {
+            Ok(Begun::Ended(ended, _)) => {
+                session = ended;
+                pointer += 1;
+            }
+            Ok(Begun::Resting(unfinished)) => {
                 drop(unfinished);
                 return true;
             }
+            // a thread is held up inside a call, so no row has come back
+            Err((free, Error::RowsBusy)) => {
+                session = free;
+                thread::yield_now();
+            }
+            Err((_, error)) => panic!("{error}"),
         }
     }
     false

@@ -3,9 +3,10 @@ use Rattle.blink_batch.specs.declared.Op.{Op}
 use Rattle.blink_map.specs.declared.map.Session.{Session}
 use Rattle.blink_map.specs.{op_of, session_of}
 use Rattle.blink_c.specs.declared.map_refusal.MapRefusal.{MapRefusal}
+use Rattle.blink_c.specs.declared.session_owner.HeldSession.TheVariants.{Free}
 use Rattle.blink_c.specs.declared.session_owner.SessionOwner.{SessionOwner}
 use Rattle.blink_c.specs.Sessions.{HasAnswered, IsNotEnded, IsOfSameMap}
-use Rattle.blink_c.proofs.SessionsGoOn.{answered_through, busy_through, on_err, on_ok}
+use Rattle.blink_c.proofs.SessionsGoOn.{answered_through, busy_through, not_ended_for_room, on_err, on_ok}
 use Rattle.blink_c.proofs.session_owner.SessionOwner.change.Goals as goal
 
 pub returns-in-Ok-clause-answered : goal.returns-in-Ok-clause-answered
@@ -53,11 +54,12 @@ returns-in-Err-clause-refused c =
     inl (
       c.in_ok-session.session,
       c.in_ok-session.ensures.free,
-      record {
+      not_ended_for_room c.args.op c.in_ok-session.session c.args.self.now (record c.take_free.new.self { held = Free c.in-Err.session }) c.shortage-refusal.result (record {
         now = c.in-Err.session;
         is = refl;
         same = record { same_map = ap (λ (owner : SessionOwner). owner.shared) gone; same_number = ap (λ (owner : SessionOwner). owner.number) gone };
         lacks = c.in-Err.ensures.full;
+        shortage = c.shortage-refusal.ensures;
         unchanged = c.in-Err.ensures.unchanged;
-      },
+      }),
     )

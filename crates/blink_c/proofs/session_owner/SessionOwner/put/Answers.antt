@@ -1,10 +1,12 @@
 use Rattle.std.proofs.Common.{inl, refl, ap, subst}
+use Rattle.blink_batch.specs.declared.Op.TheVariants.{Insert}
 use Rattle.blink_map.specs.declared.map.Session.{Session}
 use Rattle.blink_map.specs.{session_of}
 use Rattle.blink_map.proofs.PutsAreChanges.{tried_in_vain}
+use Rattle.blink_c.specs.declared.session_owner.HeldSession.TheVariants.{Free}
 use Rattle.blink_c.specs.declared.session_owner.SessionOwner.{SessionOwner}
 use Rattle.blink_c.specs.Sessions.{HasPut, IsNotPut, IsOfSameMap}
-use Rattle.blink_c.proofs.SessionsGoOn.{if_err, not_put_through, on_ok, put_through}
+use Rattle.blink_c.proofs.SessionsGoOn.{if_err, not_put_for_room, not_put_through, on_ok, put_through}
 use Rattle.blink_c.proofs.session_owner.SessionOwner.put.Goals as goal
 
 pub returns-in-Ok-clause-put : goal.returns-in-Ok-clause-put
@@ -41,10 +43,13 @@ returns-in-Err-clause-refused c =
     inl (
       c.in_ok-session.session,
       c.in_ok-session.ensures.free,
-      record {
+      not_put_for_room c.args.key c.args.pointer c.in_ok-session.session c.args.self.now (record c.take_free.new.self { held = Free c.in-Err.session }) c.shortage-refusal.result (record {
         now = c.in-Err.session;
         is = refl;
         same = record { same_map = ap (λ (owner : SessionOwner). owner.shared) gone; same_number = ap (λ (owner : SessionOwner). owner.number) gone };
+        op = Insert c.args.key c.args.pointer;
+        of_put = inl refl;
+        shortage = c.shortage-refusal.ensures;
         tried = tried_in_vain c.in_ok-session.session c.in-Err.session c.in-Err.ensures.unchanged;
-      },
+      }),
     )

@@ -6,6 +6,8 @@ use Rattle.blink_map.specs.{HasTried, IsPendingOf}
 use Rattle.blink_map.proofs.PutsAreChanges.{tried_in_vain}
 use Rattle.blink_c.specs.Sessions.{IsOfPut}
 use Rattle.blink_c.proofs.AnswersOfPuts.{tried_nothing}
+use Rattle.blink_c.proofs.SessionsGoOn.{not_put_for_room}
+use Rattle.blink_c.specs.declared.session_owner.HeldSession.TheVariants.{Free}
 use Rattle.blink_c.proofs.session_owner.SessionOwner.put_by.Goals as goal
 
 pub returns-in-Ok-clause-refused : goal.returns-in-Ok-clause-refused
@@ -21,9 +23,13 @@ returns-in-Ok-clause-refused c =
     }
 
 pub returns-in-Err-clause-refused : goal.returns-in-Err-clause-refused
-returns-in-Err-clause-refused c = record {
-  now = c.in-Err.session;
-  is = refl;
-  same = record { same_map = refl; same_number = refl };
-  tried = tried_in_vain c.args.session c.in-Err.session c.in-Err.ensures.unchanged;
-}
+returns-in-Err-clause-refused c =
+    not_put_for_room c.args.key c.args.pointer c.args.session c.args.self.now (record c.args.self.now { held = Free c.in-Err.session }) c.shortage-refusal.result (record {
+      now = c.in-Err.session;
+      is = refl;
+      same = record { same_map = refl; same_number = refl };
+      op = c.args.op;
+      of_put = c.requires.of_put;
+      shortage = c.shortage-refusal.ensures;
+      tried = tried_in_vain c.args.session c.in-Err.session c.in-Err.ensures.unchanged;
+    })
