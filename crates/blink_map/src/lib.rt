@@ -17,8 +17,10 @@ mod room;
 mod scan;
 mod sessions;
 mod snapshot;
+mod stock;
 mod tell;
 
 pub use blink_live::Scanned;
 pub use error::{Full, MapError};
 pub use map::{Map, Pending, Room, Session};
+pub use stock::Stock;
