@@ -6,6 +6,8 @@ pub use Rattle.blink_map.specs.Sessions.{AnswersAsSeen, HasRoom, IsAnswered, IsC
 pub use Rattle.blink_map.specs.Pendings.{GoesOn, HasBegun, IsPendingOf, op_of, session_of}
 -- an entry that is put
 pub use Rattle.blink_map.specs.Putting.{HasTried, IsPut, change_to}
+-- what a session has of rows and page numbers
+pub use Rattle.blink_map.specs.Stocks.{stock_of}
 -- the code of each refusal
 pub use Rattle.blink_map.specs.Codes.{code_of}
 -- ---- the files
@@ -20,3 +22,4 @@ pub mod Opening
 pub mod Putting
 pub mod Places
 pub mod Sessions
+pub mod Stocks

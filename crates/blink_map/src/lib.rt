@@ -18,8 +18,10 @@ mod scan;
 mod sessions;
 mod shortage;
 mod snapshot;
+mod stock;
 mod tell;
 
 pub use blink_live::Scanned;
 pub use error::{Full, MapError};
 pub use map::{Map, Pending, Room, Session};
+pub use stock::Stock;

@@ -1,7 +1,7 @@
 //! Maps that are filled to their last row and to their last page number.
 use crate::shared::Two;
 use blink_batch::Answer;
-use blink_map::Full;
+use blink_map::{Full, Stock};
 use std::process::Abort;
 
 // 88 rows are as many as two insertions may need. The rows that changes write over come back.
@@ -25,6 +25,24 @@ fn a_map_with_few_rows_takes_many_changes(rt: HostRuntime) {
     assert_eq!(&rt; index.find(1), Some(10));
     assert_eq!(&rt; index.find(2), Some(1000));
     assert_eq!(&rt; index.find(3), Some(30));
+}
+
+// The first insertion draws the 44 rows that it may need, and an eighth of the pool's page numbers. It writes one row, and takes the leaf's
+// first row out.
+#[test]
+fn a_session_tells_what_it_has(rt: HostRuntime) {
+    let mut two = Two::open(&rt, rt.alloc(), 200, 88);
+    assert_eq!(&rt; two.insert(&rt, 1, 10), Ok(Answer::Inserted));
+    assert_eq!(&rt;
+        two.map.stock(&two.one),
+        Stock {
+            pages: 25,
+            unwritten: 43,
+            free: 0,
+            taken_out: 1,
+            waiting: 0
+        }
+    );
 }
 
 // A page has 4 entries. The fifth insertion splits the leaf, which makes two pages more and keeps two rows. So fewer than the 44 rows

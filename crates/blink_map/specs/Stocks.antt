@@ -1,0 +1,27 @@
+-- What a session has of rows and page numbers.
+use Rattle.std.specs.Prelude.{ℕ, Option, Some, None}
+use Rattle.blink_live.specs.declared.shelf.Shelf.{Shelf}
+use Rattle.blink_live.specs.Allowed.{length_of}
+use Rattle.blink_live.specs.Shelves.{free_in}
+use Rattle.blink_map.specs.declared.map.Session.{Session}
+use Rattle.blink_map.specs.declared.stock.Stock.{Stock}
+
+-- the rows that were taken out and don't wait yet
+abbrev pub taken_out_in : Option Shelf → ℕ
+taken_out_in None = 0
+taken_out_in (Some shelf) = shelf.retired.len
+
+-- the rows that wait
+abbrev pub waiting_in : Option Shelf → ℕ
+waiting_in None = 0
+waiting_in (Some shelf) = shelf.waiting.len
+
+-- the numbers of its rows and page numbers
+abbrev pub stock_of : Session → Stock
+stock_of session = record {
+  pages = length_of session.member.pages;
+  unwritten = length_of session.member.rows;
+  free = free_in session.member.shelf;
+  taken_out = taken_out_in session.member.shelf;
+  waiting = waiting_in session.member.shelf;
+}
