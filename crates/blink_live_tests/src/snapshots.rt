@@ -27,6 +27,14 @@ impl Shared {
             same_for(rt, entry, &Entry { key, pointer }, &case.range);
         }
     }
+
+    // The first pass takes no snapshot without a try.
+    fn has_no_snapshot(&mut self, rt: &impl Abort, alloc: Global) {
+        assert!(rt; !self.passes.is_empty(), "no pass");
+        let Ok(None) = self.live.snapshot(alloc, &mut self.passes[0], 0, 9, 0) else {
+            panic!(rt; "a snapshot without a try")
+        };
+    }
 }
 
 // Of the keys 1 to 14, each with ten times the key, in leaves of at most 4 entries.
@@ -85,11 +93,7 @@ fn a_snapshot_has_its_range(rt: HostRuntime) {
 fn no_try_takes_no_snapshot(rt: HostRuntime) {
     let mut table = Shared::open(&rt, rt.alloc(), (0, 14), (0, 0));
     table.deal(&rt, &[], 0, 0, Ok(()));
-    assert!(&rt; !table.passes.is_empty(), "no pass");
-    let found = table
-        .live
-        .snapshot(rt.alloc(), &mut table.passes[0], 0, 9, 0);
-    assert!(&rt; matches!(found, Ok(None)), "a snapshot");
+    table.has_no_snapshot(&rt, rt.alloc());
 }
 
 const CHANGES: [Step; 8] = [

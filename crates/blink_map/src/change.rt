@@ -291,7 +291,7 @@ impl Member {
     }
 
     // Whether it will have it once all its rows have come back.
-    fn will_have_room(&self, op: Op) -> bool
+    pub(crate) fn will_have_room(&self, op: Op) -> bool
         ensures { IsTrue result ↔ HasRoomInAll op self.now }
     {
         let (rows, pages) = needed_by(op);
