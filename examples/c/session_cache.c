@@ -21,18 +21,21 @@ static void expect(uint8_t code) {
     if (code != BLINK_DONE) exit(fprintf(stderr, "libblink: code %d\n", code));
 }
 
-// Ends the change that a call with this code has begun, yielding where another thread has the page. What the answer tells is in `answer`.
-static void end(blink_session *cache, uint8_t code, blink_answer *answer) {
+// Ends the change that a call with this code has begun, yielding where another thread has the page. Whether it has to be made again, since
+// the session's rows are on their way back; if not, what the answer tells is in `answer`.
+static bool again(blink_session *cache, uint8_t code, blink_answer *answer) {
     while (code == BLINK_PENDING) {
         code = blink_session_advance(cache, TRIES, answer);
         if (code == BLINK_PENDING) sched_yield();
     }
-    expect(code);
+    if (code != BLINK_ROWS_BUSY) expect(code);
+    else sched_yield();
+    return code == BLINK_ROWS_BUSY;
 }
 
 static bool removes(blink_session *cache, uint64_t user) {
     blink_answer answer;
-    end(cache, blink_session_delete(cache, user, TRIES, &answer), &answer);
+    while (again(cache, blink_session_delete(cache, user, TRIES, &answer), &answer)) {}
     return answer.kind == BLINK_REMOVED;
 }
 
@@ -42,7 +45,7 @@ static void show_page(struct worker *self, uint64_t user, uint64_t now) {
     expect(blink_session_find(&self->cache, user, &there));
     // of two threads that find it run out one removes it
     if (there.kind == BLINK_FOUND && there.pointer + IDLE < now && removes(&self->cache, user)) self->expiries++;
-    end(&self->cache, blink_session_put(&self->cache, user, now, TRIES, &answer), &answer);
+    while (again(&self->cache, blink_session_put(&self->cache, user, now, TRIES, &answer), &answer)) {}
     if (answer.kind == BLINK_INSERTED) self->logins++;
     self->pages++;
 }
