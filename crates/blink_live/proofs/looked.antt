@@ -1,2 +1,4 @@
 pub mod LeavesAreNoted
+pub mod LeavesAreFollowed
+pub mod SeatsGoAlong
 pub mod SnapshotsGoOn

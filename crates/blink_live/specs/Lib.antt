@@ -58,6 +58,7 @@ pub mod Handing
 pub mod Finding
 pub mod Scanning
 pub mod Snapshots
+pub mod Along
 pub mod KeyTest
 pub mod Words
 pub mod Laid

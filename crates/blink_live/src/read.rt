@@ -349,7 +349,7 @@ fn floor_of(has_floor: u64, word: u64) -> Option<u64>
 }
 
 // The right link that this word of a page's row stores.
-fn link_of(word: u64) -> Option<u32>
+pub(crate) fn link_of(word: u64) -> Option<u32>
     requires { (page : PlainPage) × IsLawfulPage MAX_FAN page × (word ≡ slice_index (page_words page) 4) }
     ensures { (page : PlainPage) → IsLawfulPage MAX_FAN page → word ≡ slice_index (page_words page) 4
         → result ≡ page.right }

@@ -123,6 +123,15 @@ impl Play<u8, View> for LookAgain {
     ghost then = { looks_again };
 }
 
+/// The load of the page word of a leaf that the seat has noted. The seat notes the leaf to the right.
+pub struct GoAlong;
+
+impl Play<u8, View> for GoAlong {
+    ghost use Rattle.blink_live.specs.Along.{goes_along};
+
+    ghost then = { goes_along };
+}
+
 /// The compare-and-exchange in a latch word of 0 for the seat's own number.
 pub struct TryLatch;
 

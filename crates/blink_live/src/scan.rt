@@ -1,12 +1,14 @@
 //! Scans: the entries of a range of keys in ascending order, while other passes change the tree.
 //!
-//! A scan goes from leaf to leaf. For each leaf it descends anew, with a find for the first key that it hasn't covered. The load of
-//! the leaf's page word tells the seat the state of each key from there to the leaf's high key, and nobody stores to the row that it
-//! names while the scan reads there. So the entries of one leaf are those of one time; those of the leaf to the right are of a later
-//! one.
+//! A scan goes from leaf to leaf. To the first two leaves it descends, with a find for the first key that it hasn't covered; from the
+//! second one on it follows the right links. A page that once was a leaf stays one and keeps its floor, so a link that the seat has
+//! read leads to the leaf of the next key, unless that leaf has been split since; then the scan descends again. The load of the
+//! leaf's page word tells the seat the state of each of the leaf's keys, and nobody stores to the row that it names while the scan
+//! reads there. So the entries of one leaf are those of one time; those of the leaf to the right are of a later one.
 ghost use Rattle.std.specs.Prelude.{◌≡◌, ◌+◌, ◌<◌, ◌≤◌, List, IfSome, length, take, drop};
 ghost use Rattle.blink_batch.specs.declared.Entry.{Entry};
-ghost use Rattle.blink_live.specs.Finding.{IsIdle};
+ghost use Rattle.blink_live.specs.Along.{GoesAlong, IsNotedLeaf};
+ghost use Rattle.blink_live.specs.Finding.{HasSearched, IsIdle};
 ghost use Rattle.blink_live.specs.Handles.{IsPassOf, IsSameBesideSeen, KnowsItsKeys, keys_of, opening_of, seen_of, share_of};
 ghost use Rattle.blink_live.specs.Scanning.{HasScanned, IsCopied, IsFilled, IsReport, ReportLaw, SaysOfKeys, StoppedFull, stop_of};
 ghost use Rattle.blink_live.specs.Seats.{HasSameNumber, IsPassSeat, IsSameSeat, ReadsLeaf};
@@ -14,11 +16,13 @@ ghost use Rattle.blink_live.specs.Views.{known_of};
 ghost use Rattle.blink_live.specs.Words.{IsRowNumber};
 
 use crate::live::{Live, Pass};
+use crate::read::link_of;
+use crate::rule::GoAlong;
 use crate::view::View;
 use atomic_table::Seat;
 use blink_batch::Entry;
 use blink_rows::HEAD_WORDS;
-use blink_rows::layout::{COUNT, HIGH_KEY};
+use blink_rows::layout::{COUNT, HIGH_KEY, RIGHT_LINK};
 
 /// How far a scan came.
 #[derive(Clone, Copy, Debug, PartialEq, Eq)]
@@ -86,9 +90,12 @@ impl Live {
         }
         let mut from = lo;
         let mut filled = 0;
+        let mut link = None;
         while filled < into.len() {
-            let run = self.scan_leaf(seat, from, hi, &mut into[filled..]);
+            let first = filled == 0;
+            let (run, right) = self.scan_leaf(seat, from, hi, &mut into[filled..], first, link);
             filled += run.filled;
+            link = right;
             match run.next {
                 Some(next) => from = next,
                 None => return Scanned { filled, next: None },
@@ -100,26 +107,117 @@ impl Live {
         }
     }
 
-    // Reports the entries of one leaf: those from `from` on, up to `hi`, and as many as there are places.
+    // Reports the entries of one leaf: those from `from` on, up to `hi`, and as many as there are places. It also returns the leaf to
+    // the right, if it has noted that. The scan's first leaf it finds by a descent; for another it looks at `link` first.
     fn scan_leaf(
         &self,
         seat: &mut Seat<u8, View>,
         from: u64,
         hi: u64,
         into: &mut [Entry],
-    ) -> Scanned
+        first: bool,
+        link: Option<u32>,
+    ) -> (Scanned, Option<u32>)
         requires seat { IsPassSeat self.now seat.old.table_id seat.old.me }
         requires idle { IsIdle seat.old.me.0 }
         requires range { from ≤ hi }
         requires some_place { 1 ≤ length into.old }
+        requires link { IfSome link (IsNotedLeaf self.now.counts seat.old.me.0.look) }
         ensures same_table { HasSameNumber seat.old seat.new }
         ensures scanned { (entries : List Entry) × IsFilled entries into.old into.new
-            × (result.filled ≡ length entries)
-            × HasScanned from (stop_of hi result.next) entries seat.old.me seat.new.me }
-        ensures further { IfSome result.next (λ next. (from < next) × (next ≤ hi)) }
+            × (result.0.filled ≡ length entries)
+            × HasScanned from (stop_of hi result.0.next) entries seat.old.me seat.new.me }
+        ensures further { IfSome result.0.next (λ next. (from < next) × (next ≤ hi)) }
+        ensures right { IfSome result.1 (IsNotedLeaf self.now.counts seat.new.me.0.look) }
     {
-        let (_, row) = self.come_to_leaf(seat, from, None);
-        self.copy_leaf(seat, row, from, hi, into)
+        let (row, right) = self.come_along(seat, from, first, link);
+        (self.copy_leaf(seat, row, from, hi, into), right)
+    }
+
+    // Brings the seat to the leaf of the key: by the link, if that leads there; else by a descent. It returns the leaf's row, and the
+    // leaf to the right, if there is one and the seat has noted it. To a scan's first leaf it descends without a note, since most
+    // scans end there.
+    fn come_along(
+        &self,
+        seat: &mut Seat<u8, View>,
+        key: u64,
+        first: bool,
+        link: Option<u32>,
+    ) -> (u64, Option<u32>)
+        requires seat { IsPassSeat self.now seat.old.table_id seat.old.me }
+        requires idle { IsIdle seat.old.me.0 }
+        requires link { IfSome link (IsNotedLeaf self.now.counts seat.old.me.0.look) }
+        ensures same_table { HasSameNumber seat.old seat.new }
+        ensures searched { HasSearched seat.old.me seat.new.me }
+        ensures row { IsRowNumber self.now.counts result.0 }
+        ensures leaf { ReadsLeaf key result.0 seat.new.me }
+        ensures right { IfSome result.1 (IsNotedLeaf self.now.counts seat.new.me.0.look) }
+    {
+        if first {
+            let (_, row) = self.come_to_leaf(seat, key, None);
+            return (row, None);
+        }
+        let Some(number) = link else {
+            return self.come_down(seat, key);
+        };
+        if let Some(found) = self.follow(seat, key, number) {
+            return found;
+        }
+        self.come_down(seat, key)
+    }
+
+    // The same by a descent. It reads the leaf's page word once more, so that the leaf to the right is noted.
+    fn come_down(&self, seat: &mut Seat<u8, View>, key: u64) -> (u64, Option<u32>)
+        requires seat { IsPassSeat self.now seat.old.table_id seat.old.me }
+        requires idle { IsIdle seat.old.me.0 }
+        ensures same_table { HasSameNumber seat.old seat.new }
+        ensures searched { HasSearched seat.old.me seat.new.me }
+        ensures row { IsRowNumber self.now.counts result.0 }
+        ensures leaf { ReadsLeaf key result.0 seat.new.me }
+        ensures right { IfSome result.1 (IsNotedLeaf self.now.counts seat.new.me.0.look) }
+    {
+        let (leaf, row) = self.come_to_noted(seat, key);
+        if leaf.row == 0 {
+            return (row, None);
+        }
+        if let Some(found) = self.follow(seat, key, leaf.number) {
+            return found;
+        }
+        let (_, row) = self.come_to_leaf(seat, key, None);
+        (row, None)
+    }
+
+    // Reads the leaf of this number, which the seat has noted. If the key belongs there, it returns the leaf's row and the leaf to the
+    // right, if there is one.
+    fn follow(&self, seat: &mut Seat<u8, View>, key: u64, number: u32) -> Option<(u64, Option<u32>)>
+        requires seat { IsPassSeat self.now seat.old.table_id seat.old.me }
+        requires idle { IsIdle seat.old.me.0 }
+        requires leaf { IsNotedLeaf self.now.counts seat.old.me.0.look number }
+        ensures same_table { HasSameNumber seat.old seat.new }
+        ensures searched { HasSearched seat.old.me seat.new.me }
+        ensures row { IfSome result (λ found. IsRowNumber self.now.counts found.0) }
+        ensures leaf { IfSome result (λ found. ReadsLeaf key found.0 seat.new.me) }
+        ensures right { IfSome result (λ found.
+            IfSome found.1 (IsNotedLeaf self.now.counts seat.new.me.0.look)) }
+    {
+        let row = self.go_along(seat, number);
+        if !self.has_key(seat, row, key) {
+            return None;
+        }
+        let start = self.row_place(row);
+        let right = link_of(self.load_word(seat, start, RIGHT_LINK));
+        Some((row, right))
+    }
+
+    // Loads the page word of a leaf that the seat has noted, and returns the row that it names.
+    fn go_along(&self, seat: &mut Seat<u8, View>, number: u32) -> u64
+        requires seat { IsPassSeat self.now seat.old.table_id seat.old.me }
+        requires idle { IsIdle seat.old.me.0 }
+        requires leaf { IsNotedLeaf self.now.counts seat.old.me.0.look number }
+        ensures same_table { HasSameNumber seat.old seat.new }
+        ensures along { GoesAlong seat.old.me result seat.new.me }
+    {
+        self.table.shared.load::<GoAlong>(seat, number as usize)
     }
 
     // Copies entries of the leaf that the seat reads: those from `from` on, up to `hi`, and as many as there are places.

@@ -157,7 +157,7 @@ impl Live {
 
     // Brings a find to the leaf of its key, which the seat still reads afterwards, and notes it there. It returns the leaf as it was
     // noted, and the row that the seat reads.
-    fn come_to_noted(&self, seat: &mut Seat<u8, View>, key: u64) -> (NotedLeaf, u64)
+    pub(crate) fn come_to_noted(&self, seat: &mut Seat<u8, View>, key: u64) -> (NotedLeaf, u64)
         requires seat { IsPassSeat self.now seat.old.table_id seat.old.me }
         requires idle { IsIdle seat.old.me.0 }
         ensures same_table { HasSameNumber seat.old seat.new }
@@ -271,7 +271,7 @@ impl Live {
 
     // Whether the key is one of those that belong to the page whose row the seat reads. The seat has noted no more of the leaf than
     // its row, so this is how the leaves of a snapshot are known to follow one another.
-    fn has_key(&self, seat: &mut Seat<u8, View>, row: u64, key: u64) -> bool
+    pub(crate) fn has_key(&self, seat: &mut Seat<u8, View>, row: u64, key: u64) -> bool
         requires seat { IsPassSeat self.now seat.old.table_id seat.old.me }
         requires row { IsRowNumber self.now.counts row }
         ensures same_table { HasSameNumber seat.old seat.new }

@@ -39,7 +39,7 @@ use Rattle.blink_live.proofs.table.SharesAreKnown.{share_is_known}
 
 -- ---- a seat with other notes
 
-with_look : (plan : Plan) (owners : Owners) (words : List ℕ) (tree_state : TreeState) (log : List Change) (id : ℕ) (v : View) (look : Look) → v.role ≡ Pass → HasLooked plan owners.row words tree_state.fan tree_state.prime tree_state.pages look
+pub with_look : (plan : Plan) (owners : Owners) (words : List ℕ) (tree_state : TreeState) (log : List Change) (id : ℕ) (v : View) (look : Look) → v.role ≡ Pass → HasLooked plan owners.row words tree_state.fan tree_state.prime tree_state.pages look
     → Knows plan owners words tree_state log id v → Knows plan owners words tree_state log id (record v { look = look })
 with_look plan owners words tree_state log id v look role looked known = record {
   same_plan = known.same_plan;
@@ -59,13 +59,13 @@ with_look plan owners words tree_state log id v look role looked known = record 
 }
 
 module _ (plan : Plan) (s : State ℕ View) (tree_state : TreeState) (h : IsTableAt plan s tree_state) (id : ℕ) (v : View) (at : get_elem? s.views id ≡ some v) (role : v.role ≡ Pass) where
-  known : Knows plan h.owners s.words tree_state h.log id v
+  pub known : Knows plan h.owners s.words tree_state h.log id v
   known = h.views id v at
 
-  kept : IsInRole plan h.owners h.log id v Pass
+  pub kept : IsInRole plan h.owners h.log id v Pass
   kept = subst (IsInRole plan h.owners h.log id v) role known.in_role
 
-  still : Invariant (moved tree_state id v.operation)
+  pub still : Invariant (moved tree_state id v.operation)
   still = step_law.idle_workers_dont_matter tree_state (moved tree_state id v.operation) (record {
     same_fan = refl;
     same_prime = refl;
@@ -74,7 +74,7 @@ module _ (plan : Plan) (s : State ℕ View) (tree_state : TreeState) (h : IsTabl
     same_machines = put_same tree_state.machines id v.operation known.operation;
   }) h.invariant
 
-  busy : IsCommon plan → v.role ≡ Pass → (m : PlainMachine) → v.operation ≡ Some m → 1 ≤ v.busy
+  pub busy : IsCommon plan → v.role ≡ Pass → (m : PlainMachine) → v.operation ≡ Some m → 1 ≤ v.busy
   busy common is m goes = (known.placed common is).busy m goes
 
   -- ---- a leaf is noted
