@@ -14,6 +14,7 @@ use crate::remembered::Remembered;
 use blink_operation::{Answer, Op};
 use blink_page::{Page, Prime};
 pub use resting::Resting;
+use std::fmt;
 use std::marker::Model;
 
 /// What a split owes: the separator between its two pages, and the number of the new page. The operation has to post both to the
@@ -29,7 +30,7 @@ pub struct Debt {
 }
 
 /// What an operation works on: its own key, on a leaf, or the debt of a split below, on the level above that split.
-#[derive(Clone, Copy, Debug, PartialEq, Eq)]
+#[derive(Clone, Copy)]
 pub enum Job {
     /// The operation's own key.
     Leaf,
@@ -38,7 +39,7 @@ pub enum Job {
 }
 
 /// Where an operation goes from a page after it releases the page's latch.
-#[derive(Clone, Copy, Debug, PartialEq, Eq)]
+#[derive(Clone, Copy)]
 pub enum Next {
     /// The operation ends.
     Finish,
@@ -50,7 +51,7 @@ pub enum Next {
 
 /// The state of an operation: the states of the table, each with what the operation has to know there. The first number of each
 /// is the page that the operation is about to read, latch, write or leave.
-#[derive(Debug, Drop)]
+#[derive(Drop)]
 pub enum State {
     /// Before the read of the prime block that begins the operation.
     Start,
@@ -95,7 +96,7 @@ impl State {
 }
 
 /// The next step of an operation.
-#[derive(Clone, Copy, Debug, PartialEq, Eq)]
+#[derive(Clone, Copy)]
 pub enum Need {
     /// Read the prime block, and hand it to `saw_prime`.
     ReadPrime,
@@ -119,7 +120,7 @@ pub enum Need {
 /// the step that `need` returns. Then the runner reports the step: by `saw_prime` or `saw_page` after a read, by `done` after
 /// any other step. The machine takes no memory. The law `step_keeps` states that a tree admits each of its steps, whatever other
 /// operations do in between. The table of states is that of Lehman and Yao 1981, with deletions, replacements and a prime block.
-#[derive(Debug, Drop)]
+#[derive(Drop)]
 pub struct Machine {
     fan: u8,
     op: Op,
@@ -142,6 +143,13 @@ impl Model for Machine {
     ghost view = { plain };
 
     ghost invariant = { λ m. IsMachine (plain m) };
+}
+
+/// Writes the operation and its answer. A state may hold a page, which would fill a screen.
+impl fmt::Debug for Machine {
+    fn fmt<W: fmt::Write>(&self, f: &mut fmt::Formatter<W>) -> fmt::Result {
+        write!(f, "{:?} with {:?}", self.op, self.answer)
+    }
 }
 
 impl Machine {

@@ -6,7 +6,7 @@ use blink_page::LEVELS;
 use std::marker::Model;
 
 /// The page that an operation read last on each level. Contracts see the lowest level first.
-#[derive(Debug, Drop)]
+#[derive(Drop)]
 pub(crate) struct Remembered {
     // The top level first.
     pages: ArrayVec<u32, LEVELS>,

@@ -9,7 +9,7 @@ use std::marker::Model;
 
 /// An operation that wants a page's latch, or looks for a level to post to. A `Machine` has room for a page; an operation that rests
 /// has none. So it rests as this, in a fourth of the size.
-#[derive(Debug, Drop)]
+#[derive(Drop)]
 pub struct Resting {
     fan: u8,
     op: Op,
