@@ -68,12 +68,12 @@ output_of() {
 }
 
 # How many processes prove a crate. Each more loads the libraries once more, and a function's proof waits for those of the functions that it
-# calls. So two took 0.6 to 0.8 of the time of one, and 1.1 to 1.4 of its processor time. That pays where all others wait for the crate, and
-# where nothing else is left to prove.
+# calls. So two took 0.6 to 0.8 of the time of one, and 1.1 to 1.4 of its processor time; four took 0.7 of it for `index_main`, and 1.1. That
+# pays where all others wait for the crate: most where nothing else can be proved meanwhile.
 jobs_of() {
     case $1 in
-    blink_c) echo "$processors" ;;
-    blink_index | blink_live | blink_machine | blink_page | blink_run) echo $(((processors + 1) / 2)) ;;
+    blink_c | blink_machine | blink_run | index_main) echo "$processors" ;;
+    blink_index | blink_live | blink_page) echo $(((processors + 1) / 2)) ;;
     *) echo 1 ;;
     esac
 }
