@@ -28,7 +28,7 @@ use Rattle.blink_live.specs.Changes.{changes_made}
 use Rattle.blink_live.specs.Seats.{HasSameNumber, IsFirst, IsPassSeat}
 use Rattle.blink_live.specs.Shelves.{HasSpaceFor, IsShelved, free_in}
 use Rattle.blink_live.specs.Updating.{SameBesideCall, HasDecided, not_yet, decided, HasLeft, IsUpdating, HasEnded, IsUnderWay}
-use Rattle.blink_live.specs.Views.{IsAnnounced, IsCommon, MayChange, SeatState, changed_by, for_call, latch_number_by, no_words, pages_of, rows_of, rows_taken, span}
+use Rattle.blink_live.specs.Views.{IsAnnounced, IsCommon, MayChange, SeatState, changed_by, for_call, latch_number_by, no_words, pages_of, rows_taken, span}
 use Rattle.blink_live.specs.Words.{IsRowNumber}
 use Rattle.blink_live.proofs.told.PrefixesOfOneList.{prefix_of_prefix}
 use Rattle.blink_live.proofs.changed.RowsAreLent.{shelved_so}

@@ -12,7 +12,6 @@ use Rattle.blink_page.specs.{PlainPage, IsLawfulPage}
 use Rattle.blink_page.specs.declared.limits.TheConstants.{MAX_FAN}
 use Rattle.blink_rows.specs.{page_words}
 use Rattle.blink_rest.specs.{Pages}
-use Rattle.blink_machine.specs.{PlainMachine}
 use Rattle.blink_machine.specs.TreeState.{TreeState}
 use Rattle.blink_machine.proofs.Offered.{tree_laws}
 use Rattle.blink_live.specs.declared.view.Look.{Look}
@@ -23,11 +22,11 @@ use Rattle.blink_live.specs.Along.{IsNotedLeaf, goes, goes_along}
 use Rattle.blink_live.specs.Changes.{after}
 use Rattle.blink_live.specs.Looks.{HasLooked, IsLeafInChain, IsNoted, TellsAll}
 use Rattle.blink_live.specs.Reuse.{HoldsRow}
-use Rattle.blink_live.specs.Rule.{IsInRole, IsTable, IsTableAt, Owners, PageWordIs}
+use Rattle.blink_live.specs.Rule.{IsInRole, IsTable, IsTableAt, PageWordIs}
 use Rattle.blink_live.specs.Views.{IsCommon, SeatState}
 use Rattle.blink_live.proofs.dealt.FirstOrOneOfRest.{contains_case}
 use Rattle.blink_live.proofs.found.ReadsPage.{lawful_within}
-use Rattle.blink_live.proofs.looked.LeavesAreNoted.{busy, kept, known, still, with_look}
+use Rattle.blink_live.proofs.looked.LeavesAreNoted.{busy, kept, still, with_look}
 use Rattle.blink_live.proofs.reuse.ReuseStaysSafe.{MayReadOn, hand_stays, reuse_stays, row_is}
 use Rattle.blink_live.proofs.table.AccountsStay.{account, still_saw}
 use Rattle.blink_live.proofs.table.LeavesStayInChain.{leaf_tells_all}

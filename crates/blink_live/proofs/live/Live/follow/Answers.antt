@@ -1,4 +1,4 @@
-use Rattle.std.proofs.Common.{◌≡◌, ap, ◌∙◌, sym, subst}
+use Rattle.std.proofs.Common.{ap, ◌∙◌, sym, subst}
 use Rattle.blink_rows.specs.{PlainCounts, page_words}
 use Rattle.blink_live.specs.Finding.{HasSearched}
 use Rattle.blink_live.specs.Seats.{ReadsLeaf}

@@ -1,4 +1,4 @@
-use Rattle.std.proofs.Common.{◌<◌, sym, subst, arith}
+use Rattle.std.proofs.Common.{sym, subst, arith}
 use Rattle.blink_live.specs.Views.{IsCommon, plan_of}
 use Rattle.blink_live.proofs.looked.LeavesAreFollowed.{goes_along_at}
 use Rattle.blink_live.proofs.looked.SeatsGoAlong.{noted_in_plan, plan_counts}

@@ -1,6 +1,4 @@
-use Rattle.std.proofs.Common.{◌≡◌, ℕ, suc, Option, Some, sym, subst, arith}
-use Rattle.blink_live.specs.declared.shelf.Shelf.{Shelf}
-use Rattle.blink_live.specs.Shelves.{HasSpaceFor}
+use Rattle.std.proofs.Common.{suc, arith}
 use Rattle.blink_live.proofs.changed.RowsTaken.{less_space}
 use Rattle.blink_live.proofs.live.Live.keep_out.Goals as goal
 
