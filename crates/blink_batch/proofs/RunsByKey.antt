@@ -5,7 +5,7 @@ use Rattle.std.proofs.lemmas.Bool.Decides.{nat_tests}
 use Rattle.std.specs.List.{AllByRecursion, zip, filter}
 use Rattle.blink_operation.specs.declared.entry.Entry.{Entry}
 use Rattle.blink_operation.specs.declared.operation.Op.{Op}
-use Rattle.blink_operation.specs.declared.operation.Op.TheVariants.{Find, Insert, Delete, Replace, Exchange}
+use Rattle.blink_operation.specs.declared.operation.Op.TheVariants.{Find, Insert, Delete, Replace, Exchange, DeleteExact}
 use Rattle.blink_operation.specs.declared.operation.Answer.{Answer}
 use Rattle.blink_operation.specs.PlainMap.{entry, IsAscending, pointer_of, added, removed, replaced}
 use Rattle.blink_operation.specs.Operation.{key_of, answer_at, cell_after, map_at, answer_of, map_after, answers, map_after_all}
@@ -64,6 +64,11 @@ pointer_of-map_after_own m (Exchange key e p) k own = subst (λ (q : ℕ). point
       | Some there ↦ λ h. elim (cases_eq there e) [ inl same ↦ rw (eq-eqb there e same) (pointer_of-replaced m key p there h) | inr other ↦ rw (ne_eqb there e other) h ]
       | None ↦ λ h. h
     ]) refl)
+pointer_of-map_after_own m (DeleteExact key e) k own = subst (λ (q : ℕ). pointer_of (map_after m (DeleteExact key e)) q ≡ cell_after (DeleteExact key e) (pointer_of m q)) own
+    ((elim (pointer_of m key) as (λ kept. pointer_of m key ≡ kept → pointer_of (map_at (DeleteExact key e) kept m) key ≡ cell_after (DeleteExact key e) kept) [
+      | Some there ↦ λ h. elim (cases_eq there e) [ inl same ↦ rw (eq-eqb there e same) (pointer_of-removed m key) | inr other ↦ rw (ne_eqb there e other) h ]
+      | None ↦ λ h. h
+    ]) refl)
 
 -- and leaves every other key alone
 pub pointer_of-map_after_other : (m : List Entry) (op : Op) (k : ℕ) → (key_of op ≡ k → ⊥) → pointer_of (map_after m op) k ≡ pointer_of m k
@@ -73,6 +78,10 @@ pointer_of-map_after_other m (Delete key) k other = elim (pointer_of m key) as (
 pointer_of-map_after_other m (Replace key p) k other = elim (pointer_of m key) as (λ kept. pointer_of (map_at (Replace key p) kept m) k ≡ pointer_of m k) [ Some there ↦ pointer_of-replaced_elsewhere m key p k other | None ↦ refl ]
 pointer_of-map_after_other m (Exchange key e p) k other = elim (pointer_of m key) as (λ kept. pointer_of (map_at (Exchange key e p) kept m) k ≡ pointer_of m k) [
   | Some there ↦ elim (cases_eq there e) [ inl same ↦ rw (eq-eqb there e same) (pointer_of-replaced_elsewhere m key p k other) | inr differs ↦ rw (ne_eqb there e differs) refl ]
+  | None ↦ refl
+]
+pointer_of-map_after_other m (DeleteExact key e) k other = elim (pointer_of m key) as (λ kept. pointer_of (map_at (DeleteExact key e) kept m) k ≡ pointer_of m k) [
+  | Some there ↦ elim (cases_eq there e) [ inl same ↦ rw (eq-eqb there e same) (pointer_of-removed_elsewhere m key k other) | inr differs ↦ rw (ne_eqb there e differs) refl ]
   | None ↦ refl
 ]
 
@@ -132,6 +141,10 @@ IsAscending-map_after m (Delete key) ascending = elim (pointer_of m key) as (λ 
 IsAscending-map_after m (Replace key p) ascending = elim (pointer_of m key) as (λ kept. IsAscending (map_at (Replace key p) kept m)) [ Some there ↦ IsAscending-replaced m key p ascending | None ↦ ascending ]
 IsAscending-map_after m (Exchange key e p) ascending = elim (pointer_of m key) as (λ kept. IsAscending (map_at (Exchange key e p) kept m)) [
   | Some there ↦ elim (cases_eq there e) [ inl same ↦ rw (eq-eqb there e same) (IsAscending-replaced m key p ascending) | inr differs ↦ rw (ne_eqb there e differs) ascending ]
+  | None ↦ ascending
+]
+IsAscending-map_after m (DeleteExact key e) ascending = elim (pointer_of m key) as (λ kept. IsAscending (map_at (DeleteExact key e) kept m)) [
+  | Some there ↦ elim (cases_eq there e) [ inl same ↦ rw (eq-eqb there e same) (IsAscending-removed m key ascending) | inr differs ↦ rw (ne_eqb there e differs) ascending ]
   | None ↦ ascending
 ]
 

@@ -4,7 +4,7 @@ use Rattle.std.specs.Bool.{Decides}
 use Rattle.std.specs.Cmp.{IsEquivalence, decided, first_so, second_so, unsigned_Decides}
 use Rattle.std.specs.Cmp.Lexicographic.{pointwise, pointwise_decides}
 use Rattle.blink_operation.specs.declared.operation.Op.{Op}
-use Rattle.blink_operation.specs.declared.operation.Op.TheVariants.{Find, Insert, Delete, Replace, Exchange}
+use Rattle.blink_operation.specs.declared.operation.Op.TheVariants.{Find, Insert, Delete, Replace, Exchange, DeleteExact}
 use Rattle.blink_batch.specs.Cut.{Assignment}
 use mathlib.Core.Path.{refl, sym, ◌∙◌, ap}
 use mathlib.Core.Bool.{true≢false}
@@ -15,6 +15,7 @@ same_operation (Insert key pointer) (Insert other another) = (key == other) && (
 same_operation (Delete key) (Delete other) = key == other
 same_operation (Replace key pointer) (Replace other another) = (key == other) && (pointer == another)
 same_operation (Exchange key expected pointer) (Exchange other wanted another) = (key == other) && ((expected == wanted) && (pointer == another))
+same_operation (DeleteExact key expected) (DeleteExact other wanted) = (key == other) && (expected == wanted)
 same_operation one other = false
 
 -- the same operations in the same order
@@ -43,6 +44,8 @@ operations_equal (Replace key pointer) (Replace other another) test = λ i.
 operations_equal (Exchange key expected pointer) (Exchange other wanted another) test =
     let rest : ((expected == wanted) && (pointer == another)) ≡ true = second_so (key == other) ((expected == wanted) && (pointer == another)) test in
     λ i. Exchange (same_number key other (first_so (key == other) ((expected == wanted) && (pointer == another)) test) i) (same_number expected wanted (first_so (expected == wanted) (pointer == another) rest) i) (same_number pointer another (second_so (expected == wanted) (pointer == another) rest) i)
+operations_equal (DeleteExact key expected) (DeleteExact other wanted) test = λ i.
+    DeleteExact (same_number key other (first_so (key == other) (expected == wanted) test) i) (same_number expected wanted (second_so (key == other) (expected == wanted) test) i)
 operations_equal one other test = absurd (true≢false (sym test))
 
 operation_itself : (op : Op) → same_operation op op ≡ true
@@ -51,6 +54,7 @@ operation_itself (Insert key pointer) = λ i. (unsigned_Decides key key).1 refl 
 operation_itself (Delete key) = (unsigned_Decides key key).1 refl
 operation_itself (Replace key pointer) = λ i. (unsigned_Decides key key).1 refl i && (unsigned_Decides pointer pointer).1 refl i
 operation_itself (Exchange key expected pointer) = λ i. (unsigned_Decides key key).1 refl i && ((unsigned_Decides expected expected).1 refl i && (unsigned_Decides pointer pointer).1 refl i)
+operation_itself (DeleteExact key expected) = λ i. (unsigned_Decides key key).1 refl i && (unsigned_Decides expected expected).1 refl i
 
 same_operation-Decides : (one other : Op) → Decides (same_operation one other) (one ≡ other)
 same_operation-Decides one other = (operations_equal one other, λ equal. sym (ap (same_operation one) equal) ∙ operation_itself one)

@@ -128,5 +128,6 @@ fn is_insert(op: &Op) -> bool
         Op::Delete(_key) => false,
         Op::Replace(_key, _pointer) => false,
         Op::Exchange(_key, _expected, _pointer) => false,
+        Op::DeleteExact(_key, _expected) => false,
     }
 }

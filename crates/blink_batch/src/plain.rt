@@ -1,9 +1,9 @@
 //! The plain map of one thread.
 ghost use Rattle.std.specs.Prelude.{◌≡◌, ℕ, [], List, Option, Some, None, IsOk, IfOk, IfErr, OnOk, OnErr, MatchResult, take};
 ghost use Rattle.blink_operation.specs.declared.entry.Entry.{Entry};
-ghost use Rattle.blink_operation.specs.declared.operation.Op.TheVariants.{Exchange};
+ghost use Rattle.blink_operation.specs.declared.operation.Op.TheVariants.{DeleteExact, Exchange};
 ghost use Rattle.blink_batch.specs.Search.{IsPlaceOf, IsGapFor};
-ghost use Rattle.blink_operation.specs.PlainMap.{IsAscending, pointer_of, replaced};
+ghost use Rattle.blink_operation.specs.PlainMap.{IsAscending, pointer_of, removed, replaced};
 ghost use Rattle.blink_operation.specs.Operation.{AddsEntry, StopsForMemory, answer_of, map_after, answers, map_after_all};
 
 use blink_operation::{Answer, Entry, Op};
@@ -51,7 +51,7 @@ impl Plain {
                 self.entries.insert(at, Entry { key, pointer })?;
                 Ok(Answer::Inserted)
             }
-            (Op::Delete(_), Ok(at)) => Ok(Answer::Removed(self.entries.remove(at).pointer)),
+            (Op::Delete(key), Ok(at)) => Ok(Answer::Removed(self.remove_at(at, key))),
             (Op::Delete(_), Err(_)) => Ok(Answer::Absent),
             (Op::Replace(key, pointer), Ok(at)) => {
                 Ok(Answer::Replaced(self.replace_at(at, key, pointer)))
@@ -61,6 +61,8 @@ impl Plain {
                 Ok(self.exchange_at(at, key, expected, pointer))
             }
             (Op::Exchange(_, _, _), Err(_)) => Ok(Answer::Absent),
+            (Op::DeleteExact(key, expected), Ok(at)) => Ok(self.delete_exact_at(at, key, expected)),
+            (Op::DeleteExact(_, _), Err(_)) => Ok(Answer::Absent),
         }
     }
 
@@ -88,6 +90,28 @@ impl Plain {
         ensures ascending { IsAscending self.now }
     {
         &self.entries
+    }
+
+    // Removes the key, which stands at the place, and returns its pointer.
+    fn remove_at(&mut self, at: usize, _key: u64) -> u64
+        requires place { IsPlaceOf self.old _key at }
+        ensures before { pointer_of self.old _key ≡ Some result }
+        ensures map { self.new ≡ removed self.old _key }
+    {
+        self.entries.remove(at).pointer
+    }
+
+    // Removes the key, which stands at the place, if its pointer is the expected one.
+    fn delete_exact_at(&mut self, at: usize, key: u64, expected: u64) -> Answer
+        requires place { IsPlaceOf self.old key at }
+        ensures answer { result ≡ answer_of self.old (DeleteExact key expected) }
+        ensures map { self.new ≡ map_after self.old (DeleteExact key expected) }
+    {
+        let before = self.entries[at].pointer;
+        if before != expected {
+            return Answer::Exists(before);
+        }
+        Answer::Removed(self.remove_at(at, key))
     }
 
     // Replaces the pointer of the key, which stands at the place, and returns the one before.

@@ -19,8 +19,8 @@ inserts_left pages = length_of pages / MAX_NEW_PAGES_PER_INSERT
 abbrev pub deletes_left : Span → Span → ℕ
 deletes_left pages rows = length_of rows - MAX_ROWS_PER_INSERT * inserts_left pages
 
--- the number of changes left of an operation's kind: insertions for an insertion, deletions for a deletion, a replacement or an
--- exchange
+-- the number of changes left of an operation's kind: insertions for an insertion, deletions for a deletion of either kind, a
+-- replacement or an exchange
 abbrev pub changes_left : Op → Span → Span → ℕ
 changes_left (Insert key pointer) pages rows = inserts_left pages
 changes_left op pages rows = deletes_left pages rows

@@ -2,7 +2,7 @@
 //! each call of `advance`.
 ghost use Rattle.std.specs.Prelude.{◌≡◌, ◌↔◌, IfErr, IfOk, IsErrOf, Contains};
 ghost use Rattle.blink_batch.specs.{answer_of, key_of, FitsWords};
-ghost use Rattle.blink_batch.specs.declared.Op.TheVariants.{Delete, Exchange, Insert, Replace};
+ghost use Rattle.blink_batch.specs.declared.Op.TheVariants.{Delete, DeleteExact, Exchange, Insert, Replace};
 ghost use Rattle.blink_machine.specs.{IsUpdate};
 ghost use Rattle.blink_live.specs.Allowed.{changes_left, deletes_left, inserts_left};
 ghost use Rattle.blink_live.specs.Handles.{IsChangedBy, IsPassOf, KnowsItsKeys, keys_of, share_of};
@@ -92,11 +92,31 @@ impl Live {
         self.begin(pass, Op::Exchange(key, expected, pointer))
     }
 
+    /// Begins a deletion of an expected pointer: what `delete_exact` does, with no wait. The call reads the tree down to the
+    /// key's leaf. It takes no memory, waits for nobody, and returns. The deletion goes on by `advance`.
+    ///
+    /// The call refuses as `delete_exact` does, and hands back the pass, which is as it was. Then it reads nothing.
+    pub fn begin_delete_exact(
+        &self,
+        pass: Pass,
+        key: u64,
+        expected: u64,
+    ) -> Result<Pending, (Pass, PassError)>
+        requires its_own { IsPassOf self.now pass }
+        ensures begun { IfOk result (HasBegun self.now (DeleteExact key expected) pass) }
+        ensures not_yours { IsErrOf result (pass, PassError.NotYours) ↔ ¬ Contains (keys_of pass) key }
+        ensures spent { IsErrOf result (pass, PassError.Spent)
+            ↔ (Contains (keys_of pass) key × (deletes_left pass.pages pass.rows ≡ 0)) }
+        ensures unchanged { IfErr result (λ refused. refused.0 ≡ pass) }
+    {
+        self.begin(pass, Op::DeleteExact(key, expected))
+    }
+
     /// Takes the operation's next steps. It returns the pass and the operation's answer once the operation has ended, exactly
-    /// those of `insert`, `delete`, `replace` or `exchange`. It gives the operation back, whole and with its pass, after `tries` steps in
-    /// vain, at least one: another pass had the latch of the page that it wants, or was about to make the root of a new level
-    /// that it posts to. Then it holds no page's latch. The next call goes on from there. The call takes no memory, waits for
-    /// nobody, and returns.
+    /// those of `insert`, `delete`, `replace`, `exchange` or `delete_exact`. It gives the operation back, whole and with its
+    /// pass, after `tries` steps in vain, at least one: another pass had the latch of the page that it wants, or was about to
+    /// make the root of a new level that it posts to. Then it holds no page's latch. The next call goes on from there. The call
+    /// takes no memory, waits for nobody, and returns.
     pub fn advance(&self, pending: Pending, tries: u32) -> Result<(Pass, Answer), Pending>
         requires its_own { IsPendingOf self.now pending }
         ensures answer { IfOk result

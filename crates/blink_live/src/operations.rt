@@ -1,8 +1,8 @@
-//! The operations of a pass on its own keys: find, insert, delete, replace and exchange.
+//! The operations of a pass on its own keys: find, insert, delete, replace, exchange and delete_exact.
 ghost use Rattle.std.specs.Prelude.{◌≡◌, ◌≢◌, ◌↔◌, IsTrue, IfErr, IfOk, OnErr, OnOk, IsErrOf, Contains, None};
 ghost use mathlib.Core.List.{IsPrefix};
 ghost use Rattle.blink_batch.specs.{answer_at, answer_of, key_of, FitsWords};
-ghost use Rattle.blink_batch.specs.declared.Op.TheVariants.{Find, Delete, Exchange, Insert, Replace};
+ghost use Rattle.blink_batch.specs.declared.Op.TheVariants.{Find, Delete, DeleteExact, Exchange, Insert, Replace};
 ghost use Rattle.blink_machine.specs.{IsUpdate};
 ghost use Rattle.blink_live.specs.Handles.{IsPassOf, IsSameBesideSeen, KnowsItsKeys, keys_of, share_of, IsChangedBy};
 ghost use Rattle.blink_live.specs.Seats.{HasSameNumber, IsPassSeat, ReadsLeaf};
@@ -145,6 +145,33 @@ impl Live {
         ensures unchanged { OnErr result (pass.new ≡ pass.old) }
     {
         self.change(rt, pass, Op::Exchange(key, expected, pointer))
+    }
+
+    /// Removes a key of the pass, if its record pointer is the expected one. It answers `Removed` with the expected pointer;
+    /// `Exists` with the other pointer that the key has, which stays; or `Absent` if the tree lacks the key; whatever other
+    /// passes do at the same time. Each accepted call uses one deletion of the pass, whatever it answers: the next of its rows.
+    /// It takes no memory, and waits for a page's latch that another pass has.
+    ///
+    /// The call refuses with `NotYours` for every key that isn't one of the pass's; then with `Spent`, if the pass has no
+    /// deletion left. A refused call changes nothing and reads nothing.
+    pub fn delete_exact<R: Wait>(
+        &self,
+        rt: &R,
+        pass: &mut Pass,
+        key: u64,
+        expected: u64,
+    ) -> Result<Answer, PassError>
+        requires its_own { IsPassOf self.now pass.old }
+        ensures answer { IfOk result
+            (λ answer. answer ≡ answer_of (share_of pass.old) (DeleteExact key expected)) }
+        ensures changed { OnOk result (IsChangedBy (DeleteExact key expected) pass.old pass.new) }
+        ensures knows { OnOk result (KnowsItsKeys self.now pass.new) }
+        ensures not_yours { IsErrOf result PassError.NotYours ↔ ¬ Contains (keys_of pass.old) key }
+        ensures spent { IsErrOf result PassError.Spent
+            ↔ (Contains (keys_of pass.old) key × (deletes_left pass.old.pages pass.old.rows ≡ 0)) }
+        ensures unchanged { OnErr result (pass.new ≡ pass.old) }
+    {
+        self.change(rt, pass, Op::DeleteExact(key, expected))
     }
 
     // Answers a find of the key by the state of the key after the changes that the seat has seen by the end of the call.

@@ -44,16 +44,15 @@ pub(crate) fn deletes_left(pages: &Span, rows: &Span) -> u64
     rows.len() - MAX_ROWS_PER_INSERT * inserts_left(pages)
 }
 
-// The number of changes left of the operation's kind. A replacement counts as a deletion, and an exchange does.
+// The number of changes left of the operation's kind. All that change the tree but an insertion count as deletions.
 pub(crate) fn changes_left(op: Op, pages: &Span, rows: &Span) -> u64
     requires { AreForChanges pages.now rows.now }
     ensures { result ≡ changes_left op pages.now rows.now }
 {
     match op {
         Op::Insert(..) => inserts_left(pages),
-        Op::Find(_) | Op::Delete(_) | Op::Replace(..) | Op::Exchange(..) => {
-            deletes_left(pages, rows)
-        }
+        Op::Find(_) | Op::Delete(_) | Op::Replace(..) | Op::Exchange(..) | Op::DeleteExact(..) =>
+            deletes_left(pages, rows),
     }
 }
 
@@ -85,7 +84,7 @@ pub(crate) fn next_of(op: Op, rows: &mut Span, pages: &mut Span) -> Room
     let (row_count, page_count) = match op {
         Op::Find(_) => (0, 0),
         Op::Insert(..) => (MAX_ROWS_PER_INSERT, MAX_NEW_PAGES_PER_INSERT),
-        Op::Delete(_) | Op::Replace(..) | Op::Exchange(..) => (1, 0),
+        Op::Delete(_) | Op::Replace(..) | Op::Exchange(..) | Op::DeleteExact(..) => (1, 0),
     };
     Room {
         rows: first_of(rows, row_count),

@@ -1,5 +1,7 @@
 pub mod WhatJobsAreAbout
 pub mod PointersReplaced
+pub mod EntriesRemoved
+pub mod ExpectedPointers
 pub mod LevelsOfJobs
 pub mod StatesByNeed
 pub mod PageAtWork

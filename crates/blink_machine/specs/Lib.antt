@@ -38,7 +38,7 @@ pub use Rattle.blink_machine.specs.Codes.{code_of}
 
 -- ---- for proofs above
 pub use Rattle.blink_machine.specs.Machine.{key_of_job, level_of}
-pub use Rattle.blink_machine.specs.Table.{SeesUnderLatch, adds_root, decided_with, done_at, leaves_for, on_its_way, sets_out}
+pub use Rattle.blink_machine.specs.Table.{Expects, SeesUnderLatch, adds_root, decided_with, done_at, leaves_for, on_its_way, sets_out}
 pub use Rattle.blink_machine.specs.TreeState.{IsWorkersNow, LatchPasses, Leaves, WritesOne, latches, reads_page, reads_prime, taken_on, under_way, unlatches, waits_for_latch, waits_for_level, writes_new, writes_page, writes_prime}
 pub use Rattle.blink_machine.specs.TreeWithDebts.{Levels}
 pub use Rattle.blink_machine.specs.Owned.{debt_at, debt_of, latch_at, latch_of, split_at}

@@ -3,7 +3,7 @@ use Rattle.std.specs.Prelude.{◌≡◌, ◌≢◌, ℕ, ◌+◌, ◌-◌, ◌<�
 use Rattle.std.specs.List.{last_or}
 use Rattle.blink_operation.specs.declared.Answer.TheVariants.{Absent, Exists}
 use Rattle.blink_operation.specs.declared.Op.{Op}
-use Rattle.blink_operation.specs.declared.Op.TheVariants.{Find, Insert, Delete, Replace, Exchange}
+use Rattle.blink_operation.specs.declared.Op.TheVariants.{Find, Insert, Delete, Replace, Exchange, DeleteExact}
 use Rattle.blink_operation.specs.{answer_at}
 use Rattle.blink_page.specs.{value_at, removed, replaced, PlainPage, with_entries, entries_with, root_over, empty_leaf, lower_half, upper_half, separator_of, Leads}
 use Rattle.blink_page.specs.declared.search.Way.TheVariants.{Right, Down, Here}
@@ -43,7 +43,7 @@ pub record WaitsForLevel (m : PlainMachine) (prime : List ℕ) : Type 0 where
   pub job : m.job ≡ Parent debt
   pub not_there : slice_get prime (debt.level + 1) ≡ None
 
--- the operation is an insertion, a deletion, a replacement or an exchange
+-- the operation is an insertion, a deletion, a replacement, an exchange or a deletion of an expected pointer
 abbrev pub IsUpdate : Op → Type 0
 IsUpdate (Find key) = ⊥
 IsUpdate op = Unit {0}
@@ -58,11 +58,19 @@ Brings op Leaf = ⊥
 abbrev pub Swaps : Op → ℕ → ℕ → ℕ → Type 0
 Swaps op key new found = (op ≡ Replace key new) ⊎ (op ≡ Exchange key found new)
 
+-- the operation removes the entry that it finds for the key: a deletion any, one of an expected pointer that with this pointer
+abbrev pub Removes : Op → ℕ → ℕ → Type 0
+Removes op key found = (op ≡ Delete key) ⊎ (op ≡ DeleteExact key found)
+
+-- the operation changes the key's entry only if that has the expected pointer
+abbrev pub Expects : Op → ℕ → ℕ → Type 0
+Expects op key expected = ((pointer : ℕ) × (op ≡ Exchange key expected pointer)) ⊎ (op ≡ DeleteExact key expected)
+
 -- the page after the operation's change, and the pointer that a leaf had for the key before
 pub data IsChange (m : PlainMachine) (page changed : PlainPage) (kept : Option ℕ) : Type 0 where
   gains : Brings m.op m.job → value_at (target m) page.entries ≡ None → length page.entries < m.fan → kept ≡ None
       → changed ≡ with_entries page (entries_with page (entry_of m)) → IsChange m page changed kept
-  loses : (key pointer : ℕ) → m.job ≡ Leaf → m.op ≡ Delete key → value_at key page.entries ≡ Some pointer → kept ≡ Some pointer
+  loses : (key pointer : ℕ) → m.job ≡ Leaf → Removes m.op key pointer → value_at key page.entries ≡ Some pointer → kept ≡ Some pointer
       → changed ≡ with_entries page (removed key page.entries) → IsChange m page changed kept
   swaps : (key new pointer : ℕ) → m.job ≡ Leaf → Swaps m.op key new pointer → value_at key page.entries ≡ Some pointer → kept ≡ Some pointer
       → changed ≡ with_entries page (replaced (key, new) page.entries) → IsChange m page changed kept
@@ -94,7 +102,7 @@ pub data SeesUnderLatch (m : PlainMachine) (number : ℕ) (page : PlainPage) (af
       → after ≡ answered m (Leave number Finish) Absent → SeesUnderLatch m number page after
   replacement_finds_none : (key pointer : ℕ) → target m ≤ page.high → m.job ≡ Leaf → m.op ≡ Replace key pointer → value_at key page.entries ≡ None
       → after ≡ answered m (Leave number Finish) Absent → SeesUnderLatch m number page after
-  exchange_finds_other : (key expected pointer : ℕ) → target m ≤ page.high → m.job ≡ Leaf → m.op ≡ Exchange key expected pointer → value_at key page.entries ≢ Some expected
+  finds_other_pointer : (key expected : ℕ) → target m ≤ page.high → m.job ≡ Leaf → Expects m.op key expected → value_at key page.entries ≢ Some expected
       → after ≡ answered m (Leave number Finish) (answer_at m.op (value_at key page.entries)) → SeesUnderLatch m number page after
   posting_finds_separator : (debt : Debt) (child : ℕ) → target m ≤ page.high → m.job ≡ Parent debt → value_at debt.separator page.entries ≡ Some child
       → after ≡ at_state m (Leave number Finish) → SeesUnderLatch m number page after

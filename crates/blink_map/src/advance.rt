@@ -4,7 +4,7 @@ ghost use Rattle.std.specs.Prelude.{◌≡◌, Some, IfErr, IfOk};
 ghost use Rattle.blink_batch.specs.{FitsWords};
 ghost use Rattle.blink_batch.specs.declared.Answer.{Answer};
 ghost use Rattle.blink_batch.specs.declared.Op.{Op};
-ghost use Rattle.blink_batch.specs.declared.Op.TheVariants.{Delete, Exchange, Insert, Replace};
+ghost use Rattle.blink_batch.specs.declared.Op.TheVariants.{Delete, DeleteExact, Exchange, Insert, Replace};
 ghost use Rattle.blink_machine.specs.{IsUpdate};
 ghost use Rattle.blink_machine.specs.declared.machine.State.TheVariants.{Ended};
 ghost use Rattle.blink_live.specs.Pendings.{IsWaiting};
@@ -95,11 +95,30 @@ impl Map {
         self.begin(session, Op::Exchange(key, expected, pointer))
     }
 
+    /// Begins a deletion of an expected pointer: what `delete_exact` does, with no wait. The call reads the tree down to the
+    /// key's leaf. It takes no memory, waits for nobody, and returns. The deletion goes on by `advance`.
+    ///
+    /// The call refuses as `delete_exact` does, and gives the session back.
+    pub fn begin_delete_exact(
+        &self,
+        session: Session,
+        key: u64,
+        expected: u64,
+    ) -> Result<Pending, (Session, Full)>
+        requires its_own { IsSessionOf self.now session }
+        ensures begun { IfOk result (HasBegun self.now (DeleteExact key expected) session) }
+        ensures full { IfErr result
+            (λ refused. LacksRoom (DeleteExact key expected) session refused.0) }
+        ensures unchanged { IfErr result (λ refused. IsSameBesideRoom session refused.0) }
+    {
+        self.begin(session, Op::DeleteExact(key, expected))
+    }
+
     /// Takes the operation's next steps. It returns the session and the operation's answer once the operation has ended, exactly
-    /// those of `insert`, `delete`, `replace` or `exchange`. It gives the operation back, whole and with its session, after `tries` steps in
-    /// vain, at least one: another session had the latch of the page that it wants, or was about to make the root of a new level
-    /// that it posts to. Then it holds no page's latch. The next call goes on from there. The call takes no memory, waits for
-    /// nobody, and returns.
+    /// those of `insert`, `delete`, `replace`, `exchange` or `delete_exact`. It gives the operation back, whole and with its
+    /// session, after `tries` steps in vain, at least one: another session had the latch of the page that it wants, or was about
+    /// to make the root of a new level that it posts to. Then it holds no page's latch. The next call goes on from there. The
+    /// call takes no memory, waits for nobody, and returns.
     pub fn advance(&self, pending: Pending, tries: u32) -> Result<(Session, Answer), Pending>
         requires its_own { IsPendingOf self.now pending }
         ensures answered { IfOk result

@@ -1,8 +1,8 @@
-//! The operations that change a map: insert, delete, replace and exchange, by any session, at any key.
+//! The operations that change a map: insert, delete, replace, exchange and delete_exact, by any session, at any key.
 ghost use Rattle.std.specs.Prelude.{◌≡◌, ◌↔◌, ◌+◌, ◌-◌, ◌<◌, ◌≤◌, ℕ, None, Some, IfOk, IsTrue, OnErr};
 ghost use Rattle.blink_batch.specs.{FitsWords};
 ghost use Rattle.blink_batch.specs.declared.Op.{Op};
-ghost use Rattle.blink_batch.specs.declared.Op.TheVariants.{Delete, Exchange, Insert, Replace};
+ghost use Rattle.blink_batch.specs.declared.Op.TheVariants.{Delete, DeleteExact, Exchange, Insert, Replace};
 ghost use Rattle.blink_machine.specs.{IsUpdate};
 ghost use Rattle.blink_machine.specs.declared.machine.State.TheVariants.{Ended};
 ghost use Rattle.blink_live.specs.GivingBack.{CanGiveBack, gives_back};
@@ -125,6 +125,29 @@ impl Map {
         ensures unchanged { OnErr result (IsSameBesideRoom session.old session.new) }
     {
         self.change(rt, session, Op::Exchange(key, expected, pointer))
+    }
+
+    /// Removes a key with its pointer, if the pointer is the expected one. It answers `Removed` with the expected pointer;
+    /// `Exists` with the other pointer that the key has, which stays; or `Absent`. No other session changes the key between the
+    /// test and the removal. The call takes no memory. It waits for a page's latch that another session has, and for a row to
+    /// come back as `insert` does.
+    ///
+    /// The call is refused if the session has no row at all, and the pool has none. Then it changes nothing.
+    pub fn delete_exact<R: Wait>(
+        &self,
+        rt: &R,
+        session: &mut Session,
+        key: u64,
+        expected: u64,
+    ) -> Result<Answer, Full>
+        requires its_own { IsSessionOf self.now session.old }
+        ensures answered { IfOk result
+            (IsAnswered self.now (DeleteExact key expected) session.old session.new) }
+        ensures full { OnErr result (LacksRoom (DeleteExact key expected) session.old session.new) }
+        ensures in_all { OnErr result (LacksRoomInAll (DeleteExact key expected) session.new) }
+        ensures unchanged { OnErr result (IsSameBesideRoom session.old session.new) }
+    {
+        self.change(rt, session, Op::DeleteExact(key, expected))
     }
 
     // Runs an operation that changes the tree.
@@ -371,7 +394,7 @@ fn needed_by(op: Op) -> (u64, u64)
     match op {
         Op::Find(_) => (0, 0),
         Op::Insert(..) => (MAX_ROWS_PER_INSERT, MAX_NEW_PAGES_PER_INSERT),
-        Op::Delete(_) | Op::Replace(..) | Op::Exchange(..) => (1, 0),
+        Op::Delete(_) | Op::Replace(..) | Op::Exchange(..) | Op::DeleteExact(..) => (1, 0),
     }
 }
 

@@ -2,7 +2,7 @@
 use Rattle.std.specs.Prelude.{◌≡◌, ℕ, ◌<◌, List, [], ◌∷◌, Option, Some, None, length, slice_get, take, if◌then◌else◌, ◌==◌}
 use Rattle.blink_operation.specs.declared.entry.Entry.{Entry}
 use Rattle.blink_operation.specs.declared.operation.Op.{Op}
-use Rattle.blink_operation.specs.declared.operation.Op.TheVariants.{Find, Insert, Delete, Replace, Exchange}
+use Rattle.blink_operation.specs.declared.operation.Op.TheVariants.{Find, Insert, Delete, Replace, Exchange, DeleteExact}
 use Rattle.blink_operation.specs.declared.operation.Answer.{Answer}
 use Rattle.blink_operation.specs.declared.operation.Answer.TheVariants.{Found, Absent, Inserted, Exists, Removed, Replaced}
 use Rattle.blink_operation.specs.PlainMap.{entry, pointer_of, added, removed, replaced}
@@ -14,6 +14,7 @@ key_of (Insert key pointer) = key
 key_of (Delete key) = key
 key_of (Replace key pointer) = key
 key_of (Exchange key expected pointer) = key
+key_of (DeleteExact key expected) = key
 
 -- the pointer that the operation stores: an insertion's, a replacement's or an exchange's, and 0 for the others, which store
 -- none
@@ -31,6 +32,7 @@ answer_at (Insert key pointer) None = Inserted
 answer_at (Delete key) (Some kept) = Removed kept
 answer_at (Replace key pointer) (Some kept) = Replaced kept
 answer_at (Exchange key expected pointer) (Some kept) = if kept == expected then Replaced kept else Exists kept
+answer_at (DeleteExact key expected) (Some kept) = if kept == expected then Removed kept else Exists kept
 answer_at op None = Absent
 
 -- the pointer of that key afterwards, likewise
@@ -39,6 +41,7 @@ cell_after (Insert key pointer) None = Some pointer
 cell_after (Delete key) kept = None
 cell_after (Replace key pointer) (Some kept) = Some pointer
 cell_after (Exchange key expected pointer) (Some kept) = Some (if kept == expected then pointer else kept)
+cell_after (DeleteExact key expected) (Some kept) = if kept == expected then None else Some kept
 cell_after op kept = kept
 
 -- the whole map afterwards
@@ -47,6 +50,7 @@ map_at (Insert key pointer) None map = added map (entry key pointer)
 map_at (Delete key) (Some kept) map = removed map key
 map_at (Replace key pointer) (Some kept) map = replaced map key pointer
 map_at (Exchange key expected pointer) (Some kept) map = if kept == expected then replaced map key pointer else map
+map_at (DeleteExact key expected) (Some kept) map = if kept == expected then removed map key else map
 map_at op kept map = map
 
 -- apply: the answer of an operation on a map, and the map afterwards

@@ -17,6 +17,8 @@ pub enum Op {
     Replace(u64, u64),
     /// Replaces the pointer of a key, if it is the expected one: the key, the pointer expected, and the new one.
     Exchange(u64, u64, u64),
+    /// Removes a key with its pointer, if the pointer is the expected one: the key, and the pointer expected.
+    DeleteExact(u64, u64),
 }
 
 impl Op {
@@ -30,6 +32,7 @@ impl Op {
             Op::Delete(key) => key,
             Op::Replace(key, _) => key,
             Op::Exchange(key, _, _) => key,
+            Op::DeleteExact(key, _) => key,
         }
     }
 
@@ -40,7 +43,7 @@ impl Op {
         match *self {
             Op::Insert(_, pointer) | Op::Replace(_, pointer) | Op::Exchange(_, _, pointer) =>
                 pointer,
-            Op::Find(_) | Op::Delete(_) => 0,
+            Op::Find(_) | Op::Delete(_) | Op::DeleteExact(..) => 0,
         }
     }
 
@@ -61,8 +64,21 @@ impl Op {
                     Answer::Exists(pointer)
                 }
             }
-            (Op::Find(_) | Op::Delete(_) | Op::Replace(..) | Op::Exchange(..), None) =>
-                Answer::Absent,
+            (Op::DeleteExact(_, expected), Some(pointer)) => {
+                if pointer == expected {
+                    Answer::Removed(pointer)
+                } else {
+                    Answer::Exists(pointer)
+                }
+            }
+            (
+                Op::Find(_)
+                | Op::Delete(_)
+                | Op::Replace(..)
+                | Op::Exchange(..)
+                | Op::DeleteExact(..),
+                None,
+            ) => Answer::Absent,
         }
     }
 }
@@ -76,8 +92,8 @@ pub enum Answer {
     Absent,
     /// An insertion: the key now has the pointer.
     Inserted,
-    /// An insertion: the key had this pointer, and nothing changed. An exchange: the key had this pointer, which isn't the
-    /// expected one, and nothing changed.
+    /// An insertion: the key had this pointer, and nothing changed. An exchange, or a deletion of an expected pointer: the key
+    /// had this pointer, which isn't the expected one, and nothing changed.
     Exists(u64),
     /// A deletion: the key had this pointer, and is absent now.
     Removed(u64),

@@ -38,7 +38,7 @@ latch-sees_page m after number page (SeesPage.under_latch held (SeesUnderLatch.i
 latch-sees_page m after number page (SeesPage.under_latch held (SeesUnderLatch.insertion_finds_key key pointer kept below job op found is)) = ap latch_of is ∙ sym (ap latch_at held)
 latch-sees_page m after number page (SeesPage.under_latch held (SeesUnderLatch.deletion_finds_none key below job op found is)) = ap latch_of is ∙ sym (ap latch_at held)
 latch-sees_page m after number page (SeesPage.under_latch held (SeesUnderLatch.replacement_finds_none key pointer below job op found is)) = ap latch_of is ∙ sym (ap latch_at held)
-latch-sees_page m after number page (SeesPage.under_latch held (SeesUnderLatch.exchange_finds_other key expected pointer below job op found is)) = ap latch_of is ∙ sym (ap latch_at held)
+latch-sees_page m after number page (SeesPage.under_latch held (SeesUnderLatch.finds_other_pointer key expected below job op found is)) = ap latch_of is ∙ sym (ap latch_at held)
 latch-sees_page m after number page (SeesPage.under_latch held (SeesUnderLatch.posting_finds_separator debt child below job found is)) = ap latch_of is ∙ sym (ap latch_at held)
 latch-sees_page m after number page (SeesPage.under_latch held (SeesUnderLatch.is_to_change changed kept below change is)) = ap latch_of is ∙ sym (ap latch_at held)
 latch-sees_page m after number page (SeesPage.under_latch held (SeesUnderLatch.is_to_split below full is)) = ap latch_of is ∙ sym (ap latch_at held)

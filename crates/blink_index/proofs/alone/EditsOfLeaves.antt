@@ -58,7 +58,7 @@ module _ (old new : PlainStore) (lawful : IsLawfulStore old) (at_rest : IsStoreA
       → IfNone kept (new ≡ old) → IsEdited old new (Delete key) (answer_at (Delete key) kept)
   deletion_edits words None is writes unchanged = stays (Delete key) None refl is refl unchanged
   deletion_edits words (Some kept) is writes unchanged =
-      changes (Delete key) (Some kept) (with_entries leaf (removed key leaf.entries)) refl tt words (IsChange.loses key kept refl refl (sym is) refl refl) writes
+      changes (Delete key) (Some kept) (with_entries leaf (removed key leaf.entries)) refl tt words (IsChange.loses key kept refl (inl refl) (sym is) refl refl) writes
 
   pub replacement_edits : (value : ℕ) → FitsWords (Replace key value) → (kept : Option ℕ) → kept ≡ value_at key leaf.entries
       → WritesPage old new number (with_entries leaf (replaced (key, value) leaf.entries)) → IfNone kept (new ≡ old) → IsEdited old new (Replace key value) (answer_at (Replace key value) kept)

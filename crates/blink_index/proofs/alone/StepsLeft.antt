@@ -1,7 +1,7 @@
 -- How far a worker alone still has to go: each step brings the operation nearer to its end.
 use Rattle.std.proofs.Common.{◌≡◌, ℕ, ◌+◌, ◌-◌, ◌*◌, ◌<◌, ◌≤◌, Option, Some, None, List, [], ◌∷◌, length, refl, ap, ◌∙◌, arith}
 use Rattle.blink_operation.specs.declared.Op.{Op}
-use Rattle.blink_operation.specs.declared.Op.TheVariants.{Find, Insert, Delete, Replace, Exchange}
+use Rattle.blink_operation.specs.declared.Op.TheVariants.{Find, Insert, Delete, Replace, Exchange, DeleteExact}
 use Rattle.blink_operation.specs.{FitsWords, key_of}
 use Rattle.blink_page.specs.{PlainPage, least_above}
 use Rattle.blink_rest.specs.{Pages}
@@ -66,6 +66,7 @@ key_in_range (Insert key pointer) words = omega (arith, words.0)
 key_in_range (Delete key) words = omega (arith, words)
 key_in_range (Replace key pointer) words = omega (arith, words.0)
 key_in_range (Exchange key expected pointer) words = omega (arith, words.0)
+key_in_range (DeleteExact key expected) words = omega (arith, words.0)
 
 -- ---- steps that read nothing
 
@@ -200,7 +201,7 @@ module _ (tree_state : TreeState) (invariant : Invariant tree_state) (worker : �
         let then = ap (left tree_state.prime tree_state.pages) is in
         let before = ap (left_at tree_state.prime tree_state.pages (target m)) held in
         omega (arith, then, before)
-    latched_nearer held sees (SeesUnderLatch.exchange_finds_other key expected pointer below job op found is) =
+    latched_nearer held sees (SeesUnderLatch.finds_other_pointer key expected below job op found is) =
         let then = ap (left tree_state.prime tree_state.pages) is in
         let before = ap (left_at tree_state.prime tree_state.pages (target m)) held in
         omega (arith, then, before)

@@ -1,7 +1,7 @@
 //! Changes of an index in place, one operation at a time.
 ghost use Rattle.std.specs.Prelude.{◌≡◌, ◌+◌, ◌≤◌, ◌↔◌, [], ◌∷◌, length, take, vec_capacity, IfErr, IfNone, IfOk, IfSome, IsErrOf, OnErr};
 ghost use Rattle.blink_operation.specs.{answer_of, answers, map_after, map_after_all};
-ghost use Rattle.blink_operation.specs.declared.Op.TheVariants.{Delete, Exchange, Insert, Replace};
+ghost use Rattle.blink_operation.specs.declared.Op.TheVariants.{Delete, DeleteExact, Exchange, Insert, Replace};
 ghost use Rattle.blink_page.specs.{ExceedsPageLimit};
 ghost use Rattle.blink_page.specs.declared.limits.TheConstants.{MAX_NEW_PAGES_PER_INSERT};
 ghost use Rattle.blink_rest.specs.{IsMapOf};
@@ -104,8 +104,28 @@ impl Index {
         }
     }
 
-    /// Carries one operation out in place, as `find`, `insert`, `delete`, `replace` and `exchange` do. Only an insertion is
-    /// refused.
+    /// Removes a key with its pointer, in place, if the pointer is the expected one, and answers as a batch of that one operation
+    /// does: `Removed` with the expected pointer, `Exists` with the other pointer that the key has, or `Absent`. The call takes
+    /// no memory. It reads one page for each level, and reads them again where it removes. A leaf that becomes empty stays a page
+    /// of the tree.
+    pub fn delete_exact(&mut self, key: u64, expected: u64) -> Answer
+        ensures answer { result ≡ answer_of (map_of self.old) (DeleteExact key expected) }
+        ensures map { map_of self.new ≡ map_after (map_of self.old) (DeleteExact key expected) }
+        ensures kept { IsMapOf self.new (map_of self.new) }
+        ensures same_fan { self.new.fan ≡ self.old.fan }
+        ensures same_page_count { length self.new.pages ≡ length self.old.pages }
+    {
+        // Called for the proof: a tree at rest has its entries as a map.
+        let _rest = self.rest();
+        match self.find(key) {
+            Some(kept) if kept == expected => self.delete(key),
+            Some(kept) => Answer::Exists(kept),
+            None => Answer::Absent,
+        }
+    }
+
+    /// Carries one operation out in place, as `find`, `insert`, `delete`, `replace`, `exchange` and `delete_exact` do. Only an
+    /// insertion is refused.
     pub fn edit(&mut self, op: Op) -> Result<Answer, EditError>
         ensures answer { IfOk result (λ answer. answer ≡ answer_of (map_of self.old) op) }
         ensures map { IfOk result (λ _. map_of self.new ≡ map_after (map_of self.old) op) }
@@ -123,6 +143,7 @@ impl Index {
             Op::Delete(key) => Ok(self.delete(key)),
             Op::Replace(key, pointer) => Ok(self.replace(key, pointer)),
             Op::Exchange(key, expected, pointer) => Ok(self.exchange(key, expected, pointer)),
+            Op::DeleteExact(key, expected) => Ok(self.delete_exact(key, expected)),
         }
     }
 

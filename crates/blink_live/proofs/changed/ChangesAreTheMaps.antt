@@ -6,9 +6,10 @@ use mathlib.Core.Logic.{dite}
 use native.Mathlib.Decide.{ℕ_discrete}
 use Rattle.blink_batch.specs.declared.Entry.{Entry}
 use Rattle.blink_batch.specs.declared.Op.{Op}
-use Rattle.blink_batch.specs.declared.Op.TheVariants.{Exchange, Find}
+use Rattle.blink_batch.specs.declared.Op.TheVariants.{DeleteExact, Exchange, Find}
 use Rattle.blink_batch.specs.{answer_at, cell_after, key_of, map_after, map_at, pointer_of}
 use Rattle.blink_batch.proofs.Offered.{pointer_of-map_after_own, pointer_of-map_after_other}
+use Rattle.blink_machine.specs.{Expects}
 use Rattle.blink_live.specs.declared.view.Change.{Change}
 use Rattle.blink_live.specs.Changes.{put, after, states_of, changes_made, has_changed}
 use Rattle.blink_live.proofs.table.AccountsStay.{AreBy}
@@ -37,6 +38,10 @@ stays_unchanged (Exchange key expected pointer) (Some kept) none = elim (cases_e
   | inl same ↦ (let changed = rw (eq-eqb kept expected same) at none in absurd (cc))
   | inr differs ↦ rw (ne_eqb kept expected differs) refl
 ]
+stays_unchanged (DeleteExact key expected) (Some kept) none = elim (cases_eq kept expected) [
+  | inl same ↦ (let changed = rw (eq-eqb kept expected same) at none in absurd (cc))
+  | inr differs ↦ rw (ne_eqb kept expected differs) refl
+]
 stays_unchanged op (Some kept) none = cc
 stays_unchanged op None none = cc
 
@@ -46,14 +51,19 @@ map_unchanged (Exchange key expected pointer) (Some kept) map none = elim (cases
   | inl same ↦ (let changed = rw (eq-eqb kept expected same) at none in absurd (cc))
   | inr differs ↦ rw (ne_eqb kept expected differs) refl
 ]
+map_unchanged (DeleteExact key expected) (Some kept) map none = elim (cases_eq kept expected) [
+  | inl same ↦ (let changed = rw (eq-eqb kept expected same) at none in absurd (cc))
+  | inr differs ↦ rw (ne_eqb kept expected differs) refl
+]
 map_unchanged op (Some kept) map none = cc
 map_unchanged op None map none = cc
 
--- an exchange that doesn't find the expected pointer answers so
-pub refusal_changes_nothing : (op : Op) (key expected pointer : ℕ) (kept : Option ℕ) → op ≡ Exchange key expected pointer → (kept ≡ Some expected → ⊥)
-    → has_changed (answer_at op kept) ≡ false
-refusal_changes_nothing op key expected pointer (Some kept) is differs = rw (is, ne_eqb kept expected (λ same. differs (ap Some same))) refl
-refusal_changes_nothing op key expected pointer None is differs = rw is refl
+-- an operation that doesn't find the pointer that it expects answers so
+pub refusal_changes_nothing : (op : Op) (key expected : ℕ) (kept : Option ℕ) → Expects op key expected → (kept ≡ Some expected → ⊥) → has_changed (answer_at op kept) ≡ false
+refusal_changes_nothing op key expected (Some kept) (inl is) differs = rw (is.1, ne_eqb kept expected (λ same. differs (ap Some same))) refl
+refusal_changes_nothing op key expected (Some kept) (inr is) differs = rw (is, ne_eqb kept expected (λ same. differs (ap Some same))) refl
+refusal_changes_nothing op key expected None (inl is) differs = rw is.1 refl
+refusal_changes_nothing op key expected None (inr is) differs = rw is refl
 
 -- one change or none, at another key and at its own
 module _ (change : Change) where

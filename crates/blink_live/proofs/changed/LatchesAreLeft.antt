@@ -102,7 +102,7 @@ latched_nearer m after number page at (SeesUnderLatch.deletion_finds_none key be
     at_states m after (Held number) (Leave number Finish) at (ap (λ (k : PlainMachine). k.state) is) (omega arith)
 latched_nearer m after number page at (SeesUnderLatch.replacement_finds_none key pointer below job is_op value is) =
     at_states m after (Held number) (Leave number Finish) at (ap (λ (k : PlainMachine). k.state) is) (omega arith)
-latched_nearer m after number page at (SeesUnderLatch.exchange_finds_other key expected pointer below job is_op value is) =
+latched_nearer m after number page at (SeesUnderLatch.finds_other_pointer key expected below job is_op value is) =
     at_states m after (Held number) (Leave number Finish) at (ap (λ (k : PlainMachine). k.state) is) (omega arith)
 latched_nearer m after number page at (SeesUnderLatch.posting_finds_separator debt child below job value is) =
     at_states m after (Held number) (Leave number Finish) at (ap (λ (k : PlainMachine). k.state) is) (omega arith)

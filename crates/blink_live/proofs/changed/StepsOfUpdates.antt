@@ -137,9 +137,9 @@ module _ (m after : PlainMachine) (number : ℕ) (page : PlainPage) (v : View) (
     answers_by_seen m after v seen Absent saw own (ap (λ (x : PlainMachine). x.answer) is) refl answers,
     subst (λ (x : PlainMachine). IsPastDescent x.state) (sym is) tt,
   )
-  under_latch (SeesUnderLatch.exchange_finds_other key expected pointer below job is_op differs is) = (
+  under_latch (SeesUnderLatch.finds_other_pointer key expected below job is_op differs is) = (
     answers_by_seen m after v seen (answer_at m.op (value_at key page.entries)) saw own (ap (λ (x : PlainMachine). x.answer) is)
-        (refusal_changes_nothing m.op key expected pointer (value_at key page.entries) is_op differs) answers,
+        (refusal_changes_nothing m.op key expected (value_at key page.entries) is_op differs) answers,
     subst (λ (x : PlainMachine). IsPastDescent x.state) (sym is) tt,
   )
   under_latch (SeesUnderLatch.posting_finds_separator debt child below job value is) = (other (ap (λ (x : PlainMachine). x.answer) is) refl, subst (λ (x : PlainMachine). IsPastDescent x.state) (sym is) tt)

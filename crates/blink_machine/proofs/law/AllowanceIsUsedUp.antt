@@ -87,7 +87,7 @@ uses_page_read m after step number page is (SeesPage.under_latch at (SeesUnderLa
     uses_when m after _ step (Moved (read_page number)) (Held number) at is is_after refl (omega arith) (omega arith) (omega arith)
 uses_page_read m after step number page is (SeesPage.under_latch at (SeesUnderLatch.replacement_finds_none key pointer below is_job is_op found is_after)) =
     uses_when m after _ step (Moved (read_page number)) (Held number) at is is_after refl (omega arith) (omega arith) (omega arith)
-uses_page_read m after step number page is (SeesPage.under_latch at (SeesUnderLatch.exchange_finds_other key expected pointer below is_job is_op found is_after)) =
+uses_page_read m after step number page is (SeesPage.under_latch at (SeesUnderLatch.finds_other_pointer key expected below is_job is_op found is_after)) =
     uses_when m after _ step (Moved (read_page number)) (Held number) at is is_after refl (omega arith) (omega arith) (omega arith)
 uses_page_read m after step number page is (SeesPage.under_latch at (SeesUnderLatch.posting_finds_separator debt child below is_job found is_after)) =
     uses_when m after _ step (Moved (read_page number)) (Held number) at is is_after refl (omega arith) (omega arith) (omega arith)
@@ -112,7 +112,8 @@ may_split (Parent debt) op brings low = record { numbers = omega arith; page_wri
 -- what changes a page may write it
 may_write : (m : PlainMachine) (page changed : PlainPage) (kept : Option ℕ) → level_of m.job ≤ 20 → IsChange m page changed kept → 1 ≤ writes_for m.job m.op
 may_write m page changed kept low (IsChange.gains brings none room is_kept is) = let it = (may_split m.job m.op brings low).page_writes in omega arith
-may_write m page changed kept low (IsChange.loses key pointer is_job is_op there is_kept is) = rw (is_job, is_op) (omega arith)
+may_write m page changed kept low (IsChange.loses key pointer is_job (inl is_op) there is_kept is) = rw (is_job, is_op) (omega arith)
+may_write m page changed kept low (IsChange.loses key pointer is_job (inr is_op) there is_kept is) = rw (is_job, is_op) (omega arith)
 may_write m page changed kept low (IsChange.swaps key new pointer is_job (inl is_op) there is_kept is) = rw (is_job, is_op) (omega arith)
 may_write m page changed kept low (IsChange.swaps key new pointer is_job (inr is_op) there is_kept is) = rw (is_job, is_op) (omega arith)
 

@@ -144,7 +144,7 @@ page_read_answers m after number page (SeesPage.under_latch held (SeesUnderLatch
 page_read_answers m after number page (SeesPage.under_latch held (SeesUnderLatch.insertion_finds_key key pointer kept below job op found is)) ends = absurd (let then = ap (λ (x : PlainMachine). x.state) is in cc)
 page_read_answers m after number page (SeesPage.under_latch held (SeesUnderLatch.deletion_finds_none key below job op found is)) ends = absurd (let then = ap (λ (x : PlainMachine). x.state) is in cc)
 page_read_answers m after number page (SeesPage.under_latch held (SeesUnderLatch.replacement_finds_none key pointer below job op found is)) ends = absurd (let then = ap (λ (x : PlainMachine). x.state) is in cc)
-page_read_answers m after number page (SeesPage.under_latch held (SeesUnderLatch.exchange_finds_other key expected pointer below job op found is)) ends = absurd (let then = ap (λ (x : PlainMachine). x.state) is in cc)
+page_read_answers m after number page (SeesPage.under_latch held (SeesUnderLatch.finds_other_pointer key expected below job op found is)) ends = absurd (let then = ap (λ (x : PlainMachine). x.state) is in cc)
 page_read_answers m after number page (SeesPage.under_latch held (SeesUnderLatch.posting_finds_separator debt child below job found is)) ends = absurd (let then = ap (λ (x : PlainMachine). x.state) is in cc)
 page_read_answers m after number page (SeesPage.under_latch held (SeesUnderLatch.is_to_change changed kept below change is)) ends = absurd (let then = ap (λ (x : PlainMachine). x.state) is in cc)
 page_read_answers m after number page (SeesPage.under_latch held (SeesUnderLatch.is_to_split below full is)) ends = absurd (let then = ap (λ (x : PlainMachine). x.state) is in cc)

@@ -107,7 +107,7 @@ module _ (laws : TreeLaws) (tree_state : TreeState) (levels : Levels) (invariant
       absurd (let then = ap (λ (x : PlainMachine). x.state) is in cc)
   under_latch next at leaves (SeesPage.under_latch held (SeesUnderLatch.replacement_finds_none key pointer below is_leaf is_op found is)) =
       absurd (let then = ap (λ (x : PlainMachine). x.state) is in cc)
-  under_latch next at leaves (SeesPage.under_latch held (SeesUnderLatch.exchange_finds_other key expected pointer below is_leaf is_op found is)) =
+  under_latch next at leaves (SeesPage.under_latch held (SeesUnderLatch.finds_other_pointer key expected below is_leaf is_op found is)) =
       absurd (let then = ap (λ (x : PlainMachine). x.state) is in cc)
   under_latch next at leaves (SeesPage.under_latch held (SeesUnderLatch.posting_finds_separator debt child below is_job found is)) =
       absurd (let then = ap (λ (x : PlainMachine). x.state) is in cc)

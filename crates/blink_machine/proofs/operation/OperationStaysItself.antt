@@ -13,7 +13,7 @@ use Rattle.blink_machine.specs.Machine.{PlainMachine, answered}
 use Rattle.blink_machine.specs.TreeState.{TreeState, IsItsOperation, under_way, taken_on, Steps, reads_prime, waits_for_level, reads_page, latches, waits_for_latch, writes_new, writes_page, writes_prime, unlatches}
 use Rattle.blink_machine.specs.Placed.{PlacedAt}
 use Rattle.blink_machine.specs.Invariant.{Invariant}
-use Rattle.blink_machine.specs.Table.{SeesPrime, begins, asks_of_root, asks_of_other, finds_leftmost, SeesOnItsWay, goes_right, goes_down, find_answers, update_wants, SeesUnderLatch, is_above_high_key, insertion_finds_key, deletion_finds_none, replacement_finds_none, exchange_finds_other, posting_finds_separator, is_to_change, is_to_split, SeesPage, on_its_way, under_latch, decided_with, sets_out, leaves_for, done_at}
+use Rattle.blink_machine.specs.Table.{SeesPrime, begins, asks_of_root, asks_of_other, finds_leftmost, SeesOnItsWay, goes_right, goes_down, find_answers, update_wants, SeesUnderLatch, is_above_high_key, insertion_finds_key, deletion_finds_none, replacement_finds_none, finds_other_pointer, posting_finds_separator, is_to_change, is_to_split, SeesPage, on_its_way, under_latch, decided_with, sets_out, leaves_for, done_at}
 
 -- the operation is the same, and if it has ended it is answered
 pub record StaysItself (m after : PlainMachine) : Type 0 where
@@ -52,7 +52,7 @@ sees_latched_stays m after number page (is_above_high_key next above right is) =
 sees_latched_stays m after number page (insertion_finds_key key pointer kept within job op there is) = goes_on_itself m after _ is refl (λ ended. cc)
 sees_latched_stays m after number page (deletion_finds_none key within job op there is) = goes_on_itself m after _ is refl (λ ended. cc)
 sees_latched_stays m after number page (replacement_finds_none key pointer within job op there is) = goes_on_itself m after _ is refl (λ ended. cc)
-sees_latched_stays m after number page (exchange_finds_other key expected pointer within job op there is) = goes_on_itself m after _ is refl (λ ended. cc)
+sees_latched_stays m after number page (finds_other_pointer key expected within job op there is) = goes_on_itself m after _ is refl (λ ended. cc)
 sees_latched_stays m after number page (posting_finds_separator debt child within job there is) = goes_on_itself m after _ is refl (λ ended. cc)
 sees_latched_stays m after number page (is_to_change changed kept within change is) = goes_on_itself m after _ is refl (λ ended. cc)
 sees_latched_stays m after number page (is_to_split within full is) = goes_on_itself m after _ is refl (λ ended. cc)

@@ -1,9 +1,8 @@
 -- What a replacement and an exchange have in common.
-use Rattle.std.proofs.Common.{◌≡◌, ℕ, ◌<◌, ◌^◌, Option, Some, None, List, inl, inr, refl, ap, ◌∙◌, subst}
-use Rattle.std.proofs.lemmas.Bool.{eq-eqb, ne_eqb}
+use Rattle.std.proofs.Common.{◌≡◌, ℕ, ◌<◌, ◌^◌, Some, List, inl, inr, refl, ap, ◌∙◌, subst}
+use Rattle.std.proofs.lemmas.Bool.{eq-eqb}
 use Rattle.blink_operation.specs.declared.Entry.{Entry}
 use Rattle.blink_operation.specs.declared.Op.{Op}
-use Rattle.blink_operation.specs.declared.Op.TheVariants.{Delete, Exchange}
 use Rattle.blink_operation.specs.{FitsWords, key_of, map_at, pointer_with}
 use Rattle.blink_operation.specs.PlainMap.{replaced}
 use Rattle.blink_machine.specs.declared.machine.Job.TheVariants.{Leaf}
@@ -24,12 +23,7 @@ pub swaps-fits : (op : Op) (key new found : ℕ) → Swaps op key new found → 
 swaps-fits op key new found (inl is) words = (subst FitsWords is words).1
 swaps-fits op key new found (inr is) words = (subst FitsWords is words).1
 
--- neither removes an entry
-pub swaps_no_deletion : (op : Op) (key new found other : ℕ) → Swaps op key new found → op ≡ Delete other → ⊥
-swaps_no_deletion op key new found other (inl is) deletes = cc
-swaps_no_deletion op key new found other (inr is) deletes = cc
-
--- or adds one
+-- neither adds an entry
 pub swaps_bring_nothing : (op : Op) (key new found : ℕ) → Swaps op key new found → Brings op Leaf → ⊥
 swaps_bring_nothing op key new found (inl is) brings = subst (λ o. Brings o Leaf) is brings
 swaps_bring_nothing op key new found (inr is) brings = subst (λ o. Brings o Leaf) is brings
@@ -38,8 +32,3 @@ swaps_bring_nothing op key new found (inr is) brings = subst (λ o. Brings o Lea
 pub map_at-swaps : (op : Op) (key new found : ℕ) (map : List Entry) → Swaps op key new found → map_at op (Some found) map ≡ replaced map key new
 map_at-swaps op key new found map (inl is) = ap (λ o. map_at o (Some found) map) is
 map_at-swaps op key new found map (inr is) = ap (λ o. map_at o (Some found) map) is ∙ rw (eq-eqb found found refl) refl
-
--- an exchange that doesn't find the expected pointer leaves the map
-pub refused_unchanged : (key expected pointer : ℕ) (map : List Entry) (found : Option ℕ) → (found ≡ Some expected → ⊥) → map_at (Exchange key expected pointer) found map ≡ map
-refused_unchanged key expected pointer map (Some found) differs = rw (ne_eqb found expected (λ same. differs (ap Some same))) refl
-refused_unchanged key expected pointer map None differs = refl

@@ -2,7 +2,7 @@
 use Rattle.std.proofs.Common.{◌≡◌, ℕ, ◌+◌, ◌-◌, ◌≤◌, Bool, true, false, cond, Option, Some, None, ◌∷◌, length, refl, ap, sym, ◌∙◌, subst, ltb, eqb, inl, inr, arith}
 use Rattle.std.proofs.lemmas.Bool.{le-ltb, lt-ltb, eq-eqb, ne_eqb}
 use Rattle.blink_operation.specs.declared.Op.{Op}
-use Rattle.blink_operation.specs.declared.Op.TheVariants.{Find, Insert, Exchange}
+use Rattle.blink_operation.specs.declared.Op.TheVariants.{Find, Insert, Exchange, DeleteExact}
 use Rattle.blink_operation.specs.{answer_at}
 use Rattle.blink_page.specs.{value_at, PlainPage, Leads}
 use Rattle.blink_page.specs.declared.search.Way.{Way}
@@ -13,8 +13,10 @@ use Rattle.blink_machine.specs.declared.machine.Next.TheVariants.{Finish}
 use Rattle.blink_machine.specs.declared.machine.State.TheVariants.{Going, Ended, Want, Change, Leave}
 use Rattle.blink_machine.specs.OneResult.{OneChange, OneResultOfPage, OneResultOfPrime}
 use Rattle.blink_machine.specs.Machine.{PlainMachine, at_state, answered, target}
-use Rattle.blink_machine.specs.Table.{Brings, IsUpdate, begins, asks_of_root, asks_of_other, finds_leftmost, IsTopLeftmost, IsChange, gains, loses, swaps, SeesOnItsWay, goes_right, goes_down, find_answers, update_wants, SeesUnderLatch, is_above_high_key, insertion_finds_key, deletion_finds_none, replacement_finds_none, exchange_finds_other, posting_finds_separator, is_to_change, is_to_split, on_its_way, under_latch}
-use Rattle.blink_machine.proofs.operation.PointersReplaced.{swaps-key, swaps-pointer, swaps_no_deletion, swaps_bring_nothing}
+use Rattle.blink_machine.specs.Table.{Brings, Expects, IsUpdate, begins, asks_of_root, asks_of_other, finds_leftmost, IsTopLeftmost, IsChange, gains, loses, swaps, SeesOnItsWay, goes_right, goes_down, find_answers, update_wants, SeesUnderLatch, is_above_high_key, insertion_finds_key, deletion_finds_none, replacement_finds_none, finds_other_pointer, posting_finds_separator, is_to_change, is_to_split, on_its_way, under_latch}
+use Rattle.blink_machine.proofs.operation.PointersReplaced.{swaps-key, swaps-pointer, swaps_bring_nothing}
+use Rattle.blink_machine.proofs.operation.EntriesRemoved.{removes-key, removes_no_swap, removes_bring_nothing}
+use Rattle.blink_machine.proofs.operation.ExpectedPointers.{expects-key}
 
 -- ---- the prime block
 
@@ -107,18 +109,18 @@ one_on_its_way m number page after other sees also =
 pub one_change : OneChange
 one_change m page changed also kept and (gains brings absent room none is) (gains brings_too absent_too room_too none_too is_too) = (is ∙ sym is_too, none ∙ sym none_too)
 one_change m page changed also kept and (loses key pointer job op there was is) (loses key_too pointer_too job_too op_too there_too was_too is_too) =
-    let same : key ≡ key_too = cc in
+    let same : key ≡ key_too = sym (removes-key m.op key pointer op) ∙ removes-key m.op key_too pointer_too op_too in
     (cc, cc)
 one_change m page changed also kept and (swaps key new pointer job op there was is) (swaps key_too new_too pointer_too job_too op_too there_too was_too is_too) =
     let same : key ≡ key_too = sym (swaps-key m.op key new pointer op) ∙ swaps-key m.op key_too new_too pointer_too op_too in
     let same_new : new ≡ new_too = sym (swaps-pointer m.op key new pointer op) ∙ swaps-pointer m.op key_too new_too pointer_too op_too in
     (cc, cc)
-one_change m page changed also kept and (loses key pointer job op there was is) (swaps key_too new_too pointer_too job_too op_too there_too was_too is_too) = absurd (swaps_no_deletion m.op key_too new_too pointer_too key op_too op)
-one_change m page changed also kept and (swaps key new pointer job op there was is) (loses key_too pointer_too job_too op_too there_too was_too is_too) = absurd (swaps_no_deletion m.op key new pointer key_too op op_too)
+one_change m page changed also kept and (loses key pointer job op there was is) (swaps key_too new_too pointer_too job_too op_too there_too was_too is_too) = absurd (removes_no_swap m.op key pointer key_too new_too pointer_too op op_too)
+one_change m page changed also kept and (swaps key new pointer job op there was is) (loses key_too pointer_too job_too op_too there_too was_too is_too) = absurd (removes_no_swap m.op key_too pointer_too key new pointer op_too op)
 one_change m page changed also kept and (gains brings absent room none is) (swaps key new pointer job op there was is_too) = absurd (swaps_bring_nothing m.op key new pointer op (rw job at brings))
 one_change m page changed also kept and (swaps key new pointer job op there was is) (gains brings absent room none is_too) = absurd (swaps_bring_nothing m.op key new pointer op (rw job at brings))
-one_change m page changed also kept and (gains brings absent room none is) (loses key pointer job op there was is_too) = absurd (rw (op, job) at brings)
-one_change m page changed also kept and (loses key pointer job op there was is) (gains brings absent room none is_too) = absurd (rw (op, job) at brings)
+one_change m page changed also kept and (gains brings absent room none is) (loses key pointer job op there was is_too) = absurd (removes_bring_nothing m.op key pointer op (rw job at brings))
+one_change m page changed also kept and (loses key pointer job op there was is) (gains brings absent room none is_too) = absurd (removes_bring_nothing m.op key pointer op (rw job at brings))
 
 -- ---- a page under its latch
 
@@ -139,6 +141,8 @@ row_here Leaf (Insert key pointer) (Some kept) room = finds_key
 row_here Leaf (Insert key pointer) None room = cond room changes splits
 row_here Leaf (Exchange key expected pointer) (Some kept) room = cond (eqb kept expected) changes finds_other
 row_here Leaf (Exchange key expected pointer) None room = finds_other
+row_here Leaf (DeleteExact key expected) (Some kept) room = cond (eqb kept expected) changes finds_other
+row_here Leaf (DeleteExact key expected) None room = finds_other
 row_here Leaf op (Some kept) room = changes
 row_here Leaf op None room = finds_none
 row_here (Parent debt) op (Some kept) room = finds_separator
@@ -173,14 +177,17 @@ row_of_change m page changed kept (gains brings absent room none is) =
     ap (λ (found : Option ℕ). row_here m.job m.op found (ltb (length page.entries) m.fan)) absent
     ∙ ap (row_here m.job m.op None) (lt-ltb (length page.entries) m.fan room)
     ∙ row_gains m.job m.op brings
-row_of_change m page changed kept (loses key pointer job op there was is) = rw (job, op, there) refl
+row_of_change m page changed kept (loses key pointer job (inl op) there was is) = rw (job, op, there) refl
+row_of_change m page changed kept (loses key pointer job (inr op) there was is) = rw (job, op, there, eq-eqb pointer pointer refl) refl
 row_of_change m page changed kept (swaps key new pointer job (inl op) there was is) = rw (job, op, there) refl
 row_of_change m page changed kept (swaps key new pointer job (inr op) there was is) = rw (job, op, there, eq-eqb pointer pointer refl) refl
 
--- the row of an exchange that is refused
-row_of_refusal : (key expected pointer : ℕ) (kept : Option ℕ) (room : Bool) → (kept ≡ Some expected → ⊥) → row_here Leaf (Exchange key expected pointer) kept room ≡ finds_other
-row_of_refusal key expected pointer (Some kept) room differs = ap (λ (same : Bool). cond same changes finds_other) (ne_eqb kept expected (λ same. differs (ap Some same)))
-row_of_refusal key expected pointer None room differs = refl
+-- the row of an operation that doesn't find the pointer that it expects
+row_of_refusal : (op : Op) (key expected : ℕ) (kept : Option ℕ) (room : Bool) → Expects op key expected → (kept ≡ Some expected → ⊥) → row_here Leaf op kept room ≡ finds_other
+row_of_refusal op key expected (Some kept) room (inl is) differs = rw is.1 (ap (λ (same : Bool). cond same changes finds_other) (ne_eqb kept expected (λ same. differs (ap Some same))))
+row_of_refusal op key expected (Some kept) room (inr is) differs = rw is (ap (λ (same : Bool). cond same changes finds_other) (ne_eqb kept expected (λ same. differs (ap Some same))))
+row_of_refusal op key expected None room (inl is) differs = rw is.1 refl
+row_of_refusal op key expected None room (inr is) differs = rw is refl
 
 -- the row that a case of the table is
 abbrev row_at : (m : PlainMachine) (number : ℕ) (page : PlainPage) (after : PlainMachine) → SeesUnderLatch m number page after → Row
@@ -188,7 +195,7 @@ row_at m number page after (is_above_high_key next high right is) = above
 row_at m number page after (insertion_finds_key key pointer kept below job op there is) = finds_key
 row_at m number page after (deletion_finds_none key below job op none is) = finds_none
 row_at m number page after (replacement_finds_none key pointer below job op none is) = finds_none
-row_at m number page after (exchange_finds_other key expected pointer below job op differs is) = finds_other
+row_at m number page after (finds_other_pointer key expected below job op differs is) = finds_other
 row_at m number page after (posting_finds_separator debt child below job there is) = finds_separator
 row_at m number page after (is_to_change changed kept below change is) = changes
 row_at m number page after (is_to_split below full is) = splits
@@ -200,9 +207,9 @@ row_is m number page after (is_above_high_key next high right is) =
 row_is m number page after (insertion_finds_key key pointer kept below job op there is) = row_below m page below ∙ rw (job, op, there) refl
 row_is m number page after (deletion_finds_none key below job op none is) = row_below m page below ∙ rw (job, op, none) refl
 row_is m number page after (replacement_finds_none key pointer below job op none is) = row_below m page below ∙ rw (job, op, none) refl
-row_is m number page after (exchange_finds_other key expected pointer below job op differs is) =
+row_is m number page after (finds_other_pointer key expected below job op differs is) =
     row_below m page below
-    ∙ rw (job, op) (row_of_refusal key expected pointer (value_at key page.entries) (ltb (length page.entries) m.fan) differs)
+    ∙ rw (job, expects-key m.op key expected op) (row_of_refusal m.op key expected (value_at key page.entries) (ltb (length page.entries) m.fan) op differs)
 row_is m number page after (posting_finds_separator debt child below job there is) = row_below m page below ∙ rw (job, there) refl
 row_is m number page after (is_to_change changed kept below change is) = row_below m page below ∙ row_of_change m page changed kept change
 row_is m number page after (is_to_split below full is) =
@@ -222,8 +229,8 @@ one_of_row m number page after other (deletion_finds_none key below job op none 
 one_of_row m number page after other (replacement_finds_none key pointer below job op none is) (replacement_finds_none key_too pointer_too below_too job_too op_too none_too is_too) same = is ∙ sym is_too
 one_of_row m number page after other (deletion_finds_none key below job op none is) (replacement_finds_none key_too pointer_too below_too job_too op_too none_too is_too) same = is ∙ sym is_too
 one_of_row m number page after other (replacement_finds_none key pointer below job op none is) (deletion_finds_none key_too below_too job_too op_too none_too is_too) same = is ∙ sym is_too
-one_of_row m number page after other (exchange_finds_other key expected pointer below job op differs is) (exchange_finds_other key_too expected_too pointer_too below_too job_too op_too differs_too is_too) same =
-    let same_key : key ≡ key_too = cc in
+one_of_row m number page after other (finds_other_pointer key expected below job op differs is) (finds_other_pointer key_too expected_too below_too job_too op_too differs_too is_too) same =
+    let same_key : key ≡ key_too = sym (expects-key m.op key expected op) ∙ expects-key m.op key_too expected_too op_too in
     is ∙ ap (λ (at : ℕ). answered m (Leave number Finish) (answer_at m.op (value_at at page.entries))) same_key ∙ sym is_too
 one_of_row m number page after other (posting_finds_separator debt child below job there is) (posting_finds_separator debt_too child_too below_too job_too there_too is_too) same = is ∙ sym is_too
 one_of_row m number page after other (is_to_change changed kept below change is) (is_to_change changed_too kept_too below_too change_too is_too) same =

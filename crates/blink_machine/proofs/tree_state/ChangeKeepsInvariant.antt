@@ -23,6 +23,7 @@ use Rattle.blink_machine.proofs.operation.PlacedWhateverBefore.{placed_at}
 use Rattle.blink_machine.proofs.operation.WriteOfOwnPage.{WritesOwn, replaced_has_invariant}
 use Rattle.blink_machine.proofs.operation.PageAtWork.{WorksOn, works_on}
 use Rattle.blink_machine.proofs.operation.PointersReplaced.{swaps-key, swaps-pointer}
+use Rattle.blink_machine.proofs.operation.EntriesRemoved.{removes-key}
 use Rattle.blink_machine.proofs.operation.ChangeOfTree.{leaf_gains, leaf_loses, leaf_exchanges, inner_gains}
 
 module _ (fan : ℕ) (prime : List ℕ) (after : Pages) (levels : Levels) (c : Cell) (page : PlainPage) (before : Option Debt) where
@@ -66,7 +67,7 @@ module _ (laws : TreeLaws) (old new : TreeState) (levels : Levels) (invariant : 
             (ap unlinked_at here) (ap split_at here),
       )
   leaf_is_changed page (loses key pointer is_leaf op found some is_changed) leaf work same turn =
-      let on : target m ≡ key = rw (leaf, op) refl in
+      let on : target m ≡ key = rw leaf (removes-key m.op key pointer op) in
       let it = leaf_loses laws old new levels invariant worker m placed number changed page own work same pointer (rw on found) (rw on is_changed) in (
         it.new,
         replaced_has_invariant laws old new levels invariant worker m number changed own (is_chained 0 work) placed (Some (answer_at m.op kept)) refl turn 0 work.cell changed it.new it.replaced work.same_number

@@ -22,7 +22,7 @@ use Rattle.blink_machine.proofs.operation.OperationIsPlaced.{its_own, at_state}
 use Rattle.blink_machine.specs.StepLaw.{Decides}
 use Rattle.blink_machine.proofs.tree.TreeStatements.{TreeLaws}
 use Rattle.blink_machine.proofs.operation.PageUnderLatch.{stands_here, of_level}
-use Rattle.blink_machine.proofs.operation.PointersReplaced.{refused_unchanged}
+use Rattle.blink_machine.proofs.operation.ExpectedPointers.{expects-key, refused_unchanged}
 use Rattle.blink_machine.proofs.operation.WhatJobsAreAbout.{target-leaf}
 
 -- no read of the prime block decides
@@ -86,10 +86,10 @@ module _ (laws : TreeLaws) (old new : TreeState) (levels : Levels) (invariant : 
       held_decides _ None placed inside leaf op finds (ap (λ (x : PlainMachine). x.answer) same) refl
   latched_read_decides placed (SeesUnderLatch.replacement_finds_none key pointer inside leaf op finds same) =
       held_decides _ None placed inside leaf op finds (ap (λ (x : PlainMachine). x.answer) same) refl
-  latched_read_decides placed (SeesUnderLatch.exchange_finds_other key expected pointer inside leaf op differs same) =
-      held_decides _ (value_at key page.entries) placed inside leaf op refl
-      (ap (λ (x : PlainMachine). x.answer) same ∙ ap (λ (o : Op). Some (answer_at o (value_at key page.entries))) op)
-      (refused_unchanged key expected pointer entries (value_at key page.entries) differs)
+  latched_read_decides placed (SeesUnderLatch.finds_other_pointer key expected inside leaf op differs same) =
+      held_decides m.op (value_at key page.entries) placed inside leaf refl (ap (λ k. value_at k page.entries) (expects-key m.op key expected op))
+      (ap (λ (x : PlainMachine). x.answer) same)
+      (refused_unchanged m.op key expected entries (value_at key page.entries) op differs)
   latched_read_decides placed (SeesUnderLatch.posting_finds_separator debt child inside job finds same) = decides_nothing new m after entries _ same refl keeps
   latched_read_decides placed (SeesUnderLatch.is_to_change changed found inside change same) = decides_nothing new m after entries _ same refl keeps
   latched_read_decides placed (SeesUnderLatch.is_to_split inside full same) = decides_nothing new m after entries _ same refl keeps

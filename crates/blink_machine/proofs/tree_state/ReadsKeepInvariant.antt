@@ -12,7 +12,7 @@ use Rattle.blink_machine.specs.TreeState.{TreeState}
 use Rattle.blink_machine.specs.Owned.{latch_of, latch_at, debt_of, debt_at, debt_of_job, unlinked_of, unlinked_at, split_of, split_at}
 use Rattle.blink_machine.specs.Placed.{MayChange, StandsAt, HasSplit, IsPlaced}
 use Rattle.blink_machine.specs.Invariant.{InvariantWith}
-use Rattle.blink_machine.specs.Table.{IsTopLeftmost, SeesPrime, begins, asks_of_root, asks_of_other, finds_leftmost, SeesOnItsWay, goes_right, goes_down, find_answers, update_wants, SeesUnderLatch, is_above_high_key, insertion_finds_key, deletion_finds_none, replacement_finds_none, exchange_finds_other, posting_finds_separator, is_to_change, is_to_split, SeesPage, on_its_way, under_latch}
+use Rattle.blink_machine.specs.Table.{IsTopLeftmost, SeesPrime, begins, asks_of_root, asks_of_other, finds_leftmost, SeesOnItsWay, goes_right, goes_down, find_answers, update_wants, SeesUnderLatch, is_above_high_key, insertion_finds_key, deletion_finds_none, replacement_finds_none, finds_other_pointer, posting_finds_separator, is_to_change, is_to_split, SeesPage, on_its_way, under_latch}
 use Rattle.blink_machine.specs.TreeWithDebts.{Levels, IsDebt}
 use Rattle.blink_machine.proofs.tree.TreeStatements.{TreeLaws}
 use Rattle.blink_machine.proofs.tree_state.WhatMayPass.{SplitPasses}
@@ -97,7 +97,7 @@ module _ (laws : TreeLaws) (old : TreeState) (levels : Levels) (invariant : Inva
           rw is (reads_on (Held number) _ here (record { same_fan = placed.same_fan; words = placed.words; at_its_state = refl }) (sym (ap debt_of_job leaf)) refl refl refl)
       reads_under_latch after (replacement_finds_none key pointer below leaf op none is) =
           rw is (reads_on (Held number) _ here (record { same_fan = placed.same_fan; words = placed.words; at_its_state = refl }) (sym (ap debt_of_job leaf)) refl refl refl)
-      reads_under_latch after (exchange_finds_other key expected pointer below leaf op differs is) =
+      reads_under_latch after (finds_other_pointer key expected below leaf op differs is) =
           rw is (reads_on (Held number) _ here (record { same_fan = placed.same_fan; words = placed.words; at_its_state = refl }) (sym (ap debt_of_job leaf)) refl refl refl)
       reads_under_latch after (posting_finds_separator debt child below job found is) = absurd (separator_absent debt child below job found)
       reads_under_latch after (is_to_change changed kept below change is) =

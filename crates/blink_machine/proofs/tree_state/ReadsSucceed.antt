@@ -4,10 +4,11 @@ use Rattle.std.specs.Prelude.{slice_get}
 use Rattle.std.proofs.lemmas.Bool.{cases_lt, cases_eq}
 use Rattle.blink_operation.specs.{key_of, FitsWords}
 use Rattle.blink_machine.specs.Owned.{debt_of, debt_at, debt_of_job}
+use Rattle.blink_machine.proofs.operation.ExpectedPointers.{sees_other, sees_none}
 use Rattle.blink_machine.proofs.operation.WhatJobsAreAbout.{brings_parent, some_value}
 use Rattle.blink_machine.proofs.tree.PrimeAsList.{is_top_leftmost, last_or-at_end, not_top_leftmost}
 use Rattle.blink_operation.specs.declared.Op.{Op}
-use Rattle.blink_operation.specs.declared.Op.TheVariants.{Find, Insert, Delete, Replace, Exchange}
+use Rattle.blink_operation.specs.declared.Op.TheVariants.{Find, Insert, Delete, Replace, Exchange, DeleteExact}
 use Rattle.blink_page.specs.{child_for, value_at, PlainPage, IsLawfulPage, least_above}
 use Rattle.blink_page.specs.declared.limits.TheConstants.{GREATEST_KEY}
 use Rattle.blink_page.proofs.Offered.{child_for-covers}
@@ -22,7 +23,7 @@ use Rattle.blink_machine.specs.Machine.{PlainMachine, NeedsPage, NeedsPrime, tar
 use Rattle.blink_machine.specs.TreeState.{TreeState, IsItsOperation}
 use Rattle.blink_machine.specs.Placed.{MayChange, PlacedAt}
 use Rattle.blink_machine.specs.Invariant.{Invariant, InvariantWith}
-use Rattle.blink_machine.specs.Table.{SeesOnItsWay, goes_right, goes_down, find_answers, SeesUnderLatch, is_above_high_key, insertion_finds_key, deletion_finds_none, replacement_finds_none, exchange_finds_other, posting_finds_separator, is_to_change, is_to_split, IsChange, SeesPage, on_its_way, under_latch, Brings, WaitsForLevel, IsTopLeftmost, SeesPrime, finds_leftmost, begins, asks_of_root, asks_of_other, update_wants}
+use Rattle.blink_machine.specs.Table.{SeesOnItsWay, goes_right, goes_down, find_answers, SeesUnderLatch, is_above_high_key, insertion_finds_key, deletion_finds_none, replacement_finds_none, posting_finds_separator, is_to_change, is_to_split, IsChange, SeesPage, on_its_way, under_latch, Brings, WaitsForLevel, IsTopLeftmost, SeesPrime, finds_leftmost, begins, asks_of_root, asks_of_other, update_wants}
 use Rattle.blink_machine.specs.TreeWithDebts.{Levels}
 use Rattle.blink_machine.proofs.operation.ReadPagesAreThere.{reads_are_good}
 use Rattle.blink_machine.proofs.operation.OperationIsPlaced.{at_state, begun, its_own}
@@ -77,16 +78,20 @@ module _ (m : PlainMachine) (number : ℕ) (page : PlainPage) (lawful : IsLawful
     on_leaf job (Find key) op may kept there = absurd may
     on_leaf job (Insert key pointer) op may (Some kept) there = (_, insertion_finds_key key pointer kept below job op (rw (job, op) at there) refl)
     on_leaf job (Insert key pointer) op may None there = gains_or_splits (rw (job, op) tt) there
-    on_leaf job (Delete key) op may (Some kept) there = (_, is_to_change _ (Some kept) below (IsChange.loses key kept job op (rw (job, op) at there) refl refl) refl)
+    on_leaf job (Delete key) op may (Some kept) there = (_, is_to_change _ (Some kept) below (IsChange.loses key kept job (inl op) (rw (job, op) at there) refl refl) refl)
     on_leaf job (Delete key) op may None there = (_, deletion_finds_none key below job op (rw (job, op) at there) refl)
     on_leaf job (Replace key new) op may (Some kept) there = (_, is_to_change _ (Some kept) below (IsChange.swaps key new kept job (inl op) (rw (job, op) at there) refl refl) refl)
     on_leaf job (Replace key new) op may None there = (_, replacement_finds_none key new below job op (rw (job, op) at there) refl)
     on_leaf job (Exchange key expected new) op may (Some kept) there = elim (cases_eq kept expected) [
       | inl same ↦ (_, is_to_change _ (Some kept) below (IsChange.swaps key new kept job (inr (op ∙ ap (λ e. Exchange key e new) (sym same))) (rw (job, op) at there) refl refl) refl)
-      | inr differs ↦ (_, exchange_finds_other key expected new below job op (λ finds. let stands : value_at key page.entries ≡ Some kept = rw (job, op) at there in let equal : kept ≡ expected = cc in differs equal) refl)
+      | inr differs ↦ (_, sees_other m number page _ key expected below job (inl (new, op)) kept (rw (job, op) at there) differs refl)
     ]
-    on_leaf job (Exchange key expected new) op may None there =
-        (_, exchange_finds_other key expected new below job op (λ finds. let stands : value_at key page.entries ≡ None = rw (job, op) at there in cc) refl)
+    on_leaf job (Exchange key expected new) op may None there = (_, sees_none m number page _ key expected below job (inl (new, op)) (rw (job, op) at there) refl)
+    on_leaf job (DeleteExact key expected) op may (Some kept) there = elim (cases_eq kept expected) [
+      | inl same ↦ (_, is_to_change _ (Some kept) below (IsChange.loses key kept job (inr (op ∙ ap (DeleteExact key) (sym same))) (rw (job, op) at there) refl refl) refl)
+      | inr differs ↦ (_, sees_other m number page _ key expected below job (inr op) kept (rw (job, op) at there) differs refl)
+    ]
+    on_leaf job (DeleteExact key expected) op may None there = (_, sees_none m number page _ key expected below job (inr op) (rw (job, op) at there) refl)
 
     -- a posting, by whether its separator is there
     on_inner : (debt : Debt) → m.job ≡ Parent debt → (kept : Option ℕ) → value_at (target m) page.entries ≡ kept → MakesUnderLatch m number page

@@ -27,6 +27,7 @@ use Rattle.blink_machine.specs.StepLaw.{Decides}
 use Rattle.blink_machine.proofs.tree.TreeStatements.{TreeLaws}
 use Rattle.blink_machine.proofs.tree_state.WritesChangeEntries.{read_stands_at, leaf_gains, leaf_loses, leaf_exchanges, posting_leaves_entries, leaf_split_gains, inner_split_leaves_entries}
 use Rattle.blink_machine.proofs.operation.PointersReplaced.{swaps-key, map_at-swaps}
+use Rattle.blink_machine.proofs.operation.EntriesRemoved.{removes-key, map_at-removes}
 use Rattle.blink_machine.proofs.operation.WhatJobsAreAbout.{target-leaf}
 
 -- what an insertion brings to a leaf
@@ -92,10 +93,11 @@ module _ (laws : TreeLaws) (old new : TreeState) (levels : Levels) (invariant : 
         (leaf_gains laws old levels invariant worker m under owes number page at_work read new.pages changed found change writes leaf absent eq)
         (answer_on_leaf m.op state found None refl leaf nothing same)
     changes_decide Leaf leaf (IsChange.loses key pointer leaf_too op there some eq) =
-        found_decides _ pointer op leaf answered there _
-        (leaf_loses laws old levels invariant worker m under owes number page at_work read new.pages changed found change writes key pointer leaf (target-leaf m _ leaf op) there eq)
-        (ap (removed key) (sym joined) ∙ removed-pairs_of key entries ascending)
-        (answer_on_leaf _ state found (Some pointer) op leaf some same)
+        let own : key_of m.op ≡ key = removes-key m.op key pointer op in
+        found_decides m.op pointer refl leaf answered (ap (λ k. value_at k page.entries) own ∙ there) _
+        (leaf_loses laws old levels invariant worker m under owes number page at_work read new.pages changed found change writes key pointer leaf (target-leaf m m.op leaf refl ∙ own) there eq)
+        (ap (removed key) (sym joined) ∙ removed-pairs_of key entries ascending ∙ ap pairs_of (sym (map_at-removes m.op key pointer entries op)))
+        (answer_on_leaf m.op state found (Some pointer) refl leaf some same)
     changes_decide Leaf leaf (IsChange.swaps key to pointer leaf_too op there some eq) =
         let own : key_of m.op ≡ key = swaps-key m.op key to pointer op in
         found_decides m.op pointer refl leaf answered (ap (λ k. value_at k page.entries) own ∙ there) _

@@ -1,5 +1,5 @@
 //! The state of an operation after a read.
-ghost use Rattle.std.specs.Prelude.{◌≡◌, ◌↔◌, ℕ, ◌<◌, ◌≤◌, ◌+◌, List, length, IsTrue};
+ghost use Rattle.std.specs.Prelude.{◌≡◌, ◌↔◌, ℕ, ◌<◌, ◌≤◌, ◌+◌, List, Some, length, IsTrue};
 ghost use Rattle.std.specs.Bool.{OnTrue, OnFalse};
 ghost use Rattle.blink_page.specs.declared.limits.TheConstants.{LEVELS};
 ghost use Rattle.blink_page.specs.{least_above, value_at, PlainPage};
@@ -7,7 +7,7 @@ ghost use Rattle.blink_machine.specs.Machine.{NeedsPrime, NeedsPage, level_of, l
 ghost use Rattle.blink_operation.specs.declared.Op.TheVariants.{Find};
 ghost use Rattle.blink_page.specs.declared.search.Way.TheVariants.{Here};
 ghost use Rattle.blink_machine.specs.OnTheWay.{IsOnItsWay, TellsWay};
-ghost use Rattle.blink_machine.specs.Table.{SeesPrime, SeesTop, WaitsForLevel, SeesPage, SeesOnItsWay, SeesUnderLatch};
+ghost use Rattle.blink_machine.specs.Table.{Expects, SeesPrime, SeesTop, WaitsForLevel, SeesPage, SeesOnItsWay, SeesUnderLatch};
 ghost use Rattle.blink_machine.specs.Needs.{NeedsSomePage};
 
 use super::{Debt, Job, Machine, Next, State};
@@ -170,7 +170,11 @@ impl Machine {
             }
             Way::Here => match self.op {
                 Op::Find(key) => self.decide(State::Ended, Op::Find(key).answer(kept)),
-                Op::Insert(..) | Op::Delete(_) | Op::Replace(..) | Op::Exchange(..) => {
+                Op::Insert(..)
+                | Op::Delete(_)
+                | Op::Replace(..)
+                | Op::Exchange(..)
+                | Op::DeleteExact(..) => {
                     self.state = State::Want(number);
                 }
             },
@@ -195,6 +199,9 @@ impl Machine {
             (Job::Leaf, Op::Replace(key, pointer)) => self.replace(number, page, key, pointer),
             (Job::Leaf, Op::Exchange(key, expected, pointer)) => {
                 self.exchange(number, page, key, expected, pointer);
+            }
+            (Job::Leaf, Op::DeleteExact(key, expected)) => {
+                self.delete_exact(number, page, key, expected);
             }
             (Job::Leaf, Op::Find(_)) => unreachable!(),
             (Job::Parent(debt), _) => self.post(number, page, debt),
@@ -263,15 +270,45 @@ impl Machine {
         requires not_right { key ≤ page.high }
         ensures { SeesUnderLatch self.old number page self.new }
     {
+        if self.finds_expected(number, &page, key, expected) {
+            let mut changed = page;
+            changed.swap(key, pointer);
+            self.state = State::Change(number, changed, Some(expected));
+        }
+    }
+
+    // Removes the key's entry from the leaf, if its pointer is the expected one.
+    fn delete_exact(&mut self, number: u32, page: Page, key: u64, expected: u64)
+        requires state { self.old.state ≡ State.Held number }
+        requires job { self.old.job ≡ Job.Leaf }
+        requires op { self.old.op ≡ Op.DeleteExact key expected }
+        requires level { page.level ≡ 0 }
+        requires not_right { key ≤ page.high }
+        ensures { SeesUnderLatch self.old number page self.new }
+    {
+        if self.finds_expected(number, &page, key, expected) {
+            let mut changed = page;
+            changed.take(key);
+            self.state = State::Change(number, changed, Some(expected));
+        }
+    }
+
+    // Tells whether the leaf has the expected pointer for the key. If not, the operation answers what the leaf has, and leaves it.
+    fn finds_expected(&mut self, number: u32, page: &Page, key: u64, expected: u64) -> bool
+        requires state { self.old.state ≡ State.Held number }
+        requires job { self.old.job ≡ Job.Leaf }
+        requires op { Expects self.old.op key expected }
+        requires not_right { key ≤ page.now.high }
+        ensures found { OnTrue result (value_at key page.now.entries ≡ Some expected) }
+        ensures unchanged { OnTrue result (self.new ≡ self.old) }
+        ensures other { OnFalse result (SeesUnderLatch self.old number page.now self.new) }
+    {
         match page.look(key) {
-            Some(kept) if kept == expected => {
-                let mut changed = page;
-                changed.swap(key, pointer);
-                self.state = State::Change(number, changed, Some(kept));
-            }
+            Some(kept) if kept == expected => return true,
             Some(kept) => self.decide(State::Leave(number, Next::Finish), Answer::Exists(kept)),
             None => self.decide(State::Leave(number, Next::Finish), Answer::Absent),
         }
+        false
     }
 
     // Posts the debt to the page unless its separator is present, or splits the page.

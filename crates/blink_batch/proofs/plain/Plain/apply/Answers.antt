@@ -1,8 +1,8 @@
 use Rattle.std.proofs.Common.{refl}
 use Rattle.std.proofs.lemmas.Result.{err_from_is_err_and}
 use Rattle.blink_operation.specs.PlainMap.{IsAscending, entry}
-use Rattle.blink_batch.proofs.SearchByHalves.{kept_at_place, pointer_of-gap, insert-gap, remove-place}
-use Rattle.blink_batch.proofs.RunsByKey.{IsAscending-added, IsAscending-removed}
+use Rattle.blink_batch.proofs.SearchByHalves.{kept_at_place, pointer_of-gap, insert-gap}
+use Rattle.blink_batch.proofs.RunsByKey.{IsAscending-added}
 use Rattle.blink_batch.proofs.plain.Plain.apply.Goals as goal
 
 -- the key is there: it maps to the pointer that is read
@@ -67,27 +67,10 @@ invariant_of-self-in-Insert-Err c =
 
 -- the entry at the key's place is removed, and its pointer answered
 pub returns-in-Delete-Ok-clause-answer : goal.returns-in-Delete-Ok-clause-answer
-returns-in-Delete-Ok-clause-answer c =
-    let place = rw c.in-Delete-Ok.is-1 at c.place-place.ensures.found in
-    let ascending = rw c.self.view_is at c.self.invariant in
-    let kept = kept_at_place c.args.self.now c.key.result c.in-Delete-Ok.at c.remove.result ascending place (rw c.self.view_is at c.remove.ensures.value) in
-    rw c.in-Delete-Ok.is-0 (rw (rw (c.key.ensures, c.in-Delete-Ok.is-0) at kept) refl)
+returns-in-Delete-Ok-clause-answer c = rw (c.in-Delete-Ok.is-0, c.remove_at.ensures.before) refl
 
 pub returns-in-Delete-Ok-clause-map : goal.returns-in-Delete-Ok-clause-map
-returns-in-Delete-Ok-clause-map c =
-    let place = rw c.in-Delete-Ok.is-1 at c.place-place.ensures.found in
-    let ascending = rw c.self.view_is at c.self.invariant in
-    let kept = kept_at_place c.args.self.now c.key.result c.in-Delete-Ok.at c.remove.result ascending place (rw c.self.view_is at c.remove.ensures.value) in
-    let gone = remove-place c.args.self.now c.key.result c.in-Delete-Ok.at ascending place in
-    rw (c.remove.ensures.items, c.self.view_is, gone, c.key.ensures, c.in-Delete-Ok.is-0) (rw (rw (c.key.ensures, c.in-Delete-Ok.is-0) at kept) refl)
-
--- one entry less, so the keys still ascend
-pub invariant_of-self-in-Delete-Ok : goal.invariant_of-self-in-Delete-Ok
-invariant_of-self-in-Delete-Ok c =
-    let place = rw c.in-Delete-Ok.is-1 at c.place-place.ensures.found in
-    let ascending : IsAscending c.args.self.now = rw c.self.view_is at c.self.invariant in
-    rw (c.remove.ensures.items, c.self.view_is, remove-place c.args.self.now c.key.result c.in-Delete-Ok.at ascending place)
-    (IsAscending-removed c.args.self.now c.key.result ascending)
+returns-in-Delete-Ok-clause-map c = rw (c.in-Delete-Ok.is-0, c.remove_at.ensures.before) c.remove_at.ensures.map
 
 -- there is nothing to remove
 pub returns-in-Delete-Err-clause-answer : goal.returns-in-Delete-Err-clause-answer
@@ -134,3 +117,16 @@ returns-in-Exchange-Err-clause-map c =
     let gap = rw c.in-Exchange-Err.is-1 at c.place-place.ensures.gap in
     let absent = pointer_of-gap _ _ _ gap in
     rw c.in-Exchange-Err.is-0 (rw (rw (c.key.ensures, c.in-Exchange-Err.is-0) at absent) refl)
+
+-- there is nothing whose pointer could be the expected one
+pub returns-in-DeleteExact-Err-clause-answer : goal.returns-in-DeleteExact-Err-clause-answer
+returns-in-DeleteExact-Err-clause-answer c =
+    let gap = rw c.in-DeleteExact-Err.is-1 at c.place-place.ensures.gap in
+    let absent = pointer_of-gap _ _ _ gap in
+    rw c.in-DeleteExact-Err.is-0 (rw (rw (c.key.ensures, c.in-DeleteExact-Err.is-0) at absent) refl)
+
+pub returns-in-DeleteExact-Err-clause-map : goal.returns-in-DeleteExact-Err-clause-map
+returns-in-DeleteExact-Err-clause-map c =
+    let gap = rw c.in-DeleteExact-Err.is-1 at c.place-place.ensures.gap in
+    let absent = pointer_of-gap _ _ _ gap in
+    rw c.in-DeleteExact-Err.is-0 (rw (rw (c.key.ensures, c.in-DeleteExact-Err.is-0) at absent) refl)

@@ -1,4 +1,4 @@
-use Rattle.std.proofs.Common.{◌≡◌, Some, None, refl, ap, sym, ◌∙◌, arith}
+use Rattle.std.proofs.Common.{◌≡◌, Some, None, inl, refl, ap, sym, ◌∙◌, arith}
 use Rattle.blink_operation.specs.declared.Op.TheVariants.{Delete}
 use Rattle.blink_page.specs.{value_at, removed, PlainPage, with_entries}
 use Rattle.blink_machine.specs.declared.machine.State.TheVariants.{Change}
@@ -14,7 +14,7 @@ returns-in-Some c =
     let there : value_at c.args.key c.args.page.entries ≡ Some c.in-Some.kept = sym (rw copy at c.in-Some.ensures.value) in
     let made = c.take.ensures.entries ∙ ap (λ (p : PlainPage). with_entries p (removed c.args.key p.entries)) copy in
     is_to_change c.take.new.self (Some c.in-Some.kept) (omega (arith, own, c.requires.not_right))
-    (loses c.args.key c.in-Some.kept c.requires.job c.requires.op there refl made)
+    (loses c.args.key c.in-Some.kept c.requires.job (inl c.requires.op) there refl made)
     (ap (λ (m : PlainMachine). at_state m (Change c.args.number c.take.new.self (Some c.in-Some.kept))) c.self.view_is)
 
 pub returns-in-None : goal.returns-in-None

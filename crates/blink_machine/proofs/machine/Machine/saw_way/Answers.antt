@@ -59,7 +59,10 @@ returns-in-Insert c number page needs tells =
         | inl w ↦ update_wants c.in-Going.level here leads (subst IsUpdate (sym (own ∙ w.1)) tt) after
         | inr last ↦ elim last [
           | inl w ↦ update_wants c.in-Going.level here leads (subst IsUpdate (sym (own ∙ w.2)) tt) after
-          | inr w ↦ update_wants c.in-Going.level here leads (subst IsUpdate (sym (own ∙ w.3)) tt) after
+          | inr expecting ↦ elim expecting [
+            | inl w ↦ update_wants c.in-Going.level here leads (subst IsUpdate (sym (own ∙ w.3)) tt) after
+            | inr w ↦ update_wants c.in-Going.level here leads (subst IsUpdate (sym (own ∙ w.2)) tt) after
+          ]
         ]
       ]
     ]
