@@ -172,6 +172,22 @@ fn a_map_with_three_rows_takes_any_number_of_changes_that_need_one() {
     assert!(map.close().unwrap().scan(..).eq([(1, 1000)].map(Entry::from)));
 }
 
+// A range takes its entries out in parts of 16, 32, 64, 128 and then 256.
+#[test]
+fn a_range_gives_each_entry_once_wherever_its_parts_end() {
+    let entry_of = |place: u64| Entry { key: 2 * place + 1, pointer: 3 * place };
+    let entries: Vec<Entry> = (0..1000).map(entry_of).collect();
+    let map = map_over(&Index::from_sorted(16, &entries).unwrap(), 0, 0, 1);
+    let mut session = map.session().unwrap();
+    for end in [16, 48, 112, 240, 496, 752] {
+        for count in [end - 1, end, end + 1] {
+            assert!(session.range(..2 * count).eq((0..count).map(entry_of)), "{count}");
+            assert!(session.range(1..=2 * count + 1).eq((0..=count).map(entry_of)), "{count}");
+        }
+    }
+    assert!(session.range(..).eq(entries));
+}
+
 // What a session has, where no row waits.
 fn stock(pages: u64, unwritten: u64, free: u64, taken_out: u64) -> Stock {
     Stock { pages, unwritten, free, taken_out, waiting: 0 }
