@@ -57,6 +57,12 @@ typedef struct { uint64_t filled, more, next; } blink_scanned;
 /* What became of a snapshot. `taken` is 1 if it was taken, and then `there` is the number of its entries; else both are 0. */
 typedef struct { uint64_t taken, there; } blink_taken;
 
+/* What a session has of its map's page numbers and rows, until its handle is freed; then the next session at its place has them.
+ * `pages` are the page numbers that it has drawn and not used, and `unwritten` the rows that it has drawn and not written. `free`
+ * rows have come back, and may be written again. `taken_out` rows were replaced by changes of its own, and `waiting` rows wait
+ * until no call reads them. */
+typedef struct { uint64_t pages, unwritten, free, taken_out, waiting; } blink_stock;
+
 /* The kinds of operations. */
 enum {
     BLINK_FIND = 0,    /* looks the key up */
@@ -385,6 +391,10 @@ uint8_t blink_session_advance(blink_session *session, uint32_t tries, blink_answ
  * Refused, looked for in this order: BLINK_FOREIGN, if the sessions are of two maps; BLINK_PENDING, if `from` isn't free; the same, if
  * `to` isn't. Then nothing changes. */
 uint8_t blink_session_tell(blink_session *from, blink_session *to);
+
+/* Tells what the session has of page numbers and rows, for a look; blink_map_room tells what the pool has left. It changes
+ * nothing. Refused: BLINK_PENDING; then `stock` stays as it was. */
+uint8_t blink_session_stock(blink_session *session, blink_stock *stock);
 
 /* Frees the handle. Tested: a session leaves its map by it, and its place can be taken again. One with an operation under way is lost:
  * blink_map_close is then refused with BLINK_LOST_UNDER_WAY. */

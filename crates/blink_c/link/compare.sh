@@ -31,7 +31,7 @@ sed 's/|/ | /g' "$work/exports" | awk -F ' [|] ' '
     BEGIN {
         c["u8"] = "uint8_t"; c["u32"] = "uint32_t"; c["u64"] = "uint64_t"; c["usize"] = "size_t"; c["bool"] = "bool"
         c["()"] = "void"; c["RawEntry"] = c["Entry"] = "blink_entry"; c["RawOperation"] = "blink_operation"; c["RawAnswer"] = "blink_answer"
-        c["RawScanned"] = "blink_scanned"; c["RawTaken"] = "blink_taken"
+        c["RawScanned"] = "blink_scanned"; c["RawTaken"] = "blink_taken"; c["RawStock"] = "blink_stock"
         c["IndexHandle"] = c["IndexSlot"] = "blink_index"; c["TableHandle"] = c["TableSlot"] = "blink_table"
         c["PassHandle"] = c["PassSlot"] = "blink_pass"; c["MapHandle"] = c["MapSlot"] = "blink_map"
         c["SessionHandle"] = c["SessionSlot"] = "blink_session"
@@ -114,7 +114,7 @@ WORDS
     awk '/^pub struct (Raw|Entry)/ { name = $3; on = 1; print "struct " name " {"; next }
         on && /^}/ { on = 0; print "};" }
         on { sub(/^ *pub /, ""); sub(/,$/, ""); split($0, f, ": "); print "uint" substr(f[2], 2) "_t " f[1] ";" }' "$here/src/raw.rt" "$here/../blink_operation/src/entry.rt"
-    for it in "RawEntry blink_entry key pointer" "Entry blink_entry key pointer" "RawScanned blink_scanned filled more next" "RawTaken blink_taken taken there" "RawOperation blink_operation kind key pointer" "RawAnswer blink_answer kind pointer"; do
+    for it in "RawEntry blink_entry key pointer" "Entry blink_entry key pointer" "RawScanned blink_scanned filled more next" "RawTaken blink_taken taken there" "RawStock blink_stock pages unwritten free taken_out waiting" "RawOperation blink_operation kind key pointer" "RawAnswer blink_answer kind pointer"; do
         # shellcheck disable=SC2086
         set -- $it "" "$@"
         raw=$1

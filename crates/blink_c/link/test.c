@@ -436,6 +436,11 @@ static blink_answer exchanges(blink_session *session, uint64_t key, uint64_t exp
 
 static bool is(blink_answer answer, uint64_t kind, uint64_t pointer) { return answer.kind == kind && answer.pointer == pointer; }
 
+static bool has(blink_session *session, blink_stock expected) {
+    blink_stock it = {9, 9, 9, 9, 9};
+    return blink_session_stock(session, &it) == BLINK_DONE && memcmp(&it, &expected, sizeof it) == 0;
+}
+
 // Keys 1 to 5 map to 10 to 50. One session changes keys 2, 3, 6 and 7, and tells another; then both leave, and the map is closed.
 static void changes_a_map(void) {
     blink_index index = index_of(4, five, 6), closed = {NULL};
@@ -447,7 +452,10 @@ static void changes_a_map(void) {
     CHECK(rows == 600 && pages == 300);
     CHECK(blink_map_join(&map, &one) == BLINK_DONE && blink_map_join(&map, &other) == BLINK_DONE);
     CHECK(is(changes(&one, BLINK_FIND, 3, NONE), BLINK_FOUND, 30) && is(changes(&one, BLINK_FIND, 6, NONE), BLINK_ABSENT, 0));
+    CHECK(has(&one, (blink_stock){0, 0, 0, 0, 0}));
     CHECK(is(changes(&one, BLINK_INSERT, 6, 60), BLINK_INSERTED, 0) && is(changes(&one, BLINK_INSERT, 6, 61), BLINK_EXISTS, 60));
+    // it has drawn an eighth of the pool, 37 numbers and 75 rows, and has replaced one row by another
+    CHECK(has(&one, (blink_stock){37, 74, 0, 1, 0}));
     CHECK(is(changes(&one, BLINK_REPLACE, 6, 62), BLINK_REPLACED, 60) && is(changes(&one, BLINK_REPLACE, 7, 70), BLINK_ABSENT, 0));
     CHECK(is(changes(&one, BLINK_DELETE, 2, NONE), BLINK_REMOVED, 20) && is(changes(&one, BLINK_DELETE, 2, NONE), BLINK_ABSENT, 0));
     CHECK(is(puts_so(&one, 7, 71), BLINK_INSERTED, 0) && is(puts_so(&one, 7, 72), BLINK_REPLACED, 71));
@@ -539,6 +547,8 @@ static void refuses_under_way(void) {
     CHECK(blink_session_delete(&one, 3, 100, &answer) == BLINK_PENDING && blink_session_put(&one, 9, 90, 100, &answer) == BLINK_PENDING);
     CHECK(blink_session_replace(&one, 3, 34, 100, &answer) == BLINK_PENDING);
     CHECK(blink_session_exchange(&one, 3, 30, 34, 100, &answer) == BLINK_PENDING);
+    blink_stock stock = {9, 9, 9, 9, 9};
+    CHECK(blink_session_stock(&one, &stock) == BLINK_PENDING && stock.pages == 9 && stock.waiting == 9);
     CHECK(blink_session_tell(&one, &other) == BLINK_PENDING && blink_session_tell(&other, &one) == BLINK_PENDING);
     CHECK(answer.kind == 9 && is(changes(&other, BLINK_FIND, 3, NONE), BLINK_FOUND, 30));
     CHECK(blink_session_advance(&one, 1, &answer) == BLINK_DONE && is(answer, BLINK_REPLACED, 30));

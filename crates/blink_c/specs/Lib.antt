@@ -2,7 +2,7 @@
 -- Rust programs.
 
 -- entries, operations and answers as structs of numbers
-pub use Rattle.blink_c.specs.Raw.{AreOperations, insertion_of, op_of, raw_answer, raw_entry, raw_given, raw_scanned, raw_shown}
+pub use Rattle.blink_c.specs.Raw.{AreOperations, insertion_of, op_of, raw_answer, raw_entry, raw_given, raw_scanned, raw_shown, raw_stock}
 -- a batch that one thread runs over an index, an index made of entries, and why they are refused
 pub use Rattle.blink_c.specs.Runs.{HasEntriesOf, HasPagesFor, HasPagesOf, HasRun, IsMakeRefusal, IsRunRefusal}
 -- why an index isn't made of entries that have to ascend
@@ -23,7 +23,7 @@ pub use Rattle.blink_c.specs.Passes.{Begins, Ends, Finds, Glances, Hands, IsAdva
 -- a map behind a handle: what the calls make of it, and why they are refused
 pub use Rattle.blink_c.specs.Maps.{HasBadSessions, IsNewMap, IsTooLargeMap, Joins}
 -- a session behind a handle likewise
-pub use Rattle.blink_c.specs.Sessions.{Answers, EndsFrom, Finds as SessionFinds, IsAdvanceRefusal as IsSessionAdvanceRefusal, IsChangeRefusal, IsOwnSession, IsPutRefusal, IsShortage, IsTakeRefusal as IsSessionTakeRefusal, IsTellRefusal as IsSessionTellRefusal, Puts, Scans as SessionScans, Takes as SessionTakes, TellsOn as SessionTellsOn}
+pub use Rattle.blink_c.specs.Sessions.{Answers, EndsFrom, Finds as SessionFinds, IsAdvanceRefusal as IsSessionAdvanceRefusal, IsChangeRefusal, IsOwnSession, IsPutRefusal, IsShortage, IsTakeRefusal as IsSessionTakeRefusal, IsTellRefusal as IsSessionTellRefusal, Puts, Scans as SessionScans, Takes as SessionTakes, TellsOn as SessionTellsOn, TellsStock}
 -- ---- the files
 pub mod Raw
 pub mod Runs

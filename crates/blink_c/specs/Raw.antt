@@ -6,10 +6,12 @@ use Rattle.blink_batch.specs.declared.Entry.{Entry}
 use Rattle.blink_batch.specs.declared.Op.{Op}
 use Rattle.blink_batch.specs.declared.Op.TheVariants.{Find, Insert, Delete, Replace}
 use Rattle.blink_live.specs.declared.scan.Scanned.{Scanned}
+use Rattle.blink_map.specs.declared.stock.Stock.{Stock}
 use Rattle.blink_c.specs.declared.raw.RawAnswer.{RawAnswer}
 use Rattle.blink_c.specs.declared.raw.RawEntry.{RawEntry}
 use Rattle.blink_c.specs.declared.raw.RawOperation.{RawOperation}
 use Rattle.blink_c.specs.declared.raw.RawScanned.{RawScanned}
+use Rattle.blink_c.specs.declared.raw.RawStock.{RawStock}
 use Rattle.blink_c.specs.declared.raw.TheConstants.{FIND, INSERT, DELETE, REPLACE, ABSENT, FOUND, INSERTED, EXISTS, REMOVED, REPLACED}
 
 -- the operation that three numbers mean, if the kind is one of the four
@@ -58,3 +60,13 @@ raw_next filled (Some next) = record { filled = filled; more = 1; next = next }
 
 abbrev pub raw_scanned : Scanned → RawScanned
 raw_scanned scanned = raw_next scanned.filled scanned.next
+
+-- what a session has of page numbers and rows
+abbrev pub raw_stock : Stock → RawStock
+raw_stock stock = record {
+  pages = stock.pages;
+  unwritten = stock.unwritten;
+  free = stock.free;
+  taken_out = stock.taken_out;
+  waiting = stock.waiting;
+}

@@ -12,9 +12,10 @@ use Rattle.blink_map.specs.declared.error.MapError.TheVariants.{OutOfMemory}
 use Rattle.blink_map.specs.declared.map.Map.{Map}
 use Rattle.blink_map.specs.declared.map.Session.{Session}
 use Rattle.blink_map.specs.declared.map.Pending.{Pending}
-use Rattle.blink_map.specs.{GoesOn, HasBegun, HasTried, IsAnswered, IsPendingOf, IsPut, IsSameBesideRoom, IsSameBesideSeen, IsSameSession, IsSessionOf, LacksRoom, LacksRoomInAll, op_of, opening_of, seen_by, session_of}
+use Rattle.blink_map.specs.{GoesOn, HasBegun, HasTried, IsAnswered, IsPendingOf, IsPut, IsSameBesideRoom, IsSameBesideSeen, IsSameSession, IsSessionOf, LacksRoom, LacksRoomInAll, op_of, opening_of, seen_by, session_of, stock_of}
 use Rattle.blink_c.specs.declared.raw.RawAnswer.{RawAnswer}
 use Rattle.blink_c.specs.declared.raw.RawScanned.{RawScanned}
+use Rattle.blink_c.specs.declared.raw.RawStock.{RawStock}
 use Rattle.blink_c.specs.declared.raw.RawTaken.{RawTaken}
 use Rattle.blink_c.specs.declared.raw.TheConstants.{INSERTED, REPLACED}
 use Rattle.blink_c.specs.declared.map_refusal.MapRefusal.{MapRefusal}
@@ -22,7 +23,7 @@ use Rattle.blink_c.specs.declared.map_refusal.MapRefusal.TheVariants as refused
 use Rattle.blink_c.specs.declared.session_owner.HeldSession.{HeldSession}
 use Rattle.blink_c.specs.declared.session_owner.HeldSession.TheVariants.{Free, Busy, Putting, Gone}
 use Rattle.blink_c.specs.declared.session_owner.SessionOwner.{SessionOwner}
-use Rattle.blink_c.specs.Raw.{raw_answer, raw_shown}
+use Rattle.blink_c.specs.Raw.{raw_answer, raw_shown, raw_stock}
 use Rattle.blink_c.specs.Reports.{HasReported, TellsTaken}
 
 -- the map
@@ -65,6 +66,12 @@ pub record StaysFree (old new : SessionOwner) (before now : Session) : Type 0 wh
   pub same : IsOfSameMap old new
 
 -- ---- look-ups, and what a session is told
+
+-- the session is free, and this is its stock
+pub record TellsStock (owner : SessionOwner) (given : RawStock) : Type 0 where
+  pub session : Session
+  pub free : owner.held ≡ Free session
+  pub stock : given ≡ raw_stock (stock_of session)
 
 -- the key is looked up after the changes that the session has seen by the end of the call
 pub record Finds (key : ℕ) (old new : SessionOwner) (given : RawAnswer) : Type 0 where

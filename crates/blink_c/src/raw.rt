@@ -1,10 +1,11 @@
 //! Entries, operations and answers as the caller passes them: structs of numbers.
 ghost use Rattle.std.specs.Prelude.{◌≡◌, ◌↔◌, IfNone, IfSome, IsSome, IsTrue};
 ghost use Rattle.blink_c.specs.Reports.{AreTaken, IsNotTaken};
-ghost use Rattle.blink_c.specs.Raw.{op_of, raw_answer, raw_entry, raw_given, raw_scanned, raw_shown};
+ghost use Rattle.blink_c.specs.Raw.{op_of, raw_answer, raw_entry, raw_given, raw_scanned, raw_shown, raw_stock};
 
 use blink_batch::{Answer, Entry, Op};
 use blink_live::Scanned;
+use blink_map::Stock;
 
 /// A key with its record pointer.
 #[repr(C)]
@@ -47,6 +48,17 @@ pub struct RawScanned {
 pub struct RawTaken {
     pub taken: u64,
     pub there: u64,
+}
+
+/// What a session has of its map's page numbers and rows.
+#[repr(C)]
+#[derive(Clone, Copy)]
+pub struct RawStock {
+    pub pages: u64,
+    pub unwritten: u64,
+    pub free: u64,
+    pub taken_out: u64,
+    pub waiting: u64,
 }
 
 // The kinds of operations.
@@ -145,6 +157,21 @@ impl RawTaken {
         RawTaken {
             taken: 1,
             there: taken.len() as u64,
+        }
+    }
+}
+
+impl RawStock {
+    /// The stock as the caller gets it.
+    pub(crate) fn of(stock: Stock) -> RawStock
+        ensures { result ≡ raw_stock stock }
+    {
+        RawStock {
+            pages: stock.pages,
+            unwritten: stock.unwritten,
+            free: stock.free,
+            taken_out: stock.taken_out,
+            waiting: stock.waiting,
         }
     }
 }

@@ -3,10 +3,10 @@ ghost use Rattle.std.specs.Prelude.{◌≡◌, ◌≢◌};
 ghost use Rattle.blink_batch.specs.declared.Op.TheVariants.{Delete, Exchange, Insert, Replace};
 ghost use Rattle.blink_c.specs.Codes.{TellsWhy};
 ghost use Rattle.blink_c.specs.MapCodes.{code_of};
-ghost use Rattle.blink_c.specs.Sessions.{Answers, EndsFrom, Finds, IsAdvanceRefusal, IsChangeRefusal, IsNotFree, IsOwnSession, IsPutRefusal, IsTakeRefusal, IsTellRefusal, Puts, Scans, Takes, TellsOn, in_map};
+ghost use Rattle.blink_c.specs.Sessions.{Answers, EndsFrom, Finds, IsAdvanceRefusal, IsChangeRefusal, IsNotFree, IsOwnSession, IsPutRefusal, IsTakeRefusal, IsTellRefusal, Puts, Scans, Takes, TellsOn, TellsStock, in_map};
 
 use crate::map_refusal::code_of;
-use crate::raw::{RawAnswer, RawScanned, RawTaken};
+use crate::raw::{RawAnswer, RawScanned, RawStock, RawTaken};
 use crate::session_handle::SessionHandle;
 use crate::session_owner::{HeldSession, SessionOwner};
 use blink_batch::{Entry, Op};
@@ -222,6 +222,19 @@ pub extern "C" fn blink_session_tell(from: &mut SessionHandle, to: &mut SessionH
         → (from.new.value ≡ from.old.value) × (to.new.value ≡ to.old.value) }
 {
     code_of(&from.get().tell(to.get()))
+}
+
+/// Tells what the session has of its map's page numbers and rows.
+#[unsafe(no_mangle)]
+pub extern "C" fn blink_session_stock(session: &mut SessionHandle, stock: &mut RawStock) -> u8
+    requires its_own { IsOwnSession session.old.value }
+    ensures its_own { IsOwnSession session.new.value }
+    ensures told { result ≡ 0 → TellsStock session.old.value stock.new }
+    ensures refused { TellsWhy code_of (IsNotFree session.old.value.held) result }
+    ensures same { session.new.value ≡ session.old.value }
+    ensures unchanged { result ≢ 0 → stock.new ≡ stock.old }
+{
+    code_of(&session.get().stock(stock))
 }
 
 /// Frees the handle. A free session leaves its map, and its place can be taken again. The place of another is lost.

@@ -3,10 +3,10 @@ ghost use Rattle.std.specs.Prelude.{◌≡◌, ◌≢◌, IfErr, IfOk, OnErr, On
 ghost use Rattle.blink_batch.specs.{FitsWords};
 ghost use Rattle.blink_machine.specs.{IsUpdate};
 ghost use Rattle.blink_map.specs.{IsPendingOf, IsSessionOf, op_of, session_of};
-ghost use Rattle.blink_c.specs.Sessions.{Answers, EndsFrom, Finds, HasAnswered, HasPut, IsAdvanceRefusal, IsChangeRefusal, IsFree, IsNotFree, IsNotPut, IsOfPut, IsOwnSession, IsPutRefusal, IsShortage, IsTakeRefusal, IsTellRefusal, Puts, Scans, StaysBusy, Takes, TellsOn, in_map};
+ghost use Rattle.blink_c.specs.Sessions.{Answers, EndsFrom, Finds, HasAnswered, HasPut, IsAdvanceRefusal, IsChangeRefusal, IsFree, IsNotFree, IsNotPut, IsOfPut, IsOwnSession, IsPutRefusal, IsShortage, IsTakeRefusal, IsTellRefusal, Puts, Scans, StaysBusy, Takes, TellsOn, TellsStock, in_map};
 
 use crate::map_refusal::MapRefusal;
-use crate::raw::{RawAnswer, RawScanned, RawTaken};
+use crate::raw::{RawAnswer, RawScanned, RawStock, RawTaken};
 use blink_batch::{Answer, Entry, Op};
 use blink_map::{Map, MapError, Pending, Session};
 use std::alloc::Global;
@@ -124,6 +124,19 @@ impl SessionOwner {
             return Err(MapRefusal::UnderWay);
         };
         self.shared.tell(from, session);
+        Ok(())
+    }
+
+    /// Tells what the session has of page numbers and rows.
+    pub(crate) fn stock(&self, stock: &mut RawStock) -> Result<(), MapRefusal>
+        ensures told { OnOk result (TellsStock self.now stock.new) }
+        ensures refused { IfErr result (IsNotFree self.now.held) }
+        ensures unchanged { OnErr result (stock.new ≡ stock.old) }
+    {
+        let HeldSession::Free(session) = &self.held else {
+            return Err(MapRefusal::UnderWay);
+        };
+        *stock = RawStock::of(self.shared.stock(session));
         Ok(())
     }
 

@@ -1,9 +1,10 @@
 //! The index.
 
-use crate::range::first_and_last;
+use crate::range::{first_and_last, Parts};
 use crate::sys::{self, Handle, RawAnswer};
 use crate::{Answer, Entry, Error, Op};
 use std::cell::UnsafeCell;
+use std::fmt;
 use std::ops::RangeBounds;
 
 /// A map from 64-bit keys to 64-bit record pointers, in a proved B-link tree.
@@ -284,8 +285,7 @@ impl Index {
         Scan {
             index: self,
             range: first_and_last(&range),
-            part: Scan::FIRST_PART,
-            entries: Vec::new().into_iter(),
+            parts: Parts::new(),
         }
     }
 
@@ -297,14 +297,12 @@ impl Index {
         unsafe { sys::blink_index_scan(self.handle.get(), lo, hi, none.as_mut_ptr(), 0, &mut fitted) }
     }
 
-    // The first entries from a key on, at most so many.
-    fn page(&self, lo: u64, most: usize) -> Vec<Entry> {
-        let mut entries = vec![Entry { key: 0, pointer: 0 }; most];
+    // Gives the first entries from a key on, at most as many as there are places, and returns how many they are.
+    fn page(&self, lo: u64, places: &mut [Entry]) -> usize {
         let mut fitted = 0;
+        let most = places.len();
         // SAFETY: as in `find`; the array has that many elements.
-        unsafe { sys::blink_index_page(self.handle.get(), lo, most as u64, entries.as_mut_ptr(), most, &mut fitted) };
-        entries.truncate(fitted);
-        entries
+        unsafe { sys::blink_index_page(self.handle.get(), lo, most as u64, places.as_mut_ptr(), most, &mut fitted) }
     }
 
     /// Returns the entry with the least key, if there is one.
@@ -349,7 +347,7 @@ impl Index {
 
     /// Returns whether the index has no entry.
     pub fn is_empty(&self) -> bool {
-        self.page(0, 1).is_empty()
+        self.first().is_none()
     }
 
     /// Returns the number of pages, at least 1.
@@ -408,44 +406,48 @@ impl Drop for Index {
     }
 }
 
-/// The entries of an index whose keys are in a range, in ascending order. It takes them out of the index in parts: 16 first, then twice
-/// as many each time, up to 256.
-#[derive(Clone, Debug)]
+/// The entries of an index whose keys are in a range, in ascending order. It takes them out of the index in parts: 16 first, which
+/// takes no memory, then twice as many each time, up to 256.
+#[derive(Clone)]
 pub struct Scan<'a> {
     index: &'a Index,
     // The keys that are still to be asked for.
     range: Option<(u64, u64)>,
-    // How many entries are asked for next. A short range pays for few, and a long one makes few calls.
-    part: usize,
-    entries: std::vec::IntoIter<Entry>,
+    parts: Parts,
 }
 
 impl Scan<'_> {
-    const FIRST_PART: usize = 16;
-    const MAX_PART: usize = 256;
-
     // Takes the next entries out of the index.
     fn refill(&mut self) {
         let Some((lo, hi)) = self.range else { return };
-        let mut entries = self.index.page(lo, self.part);
-        let within = entries.partition_point(|entry| entry.key <= hi);
-        let whole = within == self.part;
-        self.part = Self::MAX_PART.min(2 * self.part);
-        entries.truncate(within);
-        let next = entries.last().and_then(|last| last.key.checked_add(1));
-        self.range = next.filter(|next| whole && *next <= hi).map(|next| (next, hi));
-        self.entries = entries.into_iter();
+        let places = self.parts.places();
+        let (asked, there) = (places.len(), self.index.page(lo, places));
+        let entries = &places[..there];
+        let (within, next) = match entries.last() {
+            Some(last) if last.key <= hi => (there, last.key.checked_add(1)),
+            _ => (entries.partition_point(|entry| entry.key <= hi), None),
+        };
+        self.range = next.filter(|next| there == asked && *next <= hi).map(|next| (next, hi));
+        self.parts.fill(within);
+    }
+}
+
+impl fmt::Debug for Scan<'_> {
+    fn fmt(&self, f: &mut fmt::Formatter<'_>) -> fmt::Result {
+        f.debug_struct("Scan").field("range", &self.range).finish_non_exhaustive()
     }
 }
 
 impl Iterator for Scan<'_> {
     type Item = Entry;
 
+    // Called once an entry, from another crate.
+    #[inline]
     fn next(&mut self) -> Option<Entry> {
-        if self.entries.as_slice().is_empty() {
+        if self.parts.is_empty() {
             self.refill();
         }
-        self.entries.next()
+        self.parts.take()
     }
 }
 

@@ -37,7 +37,7 @@ mod table;
 
 pub use error::Error;
 pub use index::{Applied, Index, Scan};
-pub use map::{Begun, Left, Map, Room, Session, Unfinished};
+pub use map::{Begun, Left, Map, Room, Session, Stock, Unfinished};
 pub use operation::{Answer, Entry, Op};
 pub use range::Range;
 pub use table::{Pass, Pending, Table};

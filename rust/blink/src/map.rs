@@ -34,6 +34,23 @@ pub struct Left {
     pub rows: u64,
 }
 
+/// What a session has of its map's page numbers and rows. They are its own until it is dropped; then the next session at its
+/// place has them.
+#[repr(C)]
+#[derive(Clone, Copy, Debug, PartialEq, Eq, Hash)]
+pub struct Stock {
+    /// Page numbers that it has drawn and not used.
+    pub pages: u64,
+    /// Rows that it has drawn and not written.
+    pub unwritten: u64,
+    /// Rows that have come back, and may be written again.
+    pub free: u64,
+    /// Rows that changes of its own have replaced, and that don't wait yet.
+    pub taken_out: u64,
+    /// Rows that wait until no call reads them. While a thread is held up inside a call, they stay here.
+    pub waiting: u64,
+}
+
 /// The entries of an index, which threads change together without a global lock, each any key by a [`Session`].
 ///
 /// There is one list of changes of all keys. Each call of a session answers as on the entries after a part of the list, which goes on
@@ -356,6 +373,27 @@ impl<'map> Session<'map> {
     pub fn tell(&mut self, other: &mut Session<'_>) -> Result<(), Error> {
         // SAFETY: both handles are full, and borrowed for writing, so they are two.
         Error::check(unsafe { sys::blink_session_tell(&mut self.handle, &mut other.handle) })
+    }
+
+    /// Returns what the session has of page numbers and rows, for a look. [`Map::room`] tells what the pool has left.
+    ///
+    /// ```
+    /// use blink::{Index, Map, Room, Stock};
+    ///
+    /// let map = Map::open(&Index::new(16)?, Room { pages: 200, rows: 400, sessions: 1 })?;
+    /// let mut session = map.session()?;
+    /// session.insert(5, 50)?;
+    /// // it has drawn an eighth of the pool, and has replaced the leaf's row by another
+    /// assert_eq!(session.stock(), Stock { pages: 25, unwritten: 49, free: 0, taken_out: 1, waiting: 0 });
+    /// # Ok::<(), blink::Error>(())
+    /// ```
+    pub fn stock(&mut self) -> Stock {
+        let mut stock = Stock { pages: 0, unwritten: 0, free: 0, taken_out: 0, waiting: 0 };
+        // SAFETY: the handle is full and borrowed for writing.
+        let code = unsafe { sys::blink_session_stock(&mut self.handle, &mut stock) };
+        // No operation is under way between two calls; nothing else is refused.
+        assert_eq!(code, 0);
+        stock
     }
 
     /// Begins an operation and takes its first steps, which wait for nobody. Where another session has the page that it wants for

@@ -20,6 +20,63 @@ pub(crate) fn first_and_last(range: &impl RangeBounds<u64>) -> Option<(u64, u64)
     lo.zip(hi).filter(|(lo, hi)| lo <= hi)
 }
 
+// The entries that a scan has taken out, and hasn't given yet. It takes them out in parts: 16 first, then twice as many each time, up
+// to 256. The first part stands in an array, so that a short range asks for no memory.
+#[derive(Clone)]
+pub(crate) struct Parts {
+    first: [Entry; Parts::FIRST],
+    later: Vec<Entry>,
+    // How many entries have been asked for last; 0 before the first part.
+    part: usize,
+    // Where the entries of the last part stand that are still to be given.
+    next: usize,
+    stop: usize,
+}
+
+impl Parts {
+    const FIRST: usize = 16;
+    const MAX: usize = 256;
+    const NO_ENTRY: Entry = Entry { key: 0, pointer: 0 };
+
+    #[inline]
+    pub(crate) fn new() -> Parts {
+        Parts { first: [Parts::NO_ENTRY; Parts::FIRST], later: Vec::new(), part: 0, next: 0, stop: 0 }
+    }
+
+    /// The places for another part: a short range pays for few, and a long one makes few calls.
+    pub(crate) fn places(&mut self) -> &mut [Entry] {
+        if self.part == 0 {
+            self.part = Parts::FIRST;
+            return &mut self.first;
+        }
+        self.part = Parts::MAX.min(2 * self.part);
+        self.later.resize(self.part, Parts::NO_ENTRY);
+        &mut self.later
+    }
+
+    /// So many of the places have entries now, which are to be given.
+    pub(crate) fn fill(&mut self, count: usize) {
+        self.next = 0;
+        self.stop = count;
+    }
+
+    #[inline]
+    pub(crate) fn is_empty(&self) -> bool {
+        self.next == self.stop
+    }
+
+    /// Takes the next entry, if there is one.
+    #[inline]
+    pub(crate) fn take(&mut self) -> Option<Entry> {
+        if self.is_empty() {
+            return None;
+        }
+        let entry = if self.part == Parts::FIRST { self.first.get(self.next) } else { self.later.get(self.next) };
+        self.next += 1;
+        entry.copied()
+    }
+}
+
 // The entries of a range as all of them were at one time; `None`, if no try succeeded. The handle is full, and of what the call takes;
 // no operation is under way.
 pub(crate) fn snapshot(handle: &mut Handle, call: SnapshotCall, range: &impl RangeBounds<u64>, tries: u32) -> Result<Option<Vec<(u64, u64)>>, Error> {
@@ -50,50 +107,45 @@ pub(crate) fn snapshot(handle: &mut Handle, call: SnapshotCall, range: &impl Ran
 /// The entries of a table or a map whose keys are in a range, in ascending order, while other threads change them.
 ///
 /// It reads the tree's leaves from the left, each at one time: what it says of a key is what the changes up to some time leave of
-/// it, and of a greater key those up to that time or a later one. It takes the entries out in parts: 16 first, then twice as many
-/// each time, up to 256. A part is read when it is asked for.
+/// it, and of a greater key those up to that time or a later one. It takes the entries out in parts: 16 first, which takes no memory,
+/// then twice as many each time, up to 256. A part is read when it is asked for.
 pub struct Range<'a> {
     handle: &'a mut Handle,
     scan: ScanCall,
     // The keys that are still to be asked for.
     range: Option<(u64, u64)>,
-    // How many entries are asked for next.
-    part: usize,
-    entries: std::vec::IntoIter<Entry>,
+    parts: Parts,
 }
 
 impl<'a> Range<'a> {
-    const FIRST_PART: usize = 16;
-    const MAX_PART: usize = 256;
-
     // The handle is full, and of what the call takes; no operation is under way.
     pub(crate) fn new(handle: &'a mut Handle, scan: ScanCall, range: &impl RangeBounds<u64>) -> Range<'a> {
-        Range { handle, scan, range: first_and_last(range), part: Range::FIRST_PART, entries: Vec::new().into_iter() }
+        Range { handle, scan, range: first_and_last(range), parts: Parts::new() }
     }
 
     fn refill(&mut self) {
         let Some((lo, hi)) = self.range else { return };
-        let mut entries = vec![Entry { key: 0, pointer: 0 }; self.part];
+        let places = self.parts.places();
         let mut scanned = RawScanned { filled: 0, more: 0, next: 0 };
         // SAFETY: the handle is full and borrowed for writing; the array has that many elements.
-        let code = unsafe { (self.scan)(self.handle, lo, hi, entries.as_mut_ptr(), entries.len(), &mut scanned) };
+        let code = unsafe { (self.scan)(self.handle, lo, hi, places.as_mut_ptr(), places.len(), &mut scanned) };
         // No operation is under way, and a pass wasn't given back, by the types; nothing else is refused.
         assert_eq!(code, 0);
-        entries.truncate(scanned.filled as usize);
+        self.parts.fill(scanned.filled as usize);
         self.range = (scanned.more == 1).then_some((scanned.next, hi));
-        self.part = Self::MAX_PART.min(2 * self.part);
-        self.entries = entries.into_iter();
     }
 }
 
 impl Iterator for Range<'_> {
     type Item = Entry;
 
+    // Called once an entry, from another crate.
+    #[inline]
     fn next(&mut self) -> Option<Entry> {
-        if self.entries.as_slice().is_empty() {
+        if self.parts.is_empty() {
             self.refill();
         }
-        self.entries.next()
+        self.parts.take()
     }
 }
 

@@ -257,5 +257,6 @@ extern "C" {
     ) -> u8;
     pub(crate) fn blink_session_advance(session: *mut Handle, tries: u32, answer: *mut RawAnswer) -> u8;
     pub(crate) fn blink_session_tell(from: *mut Handle, to: *mut Handle) -> u8;
+    pub(crate) fn blink_session_stock(session: *mut Handle, stock: *mut crate::Stock) -> u8;
     pub(crate) fn blink_session_free(session: Handle);
 }

@@ -94,3 +94,37 @@ fn operations_in_place_leave_the_pages_of_batches() {
     assert_eq!(applied.answers, other.run(&operations).expect("there is memory"));
     assert_eq!(index.dump(), other.dump());
 }
+
+// A scan takes its entries out in parts of 16, 32, 64, 128 and then 256, so a part ends behind entry 16, 48, 112, 240, 496 and 752.
+#[test]
+fn a_scan_gives_each_entry_once_wherever_its_parts_end() {
+    let entry_of = |place: u64| Entry { key: 2 * place + 1, pointer: 3 * place };
+    for end in [0, 16, 48, 112, 240, 496, 752] {
+        for count in [end - u64::from(end > 0), end, end + 1] {
+            let entries: Vec<Entry> = (0..count).map(entry_of).collect();
+            let index = Index::from_sorted(16, &entries).unwrap();
+            assert!(index.scan(..).eq((0..count).map(entry_of)), "{count}");
+            // the same entries where more follow, by the key of the last one and by one between it and the next
+            let longer: Vec<Entry> = (0..count + 300).map(entry_of).collect();
+            let index = Index::from_sorted(16, &longer).unwrap();
+            assert!(index.scan(..2 * count).eq((0..count).map(entry_of)), "{count}");
+            assert!(index.scan(..=2 * count + 1).eq((0..=count).map(entry_of)), "{count}");
+            // a copy that is made on the way goes on by itself
+            let mut scan = index.scan(1..);
+            let begun: Vec<Entry> = scan.by_ref().take(count as usize / 2).collect();
+            assert!(scan.clone().eq((count / 2..count + 300).map(entry_of)), "{count}");
+            assert!(begun.into_iter().chain(scan).eq((0..count + 300).map(entry_of)), "{count}");
+        }
+    }
+}
+
+#[test]
+fn a_scan_ends_at_the_greatest_key_where_a_part_ends() {
+    // the last of 16 entries, and of 48
+    for count in [16u64, 48] {
+        let entry_of = |place: u64| Entry { key: u64::MAX - (count - 1 - place), pointer: place };
+        let index = Index::from_sorted(8, &(0..count).map(entry_of).collect::<Vec<_>>()).unwrap();
+        assert!(index.scan(..).eq((0..count).map(entry_of)), "{count}");
+        assert_eq!(index.scan(u64::MAX..).collect::<Vec<_>>(), [entry_of(count - 1)]);
+    }
+}

@@ -1,6 +1,6 @@
 //! A map and its sessions: one thread beside a plain map, two threads, refusals, and a map that is full.
 
-use blink::{Answer, Begun, Entry, Error, Index, Left, Map, Op, Room, Session};
+use blink::{Answer, Begun, Entry, Error, Index, Left, Map, Op, Room, Session, Stock};
 use std::collections::BTreeMap;
 use std::thread;
 
@@ -170,6 +170,72 @@ fn a_map_with_three_rows_takes_any_number_of_changes_that_need_one() {
     assert_eq!((session.get(1), session.get(2), map.room()), (Some(1000), None, Left { pages: 0, rows: 2 }));
     drop(session);
     assert!(map.close().unwrap().scan(..).eq([(1, 1000)].map(Entry::from)));
+}
+
+// A range takes its entries out in parts of 16, 32, 64, 128 and then 256.
+#[test]
+fn a_range_gives_each_entry_once_wherever_its_parts_end() {
+    let entry_of = |place: u64| Entry { key: 2 * place + 1, pointer: 3 * place };
+    let entries: Vec<Entry> = (0..1000).map(entry_of).collect();
+    let map = map_over(&Index::from_sorted(16, &entries).unwrap(), 0, 0, 1);
+    let mut session = map.session().unwrap();
+    for end in [16, 48, 112, 240, 496, 752] {
+        for count in [end - 1, end, end + 1] {
+            assert!(session.range(..2 * count).eq((0..count).map(entry_of)), "{count}");
+            assert!(session.range(1..=2 * count + 1).eq((0..=count).map(entry_of)), "{count}");
+        }
+    }
+    assert!(session.range(..).eq(entries));
+}
+
+// What a session has, where no row waits.
+fn stock(pages: u64, unwritten: u64, free: u64, taken_out: u64) -> Stock {
+    Stock { pages, unwritten, free, taken_out, waiting: 0 }
+}
+
+// A leaf has 4 entries. The first insertion draws an eighth of the pool, 25 page numbers and 50 rows, and each writes one row,
+// which replaces the one before. The fifth splits the leaf: it writes the new leaf, the old one, the new root and the prime block,
+// and the rows of the second and the fourth replace others.
+#[test]
+fn a_session_tells_what_its_insertions_use() {
+    let map = map_over(&Index::new(4).unwrap(), 200, 400, 2);
+    let (mut session, mut other) = (map.session().unwrap(), map.session().unwrap());
+    assert_eq!(session.stock(), stock(0, 0, 0, 0));
+    for key in 1..5 {
+        assert_eq!(session.insert(key, key), Ok(Answer::Inserted));
+        assert_eq!(session.stock(), stock(25, 50 - key, 0, key));
+    }
+    assert_eq!(session.insert(5, 5), Ok(Answer::Inserted));
+    assert_eq!(session.stock(), stock(23, 42, 0, 6));
+    // what changes nothing uses nothing
+    assert_eq!((session.remove(6), session.replace(6, 0)), (Ok(Answer::Absent), Ok(Answer::Absent)));
+    assert_eq!(session.stock(), stock(23, 42, 0, 6));
+    // an insertion has to have 44 rows when it begins, so the rows that were replaced come back before; it changes nothing either
+    assert_eq!(session.insert(5, 6), Ok(Answer::Exists(5)));
+    assert_eq!((session.stock(), other.stock()), (stock(23, 42, 6, 0), stock(0, 0, 0, 0)));
+    assert_eq!(map.room(), Left { pages: 175, rows: 350 });
+}
+
+// The first replacement draws an eighth of the pool, 100 rows. Rows that were replaced begin to wait 64 at a time, and as no
+// other call is in progress they are free at once; free rows are written first. A session that joins later has what the last one at
+// its place left.
+#[test]
+fn a_session_tells_which_rows_have_come_back() {
+    let index = Index::from_entries(4, &[(1, 0)].map(Entry::from)).unwrap();
+    let map = map_over(&index, 0, 800, 1);
+    let mut session = map.session().unwrap();
+    for turn in 0..200 {
+        assert_eq!(session.replace(1, turn + 1), Ok(Answer::Replaced(turn)));
+        let expected = match turn + 1 {
+            n @ 0..=63 => stock(0, 100 - n, 0, n),
+            n => stock(0, 36, 64 - n % 64, n % 64),
+        };
+        assert_eq!(session.stock(), expected, "{turn}");
+    }
+    // 200 are three times 64 and 8
+    assert_eq!((session.stock(), map.room()), (stock(0, 36, 56, 8), Left { pages: 0, rows: 700 }));
+    drop(session);
+    assert_eq!(map.session().unwrap().stock(), stock(0, 36, 56, 8));
 }
 
 #[test]
