@@ -1,0 +1,239 @@
+//! Readers that are stopped inside a call, while others write every row again and again. What a stopped reader may still read isn't written,
+//! so its answer is right; and once it goes on, so does every change that was refused meanwhile.
+#![cfg(all(target_os = "linux", target_arch = "x86_64", target_env = "gnu"))]
+
+mod stepped;
+
+use blink::{Answer, Begun, Entry, Error, Index, Left, Map, Op, Room, Session};
+use std::ffi::{c_int, c_void};
+use std::sync::atomic::{AtomicBool, AtomicU64, Ordering::SeqCst};
+use std::thread;
+use stepped::{by_instruction, handle};
+
+// The rows of the map's room. A replacement writes one.
+const ROWS: u32 = 100;
+
+// The pointer of the key at first.
+const FIRST: u64 = 1_000;
+
+fn map_of_four(sessions: u32) -> Map {
+    let index = Index::from_sorted(4, &[(1, FIRST), (2, 20), (3, 30), (4, 40)].map(Entry::from)).unwrap();
+    Map::open(&index, Room { pages: 0, rows: ROWS, sessions }).unwrap()
+}
+
+// A session that gives key 1 the next greater pointer each time.
+struct Writer<'map> {
+    session: Option<Session<'map>>,
+    pointer: u64,
+}
+
+impl<'map> Writer<'map> {
+    fn new(map: &'map Map) -> Writer<'map> {
+        Writer { session: Some(map.session().unwrap()), pointer: FIRST }
+    }
+
+    // Replaces the pointer, and returns whether there was a row for it. No other session has the page.
+    fn replaces(&mut self) -> bool {
+        let session = self.session.take().unwrap();
+        match session.begin(Op::Replace(1, self.pointer + 1), 1) {
+            Ok(Begun::Ended(session, answer)) => {
+                assert_eq!(answer, Answer::Replaced(self.pointer));
+                self.pointer += 1;
+                self.session = Some(session);
+                true
+            }
+            Err((session, error)) => {
+                assert_eq!(error, Error::RowsBusy);
+                self.session = Some(session);
+                false
+            }
+            Ok(Begun::Resting(_)) => panic!("nobody has the page"),
+        }
+    }
+
+    // Replaces the pointer until there is no row for it, that many times at most, and returns how often it did.
+    fn replaces_at_most(&mut self, most: u32) -> u32 {
+        (0..most).find(|_| !self.replaces()).unwrap_or(most)
+    }
+}
+
+// ---- a reader that is stopped at each of its instructions
+
+// Whether rows came back while the reader was stopped after so many instructions of its call; none, if the call has fewer. All rows are
+// written meanwhile.
+fn stops_after(instructions: u32) -> Option<bool> {
+    let map = map_of_four(2);
+    let mut writer = Writer::new(&map);
+    let mut reader = map.session().unwrap();
+    let (mut passed, mut replaced) = (0, None);
+    let found = by_instruction(
+        || reader.get(1),
+        || {
+            if passed == instructions {
+                replaced = Some(writer.replaces_at_most(3 * ROWS));
+            }
+            passed += 1;
+            replaced.is_none()
+        },
+    );
+    let replaced = replaced?;
+    // The rows come back, or each is written once and none comes back: one for each replacement.
+    assert!(replaced == ROWS || replaced == 3 * ROWS, "{replaced} changes after {instructions} instructions");
+    let found = found.unwrap();
+    assert!(found == FIRST || found == FIRST + u64::from(replaced), "{found} after {instructions} instructions");
+    // A session draws an eighth of what the pool has. It draws again only while its rows don't come back.
+    assert_eq!(map.room(), Left { pages: 0, rows: if replaced == ROWS { 0 } else { 88 } });
+    // The reader has gone on, so no row is held back any more.
+    assert_eq!(writer.replaces_at_most(5 * ROWS), 5 * ROWS);
+    assert_eq!(reader.get(1), Some(writer.pointer));
+    drop((writer, reader));
+    let last = FIRST + u64::from(replaced + 5 * ROWS);
+    assert!(map.close().unwrap().scan(..).eq([(1, last), (2, 20), (3, 30), (4, 40)].map(Entry::from)));
+    Some(replaced == 3 * ROWS)
+}
+
+#[test]
+fn a_reader_that_is_stopped_anywhere_reads_rows_that_are_not_written() {
+    let come_back: Vec<bool> = (0..100_000).map_while(stops_after).collect();
+    // Before it marks its place a reader holds no row back, nor after it has taken the mark away; in between it does all the time.
+    let marks = come_back.windows(2).filter(|pair| pair[0] != pair[1]).count();
+    assert_eq!((come_back.first(), come_back.last(), marks), (Some(&true), Some(&true), 2));
+    let held = come_back.iter().filter(|back| !**back).count();
+    // The call reads the prime block, the leaf's row, and the entry between the marks.
+    assert!(held > 20, "{held}");
+}
+
+// ---- a reader in a thread of its own that is stopped by a signal
+
+extern "C" {
+    fn pthread_self() -> usize;
+    fn pthread_kill(thread: usize, signal: c_int) -> c_int;
+    fn sched_yield() -> c_int;
+}
+
+const SIGUSR1: c_int = 10;
+
+// The reader is to stop, and has stopped. The handler takes no memory and no lock.
+static STOP: AtomicBool = AtomicBool::new(false);
+static STOPPED: AtomicBool = AtomicBool::new(false);
+
+extern "C" fn stay(_signal: c_int, _info: *mut c_void, _context: *mut c_void) {
+    STOPPED.store(true, SeqCst);
+    while STOP.load(SeqCst) {
+        // SAFETY: the call has no condition.
+        unsafe { sched_yield() };
+    }
+    STOPPED.store(false, SeqCst);
+}
+
+// What the two threads tell each other.
+struct Told {
+    // The reader's thread, once it runs.
+    thread: AtomicU64,
+    // The reader is inside a call.
+    inside: AtomicBool,
+    // The pointer that the writer has put last, and the one that it puts next or has put.
+    put: AtomicU64,
+    next: AtomicU64,
+    ended: AtomicBool,
+}
+
+// Finds the key again and again. What it finds was there at some time in the call.
+fn reads(mut session: Session, told: &Told) -> u64 {
+    // SAFETY: the call has no condition.
+    told.thread.store(unsafe { pthread_self() } as u64, SeqCst);
+    let mut calls = 0;
+    while !told.ended.load(SeqCst) {
+        let least = told.put.load(SeqCst);
+        told.inside.store(true, SeqCst);
+        let found = session.get(1).unwrap();
+        told.inside.store(false, SeqCst);
+        let most = told.next.load(SeqCst);
+        assert!(least <= found && found <= most, "{found}, and not from {least} to {most}");
+        assert_eq!(session.get(3), Some(30));
+        calls += 1;
+    }
+    calls
+}
+
+// Stops the thread inside the handler.
+fn stop(thread: u64) {
+    STOP.store(true, SeqCst);
+    // SAFETY: the thread has begun, and is joined only once it has been told that all has ended.
+    assert_eq!(unsafe { pthread_kill(thread as usize, SIGUSR1) }, 0);
+    while !STOPPED.load(SeqCst) {
+        thread::yield_now();
+    }
+}
+
+fn go_on() {
+    STOP.store(false, SeqCst);
+    while STOPPED.load(SeqCst) {
+        thread::yield_now();
+    }
+}
+
+// Replaces the pointer, and says before and after which one.
+fn replaces(writer: &mut Writer, told: &Told) -> bool {
+    told.next.store(writer.pointer + 1, SeqCst);
+    let replaced = writer.replaces();
+    told.put.store(writer.pointer, SeqCst);
+    replaced
+}
+
+// Stops the reader some hundred times, and writes all rows meanwhile, or those that the reader doesn't hold back. Returns how often the
+// reader was inside a call, and how often it held rows back.
+fn stops_and_writes(writer: &mut Writer, told: &Told) -> (u32, u32) {
+    let (mut inside, mut held) = (0, 0);
+    while told.thread.load(SeqCst) == 0 {
+        thread::yield_now();
+    }
+    for stops in 0..STOPS {
+        stop(told.thread.load(SeqCst));
+        inside += u32::from(told.inside.load(SeqCst));
+        held += u32::from(!(0..3 * ROWS).all(|_| replaces(writer, told)));
+        go_on();
+        // Not each stop falls on the same place of the reader's loop.
+        for _ in 0..stops % 50 {
+            std::hint::spin_loop();
+        }
+        // The reader comes to the end of its call, and all rows are written some times more.
+        let mut left = 5 * ROWS;
+        while left > 0 {
+            if replaces(writer, told) {
+                left -= 1;
+            } else {
+                thread::yield_now();
+            }
+        }
+    }
+    told.ended.store(true, SeqCst);
+    (inside, held)
+}
+
+const STOPS: u32 = 500;
+
+#[test]
+fn a_reader_that_sleeps_in_a_call_holds_rows_back_until_it_wakes() {
+    handle(SIGUSR1, stay);
+    let map = map_of_four(2);
+    let mut writer = Writer::new(&map);
+    let session = map.session().unwrap();
+    let told = Told {
+        thread: AtomicU64::new(0),
+        inside: AtomicBool::new(false),
+        put: AtomicU64::new(FIRST),
+        next: AtomicU64::new(FIRST),
+        ended: AtomicBool::new(false),
+    };
+    let (calls, (inside, held)) = thread::scope(|scope| {
+        let reader = scope.spawn(|| reads(session, &told));
+        let counts = stops_and_writes(&mut writer, &told);
+        (reader.join().unwrap(), counts)
+    });
+    assert!(calls >= u64::from(inside) && inside >= held && held > 0, "{calls} calls, {inside} stops inside one, {held} with a mark");
+    let last = writer.pointer;
+    assert!(last >= FIRST + u64::from(STOPS) * 5 * u64::from(ROWS));
+    drop(writer);
+    assert!(map.close().unwrap().scan(..).eq([(1, last), (2, 20), (3, 30), (4, 40)].map(Entry::from)));
+}
