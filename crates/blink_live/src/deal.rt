@@ -1,24 +1,23 @@
 //! Dealing: the keeper gives a new pass keys, rows and page numbers. Here are also the reads of a keeper's and a pass's own
 //! fields.
-ghost use Rattle.std.specs.Prelude.{◌≡◌, ◌⊎◌, ◌↔◌, ◌++◌, ℕ, IsPermutation, ◌+◌, ◌*◌, ◌≤◌, IfOk, IfErr, OnOk, OnErr, IsErrOf, IsTrue, Contains, IsSorted, [], ◌<◌, length, take, slice_index, IfSome, IfNone};
+ghost use Rattle.std.specs.Prelude.{◌≡◌, ◌⊎◌, ◌↔◌, ℕ, ◌+◌, ◌*◌, IfOk, IfErr, OnOk, OnErr, IsErrOf, IsTrue, Contains, [], ◌<◌, IfSome, IfNone};
 ghost use Rattle.std.specs.List.Sorted.{IsStrictlyIncreasing};
-ghost use Rattle.std.specs.Ordering.{nat_cmp};
 ghost use Rattle.blink_page.specs.declared.limits.TheConstants.{MAX_NEW_PAGES_PER_INSERT};
-ghost use Rattle.blink_live.specs.Dealing.{CanDeal, HasMet};
-ghost use Rattle.blink_live.specs.Deals.{IsFirstTaken, NoneIsTaken, LacksAllowance, IsDealt, HasDealt, IsDealRefusal, rows_for};
+ghost use Rattle.blink_live.specs.Dealing.{CanDeal};
+ghost use Rattle.blink_live.specs.Deals.{IsFirstTaken, NoneIsTaken, LacksAllowance, IsDealt, HasDealt, IsDealRefusal};
 ghost use Rattle.blink_live.specs.Handles.{IsKeeperOf, taken_of, keys_of, passes_out};
-ghost use Rattle.blink_live.specs.KeyTest.{HasReached, IsWindow};
 ghost use Rattle.blink_live.specs.Seats.{HasSameNumber};
-ghost use Rattle.blink_live.specs.Views.{span, keeps_rest, gets_first};
+ghost use Rattle.blink_live.specs.Views.{keeps_rest, gets_first};
 
 use crate::error::LiveError;
+use crate::keys::{Met, ascends, is_among, joined};
 use crate::live::{Keeper, Live, Pass};
 use crate::room::{deletes_left, first_of, inserts_left};
 use crate::rule::{Deal, Dealt};
 use crate::view::View;
 use atomic_table::Seat;
 use blink_rows::{MAX_NEW_PAGES_PER_INSERT, MAX_ROWS_PER_INSERT, Span};
-use std::alloc::{AllocError, Global};
+use std::alloc::Global;
 use std::collections::BTreeSet;
 use std::marker::Brand;
 
@@ -235,32 +234,6 @@ impl Pass {
     }
 }
 
-// The keys of a list met so far. Once memory is refused, the set gets no further key.
-#[derive(Drop)]
-pub(crate) struct Met {
-    pub keys: BTreeSet<u64, Global>,
-    pub refused: bool,
-}
-
-impl Met {
-    // Meets the key at `place` of the list, and returns whether it stands earlier in the list.
-    pub fn meets_again(&mut self, keys: &[u64], place: usize) -> bool
-        requires inside { place < length keys.now }
-        requires met { HasMet self.old.refused self.old.keys (take place keys.now) }
-        ensures again { IsTrue result ↔ Contains (take place keys.now) (slice_index keys.now place) }
-        ensures met { HasMet self.new.refused self.new.keys (take (place + 1) keys.now) }
-    {
-        let key = keys[place];
-        if !self.refused {
-            match self.keys.insert(key) {
-                Ok(added) => return !added,
-                Err(_) => self.refused = true,
-            }
-        }
-        keys[..place].contains(&key)
-    }
-}
-
 // Looks for the first key of a list, in the list's order, that was taken before or stands earlier in the list.
 fn first_taken(alloc: Global, taken: &[u64], keys: &[u64]) -> Option<u64>
     requires ascending { IsStrictlyIncreasing taken.now }
@@ -278,93 +251,4 @@ fn first_taken(alloc: Global, taken: &[u64], keys: &[u64]) -> Option<u64>
         }
     }
     None
-}
-
-// Whether each key is below the next.
-pub(crate) fn ascends(keys: &[u64]) -> bool
-    ensures { IsTrue result → IsStrictlyIncreasing keys.now }
-{
-    for place in 0..keys.len().saturating_sub(1) {
-        if keys[place] >= keys[place + 1] {
-            return false;
-        }
-    }
-    true
-}
-
-// Whether the key is one of these.
-pub(crate) fn is_among(keys: &[u64], key: u64) -> bool
-    requires ascending { IsStrictlyIncreasing keys.now }
-    ensures { IsTrue result ↔ Contains keys.now key }
-{
-    let place = place_of_key(keys, key);
-    place < keys.len() && keys[place] == key
-}
-
-// The place of the last key that is at most `key`; 0 if there is none.
-fn place_of_key(keys: &[u64], key: u64) -> usize
-    requires ascending { IsSorted nat_cmp keys.now }
-    ensures { IsWindow keys.now key result 1 ⊎ (length keys.now ≡ 0) }
-{
-    let (mut first, mut size) = quartered(keys, key);
-    while size > 1 {
-        first += reached(keys, first + 1, key);
-        size -= 1;
-    }
-    first
-}
-
-// Narrows the keys down to at most three, in steps that each leave a quarter. A step has no branch on a key, which would be
-// mispredicted every other time: it counts the quarters that it passes. Its three loads are on their way at once.
-fn quartered(keys: &[u64], key: u64) -> (usize, usize)
-    requires ascending { IsSorted nat_cmp keys.now }
-    ensures window { IsWindow keys.now key result.0 result.1 }
-    ensures small { (result.1 ≡ 0) ↔ (length keys.now ≡ 0) }
-{
-    let mut first = 0;
-    let mut size = keys.len();
-    while size > 3 {
-        let quarter = size / 4;
-        let passed = reached(keys, first + quarter, key)
-            + reached(keys, first + 2 * quarter, key)
-            + reached(keys, first + 3 * quarter, key);
-        first += quarter * passed;
-        size -= 3 * quarter;
-    }
-    (first, size)
-}
-
-// 1 for a key that is at most `key`, and 0 for any other.
-fn reached(keys: &[u64], place: usize, key: u64) -> usize
-    requires inside { place < length keys.now }
-    ensures { HasReached keys.now key place result }
-{
-    usize::from(keys[place] <= key)
-}
-
-// The keys of both lists in a new list, which ascends if the first list does: one merge, once the second is in order.
-fn joined(alloc: Global, keys: &[u64], more: &[u64]) -> Result<Vec<u64>, AllocError>
-    ensures of_both { IfOk result (λ all. IsPermutation (keys.now ++ more.now) all.items) }
-{
-    let mut others = Vec::with_capacity(alloc, more.len())?;
-    others.extend_from_slice(more)?;
-    others.sort_unstable();
-    merged(alloc, keys, &others)
-}
-
-// The keys of both lists in a new list, of the next keys of the two always the lesser.
-pub(crate) fn merged(alloc: Global, keys: &[u64], others: &[u64]) -> Result<Vec<u64>, AllocError>
-    ensures of_both { IfOk result (λ all. IsPermutation (keys.now ++ others.now) all.items) }
-{
-    let mut all = Vec::with_capacity(alloc, keys.len() + others.len())?;
-    let mut next = 0;
-    for &other in others {
-        while next < keys.len() && keys[next] < other {
-            all.push(keys[next])?;
-            next += 1;
-        }
-        all.push(other)?;
-    }
-    all.extend_from_slice(&keys[next..])?;
-    Ok(all)
 }

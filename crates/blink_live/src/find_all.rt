@@ -14,10 +14,9 @@ ghost use Rattle.blink_live.specs.Handles.{IsPassOf, IsSameBesideSeen, KnowsItsK
 ghost use Rattle.blink_live.specs.Seats.{HasSameNumber, IsPassSeat};
 ghost use Rattle.blink_live.specs.Views.{known_of};
 
-use crate::deal::is_among;
 use crate::error::PassError;
+use crate::keys::{is_among, stands_at};
 use crate::live::{Live, Pass};
-use crate::retire::stands_at;
 use crate::view::View;
 use atomic_table::Seat;
 use blink_batch::Answer;

@@ -1,17 +1,16 @@
 //! Keys that change hands between two passes, without the keeper.
-ghost use Rattle.std.specs.Prelude.{◌≡◌, ◌⊎◌, ◌↔◌, ℕ, [], IfOk, IfErr, OnOk, OnErr, IsErrOf, IsTrue, IsPermutation, IfSome, IfNone, Contains, ◌<◌, length, slice_index};
+ghost use Rattle.std.specs.Prelude.{◌≡◌, ◌⊎◌, ◌↔◌, ℕ, [], IfOk, IfErr, OnOk, OnErr, IsErrOf, IsPermutation, IfSome, IfNone, Contains, ◌<◌};
 ghost use Rattle.std.specs.List.Sorted.{IsStrictlyIncreasing};
-ghost use Rattle.blink_live.specs.declared.view.Role.TheVariants.{Pass as PassRole, Spent};
+ghost use Rattle.blink_live.specs.declared.view.Role.TheVariants.{Spent};
 ghost use Rattle.blink_live.specs.Handing.{AllAreYours, IsFirstForeign, IsHandRefusal, IsHanded};
 ghost use Rattle.blink_live.specs.Handles.{IsPassOf, keys_of};
 ghost use Rattle.blink_live.specs.Parcels.{HaveMoved, parcel_of, parts_with, receives};
 ghost use Rattle.blink_live.specs.Seats.{HasSameNumber, IsIdleIn, IsPassSeat};
 ghost use Rattle.blink_live.specs.Views.{IsOwned, plan_of};
 
-use crate::deal::{Met, ascends, is_among, merged};
 use crate::error::HandError;
+use crate::keys::{Met, ascends, has_all, in_order, is_among, merged, remove_all, sorted};
 use crate::live::{Live, Pass};
-use crate::retire::{reach, remove_all, stands_at};
 use crate::rule::{Handed, Part, Receive, Received};
 use crate::view::View;
 use atomic_table::Seat;
@@ -130,20 +129,6 @@ impl Live {
     }
 }
 
-// Whether each of these keys is one of the pass's own, both lists ascending. It looks through both at once.
-fn has_all(own: &[u64], keys: &[u64]) -> bool
-    ensures { IsTrue result → (key : ℕ) → Contains keys.now key → Contains own.now key }
-{
-    let mut next = 0;
-    for place in 0..keys.len() {
-        next = reach(own, next, keys[place]);
-        if !stands_at(own, next, keys[place]) {
-            return false;
-        }
-    }
-    true
-}
-
 // The refusal of a hand of these keys: that of a key, if memory isn't what is lacking.
 fn refusal(alloc: Global, own: &[u64], keys: &[u64]) -> HandError
     requires ascending { IsStrictlyIncreasing own.now }
@@ -186,26 +171,4 @@ fn both_lists(alloc: Global, own: &[u64], keys: &[u64]) -> Result<(Vec<u64>, Vec
     let handed = sorted(alloc, keys)?;
     let all = in_order(merged(alloc, own, &handed)?);
     Ok((handed, all))
-}
-
-// A copy of these keys in order.
-fn sorted(alloc: Global, keys: &[u64]) -> Result<Vec<u64>, AllocError>
-    ensures same { IfOk result (λ all. IsPermutation keys.now all.items) }
-{
-    let mut all = keys.to_vec(alloc)?;
-    all.sort_unstable();
-    Ok(all)
-}
-
-// The keys in ascending order, each once. A merge of two ascending lists without a common key ascends, so that nothing is left
-// to do.
-fn in_order(mut keys: Vec<u64>) -> Vec<u64>
-    ensures ascending { IsStrictlyIncreasing result.items }
-    ensures same { (key : ℕ) → Contains result.items key ↔ Contains keys.items key }
-{
-    if !ascends(&keys) {
-        keys.sort_unstable();
-        keys.dedup();
-    }
-    keys
 }

@@ -9,6 +9,7 @@ mod deal;
 mod error;
 mod find_all;
 mod hand;
+mod keys;
 mod live;
 mod open;
 mod operations;

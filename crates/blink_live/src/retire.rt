@@ -1,16 +1,15 @@
 //! Taking back a pass while the table lives, so that its keys can be dealt again.
-ghost use Rattle.std.specs.Prelude.{◌≡◌, ◌⊎◌, ◌↔◌, ℕ, ◌≤◌, ◌<◌, IsSorted, IsTrue, Contains, length, slice_index, take};
-ghost use Rattle.std.specs.List.Sorted.{IsStrictlyIncreasing};
-ghost use Rattle.std.specs.Ordering.{nat_cmp};
+ghost use Rattle.std.specs.Prelude.{◌≡◌, ◌⊎◌, ℕ, ◌<◌, Contains};
 ghost use mathlib.Core.List.{IsPrefix};
 ghost use Rattle.blink_live.specs.declared.view.Role.TheVariants.{Keeper as KeeperRole, Pass as PassRole};
 ghost use Rattle.blink_live.specs.AtomicSteps.{LooksAround};
 ghost use Rattle.blink_live.specs.Deals.{HasRetired};
 ghost use Rattle.blink_live.specs.Handles.{IsKeeperOf, IsPassOf};
-ghost use Rattle.blink_live.specs.Retiring.{HaveTold, IsReached, without};
+ghost use Rattle.blink_live.specs.Retiring.{HaveTold};
 ghost use Rattle.blink_live.specs.Seats.{HasSameNumber, IsIdleIn, IsPassSeat};
 ghost use Rattle.blink_live.specs.Views.{IsOwned, SawItsOwn, plan_of, retires};
 
+use crate::keys::remove_all;
 use crate::live::{Keeper, Live, Pass};
 use crate::rule::{LookAround, Retire, Retired};
 use crate::view::View;
@@ -91,60 +90,4 @@ impl Live {
     {
         self.table.shared.join_seat::<Retire<B>>(seat, other);
     }
-}
-
-// Removes these keys from others, in one pass over both lists.
-pub(crate) fn remove_all(from: &mut Vec<u64>, keys: &[u64])
-    requires ascending { IsStrictlyIncreasing from.old.items × IsStrictlyIncreasing keys.now }
-    ensures ascending { IsStrictlyIncreasing from.new.items }
-    ensures rest { from.new.items ≡ without keys.now from.old.items }
-{
-    leave_others(from, keys);
-}
-
-// Leaves the keys that aren't among these.
-fn leave_others(from: &mut Vec<u64>, keys: &[u64])
-    requires ascending { IsSorted nat_cmp from.old.items × IsSorted nat_cmp keys.now }
-    ensures { from.new.items ≡ without keys.now from.old.items }
-{
-    let kept = keep_others(from, keys);
-    from.truncate(kept);
-}
-
-// Moves all but these keys to the front, in their order, and returns how many they are.
-fn keep_others(from: &mut [u64], keys: &[u64]) -> usize
-    requires ascending { IsSorted nat_cmp from.old × IsSorted nat_cmp keys.now }
-    ensures { take result from.new ≡ without keys.now from.old }
-{
-    let mut kept = 0;
-    let mut next = 0;
-    for place in 0..from.len() {
-        let key = from[place];
-        next = reach(keys, next, key);
-        if stands_at(keys, next, key) {
-            continue;
-        }
-        from[kept] = key;
-        kept += 1;
-    }
-    kept
-}
-
-// Whether the key stands at this place.
-pub(crate) fn stands_at(keys: &[u64], place: usize, key: u64) -> bool
-    ensures { IsTrue result ↔ (place < length keys.now × (slice_index keys.now place ≡ key)) }
-{
-    place < keys.len() && keys[place] == key
-}
-
-// The place of the first key from `next` on that is at least `key`; the length, if there is none.
-pub(crate) fn reach(keys: &[u64], next: usize, key: u64) -> usize
-    requires inside { next ≤ length keys.now }
-    ensures { IsReached keys.now next key result }
-{
-    let mut place = next;
-    while place < keys.len() && keys[place] < key {
-        place += 1;
-    }
-    place
 }

@@ -1,6 +1,6 @@
 use Rattle.std.proofs.Common.{◌-◌, ◌≡◌, ◌↔◌, length}
 use Rattle.blink_live.specs.KeyTest.{IsWindow}
-use Rattle.blink_live.proofs.deal.place_of_key.Given as goal
+use Rattle.blink_live.proofs.keys.place_of_key.Given as goal
 
 abbrev pub invariant-loop-size : goal.invariant-loop-size
 invariant-loop-size l = record {

@@ -2,7 +2,7 @@ use Rattle.std.proofs.lemmas.Bool.Decides.{nat_tests}
 use Rattle.std.proofs.Common.{arith}
 use Rattle.blink_live.proofs.dealt.KeyIsFound.{none_there, tells}
 use Rattle.blink_live.proofs.dealt.KeysInOrder.{sorted_from_rising}
-use Rattle.blink_live.proofs.deal.is_among.Goals as goal
+use Rattle.blink_live.proofs.keys.is_among.Goals as goal
 
 pub place_of_key-place-requires : goal.place_of_key-place-requires
 place_of_key-place-requires c = record { ascending = sorted_from_rising c.args.keys.now c.requires.ascending }

@@ -2,7 +2,7 @@ use Rattle.std.proofs.Common.{◌≡◌, ℕ, ◌-◌, List, ◌++◌, length, t
 use Rattle.std.specs.List.Sorted.{IsPermutation}
 use Rattle.std.proofs.lemmas.List.{length-drop, take_more, take_all, take-append-drop}
 use Rattle.blink_live.proofs.dealt.KeysInOrder.{first_more, rest_more, second_more}
-use Rattle.blink_live.proofs.deal.merged.Goals as goal
+use Rattle.blink_live.proofs.keys.merged.Goals as goal
 
 pub loop-other-preserved : goal.loop-other-preserved
 loop-other-preserved c =

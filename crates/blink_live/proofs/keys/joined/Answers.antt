@@ -1,7 +1,7 @@
 use Rattle.std.proofs.Common.{rules, ℕ, List, ◌++◌, Result, Ok, Err, IfOk, Vec, Global, sym, subst}
 use Rattle.std.specs.List.Sorted.{IsPermutation}
 use Rattle.std.proofs.lemmas.List.Sorted.{IsPermutation-append_right, IsPermutation-trans}
-use Rattle.blink_live.proofs.deal.joined.Goals as goal
+use Rattle.blink_live.proofs.keys.joined.Goals as goal
 
 through : {E : Type 0} (before after : List ℕ) (r : Result (Vec ℕ Global) E) → IsPermutation before after → IfOk r (λ all. IsPermutation after all.items) → IfOk r (λ all. IsPermutation before all.items)
 through before after (Ok all) moved is = IsPermutation-trans before after all.items moved is

@@ -2,7 +2,7 @@ use Rattle.std.proofs.Common.{ℕ, ◌<◌, ◌≤◌, length}
 use Rattle.std.specs.Prelude.{slice_index}
 use Rattle.std.proofs.lemmas.List.Filters.{FiltersInPlace}
 use Rattle.blink_live.proofs.retired.KeysWithout.{keeps}
-use Rattle.blink_live.proofs.retire.keep_others.Given as goal
+use Rattle.blink_live.proofs.keys.keep_others.Given as goal
 
 abbrev pub invariant-loop-place : goal.invariant-loop-place
 invariant-loop-place l = record {

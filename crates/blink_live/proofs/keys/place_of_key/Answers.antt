@@ -2,7 +2,7 @@ use Rattle.std.proofs.Common.{◌≡◌, ℕ, inl, inr, subst, arith}
 use native.Mathlib.Decide.{dec_le}
 use Rattle.blink_live.specs.KeyTest.{IsWindow}
 use Rattle.blink_live.proofs.dealt.KeyIsFound.{one_less}
-use Rattle.blink_live.proofs.deal.place_of_key.Goals as goal
+use Rattle.blink_live.proofs.keys.place_of_key.Goals as goal
 
 pub loop-size-preserved : goal.loop-size-preserved
 loop-size-preserved c =

@@ -2,7 +2,7 @@ use Rattle.std.proofs.Common.{◌≡◌, ℕ, ◌<◌, List, length, refl, sym, 
 use Rattle.std.specs.Prelude.{slice_index}
 use Rattle.std.proofs.lemmas.List.Filters.{FiltersInPlace-all}
 use Rattle.blink_live.proofs.retired.KeysWithout.{isnt_there_by, is_there, keeps_on, passed_reached, removes, same_at, below_reached}
-use Rattle.blink_live.proofs.retire.keep_others.Goals as goal
+use Rattle.blink_live.proofs.keys.keep_others.Goals as goal
 
 pub loop-place-preserved-then-stands_at : goal.loop-place-preserved-then-stands_at
 loop-place-preserved-then-stands_at c =

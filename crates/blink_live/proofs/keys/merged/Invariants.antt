@@ -1,6 +1,6 @@
 use Rattle.std.proofs.Common.{◌-◌, ◌≤◌, ◌++◌, length, take}
 use Rattle.std.specs.List.Sorted.{IsPermutation}
-use Rattle.blink_live.proofs.deal.merged.Given as goal
+use Rattle.blink_live.proofs.keys.merged.Given as goal
 
 abbrev pub invariant-loop-other : goal.invariant-loop-other
 invariant-loop-other l = record {
