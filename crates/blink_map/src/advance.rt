@@ -78,7 +78,7 @@ impl Map {
     /// Begins an exchange: what `exchange` does, with no wait. The call reads the tree down to the key's leaf. It takes no
     /// memory, waits for nobody, and returns. The exchange goes on by `advance`.
     ///
-    /// The call refuses as `exchange` does, and gives the session back.
+    /// The call refuses as `exchange` does, and gives the session back; also where the session's rows are on their way back.
     pub fn begin_exchange(
         &self,
         session: Session,
@@ -161,7 +161,7 @@ impl Map {
         }
     }
 
-    /// Begins an insertion, a deletion or a replacement, as the three calls above do.
+    /// Begins an insertion, a deletion, a replacement or an exchange, as the four calls above do.
     pub fn begin(&self, session: Session, op: Op) -> Result<Pending, (Session, Full)>
         requires its_own { IsSessionOf self.now session }
         requires updates { IsUpdate op }
