@@ -1,5 +1,7 @@
 //! How an operation changes the tree after its descent. To change a page it latches the page and stores the page's next version
-//! word by word in a row of its own. Then it names that row in the page word, and releases the latch.
+//! word by word in a row of its own. Then it names that row in the page word, and releases the latch. A page that has no room is
+//! split by two such writes under one latch: `put_new` writes the upper half as a new page, and then `put_page` the lower half in
+//! the old page's place.
 ghost use Rattle.std.specs.Prelude.{◌≡◌, ◌≢◌, ℕ, ◌+◌, None, ◌<◌, ◌≤◌, Some, suc, List, IsTrue, IfSome, ◌↔◌, ◌-◌, Contains, IfNone, length};
 ghost use Rattle.std.specs.Bool.{OnFalse};
 ghost use Rattle.atomic_table.specs.declared.Seat.{Seat};
