@@ -1,6 +1,6 @@
 //! The command line of the program `blink`: what its words ask for, and how a program ends.
 //!
-//! The words of `blink-show` stand above, in `blink_line`, so `blink` is proved without them.
+//! The words of `blink-show` stand above, in `show_command`, so `blink` is proved without them.
 #![tactic(auto)]
 
 mod command;

@@ -2,12 +2,12 @@
 use Rattle.std.specs.Prelude.{◌≡◌, ℕ, List, Option}
 use Rattle.std.specs.Io.KnownBytes.{Keeps}
 use Rattle.clap.specs.Words.{Text}
-use Rattle.blink_line.specs.{AsksToShow, as_replay}
-use Rattle.blink_line.specs.declared.ProgramError.{ProgramError}
-use Rattle.blink_line.specs.declared.ProgramError.TheVariants as program
-use Rattle.blink_line.specs.declared.LineError.TheVariants.{OutOfMemory}
-use Rattle.blink_line.specs.declared.Turns.{Turns}
-use Rattle.blink_line.specs.declared.Turns.TheVariants.{Schedule, Seed}
+use Rattle.show_command.specs.{AsksToShow, as_replay}
+use Rattle.show_command.specs.declared.ProgramError.{ProgramError}
+use Rattle.show_command.specs.declared.ProgramError.TheVariants as program
+use Rattle.show_command.specs.declared.LineError.TheVariants.{OutOfMemory}
+use Rattle.show_command.specs.declared.Turns.{Turns}
+use Rattle.show_command.specs.declared.Turns.TheVariants.{Schedule, Seed}
 use Rattle.blink_replay.specs.{WritesText, TellsReplayFault, TellsWorkersFault}
 use Rattle.blink_settings.specs.declared.error.ServeError.{ServeError}
 use Rattle.blink_settings.specs.{PlainSettings}

@@ -4,9 +4,9 @@
 mod page;
 mod program;
 
-use blink_line::{ProgramError, end_of};
 use page::{HEAD, TAIL};
 use program::carry_out;
+use show_command::{ProgramError, end_of};
 use std::process::ExitCode;
 use std::rt::Env;
 use std::{env, io};

@@ -5,9 +5,9 @@ ghost use Rattle.blink_replay.specs.{WritesText};
 ghost use Rattle.blink_show.specs.{LeavesShow};
 ghost use Rattle.show_main.specs.Program.{IsFault, IsPage, Leaves, TellsFault, WritesPage};
 
-use blink_line::{ProgramError, Turns, read_show};
 use blink_settings::{ServeError, Settings};
 use blink_show::{serve_seed, serve_show};
+use show_command::{ProgramError, Turns, read_show};
 use std::alloc::Global;
 use std::io::{Read, Write};
 

@@ -1,7 +1,7 @@
--- What a caller of `blink_line` reads, in this order; then what stands below; then the files themselves.
+-- What a caller of `show_command` reads, in this order; then what stands below; then the files themselves.
 
 -- the request of the words of a command line, by clap's reading of them
-pub use Rattle.blink_line.specs.Line.{Asks, AsksToShow, HasAllowedSizes, IsBadValue, IsTaken, IsTakenToShow, as_replay, blink, show}
+pub use Rattle.show_command.specs.Line.{Asks, AsksToShow, HasAllowedSizes, IsBadValue, IsTaken, IsTakenToShow, as_replay, blink, show}
 -- the meaning of the values of options
 pub use Rattle.blink_command.specs.{IsSchedule, cut_of, driver_of, fan_of, workers_of}
 -- the end of a program, and what it writes on standard error

@@ -2,8 +2,8 @@
 //!
 //! Each helper promises nothing, so a test carries no facts from call to call. What differs only by its values stands in a table that one
 //! test goes through, since a row costs next to no proof.
-use blink_line::End;
 use blink_run::{CutKind, Driver, Settings};
+use show_command::End;
 use std::alloc::Global;
 use std::fmt::{Debug, Display};
 use std::process::{Abort, ExitCode};

@@ -1,6 +1,6 @@
 //! The command line of the program `blink-show`: what its words ask for.
 //!
-//! `blink_line` exports from `blink_command` what a program needs too: the command line of `blink`, and how both programs end.
+//! `show_command` exports from `blink_command` what a program needs too: the command line of `blink`, and how both programs end.
 #![tactic(auto)]
 
 mod command;

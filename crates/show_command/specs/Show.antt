@@ -6,9 +6,9 @@ use Rattle.blink_settings.specs.declared.settings.Driver.TheVariants.{Locked}
 use Rattle.blink_settings.specs.declared.settings.CutKind.TheVariants.{Residue}
 use Rattle.blink_batch.specs.{number_of}
 use Rattle.blink_command.specs.{HasSizes, IsSchedule, value}
-use Rattle.blink_line.specs.Grammar.{IsTakenToShow, show}
-use Rattle.blink_line.specs.declared.show.Turns.{Turns}
-use Rattle.blink_line.specs.declared.show.Turns.TheVariants.{Schedule, Seed}
+use Rattle.show_command.specs.Grammar.{IsTakenToShow, show}
+use Rattle.show_command.specs.declared.show.Turns.{Turns}
+use Rattle.show_command.specs.declared.show.Turns.TheVariants.{Schedule, Seed}
 
 -- the words of `blink-show`, the program's name first, as those of `blink replay`
 abbrev pub as_replay : List Text → List Text

@@ -1,4 +1,4 @@
-//! Tests of the public calls of `blink_line` and `blink_show`, and of these together with `blink_run`'s as the programs make them.
+//! Tests of the public calls of `show_command` and `blink_show`, and of these together with `blink_run`'s as the programs make them.
 #![tactic(auto)]
 
 #[cfg(test)]

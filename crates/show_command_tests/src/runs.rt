@@ -1,7 +1,7 @@
 //! Scripts run as the program `blink` runs them: by the words of a command line, and with the end that is told.
 use crate::fixtures::{ends_with, given, same_for, settings};
-use blink_line::{End, Line, ProgramError, end_of, read_line};
 use blink_run::{CutKind, Driver, Open, serve, serve_replay};
+use show_command::{End, Line, ProgramError, end_of, read_line};
 use std::alloc::Global;
 use std::process::Abort;
 use std::sync::Wait;

@@ -4,7 +4,7 @@ ghost use Rattle.clap.specs.Words.{app_of, kind_of, rule_of, subcommand_of, subc
 ghost use Rattle.clap.specs.Walk.{texts};
 ghost use Rattle.clap.specs.declared.builder.command.Command.TheViews.{out-Command};
 ghost use Rattle.blink_command.specs.{option};
-ghost use Rattle.blink_line.specs.Grammar.{IsTakenToShow, replay_or_seed, show};
+ghost use Rattle.show_command.specs.Grammar.{IsTakenToShow, replay_or_seed, show};
 
 use blink_command::{option, replay_command};
 use clap::error::ErrorKind;

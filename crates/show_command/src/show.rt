@@ -4,8 +4,8 @@ ghost use Rattle.clap.specs.Walk.{texts};
 ghost use Rattle.clap.specs.Words.{found_of, rows_of, subcommand_rows_of};
 ghost use Rattle.blink_settings.specs.{IsAllowed};
 ghost use Rattle.blink_command.specs.{IsBadValue};
-ghost use Rattle.blink_line.specs.Grammar.{IsTakenToShow};
-ghost use Rattle.blink_line.specs.Show.{as_replay, AreTurns, AsksToShow, HasTurns, Shows, SubcommandShows};
+ghost use Rattle.show_command.specs.Grammar.{IsTakenToShow};
+ghost use Rattle.show_command.specs.Show.{as_replay, AreTurns, AsksToShow, HasTurns, Shows, SubcommandShows};
 
 use crate::command::show_matches_of;
 use blink_batch::read_number;

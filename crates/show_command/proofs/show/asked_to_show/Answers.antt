@@ -2,9 +2,9 @@ use Rattle.std.proofs.Common.{◌≡◌, Some, subst, sym, rules, Option, List}
 use Rattle.clap.specs.Words.{Row, Text, found_of, rows_of, subcommand_rows_of}
 use Rattle.std.specs.Prelude.{IfOk, MatchOption}
 use Rattle.blink_settings.specs.{PlainSettings}
-use Rattle.blink_line.specs.declared.show.Turns.{Turns}
-use Rattle.blink_line.specs.Show.{SubcommandShows}
-use Rattle.blink_line.proofs.show.asked_to_show.Goals as goal
+use Rattle.show_command.specs.declared.show.Turns.{Turns}
+use Rattle.show_command.specs.Show.{SubcommandShows}
+use Rattle.show_command.proofs.show.asked_to_show.Goals as goal
 
 -- what the subcommand and its values ask for
 pub returns-in-Some-clause-meant : goal.returns-in-Some-clause-meant

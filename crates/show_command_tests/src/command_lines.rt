@@ -3,11 +3,11 @@ mod usage;
 
 use crate::fixtures::{given, is_shown, same_for, settings};
 use blink_command::{bad_value, matches_of, refusal, schedule_of, settings_of, value_of};
-use blink_line::{Line, LineError, Turns, read_line, read_show, show_matches_of};
 use blink_run::CutKind::{Ranges, Residue};
 use blink_run::Driver::{Live, Locked};
 use blink_run::{CutKind, Driver, Settings};
 use clap::ArgMatches;
+use show_command::{Line, LineError, Turns, read_line, read_show, show_matches_of};
 use std::alloc::Global;
 use std::process::Abort;
 

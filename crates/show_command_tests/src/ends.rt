@@ -1,9 +1,9 @@
 //! The exit status and the lines of each end of a program.
 use crate::fixtures::{ends_with, given, same_for};
 use blink_batch::{RecordError, ScriptError};
-use blink_line::{LineError, ProgramError, end_of, fault};
 use blink_run::{RunError, ServeError};
 use blink_steps::StepError;
+use show_command::{LineError, ProgramError, end_of, fault};
 use std::process::ExitCode;
 
 #[test]
