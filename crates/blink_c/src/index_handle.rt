@@ -15,7 +15,8 @@ pub struct IndexHandle {
     pub ghost value: { PlainStore } by { index_coded },
 }
 
-// A handle owns the index at its pointer, and the right to free it.
+// A handle owns the index at its pointer, and the right to free it. It has no `also_shares`, with which a `&` to it could be read
+// through: an export may not take a type that has it. So an export that only reads takes a `&mut` too.
 impl Model for IndexHandle {
     ghost also_owns = { λ h. handle_owns h.alloc h.at h.value };
 }

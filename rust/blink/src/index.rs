@@ -31,8 +31,28 @@ use std::ops::RangeBounds;
 /// fn may_be_shared<T: Sync>() {}
 /// may_be_shared::<blink::Index>();
 /// ```
+///
+/// Threads that read its entries at the same time each have a session of a [`Map`](crate::Map) over the index. Where they only read,
+/// the map needs no room for changes:
+///
+/// ```
+/// use blink::{Index, Map, Room};
+///
+/// let index: Index = (0..1000).map(|key| (key, 10 * key)).collect();
+/// let map = Map::open(&index, Room { pages: 0, rows: 0, sessions: 8 })?;
+/// std::thread::scope(|scope| {
+///     for thread in 0..8 {
+///         let mut session = map.session().unwrap();
+///         scope.spawn(move || {
+///             assert_eq!(session.get(thread), Some(10 * thread));
+///             assert_eq!(session.range(thread..).count() as u64, 1000 - thread);
+///         });
+///     }
+/// });
+/// # Ok::<(), blink::Error>(())
+/// ```
 pub struct Index {
-    // A call takes the handle by a pointer for writing, also where it changes nothing.
+    // A call takes the handle by a pointer for writing, also where it changes nothing; src/index_handle.rt of crates/blink_c has why.
     handle: UnsafeCell<Handle>,
 }
 

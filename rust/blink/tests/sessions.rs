@@ -107,6 +107,41 @@ fn two_threads_change_the_same_keys() {
     }
 }
 
+// The keys are the multiples of 3 below 60,000, and map to seven times their third. Each thread looks all keys up, from a place of its
+// own on, and what is between them, and scans and snapshots a range of 100 keys from there.
+#[test]
+fn eight_threads_read_one_index() {
+    const ENTRIES: u64 = 20_000;
+    let entries: Vec<Entry> = (0..ENTRIES).map(|third| Entry { key: 3 * third, pointer: 7 * third }).collect();
+    let index = Index::from_sorted(16, &entries).unwrap();
+    let map = map_over(&index, 0, 0, 8);
+    let read = |session: &mut Session, thread: u64| {
+        for step in 0..ENTRIES {
+            let third = (2_500 * thread + step) % ENTRIES;
+            assert_eq!((session.get(3 * third), session.get(3 * third + 1)), (Some(7 * third), None));
+            if step % 100 == 0 {
+                let within = third + 1..ENTRIES.min(third + 101);
+                let range = 3 * third + 1..3 * third + 301;
+                assert!(session.range(range.clone()).eq(within.clone().map(|third| entries[third as usize])));
+                let pairs = within.map(|third| (3 * third, 7 * third)).collect();
+                assert_eq!(session.snapshot(range, 1), Ok(Some(pairs)));
+            }
+        }
+        // the map has no room for changes
+        assert_eq!(session.insert(1, 1), Err(Error::Full));
+        assert_eq!(session.remove(0), Err(Error::Full));
+    };
+    thread::scope(|scope| {
+        for thread in 0..8 {
+            let mut session = map.session().unwrap();
+            scope.spawn(move || read(&mut session, thread));
+        }
+        // the index is a tree of its own, which this thread reads meanwhile
+        assert!((0..ENTRIES).all(|third| index.find(3 * third) == Some(7 * third)));
+    });
+    assert_eq!(map.close().unwrap().len(), 20_000);
+}
+
 // Inserts ascending keys by turns of all sessions until each is refused, and returns how many there are.
 fn fill(sessions: &mut [Session]) -> u64 {
     let mut next = 0;
