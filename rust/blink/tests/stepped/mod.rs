@@ -67,8 +67,8 @@ extern "C" fn trapped(_signal: c_int, _info: *mut c_void, context: *mut c_void) 
     }
 }
 
-// Makes the call, and does `act` after each of its instructions, until that returns `false`. The call has to take no memory, since `act`
-// may.
+// Makes the call, and does `act` after each of its instructions, until that returns `false`. Only one of the two may take memory, or do
+// anything else that no signal handler may do within itself. So where the call takes memory, a failed assertion in `act` may hang.
 pub fn by_instruction<T>(call: impl FnOnce() -> T, mut act: impl FnMut() -> bool) -> T {
     static HANDLED: Once = Once::new();
     HANDLED.call_once(|| handle(SIGTRAP, trapped));
