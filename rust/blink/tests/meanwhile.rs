@@ -1,10 +1,10 @@
-//! Reads that are stopped after any of their machine instructions, while another session makes changes from the first to the last. What the
-//! read has met before is as it was before all changes, and what it meets afterwards is as it is after them.
+//! Reads that are stopped after any of their machine instructions, while another session makes changes from the first to the
+//! last. What the read has met before is as it was before all changes, and what it meets afterwards is as it is after them.
 #![cfg(all(target_os = "linux", target_arch = "x86_64", target_env = "gnu"))]
 
 mod stepped;
 
-use blink::{Answer, Entry, Error, Index, Map, Op, Room, Session};
+use blink::{Answer, Entry, Index, Map, Op, Room, Session};
 use std::collections::BTreeMap;
 use std::fmt::Debug;
 use stepped::by_instruction;
@@ -97,8 +97,9 @@ fn make(changes: &Changes, session: &mut Session) {
     assert!(changes.turns == 0 || session.put(10, 1) == Ok(Some(changes.turns)));
 }
 
-// Stops the call after so many instructions, and makes the changes. `fits` says whether an answer is right, of a call that begins before the
-// changes and ends after them. The call's own session then reads all as it is after them. Returns `false`, if the call has ended before.
+// Stops the call after so many instructions, and makes the changes. `fits` says whether an answer is right, of a call that
+// begins before the changes and ends after them. The call's own session then reads all as it is after them. Returns `false`, if
+// the call has ended before.
 fn stops<T: Debug>(
     instructions: u32,
     changes: &Changes,
@@ -137,8 +138,8 @@ fn stops<T: Debug>(
 // Stops the call after each `step`th of its instructions, from another one on for each list of changes.
 fn stops_anywhere<T: Debug>(step: usize, call: impl Fn(&mut Session) -> T, fits: impl Fn(&T, &Plain, &Plain) -> bool) {
     for (first, changes) in [A_SPLIT, SPLITS_UP_TO_THE_ROOT, AN_EMPTY_LEAF, OTHER_ENTRIES].iter().enumerate() {
-        let stopped = ((17 * first % step) as u32..).step_by(step).take_while(|&instructions| stops(instructions, changes, &call, &fits));
-        let count = stopped.count();
+        let places = ((17 * first % step) as u32..).step_by(step);
+        let count = places.take_while(|&instructions| stops(instructions, changes, &call, &fits)).count();
         assert!(count * step > 100, "{count} stops");
     }
 }
@@ -178,9 +179,9 @@ fn scan_into(session: &mut Session, lo: u64, hi: u64, most: usize) -> Vec<(u64, 
 #[test]
 fn a_snapshot_that_is_stopped_anywhere_is_of_before_or_after() {
     for (lo, hi) in [(0, u64::MAX), (45, 95)] {
-        stops_anywhere(97, |session| session.snapshot(lo..=hi, 2), |taken: &Result<Option<Vec<(u64, u64)>>, Error>, before, after| {
-            // The second try succeeds, since nothing changes then.
-            let taken = taken.as_ref().unwrap().as_ref().expect("a second try");
+        // The second try succeeds, since nothing changes then.
+        let take = |session: &mut Session| session.snapshot(lo..=hi, 2).unwrap().expect("a second try");
+        stops_anywhere(97, take, |taken, before, after| {
             [before, after].iter().any(|plain| plain.range(lo..=hi).eq(taken.iter().map(|(key, pointer)| (key, pointer))))
         });
     }
