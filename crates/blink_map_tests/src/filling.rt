@@ -1,6 +1,6 @@
 //! Maps that are filled to their last row and to their last page number.
 use crate::shared::Two;
-use blink_batch::Answer;
+use blink_batch::{Answer, Op};
 use blink_map::{Full, Stock};
 use std::process::Abort;
 
@@ -86,4 +86,79 @@ fn a_map_is_filled_to_its_last_page_number(rt: HostRuntime) {
     ] {
         assert_eq!(&rt; index.find(key), pointer);
     }
+}
+
+// ---- a session that is refused, and the next one at a place that has room
+
+// What a session has that has drawn nothing.
+const NOTHING: Stock = Stock {
+    pages: 0,
+    unwritten: 0,
+    free: 0,
+    taken_out: 0,
+    waiting: 0,
+};
+
+// The first session has drawn all 22 page numbers and all 44 rows, so the second lacks both for good. What the first has
+// left stays at its place, and is the next session's there.
+#[test]
+fn the_next_session_at_a_place_makes_a_change_that_was_refused(rt: HostRuntime) {
+    let mut two = Two::open(&rt, rt.alloc(), 22, 44);
+    assert_eq!(&rt; two.insert(&rt, 1, 10), Ok(Answer::Inserted));
+    let left = Stock {
+        pages: 22,
+        unwritten: 43,
+        free: 0,
+        taken_out: 1,
+        waiting: 0,
+    };
+    assert_eq!(&rt; two.map.stock(&two.one), left);
+    assert_eq!(&rt; two.room(), (0, 0));
+    let mut two = two.turn();
+    assert_eq!(&rt; two.insert(&rt, 2, 20), Err(Full));
+    assert!(&rt; two.one.lacks_room_in_all(Op::Insert(2, 20)));
+    assert_eq!(&rt; two.map.stock(&two.one), NOTHING);
+    let mut two = two.turn().leave_and_join(&rt);
+    assert_eq!(&rt; two.map.stock(&two.one), left);
+    assert_eq!(&rt; two.insert(&rt, 2, 20), Ok(Answer::Inserted));
+    let mut two = two.turn();
+    assert_eq!(&rt; two.insert(&rt, 3, 30), Err(Full));
+    assert_eq!(&rt; two.find(2), Some(20));
+}
+
+// 43 replacements write the rows that the first insertion has left, and take a row out each. They come back as the next
+// session at the place needs them: it inserts, writes one and takes one out.
+#[test]
+fn rows_of_a_session_that_has_left_come_back_to_the_next_one(rt: HostRuntime) {
+    let mut two = Two::open(&rt, rt.alloc(), 22, 44);
+    assert_eq!(&rt; two.insert(&rt, 1, 0), Ok(Answer::Inserted));
+    for pointer in 0..43u64 {
+        assert_eq!(&rt;
+            two.replace(&rt, 1, pointer.wrapping_add(1)),
+            Ok(Answer::Replaced(pointer))
+        );
+    }
+    let written = Stock {
+        pages: 22,
+        unwritten: 0,
+        free: 0,
+        taken_out: 44,
+        waiting: 0,
+    };
+    assert_eq!(&rt; two.map.stock(&two.one), written);
+    let mut two = two.turn();
+    assert_eq!(&rt; two.insert(&rt, 2, 20), Err(Full));
+    let mut two = two.turn().leave_and_join(&rt);
+    assert_eq!(&rt; two.map.stock(&two.one), written);
+    assert!(&rt; !two.one.lacks_room_in_all(Op::Insert(2, 20)));
+    assert_eq!(&rt; two.insert(&rt, 2, 20), Ok(Answer::Inserted));
+    let back = Stock {
+        pages: 22,
+        unwritten: 0,
+        free: 43,
+        taken_out: 1,
+        waiting: 0,
+    };
+    assert_eq!(&rt; two.map.stock(&two.one), back);
+    assert_eq!(&rt; two.find(1), Some(43));
 }

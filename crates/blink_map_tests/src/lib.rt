@@ -20,6 +20,8 @@ mod shared;
 #[cfg(test)]
 mod snapshots;
 #[cfg(test)]
+mod splitting;
+#[cfg(test)]
 mod stepping;
 #[cfg(test)]
 mod threads;

@@ -1,5 +1,5 @@
-//! An insertion that splits pages, and what others read between any two of its machine instructions. The insertion rests meanwhile, so a
-//! snapshot succeeds at its first try.
+//! An insertion that splits pages, and what others read between any two of its machine instructions. The insertion rests
+//! meanwhile, so a snapshot succeeds at its first try.
 #![cfg(all(target_os = "linux", target_arch = "x86_64", target_env = "gnu"))]
 
 mod stepped;
@@ -10,8 +10,8 @@ use stepped::by_instruction;
 
 const FAN: u8 = 4;
 
-// An index of so many keys, ten apart from 10 on, each with itself and 7. All pages but the root are full. It has the first number of
-// pages, and after one insertion more the second.
+// An index of so many keys, ten apart from 10 on, each with itself and 7. All pages but the root are full. It has the first
+// number of pages, and after one insertion more the second.
 struct Full {
     keys: u64,
     pages: (u32, u32),

@@ -1,5 +1,5 @@
-//! Readers that are stopped inside a call, while others write every row again and again. What a stopped reader may still read isn't written,
-//! so its answer is right; and once it goes on, so does every change that was refused meanwhile.
+//! Readers that are stopped inside a call, while others write every row again and again. What a stopped reader may still read
+//! isn't written, so its answer is right; and once it goes on, so does every change that was refused meanwhile.
 #![cfg(all(target_os = "linux", target_arch = "x86_64", target_env = "gnu"))]
 
 mod stepped;
@@ -59,8 +59,8 @@ impl<'map> Writer<'map> {
 
 // ---- a reader that is stopped at each of its instructions
 
-// Whether rows came back while the reader was stopped after so many instructions of its call; none, if the call has fewer. All rows are
-// written meanwhile.
+// Whether rows came back while the reader was stopped after so many instructions of its call; none, if the call has fewer. All
+// rows are written meanwhile.
 fn stops_after(instructions: u32) -> Option<bool> {
     let map = map_of_four(2);
     let mut writer = Writer::new(&map);
@@ -95,7 +95,8 @@ fn stops_after(instructions: u32) -> Option<bool> {
 #[test]
 fn a_reader_that_is_stopped_anywhere_reads_rows_that_are_not_written() {
     let come_back: Vec<bool> = (0..100_000).map_while(stops_after).collect();
-    // Before it marks its place a reader holds no row back, nor after it has taken the mark away; in between it does all the time.
+    // Before it marks its place a reader holds no row back, nor after it has taken the mark away; in between it does all the
+    // time.
     let marks = come_back.windows(2).filter(|pair| pair[0] != pair[1]).count();
     assert_eq!((come_back.first(), come_back.last(), marks), (Some(&true), Some(&true), 2));
     let held = come_back.iter().filter(|back| !**back).count();
@@ -181,8 +182,8 @@ fn replaces(writer: &mut Writer, told: &Told) -> bool {
     replaced
 }
 
-// Stops the reader some hundred times, and writes all rows meanwhile, or those that the reader doesn't hold back. Returns how often the
-// reader was inside a call, and how often it held rows back.
+// Stops the reader some hundred times, and writes all rows meanwhile, or those that the reader doesn't hold back. Returns how
+// often the reader was inside a call, and how often it held rows back.
 fn stops_and_writes(writer: &mut Writer, told: &Told) -> (u32, u32) {
     let (mut inside, mut held) = (0, 0);
     while told.thread.load(SeqCst) == 0 {
@@ -231,7 +232,8 @@ fn a_reader_that_sleeps_in_a_call_holds_rows_back_until_it_wakes() {
         let counts = stops_and_writes(&mut writer, &told);
         (reader.join().unwrap(), counts)
     });
-    assert!(calls >= u64::from(inside) && inside >= held && held > 0, "{calls} calls, {inside} stops inside one, {held} with a mark");
+    let enough = calls >= u64::from(inside) && inside >= held && held > 0;
+    assert!(enough, "{calls} calls, {inside} stops inside one, {held} with a mark");
     let last = writer.pointer;
     assert!(last >= FIRST + u64::from(STOPS) * 5 * u64::from(ROWS));
     drop(writer);

@@ -1,5 +1,6 @@
-//! Calls that are stopped at each machine instruction. The processor's trap flag raises SIGTRAP after each instruction of the thread, and
-//! the handler of that signal does what is to happen there: it stands between two steps of the call, also between two stores of a page.
+//! Calls that are stopped at each machine instruction. The processor's trap flag raises SIGTRAP after each instruction of the
+//! thread, and the handler of that signal does what is to happen there: it stands between two steps of the call, also between
+//! two stores of a page.
 
 use std::any::Any;
 use std::arch::asm;
@@ -67,8 +68,9 @@ extern "C" fn trapped(_signal: c_int, _info: *mut c_void, context: *mut c_void) 
     }
 }
 
-// Makes the call, and does `act` after each of its instructions, until that returns `false`. The call has to take no memory, since `act`
-// may.
+// Makes the call, and does `act` after each of its instructions, until that returns `false`. Only one of the two may take
+// memory, or do anything else that no signal handler may do within itself. So where the call takes memory, a failed assertion
+// in `act` may hang.
 pub fn by_instruction<T>(call: impl FnOnce() -> T, mut act: impl FnMut() -> bool) -> T {
     static HANDLED: Once = Once::new();
     HANDLED.call_once(|| handle(SIGTRAP, trapped));

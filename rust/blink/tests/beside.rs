@@ -1,0 +1,90 @@
+//! An insertion that is stopped after any of its machine instructions, and a change of another session that begins there. It
+//! ends before the insertion goes on, or rests until that has ended: what the two leave is what both make of the entries, in
+//! either order.
+#![cfg(all(target_os = "linux", target_arch = "x86_64", target_env = "gnu"))]
+
+mod stepped;
+
+use blink::{Answer, Begun, Entry, Index, Map, Op, Room, Session, Unfinished};
+use stepped::by_instruction;
+
+// Sixteen keys in four full leaves below a full root: the insertion splits a leaf and the root, and makes a root.
+fn entries() -> Vec<Entry> {
+    (1..=16).map(|place| Entry { key: 10 * place, pointer: place }).collect()
+}
+
+const NEW: Entry = Entry { key: 55, pointer: 7 };
+
+// A change of another key, its answer, and what it leaves of the key. It has to rest somewhere, if it wants a page that the
+// insertion latches.
+struct Other {
+    key: u64,
+    op: Op,
+    answer: Answer,
+    left: Option<u64>,
+    rests: bool,
+}
+
+// Of the leaf that is split, of either half; and of the last leaf, which is nobody's, and whose split is posted to the root.
+const OTHERS: [Other; 6] = [
+    Other { key: 50, op: Op::Delete(50), answer: Answer::Removed(5), left: None, rests: true },
+    Other { key: 80, op: Op::Replace(80, 9), answer: Answer::Replaced(8), left: Some(9), rests: true },
+    Other { key: 54, op: Op::Insert(54, 9), answer: Answer::Inserted, left: Some(9), rests: true },
+    Other { key: 75, op: Op::Insert(75, 9), answer: Answer::Inserted, left: Some(9), rests: true },
+    Other { key: 160, op: Op::Insert(160, 9), answer: Answer::Exists(16), left: Some(16), rests: false },
+    Other { key: 165, op: Op::Insert(165, 9), answer: Answer::Inserted, left: Some(9), rests: true },
+];
+
+// Goes on with the change until it has ended.
+fn end(mut resting: Unfinished) -> Answer {
+    loop {
+        match resting.advance(1) {
+            Begun::Ended(_, answer) => return answer,
+            Begun::Resting(unfinished) => resting = unfinished,
+        }
+    }
+}
+
+// Begins the change after so many instructions of the insertion, and returns whether it rested; none, if there are fewer.
+fn begins_after(instructions: u32, other: &Other) -> Option<bool> {
+    let map = Map::open(&Index::from_sorted(4, &entries()).unwrap(), Room { pages: 44, rows: 88, sessions: 2 }).unwrap();
+    let mut writer = map.session().unwrap();
+    let mut free: Option<Session> = Some(map.session().unwrap());
+    let (mut passed, mut begun) = (0, None);
+    let inserted = by_instruction(
+        || writer.insert(NEW.key, NEW.pointer),
+        || {
+            if passed == instructions {
+                begun = free.take().map(|session| session.begin(other.op, 1));
+            }
+            passed += 1;
+            begun.is_none()
+        },
+    );
+    assert_eq!(inserted, Ok(Answer::Inserted));
+    let (rested, answer) = match begun?.unwrap() {
+        Begun::Ended(_, answer) => (false, answer),
+        Begun::Resting(unfinished) => (true, end(unfinished)),
+    };
+    assert_eq!(answer, other.answer, "{:?} after {instructions} instructions", other.op);
+    drop((writer, free));
+    let mut expected = entries();
+    expected.push(NEW);
+    expected.retain(|entry| entry.key != other.key);
+    expected.extend(other.left.map(|pointer| Entry { key: other.key, pointer }));
+    expected.sort_by_key(|entry| entry.key);
+    assert!(map.close().unwrap().scan(..).eq(expected), "{:?} after {instructions} instructions", other.op);
+    Some(rested)
+}
+
+#[test]
+fn a_change_beside_a_split_that_is_stopped_anywhere_ends_or_rests() {
+    const STEP: usize = 1_499;
+    for (first, other) in OTHERS.iter().enumerate() {
+        let stops = (241 * first as u32..).step_by(STEP);
+        let rested: Vec<bool> = stops.map_while(|instructions| begins_after(instructions, other)).collect();
+        let rests = rested.iter().filter(|rested| **rested).count();
+        assert!(rested.len() * STEP > 10_000 && !rested[0], "{} stops", rested.len());
+        assert_eq!(rests > 0, other.rests, "{:?} rests {rests} times", other.op);
+    }
+}
