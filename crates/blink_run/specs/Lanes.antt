@@ -13,7 +13,7 @@ use Rattle.blink_run.specs.declared.live.lane.LaneRun.{LaneRun}
 use Rattle.blink_run.specs.declared.live.needs.Needs.{Needs}
 use Rattle.blink_run.specs.declared.live.threads.RunsLane.{RunsLane}
 
--- the operation uses one deletion of a pass: a deletion does, a replacement, and an exchange
+-- the operation uses one deletion of a pass: a deletion of either kind does, a replacement, and an exchange
 abbrev pub uses_deletion : Op → Bool
 uses_deletion (Find key) = false
 uses_deletion (Insert key pointer) = false

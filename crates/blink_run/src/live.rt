@@ -95,7 +95,7 @@ fn run_passes<R: Threads + Wait + Sync, G: Gate + Sync>(
     }
 }
 
-// The number of the batch's insertions, and of its deletions, replacements and exchanges together.
+// The number of the batch's insertions, and of its deletions of both kinds, replacements and exchanges together.
 fn allowance_of(batch: &Batch) -> Allowance
     ensures inserts { result.inserts ≡ count_by is_insert batch.now }
     ensures deletes { result.deletes ≡ count_by uses_deletion batch.now }
@@ -104,7 +104,8 @@ fn allowance_of(batch: &Batch) -> Allowance
     for op in batch.ops() {
         match op {
             Op::Find(_) | Op::Insert(..) => {}
-            Op::Delete(_) | Op::Replace(..) | Op::Exchange(..) => deletes += 1,
+            Op::Delete(_) | Op::Replace(..) | Op::Exchange(..) | Op::DeleteExact(..) => deletes +=
+                1,
         }
     }
     Allowance {

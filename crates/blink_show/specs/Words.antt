@@ -3,7 +3,7 @@ use Rattle.std.specs.Prelude.{ℕ, List, [], ◌∷◌, ◌++◌, codes}
 use Rattle.std.specs.List.{flat_map}
 use Rattle.std.specs.Fmt.{decimal}
 use Rattle.blink_batch.specs.declared.Op.{Op}
-use Rattle.blink_batch.specs.declared.Op.TheVariants.{Find, Insert, Delete, Replace, Exchange}
+use Rattle.blink_batch.specs.declared.Op.TheVariants.{Find, Insert, Delete, Replace, Exchange, DeleteExact}
 use Rattle.blink_machine.specs.declared.Job.{Job}
 use Rattle.blink_machine.specs.declared.Job.TheVariants.{Leaf, Parent}
 use Rattle.blink_machine.specs.declared.Next.{Next}
@@ -47,10 +47,11 @@ abbrev pub dotted : List ℕ → List ℕ
 dotted [] = codes "-"
 dotted (page ∷ pages) = decimal page ++ flat_map after_dot pages
 
--- an operation, spelled as in a script, except for spaces; no script has an exchange
+-- an operation, spelled as in a script, except for spaces; no script has an exchange or a deletion of an expected pointer
 abbrev pub words_of_op : Op → List ℕ
 words_of_op (Find key) = codes "find " ++ decimal key
 words_of_op (Insert key pointer) = codes "insert " ++ (decimal key ++ (codes " " ++ decimal pointer))
 words_of_op (Delete key) = codes "delete " ++ decimal key
 words_of_op (Replace key pointer) = codes "replace " ++ (decimal key ++ (codes " " ++ decimal pointer))
 words_of_op (Exchange key expected pointer) = codes "exchange " ++ (decimal key ++ (codes " " ++ (decimal expected ++ (codes " " ++ decimal pointer))))
+words_of_op (DeleteExact key expected) = codes "delete_exact " ++ (decimal key ++ (codes " " ++ decimal expected))

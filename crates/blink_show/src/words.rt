@@ -82,5 +82,6 @@ pub(crate) fn push_op(text: &mut String, op: Op) -> Result<(), AllocError>
         Op::Delete(key) => write!(text, "delete {key}"),
         Op::Replace(key, pointer) => write!(text, "replace {key} {pointer}"),
         Op::Exchange(key, expected, pointer) => write!(text, "exchange {key} {expected} {pointer}"),
+        Op::DeleteExact(key, expected) => write!(text, "delete_exact {key} {expected}"),
     }
 }

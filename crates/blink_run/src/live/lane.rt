@@ -73,6 +73,7 @@ fn answer_at<R: Wait>(rt: &R, live: &Live, pass: &mut Pass, op: Op) -> Answer
         Op::Exchange(key, expected, pointer) => {
             answer_of(live.exchange(rt, pass, key, expected, pointer))
         }
+        Op::DeleteExact(key, expected) => answer_of(live.delete_exact(rt, pass, key, expected)),
     }
 }
 

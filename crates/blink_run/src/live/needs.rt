@@ -43,6 +43,7 @@ impl Needs {
                     Op::Delete(_) => deletes += 1,
                     Op::Replace(..) => deletes += 1,
                     Op::Exchange(..) => deletes += 1,
+                    Op::DeleteExact(..) => deletes += 1,
                 }
             }
         }

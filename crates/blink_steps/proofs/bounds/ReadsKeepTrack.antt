@@ -146,7 +146,7 @@ module _ (laws : TreeLaws) (tree_state : TreeState) (levels : Levels) (invariant
           finishes_tracks after (ap (λ (m : PlainMachine). m.job) is_after) (ap (λ (m : PlainMachine). m.state) is_after)
       sees_under_latch_tracks after (SeesUnderLatch.replacement_finds_none key pointer belongs is_leaf is_replacement found is_after) =
           finishes_tracks after (ap (λ (m : PlainMachine). m.job) is_after) (ap (λ (m : PlainMachine). m.state) is_after)
-      sees_under_latch_tracks after (SeesUnderLatch.exchange_finds_other key expected pointer belongs is_leaf is_replacement found is_after) =
+      sees_under_latch_tracks after (SeesUnderLatch.finds_other_pointer key expected belongs is_leaf is_replacement found is_after) =
           finishes_tracks after (ap (λ (m : PlainMachine). m.job) is_after) (ap (λ (m : PlainMachine). m.state) is_after)
       sees_under_latch_tracks after (SeesUnderLatch.posting_finds_separator debt child belongs is_posting found is_after) =
           finishes_tracks after (ap (λ (m : PlainMachine). m.job) is_after) (ap (λ (m : PlainMachine). m.state) is_after)

@@ -35,3 +35,9 @@ answer_of-requires-in-Exchange g c =
     let its = subst (λ (op : Op). Contains (keys_of c.args.pass.now) (key_of op)) c.in-Exchange.is c.requires.key in
     let some = subst (λ (op : Op). count_by uses_deletion (op ∷ []) ≤ deletes_left c.args.pass.now.pages c.args.pass.now.rows) c.in-Exchange.is c.requires.deletes in
     not_refused c.exchange.result (λ is. c.exchange.ensures.not_yours.0 is its) (λ is. let none = (c.exchange.ensures.spent.0 is).1 in omega arith)
+
+pub answer_of-requires-in-DeleteExact : goal.answer_of-requires-in-DeleteExact
+answer_of-requires-in-DeleteExact g c =
+    let its = subst (λ (op : Op). Contains (keys_of c.args.pass.now) (key_of op)) c.in-DeleteExact.is c.requires.key in
+    let some = subst (λ (op : Op). count_by uses_deletion (op ∷ []) ≤ deletes_left c.args.pass.now.pages c.args.pass.now.rows) c.in-DeleteExact.is c.requires.deletes in
+    not_refused c.delete_exact.result (λ is. c.delete_exact.ensures.not_yours.0 is its) (λ is. let none = (c.delete_exact.ensures.spent.0 is).1 in omega arith)

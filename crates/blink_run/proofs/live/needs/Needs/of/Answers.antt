@@ -3,12 +3,12 @@ use Rattle.std.proofs.Common.{◌≡◌, ℕ, ◌<◌, length, map, count_by, So
 use Rattle.std.specs.List.{slice_get}
 use Rattle.std.proofs.lemmas.Grind.{common_steps}
 use Rattle.std.proofs.lemmas.Option.{slice_get-get_or}
-use Rattle.blink_batch.specs.declared.Op.TheVariants.{Delete, Exchange, Find, Insert, Replace}
+use Rattle.blink_batch.specs.declared.Op.TheVariants.{Delete, DeleteExact, Exchange, Find, Insert, Replace}
 use Rattle.blink_batch.specs.{is_insert, key_of}
 use Rattle.blink_run.specs.Lanes.{uses_deletion, lane_ops}
 use Rattle.blink_run.proofs.NeedsOfLane.{needed_from_gathered}
 use Rattle.blink_run.proofs.LaneSoFar.{lane_so_far, lane_so_far-own, lane_so_far-other, lane_so_far-all}
-use Rattle.blink_run.proofs.live.needs.Needs.of.Goals.{then-lanes-place+in_ok-push+in-Find, then-lanes-place+in_ok-push+in-Insert, then-lanes-place+in_ok-push+in-Delete, then-lanes-place+in_ok-push+in-Replace, then-lanes-place+in_ok-push+in-Exchange, else-lanes-place}
+use Rattle.blink_run.proofs.live.needs.Needs.of.Goals.{then-lanes-place+in_ok-push+in-Find, then-lanes-place+in_ok-push+in-Insert, then-lanes-place+in_ok-push+in-Delete, then-lanes-place+in_ok-push+in-Replace, then-lanes-place+in_ok-push+in-Exchange, then-lanes-place+in_ok-push+in-DeleteExact, else-lanes-place}
 use Rattle.blink_run.proofs.live.needs.Needs.of.Goals as goal
 
 pub loop-place-preserved : goal.loop-place-preserved
@@ -47,6 +47,12 @@ loop-place-preserved c =
       | then-lanes-place+in_ok-push+in-Exchange w ↦
           let op = Exchange w.in-Exchange.field-0 w.in-Exchange.field-1 w.in-Exchange.field-2 in
           let there : slice_get ops place ≡ Some op = slice_get-get_or ops place (Find 0) within ∙ ap Some w.in-Exchange.is in
+          let own : slice_get lanes place ≡ Some worker = slice_get-get_or lanes place 0 within_lanes ∙ ap Some w.if-lanes-place.true in
+          let more = lane_so_far-own ops lanes worker place op there own in
+          grind (arith, common_steps, more)
+      | then-lanes-place+in_ok-push+in-DeleteExact w ↦
+          let op = DeleteExact w.in-DeleteExact.field-0 w.in-DeleteExact.field-1 in
+          let there : slice_get ops place ≡ Some op = slice_get-get_or ops place (Find 0) within ∙ ap Some w.in-DeleteExact.is in
           let own : slice_get lanes place ≡ Some worker = slice_get-get_or lanes place 0 within_lanes ∙ ap Some w.if-lanes-place.true in
           let more = lane_so_far-own ops lanes worker place op there own in
           grind (arith, common_steps, more)
