@@ -99,8 +99,8 @@ const NOTHING: Stock = Stock {
     waiting: 0,
 };
 
-// The first session has drawn all 22 page numbers and all 44 rows, so the second lacks both for good. What the first has
-// left stays at its place, and is the next session's there.
+// The first session has drawn all 22 page numbers and all 44 rows, so the second lacks both for good. What the first
+// has left stays at its place, and is the next session's there.
 #[test]
 fn the_next_session_at_a_place_makes_a_change_that_was_refused(rt: HostRuntime) {
     let mut two = Two::open(&rt, rt.alloc(), 22, 44);

@@ -1,6 +1,6 @@
 //! Reads around leaves that are being split. An operation gives up only where it waits, and between two writes of a
-//! split it waits for nobody, so this takes two threads. One inserts keys from the greatest down, which splits leaf after
-//! leaf; the other reads. What it reads is then known but for one number, the least of the new keys that it meets: all
+//! split it waits for nobody, so this takes two threads. One inserts keys from the greatest down, which splits leaf by
+//! leaf; the other reads. What it reads is known but for one number, the least of the new keys that it meets: all
 //! greater ones are there.
 ghost use Rattle.blink_map.specs.{IsSessionOf};
 
