@@ -44,7 +44,8 @@ typedef struct { void *at; } blink_session;
 typedef struct { uint64_t key, pointer; } blink_entry;
 
 /* An operation. A find and a deletion don't read the pointer. An exchange has a third number, for which there is no place here, so it
- * has functions of its own: blink_index_exchange, blink_pass_begin_exchange and blink_session_exchange. */
+ * has functions of its own: blink_index_exchange, blink_pass_begin_exchange and blink_session_exchange. So has a deletion of an
+ * expected pointer: blink_index_delete_exact, blink_pass_begin_delete_exact and blink_session_delete_exact. */
 typedef struct { uint64_t kind, key, pointer; } blink_operation;
 
 /* An answer. The pointer is 0 where the answer tells none. */
@@ -76,8 +77,8 @@ enum {
     BLINK_ABSENT = 0,   /* a find, a deletion, a replacement or an exchange: the key isn't there, and nothing changed */
     BLINK_FOUND = 1,    /* a find: the key maps to the pointer */
     BLINK_INSERTED = 2, /* an insertion: the key wasn't there, and maps to the pointer now */
-    BLINK_EXISTS = 3,   /* an insertion: the key maps to this pointer, and nothing changed; an exchange: the same, and this isn't the
-                         * expected pointer */
+    BLINK_EXISTS = 3,   /* an insertion: the key maps to this pointer, and nothing changed; an exchange, or a deletion of an
+                         * expected pointer: the same, and this isn't the expected pointer */
     BLINK_REMOVED = 4,  /* a deletion: the key mapped to this pointer, and is no longer there */
     BLINK_REPLACED = 5  /* a replacement or an exchange: the key mapped to this pointer, and maps to the new one now */
 };
@@ -160,6 +161,10 @@ void blink_index_replace(blink_index *index, uint64_t key, uint64_t pointer, bli
 /* Replaces the pointer of a key in place, if it is `expected`: BLINK_REPLACED, and `expected`; BLINK_EXISTS, and the other pointer that
  * the key maps to; or BLINK_ABSENT. It takes no memory. */
 void blink_index_exchange(blink_index *index, uint64_t key, uint64_t expected, uint64_t pointer, blink_answer *answer);
+
+/* Removes a key with its pointer in place, if that is `expected`: BLINK_REMOVED, and `expected`; BLINK_EXISTS, and the other
+ * pointer that the key maps to; or BLINK_ABSENT. It takes no memory. */
+void blink_index_delete_exact(blink_index *index, uint64_t key, uint64_t expected, blink_answer *answer);
 
 /* Carries operations out in place, one after another, up to the first that is refused, and gives the answer of each at its place. It
  * stores how many were carried out. The other places stay as they were. Refused: BLINK_WRONG_LENGTH, if there aren't as many places
@@ -290,6 +295,10 @@ uint8_t blink_pass_begin_delete(blink_pass *pass, uint64_t key);
 uint8_t blink_pass_begin_replace(blink_pass *pass, uint64_t key, uint64_t pointer);
 uint8_t blink_pass_begin_exchange(blink_pass *pass, uint64_t key, uint64_t expected, uint64_t pointer);
 
+/* Begins a deletion of a key of the pass, if its pointer is `expected`, as blink_pass_begin_delete begins one of any pointer. It
+ * answers as blink_index_delete_exact does, and uses one deletion. */
+uint8_t blink_pass_begin_delete_exact(blink_pass *pass, uint64_t key, uint64_t expected);
+
 /* Takes the next steps of the operation under way. It returns BLINK_DONE and the answer once the operation has ended, and
  * BLINK_PENDING if it hasn't: then the operation holds no page, so that no other pass waits for it, and the thread may do something
  * else, yield or wait as it likes, and calls again. Tested: that is after `tries` steps in vain, since another pass has the page that
@@ -374,6 +383,10 @@ uint8_t blink_session_delete(blink_session *session, uint64_t key, uint32_t trie
 uint8_t blink_session_replace(blink_session *session, uint64_t key, uint64_t pointer, uint32_t tries, blink_answer *answer);
 uint8_t blink_session_exchange(blink_session *session, uint64_t key, uint64_t expected, uint64_t pointer, uint32_t tries,
                                blink_answer *answer);
+
+/* Deletes any key, if its pointer is `expected`, as blink_session_delete deletes one of any pointer. It answers as
+ * blink_index_delete_exact does, and no other session changes the key between the test and the deletion. */
+uint8_t blink_session_delete_exact(blink_session *session, uint64_t key, uint64_t expected, uint32_t tries, blink_answer *answer);
 
 /* Maps any key to the pointer: BLINK_INSERTED, if nothing was there, or BLINK_REPLACED and the pointer that was there. It inserts, and
  * where the key is there it replaces; it begins anew where another session has deleted the key between. It goes on as an insertion

@@ -131,6 +131,13 @@ static void changes_in_place(void) {
     CHECK(answer.kind == BLINK_ABSENT && answer.pointer == 0);
     blink_index_exchange(&index, 6, 63, 62, &answer);
     CHECK(answer.kind == BLINK_REPLACED && answer.pointer == 63);
+    blink_index_delete_exact(&index, 1, 11, &answer);
+    CHECK(answer.kind == BLINK_EXISTS && answer.pointer == 10);
+    blink_index_delete_exact(&index, 9, 90, &answer);
+    CHECK(answer.kind == BLINK_ABSENT && answer.pointer == 0);
+    CHECK(blink_index_insert(&index, 8, 80, &answer) == BLINK_DONE && answer.kind == BLINK_INSERTED);
+    blink_index_delete_exact(&index, 8, 80, &answer);
+    CHECK(answer.kind == BLINK_REMOVED && answer.pointer == 80);
     blink_index_delete(&index, 1, &answer);
     CHECK(answer.kind == BLINK_REMOVED && answer.pointer == 10);
     blink_index_delete(&index, 1, &answer);
@@ -246,6 +253,7 @@ static void refuses_at_a_table(void) {
     CHECK(blink_pass_advance(&pass, 1, &answer) == BLINK_IDLE);
     CHECK(blink_pass_begin_insert(&pass, 2, 0) == BLINK_NOT_YOURS && blink_pass_begin_replace(&pass, 3, 0) == BLINK_NOT_YOURS);
     CHECK(blink_pass_begin_exchange(&pass, 3, 30, 0) == BLINK_NOT_YOURS);
+    CHECK(blink_pass_begin_delete_exact(&pass, 3, 30) == BLINK_NOT_YOURS);
     CHECK(blink_pass_begin_insert(&pass, 6, 60) == BLINK_DONE);
     CHECK(blink_pass_find(&pass, 1, &answer) == BLINK_PENDING && blink_pass_glance(&pass, 1, &answer) == BLINK_PENDING);
     CHECK(blink_pass_tell(&pass, &more) == BLINK_PENDING && blink_pass_tell(&more, &pass) == BLINK_PENDING);
@@ -257,6 +265,7 @@ static void refuses_at_a_table(void) {
     answer = ended(&pass);
     CHECK(answer.kind == BLINK_REMOVED && answer.pointer == 10);
     CHECK(blink_pass_begin_replace(&pass, 6, 61) == BLINK_SPENT && blink_pass_begin_exchange(&pass, 6, 60, 61) == BLINK_SPENT);
+    CHECK(blink_pass_begin_delete_exact(&pass, 6, 60) == BLINK_SPENT);
     CHECK(blink_pass_tell(&pass, &more) == BLINK_DONE);
     CHECK(blink_pass_glance(&more, 6, &answer) == BLINK_DONE && answer.kind == BLINK_FOUND && answer.pointer == 60);
     CHECK(blink_table_return(&table, &pass) == BLINK_DONE && blink_table_return(&table, &pass) == BLINK_RETURNED);
@@ -369,7 +378,10 @@ static void *changes_its_keys(void *at) {
         answer = ended(pass);
         CHECK(answer.kind == BLINK_EXISTS && answer.pointer == key + 1);
         CHECK(blink_pass_begin_exchange(pass, key, key + 1, key + 1) == BLINK_DONE && ended(pass).kind == BLINK_REPLACED);
-        if (key % 3 == 0) CHECK(blink_pass_begin_delete(pass, key) == BLINK_DONE && ended(pass).kind == BLINK_REMOVED);
+        if (key % 3 == 0) {
+            uint8_t begun = key % 2 ? blink_pass_begin_delete(pass, key) : blink_pass_begin_delete_exact(pass, key, key + 1);
+            CHECK(begun == BLINK_DONE && ended(pass).kind == BLINK_REMOVED);
+        }
         CHECK(blink_pass_find(pass, key, &answer) == BLINK_DONE && answer.kind == (key % 3 ? BLINK_FOUND : BLINK_ABSENT));
     }
     return NULL;
@@ -434,6 +446,11 @@ static blink_answer exchanges(blink_session *session, uint64_t key, uint64_t exp
     return answered(session, blink_session_exchange(session, key, expected, pointer, 100, &answer), answer);
 }
 
+static blink_answer removes(blink_session *session, uint64_t key, uint64_t expected) {
+    blink_answer answer = {9, 9};
+    return answered(session, blink_session_delete_exact(session, key, expected, 100, &answer), answer);
+}
+
 static bool is(blink_answer answer, uint64_t kind, uint64_t pointer) { return answer.kind == kind && answer.pointer == pointer; }
 
 static bool has(blink_session *session, blink_stock expected) {
@@ -462,6 +479,8 @@ static void changes_a_map(void) {
     CHECK(is(puts_so(&one, 3, 33), BLINK_REPLACED, 30) && is(changes(&one, BLINK_FIND, 3, NONE), BLINK_FOUND, 33));
     CHECK(is(exchanges(&one, 7, 72, 73), BLINK_REPLACED, 72) && is(exchanges(&one, 7, 72, 74), BLINK_EXISTS, 73));
     CHECK(is(exchanges(&one, 7, 73, 72), BLINK_REPLACED, 73) && is(exchanges(&one, 9, 0, 90), BLINK_ABSENT, 0));
+    CHECK(is(removes(&one, 4, 41), BLINK_EXISTS, 40) && is(removes(&one, 9, 90), BLINK_ABSENT, 0));
+    CHECK(is(puts_so(&one, 8, 80), BLINK_INSERTED, 0) && is(removes(&one, 8, 80), BLINK_REMOVED, 80));
     CHECK(blink_session_tell(&one, &other) == BLINK_DONE);
     CHECK(is(changes(&other, BLINK_FIND, 7, NONE), BLINK_FOUND, 72) && is(changes(&other, BLINK_FIND, 2, NONE), BLINK_ABSENT, 0));
     CHECK(is(changes(&other, BLINK_DELETE, 6, NONE), BLINK_REMOVED, 62));
@@ -501,6 +520,7 @@ static void refuses_at_a_map(void) {
         CHECK(is(changes(&two, BLINK_REPLACE, 2, pointer), BLINK_REPLACED, pointer == 21 ? 20 : pointer - 1));
     CHECK(blink_session_delete(&foreign, 2, 100, &answer) == BLINK_FULL && blink_session_replace(&foreign, 2, 21, 100, &answer) == BLINK_FULL);
     CHECK(blink_session_exchange(&foreign, 2, 20, 21, 100, &answer) == BLINK_FULL);
+    CHECK(blink_session_delete_exact(&foreign, 2, 20, 100, &answer) == BLINK_FULL);
     // the place of a session that is freed can be taken again, with what it has drawn
     blink_session_free(two);
     two = (blink_session){NULL};
@@ -547,6 +567,7 @@ static void refuses_under_way(void) {
     CHECK(blink_session_delete(&one, 3, 100, &answer) == BLINK_PENDING && blink_session_put(&one, 9, 90, 100, &answer) == BLINK_PENDING);
     CHECK(blink_session_replace(&one, 3, 34, 100, &answer) == BLINK_PENDING);
     CHECK(blink_session_exchange(&one, 3, 30, 34, 100, &answer) == BLINK_PENDING);
+    CHECK(blink_session_delete_exact(&one, 3, 30, 100, &answer) == BLINK_PENDING);
     blink_stock stock = {9, 9, 9, 9, 9};
     CHECK(blink_session_stock(&one, &stock) == BLINK_PENDING && stock.pages == 9 && stock.waiting == 9);
     CHECK(blink_session_tell(&one, &other) == BLINK_PENDING && blink_session_tell(&other, &one) == BLINK_PENDING);

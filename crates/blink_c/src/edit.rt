@@ -1,6 +1,6 @@
 //! The exports that change an index in place by one operation, that pack it, and that give the entries at its ends.
 ghost use Rattle.std.specs.Prelude.{◌≡◌, ◌≢◌, ◌↔◌, ◌≤◌, IsSome, IsTrue, IfSome, filter, length};
-ghost use Rattle.blink_batch.specs.declared.Op.TheVariants.{Delete, Exchange, Insert, Replace};
+ghost use Rattle.blink_batch.specs.declared.Op.TheVariants.{Delete, DeleteExact, Exchange, Insert, Replace};
 ghost use Rattle.blink_index.specs.{IsInOrder, NeedsPages, first_of, is_above, last_of, map_of};
 ghost use Rattle.blink_page.specs.{ExceedsPageLimit};
 ghost use Rattle.blink_c.specs.Codes.{code_of};
@@ -76,6 +76,20 @@ pub extern "C" fn blink_index_exchange(
         index.new.value }
 {
     *answer = RawAnswer::of(index.get().exchange(key, expected, pointer));
+}
+
+/// Removes a key with its pointer in place, if that is the expected one, and gives the answer.
+#[unsafe(no_mangle)]
+pub extern "C" fn blink_index_delete_exact(
+    index: &mut IndexHandle,
+    key: u64,
+    expected: u64,
+    answer: &mut RawAnswer,
+)
+    ensures deleted { HasEdited index.old.value (DeleteExact key expected) answer.new
+        index.new.value }
+{
+    *answer = RawAnswer::of(index.get().delete_exact(key, expected));
 }
 
 /// Packs the entries into as few pages as they need, in place. A refusal leaves the index as it was.

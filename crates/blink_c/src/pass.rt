@@ -1,6 +1,6 @@
 //! The exports of a pass.
 ghost use Rattle.std.specs.Prelude.{◌≡◌, ◌≢◌};
-ghost use Rattle.blink_batch.specs.declared.Op.TheVariants.{Delete, Exchange, Insert, Replace};
+ghost use Rattle.blink_batch.specs.declared.Op.TheVariants.{Delete, DeleteExact, Exchange, Insert, Replace};
 ghost use Rattle.blink_c.specs.Codes.{TellsWhy};
 ghost use Rattle.blink_c.specs.Passes.{Begins, Ends, Finds, Glances, Hands, IsAdvanceRefusal, IsBeginRefusal, IsFindRefusal, IsNotFree, IsOwn, IsTakeRefusal, IsTellRefusal, Scans, Takes, TellsHandFault, TellsOn, table_of};
 ghost use Rattle.blink_c.specs.TableCodes.{code_of};
@@ -184,6 +184,23 @@ pub extern "C" fn blink_pass_begin_exchange(
     ensures unchanged { result ≢ 0 → pass.new.value ≡ pass.old.value }
 {
     code_of(&pass.get().begin_exchange(key, expected, pointer))
+}
+
+/// Begins a deletion of a key of the pass, if its pointer is the expected one.
+#[unsafe(no_mangle)]
+pub extern "C" fn blink_pass_begin_delete_exact(
+    pass: &mut PassHandle,
+    key: u64,
+    expected: u64,
+) -> u8
+    requires its_own { IsOwn pass.old.value }
+    ensures its_own { IsOwn pass.new.value }
+    ensures begun { result ≡ 0 → Begins (DeleteExact key expected) pass.old.value pass.new.value }
+    ensures refused { TellsWhy code_of
+        (IsBeginRefusal (DeleteExact key expected) pass.old.value.held) result }
+    ensures unchanged { result ≢ 0 → pass.new.value ≡ pass.old.value }
+{
+    code_of(&pass.get().begin_delete_exact(key, expected))
 }
 
 /// Takes the next steps of the operation under way. It is refused with `UnderWay` after so many steps in vain; the next call goes

@@ -1,6 +1,6 @@
 //! What the box of a pass's handle holds: an owner of the table, and the pass or its operation.
 ghost use Rattle.std.specs.Prelude.{◌≡◌, ◌≢◌, IfErr, IfOk, OnErr, OnOk};
-ghost use Rattle.blink_batch.specs.declared.Op.TheVariants.{Delete, Exchange, Insert, Replace};
+ghost use Rattle.blink_batch.specs.declared.Op.TheVariants.{Delete, DeleteExact, Exchange, Insert, Replace};
 ghost use Rattle.blink_live.specs.{IsPassOf, IsPendingOf};
 ghost use Rattle.blink_c.specs.Passes.{Begins, Ends, Finds, Glances, Hands, IsAdvanceRefusal, IsBeginRefusal, IsFindRefusal, IsHandRefusal, IsNotBusy, IsNotFree, IsOwn, IsTakeRefusal, IsTellRefusal, Scans, Takes, TellsOn, table_of};
 
@@ -262,6 +262,27 @@ impl PassOwner {
     {
         let pass = self.take_free()?;
         match self.live.begin_exchange(pass, key, expected, pointer) {
+            Ok(pending) => {
+                self.held = Held::Busy(pending);
+                Ok(())
+            }
+            Err((pass, refusal)) => {
+                self.held = Held::Free(pass);
+                Err(TableRefusal::Pass(refusal))
+            }
+        }
+    }
+
+    /// Begins a deletion of a key of the pass, if its pointer is the expected one.
+    pub(crate) fn begin_delete_exact(&mut self, key: u64, expected: u64) -> Result<(), TableRefusal>
+        requires its_own { IsOwn self.old }
+        ensures its_own { IsOwn self.new }
+        ensures begun { OnOk result (Begins (DeleteExact key expected) self.old self.new) }
+        ensures refused { IfErr result (IsBeginRefusal (DeleteExact key expected) self.old.held) }
+        ensures unchanged { OnErr result (self.new ≡ self.old) }
+    {
+        let pass = self.take_free()?;
+        match self.live.begin_delete_exact(pass, key, expected) {
             Ok(pending) => {
                 self.held = Held::Busy(pending);
                 Ok(())

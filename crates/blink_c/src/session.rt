@@ -1,6 +1,6 @@
 //! The exports of a session.
 ghost use Rattle.std.specs.Prelude.{◌≡◌, ◌≢◌};
-ghost use Rattle.blink_batch.specs.declared.Op.TheVariants.{Delete, Exchange, Insert, Replace};
+ghost use Rattle.blink_batch.specs.declared.Op.TheVariants.{Delete, DeleteExact, Exchange, Insert, Replace};
 ghost use Rattle.blink_c.specs.Codes.{TellsWhy};
 ghost use Rattle.blink_c.specs.MapCodes.{code_of};
 ghost use Rattle.blink_c.specs.Sessions.{Answers, EndsFrom, Finds, IsAdvanceRefusal, IsChangeRefusal, IsNotFree, IsOwnSession, IsPutRefusal, IsTakeRefusal, IsTellRefusal, Puts, Scans, Takes, TellsOn, TellsStock, in_map};
@@ -165,6 +165,30 @@ pub extern "C" fn blink_session_exchange(
         &session
             .get()
             .change(Op::Exchange(key, expected, pointer), tries, answer),
+    )
+}
+
+/// Removes a key with its pointer, if that is the expected one. It may be under way then as an insertion.
+#[unsafe(no_mangle)]
+pub extern "C" fn blink_session_delete_exact(
+    session: &mut SessionHandle,
+    key: u64,
+    expected: u64,
+    tries: u32,
+    answer: &mut RawAnswer,
+) -> u8
+    requires its_own { IsOwnSession session.old.value }
+    ensures its_own { IsOwnSession session.new.value }
+    ensures answered { result ≡ 0
+        → Answers (DeleteExact key expected) session.old.value session.new.value answer.new }
+    ensures refused { TellsWhy code_of
+        (IsChangeRefusal (DeleteExact key expected) session.old.value session.new.value) result }
+    ensures unchanged { result ≢ 0 → answer.new ≡ answer.old }
+{
+    code_of(
+        &session
+            .get()
+            .change(Op::DeleteExact(key, expected), tries, answer),
     )
 }
 

@@ -1,7 +1,7 @@
 //! Deletions with passes.
 use crate::indexes::Look::{Dump, PageCount, Scan};
 use crate::same::{given, same};
-use crate::steps::Step::Call;
+use crate::steps::Step::{Call, Glance};
 use crate::story::Act::{Deal, Run, Take};
 use crate::story::{End, Story, play};
 use crate::works::Work;
@@ -33,6 +33,35 @@ const TWO_DELETIONS: Story = Story {
 #[test]
 fn each_accepted_call_uses_a_deletion(rt: HostRuntime) {
     play(&rt, rt.alloc(), &TWO_DELETIONS);
+}
+
+// Each deletion of an expected pointer that is accepted uses a deletion of the pass, whatever it answers.
+const FOUR_EXACT_DELETIONS: Story = Story {
+    over: (4, 6),
+    room: (0, 4),
+    acts: &[
+        Deal(&[5, 6, 7], 0, 4),
+        Take(
+            0,
+            &[
+                Call(Op::DeleteExact(8, 80), Err(PassError::NotYours)),
+                Call(Op::DeleteExact(5, 51), Ok(Answer::Exists(50))),
+                Glance(5, Some(50)),
+                Call(Op::DeleteExact(5, 50), Ok(Answer::Removed(50))),
+                Call(Op::DeleteExact(5, 50), Ok(Answer::Absent)),
+                Call(Op::DeleteExact(7, 70), Ok(Answer::Absent)),
+                Call(Op::DeleteExact(6, 60), Err(PassError::Spent)),
+                Call(Op::DeleteExact(8, 80), Err(PassError::NotYours)),
+                Glance(5, None),
+            ],
+        ),
+    ],
+    end: End::Closes(&[Dump("0 1 - 18446744073709551615 - 6:60\n")]),
+};
+
+#[test]
+fn an_exact_deletion_answers_by_what_it_finds(rt: HostRuntime) {
+    play(&rt, rt.alloc(), &FOUR_EXACT_DELETIONS);
 }
 
 // The tree of four keys without its entries.

@@ -29,6 +29,7 @@ fn begin(live: &Live, pass: Pass, op: Op) -> Result<Pending, (Pass, Option<PassE
         Op::Delete(key) => live.begin_delete(pass, key),
         Op::Replace(key, pointer) => live.begin_replace(pass, key, pointer),
         Op::Exchange(key, expected, pointer) => live.begin_exchange(pass, key, expected, pointer),
+        Op::DeleteExact(key, expected) => live.begin_delete_exact(pass, key, expected),
     };
     match begun {
         Ok(pending) => Ok(pending),

@@ -25,6 +25,7 @@ fn call<R: Wait>(rt: &R, live: &Live, pass: &mut Pass, op: Op) -> Result<Answer,
         Op::Delete(key) => live.delete(rt, pass, key),
         Op::Replace(key, pointer) => live.replace(rt, pass, key, pointer),
         Op::Exchange(key, expected, pointer) => live.exchange(rt, pass, key, expected, pointer),
+        Op::DeleteExact(key, expected) => live.delete_exact(rt, pass, key, expected),
     }
 }
 

@@ -9,7 +9,7 @@ const OPERATIONS: u64 = 800;
 
 const KEYS: u64 = 60;
 
-// Few pointers, so that an exchange often finds the one that it expects.
+// Few pointers, so that an operation that expects one often finds it.
 const POINTERS: u64 = 3;
 
 // The number after this one in a fixed sequence that looks like chance.
@@ -25,7 +25,8 @@ fn operation(drawn: u64) -> Op {
     let pointer = (drawn >> 32) % POINTERS;
     match drawn >> 61 {
         0 => Op::Find(key),
-        1 | 2 => Op::Delete(key),
+        1 => Op::Delete(key),
+        2 => Op::DeleteExact(key, pointer),
         3 => Op::Replace(key, pointer),
         4 | 5 => Op::Exchange(key, pointer, (drawn >> 36) % POINTERS),
         _ => Op::Insert(key, pointer),

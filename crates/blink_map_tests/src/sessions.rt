@@ -50,6 +50,29 @@ fn one_of_two_exchanges_finds_what_it_expects(rt: HostRuntime) {
     assert_eq!(&rt; two.find(7), Some(74));
 }
 
+// One session exchanges a pointer. The other, which has seen the one before, doesn't remove the new one unseen.
+#[test]
+fn a_deletion_of_a_seen_pointer_leaves_a_later_one(rt: HostRuntime) {
+    let mut two = with_replaced_key(&rt, rt.alloc());
+    assert_eq!(&rt;
+        two.apply(&rt, Op::Exchange(7, 72, 73)),
+        Ok(Answer::Replaced(72))
+    );
+    let mut two = two.turn();
+    assert_eq!(&rt;
+        two.apply(&rt, Op::DeleteExact(7, 72)),
+        Ok(Answer::Exists(73))
+    );
+    assert_eq!(&rt; two.find(7), Some(73));
+    assert_eq!(&rt;
+        two.apply(&rt, Op::DeleteExact(7, 73)),
+        Ok(Answer::Removed(73))
+    );
+    let mut two = two.turn();
+    assert_eq!(&rt; two.apply(&rt, Op::DeleteExact(7, 73)), Ok(Answer::Absent));
+    assert_eq!(&rt; two.find(7), None);
+}
+
 #[test]
 fn what_sessions_inserted_is_in_the_index(rt: HostRuntime) {
     let alloc = rt.alloc();

@@ -139,5 +139,6 @@ pub(crate) fn apply<R: Wait>(
         Op::Delete(key) => map.delete(rt, session, key),
         Op::Replace(key, pointer) => map.replace(rt, session, key, pointer),
         Op::Exchange(key, expected, pointer) => map.exchange(rt, session, key, expected, pointer),
+        Op::DeleteExact(key, expected) => map.delete_exact(rt, session, key, expected),
     }
 }

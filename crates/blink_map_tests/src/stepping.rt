@@ -32,6 +32,7 @@ fn begin(
         Op::Exchange(key, expected, pointer) => {
             map.begin_exchange(session, key, expected, pointer)
         }
+        Op::DeleteExact(key, expected) => map.begin_delete_exact(session, key, expected),
     };
     match begun {
         Ok(pending) => Ok(pending),

@@ -163,9 +163,29 @@ const AFTER_EXCHANGES: [Answer; 4] = [
     Answer::Found(41),
 ];
 
+// So do deletions of expected pointers.
+const EXACT_DELETIONS: [Op; 4] = [
+    Op::DeleteExact(4, 41),
+    Op::DeleteExact(6, 60),
+    Op::DeleteExact(4, 40),
+    Op::Find(4),
+];
+
+const AFTER_EXACT_DELETIONS: [Answer; 4] = [
+    Answer::Exists(40),
+    Answer::Absent,
+    Answer::Removed(40),
+    Answer::Absent,
+];
+
 const REPLACED_PAGES: &str = "1 3 - 18446744073709551615 - 3:1 18446744073709551615:2
 0 1 - 3 2 1:10 2:20 3:30
 0 2 3 18446744073709551615 - 4:41 5:50
+";
+
+const FOUR_REMOVED_PAGES: &str = "1 3 - 18446744073709551615 - 3:1 18446744073709551615:2
+0 1 - 3 2 1:10 2:20 3:30
+0 2 3 18446744073709551615 - 5:50
 ";
 
 const FIVE_PAGES: &str = "1 3 - 18446744073709551615 - 3:1 18446744073709551615:2
@@ -173,7 +193,7 @@ const FIVE_PAGES: &str = "1 3 - 18446744073709551615 - 3:1 18446744073709551615:
 0 2 3 18446744073709551615 - 4:40 5:50
 ";
 
-const EXAMPLES: [Example<'static>; 6] = [
+const EXAMPLES: [Example<'static>; 7] = [
     // A batch runs by two workers.
     Example {
         last: 4,
@@ -224,6 +244,13 @@ const EXAMPLES: [Example<'static>; 6] = [
         lanes: Lanes::ByRemainder(4),
         answers: &AFTER_EXCHANGES,
         pages: REPLACED_PAGES,
+    },
+    Example {
+        last: 5,
+        ops: &EXACT_DELETIONS,
+        lanes: Lanes::ByRemainder(4),
+        answers: &AFTER_EXACT_DELETIONS,
+        pages: FOUR_REMOVED_PAGES,
     },
     // An empty batch changes nothing.
     Example {

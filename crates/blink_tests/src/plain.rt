@@ -239,6 +239,53 @@ fn exchanges_change_what_is_expected(rt: HostRuntime) {
     goes(&rt, rt.alloc(), &EXCHANGES);
 }
 
+// A deletion that finds another pointer than it expects, one that finds none, and one that finds the expected one.
+const EXACT_DELETIONS: [Stage; 2] = [
+    Stage {
+        at_once: true,
+        work: Work {
+            ops: &[
+                Op::Insert(7, 1),
+                Op::DeleteExact(7, 2),
+                Op::DeleteExact(8, 1),
+                Op::DeleteExact(7, 1),
+                Op::DeleteExact(7, 1),
+            ],
+            answers: &[
+                Answer::Inserted,
+                Answer::Exists(1),
+                Answer::Absent,
+                Answer::Removed(1),
+                Answer::Absent,
+            ],
+        },
+        entries: Some(&[]),
+    },
+    Stage {
+        at_once: false,
+        work: Work {
+            ops: &[
+                Op::Insert(7, 2),
+                Op::Insert(8, 3),
+                Op::DeleteExact(7, 3),
+                Op::DeleteExact(8, 3),
+            ],
+            answers: &[
+                Answer::Inserted,
+                Answer::Inserted,
+                Answer::Exists(2),
+                Answer::Removed(3),
+            ],
+        },
+        entries: Some(&[(7, 2)]),
+    },
+];
+
+#[test]
+fn exact_deletions_remove_what_is_expected(rt: HostRuntime) {
+    goes(&rt, rt.alloc(), &EXACT_DELETIONS);
+}
+
 const WORDS: [(Answer, &str); 6] = [
     (Answer::Found(7), "found 7"),
     (Answer::Absent, "absent"),
@@ -256,7 +303,7 @@ fn answers_have_their_words(rt: HostRuntime) {
 }
 
 // What an operation brings, and what it answers where its key is there with the pointer 1, and where it isn't there.
-const ROWS: [(Op, u64, Answer, Answer); 6] = [
+const ROWS: [(Op, u64, Answer, Answer); 8] = [
     (Op::Find(7), 0, Answer::Found(1), Answer::Absent),
     (Op::Insert(7, 2), 2, Answer::Exists(1), Answer::Inserted),
     (Op::Delete(7), 0, Answer::Removed(1), Answer::Absent),
@@ -268,6 +315,8 @@ const ROWS: [(Op, u64, Answer, Answer); 6] = [
         Answer::Absent,
     ),
     (Op::Exchange(7, 3, 2), 2, Answer::Exists(1), Answer::Absent),
+    (Op::DeleteExact(7, 1), 0, Answer::Removed(1), Answer::Absent),
+    (Op::DeleteExact(7, 3), 0, Answer::Exists(1), Answer::Absent),
 ];
 
 #[test]

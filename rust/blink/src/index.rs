@@ -195,6 +195,24 @@ impl Index {
         Answer::of(given).exchanged()
     }
 
+    /// Takes a key away in place, if it maps to `expected`, and returns `expected`. Otherwise it returns what the key maps to, or
+    /// none if it isn't there, and nothing changes. It takes no memory.
+    ///
+    /// ```
+    /// # use blink::{Entry, Index};
+    /// let mut index = Index::from_entries(8, &[(1, 10)].map(Entry::from))?;
+    /// assert_eq!(index.compare_remove(1, 11), Err(Some(10)));
+    /// assert_eq!(index.compare_remove(1, 10), Ok(10));
+    /// assert_eq!(index.compare_remove(1, 10), Err(None));
+    /// # Ok::<(), blink::Error>(())
+    /// ```
+    pub fn compare_remove(&mut self, key: u64, expected: u64) -> Result<u64, Option<u64>> {
+        let mut given = RawAnswer::NONE;
+        // SAFETY: as in `insert`.
+        unsafe { sys::blink_index_delete_exact(self.handle.get(), key, expected, &mut given) };
+        Answer::of(given).exchanged()
+    }
+
     /// Carries operations out in place, one after another, up to the first that is refused. The operations before it stay carried
     /// out, and their answers are there.
     ///

@@ -297,12 +297,35 @@ impl<'map> Session<'map> {
         Ok(answer.exchanged())
     }
 
-    /// Maps a key to what `next` makes of the pointer that it maps to, or of none, in one step: no other session changes the key
-    /// between what `next` is given and the change. It returns what `next` was given last. Where another session is faster, `next` is
-    /// called again, with what that has left. Where `next` returns none, nothing changes, and what it was given is the inner error; so
-    /// `next` also ends the call if it has been called often enough. This is `AtomicU64::fetch_update` for a key.
+    /// Takes a key away, if it maps to `expected`, and returns `expected`. Otherwise it returns what the key maps to, or none if
+    /// it isn't there, and the key stays as it was. No other session changes the key between the test and the removal. The outer
+    /// error is a refusal, as of [`Session::remove`].
     ///
-    /// The outer error is a refusal, as of [`Session::insert`]. The key isn't taken away: a removal can't test what it removes.
+    /// ```
+    /// use blink::{Entry, Index, Map, Room};
+    ///
+    /// let index = Index::from_entries(8, &[(1, 10)].map(Entry::from))?;
+    /// let map = Map::open(&index, Room { pages: 22, rows: 44, sessions: 1 })?;
+    /// let mut session = map.session()?;
+    /// assert_eq!(session.compare_remove(1, 11)?, Err(Some(10)));
+    /// assert_eq!(session.compare_remove(1, 10)?, Ok(10));
+    /// assert_eq!(session.compare_remove(1, 10)?, Err(None));
+    /// # Ok::<(), blink::Error>(())
+    /// ```
+    pub fn compare_remove(&mut self, key: u64, expected: u64) -> Result<Result<u64, Option<u64>>, Error> {
+        // SAFETY: as in `get`.
+        let answer = self.ended(|handle, answer| unsafe {
+            sys::blink_session_delete_exact(handle, key, expected, TRIES, answer)
+        })?;
+        Ok(answer.exchanged())
+    }
+
+    /// Maps a key to what `next` makes of the pointer that it maps to, or of none, in one step: no other session changes the key
+    /// between what `next` is given and the change. Where `next` returns none, the key is taken away. It returns what `next` was
+    /// given last. Where another session is faster, `next` is called again, with what that has left. Where `next` returns what it
+    /// was given, nothing changes; so `next` also ends the call if it has been called often enough.
+    ///
+    /// It is refused as [`Session::insert`] is.
     ///
     /// ```
     /// use blink::{Index, Map, Room};
@@ -310,31 +333,29 @@ impl<'map> Session<'map> {
     /// let map = Map::open(&Index::new(16)?, Room { pages: 22, rows: 100, sessions: 1 })?;
     /// let mut session = map.session()?;
     /// let one_more = |count: Option<u64>| Some(count.unwrap_or(0) + 1);
-    /// assert_eq!(session.update(5, one_more)?, Ok(None));
-    /// assert_eq!(session.update(5, one_more)?, Ok(Some(1)));
-    /// assert_eq!(session.update(5, |count| count.filter(|count| *count > 2))?, Err(Some(2)));
-    /// assert_eq!(session.get(5), Some(2));
+    /// let one_less = |count: Option<u64>| count.filter(|count| *count > 1).map(|count| count - 1);
+    /// assert_eq!(session.update(5, one_more)?, None);
+    /// assert_eq!(session.update(5, one_more)?, Some(1));
+    /// assert_eq!(session.update(5, one_less)?, Some(2));
+    /// assert_eq!(session.update(5, one_less)?, Some(1));
+    /// assert_eq!(session.get(5), None);
     /// # Ok::<(), blink::Error>(())
     /// ```
-    pub fn update(
-        &mut self,
-        key: u64,
-        mut next: impl FnMut(Option<u64>) -> Option<u64>,
-    ) -> Result<Result<Option<u64>, Option<u64>>, Error> {
+    pub fn update(&mut self, key: u64, mut next: impl FnMut(Option<u64>) -> Option<u64>) -> Result<Option<u64>, Error> {
         let mut present = self.get(key);
         loop {
-            let Some(new) = next(present) else {
-                return Ok(Err(present));
-            };
-            let tried = match present {
-                Some(expected) => self.compare_exchange(key, expected, new)?.map(Some),
-                None => match self.insert(key, new)? {
+            let tried = match (present, next(present)) {
+                (None, None) => return Ok(None),
+                (Some(seen), Some(new)) if new == seen => return Ok(present),
+                (Some(seen), Some(new)) => self.compare_exchange(key, seen, new)?.map(Some),
+                (Some(seen), None) => self.compare_remove(key, seen)?.map(Some),
+                (None, Some(new)) => match self.insert(key, new)? {
                     Answer::Inserted => Ok(None),
                     other => Err(other.pointer()),
                 },
             };
             match tried {
-                Ok(before) => return Ok(Ok(before)),
+                Ok(before) => return Ok(before),
                 Err(other) => present = other,
             }
         }
@@ -444,6 +465,20 @@ impl<'map> Session<'map> {
         let mut answer = RawAnswer::NONE;
         // SAFETY: the handle is full and this call's own.
         let code = unsafe { sys::blink_session_exchange(&mut self.handle, key, expected, pointer, tries, &mut answer) };
+        self.begins(code, answer)
+    }
+
+    /// Begins a deletion of an expected pointer, likewise: its answer is [`Answer::Removed`] with the expected pointer,
+    /// [`Answer::Exists`] with another one, which stays, or [`Answer::Absent`].
+    pub fn begin_compare_remove(
+        mut self,
+        key: u64,
+        expected: u64,
+        tries: u32,
+    ) -> Result<Begun<'map>, (Session<'map>, Error)> {
+        let mut answer = RawAnswer::NONE;
+        // SAFETY: the handle is full and this call's own.
+        let code = unsafe { sys::blink_session_delete_exact(&mut self.handle, key, expected, tries, &mut answer) };
         self.begins(code, answer)
     }
 

@@ -19,7 +19,8 @@ impl From<(u64, u64)> for Entry {
 }
 
 /// One operation of a batch. An exchange of an expected pointer isn't among them: it is a call of its own, as
-/// [`Session::compare_exchange`](crate::Session::compare_exchange).
+/// [`Session::compare_exchange`](crate::Session::compare_exchange). So is a deletion of an expected pointer, as
+/// [`Session::compare_remove`](crate::Session::compare_remove).
 #[derive(Clone, Copy, Debug, PartialEq, Eq, Hash)]
 pub enum Op {
     /// Looks a key up.
@@ -53,7 +54,7 @@ pub enum Answer {
     Found(u64),
     /// An insertion: the key wasn't there, and maps to the pointer now.
     Inserted,
-    /// An insertion or an exchange: the key maps to this pointer, and nothing changed.
+    /// An insertion, an exchange, or a deletion of an expected pointer: the key maps to this pointer, and nothing changed.
     Exists(u64),
     /// A deletion: the key mapped to this pointer, and is no longer there.
     Removed(u64),
@@ -74,10 +75,11 @@ impl Answer {
         }
     }
 
-    /// What became of an exchange: the expected pointer, which was replaced; or what the key has instead.
+    /// What became of an exchange, or of a deletion of an expected pointer: that pointer, which was there; or what the key has
+    /// instead.
     pub(crate) fn exchanged(self) -> Result<u64, Option<u64>> {
         match self {
-            Answer::Replaced(before) => Ok(before),
+            Answer::Replaced(before) | Answer::Removed(before) => Ok(before),
             other => Err(other.pointer()),
         }
     }

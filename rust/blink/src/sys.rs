@@ -98,6 +98,7 @@ extern "C" {
         pointer: u64,
         answer: *mut RawAnswer,
     );
+    pub(crate) fn blink_index_delete_exact(index: *mut Handle, key: u64, expected: u64, answer: *mut RawAnswer);
     pub(crate) fn blink_index_first(index: *mut Handle, entry: *mut crate::Entry) -> bool;
     pub(crate) fn blink_index_last(index: *mut Handle, entry: *mut crate::Entry) -> bool;
     pub(crate) fn blink_index_next(index: *mut Handle, key: u64, entry: *mut crate::Entry) -> bool;
@@ -191,6 +192,7 @@ extern "C" {
     pub(crate) fn blink_pass_begin_delete(pass: *mut Handle, key: u64) -> u8;
     pub(crate) fn blink_pass_begin_replace(pass: *mut Handle, key: u64, pointer: u64) -> u8;
     pub(crate) fn blink_pass_begin_exchange(pass: *mut Handle, key: u64, expected: u64, pointer: u64) -> u8;
+    pub(crate) fn blink_pass_begin_delete_exact(pass: *mut Handle, key: u64, expected: u64) -> u8;
     pub(crate) fn blink_pass_advance(pass: *mut Handle, tries: u32, answer: *mut RawAnswer) -> u8;
     pub(crate) fn blink_pass_free(pass: Handle);
 
@@ -245,6 +247,13 @@ extern "C" {
         key: u64,
         expected: u64,
         pointer: u64,
+        tries: u32,
+        answer: *mut RawAnswer,
+    ) -> u8;
+    pub(crate) fn blink_session_delete_exact(
+        session: *mut Handle,
+        key: u64,
+        expected: u64,
         tries: u32,
         answer: *mut RawAnswer,
     ) -> u8;

@@ -321,6 +321,27 @@ impl Pass {
         Ok(answer.exchanged())
     }
 
+    /// Takes a key of the pass away, if it maps to `expected`, and returns `expected`. Otherwise it returns what the key maps to,
+    /// or none if it isn't there, and the key stays as it was. The outer error is a refusal, as of [`Pass::remove`].
+    ///
+    /// ```
+    /// use blink::{Entry, Error, Index, Table};
+    ///
+    /// let index = Index::from_entries(8, &[(1, 10)].map(Entry::from))?;
+    /// let mut table = Table::open(&index, 0, 3)?;
+    /// let mut pass = table.deal(&[1, 2], 0, 3)?;
+    /// assert_eq!(pass.compare_remove(1, 11)?, Err(Some(10)));
+    /// assert_eq!(pass.compare_remove(1, 10)?, Ok(10));
+    /// assert_eq!(pass.compare_remove(1, 10)?, Err(None));
+    /// assert_eq!(pass.compare_remove(2, 20), Err(Error::Spent));
+    /// # Ok::<(), Error>(())
+    /// ```
+    pub fn compare_remove(&mut self, key: u64, expected: u64) -> Result<Result<u64, Option<u64>>, Error> {
+        // SAFETY: as in `find`.
+        let answer = self.ended(|handle| unsafe { sys::blink_pass_begin_delete_exact(handle, key, expected) })?;
+        Ok(answer.exchanged())
+    }
+
     // Begins an operation, and takes its steps to the end.
     fn ended(&mut self, begin: impl FnOnce(*mut Handle) -> u8) -> Result<Answer, Error> {
         let handle = self.handle.get_mut();
@@ -373,6 +394,13 @@ impl Pass {
     pub fn begin_exchange(self, key: u64, expected: u64, pointer: u64) -> Result<Pending, (Pass, Error)> {
         // SAFETY: as in `find`.
         self.begun(|handle| unsafe { sys::blink_pass_begin_exchange(handle, key, expected, pointer) })
+    }
+
+    /// Begins a deletion of an expected pointer, likewise: its answer is [`Answer::Removed`] with the expected pointer,
+    /// [`Answer::Exists`] with another one, which stays, or [`Answer::Absent`].
+    pub fn begin_compare_remove(self, key: u64, expected: u64) -> Result<Pending, (Pass, Error)> {
+        // SAFETY: as in `find`.
+        self.begun(|handle| unsafe { sys::blink_pass_begin_delete_exact(handle, key, expected) })
     }
 
     fn begun(mut self, begin: impl FnOnce(*mut Handle) -> u8) -> Result<Pending, (Pass, Error)> {

@@ -46,7 +46,7 @@ fn no_exchange_is_lost() {
 fn no_update_is_lost() {
     let counted = raised_by_all(|session| {
         let before = session.update(COUNTER, |count| count.map(|count| count + 1)).unwrap();
-        assert!(before.unwrap().is_some());
+        assert!(before.is_some());
     });
     assert_eq!(counted, Some(THREADS * TIMES));
 }
@@ -59,7 +59,7 @@ fn an_update_begins_a_counter() {
         let threads: Vec<_> = (0..THREADS)
             .map(|_| {
                 let mut session = map.session().unwrap();
-                scope.spawn(move || session.update(COUNTER, |count| Some(count.unwrap_or(0) + 1)).unwrap() == Ok(None))
+                scope.spawn(move || session.update(COUNTER, |count| Some(count.unwrap_or(0) + 1)).unwrap().is_none())
             })
             .collect();
         threads.into_iter().map(|thread| usize::from(thread.join().unwrap())).sum()
@@ -69,13 +69,51 @@ fn an_update_begins_a_counter() {
 }
 
 #[test]
-fn an_update_ends_where_its_function_says() {
+fn an_update_takes_a_key_away_where_its_function_says() {
     let map = Map::open(&Index::new(8).unwrap(), ROOM).unwrap();
     let mut session = map.session().unwrap();
-    assert_eq!(session.update(COUNTER, |_| None), Ok(Err(None)));
+    assert_eq!(session.update(COUNTER, |_| None), Ok(None));
     assert_eq!(session.insert(COUNTER, 70), Ok(Answer::Inserted));
-    assert_eq!(session.update(COUNTER, |_| None), Ok(Err(Some(70))));
+    assert_eq!(session.update(COUNTER, |seen| seen), Ok(Some(70)));
     assert_eq!(session.get(COUNTER), Some(70));
+    assert_eq!(session.update(COUNTER, |_| None), Ok(Some(70)));
+    assert_eq!(session.get(COUNTER), None);
+}
+
+#[test]
+fn a_removal_finds_what_it_expects() {
+    let map = Map::open(&Index::new(8).unwrap(), ROOM).unwrap();
+    let (mut one, mut other) = (map.session().unwrap(), map.session().unwrap());
+    assert_eq!(one.insert(COUNTER, 70), Ok(Answer::Inserted));
+    assert_eq!(other.compare_exchange(COUNTER, 70, 71), Ok(Ok(70)));
+    assert_eq!(one.compare_remove(COUNTER, 70), Ok(Err(Some(71))));
+    assert_eq!(other.get(COUNTER), Some(71));
+    assert_eq!(one.compare_remove(COUNTER, 71), Ok(Ok(71)));
+    assert_eq!(one.compare_remove(COUNTER, 71), Ok(Err(None)));
+    assert_eq!(other.get(COUNTER), None);
+}
+
+// Each thread raises the counter, which may begin it, and lowers it again, which takes it away at 1. A removal of what another
+// thread has raised meanwhile would leave that one with no counter to lower.
+#[test]
+fn no_update_is_removed_unseen() {
+    let left = raised_by_all(|session| {
+        session.update(COUNTER, |count| Some(count.unwrap_or(0) + 1)).unwrap();
+        let before = session.update(COUNTER, |count| count.filter(|count| *count > 1).map(|count| count - 1)).unwrap();
+        assert!(before.is_some_and(|count| count > 0));
+    });
+    // the counter began at 0, which the first raise made 1
+    assert_eq!(left, None);
+}
+
+// The session, and the answer of the operation that has begun.
+fn ended(mut begun: Begun<'_>) -> (Session<'_>, Answer) {
+    loop {
+        match begun {
+            Begun::Ended(session, answer) => return (session, answer),
+            Begun::Resting(unfinished) => begun = unfinished.advance(10),
+        }
+    }
 }
 
 #[test]
@@ -84,16 +122,24 @@ fn an_exchange_begins_and_rests() {
     let mut session = map.session().unwrap();
     session.insert(COUNTER, 70).unwrap();
     for (expected, answer) in [(71, Answer::Exists(70)), (70, Answer::Replaced(70)), (70, Answer::Exists(72))] {
-        let mut begun = session.begin_exchange(COUNTER, expected, 72, 10).map_err(|(_, error)| error).unwrap();
-        session = loop {
-            match begun {
-                Begun::Ended(session, given) => {
-                    assert_eq!(given, answer);
-                    break session;
-                }
-                Begun::Resting(unfinished) => begun = unfinished.advance(10),
-            }
-        };
+        let begun = session.begin_exchange(COUNTER, expected, 72, 10).map_err(|(_, error)| error).unwrap();
+        let (after, given) = ended(begun);
+        assert_eq!(given, answer);
+        session = after;
     }
     assert_eq!(session.get(COUNTER), Some(72));
+}
+
+#[test]
+fn a_removal_begins_and_rests() {
+    let map = Map::open(&Index::new(8).unwrap(), ROOM).unwrap();
+    let mut session = map.session().unwrap();
+    session.insert(COUNTER, 70).unwrap();
+    for (expected, answer) in [(71, Answer::Exists(70)), (70, Answer::Removed(70)), (70, Answer::Absent)] {
+        let begun = session.begin_compare_remove(COUNTER, expected, 10).map_err(|(_, error)| error).unwrap();
+        let (after, given) = ended(begun);
+        assert_eq!(given, answer);
+        session = after;
+    }
+    assert_eq!(session.get(COUNTER), None);
 }

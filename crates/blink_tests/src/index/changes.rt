@@ -9,7 +9,7 @@ use std::process::Abort;
 
 // Operations on the index of five entries, one after another, and their answers. The insertion of 6 splits nothing, since the
 // right leaf has two of four entries.
-const EDITS: [(Op, Answer); 14] = [
+const EDITS: [(Op, Answer); 18] = [
     (Op::Find(3), Answer::Found(30)),
     (Op::Insert(3, 31), Answer::Exists(30)),
     (Op::Insert(6, 60), Answer::Inserted),
@@ -19,6 +19,10 @@ const EDITS: [(Op, Answer); 14] = [
     (Op::Exchange(6, 61, 63), Answer::Exists(62)),
     (Op::Exchange(7, 70, 71), Answer::Absent),
     (Op::Exchange(6, 62, 61), Answer::Replaced(62)),
+    (Op::DeleteExact(2, 21), Answer::Exists(20)),
+    (Op::DeleteExact(2, 20), Answer::Removed(20)),
+    (Op::DeleteExact(2, 20), Answer::Absent),
+    (Op::Find(2), Answer::Absent),
     (Op::Delete(1), Answer::Removed(10)),
     (Op::Delete(1), Answer::Absent),
     (Op::Find(1), Answer::Absent),
@@ -66,22 +70,26 @@ fn insertions_leave_the_pages_of_a_batch(rt: HostRuntime) {
     is_as_batch(&rt, rt.alloc(), 32, 100);
 }
 
-const OPS: [Op; 6] = [
+const OPS: [Op; 8] = [
     Op::Insert(6, 60),
     Op::Delete(2),
     Op::Find(2),
     Op::Replace(4, 41),
     Op::Exchange(4, 40, 42),
     Op::Exchange(4, 41, 43),
+    Op::DeleteExact(5, 51),
+    Op::DeleteExact(5, 50),
 ];
 
-const ANSWERS: [Answer; 6] = [
+const ANSWERS: [Answer; 8] = [
     Answer::Inserted,
     Answer::Removed(20),
     Answer::Absent,
     Answer::Replaced(40),
     Answer::Exists(41),
     Answer::Replaced(41),
+    Answer::Exists(50),
+    Answer::Removed(50),
 ];
 
 fn applies(rt: &impl Abort, alloc: Global, mut index: Index) {
@@ -90,6 +98,7 @@ fn applies(rt: &impl Abort, alloc: Global, mut index: Index) {
     same(rt, &answers.as_slice(), &ANSWERS.as_slice());
     same(rt, &index.find(6), &Some(60));
     same(rt, &index.find(4), &Some(43));
+    same(rt, &index.find(5), &None);
 }
 
 #[test]

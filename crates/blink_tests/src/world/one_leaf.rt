@@ -214,6 +214,45 @@ fn an_exchange_writes_only_over_the_expected_pointer(rt: HostRuntime) {
     leaves(&rt, rt.alloc(), &EXCHANGES, &FOUR_REPLACED);
 }
 
+// One worker expects another pointer of 4 than its own, then its own, and then one of 6, which isn't there. Only the second
+// writes.
+const EXACT_DELETIONS: Example = Example {
+    tree: Tree::TwoLeaves,
+    work: Work {
+        ops: &[
+            Op::DeleteExact(4, 41),
+            Op::DeleteExact(4, 40),
+            Op::DeleteExact(6, 60),
+        ],
+        workers: 1,
+        lanes: &[0; 3],
+    },
+    schedule: &[],
+    acts: &[
+        Act::Take(0, &TO_SECOND_LEAF),
+        Act::Take(0, &[Unlatch(2)]),
+        Act::Take(0, &TO_SECOND_LEAF),
+        Act::Take(0, &[WritePage(2), Unlatch(2)]),
+        Act::Take(0, &TO_SECOND_LEAF),
+        Act::Take(0, &[Unlatch(2)]),
+        Act::See(Sight::Answers(&[
+            Some(Answer::Exists(40)),
+            Some(Answer::Removed(40)),
+            Some(Answer::Absent),
+        ])),
+    ],
+};
+
+const FOUR_REMOVED: [stores::Sight; 2] = [
+    stores::Sight::Pages(3),
+    stores::Sight::Entries(2, &[(5, 50)]),
+];
+
+#[test]
+fn an_exact_deletion_writes_only_where_the_expected_pointer_is(rt: HostRuntime) {
+    leaves(&rt, rt.alloc(), &EXACT_DELETIONS, &FOUR_REMOVED);
+}
+
 const NO_WORKERS_NUMBER: Example = Example {
     tree: Tree::Empty,
     work: Work {

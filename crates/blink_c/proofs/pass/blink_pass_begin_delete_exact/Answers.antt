@@ -1,0 +1,18 @@
+use Rattle.std.proofs.Common.{IfErr, subst}
+use Rattle.blink_batch.specs.declared.Op.TheVariants.{DeleteExact}
+use Rattle.blink_c.specs.declared.pass_owner.PassOwner.{PassOwner}
+use Rattle.blink_c.specs.Passes.{Begins, IsBeginRefusal}
+use Rattle.blink_c.specs.TableCodes.{code_of}
+use Rattle.blink_c.proofs.Codes.{on_done, told_why}
+use Rattle.blink_c.proofs.CodesOfTables.{not_done}
+use Rattle.blink_c.proofs.pass.blink_pass_begin_delete_exact.Goals as goal
+
+pub returns-clause-begun : goal.returns-clause-begun
+returns-clause-begun c zero =
+    subst (λ (owner : PassOwner). Begins (DeleteExact c.args.key c.args.expected) owner c.begin_delete_exact.new.self) c.get.ensures.value
+    (on_done code_of not_done c.begin_delete_exact.result c.code_of.result c.code_of.ensures c.begin_delete_exact.ensures.begun zero)
+
+pub returns-clause-refused : goal.returns-clause-refused
+returns-clause-refused c =
+    told_why code_of (IsBeginRefusal (DeleteExact c.args.key c.args.expected) c.args.pass.now.value.held) c.begin_delete_exact.result c.code_of.result c.code_of.ensures
+    (subst (λ (owner : PassOwner). IfErr c.begin_delete_exact.result (IsBeginRefusal (DeleteExact c.args.key c.args.expected) owner.held)) c.get.ensures.value c.begin_delete_exact.ensures.refused)
