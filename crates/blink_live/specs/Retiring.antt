@@ -20,7 +20,7 @@ abbrev pub without : List ℕ → List ℕ → List ℕ
 without keys others = filter (λ (key : ℕ). not (is_among keys key)) others
 
 -- from `next` on this is the first place whose key is at least `key`, or it is the end
-pub record IsReached (keys : List ℕ) (next key place : ℕ) : Type 0 where
+pub record IsFirstFrom (keys : List ℕ) (next key place : ℕ) : Type 0 where
   pub in_range : (next ≤ place) × (place ≤ length keys)
   pub below : (n : ℕ) → next ≤ n → n < place → slice_index keys n < key
   pub reached : (place ≡ length keys) ⊎ (key ≤ slice_index keys place)

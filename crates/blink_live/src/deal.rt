@@ -86,7 +86,7 @@ impl Live {
         keys.sort_unstable();
         let row_count = MAX_ROWS_PER_INSERT * u64::from(inserts) + u64::from(deletes);
         let page_count = MAX_NEW_PAGES_PER_INSERT * u64::from(inserts);
-        let seat = self.split::<Brand>(seat, &keys, &taken_now, row_count, page_count);
+        let seat = self.split_seat::<Brand>(seat, &keys, &taken_now, row_count, page_count);
         *taken = taken_now;
         *dealt += 1;
         Pass {
@@ -99,7 +99,7 @@ impl Live {
 
     // Splits the keeper's seat. The new seat gets the keys and the first rows and page numbers; the keeper's seat keeps the
     // rest.
-    pub fn split<B: Dealt>(
+    pub fn split_seat<B: Dealt>(
         &self,
         seat: &mut Seat<u8, View>,
         keys: &[u64],

@@ -28,7 +28,7 @@ use blink_rows::layout::{COUNT, ENTRY_WORDS};
 const GROUP: usize = 8;
 
 // The steps of a search by halves in a page: with any number of entries, their sum reaches behind the last.
-const STEPS: [u8; 6] = [16, 8, 4, 2, 1, 1];
+const HALVES: [u8; 6] = [16, 8, 4, 2, 1, 1];
 
 /// Where a scout saw a key lead: for each level the place of the entry, in the page that it came to.
 #[derive(Clone, Copy)]
@@ -84,11 +84,11 @@ impl Live {
     {
         let mut trails = [no_trail(); GROUP];
         for place in 0..keys.len() {
-            let turn = place % GROUP;
-            if turn == 0 {
+            let slot = place % GROUP;
+            if slot == 0 {
                 trails = self.scout(&group_of(&keys[place..]));
             }
-            answers[place] = self.pointer(seat, keys[place], &trails[turn]);
+            answers[place] = self.pointer(seat, keys[place], &trails[slot]);
         }
     }
 
@@ -114,12 +114,12 @@ impl Live {
         for passed in 0..levels {
             let starts = self.glimpse_rows(&numbers);
             let places = self.glimpse_places(&starts, keys);
-            for turn in 0..GROUP {
-                trails[turn].places[levels - 1 - passed] = places[turn];
+            for slot in 0..GROUP {
+                trails[slot].places[levels - 1 - passed] = places[slot];
                 let at = ENTRY_WORDS
-                    .wrapping_mul(usize::from(places[turn]))
+                    .wrapping_mul(usize::from(places[slot]))
                     .wrapping_add(HEAD_WORDS + 1);
-                numbers[turn] = self.glimpse(starts[turn].wrapping_add(at));
+                numbers[slot] = self.glimpse(starts[slot].wrapping_add(at));
             }
         }
         trails
@@ -143,8 +143,8 @@ impl Live {
     // The places in the table where the rows of these pages begin.
     fn glimpse_rows(&self, numbers: &[u64; GROUP]) -> [usize; GROUP] {
         let mut starts = [0usize; GROUP];
-        for turn in 0..GROUP {
-            starts[turn] = self.glimpse_row(numbers[turn]);
+        for slot in 0..GROUP {
+            starts[slot] = self.glimpse_row(numbers[slot]);
         }
         starts
     }
@@ -153,19 +153,19 @@ impl Live {
     // has a branch on a key, which would be mispredicted every other time.
     fn glimpse_places(&self, starts: &[usize; GROUP], keys: &[u64; GROUP]) -> [u8; GROUP] {
         let mut counts = [0u64; GROUP];
-        for turn in 0..GROUP {
-            counts[turn] = self.glimpse(starts[turn].wrapping_add(COUNT));
+        for slot in 0..GROUP {
+            counts[slot] = self.glimpse(starts[slot].wrapping_add(COUNT));
         }
         let mut places = [0u8; GROUP];
-        for step in STEPS {
-            for turn in 0..GROUP {
-                let next = places[turn].wrapping_add(step);
+        for step in HALVES {
+            for slot in 0..GROUP {
+                let next = places[slot].wrapping_add(step);
                 let at = ENTRY_WORDS
                     .wrapping_mul(usize::from(next))
                     .wrapping_add(HEAD_WORDS - 2);
-                let found = self.glimpse(starts[turn].wrapping_add(at));
-                let passes = (u64::from(next) <= counts[turn]) & (found < keys[turn]);
-                places[turn] = places[turn].wrapping_add(step.wrapping_mul(u8::from(passes)));
+                let found = self.glimpse(starts[slot].wrapping_add(at));
+                let goes_past = (u64::from(next) <= counts[slot]) & (found < keys[slot]);
+                places[slot] = places[slot].wrapping_add(step.wrapping_mul(u8::from(goes_past)));
             }
         }
         places
@@ -211,9 +211,9 @@ pub(crate) fn hint_at(trail: Option<&Trail>, level: u8) -> usize {
 // The first of these keys, and 0 in the place of each that there isn't.
 fn group_of(keys: &[u64]) -> [u64; GROUP] {
     let mut first = [0u64; GROUP];
-    for turn in 0..GROUP {
-        if turn < keys.len() {
-            first[turn] = keys[turn];
+    for slot in 0..GROUP {
+        if slot < keys.len() {
+            first[slot] = keys[slot];
         }
     }
     first
@@ -227,11 +227,11 @@ fn are_among(own: &[u64], keys: &[u64]) -> bool
 {
     let mut places = [0usize; GROUP];
     for place in 0..keys.len() {
-        let turn = place % GROUP;
-        if turn == 0 {
+        let slot = place % GROUP;
+        if slot == 0 {
             places = likely_places(own, &group_of(&keys[place..]));
         }
-        if !is_among_near(own, places[turn], keys[place]) {
+        if !is_among_near(own, places[slot], keys[place]) {
             return false;
         }
     }
@@ -252,10 +252,10 @@ fn likely_places(own: &[u64], keys: &[u64; GROUP]) -> [usize; GROUP] {
     let mut size = own.len();
     while size > 1 {
         let half = size / 2;
-        for turn in 0..GROUP {
-            let next = firsts[turn].wrapping_add(half);
-            let passes = usize::from(key_at(own, next) <= keys[turn]);
-            firsts[turn] = firsts[turn].wrapping_add(half.wrapping_mul(passes));
+        for slot in 0..GROUP {
+            let next = firsts[slot].wrapping_add(half);
+            let goes_past = usize::from(key_at(own, next) <= keys[slot]);
+            firsts[slot] = firsts[slot].wrapping_add(half.wrapping_mul(goes_past));
         }
         size -= half;
     }

@@ -4,7 +4,7 @@ ghost use Rattle.std.specs.List.Sorted.{IsStrictlyIncreasing};
 ghost use Rattle.std.specs.Ordering.{nat_cmp};
 ghost use Rattle.blink_live.specs.Dealing.{HasMet};
 ghost use Rattle.blink_live.specs.KeyTest.{HasReached, IsWindow};
-ghost use Rattle.blink_live.specs.Retiring.{IsReached, without};
+ghost use Rattle.blink_live.specs.Retiring.{IsFirstFrom, without};
 
 use std::alloc::{AllocError, Global};
 use std::collections::BTreeSet;
@@ -35,7 +35,7 @@ fn place_of_key(keys: &[u64], key: u64) -> usize
     requires ascending { IsSorted nat_cmp keys.now }
     ensures { IsWindow keys.now key result 1 ⊎ (length keys.now ≡ 0) }
 {
-    let (mut first, mut size) = quartered(keys, key);
+    let (mut first, mut size) = window_of_three(keys, key);
     while size > 1 {
         first += reached(keys, first + 1, key);
         size -= 1;
@@ -45,7 +45,7 @@ fn place_of_key(keys: &[u64], key: u64) -> usize
 
 // Narrows the keys down to at most three, in steps that each leave a quarter. A step has no branch on a key, which would be
 // mispredicted every other time: it counts the quarters that it passes. Its three loads are on their way at once.
-fn quartered(keys: &[u64], key: u64) -> (usize, usize)
+fn window_of_three(keys: &[u64], key: u64) -> (usize, usize)
     requires ascending { IsSorted nat_cmp keys.now }
     ensures window { IsWindow keys.now key result.0 result.1 }
     ensures small { (result.1 ≡ 0) ↔ (length keys.now ≡ 0) }
@@ -145,7 +145,7 @@ pub(crate) fn stands_at(keys: &[u64], place: usize, key: u64) -> bool
 // The place of the first key from `next` on that is at least `key`; the length, if there is none.
 fn reach(keys: &[u64], next: usize, key: u64) -> usize
     requires inside { next ≤ length keys.now }
-    ensures { IsReached keys.now next key result }
+    ensures { IsFirstFrom keys.now next key result }
 {
     let mut place = next;
     while place < keys.len() && keys[place] < key {

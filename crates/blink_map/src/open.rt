@@ -128,7 +128,7 @@ fn admit<B: Dealt>(live: &Live, host: &mut Seat<u8, View>, place: u64, shelf: Sh
     ensures host { IsHostWith live.now host.new (place + 1) }
     ensures member { IsMemberOf live.now result }
 {
-    let seat = live.split::<B>(host, &[], &[], 0, 0);
+    let seat = live.split_seat::<B>(host, &[], &[], 0, 0);
     Member {
         seat,
         rows: Span { next: 1, stop: 1 },

@@ -8,7 +8,7 @@ use Rattle.std.proofs.lemmas.List.Filters.{FiltersInPlace, FiltersInPlace-more_n
 use Rattle.std.proofs.lemmas.List.Kept.{IsStrictlyIncreasing-filter}
 use Rattle.std.specs.List.Sorted.{IsStrictlyIncreasing}
 use Rattle.std.proofs.lemmas.List.Sorted.{IsNonDecreasingBy-from_sort}
-use Rattle.blink_live.specs.Retiring.{IsReached, without}
+use Rattle.blink_live.specs.Retiring.{IsFirstFrom, without}
 use Rattle.blink_live.specs.Views.{is_among}
 use Rattle.blink_live.proofs.dealt.FirstOrOneOfRest.{contains_case}
 use Rattle.blink_live.proofs.dealt.KeysOfShare.{among_from_contains, contains_from_among}
@@ -99,7 +99,7 @@ module _ (keys : List ℕ) (key next : ℕ) (inside : next ≤ length keys) wher
 
 -- the keys before `next` are below all that are still to come; so are those up to the place reached from there
 pub below_reached : (keys from : List ℕ) (place next reached_at key : ℕ) → slice_index from place ≡ key → place < length from
-    → ((n : ℕ) → n < next → (m : ℕ) → place ≤ m → m < length from → slice_index keys n < slice_index from m) → IsReached keys next key reached_at
+    → ((n : ℕ) → n < next → (m : ℕ) → place ≤ m → m < length from → slice_index keys n < slice_index from m) → IsFirstFrom keys next key reached_at
     → (n : ℕ) → n < reached_at → slice_index keys n < key
 below_reached keys from place next reached_at key is within passed reached n less = elim (cases_lt n next) [
   | inl before ↦ let below = passed n before place (omega arith) within in omega (arith, below, is)
@@ -107,7 +107,7 @@ below_reached keys from place next reached_at key is within passed reached n les
 ]
 
 pub passed_reached : (keys from : List ℕ) (place next reached_at key : ℕ) → IsSorted nat_cmp from → slice_index from place ≡ key → place < length from
-    → ((n : ℕ) → n < next → (m : ℕ) → place ≤ m → m < length from → slice_index keys n < slice_index from m) → IsReached keys next key reached_at
+    → ((n : ℕ) → n < next → (m : ℕ) → place ≤ m → m < length from → slice_index keys n < slice_index from m) → IsFirstFrom keys next key reached_at
     → (n : ℕ) → n < reached_at → (m : ℕ) → place + 1 ≤ m → m < length from → slice_index keys n < slice_index from m
 passed_reached keys from place next reached_at key ascending is within passed reached n less m later_on inside_from =
     let below = below_reached keys from place next reached_at key is within passed reached n less in

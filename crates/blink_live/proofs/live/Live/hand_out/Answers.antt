@@ -40,8 +40,8 @@ rest_rows rows rest inserts deletes as_inserts as_deletes is same_inserts same_d
 rest_pages : (pages rest : Span) (inserts as_inserts : ℕ) → rest ≡ span (pages.next + 22 * inserts) pages.stop → inserts ≡ as_inserts → rest ≡ span (pages.next + 22 * as_inserts) pages.stop
 rest_pages pages rest inserts as_inserts is same = is ∙ λ i. span (pages.next + 22 * same i) pages.stop
 
-pub split-seat-requires-clause-can : goal.split-seat-requires-clause-can
-split-seat-requires-clause-can c =
+pub split_seat-seat-requires-clause-can : goal.split_seat-seat-requires-clause-can
+split_seat-seat-requires-clause-can c =
     let can = keeper_can_deal c.args.keeper.now c.args.keys.items c.sort_unstable.new.self.items c.args.taken_now.items c.args.inserts c.args.deletes
     c.sort_unstable.ensures.permutation c.requires.free c.requires.allowed c.requires.taken in
     subst (λ (x : (ℕ × ℕ) × (List ℕ × List ℕ)). CanDeal c.args.keeper.now.seat.me.0 x.0.0 x.0.1 x.1.0 x.1.1)
@@ -49,7 +49,7 @@ split-seat-requires-clause-can c =
 
 pub returns-clause-dealt : goal.returns-clause-dealt
 returns-clause-dealt c =
-    let right = c.split-seat.ensures.right in
+    let right = c.split_seat-seat.ensures.right in
     let sorted : List ℕ = c.sort_unstable.new.self.items in
     let plan : Plan = c.args.keeper.now.seat.me.0.plan in
     let seen : List Change = c.args.keeper.now.seat.me.0.seen in
@@ -87,7 +87,7 @@ first_of-requires-2 c =
 pub invariant_of-keeper : goal.invariant_of-keeper
 invariant_of-keeper c =
     let keeper = c.args.keeper.now in
-    let left = c.split-seat.ensures.left.1 in
+    let left = c.split_seat-seat.ensures.left.1 in
     let few_inserts = enough_inserts keeper c.args.inserts c.args.deletes c.requires.allowed in
     let few_deletes = enough_deletes keeper c.args.inserts c.args.deletes c.requires.allowed in
     let rows = rest_rows keeper.rows c.first_of.new.rest c.from.result c.from-2.result c.args.inserts c.args.deletes c.first_of.ensures.rest c.from.ensures c.from-2.ensures in
@@ -111,7 +111,7 @@ invariant_of-keeper c =
 pub returns-clause-rest : goal.returns-clause-rest
 returns-clause-rest c =
     let keeper = c.args.keeper.now in
-    let left = c.split-seat.ensures.left in record {
+    let left = c.split_seat-seat.ensures.left in record {
       its_own = (left.0.0 ∙ c.requires.its_own.0, ap (λ (me : SeatState). me.0.plan) left.1 ∙ c.requires.its_own.1);
       taken = c.requires.taken;
       one_more = refl;
@@ -124,7 +124,7 @@ returns-clause-rest c =
 pub invariant_of-result : goal.invariant_of-result
 invariant_of-result c =
     let keeper = c.args.keeper.now in
-    let right = c.split-seat.ensures.right.1 in
+    let right = c.split_seat-seat.ensures.right.1 in
     let rows = c.first_of.ensures.first ∙ λ i. span keeper.rows.next (keeper.rows.next + (44 * c.from.ensures i + c.from-2.ensures i)) in
     let pages = c.first_of-2.ensures.first ∙ λ i. span keeper.pages.next (keeper.pages.next + 22 * c.from-page_count.ensures i) in record {
       keys_are = sym c.deref.ensures.value ∙ sym (ap (λ (me : SeatState). me.0.share.keys) right);

@@ -1,6 +1,6 @@
 use Rattle.std.proofs.Common.{ℕ, ◌+◌, ◌*◌, ◌/◌, ◌≤◌, arith}
 use Rattle.blink_live.proofs.dealt.KeyIsFound.{narrowed, whole}
-use Rattle.blink_live.proofs.keys.quartered.Goals as goal
+use Rattle.blink_live.proofs.keys.window_of_three.Goals as goal
 
 -- at most three quarters are passed
 at_most : (quarter passed : ℕ) → passed ≤ 3 → quarter * passed ≤ 3 * quarter

@@ -2,7 +2,7 @@ use Rattle.std.proofs.Common.{ℕ, List, subst, arith}
 use Rattle.blink_live.specs.Dealing.{CanDeal}
 use Rattle.blink_live.specs.Views.{plan_of}
 use Rattle.blink_live.proofs.dealt.DealsKeepTable.{deals_keep_table}
-use Rattle.blink_live.proofs.live.Live.split.Goals as goal
+use Rattle.blink_live.proofs.live.Live.split_seat.Goals as goal
 
 pub split_seat-requires : goal.split_seat-requires
 split_seat-requires g c =

@@ -1,6 +1,6 @@
 use Rattle.std.proofs.Common.{◌-◌, ◌≡◌, ◌↔◌, length}
 use Rattle.blink_live.specs.KeyTest.{IsWindow}
-use Rattle.blink_live.proofs.keys.quartered.Given as goal
+use Rattle.blink_live.proofs.keys.window_of_three.Given as goal
 
 abbrev pub invariant-loop-size : goal.invariant-loop-size
 invariant-loop-size l = record {
