@@ -30,7 +30,7 @@ pub struct Debt {
 }
 
 /// What an operation works on: its own key, on a leaf, or the debt of a split below, on the level above that split.
-#[derive(Clone, Copy)]
+#[derive(Clone, Copy, Debug, PartialEq, Eq)]
 pub enum Job {
     /// The operation's own key.
     Leaf,
@@ -39,7 +39,7 @@ pub enum Job {
 }
 
 /// Where an operation goes from a page after it releases the page's latch.
-#[derive(Clone, Copy)]
+#[derive(Clone, Copy, PartialEq, Eq)]
 pub enum Next {
     /// The operation ends.
     Finish,
@@ -96,7 +96,7 @@ impl State {
 }
 
 /// The next step of an operation.
-#[derive(Clone, Copy)]
+#[derive(Clone, Copy, Debug, PartialEq, Eq)]
 pub enum Need {
     /// Read the prime block, and hand it to `saw_prime`.
     ReadPrime,
