@@ -1,7 +1,11 @@
 -- The first number of a schedule that is no worker's.
-use Rattle.std.proofs.Common.{◌≡◌, ◌<◌, ◌≤◌, ℕ, List, [], ◌∷◌, ◌++◌, All, sym, ◌∙◌, subst, arith}
+use Rattle.std.proofs.Common.{◌≡◌, ◌<◌, ◌≤◌, ◌↔◌, ℕ, List, [], ◌∷◌, ◌++◌, All, Option, Result, Err, IfErr, sym, ◌∙◌, subst, arith}
 use Rattle.std.proofs.lemmas.List.Elements.{All-head, All-tail}
 use Rattle.blink_steps.specs.{IsFirstNoWorker}
+use Rattle.blink_steps.specs.declared.StepError.TheVariants as step
+use Rattle.blink_replay.specs.ServedReplay.{TellsWorkersFault}
+use Rattle.blink_settings.specs.declared.error.ServeError.{ServeError}
+use Rattle.blink_settings.specs.declared.error.ServeError.TheVariants as serve
 
 module _ (workers : ℕ) where
   abbrev AreWorkers : List ℕ → Type 0
@@ -33,3 +37,11 @@ module _ (workers : ℕ) where
 
   pub none_first : (schedule : List ℕ) (a : ℕ) → AreWorkers schedule → IsFirstNoWorker workers schedule a → ⊥
   none_first schedule a all first = none_of a first.prefix first.rest (subst AreWorkers first.parts all) first.no_worker
+
+  -- so none is told, if the schedule isn't at fault
+  pub none_told : (schedule : List ℕ) → AreWorkers schedule → (to_read : Option (List ℕ)) (result : Result (Unit {0}) ServeError) → IfErr result (TellsWorkersFault to_read)
+      → (worker : ℕ) → (result ≡ Err (serve.Step (step.NoWorker worker))) ↔ IsFirstNoWorker workers schedule worker
+  none_told schedule all to_read result fault worker = (
+    λ same. absurd (subst (λ (answer : Result (Unit {0}) ServeError). IfErr answer (TellsWorkersFault to_read)) same fault),
+    λ first. absurd (none_first schedule worker all first),
+  )

@@ -7,4 +7,5 @@ pub mod TooLargeAmong
 pub mod FirstThatIsNoWorker
 pub mod WritersTake
 pub mod WhatWritersTake
+pub mod ReplayIsWritten
 pub mod Offered

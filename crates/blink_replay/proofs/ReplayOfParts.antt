@@ -1,22 +1,17 @@
 -- A replay of parts one after another: what those that are left will add to what is told.
-use Rattle.std.proofs.Common.{◌≡◌, ℕ, List, [], ◌∷◌, ◌++◌, Option, Ok, count_by, length, refl, ap, sym, ◌∙◌, subst, append_assoc, append-nil, arith}
+use Rattle.std.proofs.Common.{◌≡◌, ℕ, List, [], ◌∷◌, ◌++◌, count_by, length, refl, ap, sym, ◌∙◌, subst, append_assoc, append-nil, arith}
 use Rattle.blink_batch.specs.declared.Part.{Part}
 use Rattle.blink_batch.specs.declared.Part.TheVariants.{Batch}
-use Rattle.blink_batch.specs.{ReadsAs}
-use Rattle.blink_index.specs.{text_of_store, map_of}
-use Rattle.blink_store.specs.{PlainStore, new_store}
+use Rattle.blink_index.specs.{map_of}
+use Rattle.blink_store.specs.{PlainStore}
 use Rattle.blink_replay.specs.Served.{is_batch, part_after, part_text, script_text}
-use Rattle.blink_replay.specs.ServedReplay.{AreTexts, AreToWrite, RunsParts, TellsPart, TellsParts, taken_where}
+use Rattle.blink_replay.specs.ServedReplay.{RunsParts, TellsPart, TellsParts, scheduled_turns}
 
 -- what is told of some first parts, from one tree to another: with what the others add it is told of all
 pub record IsToldWith (workers : ℕ) (schedule : List ℕ) (start : PlainStore) (parts : List Part) (old_trace old_text : List ℕ) (others : List Part) (tree : PlainStore) (trace text : List ℕ) (left : ℕ) : Type 0 where
   pub traces : (after : PlainStore) (more : List ℕ) → RunsParts workers schedule tree others after more → TellsParts workers schedule start parts old_trace (trace ++ more) after
   pub texts : text ++ script_text (map_of tree) others ≡ old_text ++ script_text (map_of start) parts
   pub counted : left ≡ count_by is_batch others
-
--- before the first part
-pub none_told : (workers : ℕ) (schedule : List ℕ) (start : PlainStore) (parts : List Part) (trace text : List ℕ) (left : ℕ) → left ≡ count_by is_batch parts → IsToldWith workers schedule start parts trace text parts start trace text left
-none_told workers schedule start parts trace text left counted = record { traces = λ after more runs. (more, runs, refl); texts = refl; counted = counted }
 
 module _ (workers : ℕ) (schedule : List ℕ) (start : PlainStore) (parts : List Part) (old_trace old_text : List ℕ) where
   -- after the last
@@ -30,7 +25,7 @@ module _ (workers : ℕ) (schedule : List ℕ) (start : PlainStore) (parts : Lis
   module _ (part : Part) (others : List Part) (tree next : PlainStore) (trace trace_next text text_next : List ℕ) (left left_next : ℕ)
       (told : IsToldWith workers schedule start parts old_trace old_text (part ∷ others) tree trace text left) where
     -- what a part adds to the trace
-    traces_more : (p : Part) → part ≡ p → TellsPart workers (taken_where (count_by is_batch others) schedule) tree p trace trace_next next
+    traces_more : (p : Part) → part ≡ p → TellsPart workers (scheduled_turns (count_by is_batch others) schedule) tree p trace trace_next next
         → (after : PlainStore) (more : List ℕ) → RunsParts workers schedule next others after more → TellsParts workers schedule start parts old_trace (trace_next ++ more) after
     traces_more (Batch ops) is tells after more runs =
         let whole : RunsParts workers schedule tree (part ∷ others) after (tells.0 ++ more) = rw is (next, tells.0, more, tells.1, runs, refl) in
@@ -41,7 +36,7 @@ module _ (workers : ℕ) (schedule : List ℕ) (start : PlainStore) (parts : Lis
         subst (λ (t : List ℕ). TellsParts workers schedule start parts old_trace (t ++ more) after) (sym tells.1) (told.traces after more whole)
 
     -- one part more is told
-    pub one_told : TellsPart workers (taken_where (count_by is_batch others) schedule) tree part trace trace_next next → text_next ≡ text ++ part_text (map_of tree) part → map_of next ≡ part_after (map_of tree) part
+    pub one_told : TellsPart workers (scheduled_turns (count_by is_batch others) schedule) tree part trace trace_next next → text_next ≡ text ++ part_text (map_of tree) part → map_of next ≡ part_after (map_of tree) part
         → left_next ≡ count_by is_batch others → IsToldWith workers schedule start parts old_trace old_text others next trace_next text_next left_next
     one_told tells same_text same_map counted = record {
       traces = traces_more part refl tells;
@@ -53,26 +48,3 @@ module _ (workers : ℕ) (schedule : List ℕ) (start : PlainStore) (parts : Lis
 pub no_part : (parts : List Part) → length parts ≡ 0 → parts ≡ []
 no_part [] none = refl
 no_part (part ∷ parts) none = absurd (omega arith)
-
--- trace, text and pages of parts that are replayed on a new index, where nothing was told before
-pub are_texts : (workers fan : ℕ) (schedule : List ℕ) (parts : List Part) (start after : PlainStore) (old_trace old_text trace text pages : List ℕ)
-    → start ≡ new_store fan → map_of start ≡ [] → old_trace ≡ [] → old_text ≡ [] → TellsParts workers schedule start parts old_trace trace after → text ≡ old_text ++ script_text (map_of start) parts → pages ≡ text_of_store after
-    → AreTexts workers fan schedule parts trace text pages
-are_texts workers fan schedule parts start after old_trace old_text trace text pages new_one empty no_trace no_text tells same_text same_pages = record {
-  after = after;
-  runs = subst (λ (t : List ℕ). RunsParts workers schedule (new_store fan) parts after t) (sym (rw no_trace at tells.2)) (subst (λ (store : PlainStore). RunsParts workers schedule store parts after tells.0) new_one tells.1);
-  same_text = same_text ∙ rw (no_text, empty) refl;
-  same_pages = same_pages;
-}
-
--- of a script that is read they are the text of its replay
-pub are_to_write : (workers fan : ℕ) (schedule : List ℕ) (to_read : Option (List ℕ)) (parts : List Part) (trace text pages : List ℕ) → ReadsAs to_read (Ok parts)
-    → AreTexts workers fan schedule parts trace text pages → AreToWrite workers fan schedule to_read (trace ++ (text ++ pages))
-are_to_write workers fan schedule to_read parts trace text pages reads texts = λ read known. record {
-  parts = parts;
-  a_script = reads read known;
-  after = texts.after;
-  trace = trace;
-  runs = texts.runs;
-  its_text = rw (texts.same_text, texts.same_pages) refl;
-}

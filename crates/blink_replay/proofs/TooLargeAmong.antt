@@ -1,21 +1,19 @@
 -- A batch that is too large, among parts that a replay runs one after another.
-use Rattle.std.proofs.Common.{◌≡◌, ◌==◌, ℕ, ◌+◌, ◌≤◌, Bool, true, false, List, [], ◌∷◌, ◌++◌, Option, Ok, inl, inr, cond, count_by, refl, ap, sym, ◌∙◌, subst, append_assoc, arith}
+use Rattle.std.proofs.Common.{◌≡◌, ◌==◌, ℕ, ◌+◌, ◌≤◌, Bool, true, false, List, [], ◌∷◌, ◌++◌, inl, inr, cond, count_by, refl, ap, sym, ◌∙◌, subst, append_assoc, arith}
 use Rattle.std.proofs.lemmas.Bool.Decides.{nat_tests}
 use Rattle.std.proofs.lemmas.List.Sums.{sum_by-append}
 use Rattle.blink_batch.specs.declared.Part.{Part}
 use Rattle.blink_batch.specs.declared.Part.TheVariants.{Batch, Scan, Page}
-use Rattle.blink_batch.specs.{ReadsAs}
-use Rattle.blink_store.specs.{PlainStore, new_store}
+use Rattle.blink_store.specs.{PlainStore}
 use Rattle.blink_replay.specs.Replay.{IsRefusedMemory, RunsBatch}
 use Rattle.blink_replay.specs.Served.{is_batch}
-use Rattle.blink_replay.specs.ServedReplay.{HaveRunParts, HaveTooLarge, IsPartRefusal, IsPartsFault, RunsParts, TellsPart, TellsReplayOf, TellsTooLarge, taken_where}
+use Rattle.blink_replay.specs.ServedReplay.{HaveRunParts, HaveTooLarge, IsPartRefusal, IsPartsFault, RunsParts, TellsPart, TellsTooLarge, scheduled_turns}
 use Rattle.blink_settings.specs.declared.error.ServeError.{ServeError}
-use Rattle.blink_replay.proofs.WhatWritersTake.{is_a_script}
 
 -- ---- the parts before a batch
 
 -- of the empty schedule nothing is taken
-none_taken : (left : ℕ) → taken_where left [] ≡ []
+none_taken : (left : ℕ) → scheduled_turns left [] ≡ []
 none_taken left = by_test (left == 0)
   where
     by_test : (test : Bool) → cond {A = List ℕ} test [] [] ≡ []
@@ -23,7 +21,7 @@ none_taken left = by_test (left == 0)
     by_test false = refl
 
 -- and nothing of any, where a batch comes after
-none_taken_before : (left : ℕ) (schedule : List ℕ) → 1 ≤ left → taken_where left schedule ≡ []
+none_taken_before : (left : ℕ) (schedule : List ℕ) → 1 ≤ left → scheduled_turns left schedule ≡ []
 none_taken_before left schedule more = by_test (left == 0) refl
   where
     by_test : (test : Bool) → (left == 0) ≡ test → cond {A = List ℕ} test schedule [] ≡ []
@@ -40,7 +38,7 @@ module _ (workers : ℕ) where
   run_more before between after [] (Page lo n) old new trace runs tells = ([], (tells.0 ∙ runs.0, refl))
   run_more before between after (Batch ops ∷ prefix) part old new trace runs tells =
       let more = run_more runs.0 between after prefix part old new runs.2 runs.4 tells in
-      let first : RunsBatch workers (taken_where (count_by is_batch (prefix ++ part ∷ [])) []) before ops runs.0 runs.1 =
+      let first : RunsBatch workers (scheduled_turns (count_by is_batch (prefix ++ part ∷ [])) []) before ops runs.0 runs.1 =
       subst (λ (schedule : List ℕ). RunsBatch workers schedule before ops runs.0 runs.1) (none_taken (count_by is_batch prefix) ∙ sym (none_taken (count_by is_batch (prefix ++ part ∷ [])))) runs.3 in
       (runs.1 ++ more.0, (runs.0, runs.1, more.0, first, more.1, refl))
   run_more before between after (Scan lo hi ∷ prefix) part old new trace runs tells = run_more before between after prefix part old new trace runs tells
@@ -52,11 +50,8 @@ module _ (workers : ℕ) where
     pub in_order : parts ≡ prefix ++ others
     pub ran : 1 ≤ count_by is_batch others → HaveRunParts workers start prefix tree
 
-  pub none_run : (start : PlainStore) (parts : List Part) → HasRunBefore start parts parts start
-  none_run start parts = record { prefix = []; in_order = refl; ran = λ more. ([], (refl, refl)) }
-
   module _ (start : PlainStore) (parts : List Part) (part : Part) (others : List Part) (tree : PlainStore) (so_far : HasRunBefore start parts (part ∷ others) tree) where
-    pub one_run : (schedule old new : List ℕ) (next : PlainStore) → TellsPart workers (taken_where (count_by is_batch others) schedule) tree part old new next → HasRunBefore start parts others next
+    pub one_run : (schedule old new : List ℕ) (next : PlainStore) → TellsPart workers (scheduled_turns (count_by is_batch others) schedule) tree part old new next → HasRunBefore start parts others next
     one_run schedule old new next tells = record {
       prefix = so_far.prefix ++ part ∷ [];
       in_order = so_far.in_order ∙ sym (append_assoc so_far.prefix (part ∷ []) others);
@@ -97,13 +92,3 @@ part_refused tree (Batch ops) error (inl told) = inl told.0
 part_refused tree (Batch ops) error (inr memory) = inr memory
 part_refused tree (Scan lo hi) error memory = inr memory
 part_refused tree (Page lo n) error memory = inr memory
-
--- ---- what was read
-
-module _ (to_read : Option (List ℕ)) (parts : List Part) (reads : ReadsAs to_read (Ok parts)) where
-  -- a refusal of the parts of a script
-  pub tells_of_parts : (workers fan : ℕ) (start : PlainStore) → start ≡ new_store fan → (error : ServeError) → IsPartsFault error → TellsTooLarge workers start parts error → TellsReplayOf workers fan to_read error
-  tells_of_parts workers fan start new_one error (inl too_large) tells =
-      rw too_large (λ read known. (parts, reads read known, subst (λ (store : PlainStore). HaveTooLarge workers store parts) new_one (tells too_large)))
-  tells_of_parts workers fan start new_one error (inr (inl of_step)) tells = rw of_step (is_a_script to_read parts reads)
-  tells_of_parts workers fan start new_one error (inr (inr of_trace)) tells = rw of_trace (is_a_script to_read parts reads)

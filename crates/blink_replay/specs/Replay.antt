@@ -2,7 +2,7 @@
 use Rattle.std.specs.Prelude.{◌≡◌, ◌⊎◌, ℕ, Some, List, ◌++◌, map}
 use Rattle.blink_batch.specs.declared.Answer.{Answer}
 use Rattle.blink_batch.specs.declared.Op.{Op}
-use Rattle.blink_batch.specs.{text_of, Assignment}
+use Rattle.blink_batch.specs.{Assignment}
 use Rattle.blink_store.specs.{PlainStore}
 use Rattle.blink_steps.specs.{GoesOnPicked, IsPromised, Event, PlainWorld, IsReplay, IsWorldOf, HasEnded, IsTooLarge, KeepsItsStart, SameBatch}
 use Rattle.blink_steps.specs.declared.StepError.TheVariants as step
@@ -55,10 +55,9 @@ pub record IsRunToEnd (old : PlainWorld) (schedule : List ℕ) (new : PlainWorld
   pub ended : HasEnded new.run
   pub all_given : new.run.outcome.answers ≡ map Some given
 
--- the trace stands after the trace before it, and the text of the answers after the text before it
-abbrev pub TellsRun : PlainWorld → List ℕ → PlainWorld → List ℕ → List ℕ → List ℕ → List ℕ → Type 0
-TellsRun old schedule new trace_before trace_after text_before text_after = (trace : List ℕ) × (given : List Answer) × IsRunToEnd old schedule new trace given
-    × (trace_after ≡ trace_before ++ trace) × (text_after ≡ text_before ++ text_of given)
+-- the trace stands after the trace before it
+abbrev pub TellsRun : PlainWorld → List ℕ → PlainWorld → List ℕ → List ℕ → List Answer → Type 0
+TellsRun old schedule new before after given = (trace : List ℕ) × IsRunToEnd old schedule new trace given × (after ≡ before ++ trace)
 
 -- memory is refused, to a step or to the trace
 abbrev pub IsRefusedMemory : ServeError → Type 0

@@ -1,5 +1,5 @@
 -- The output of a script's replay: the trace of its last batch, the text of its parts, and the pages at the end.
-use Rattle.std.specs.Prelude.{ℕ, ◌≡◌, ◌⊎◌, ◌==◌, List, [], ◌∷◌, ◌++◌, Option, Some, Ok, if◌then◌else◌, count_by, ⊤}
+use Rattle.std.specs.Prelude.{ℕ, ◌≡◌, ◌⊎◌, ◌==◌, Bool, List, [], ◌∷◌, ◌++◌, Option, Some, Ok, if◌then◌else◌, count_by, ⊤}
 use Rattle.std.specs.Io.KnownBytes.{Keeps}
 use Rattle.blink_batch.specs.declared.Op.{Op}
 use Rattle.blink_batch.specs.declared.Part.{Part}
@@ -11,18 +11,19 @@ use Rattle.blink_steps.specs.declared.StepError.TheVariants as step
 use Rattle.blink_steps.specs.{IsFirstNoWorker, IsTooLarge}
 use Rattle.blink_replay.specs.Replay.{IsRefusedMemory, IsReplayFault, RunsBatch, TellsBatch}
 use Rattle.blink_replay.specs.Served.{IsAScript, IsPrefixOf, WritesText, is_batch, script_text}
+use Rattle.blink_replay.specs.TrackedWriter.{OutputFails}
 use Rattle.blink_settings.specs.declared.error.ServeError.{ServeError}
 use Rattle.blink_settings.specs.declared.error.ServeError.TheVariants as serve
 
--- what a batch takes of the schedule, if this many batches follow it: the last takes it whole, and the others take none
-abbrev pub taken_where : ℕ → List ℕ → List ℕ
-taken_where left schedule = if left == 0 then schedule else []
+-- the turns of a batch that this many batches follow: the last takes the whole schedule, and the others take none of it
+abbrev pub scheduled_turns : ℕ → List ℕ → List ℕ
+scheduled_turns batches_left schedule = if batches_left == 0 then schedule else []
 
 -- parts run one after another, from one tree to another, with these traces of their batches
 abbrev pub RunsParts : ℕ → List ℕ → PlainStore → List Part → PlainStore → List ℕ → Type 0
 RunsParts workers schedule before [] after trace = (after ≡ before) × (trace ≡ [])
 RunsParts workers schedule before (Batch ops ∷ rest) after trace = (between : PlainStore) × (first : List ℕ) × (others : List ℕ)
-    × RunsBatch workers (taken_where (count_by is_batch rest) schedule) before ops between first
+    × RunsBatch workers (scheduled_turns (count_by is_batch rest) schedule) before ops between first
     × RunsParts workers schedule between rest after others × (trace ≡ first ++ others)
 RunsParts workers schedule before (part ∷ rest) after trace = RunsParts workers schedule before rest after trace
 
@@ -107,12 +108,10 @@ IsPartRefusal before part error = IsRefusedMemory error
 abbrev pub TellsTooLarge : ℕ → PlainStore → List Part → ServeError → Type 0
 TellsTooLarge workers before parts error = error ≡ serve.Step step.TooLarge → HaveTooLarge workers before parts
 
--- these are the trace, the text and the pages of a replay of parts on a new tree
-pub record AreTexts (workers fan : ℕ) (schedule : List ℕ) (parts : List Part) (trace text pages : List ℕ) : Type 0 where
-  pub after : PlainStore
-  pub runs : RunsParts workers schedule (new_store fan) parts after trace
-  pub same_text : text ≡ script_text [] parts
-  pub same_pages : pages ≡ text_of_store after
+-- why the texts of a replay aren't written: memory was refused before the first call of the writer, or the writer failed, and
+-- that was the last call
+abbrev pub TextsOutputAfterError : {O : Type 0} → (O → List ℕ → Option ℕ → O → Type 0) → (O → Bool → O → Type 0) → List ℕ → ServeError → O → O → Type 0
+TextsOutputAfterError offered settled text error before after = ((error ≡ serve.OutOfMemory) × (after ≡ before)) ⊎ OutputFails offered settled before text error after
 
 -- this is the text of the replay of what is read
 abbrev pub AreToWrite : ℕ → ℕ → List ℕ → Option (List ℕ) → List ℕ → Type 0

@@ -1,20 +1,19 @@
 //! Serving a script by a replay, without threads.
-ghost use Rattle.std.specs.Prelude.{◌≡◌, ◌<◌, ◌++◌, ◌↔◌, [], All, Err, IfOk, IfErr, IsErrOf, IsOk, OnOk, MatchOption, count_by, string_bytes};
+ghost use Rattle.std.specs.Prelude.{◌≡◌, ◌<◌, ◌++◌, ◌↔◌, [], All, Err, IfOk, IfErr, IsErrOf, OnOk, MatchOption, count_by, string_bytes};
 ghost use Rattle.blink_batch.specs.{IsLawfulCut, MayWork, answers, map_after_all, text_of};
-ghost use Rattle.blink_index.specs.{map_of};
+ghost use Rattle.blink_index.specs.{map_of, text_of_store};
 ghost use Rattle.blink_steps.specs.{IsFirstNoWorker, IsStart};
-ghost use Rattle.blink_store.specs.{new_store};
 ghost use Rattle.blink_replay.specs.TrackedWriter.{OutputFails, Writes, WritesAll, replay_text};
 ghost use Rattle.blink_replay.specs.Replay.{IsRefusedMemory, IsReplayFault, TellsBatch, TellsRun, by_residue};
 ghost use Rattle.blink_replay.specs.Served.{is_batch, part_after, part_text, script_text};
 ghost use Rattle.blink_settings.specs.{lanes_by_residue};
-ghost use Rattle.blink_replay.specs.ServedReplay.{AreTexts, AreToWrite, HaveRunParts, IsPartRefusal, IsPartsFault, LeavesReplay, Replays, TellsPart, TellsParts, TellsReplayFault, TellsReplayOf, TellsTooLarge, TellsWorkersFault, taken_where};
+ghost use Rattle.blink_replay.specs.ServedReplay.{AreToWrite, HaveRunParts, IsPartRefusal, IsPartsFault, LeavesReplay, Replays, TellsPart, TellsParts, TellsReplayFault, TellsReplayOf, TellsTooLarge, TellsWorkersFault, TextsOutputAfterError, scheduled_turns};
 
 use crate::parts::{batches_with, new_index};
 use crate::text::{push_answers, push_scan};
 use crate::trace::trace_steps;
 use crate::tracked_writer::{TrackedWriter, flush_out, write_out};
-use blink_batch::{Batch, Cut, Lanes, Part, read_script};
+use blink_batch::{Answer, Batch, Cut, Lanes, Part, read_script};
 use blink_index::Index;
 use blink_index::laws::{no_other_map_is_kept, the_map_is_kept};
 use blink_settings::{ServeError, Settings, all_of};
@@ -53,80 +52,7 @@ pub fn serve_replay<R: Read, W: Write>(
 {
     match first_of_no_worker(schedule, settings.workers()) {
         Some(worker) => Err(ServeError::Step(StepError::NoWorker(worker))),
-        None => replay_script(alloc, reader, writer, settings, schedule),
-    }
-}
-
-// Serves the script, if each number of the schedule is a worker.
-fn replay_script<R: Read, W: Write>(
-    alloc: Global,
-    reader: &mut R,
-    writer: &mut W,
-    settings: &Settings,
-    schedule: &[u8],
-) -> Result<(), ServeError>
-    requires { All (λ worker. worker < settings.now.workers) schedule.now }
-    ensures replayed { OnOk result (Replays settings.now.workers settings.now.fan schedule.now
-        (R.remaining reader.old) (W.contents writer.old) (W.contents writer.new)) }
-    ensures fault { IfErr result (TellsWorkersFault (R.remaining reader.old)) }
-    ensures too_large { IfErr result
-        (TellsReplayOf settings.now.workers settings.now.fan (R.remaining reader.old)) }
-    ensures left { IfErr result (λ error.
-        LeavesReplay settings.now.workers settings.now.fan schedule.now (R.remaining reader.old)
-        error (W.contents writer.old) (W.contents writer.new)) }
-{
-    let mut texts = Texts {
-        trace: String::new(alloc),
-        text: String::new(alloc),
-    };
-    let pages = replay_read(alloc, reader, settings, schedule, &mut texts)?;
-    write_replay(writer, &texts.trace, &texts.text, &pages)
-}
-
-// Runs the script that the reader has, and returns the texts, with the pages at the end.
-fn replay_read<R: Read>(
-    alloc: Global,
-    reader: &mut R,
-    settings: &Settings,
-    schedule: &[u8],
-    texts: &mut Texts,
-) -> Result<String, ServeError>
-    requires workers { All (λ worker. worker < settings.now.workers) schedule.now }
-    requires none_yet { (string_bytes texts.old.trace ≡ []) × (string_bytes texts.old.text ≡ []) }
-    ensures texts { IfOk result (λ pages. AreToWrite settings.now.workers settings.now.fan schedule.now
-        (R.remaining reader.old)
-        (replay_text (string_bytes texts.new.trace) (string_bytes texts.new.text) (string_bytes pages))) }
-    ensures fault { IfErr result (TellsWorkersFault (R.remaining reader.old)) }
-    ensures too_large { IfErr result
-        (TellsReplayOf settings.now.workers settings.now.fan (R.remaining reader.old)) }
-    ensures no_writer { ¬ IsErrOf result ServeError.Output }
-{
-    let script = read_script(alloc, reader)?;
-    replay_new(alloc, script.parts, settings, schedule, texts)
-}
-
-// Runs parts on a new index, and returns the texts, with its pages at the end.
-fn replay_new(
-    alloc: Global,
-    parts: Vec<Part>,
-    settings: &Settings,
-    schedule: &[u8],
-    texts: &mut Texts,
-) -> Result<String, ServeError>
-    requires workers { All (λ worker. worker < settings.now.workers) schedule.now }
-    requires none_yet { (string_bytes texts.old.trace ≡ []) × (string_bytes texts.old.text ≡ []) }
-    ensures texts { IfOk result (λ pages. AreTexts settings.now.workers settings.now.fan schedule.now
-        parts.items (string_bytes texts.new.trace) (string_bytes texts.new.text) (string_bytes pages)) }
-    ensures too_large { IfErr result
-        (TellsTooLarge settings.now.workers (new_store settings.now.fan) parts.items) }
-    ensures refused { IfErr result IsPartsFault }
-{
-    let index = new_index(alloc, settings)?;
-    let workers = settings.workers();
-    let index = replay_parts(alloc, index, parts, workers, schedule, texts)?;
-    match index.dump(alloc) {
-        Ok(pages) => Ok(pages),
-        Err(_) => Err(ServeError::OutOfMemory),
+        None => Replay::of_script(alloc, reader, settings, schedule)?.write(writer),
     }
 }
 
@@ -174,46 +100,144 @@ pub fn run_parts(
     ensures too_large { IfErr result (TellsTooLarge workers index parts.items) }
     ensures refused { IfErr result IsPartsFault }
 {
-    let mut texts = Texts {
-        trace: String::new(alloc),
-        text: String::new(alloc),
-    };
-    replay_parts(alloc, index, parts, workers, &[], &mut texts)
+    let replay = Replay::new(alloc, index, workers).run_parts(parts, &[])?;
+    Ok(replay.index)
 }
 
-// Runs parts one after another. The last batch among them takes the schedule.
-fn replay_parts(
+// A replay of parts by so many workers, as far as it has come: the index that the parts so far leave, the trace of their
+// scheduled turns, and their text.
+#[derive(Drop)]
+struct Replay {
     alloc: Global,
-    index: Index,
-    parts: Vec<Part>,
     workers: u8,
-    schedule: &[u8],
-    texts: &mut Texts,
-) -> Result<Index, ServeError>
-    requires allowed { MayWork workers }
-    requires workers { All (λ worker. worker < workers) schedule.now }
-    ensures told { IfOk result (TellsParts workers schedule.now index parts.items
-        (string_bytes texts.old.trace) (string_bytes texts.new.trace)) }
-    ensures text { IfOk result (λ _. string_bytes texts.new.text
-        ≡ string_bytes texts.old.text ++ script_text (map_of index) parts.items) }
-    ensures too_large { IfErr result (TellsTooLarge workers index parts.items) }
-    ensures refused { IfErr result IsPartsFault }
-{
-    let mut index = index;
-    let mut left = batches_among(&parts);
-    for part in parts {
-        left -= batches_with(&part, 0);
-        let taken = taken_where(left, schedule);
-        index = replay_part(alloc, index, part, workers, taken, texts)?;
-    }
-    Ok(index)
+    index: Index,
+    trace: String,
+    text: String,
 }
 
-// The turns of a batch that `left` batches follow: those of the schedule, if it is the last.
-fn taken_where(left: u64, schedule: &[u8]) -> &[u8]
-    ensures { result.now ≡ taken_where left schedule.now }
-{
-    if left == 0 { schedule } else { &[] }
+impl Replay {
+    // A replay over an index, before its first part.
+    fn new(alloc: Global, index: Index, workers: u8) -> Replay
+        ensures workers { result.workers ≡ workers }
+        ensures index { result.index ≡ index }
+        ensures trace { string_bytes result.trace ≡ [] }
+        ensures text { string_bytes result.text ≡ [] }
+    {
+        Replay {
+            alloc,
+            workers,
+            index,
+            trace: String::new(alloc),
+            text: String::new(alloc),
+        }
+    }
+
+    // Reads a script, and runs its parts on a new index.
+    fn of_script<R: Read>(
+        alloc: Global,
+        reader: &mut R,
+        settings: &Settings,
+        schedule: &[u8],
+    ) -> Result<Replay, ServeError>
+        requires { All (λ worker. worker < settings.now.workers) schedule.now }
+        ensures texts { IfOk result (λ replay.
+            AreToWrite settings.now.workers settings.now.fan schedule.now (R.remaining reader.old)
+            (replay_text (string_bytes replay.trace) (string_bytes replay.text)
+            (text_of_store replay.index))) }
+        ensures fault { IfErr result (TellsWorkersFault (R.remaining reader.old)) }
+        ensures too_large { IfErr result
+            (TellsReplayOf settings.now.workers settings.now.fan (R.remaining reader.old)) }
+        ensures no_writer { ¬ IsErrOf result ServeError.Output }
+    {
+        let script = read_script(alloc, reader)?;
+        let index = new_index(alloc, settings)?;
+        let replay = Replay::new(alloc, index, settings.workers());
+        replay.run_parts(script.parts, schedule)
+    }
+
+    // Runs parts one after another. The last batch among them takes the schedule.
+    fn run_parts(self, parts: Vec<Part>, schedule: &[u8]) -> Result<Replay, ServeError>
+        requires allowed { MayWork self.workers }
+        requires workers { All (λ worker. worker < self.workers) schedule.now }
+        ensures told { IfOk result
+            (λ after. TellsParts self.workers schedule.now self.index parts.items
+            (string_bytes self.trace) (string_bytes after.trace) after.index) }
+        ensures text { IfOk result (λ after. string_bytes after.text
+            ≡ string_bytes self.text ++ script_text (map_of self.index) parts.items) }
+        ensures too_large { IfErr result (TellsTooLarge self.workers self.index parts.items) }
+        ensures refused { IfErr result IsPartsFault }
+    {
+        let mut replay = self;
+        let mut batches_left = batches_among(&parts);
+        for part in parts {
+            batches_left -= batches_with(&part, 0);
+            let turns = scheduled_turns(batches_left, schedule);
+            replay = replay.run_part(part, turns)?;
+        }
+        Ok(replay)
+    }
+
+    // Runs a part. A batch takes the schedule.
+    fn run_part(mut self, part: Part, schedule: &[u8]) -> Result<Replay, ServeError>
+        requires allowed { MayWork self.workers }
+        requires workers { All (λ worker. worker < self.workers) schedule.now }
+        ensures workers { IfOk result (λ after. after.workers ≡ self.workers) }
+        ensures told { IfOk result (λ after. TellsPart self.workers schedule.now self.index part
+            (string_bytes self.trace) (string_bytes after.trace) after.index) }
+        ensures text { IfOk result (λ after. string_bytes after.text
+            ≡ string_bytes self.text ++ part_text (map_of self.index) part) }
+        ensures map { IfOk result
+            (λ after. map_of after.index ≡ part_after (map_of self.index) part) }
+        ensures refused { IfErr result (IsPartRefusal self.index part) }
+    {
+        match part {
+            Part::Batch(batch) => self.run_batch(batch, schedule),
+            Part::Scan(lo, hi) => {
+                push_scan(&mut self.text, self.index.scan(lo, hi))?;
+                Ok(self)
+            }
+            Part::Page(lo, n) => {
+                push_scan(&mut self.text, self.index.page(lo, n))?;
+                Ok(self)
+            }
+        }
+    }
+
+    // Runs a batch, cut by residue: a turn for each number of the schedule, and then picked turns to the end. Each scheduled
+    // turn adds a line to the trace, and each answer a line to the text.
+    fn run_batch(mut self, batch: Batch, schedule: &[u8]) -> Result<Replay, ServeError>
+        requires allowed { MayWork self.workers }
+        requires workers { All (λ worker. worker < self.workers) schedule.now }
+        ensures workers { IfOk result (λ after. after.workers ≡ self.workers) }
+        ensures told { IfOk result (λ after. TellsBatch self.workers schedule.now self.index batch
+            (string_bytes self.trace) (string_bytes after.trace) after.index) }
+        ensures text { IfOk result (λ after. string_bytes after.text
+            ≡ string_bytes self.text ++ text_of (answers (map_of self.index) batch)) }
+        ensures map { IfOk result
+            (λ after. map_of after.index ≡ map_after_all (map_of self.index) batch) }
+        ensures refused { IfErr result (IsReplayFault self.index batch) }
+    {
+        let mut world = first_world(self.alloc, self.index, batch, self.workers)?;
+        let answers = run_to_end(self.alloc, &mut world, schedule, &mut self.trace)?;
+        push_answers(&mut self.text, &answers)?;
+        the_map_is_kept();
+        no_other_map_is_kept();
+        self.index = Index::from_rest(world.into_rest());
+        Ok(self)
+    }
+
+    // Writes the trace, the text, and the pages of the index. They are made before the first call of the writer.
+    fn write<O: TrackedWriter>(&self, tracked_writer: &mut O) -> Result<(), ServeError>
+        ensures written { OnOk result (Writes O.offered O.settled tracked_writer.old
+            (replay_text (string_bytes self.now.trace) (string_bytes self.now.text)
+            (text_of_store self.now.index)) tracked_writer.new) }
+        ensures left { IfErr result (λ error. TextsOutputAfterError O.offered O.settled
+            (replay_text (string_bytes self.now.trace) (string_bytes self.now.text)
+            (text_of_store self.now.index)) error tracked_writer.old tracked_writer.new) }
+    {
+        let pages = self.index.dump(self.alloc)?;
+        write_replay(tracked_writer, &self.trace, &self.text, &pages)
+    }
 }
 
 // The number of batches among the parts.
@@ -227,75 +251,11 @@ fn batches_among(parts: &[Part]) -> u64
     batches
 }
 
-// Runs a part. A batch takes the schedule.
-fn replay_part(
-    alloc: Global,
-    index: Index,
-    part: Part,
-    workers: u8,
-    schedule: &[u8],
-    texts: &mut Texts,
-) -> Result<Index, ServeError>
-    requires allowed { MayWork workers }
-    requires workers { All (λ worker. worker < workers) schedule.now }
-    ensures told { IfOk result (TellsPart workers schedule.now index part
-        (string_bytes texts.old.trace) (string_bytes texts.new.trace)) }
-    ensures text { IfOk result (λ _. string_bytes texts.new.text
-        ≡ string_bytes texts.old.text ++ part_text (map_of index) part) }
-    ensures map { IfOk result (λ after. map_of after ≡ part_after (map_of index) part) }
-    ensures refused { IfErr result (IsPartRefusal index part) }
+// The turns of a part that `batches_left` batches follow: the whole schedule, if it is the last batch.
+fn scheduled_turns(batches_left: u64, schedule: &[u8]) -> &[u8]
+    ensures { result.now ≡ scheduled_turns batches_left schedule.now }
 {
-    match part {
-        Part::Batch(batch) => replay_batch(alloc, index, batch, workers, schedule, texts),
-        Part::Scan(lo, hi) => {
-            let shown = push_scan(&mut texts.text, index.scan(lo, hi));
-            kept_where(index, shown)
-        }
-        Part::Page(lo, n) => {
-            let shown = push_scan(&mut texts.text, index.page(lo, n));
-            kept_where(index, shown)
-        }
-    }
-}
-
-// Returns the index again if it was shown.
-fn kept_where(index: Index, shown: Result<(), AllocError>) -> Result<Index, ServeError>
-    ensures kept { IfOk result (λ after. after ≡ index) }
-    ensures map { IfOk result (λ after. map_of after ≡ map_of index) }
-    ensures shown { IsOk result ↔ IsOk shown }
-    ensures refused { IfErr result (λ error. error ≡ ServeError.OutOfMemory) }
-{
-    match shown {
-        Ok(()) => Ok(index),
-        Err(_) => Err(ServeError::OutOfMemory),
-    }
-}
-
-// Runs a batch, cut by residue, over an index: a turn for each number of the schedule, and then picked turns to the end. Each
-// scheduled turn adds a line to the trace, and each answer a line to the text.
-fn replay_batch(
-    alloc: Global,
-    index: Index,
-    batch: Batch,
-    workers: u8,
-    schedule: &[u8],
-    texts: &mut Texts,
-) -> Result<Index, ServeError>
-    requires allowed { MayWork workers }
-    requires workers { All (λ worker. worker < workers) schedule.now }
-    ensures told { IfOk result
-        (TellsBatch workers schedule.now index batch
-        (string_bytes texts.old.trace) (string_bytes texts.new.trace)) }
-    ensures text { IfOk result (λ _. string_bytes texts.new.text
-        ≡ string_bytes texts.old.text ++ text_of (answers (map_of index) batch)) }
-    ensures map { IfOk result (λ after. map_of after ≡ map_after_all (map_of index) batch) }
-    ensures refused { IfErr result (IsReplayFault index batch) }
-{
-    let mut world = first_world(alloc, index, batch, workers)?;
-    run_to_end(alloc, &mut world, schedule, texts)?;
-    the_map_is_kept();
-    no_other_map_is_kept();
-    Ok(Index::from_rest(world.into_rest()))
+    if batches_left == 0 { schedule } else { &[] }
 }
 
 // The world of a batch's replay over an index before its first turn.
@@ -306,30 +266,27 @@ fn first_world(alloc: Global, index: Index, batch: Batch, workers: u8) -> Result
         (λ _. IsLawfulCut batch workers (lanes_by_residue workers batch)) }
     ensures refused { IfErr result (IsReplayFault index batch) }
 {
-    let lanes = lanes_by_residue(alloc, &batch, workers)?;
-    Ok(World::start(alloc, index.into_rest(), batch, lanes)?)
+    let assignment = lanes_by_residue(alloc, &batch, workers)?;
+    Ok(World::start(alloc, index.into_rest(), batch, assignment)?)
 }
 
-// Takes the turns of the schedule, and then picked turns to the end. Each scheduled turn adds a line to the trace, and each
-// answer a line to the text.
+// Takes the turns of the schedule, and then picked turns to the end, and returns the answers. Each scheduled turn adds a line
+// to the trace.
 fn run_to_end(
     alloc: Global,
     world: &mut World,
     schedule: &[u8],
-    texts: &mut Texts,
-) -> Result<(), ServeError>
+    trace: &mut String,
+) -> Result<Vec<Answer>, ServeError>
     requires { All (λ worker. worker < world.old.run.assignment.workers) schedule.now }
-    ensures ran { OnOk result (TellsRun world.old schedule.now world.new
-        (string_bytes texts.old.trace) (string_bytes texts.new.trace)
-        (string_bytes texts.old.text) (string_bytes texts.new.text)) }
+    ensures ran { IfOk result (λ given. TellsRun world.old schedule.now world.new
+        (string_bytes trace.old) (string_bytes trace.new) given.items) }
     ensures refused { IfErr result IsRefusedMemory }
 {
-    trace_steps(world, schedule, &mut texts.trace)?;
+    trace_steps(world, schedule, trace)?;
     world.finish()?;
     let _of_its_schedule = world.schedule();
-    let answers = all_of(alloc, world.answers())?;
-    push_answers(&mut texts.text, &answers)?;
-    Ok(())
+    Ok(all_of(alloc, world.answers())?)
 }
 
 /// Returns the lane of each operation, by the remainder of its key: the lanes of a replay. An error is a refusal of memory
@@ -343,11 +300,4 @@ pub fn lanes_by_residue(alloc: Global, batch: &Batch, workers: u8) -> Result<Lan
         Ok(cut) => Ok(cut.into_lanes()),
         Err(_) => Err(AllocError),
     }
-}
-
-/// The texts of a replay: the trace of the schedule's turns, and the text of the parts.
-#[derive(Drop)]
-struct Texts {
-    trace: String,
-    text: String,
 }

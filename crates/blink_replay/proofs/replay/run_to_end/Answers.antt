@@ -1,6 +1,5 @@
-use Rattle.std.proofs.Common.{◌≡◌, ◌∙◌, ◌++◌, List, Option, All, IsSome, length, ap, sym, subst, string_bytes}
+use Rattle.std.proofs.Common.{◌∙◌, List, Option, All, IsSome, length, ap, sym, subst}
 use Rattle.blink_batch.specs.declared.Answer.{Answer}
-use Rattle.blink_batch.specs.{text_of}
 use Rattle.blink_replay.proofs.ReplayOfBatch.{all_answered}
 use Rattle.blink_replay.proofs.replay.run_to_end.Goals as goal
 
@@ -15,7 +14,6 @@ pub returns-clause-ran : goal.returns-clause-ran
 returns-clause-ran c =
     let traced = c.in_ok-trace_steps.ensures.traced in (
       traced.0,
-      c.in_ok-answers.answers.items,
       record {
         replayed = c.trace_steps.new.world;
         traced = traced.1;
@@ -24,8 +22,7 @@ returns-clause-ran c =
         same_batch = c.finish.ensures.same_batch;
         promised = c.finish.ensures.promised;
         ended = c.in_ok-finish.ensures.ended;
-        all_given = sym c.answers.ensures.answers ∙ c.in_ok-answers.ensures;
+        all_given = sym c.answers.ensures.answers ∙ c.in_ok-all_of.ensures;
       },
       traced.2,
-      subst (λ (given : List Answer). string_bytes c.push_answers.new.text ≡ string_bytes c.args.texts.now.text ++ text_of given) c.deref.ensures.value c.in_ok-push_answers.ensures,
     )
