@@ -1,6 +1,5 @@
 -- How many operations of a kind a batch has in the lanes from one on: those of the lane, and those of the later ones.
 use Rattle.std.proofs.Common.{◌≡◌, ℕ, zero, suc, ◌+◌, ◌<◌, ◌≤◌, List, [], ◌∷◌, length, get_or, take, count_by, sum_by, Bool, cond, Some, refl, sym, ap, ◌∙◌, subst, inl, inr, add-one, arith, ◌-◌, ◌*◌}
-use Rattle.std.proofs.Math.Dec.{leb}
 use Rattle.std.specs.List.{slice_get, zip}
 use Rattle.std.proofs.lemmas.Bool.{cases_order, le-leb, lt-leb}
 use Rattle.std.proofs.lemmas.List.{take_all}
@@ -9,19 +8,11 @@ use Rattle.std.proofs.lemmas.Option.{slice_get-get_or}
 use Rattle.std.proofs.lemmas.Slice.Zip.{get_or-zip, length-zip}
 use Rattle.blink_batch.specs.declared.Op.{Op}
 use Rattle.blink_batch.specs.declared.Op.TheVariants.{Find}
-use Rattle.blink_run.specs.Lanes.{lane_ops}
+use Rattle.blink_run.specs.Lanes.{count_from, lane_ops, one_from}
 use Rattle.blink_run.proofs.LaneSoFar.{lane_so_far, lane_so_far-own, lane_so_far-other, lane_so_far-all}
 use Rattle.blink_page.specs.declared.limits.TheConstants.{MAX_NEW_PAGES_PER_INSERT}
 use Rattle.blink_rows.specs.declared.span.Span.{Span}
 use Rattle.blink_live.specs.{inserts_left, deletes_left, rows_for, span}
-
--- one for an operation that passes, in this lane or a later one
-abbrev one_from : (Op → Bool) → ℕ → Op × ℕ → ℕ
-one_from p worker given = cond (leb worker given.1) (cond (p given.0) 1 0) 0
-
--- how many operations pass, in this lane and the later ones
-abbrev pub count_from : (Op → Bool) → List Op → List ℕ → ℕ → ℕ
-count_from p ops lanes worker = sum_by (one_from p worker) (zip ops lanes)
 
 -- an operation in an earlier lane isn't counted
 one_from-earlier : (p : Op → Bool) (worker : ℕ) (op : Op) (lane : ℕ) → lane < worker → one_from p worker (op, lane) ≡ 0

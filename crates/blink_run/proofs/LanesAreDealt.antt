@@ -1,5 +1,5 @@
 -- The lanes of a cut are dealt one after another: what the keeper has dealt and has left before each, and what each one's pass has.
-use Rattle.std.proofs.Common.{◌≡◌, ℕ, ◌+◌, ◌<◌, ◌≤◌, List, [], length, take, ⊎_elim, inl, inr, ap, ◌∙◌, subst, arith}
+use Rattle.std.proofs.Common.{◌≡◌, ℕ, ◌+◌, ◌<◌, ◌≤◌, List, [], length, take, Result, Ok, Err, IfOk, OnOk, ⊎_elim, inl, inr, ap, ◌∙◌, subst, arith}
 use Rattle.std.specs.Prelude.{Contains, vec_capacity}
 use Rattle.std.proofs.lemmas.List.Sorted.{Contains-permutation, IsPermutation-sym}
 use Rattle.std.proofs.lemmas.Option.{get_or_from_slice_get, slice_get_within}
@@ -9,12 +9,12 @@ use Rattle.blink_batch.specs.{is_insert, IsLawfulCut, pointer_of}
 use Rattle.blink_rows.specs.declared.span.Span.{Span}
 use Rattle.blink_live.specs.declared.Keeper.{Keeper}
 use Rattle.blink_live.specs.declared.Live.{Live}
-use Rattle.blink_live.specs.{inserts_left, deletes_left, HasDealt, IsDealt, LacksAllowance, NoneIsTaken, IsKeeperOf, keys_of, known_entries, passes_dealt, passes_out, seen_by, taken_of}
+use Rattle.blink_live.specs.{inserts_left, deletes_left, HasDealt, IsDealt, LacksAllowance, NoneIsTaken, keys_of, known_entries, seen_by, taken_of}
 use Rattle.blink_live.proofs.Offered.{among_from_contains, entries_of_keep, known_entries-opening}
 use Rattle.blink_run.specs.declared.live.lane.LaneRun.{LaneRun}
 use Rattle.blink_run.specs.declared.live.needs.Needs.{Needs}
-use Rattle.blink_run.specs.Lanes.{HasDealtAll, IsKeyOfOne, IsNeeded, IsNewKeeper, MayRun, uses_deletion, lane_ops}
-use Rattle.blink_run.proofs.ChangesOfLanes.{count_from, count_from-first, count_from-lane, deletes_dealt, deletes_rest, inserts_dealt, inserts_rest}
+use Rattle.blink_run.specs.Lanes.{HasDealtAll, HasDealtBefore, IsKeyOfOne, IsNeeded, IsNewKeeper, MayRun, uses_deletion, lane_ops}
+use Rattle.blink_run.proofs.ChangesOfLanes.{count_from-first, count_from-lane, deletes_dealt, deletes_rest, inserts_dealt, inserts_rest}
 use Rattle.blink_run.proofs.KeysOfLanes.{key_of_batch, one_lane_a_key}
 
 -- ---- a lane's pass
@@ -43,17 +43,18 @@ may_run live old none_seen ops needs run needed dealt none_yet room = record {
     back : (key : ℕ) → Contains (keys_of run.pass) key → Contains needs.keys.items key
     back key there = Contains-permutation (keys_of run.pass) needs.keys.items key (IsPermutation-sym needs.keys.items (keys_of run.pass) dealt.same_keys) there
 
--- ---- the keeper
+-- and so may the one that a deal returned
+pub may_run_where : {E : Type 0} (live : Live) (old : Keeper) → seen_by old ≡ [] → (ops : List Op) (needs : Needs) → IsNeeded ops needs → (dealt : Result LaneRun E)
+    → IfOk dealt (λ run. IsDealt live old needs.keys.items needs.inserts needs.deletes run.pass) → IfOk dealt (λ run. run.answers.items ≡ []) → IfOk dealt (λ run. needs.operations ≤ vec_capacity run.answers) → IfOk dealt (MayRun live ops)
+may_run_where live old none_seen ops needs needed (Ok run) pass none_yet room = may_run live old none_seen ops needs run needed pass none_yet room
+may_run_where live old none_seen ops needs needed (Err refusal) pass none_yet room = pass
 
--- it has dealt a pass to each worker before this one, no key but those of their lanes, and has enough left for the other lanes
-pub record HasDealtBefore (live : Live) (ops : List Op) (lanes : List ℕ) (worker : ℕ) (keeper : Keeper) : Type 0 where
-  pub its_own : IsKeeperOf live keeper
-  pub taken : (key : ℕ) → Contains (taken_of keeper) key → (lane : ℕ) × (lane < worker) × IsKeyOfOne (lane_ops ops lanes lane) key
-  pub dealt : passes_dealt keeper ≡ worker
-  pub out : passes_out keeper ≡ worker
-  pub none_seen : seen_by keeper ≡ []
-  pub inserts : count_from is_insert ops lanes worker ≤ inserts_left keeper.pages
-  pub deletes : count_from uses_deletion ops lanes worker ≤ deletes_left keeper.pages keeper.rows
+-- what follows from there being a value
+pub on_ok : {T E A B : Type 0} (result : Result T E) → (A → B) → OnOk result A → OnOk result B
+on_ok (Ok value) then a = then a
+on_ok (Err refusal) then a = a
+
+-- ---- the keeper
 
 -- a new one has dealt none
 pub dealt_none : (live : Live) (ops : List Op) (lanes : List ℕ) (keeper : Keeper) → length lanes ≡ length ops → IsNewKeeper live ops keeper → HasDealtBefore live ops lanes 0 keeper

@@ -1,5 +1,7 @@
 -- The lanes of workers at a table of words, each with a pass of its own.
-use Rattle.std.specs.Prelude.{◌≡◌, ◌↔◌, ℕ, ◌+◌, ◌<◌, ◌≤◌, Some, List, [], ◌∷◌, length, Bool, true, false, Contains, count_by, map, slice_get, take, vec_capacity, vec_len}
+use Rattle.std.specs.Prelude.{◌≡◌, ◌↔◌, ℕ, ◌+◌, ◌<◌, ◌≤◌, Some, List, [], ◌∷◌, length, Bool, true, false, cond, Contains, count_by, map, slice_get, sum_by, take, vec_capacity, vec_len}
+use Rattle.std.proofs.Math.Dec.{leb}
+use Rattle.std.specs.List.{zip}
 use Rattle.blink_batch.specs.declared.Answer.{Answer}
 use Rattle.blink_batch.specs.declared.Entry.{Entry}
 use Rattle.blink_batch.specs.declared.Op.{Op}
@@ -53,6 +55,24 @@ pub record IsNewKeeper (live : Live) (ops : List Op) (keeper : Keeper) : Type 0 
   pub none_seen : seen_by keeper ≡ []
   pub inserts : count_by is_insert ops ≤ inserts_left keeper.pages
   pub deletes : count_by uses_deletion ops ≤ deletes_left keeper.pages keeper.rows
+
+-- one for an operation that passes, in this lane or a later one
+abbrev pub one_from : (Op → Bool) → ℕ → Op × ℕ → ℕ
+one_from p worker given = cond (leb worker given.1) (cond (p given.0) 1 0) 0
+
+-- how many operations pass, in this lane and the later ones
+abbrev pub count_from : (Op → Bool) → List Op → List ℕ → ℕ → ℕ
+count_from p ops lanes worker = sum_by (one_from p worker) (zip ops lanes)
+
+-- the keeper has dealt a pass to each worker before this one, no key but those of their lanes, and has enough left for the other lanes
+pub record HasDealtBefore (live : Live) (ops : List Op) (lanes : List ℕ) (worker : ℕ) (keeper : Keeper) : Type 0 where
+  pub its_own : IsKeeperOf live keeper
+  pub taken : (key : ℕ) → Contains (taken_of keeper) key → (lane : ℕ) × (lane < worker) × IsKeyOfOne (lane_ops ops lanes lane) key
+  pub dealt : passes_dealt keeper ≡ worker
+  pub out : passes_out keeper ≡ worker
+  pub none_seen : seen_by keeper ≡ []
+  pub inserts : count_from is_insert ops lanes worker ≤ inserts_left keeper.pages
+  pub deletes : count_from uses_deletion ops lanes worker ≤ deletes_left keeper.pages keeper.rows
 
 -- a pass is out for each of this many workers, with no key but those of the operations, and none came back
 pub record HasDealtAll (live : Live) (ops : List Op) (workers : ℕ) (keeper : Keeper) : Type 0 where

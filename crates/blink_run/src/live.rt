@@ -13,7 +13,7 @@ mod lane;
 mod needs;
 mod threads;
 
-use blink_batch::{Answer, Batch, Cut, Op};
+use blink_batch::{Answer, Batch, Cut};
 use blink_index::Index;
 use blink_live::{Keeper, Live, LiveError, Pass};
 use blink_locked::Gate;
@@ -21,6 +21,7 @@ use blink_rows::Allowance;
 use blink_settings::RunError;
 use dealing::deal_all;
 use gathering::{answers_by_place, passes_of};
+use needs::uses_of;
 use std::alloc::Global;
 use std::sync::Wait;
 use std::thread::Threads;
@@ -101,12 +102,8 @@ fn allowance_of(batch: &Batch) -> Allowance
     ensures deletes { result.deletes ≡ count_by uses_deletion batch.now }
 {
     let mut deletes = 0;
-    for op in batch.ops() {
-        match op {
-            Op::Find(_) | Op::Insert(..) => {}
-            Op::Delete(_) | Op::Replace(..) | Op::Exchange(..) | Op::DeleteExact(..) => deletes +=
-                1,
-        }
+    for &op in batch.ops() {
+        deletes += uses_of(op).1;
     }
     Allowance {
         inserts: batch.inserts() as u32,

@@ -1,8 +1,8 @@
 //! Dealing: the keeper of a table deals a pass to each worker's lane.
-ghost use Rattle.std.specs.Prelude.{◌≡◌, ◌≤◌, [], IfOk, OnOk, vec_capacity};
+ghost use Rattle.std.specs.Prelude.{◌≡◌, ◌+◌, ◌<◌, ◌≤◌, [], IfOk, OnOk, vec_capacity};
 ghost use Rattle.blink_batch.specs.{IsLawfulCut};
 ghost use Rattle.blink_live.specs.{HasDealt, IsDealt, LacksAllowance, NoneIsTaken, IsKeeperOf, taken_of};
-ghost use Rattle.blink_run.specs.Lanes.{HasDealtAll, IsNewKeeper, MayRunAll};
+ghost use Rattle.blink_run.specs.Lanes.{HasDealtAll, HasDealtBefore, IsNewKeeper, MayRun, MayRunAll, lane_ops};
 
 use crate::live::lane::LaneRun;
 use crate::live::needs::Needs;
@@ -24,13 +24,31 @@ pub(crate) fn deal_all(
         (λ runs. MayRunAll live.now batch.now cut.now.workers cut.now.lanes runs.items) }
     ensures keeper { OnOk result (HasDealtAll live.now batch.now cut.now.workers keeper.new) }
 {
-    let lanes = cut.lanes();
     let mut runs = Vec::with_capacity(alloc, usize::from(cut.workers()))?;
     for worker in 0..cut.workers() {
-        let needs = Needs::of(alloc, batch, lanes, worker)?;
-        runs.push_reserved(deal(alloc, live, keeper, needs)?);
+        runs.push_reserved(deal_lane(alloc, live, keeper, batch, cut, worker)?);
     }
     Ok(runs)
+}
+
+// Makes the run of a worker's lane.
+fn deal_lane(
+    alloc: Global,
+    live: &Live,
+    keeper: &mut Keeper,
+    batch: &Batch,
+    cut: &Cut,
+    worker: u8,
+) -> Result<LaneRun, AllocError>
+    requires cut { IsLawfulCut batch.now cut.now.workers cut.now.lanes }
+    requires worker { worker < cut.now.workers }
+    requires before { HasDealtBefore live.now batch.now cut.now.lanes worker keeper.old }
+    ensures run { IfOk result (MayRun live.now (lane_ops batch.now cut.now.lanes worker)) }
+    ensures dealt { OnOk result
+        (HasDealtBefore live.now batch.now cut.now.lanes (worker + 1) keeper.new) }
+{
+    let needs = Needs::of(alloc, batch, cut.lanes(), worker)?;
+    deal(alloc, live, keeper, needs)
 }
 
 // Makes a run whose pass has what the lane needs.

@@ -1,7 +1,8 @@
 //! The needs of a worker's lane: what its pass is dealt.
-ghost use Rattle.std.specs.Prelude.{◌≡◌, ◌↔◌, ℕ, [], length, Contains, IfOk};
+ghost use Rattle.std.specs.Prelude.{◌≡◌, ◌↔◌, ℕ, ◌+◌, ◌≤◌, [], ◌∷◌, length, Contains, IfOk, count_by};
+ghost use Rattle.blink_batch.specs.{is_insert};
 ghost use Rattle.blink_live.specs.{NoneIsTaken};
-ghost use Rattle.blink_run.specs.Lanes.{IsNeeded, lane_ops};
+ghost use Rattle.blink_run.specs.Lanes.{IsNeeded, lane_ops, uses_deletion};
 
 use blink_batch::{Batch, Op};
 use std::alloc::{AllocError, Global};
@@ -36,15 +37,10 @@ impl Needs {
             if lanes[place] == worker {
                 let op = ops[place];
                 keys.push(op.key())?;
+                let (insert, delete) = uses_of(op);
                 operations += 1;
-                match op {
-                    Op::Find(_) => {}
-                    Op::Insert(..) => inserts += 1,
-                    Op::Delete(_) => deletes += 1,
-                    Op::Replace(..) => deletes += 1,
-                    Op::Exchange(..) => deletes += 1,
-                    Op::DeleteExact(..) => deletes += 1,
-                }
+                inserts += insert;
+                deletes += delete;
             }
         }
         Ok(Needs {
@@ -53,6 +49,19 @@ impl Needs {
             inserts,
             deletes,
         })
+    }
+}
+
+// The number of insertions, and of deletions, that an operation uses of its pass. Each change but an insertion uses a deletion.
+pub(crate) fn uses_of(op: Op) -> (u32, u32)
+    ensures inserts { result.0 ≡ count_by is_insert (op ∷ []) }
+    ensures deletes { result.1 ≡ count_by uses_deletion (op ∷ []) }
+    ensures one { result.0 + result.1 ≤ 1 }
+{
+    match op {
+        Op::Find(_) => (0, 0),
+        Op::Insert(..) => (1, 0),
+        Op::Delete(_) | Op::Replace(..) | Op::Exchange(..) | Op::DeleteExact(..) => (0, 1),
     }
 }
 

@@ -2,8 +2,7 @@
 use Rattle.std.proofs.Common.{◌≡◌, ◌≤◌, ℕ, Some, vec_len, vec_capacity}
 use Rattle.std.specs.List.{slice_get}
 use Rattle.blink_run.specs.declared.live.lane.LaneRun.{LaneRun}
-use Rattle.blink_run.specs.Lanes.{MayRun, lane_ops}
-use Rattle.blink_run.proofs.LanesAreDealt.{HasDealtBefore}
+use Rattle.blink_run.specs.Lanes.{HasDealtBefore, MayRun, lane_ops}
 use Rattle.blink_run.proofs.live.dealing.deal_all.Given as goal
 
 abbrev pub invariant-loop-worker : goal.invariant-loop-worker

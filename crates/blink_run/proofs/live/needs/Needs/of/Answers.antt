@@ -1,14 +1,14 @@
 -- Each operation of the lane is one more, and other lanes' aren't.
-use Rattle.std.proofs.Common.{◌≡◌, ℕ, ◌<◌, length, map, count_by, Some, ap, ◌∙◌, arith}
+use Rattle.std.proofs.Common.{◌≡◌, ◌<◌, length, map, count_by, get_or, Some, ap, ◌∙◌, arith}
 use Rattle.std.specs.List.{slice_get}
 use Rattle.std.proofs.lemmas.Grind.{common_steps}
 use Rattle.std.proofs.lemmas.Option.{slice_get-get_or}
-use Rattle.blink_batch.specs.declared.Op.TheVariants.{Delete, DeleteExact, Exchange, Find, Insert, Replace}
+use Rattle.blink_batch.specs.declared.Op.TheVariants.{Find}
 use Rattle.blink_batch.specs.{is_insert, key_of}
 use Rattle.blink_run.specs.Lanes.{uses_deletion, lane_ops}
 use Rattle.blink_run.proofs.NeedsOfLane.{needed_from_gathered}
 use Rattle.blink_run.proofs.LaneSoFar.{lane_so_far, lane_so_far-own, lane_so_far-other, lane_so_far-all}
-use Rattle.blink_run.proofs.live.needs.Needs.of.Goals.{then-lanes-place+in_ok-push+in-Find, then-lanes-place+in_ok-push+in-Insert, then-lanes-place+in_ok-push+in-Delete, then-lanes-place+in_ok-push+in-Replace, then-lanes-place+in_ok-push+in-Exchange, then-lanes-place+in_ok-push+in-DeleteExact, else-lanes-place}
+use Rattle.blink_run.proofs.live.needs.Needs.of.Goals.{then-lanes-place+in_ok-push, else-lanes-place}
 use Rattle.blink_run.proofs.live.needs.Needs.of.Goals as goal
 
 pub loop-place-preserved : goal.loop-place-preserved
@@ -20,42 +20,12 @@ loop-place-preserved c =
     let within_lanes : place < length lanes = omega arith in
     let within : place < length ops = omega (arith, ap length c.ops-ops.ensures.ops) in
     elim c.if-lanes-place.branch [
-      | then-lanes-place+in_ok-push+in-Find w ↦
-          let op = Find w.in-Find.field-0 in
-          let there : slice_get ops place ≡ Some op = slice_get-get_or ops place (Find 0) within ∙ ap Some w.in-Find.is in
+      | then-lanes-place+in_ok-push w ↦
+          let op = get_or ops place (Find 0) in
+          let there : slice_get ops place ≡ Some op = slice_get-get_or ops place (Find 0) within in
           let own : slice_get lanes place ≡ Some worker = slice_get-get_or lanes place 0 within_lanes ∙ ap Some w.if-lanes-place.true in
           let more = lane_so_far-own ops lanes worker place op there own in
-          grind (arith, common_steps, more)
-      | then-lanes-place+in_ok-push+in-Insert w ↦
-          let op = Insert w.in-Insert.field-0 w.in-Insert.field-1 in
-          let there : slice_get ops place ≡ Some op = slice_get-get_or ops place (Find 0) within ∙ ap Some w.in-Insert.is in
-          let own : slice_get lanes place ≡ Some worker = slice_get-get_or lanes place 0 within_lanes ∙ ap Some w.if-lanes-place.true in
-          let more = lane_so_far-own ops lanes worker place op there own in
-          grind (arith, common_steps, more)
-      | then-lanes-place+in_ok-push+in-Delete w ↦
-          let op = Delete w.in-Delete.field-0 in
-          let there : slice_get ops place ≡ Some op = slice_get-get_or ops place (Find 0) within ∙ ap Some w.in-Delete.is in
-          let own : slice_get lanes place ≡ Some worker = slice_get-get_or lanes place 0 within_lanes ∙ ap Some w.if-lanes-place.true in
-          let more = lane_so_far-own ops lanes worker place op there own in
-          grind (arith, common_steps, more)
-      | then-lanes-place+in_ok-push+in-Replace w ↦
-          let op = Replace w.in-Replace.field-0 w.in-Replace.field-1 in
-          let there : slice_get ops place ≡ Some op = slice_get-get_or ops place (Find 0) within ∙ ap Some w.in-Replace.is in
-          let own : slice_get lanes place ≡ Some worker = slice_get-get_or lanes place 0 within_lanes ∙ ap Some w.if-lanes-place.true in
-          let more = lane_so_far-own ops lanes worker place op there own in
-          grind (arith, common_steps, more)
-      | then-lanes-place+in_ok-push+in-Exchange w ↦
-          let op = Exchange w.in-Exchange.field-0 w.in-Exchange.field-1 w.in-Exchange.field-2 in
-          let there : slice_get ops place ≡ Some op = slice_get-get_or ops place (Find 0) within ∙ ap Some w.in-Exchange.is in
-          let own : slice_get lanes place ≡ Some worker = slice_get-get_or lanes place 0 within_lanes ∙ ap Some w.if-lanes-place.true in
-          let more = lane_so_far-own ops lanes worker place op there own in
-          grind (arith, common_steps, more)
-      | then-lanes-place+in_ok-push+in-DeleteExact w ↦
-          let op = DeleteExact w.in-DeleteExact.field-0 w.in-DeleteExact.field-1 in
-          let there : slice_get ops place ≡ Some op = slice_get-get_or ops place (Find 0) within ∙ ap Some w.in-DeleteExact.is in
-          let own : slice_get lanes place ≡ Some worker = slice_get-get_or lanes place 0 within_lanes ∙ ap Some w.if-lanes-place.true in
-          let more = lane_so_far-own ops lanes worker place op there own in
-          grind (arith, common_steps, more)
+          grind (arith, common_steps, more, w.uses_of-insert.ensures)
       | else-lanes-place w ↦
           let same = lane_so_far-other ops lanes worker place within_lanes w.if-lanes-place.false in
           grind (arith, common_steps, same)
