@@ -1,10 +1,11 @@
 //! Scans: the entries of a range of keys in ascending order, while other passes change the tree.
 //!
-//! A scan goes from leaf to leaf. To the first two leaves it descends, with a find for the first key that it hasn't covered; from the
-//! second one on it follows the right links. A page that once was a leaf stays one and keeps its floor, so a link that the seat has
-//! read leads to the leaf of the next key, unless that leaf has been split since; then the scan descends again. The load of the
-//! leaf's page word tells the seat the state of each of the leaf's keys, and nobody stores to the row that it names while the scan
-//! reads there. So the entries of one leaf are those of one time; those of the leaf to the right are of a later one.
+//! A scan goes from leaf to leaf. To the first leaf it descends, with a find for the first key, and then it follows the right links.
+//! A scan of few entries mostly ends in its first leaf, so there it notes no leaf, and descends once more if it goes on. A page that
+//! once was a leaf stays one and keeps its floor, so a link that the seat has read leads to the leaf of the next key, unless that leaf
+//! has been split since; then the scan descends again. The load of the leaf's page word tells the seat the state of each of the leaf's
+//! keys, and nobody stores to the row that it names while the scan reads there. So the entries of one leaf are those of one time;
+//! those of the leaf to the right are of a later one.
 ghost use Rattle.std.specs.Prelude.{◌≡◌, ◌+◌, ◌<◌, ◌≤◌, List, IfSome, length, take, drop};
 ghost use Rattle.blink_batch.specs.declared.Entry.{Entry};
 ghost use Rattle.blink_live.specs.Along.{GoesAlong, IsNotedLeaf};
@@ -21,6 +22,7 @@ use crate::rule::GoAlong;
 use crate::view::View;
 use atomic_table::Seat;
 use blink_batch::Entry;
+use blink_page::MAX_FAN;
 use blink_rows::HEAD_WORDS;
 use blink_rows::layout::{COUNT, HIGH_KEY, RIGHT_LINK};
 
@@ -91,9 +93,10 @@ impl Live {
         let mut from = lo;
         let mut filled = 0;
         let mut link = None;
+        let few = into.len() <= MAX_FAN;
         while filled < into.len() {
-            let first = filled == 0;
-            let (run, right) = self.scan_leaf(seat, from, hi, &mut into[filled..], first, link);
+            let alone = few && filled == 0;
+            let (run, right) = self.scan_leaf(seat, from, hi, &mut into[filled..], alone, link);
             filled += run.filled;
             link = right;
             match run.next {
@@ -108,14 +111,14 @@ impl Live {
     }
 
     // Reports the entries of one leaf: those from `from` on, up to `hi`, and as many as there are places. It also returns the leaf to
-    // the right, if it has noted that. The scan's first leaf it finds by a descent; for another it looks at `link` first.
+    // the right, if it has noted that. It looks at `link` first. A leaf that is read `alone` it finds by a descent without a note.
     fn scan_leaf(
         &self,
         seat: &mut Seat<u8, View>,
         from: u64,
         hi: u64,
         into: &mut [Entry],
-        first: bool,
+        alone: bool,
         link: Option<u32>,
     ) -> (Scanned, Option<u32>)
         requires seat { IsPassSeat self.now seat.old.table_id seat.old.me }
@@ -130,18 +133,17 @@ impl Live {
         ensures further { IfSome result.0.next (λ next. (from < next) × (next ≤ hi)) }
         ensures right { IfSome result.1 (IsNotedLeaf self.now.counts seat.new.me.0.look) }
     {
-        let (row, right) = self.come_along(seat, from, first, link);
+        let (row, right) = self.come_along(seat, from, alone, link);
         (self.copy_leaf(seat, row, from, hi, into), right)
     }
 
     // Brings the seat to the leaf of the key: by the link, if that leads there; else by a descent. It returns the leaf's row, and the
-    // leaf to the right, if there is one and the seat has noted it. To a scan's first leaf it descends without a note, since most
-    // scans end there.
+    // leaf to the right, if there is one and the seat has noted it.
     fn come_along(
         &self,
         seat: &mut Seat<u8, View>,
         key: u64,
-        first: bool,
+        alone: bool,
         link: Option<u32>,
     ) -> (u64, Option<u32>)
         requires seat { IsPassSeat self.now seat.old.table_id seat.old.me }
@@ -153,7 +155,7 @@ impl Live {
         ensures leaf { ReadsLeaf key result.0 seat.new.me }
         ensures right { IfSome result.1 (IsNotedLeaf self.now.counts seat.new.me.0.look) }
     {
-        if first {
+        if alone {
             let (_, row) = self.come_to_leaf(seat, key, None);
             return (row, None);
         }
