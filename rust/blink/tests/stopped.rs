@@ -131,7 +131,7 @@ extern "C" fn stay(_signal: c_int, _info: *mut c_void, _context: *mut c_void) {
 struct Told {
     // The reader's thread, once it runs.
     thread: AtomicU64,
-    // The reader is inside a call.
+    // The reader is inside a call, or between two.
     inside: AtomicBool,
     // The pointer that the writer has put last, and the one that it puts next or has put.
     put: AtomicU64,
@@ -139,7 +139,7 @@ struct Told {
     ended: AtomicBool,
 }
 
-// Finds the key again and again. What it finds was there at some time in the call.
+// Finds two keys again and again. What it finds was there at some time in the call.
 fn reads(mut session: Session, told: &Told) -> u64 {
     // SAFETY: the call has no condition.
     told.thread.store(unsafe { pthread_self() } as u64, SeqCst);
@@ -148,11 +148,12 @@ fn reads(mut session: Session, told: &Told) -> u64 {
         let least = told.put.load(SeqCst);
         told.inside.store(true, SeqCst);
         let found = session.get(1).unwrap();
-        told.inside.store(false, SeqCst);
         let most = told.next.load(SeqCst);
+        let other = session.get(3);
+        told.inside.store(false, SeqCst);
         assert!(least <= found && found <= most, "{found}, and not from {least} to {most}");
-        assert_eq!(session.get(3), Some(30));
-        calls += 1;
+        assert_eq!(other, Some(30));
+        calls += 2;
     }
     calls
 }
