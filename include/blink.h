@@ -6,17 +6,18 @@
  * only where malloc or realloc gives none, that an operation gets on by blink_pass_advance or blink_session_advance, and that
  * what is freed is free. What follows is what the caller keeps.
  *
- * Handles. blink_index, blink_table, blink_pass, blink_map and blink_session are handles. A handle begins as {NULL}, and is then
- * empty. A function with a parameter `out` takes the place of an empty handle, and fills it if it returns BLINK_DONE. All other
- * functions take a full one. A handle is freed once: by its free function, or, of a table or a map, by its close function.
+ * Handles. blink_index, blink_reader, blink_table, blink_pass, blink_map and blink_session are handles. A handle begins as {NULL},
+ * and is then empty. A function with a parameter `out` takes the place of an empty handle, and fills it if it returns BLINK_DONE. All
+ * other functions take a full one. A handle is freed once: by its free function, or, of a table or a map, by its close function.
+ * blink_index_share and blink_reader_unshare, if they return BLINK_DONE, leave the handle empty that they take, and then it isn't freed.
  * Nothing looks whether a handle is empty, full or freed: an empty or freed handle passed where a full one is asked for, or a
  * full one as `out`, is undefined, as a wild pointer is.
  *
  * Threads. One call at a time uses a handle. Any thread may use it; one gives it to another by what orders memory between the
  * two: a lock, a start or join of a thread, or an atomic that one stores with release order, at least, and the other loads with
- * acquire order. Different handles may be used by different threads at the same time, also passes of one table, and the table
- * itself, or sessions of one map, and the map itself. No call waits for another thread. None may be called from a signal handler,
- * or in a forked child of a process with threads.
+ * acquire order. Different handles may be used by different threads at the same time, also readers of one index; passes of one table,
+ * and the table itself; or sessions of one map, and the map itself. No call waits for another thread. None may be called from a signal
+ * handler, or in a forked child of a process with threads.
  *
  * Arrays. A pointer and the number of its elements follow one another. The pointer isn't NULL, also where that number is 0, and
  * no two arrays or results of one call overlap.
@@ -35,6 +36,7 @@ extern "C" {
 #endif
 
 typedef struct { void *at; } blink_index;
+typedef struct { void *at; } blink_reader;
 typedef struct { void *at; } blink_table;
 typedef struct { void *at; } blink_pass;
 typedef struct { void *at; } blink_map;
@@ -91,8 +93,9 @@ enum {
     BLINK_UNKNOWN_OPERATION = 11,  /* the kind of an operation is none of the four */
     BLINK_INDEX_TOO_LARGE = 32,    /* 1 + pages + 22 for each insertion is above 1,048,576 */
     BLINK_BAD_FAN = 40,            /* the fan isn't from 4 to 32 */
-    BLINK_INDEX_NO_MEMORY = 41,    /* memory was refused, of an index */
+    BLINK_INDEX_NO_MEMORY = 41,    /* memory was refused, of an index or a reader */
     BLINK_NOT_ASCENDING = 42,      /* a key of the entries isn't above the one before */
+    BLINK_SHARED = 43,             /* the index has another reader */
     BLINK_NO_MEMORY = 50,          /* memory was refused, of a table */
     BLINK_TAKEN = 51,              /* a pass has the key that wasn't given back, or it stands twice in the list */
     BLINK_NO_ALLOWANCE = 52,       /* the table has fewer insertions or deletions left, or has dealt 2^32 - 1 passes */
@@ -217,6 +220,43 @@ uint8_t blink_index_dump(blink_index *index, uint8_t *text, size_t places, size_
 /* Frees the index. */
 void blink_index_free(blink_index index);
 
+/* ---- Readers: an index that threads read at the same time. ----
+ *
+ * An index that is shared is only read. Each thread has a reader of its own, which answers as the index did when it was shared: no call
+ * of any reader changes that. Readers join, read and are freed each in their own thread, and none waits for another. The last one gives
+ * the index back, to be changed again. A table or a map is opened over an index, not over a reader. Threads that read while others
+ * change have a map.
+ */
+
+/* Makes the index one that is only read, and gives its first reader. The handle `index` is empty then. No entry is copied: it takes
+ * memory for the handle and for an index without an entry. Refused: BLINK_INDEX_NO_MEMORY, and then `index` is as it was. */
+uint8_t blink_index_share(blink_index *index, blink_reader *out);
+
+/* Gives one more reader of the same index, for another thread. No entry is copied: it takes memory for the handle and for an index
+ * without an entry. Refused: BLINK_INDEX_NO_MEMORY. */
+uint8_t blink_reader_join(blink_reader *reader, blink_reader *out);
+
+/* Gives the index back, as it was when it was shared, if no other reader has it. The handle `reader` is empty then. No entry is copied,
+ * and it takes no memory. Refused: BLINK_SHARED, and then the reader is as it was. Tested: it is BLINK_SHARED if another reader of the
+ * index isn't freed, and in no other case. */
+uint8_t blink_reader_unshare(blink_reader *reader, blink_index *out);
+
+/* Read the index. Each gives, returns and refuses what the call of the index does that has the same name, as blink_index_find. */
+bool blink_reader_find(blink_reader *reader, uint64_t key, uint64_t *pointer);
+uint8_t blink_reader_find_many(blink_reader *reader, const uint64_t *keys, size_t count, blink_answer *answers, size_t places);
+size_t blink_reader_scan(blink_reader *reader, uint64_t lo, uint64_t hi, blink_entry *entries, size_t places, size_t *fitted);
+size_t blink_reader_page(blink_reader *reader, uint64_t lo, uint64_t n, blink_entry *entries, size_t places, size_t *fitted);
+bool blink_reader_first(blink_reader *reader, blink_entry *entry);
+bool blink_reader_last(blink_reader *reader, blink_entry *entry);
+bool blink_reader_next(blink_reader *reader, uint64_t key, blink_entry *entry);
+size_t blink_reader_len(blink_reader *reader);
+uint32_t blink_reader_pages(blink_reader *reader);
+uint8_t blink_reader_fan(blink_reader *reader);
+uint8_t blink_reader_dump(blink_reader *reader, uint8_t *text, size_t places, size_t *bytes);
+
+/* Frees the reader. Tested: the last one frees the index. */
+void blink_reader_free(blink_reader reader);
+
 /* ---- The table: the index's entries, which threads change together. ----
  *
  * A table deals passes. A pass has some keys, which no other pass has, and room for some changes. Its thread finds, inserts,
@@ -324,11 +364,12 @@ void blink_pass_free(blink_pass pass);
  * numbers, and every write of a page one of `rows` rows. An insertion writes one page mostly, and has to have 22 numbers and 44 rows when
  * it begins; a deletion, a replacement or an exchange has to have one row. Sessions draw both from the map's pool, at most 512 numbers
  * and 1,024 rows at once; what one draws no other gets, before its place is taken again. Tested: a row that a write replaces comes back
- * to its session, once each call that was in progress has ended. So a few hundred rows a session last. While a thread is held up inside a
- * call no row comes back, and a change may be refused with BLINK_ROWS_BUSY, and let through later. `number` is one that no other map of
- * the process has while it or a session of it lives: by it sessions of two maps are told apart. Refused: BLINK_BAD_SESSIONS, exactly if
- * there are to be none or more than 256; then BLINK_MAP_TOO_LARGE, exactly if the index's pages and `pages` are above 1,048,575;
- * BLINK_MAP_NO_MEMORY. */
+ * to its session, once each call that was in progress has ended. So a few hundred rows a session last as long as no thread is held up
+ * inside a call. While one is, no row comes back, and a change may be refused with BLINK_ROWS_BUSY, and let through later. A session that
+ * runs short then draws more rows, up to 4,096 in all, and a later session may find none: 4,096 a session are enough for all. `number` is
+ * one that no other map of the process has while it or a session of it lives: by it sessions of two maps are told apart. Refused:
+ * BLINK_BAD_SESSIONS, exactly if there are to be none or more than 256; then BLINK_MAP_TOO_LARGE, exactly if the index's pages and
+ * `pages` are above 1,048,575; BLINK_MAP_NO_MEMORY. */
 uint8_t blink_map_open(blink_index *index, uint32_t pages, uint32_t rows, uint32_t sessions, uint64_t number, blink_map *out);
 
 /* Gives one more handle of the map. Threads that each have one call at the same time: one joins without waiting for another. It takes

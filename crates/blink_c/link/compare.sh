@@ -34,7 +34,7 @@ sed 's/|/ | /g' "$work/exports" | awk -F ' [|] ' '
         c["RawScanned"] = "blink_scanned"; c["RawTaken"] = "blink_taken"; c["RawStock"] = "blink_stock"
         c["IndexHandle"] = c["IndexSlot"] = "blink_index"; c["TableHandle"] = c["TableSlot"] = "blink_table"
         c["PassHandle"] = c["PassSlot"] = "blink_pass"; c["MapHandle"] = c["MapSlot"] = "blink_map"
-        c["SessionHandle"] = c["SessionSlot"] = "blink_session"
+        c["SessionHandle"] = c["SessionSlot"] = "blink_session"; c["ReaderHandle"] = c["ReaderSlot"] = "blink_reader"
     }
     {
         n = split($3, parts, /, */)
@@ -54,7 +54,7 @@ sed 's/|/ | /g' "$work/exports" | awk -F ' [|] ' '
     }' >"$work/prototypes"
 
 # The names in the header.
-grep -oE '\bblink_(index|table|pass|map|session)_[a-z_]+\(' "$header/blink.h" | tr -d '(' | sort -u >"$work/declared"
+grep -oE '\bblink_(index|reader|table|pass|map|session)_[a-z_]+\(' "$header/blink.h" | tr -d '(' | sort -u >"$work/declared"
 cut -d"|" -f1 "$work/exports" | sort >"$work/names"
 diff "$work/names" "$work/declared" | sed -n 's/^< \(.*\)/include\/blink.h: lacks \1/p; s/^> \(.*\)/include\/blink.h: no export \1/p' >>"$work/found"
 
@@ -87,6 +87,7 @@ INDEX_TOO_LARGE specs/Codes.antt TooLarge
 BAD_FAN specs/Codes.antt BadFan
 INDEX_NO_MEMORY specs/Codes.antt OutOfMemory
 NOT_ASCENDING ../blink_index/specs/Codes.antt SortedError.NotAscending
+SHARED specs/Codes.antt Shared
 NO_MEMORY ../blink_live/specs/Codes.antt OutOfMemory
 TAKEN ../blink_live/specs/Codes.antt Taken
 NO_ALLOWANCE ../blink_live/specs/Codes.antt NoAllowance

@@ -1,5 +1,5 @@
-// Calls every export: what it gives, each refusal by its code, two threads at one table, eight at one map, and memory that is refused
-// at each request in turn. Link with -Wl,--wrap=malloc,--wrap=realloc.
+// Calls every export: what it gives, each refusal by its code, two threads at one table, eight at one map and at one index, and memory
+// that is refused at each request in turn. Link with -Wl,--wrap=malloc,--wrap=realloc.
 #include "blink.h"
 #include <pthread.h>
 #include <sched.h>
@@ -646,6 +646,68 @@ static void shares_a_map(void) {
     blink_index_free(index);
 }
 
+enum { READERS = 8, READ = 3000 };
+
+// Reads all of a shared index: the keys 3, 6, 9 .. 9000, each with ten times itself.
+static void *reads_all(void *at) {
+    blink_reader *reader = at;
+    blink_entry entry = {0, 0}, range[100];
+    uint64_t pointer = 0, keys[] = {3, 4, 9000};
+    size_t fitted = 0;
+    blink_answer answers[3];
+    for (uint64_t key = 1; key <= 3 * READ; key++) {
+        CHECK(blink_reader_find(reader, key, &pointer) == (key % 3 == 0));
+        CHECK(pointer == 10 * (key - key % 3));
+    }
+    CHECK(blink_reader_find_many(reader, keys, 3, answers, 2) == BLINK_WRONG_LENGTH);
+    CHECK(blink_reader_find_many(reader, keys, 3, answers, 3) == BLINK_DONE);
+    CHECK(is(answers[0], BLINK_FOUND, 30) && is(answers[1], BLINK_ABSENT, 0) && is(answers[2], BLINK_FOUND, 90000));
+    CHECK(blink_reader_first(reader, &entry) && entry.key == 3);
+    for (uint64_t key = 6; key <= 3 * READ; key += 3)
+        CHECK(blink_reader_next(reader, entry.key, &entry) && entry.key == key && entry.pointer == 10 * key);
+    CHECK(!blink_reader_next(reader, entry.key, &entry) && entry.key == 3 * READ);
+    CHECK(blink_reader_last(reader, &entry) && entry.key == 3 * READ && blink_reader_len(reader) == READ);
+    CHECK(blink_reader_scan(reader, 10, 20, range, 2, &fitted) == 3 && fitted == 2 && range[0].key == 12 && range[1].pointer == 150);
+    CHECK(blink_reader_page(reader, 10, 100, range, 100, &fitted) == 100 && fitted == 100 && range[99].key == 309);
+    blink_reader_free(*reader);
+    return NULL;
+}
+
+static void shares_an_index(void) {
+    static blink_entry entries[READ];
+    for (uint64_t place = 0; place < READ; place++) entries[place] = (blink_entry){3 * (place + 1), 30 * (place + 1)};
+    blink_index index = {NULL};
+    size_t bad_place = 0, bytes = 0;
+    CHECK(blink_index_from_sorted(16, entries, READ, &index, &bad_place) == BLINK_DONE);
+    uint32_t pages = blink_index_pages(&index);
+    static uint8_t before[200000], after[200000];
+    CHECK(blink_index_dump(&index, before, sizeof before, &bytes) == BLINK_DONE && bytes <= sizeof before);
+    blink_reader reader = {NULL}, readers[READERS];
+    CHECK(blink_index_share(&index, &reader) == BLINK_DONE && index.at == NULL);
+    CHECK(blink_reader_pages(&reader) == pages && blink_reader_fan(&reader) == 16);
+    for (int i = 0; i < READERS; i++) {
+        readers[i].at = NULL;
+        CHECK(blink_reader_join(i ? &readers[i - 1] : &reader, &readers[i]) == BLINK_DONE);
+    }
+    CHECK(blink_reader_unshare(&reader, &index) == BLINK_SHARED && index.at == NULL && reader.at != NULL);
+    pthread_t threads[READERS];
+    for (int i = 0; i < READERS; i++) CHECK(pthread_create(&threads[i], NULL, reads_all, &readers[i]) == 0);
+    CHECK(blink_reader_len(&reader) == READ);
+    for (int i = 0; i < READERS; i++) CHECK(pthread_join(threads[i], NULL) == 0);
+    CHECK(blink_reader_dump(&reader, after, sizeof after, &bytes) == BLINK_DONE && memcmp(before, after, bytes) == 0);
+    // the last reader: the index comes back without a request for memory, and can be changed and shared again
+    refused_at = 0;
+    CHECK(blink_reader_unshare(&reader, &index) == BLINK_DONE && reader.at == NULL && refused_at == 0);
+    refused_at = -1;
+    CHECK(blink_index_dump(&index, after, sizeof after, &bytes) == BLINK_DONE && memcmp(before, after, bytes) == 0);
+    blink_answer answer;
+    CHECK(blink_index_insert(&index, 4, 40, &answer) == BLINK_DONE && answer.kind == BLINK_INSERTED);
+    CHECK(blink_index_share(&index, &reader) == BLINK_DONE && blink_reader_len(&reader) == READ + 1);
+    uint64_t pointer = 0;
+    CHECK(blink_reader_find(&reader, 4, &pointer) && pointer == 40);
+    blink_reader_free(reader);
+}
+
 // Hands the pass's key to a new pass, which takes memory: whether none was refused. A refusal leaves both passes as they were.
 static bool gives_up_its_key(blink_table *table, blink_pass *pass, uint64_t key) {
     blink_pass to = {NULL};
@@ -691,6 +753,21 @@ static bool uses_a_map(blink_index *index) {
     return shared && code == BLINK_DONE;
 }
 
+// One use of all that takes memory at readers: whether none was refused. A refusal leaves the index, or the reader, as it was.
+static bool uses_readers(blink_index *index) {
+    blink_reader reader = {NULL}, other = {NULL};
+    size_t bytes = 0;
+    uint8_t text[300], code = blink_index_share(index, &reader);
+    if (code != BLINK_DONE) return CHECK(code == BLINK_INDEX_NO_MEMORY && reader.at == NULL && blink_index_len(index) == 6), false;
+    bool dumped = (code = blink_reader_dump(&reader, text, sizeof text, &bytes)) == BLINK_DONE;
+    CHECK(dumped || (code == BLINK_INDEX_NO_MEMORY && bytes == 0));
+    bool joined = (code = blink_reader_join(&reader, &other)) == BLINK_DONE;
+    CHECK(joined || (code == BLINK_INDEX_NO_MEMORY && other.at == NULL));
+    if (joined) blink_reader_free(other);
+    CHECK(blink_reader_unshare(&reader, index) == BLINK_DONE && blink_index_len(index) == 6);
+    return dumped && joined;
+}
+
 // One use of everything that takes memory, up to the first refusal: whether nothing was refused.
 static bool uses_memory(void) {
     blink_index index = {NULL}, copy = {NULL}, closed = {NULL};
@@ -723,7 +800,7 @@ static bool uses_memory(void) {
         CHECK(code == BLINK_DONE || code == BLINK_NO_MEMORY);
         all = all && code == BLINK_DONE;
         if (code == BLINK_DONE) blink_index_free(closed);
-        all = all && uses_a_map(&copy);
+        all = all && uses_a_map(&copy) && uses_readers(&copy);
     }
     if (copy.at) blink_index_free(copy);
     blink_index_free(index);
@@ -745,6 +822,7 @@ int main(void) {
     refuses_at_a_map();
     refuses_under_way();
     shares_a_map();
+    shares_an_index();
     long requests = 0;
     do refused_at = requests++;
     while (!uses_memory());

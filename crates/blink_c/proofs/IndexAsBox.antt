@@ -7,7 +7,7 @@ use denote.Exit.{no}
 use denote.RattleType.{RattleType}
 use denote.Param.{arg, layout}
 use denote.Param.Laws.{arg_laws}
-use denote.Signature.{Slot, plain}
+use denote.Signature.{Slot as Parameter, plain}
 use Rattle.std.proofs.BoxSteps.Form.{Bx}
 use Rattle.std.specs.contracts.alloc.Global as Heap
 use Rattle.std.specs.contracts.impls.GlobalAllocator.TheImpl.{ghosts, dict}
@@ -16,6 +16,7 @@ use Rattle.blink_index.specs.contracts.index.Index as Index
 use Rattle.blink_index.proofs.index.Index.TheLaws as index
 use Rattle.blink_c.proofs.Destruct++none.drop.Symbol.{symbol}
 use Rattle.blink_c.specs.contracts.index_handle.IndexHandle as Handle
+use Rattle.blink_c.specs.contracts.index_slot.IndexSlot as Slot
 use Rattle.blink_c.specs.contracts.parts.Parts as Parts
 
 -- a type as Rattle passes it for a type parameter
@@ -37,9 +38,17 @@ E = record {
 }
 
 -- a handle by value
-abbrev pub From : Slot 0
+abbrev pub From : Parameter 0
 From = plain (λ _. Handle.the_row)
 
 -- the parts of a box by value
-abbrev pub FromParts : Slot 0
+abbrev pub FromParts : Parameter 0
 FromParts = plain (λ _. Parts.the_row Index.the_row Heap.the_row ghosts)
+
+-- a place by value
+abbrev pub FromSlot : Parameter 0
+FromSlot = plain (λ _. Slot.the_row)
+
+-- the heap by value
+abbrev pub FromHeap : Parameter 0
+FromHeap = plain (λ _. Heap.the_row)

@@ -12,6 +12,7 @@ pub mod KeysOfPasses
 pub mod TableAsBox
 pub mod MapAsBox
 pub mod SessionAsBox
+pub mod ReaderAsBox
 pub mod SessionsCross
 pub mod SessionsGoOn
 pub mod SnapshotsAreGiven

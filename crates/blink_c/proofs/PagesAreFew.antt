@@ -8,7 +8,7 @@ use Rattle.blink_index.specs.{IsBadFan}
 use Rattle.blink_store.specs.{PlainStore}
 use Rattle.blink_c.specs.declared.raw.RawEntry.{RawEntry}
 use Rattle.blink_c.specs.declared.refusal.Refusal.{Refusal}
-use Rattle.blink_c.specs.declared.refusal.Refusal.TheVariants.{TooMany, WrongLength, UnknownOperation, TooLarge, BadFan, OutOfMemory}
+use Rattle.blink_c.specs.declared.refusal.Refusal.TheVariants.{TooMany, WrongLength, UnknownOperation, TooLarge, BadFan, OutOfMemory, Shared}
 use Rattle.blink_c.specs.Raw.{insertion_of}
 use Rattle.blink_c.specs.Runs.{HasPagesFor, IsMakeRefusal, IsStartRefusal}
 
@@ -48,3 +48,4 @@ refused_of_all fan all left part k before good is_part room TooLarge why =
     (good, omega (arith, why, inserts, parts, whole, sum, room))
 refused_of_all fan all left part k before good is_part room BadFan why = absurd why
 refused_of_all fan all left part k before good is_part room OutOfMemory why = good
+refused_of_all fan all left part k before good is_part room Shared why = absurd why

@@ -6,7 +6,7 @@ use Rattle.blink_batch.specs.declared.batch.TheConstants.{BATCH_LIMIT}
 use Rattle.blink_store.specs.{PlainStore}
 use Rattle.blink_c.specs.declared.raw.RawOperation.{RawOperation}
 use Rattle.blink_c.specs.declared.refusal.Refusal.{Refusal}
-use Rattle.blink_c.specs.declared.refusal.Refusal.TheVariants.{TooMany, WrongLength, UnknownOperation, TooLarge, BadFan, OutOfMemory}
+use Rattle.blink_c.specs.declared.refusal.Refusal.TheVariants.{TooMany, WrongLength, UnknownOperation, TooLarge, BadFan, OutOfMemory, Shared}
 use Rattle.blink_c.specs.Raw.{AreOperations, op_of}
 use Rattle.blink_c.specs.Runs.{AreKnown, IsRunRefusal, IsStartRefusal}
 
@@ -28,3 +28,4 @@ refused_at_start before raws places ops same limit meant UnknownOperation why = 
 refused_at_start before raws places ops same limit meant TooLarge why = (same, limit, (ops, meant, why))
 refused_at_start before raws places ops same limit meant BadFan why = absurd why
 refused_at_start before raws places ops same limit meant OutOfMemory why = (same, (limit, kinds_known raws ops meant))
+refused_at_start before raws places ops same limit meant Shared why = absurd why

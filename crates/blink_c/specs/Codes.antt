@@ -2,7 +2,7 @@
 use Rattle.std.specs.Prelude.{◌≡◌, ◌≢◌, ◌⊎◌, ℕ, Result, Ok, Err}
 use Rattle.blink_c.specs.declared.refusal.TheConstants.{DONE}
 use Rattle.blink_c.specs.declared.refusal.Refusal.{Refusal}
-use Rattle.blink_c.specs.declared.refusal.Refusal.TheVariants.{TooMany, WrongLength, UnknownOperation, TooLarge, BadFan, OutOfMemory}
+use Rattle.blink_c.specs.declared.refusal.Refusal.TheVariants.{TooMany, WrongLength, UnknownOperation, TooLarge, BadFan, OutOfMemory, Shared}
 
 abbrev pub code_of : Refusal → ℕ
 code_of TooMany = 1
@@ -11,6 +11,7 @@ code_of UnknownOperation = 11
 code_of TooLarge = 32
 code_of BadFan = 40
 code_of OutOfMemory = 41
+code_of Shared = 43
 
 -- the code of an outcome, where `code` gives that of a refusal
 abbrev pub code_of_outcome : {R : Type 0} → (R → ℕ) → Result (Unit {0}) R → ℕ

@@ -24,6 +24,8 @@ pub use Rattle.blink_c.specs.Passes.{Begins, Ends, Finds, Glances, Hands, IsAdva
 pub use Rattle.blink_c.specs.Maps.{HasBadSessions, IsNewMap, IsTooLargeMap, Joins}
 -- a session behind a handle likewise
 pub use Rattle.blink_c.specs.Sessions.{Answers, EndsFrom, Finds as SessionFinds, IsAdvanceRefusal as IsSessionAdvanceRefusal, IsChangeRefusal, IsOwnSession, IsPutRefusal, IsShortage, IsTakeRefusal as IsSessionTakeRefusal, IsTellRefusal as IsSessionTellRefusal, Puts, Scans as SessionScans, Takes as SessionTakes, TellsOn as SessionTellsOn, TellsStock}
+-- readers of an index, each behind a handle
+pub use Rattle.blink_c.specs.Readers.{index_at, index_in}
 -- ---- the files
 pub mod Raw
 pub mod Runs
@@ -36,6 +38,7 @@ pub mod Tables
 pub mod Passes
 pub mod Maps
 pub mod Sessions
+pub mod Readers
 -- the codes of refusals
 pub mod Codes
 pub mod TableCodes
@@ -51,3 +54,5 @@ pub mod MapOwned
 pub mod MapLending
 pub mod SessionOwned
 pub mod SessionLending
+pub mod ReaderOwned
+pub mod ReaderLending

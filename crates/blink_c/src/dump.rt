@@ -5,7 +5,8 @@ ghost use Rattle.blink_c.specs.Codes.{code_of};
 ghost use Rattle.blink_c.specs.Filled.{put_if_fits};
 
 use crate::index_handle::IndexHandle;
-use crate::refusal::{DONE, Refusal};
+use crate::reads;
+use crate::refusal::Refusal;
 use std::alloc::Global;
 
 /// Gives the tree as text, if all of it fits, and stores how many bytes it has.
@@ -22,21 +23,5 @@ pub extern "C" fn blink_index_dump(
     ensures unchanged { result ≢ 0 → (text.new ≡ text.old) × (bytes.new ≡ bytes.old) }
     ensures same { index.new.value ≡ index.old.value }
 {
-    match index.get().dump(alloc) {
-        Ok(dump) => {
-            *bytes = dump.len();
-            put(dump.as_bytes(), text);
-            DONE
-        }
-        Err(_) => Refusal::OutOfMemory.code(),
-    }
-}
-
-// Puts a text into the places, if all of it fits.
-fn put(text: &[u8], places: &mut [u8])
-    ensures { places.new ≡ put_if_fits text.now places.old }
-{
-    if text.len() <= places.len() {
-        places[..text.len()].copy_from_slice(text);
-    }
+    reads::dump(alloc, index.get(), text, bytes)
 }

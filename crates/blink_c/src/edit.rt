@@ -9,8 +9,8 @@ ghost use Rattle.blink_c.specs.Runs.{HasPagesFor};
 
 use crate::index_handle::IndexHandle;
 use crate::raw::{RawAnswer, RawEntry};
+use crate::reads::give_entry;
 use crate::refusal::{DONE, Refusal};
-use blink_batch::{Answer, Entry};
 use blink_index::EditError;
 use std::alloc::Global;
 
@@ -140,18 +140,4 @@ pub extern "C" fn blink_index_next(index: &mut IndexHandle, key: u64, entry: &mu
     ensures same { index.new.value ≡ index.old.value }
 {
     give_entry(index.get().next(key), entry)
-}
-
-// Gives an entry, if there is one.
-fn give_entry(found: Option<Entry>, entry: &mut RawEntry) -> bool
-    ensures found { IsTrue result ↔ IsSome found }
-    ensures entry { entry.new ≡ entry_or found entry.old }
-{
-    match found {
-        Some(found) => {
-            *entry = RawEntry::of(found);
-            true
-        }
-        None => false,
-    }
 }

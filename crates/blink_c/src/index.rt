@@ -10,6 +10,7 @@ ghost use Rattle.blink_c.specs.Found.{found_answer, pointer_or};
 use crate::index_handle::IndexHandle;
 use crate::index_slot::IndexSlot;
 use crate::raw::RawAnswer;
+use crate::reads;
 use crate::refusal::{DONE, Refusal};
 use blink_index::{Index, IndexError};
 use std::alloc::Global;
@@ -72,9 +73,7 @@ pub extern "C" fn blink_index_find(index: &mut IndexHandle, key: u64, pointer: &
     ensures pointer { pointer.new ≡ pointer_or (pointer_of (map_of index.old.value) key) pointer.old }
     ensures same { index.new.value ≡ index.old.value }
 {
-    let found = index.get().find(key);
-    *pointer = found.unwrap_or(*pointer);
-    found.is_some()
+    reads::find(index.get(), key, pointer)
 }
 
 /// Looks keys up, and gives the answer of each at its place.
@@ -90,28 +89,7 @@ pub extern "C" fn blink_index_find_many(
     ensures unchanged { result ≢ 0 → answers.new ≡ answers.old }
     ensures same { index.new.value ≡ index.old.value }
 {
-    if answers.len() != keys.len() {
-        return Refusal::WrongLength.code();
-    }
-    find_each(index.get(), keys, answers);
-    DONE
-}
-
-// Looks keys up, and gives the answer of each at its place.
-fn find_each(index: &Index, keys: &[u64], answers: &mut [RawAnswer])
-    requires { length answers.old ≡ length keys.now }
-    ensures { answers.new ≡ map (found_answer (map_of index.now)) keys.now }
-{
-    for place in 0..keys.len() {
-        answers[place] = found_at(index, keys[place]);
-    }
-}
-
-// The answer of a find.
-fn found_at(index: &Index, key: u64) -> RawAnswer
-    ensures { result ≡ found_answer (map_of index.now) key }
-{
-    RawAnswer::shown(index.find(key))
+    reads::find_many(index.get(), keys, answers)
 }
 
 /// Copies the index.
@@ -139,7 +117,7 @@ pub extern "C" fn blink_index_fan(index: &mut IndexHandle) -> u8
     ensures fan { result ≡ index.old.value.fan }
     ensures same { index.new.value ≡ index.old.value }
 {
-    index.get().rest().store().fan()
+    reads::fan(index.get())
 }
 
 /// Returns the number of pages.

@@ -10,8 +10,8 @@ use std::marker::Model;
 /// What the caller holds of an index: a pointer alone, since a `Global` takes no bytes.
 #[repr(C)]
 pub struct IndexHandle {
-    at: *mut u8,
-    alloc: Global,
+    pub(crate) at: *mut u8,
+    pub(crate) alloc: Global,
     pub ghost value: { PlainStore } by { index_coded },
 }
 

@@ -24,10 +24,12 @@ pub(crate) enum Refusal {
     BadFan,
     /// Memory was refused.
     OutOfMemory,
+    /// The index has another reader.
+    Shared,
 }
 
 impl Refusal {
-    /// The refusal's code: that of the call which refuses so.
+    /// The refusal's code: that of the call which refuses so, or one of this crate's own.
     pub(crate) fn code(&self) -> u8
         ensures { result ≡ code_of self.now }
     {
@@ -38,6 +40,7 @@ impl Refusal {
             Refusal::TooLarge => StepError::TooLarge.code(),
             Refusal::BadFan => IndexError::BadFan.code(),
             Refusal::OutOfMemory => IndexError::OutOfMemory.code(),
+            Refusal::Shared => 43,
         }
     }
 }

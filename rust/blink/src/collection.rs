@@ -1,7 +1,7 @@
-//! The traits of Rust's collections, for an index. Where memory is refused, or no page number is left, they panic; the calls of [`Index`]
-//! return an error instead.
+//! The traits of Rust's collections, for an index and its readers. Where memory is refused, or no page number is left, they panic; the
+//! calls of [`Index`] and [`Reader`] return an error instead.
 
-use crate::{Answer, Entry, Index};
+use crate::{Answer, Entry, Index, Reader, Scan};
 use std::fmt;
 
 impl From<Entry> for (u64, u64) {
@@ -17,6 +17,13 @@ impl Clone for Index {
     }
 }
 
+impl Clone for Reader {
+    /// Makes one more reader of the same index. It panics where memory is refused, and [`Reader::join`] doesn't.
+    fn clone(&self) -> Reader {
+        self.join().expect("memory for a reader of an index")
+    }
+}
+
 /// Two indexes are equal if their entries are, whatever their fan and their pages.
 impl PartialEq for Index {
     fn eq(&self, other: &Index) -> bool {
@@ -28,8 +35,18 @@ impl Eq for Index {}
 
 impl fmt::Debug for Index {
     fn fmt(&self, f: &mut fmt::Formatter<'_>) -> fmt::Result {
-        f.debug_map().entries(self.scan(..).map(<(u64, u64)>::from)).finish()
+        fmt_entries(self.scan(..), f)
     }
+}
+
+impl fmt::Debug for Reader {
+    fn fmt(&self, f: &mut fmt::Formatter<'_>) -> fmt::Result {
+        fmt_entries(self.scan(..), f)
+    }
+}
+
+fn fmt_entries(entries: Scan<'_>, f: &mut fmt::Formatter<'_>) -> fmt::Result {
+    f.debug_map().entries(entries.map(<(u64, u64)>::from)).finish()
 }
 
 /// Makes an index of fan 32. Of two entries with one key the last stays, as in a `BTreeMap`.
@@ -71,9 +88,18 @@ impl Extend<(u64, u64)> for Index {
 
 impl<'a> IntoIterator for &'a Index {
     type Item = Entry;
-    type IntoIter = crate::Scan<'a>;
+    type IntoIter = Scan<'a>;
 
-    fn into_iter(self) -> crate::Scan<'a> {
+    fn into_iter(self) -> Scan<'a> {
+        self.scan(..)
+    }
+}
+
+impl<'a> IntoIterator for &'a Reader {
+    type Item = Entry;
+    type IntoIter = Scan<'a>;
+
+    fn into_iter(self) -> Scan<'a> {
         self.scan(..)
     }
 }

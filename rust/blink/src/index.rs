@@ -1,10 +1,8 @@
 //! The index.
 
-use crate::range::{first_and_last, Parts};
+use crate::read::{OfIndex, Read};
 use crate::sys::{self, Handle, RawAnswer};
-use crate::{Answer, Entry, Error, Op};
-use std::cell::UnsafeCell;
-use std::fmt;
+use crate::{Answer, Entry, Error, Op, Reader, Scan};
 use std::ops::RangeBounds;
 
 /// A map from 64-bit keys to 64-bit record pointers, in a proved B-link tree.
@@ -32,31 +30,13 @@ use std::ops::RangeBounds;
 /// may_be_shared::<blink::Index>();
 /// ```
 ///
-/// Threads that read its entries at the same time each have a session of a [`Map`](crate::Map) over the index. Where they only read,
-/// the map needs no room for changes:
-///
-/// ```
-/// use blink::{Index, Map, Room};
-///
-/// let index: Index = (0..1000).map(|key| (key, 10 * key)).collect();
-/// let map = Map::open(&index, Room { pages: 0, rows: 0, sessions: 8 })?;
-/// std::thread::scope(|scope| {
-///     for thread in 0..8 {
-///         let mut session = map.session().unwrap();
-///         scope.spawn(move || {
-///             assert_eq!(session.get(thread), Some(10 * thread));
-///             assert_eq!(session.range(thread..).count() as u64, 1000 - thread);
-///         });
-///     }
-/// });
-/// # Ok::<(), blink::Error>(())
-/// ```
+/// Threads that read it at the same time each have a [`Reader`], which [`Index::share`] gives. A [`Map`](crate::Map) is for threads of
+/// which some change its entries.
 pub struct Index {
-    // A call takes the handle by a pointer for writing, also where it changes nothing; src/index_handle.rt of crates/blink_c has why.
-    handle: UnsafeCell<Handle>,
+    read: Read<OfIndex>,
 }
 
-// SAFETY: an index is plain data, and `IndexHandle` of crates/blink_c is proved to be `Send`. It isn't `Sync`, by its cell.
+// SAFETY: an index is plain data, and `IndexHandle` of crates/blink_c is proved to be `Send`. It isn't `Sync`, by the cell in `Read`.
 unsafe impl Send for Index {}
 
 impl Index {
@@ -116,9 +96,7 @@ impl Index {
         };
         match code {
             sys::NOT_ASCENDING => Err(Error::NotAscending(bad_place)),
-            code => Error::check(code).map(|()| Index {
-                handle: UnsafeCell::new(handle),
-            }),
+            code => Error::check(code).map(|()| Index::of(handle)),
         }
     }
 
@@ -126,17 +104,36 @@ impl Index {
     pub fn try_clone(&self) -> Result<Index, Error> {
         Index::filled(|out| {
             // SAFETY: the handle is full, this thread alone uses it, and `out` is an empty one.
-            unsafe { sys::blink_index_copy(self.handle.get(), out) }
+            unsafe { sys::blink_index_copy(self.read.handle(), out) }
         })
+    }
+
+    /// Makes the index one that is only read, and returns its first reader. No entry is copied. Only memory may be refused, and then
+    /// the index comes back as it was.
+    ///
+    /// ```
+    /// use blink::{Index, Reader};
+    ///
+    /// let index: Index = (0..1000).map(|key| (key, 10 * key)).collect();
+    /// let reader: Reader = index.share().map_err(|(_index, error)| error)?;
+    /// assert_eq!(reader.find(7), Some(70));
+    /// # Ok::<(), blink::Error>(())
+    /// ```
+    pub fn share(self) -> Result<Reader, (Index, Error)> {
+        // SAFETY: the handle is full, and this thread alone uses it. The call leaves it empty where it isn't refused.
+        Reader::filled(|out| unsafe { sys::blink_index_share(self.handle(), out) }).map_err(|error| (self, error))
     }
 
     // The index that a call gives.
     pub(crate) fn filled(call: impl FnOnce(*mut Handle) -> u8) -> Result<Index, Error> {
         let mut handle = Handle::EMPTY;
         Error::check(call(&mut handle))?;
-        Ok(Index {
-            handle: UnsafeCell::new(handle),
-        })
+        Ok(Index::of(handle))
+    }
+
+    // The handle is full, and of an index.
+    pub(crate) fn of(handle: Handle) -> Index {
+        Index { read: Read::of(handle) }
     }
 
     /// Maps a key to a pointer in place, unless the key is there: [`Answer::Inserted`], or [`Answer::Exists`] with the key's pointer.
@@ -156,7 +153,7 @@ impl Index {
     pub fn insert(&mut self, key: u64, pointer: u64) -> Result<Answer, Error> {
         let mut given = RawAnswer::NONE;
         // SAFETY: the handle is full and borrowed for writing.
-        Error::check(unsafe { sys::blink_index_insert(self.handle.get(), key, pointer, &mut given) })?;
+        Error::check(unsafe { sys::blink_index_insert(self.read.handle(), key, pointer, &mut given) })?;
         Ok(Answer::of(given))
     }
 
@@ -164,7 +161,7 @@ impl Index {
     pub fn remove(&mut self, key: u64) -> Answer {
         let mut given = RawAnswer::NONE;
         // SAFETY: as in `insert`.
-        unsafe { sys::blink_index_delete(self.handle.get(), key, &mut given) };
+        unsafe { sys::blink_index_delete(self.read.handle(), key, &mut given) };
         Answer::of(given)
     }
 
@@ -173,7 +170,7 @@ impl Index {
     pub fn replace(&mut self, key: u64, pointer: u64) -> Answer {
         let mut given = RawAnswer::NONE;
         // SAFETY: as in `insert`.
-        unsafe { sys::blink_index_replace(self.handle.get(), key, pointer, &mut given) };
+        unsafe { sys::blink_index_replace(self.read.handle(), key, pointer, &mut given) };
         Answer::of(given)
     }
 
@@ -191,7 +188,7 @@ impl Index {
     pub fn compare_exchange(&mut self, key: u64, expected: u64, new: u64) -> Result<u64, Option<u64>> {
         let mut given = RawAnswer::NONE;
         // SAFETY: as in `insert`.
-        unsafe { sys::blink_index_exchange(self.handle.get(), key, expected, new, &mut given) };
+        unsafe { sys::blink_index_exchange(self.read.handle(), key, expected, new, &mut given) };
         Answer::of(given).exchanged()
     }
 
@@ -209,7 +206,7 @@ impl Index {
     pub fn compare_remove(&mut self, key: u64, expected: u64) -> Result<u64, Option<u64>> {
         let mut given = RawAnswer::NONE;
         // SAFETY: as in `insert`.
-        unsafe { sys::blink_index_delete_exact(self.handle.get(), key, expected, &mut given) };
+        unsafe { sys::blink_index_delete_exact(self.read.handle(), key, expected, &mut given) };
         Answer::of(given).exchanged()
     }
 
@@ -232,7 +229,7 @@ impl Index {
         // SAFETY: as in `insert`; both arrays have that many elements.
         let code = unsafe {
             sys::blink_index_apply(
-                self.handle.get(),
+                self.read.handle(),
                 raw.as_ptr(),
                 raw.len(),
                 given.as_mut_ptr(),
@@ -265,7 +262,7 @@ impl Index {
     /// ```
     pub fn compact(&mut self) -> Result<(), Error> {
         // SAFETY: as in `insert`.
-        Error::check(unsafe { sys::blink_index_compact(self.handle.get()) })
+        Error::check(unsafe { sys::blink_index_compact(self.read.handle()) })
     }
 
     /// Runs operations one after another, and returns their answers. Each 8,192 of them run on a copy of the index, which then
@@ -277,7 +274,7 @@ impl Index {
             let mut given = vec![RawAnswer::NONE; raw.len()];
             // SAFETY: the handle is full and borrowed for writing; both arrays have that many elements.
             Error::check(unsafe {
-                sys::blink_index_run(self.handle.get(), raw.as_ptr(), raw.len(), given.as_mut_ptr(), given.len())
+                sys::blink_index_run(self.read.handle(), raw.as_ptr(), raw.len(), given.as_mut_ptr(), given.len())
             })?;
             answers.extend(given.into_iter().map(Answer::of));
         }
@@ -286,9 +283,7 @@ impl Index {
 
     /// Returns the record pointer of a key.
     pub fn find(&self, key: u64) -> Option<u64> {
-        let mut pointer = 0;
-        // SAFETY: the handle is full, and this thread alone uses it, since an `Index` isn't `Sync`.
-        unsafe { sys::blink_index_find(self.handle.get(), key, &mut pointer) }.then_some(pointer)
+        self.read.find(key)
     }
 
     /// Returns the record pointer of each key.
@@ -300,14 +295,7 @@ impl Index {
     /// # Ok::<(), blink::Error>(())
     /// ```
     pub fn find_many(&self, keys: &[u64]) -> Vec<Option<u64>> {
-        let mut given = vec![RawAnswer::NONE; keys.len()];
-        // SAFETY: as in `find`; both arrays have that many elements.
-        let code = unsafe {
-            sys::blink_index_find_many(self.handle.get(), keys.as_ptr(), keys.len(), given.as_mut_ptr(), given.len())
-        };
-        // The arrays are equally long, and nothing else is refused.
-        assert_eq!(code, 0);
-        given.into_iter().map(|raw| Answer::of(raw).pointer()).collect()
+        self.read.find_many(keys)
     }
 
     /// Returns the entries whose keys are in the range, in ascending order.
@@ -320,27 +308,12 @@ impl Index {
     /// # Ok::<(), blink::Error>(())
     /// ```
     pub fn scan(&self, range: impl RangeBounds<u64>) -> Scan<'_> {
-        Scan {
-            index: self,
-            range: first_and_last(&range),
-            parts: Parts::new(),
-        }
+        self.read.scan(range)
     }
 
     /// Returns the number of entries whose keys are in the range from `lo` to `hi`, both included.
     pub fn count(&self, lo: u64, hi: u64) -> usize {
-        let mut fitted = 0;
-        let mut none = [];
-        // SAFETY: as in `find`; the array has no element.
-        unsafe { sys::blink_index_scan(self.handle.get(), lo, hi, none.as_mut_ptr(), 0, &mut fitted) }
-    }
-
-    // Gives the first entries from a key on, at most as many as there are places, and returns how many they are.
-    fn page(&self, lo: u64, places: &mut [Entry]) -> usize {
-        let mut fitted = 0;
-        let most = places.len();
-        // SAFETY: as in `find`; the array has that many elements.
-        unsafe { sys::blink_index_page(self.handle.get(), lo, most as u64, places.as_mut_ptr(), most, &mut fitted) }
+        self.read.count(lo, hi)
     }
 
     /// Returns the entry with the least key, if there is one.
@@ -355,32 +328,22 @@ impl Index {
     /// # Ok::<(), blink::Error>(())
     /// ```
     pub fn first(&self) -> Option<Entry> {
-        // SAFETY: as in `find`.
-        self.found(|entry| unsafe { sys::blink_index_first(self.handle.get(), entry) })
+        self.read.first()
     }
 
     /// Returns the entry with the greatest key, if there is one.
     pub fn last(&self) -> Option<Entry> {
-        // SAFETY: as in `find`.
-        self.found(|entry| unsafe { sys::blink_index_last(self.handle.get(), entry) })
+        self.read.last()
     }
 
     /// Returns the entry with the least key above this one, if there is one.
     pub fn next(&self, key: u64) -> Option<Entry> {
-        // SAFETY: as in `find`.
-        self.found(|entry| unsafe { sys::blink_index_next(self.handle.get(), key, entry) })
-    }
-
-    // The entry that a call gives, if it gives one.
-    fn found(&self, call: impl FnOnce(*mut Entry) -> bool) -> Option<Entry> {
-        let mut entry = Entry { key: 0, pointer: 0 };
-        call(&mut entry).then_some(entry)
+        self.read.next(key)
     }
 
     /// Returns the number of entries. It walks all leaves.
     pub fn len(&self) -> usize {
-        // SAFETY: as in `find`.
-        unsafe { sys::blink_index_len(self.handle.get()) }
+        self.read.len()
     }
 
     /// Returns whether the index has no entry.
@@ -390,14 +353,12 @@ impl Index {
 
     /// Returns the number of pages, at least 1.
     pub fn pages(&self) -> u32 {
-        // SAFETY: as in `find`.
-        unsafe { sys::blink_index_pages(self.handle.get()) }
+        self.read.pages()
     }
 
     /// Returns the greatest number of entries in a page.
     pub fn fan(&self) -> u8 {
-        // SAFETY: as in `find`.
-        unsafe { sys::blink_index_fan(self.handle.get()) }
+        self.read.fan()
     }
 
     /// Returns the tree as text, a line a page, the top level first.
@@ -409,22 +370,11 @@ impl Index {
     /// # Ok::<(), blink::Error>(())
     /// ```
     pub fn dump(&self) -> Result<String, Error> {
-        let mut text = Vec::new();
-        loop {
-            let mut bytes = 0;
-            // SAFETY: as in `find`; the array has that many elements.
-            Error::check(unsafe {
-                sys::blink_index_dump(self.handle.get(), text.as_mut_ptr(), text.len(), &mut bytes)
-            })?;
-            if bytes <= text.len() {
-                return Ok(String::from_utf8(text).expect("a dump is ASCII"));
-            }
-            text.resize(bytes, 0);
-        }
+        self.read.dump()
     }
 
     pub(crate) fn handle(&self) -> *mut Handle {
-        self.handle.get()
+        self.read.handle()
     }
 }
 
@@ -436,57 +386,3 @@ pub struct Applied {
     /// Why the next operation was refused, if one was.
     pub error: Option<Error>,
 }
-
-impl Drop for Index {
-    fn drop(&mut self) {
-        // SAFETY: the handle is full, and is taken out, so it is freed once.
-        unsafe { sys::blink_index_free(self.handle.get_mut().take()) }
-    }
-}
-
-/// The entries of an index whose keys are in a range, in ascending order. It takes them out of the index in parts: 16 first, which
-/// takes no memory, then twice as many each time, up to 256.
-#[derive(Clone)]
-pub struct Scan<'a> {
-    index: &'a Index,
-    // The keys that are still to be asked for.
-    range: Option<(u64, u64)>,
-    parts: Parts,
-}
-
-impl Scan<'_> {
-    // Takes the next entries out of the index.
-    fn refill(&mut self) {
-        let Some((lo, hi)) = self.range else { return };
-        let places = self.parts.places();
-        let (asked, there) = (places.len(), self.index.page(lo, places));
-        let entries = &places[..there];
-        let (within, next) = match entries.last() {
-            Some(last) if last.key <= hi => (there, last.key.checked_add(1)),
-            _ => (entries.partition_point(|entry| entry.key <= hi), None),
-        };
-        self.range = next.filter(|next| there == asked && *next <= hi).map(|next| (next, hi));
-        self.parts.fill(within);
-    }
-}
-
-impl fmt::Debug for Scan<'_> {
-    fn fmt(&self, f: &mut fmt::Formatter<'_>) -> fmt::Result {
-        f.debug_struct("Scan").field("range", &self.range).finish_non_exhaustive()
-    }
-}
-
-impl Iterator for Scan<'_> {
-    type Item = Entry;
-
-    // Called once an entry, from another crate.
-    #[inline]
-    fn next(&mut self) -> Option<Entry> {
-        if self.parts.is_empty() {
-            self.refill();
-        }
-        self.parts.take()
-    }
-}
-
-impl std::iter::FusedIterator for Scan<'_> {}

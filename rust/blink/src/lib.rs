@@ -20,6 +20,7 @@
 //! ```
 //!
 //! - [`Index`] is a map from 64-bit keys to 64-bit record pointers, for one thread at a time.
+//! - [`Reader`] reads an index that other threads read at the same time, each by a reader of its own.
 //! - [`Map`] shares the entries of an index among threads. Any of them changes any key, each by a [`Session`].
 //! - [`Table`] shares them too, and each key has an owner: a [`Pass`] has keys of its own, inserts, deletes and replaces these, and
 //!   looks at all.
@@ -32,12 +33,16 @@ mod index;
 mod map;
 mod operation;
 mod range;
+mod read;
+mod reader;
 mod sys;
 mod table;
 
 pub use error::Error;
-pub use index::{Applied, Index, Scan};
+pub use index::{Applied, Index};
 pub use map::{Begun, Left, Map, Room, Session, Stock, Unfinished};
 pub use operation::{Answer, Entry, Op};
 pub use range::Range;
+pub use read::Scan;
+pub use reader::Reader;
 pub use table::{Pass, Pending, Table};

@@ -68,6 +68,9 @@ pub(crate) type ScanCall =
 /// The code of entries whose keys don't ascend.
 pub(crate) const NOT_ASCENDING: u8 = 42;
 
+/// The code of an index that has another reader.
+pub(crate) const SHARED: u8 = 43;
+
 pub(crate) const BATCH_LIMIT: usize = 8192;
 
 /// The code of a change for which the session has room once its rows have come back.
@@ -146,6 +149,42 @@ extern "C" {
     pub(crate) fn blink_index_fan(index: *mut Handle) -> u8;
     pub(crate) fn blink_index_dump(index: *mut Handle, text: *mut u8, places: usize, bytes: *mut usize) -> u8;
     pub(crate) fn blink_index_free(index: Handle);
+
+    pub(crate) fn blink_index_share(index: *mut Handle, out: *mut Handle) -> u8;
+    pub(crate) fn blink_reader_join(reader: *mut Handle, out: *mut Handle) -> u8;
+    pub(crate) fn blink_reader_unshare(reader: *mut Handle, out: *mut Handle) -> u8;
+    pub(crate) fn blink_reader_find(reader: *mut Handle, key: u64, pointer: *mut u64) -> bool;
+    pub(crate) fn blink_reader_find_many(
+        reader: *mut Handle,
+        keys: *const u64,
+        count: usize,
+        answers: *mut RawAnswer,
+        places: usize,
+    ) -> u8;
+    pub(crate) fn blink_reader_scan(
+        reader: *mut Handle,
+        lo: u64,
+        hi: u64,
+        entries: *mut crate::Entry,
+        places: usize,
+        fitted: *mut usize,
+    ) -> usize;
+    pub(crate) fn blink_reader_page(
+        reader: *mut Handle,
+        lo: u64,
+        n: u64,
+        entries: *mut crate::Entry,
+        places: usize,
+        fitted: *mut usize,
+    ) -> usize;
+    pub(crate) fn blink_reader_first(reader: *mut Handle, entry: *mut crate::Entry) -> bool;
+    pub(crate) fn blink_reader_last(reader: *mut Handle, entry: *mut crate::Entry) -> bool;
+    pub(crate) fn blink_reader_next(reader: *mut Handle, key: u64, entry: *mut crate::Entry) -> bool;
+    pub(crate) fn blink_reader_len(reader: *mut Handle) -> usize;
+    pub(crate) fn blink_reader_pages(reader: *mut Handle) -> u32;
+    pub(crate) fn blink_reader_fan(reader: *mut Handle) -> u8;
+    pub(crate) fn blink_reader_dump(reader: *mut Handle, text: *mut u8, places: usize, bytes: *mut usize) -> u8;
+    pub(crate) fn blink_reader_free(reader: Handle);
 
     pub(crate) fn blink_table_open(index: *mut Handle, inserts: u32, deletes: u32, number: u64, out: *mut Handle) -> u8;
     pub(crate) fn blink_table_deal(

@@ -2,7 +2,7 @@
 use Rattle.std.proofs.Common.{◌≡◌, List, ◌++◌, length}
 use Rattle.blink_batch.specs.declared.Entry.{Entry}
 use Rattle.blink_c.specs.Filled.{overlaid}
-use Rattle.blink_c.proofs.scan.fill_entries.Given as goal
+use Rattle.blink_c.proofs.reads.fill_entries.Given as goal
 
 abbrev pub invariant-loop-entry : goal.invariant-loop-entry
 invariant-loop-entry l = record {

@@ -1,7 +1,7 @@
 use Rattle.std.proofs.Common.{◌∙◌, ◌++◌, ◌∷◌, [], List, append_assoc, length-append, ap, sym, arith}
 use Rattle.blink_batch.specs.declared.Entry.{Entry}
 use Rattle.blink_c.proofs.Overlays.{overlaid-more}
-use Rattle.blink_c.proofs.scan.fill_entries.Goals as goal
+use Rattle.blink_c.proofs.reads.fill_entries.Goals as goal
 
 -- one entry more
 pub loop-entry-preserved : goal.loop-entry-preserved

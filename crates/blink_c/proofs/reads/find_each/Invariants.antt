@@ -2,7 +2,7 @@
 use Rattle.std.proofs.Common.{◌≡◌, length, map, take}
 use Rattle.blink_index.specs.{map_of}
 use Rattle.blink_c.specs.Found.{found_answer}
-use Rattle.blink_c.proofs.index.find_each.Given as goal
+use Rattle.blink_c.proofs.reads.find_each.Given as goal
 
 abbrev pub invariant-loop-place : goal.invariant-loop-place
 invariant-loop-place l = record {

@@ -1,0 +1,225 @@
+//! Reading an index: what an index and a reader do alike.
+
+use crate::range::{first_and_last, Parts};
+use crate::sys::{self, Handle, RawAnswer};
+use crate::{Answer, Entry, Error};
+use std::cell::UnsafeCell;
+use std::fmt;
+use std::marker::PhantomData;
+use std::ops::RangeBounds;
+
+/// The calls that read an index by a handle, and the call that frees the handle.
+pub(crate) struct Calls {
+    find: unsafe extern "C" fn(*mut Handle, u64, *mut u64) -> bool,
+    find_many: unsafe extern "C" fn(*mut Handle, *const u64, usize, *mut RawAnswer, usize) -> u8,
+    scan: PartCall,
+    page: PartCall,
+    first: unsafe extern "C" fn(*mut Handle, *mut Entry) -> bool,
+    last: unsafe extern "C" fn(*mut Handle, *mut Entry) -> bool,
+    next: unsafe extern "C" fn(*mut Handle, u64, *mut Entry) -> bool,
+    len: unsafe extern "C" fn(*mut Handle) -> usize,
+    pages: unsafe extern "C" fn(*mut Handle) -> u32,
+    fan: unsafe extern "C" fn(*mut Handle) -> u8,
+    dump: unsafe extern "C" fn(*mut Handle, *mut u8, usize, *mut usize) -> u8,
+    free: unsafe extern "C" fn(Handle),
+}
+
+type PartCall = unsafe extern "C" fn(*mut Handle, u64, u64, *mut Entry, usize, *mut usize) -> usize;
+
+/// What a handle is of.
+pub(crate) trait Kind {
+    const CALLS: Calls;
+}
+
+pub(crate) struct OfIndex;
+
+impl Kind for OfIndex {
+    const CALLS: Calls = Calls {
+        find: sys::blink_index_find,
+        find_many: sys::blink_index_find_many,
+        scan: sys::blink_index_scan,
+        page: sys::blink_index_page,
+        first: sys::blink_index_first,
+        last: sys::blink_index_last,
+        next: sys::blink_index_next,
+        len: sys::blink_index_len,
+        pages: sys::blink_index_pages,
+        fan: sys::blink_index_fan,
+        dump: sys::blink_index_dump,
+        free: sys::blink_index_free,
+    };
+}
+
+pub(crate) struct OfReader;
+
+impl Kind for OfReader {
+    const CALLS: Calls = Calls {
+        find: sys::blink_reader_find,
+        find_many: sys::blink_reader_find_many,
+        scan: sys::blink_reader_scan,
+        page: sys::blink_reader_page,
+        first: sys::blink_reader_first,
+        last: sys::blink_reader_last,
+        next: sys::blink_reader_next,
+        len: sys::blink_reader_len,
+        pages: sys::blink_reader_pages,
+        fan: sys::blink_reader_fan,
+        dump: sys::blink_reader_dump,
+        free: sys::blink_reader_free,
+    };
+}
+
+/// A handle by which an index is read. It isn't `Sync`, by its cell, so one thread at a time uses it.
+pub(crate) struct Read<K: Kind> {
+    // A call takes the handle by a pointer for writing, also where it changes nothing; src/index_handle.rt of crates/blink_c has why.
+    handle: UnsafeCell<Handle>,
+    kind: PhantomData<K>,
+}
+
+impl<K: Kind> Read<K> {
+    /// The handle is full, and of this kind. Once a call has left it empty, it may only be dropped.
+    pub(crate) fn of(handle: Handle) -> Read<K> {
+        Read { handle: UnsafeCell::new(handle), kind: PhantomData }
+    }
+
+    pub(crate) fn handle(&self) -> *mut Handle {
+        self.handle.get()
+    }
+
+    pub(crate) fn find(&self, key: u64) -> Option<u64> {
+        let mut pointer = 0;
+        // SAFETY: the handle is full, and this thread alone uses it, since a `Read` isn't `Sync`.
+        unsafe { (K::CALLS.find)(self.handle(), key, &mut pointer) }.then_some(pointer)
+    }
+
+    pub(crate) fn find_many(&self, keys: &[u64]) -> Vec<Option<u64>> {
+        let mut given = vec![RawAnswer::NONE; keys.len()];
+        // SAFETY: as in `find`; both arrays have that many elements.
+        let code = unsafe { (K::CALLS.find_many)(self.handle(), keys.as_ptr(), keys.len(), given.as_mut_ptr(), given.len()) };
+        // The arrays are equally long, and nothing else is refused.
+        assert_eq!(code, 0);
+        given.into_iter().map(|raw| Answer::of(raw).pointer()).collect()
+    }
+
+    pub(crate) fn scan(&self, range: impl RangeBounds<u64>) -> Scan<'_> {
+        Scan { handle: &self.handle, page: K::CALLS.page, range: first_and_last(&range), parts: Parts::new() }
+    }
+
+    pub(crate) fn count(&self, lo: u64, hi: u64) -> usize {
+        let mut fitted = 0;
+        let mut none = [];
+        // SAFETY: as in `find`; the array has no element.
+        unsafe { (K::CALLS.scan)(self.handle(), lo, hi, none.as_mut_ptr(), 0, &mut fitted) }
+    }
+
+    pub(crate) fn first(&self) -> Option<Entry> {
+        // SAFETY: as in `find`.
+        found(|entry| unsafe { (K::CALLS.first)(self.handle(), entry) })
+    }
+
+    pub(crate) fn last(&self) -> Option<Entry> {
+        // SAFETY: as in `find`.
+        found(|entry| unsafe { (K::CALLS.last)(self.handle(), entry) })
+    }
+
+    pub(crate) fn next(&self, key: u64) -> Option<Entry> {
+        // SAFETY: as in `find`.
+        found(|entry| unsafe { (K::CALLS.next)(self.handle(), key, entry) })
+    }
+
+    pub(crate) fn len(&self) -> usize {
+        // SAFETY: as in `find`.
+        unsafe { (K::CALLS.len)(self.handle()) }
+    }
+
+    pub(crate) fn pages(&self) -> u32 {
+        // SAFETY: as in `find`.
+        unsafe { (K::CALLS.pages)(self.handle()) }
+    }
+
+    pub(crate) fn fan(&self) -> u8 {
+        // SAFETY: as in `find`.
+        unsafe { (K::CALLS.fan)(self.handle()) }
+    }
+
+    pub(crate) fn dump(&self) -> Result<String, Error> {
+        let mut text = Vec::new();
+        loop {
+            let mut bytes = 0;
+            // SAFETY: as in `find`; the array has that many elements.
+            Error::check(unsafe { (K::CALLS.dump)(self.handle(), text.as_mut_ptr(), text.len(), &mut bytes) })?;
+            if bytes <= text.len() {
+                return Ok(String::from_utf8(text).expect("a dump is ASCII"));
+            }
+            text.resize(bytes, 0);
+        }
+    }
+}
+
+impl<K: Kind> Drop for Read<K> {
+    fn drop(&mut self) {
+        let handle = self.handle.get_mut().take();
+        if !handle.is_empty() {
+            // SAFETY: the handle is full, and is taken out, so it is freed once.
+            unsafe { (K::CALLS.free)(handle) }
+        }
+    }
+}
+
+// The entry that a call gives, if it gives one.
+fn found(call: impl FnOnce(*mut Entry) -> bool) -> Option<Entry> {
+    let mut entry = Entry { key: 0, pointer: 0 };
+    call(&mut entry).then_some(entry)
+}
+
+/// The entries of an index whose keys are in a range, in ascending order. It takes them out of the index in parts: 16 first, which
+/// takes no memory, then twice as many each time, up to 256.
+#[derive(Clone)]
+pub struct Scan<'a> {
+    // It is full, and of the kind that the call takes.
+    handle: &'a UnsafeCell<Handle>,
+    page: PartCall,
+    // The keys that are still to be asked for.
+    range: Option<(u64, u64)>,
+    parts: Parts,
+}
+
+impl Scan<'_> {
+    // Takes the next entries out of the index.
+    fn refill(&mut self) {
+        let Some((lo, hi)) = self.range else { return };
+        let places = self.parts.places();
+        let asked = places.len();
+        let mut fitted = 0;
+        // SAFETY: the handle is full, and this thread alone uses it, since a `Scan` isn't `Send`; the array has that many elements.
+        let there = unsafe { (self.page)(self.handle.get(), lo, asked as u64, places.as_mut_ptr(), asked, &mut fitted) };
+        let entries = &places[..there];
+        let (within, next) = match entries.last() {
+            Some(last) if last.key <= hi => (there, last.key.checked_add(1)),
+            _ => (entries.partition_point(|entry| entry.key <= hi), None),
+        };
+        self.range = next.filter(|next| there == asked && *next <= hi).map(|next| (next, hi));
+        self.parts.fill(within);
+    }
+}
+
+impl fmt::Debug for Scan<'_> {
+    fn fmt(&self, f: &mut fmt::Formatter<'_>) -> fmt::Result {
+        f.debug_struct("Scan").field("range", &self.range).finish_non_exhaustive()
+    }
+}
+
+impl Iterator for Scan<'_> {
+    type Item = Entry;
+
+    // Called once an entry, from another crate.
+    #[inline]
+    fn next(&mut self) -> Option<Entry> {
+        if self.parts.is_empty() {
+            self.refill();
+        }
+        self.parts.take()
+    }
+}
+
+impl std::iter::FusedIterator for Scan<'_> {}
