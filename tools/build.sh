@@ -72,16 +72,18 @@ output_of() {
 # pays where all others wait for the crate: most where nothing else can be proved meanwhile.
 jobs_of() {
     case $1 in
-    blink_c | blink_machine | blink_run | index_main) echo "$processors" ;;
-    blink_index | blink_live | blink_page) echo $(((processors + 1) / 2)) ;;
+    blink_c | blink_index | blink_live | blink_machine | blink_map | blink_run | index_main) echo "$processors" ;;
+    blink_locked | blink_page | blink_replay | blink_rest | blink_steps | blink_store) echo $(((processors + 1) / 2)) ;;
     *) echo 1 ;;
     esac
 }
 
-# How far a crate gives way to others. These two can be proved early and are needed late, so they take what the chain of the others leaves.
+# How far a crate gives way to others. These can be proved early and are needed late, so they take what the chain of the others leaves.
 niceness_of() {
     case $1 in
-    blink_command | blink_rows) echo 19 ;;
+    blink_rows) echo 19 ;;
+    blink_command) echo 10 ;;
+    blink_locked | blink_replay) echo 5 ;;
     *) echo 0 ;;
     esac
 }

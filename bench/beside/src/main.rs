@@ -9,6 +9,7 @@
 //!                        tells again what was measured, of the file of all figures
 //! beside small           runs a little of every workload, to see that the answers are right, and prints nothing
 //! beside planted         the same with one wrong sum, which it has to find
+//! beside turns           measures finds, changes and scans by turns: of sessions beside those of passes, and scans beside a BTreeMap's
 //! beside life            measures the life of a map: joining, opening, and what an insertion uses up
 //! beside soak FAN CHANGES
 //!                        changes a map by eight threads so many times, looks everything up, and tells time and memory
@@ -26,6 +27,7 @@ mod rounds;
 mod script;
 mod side;
 mod soak;
+mod turns;
 mod workload;
 
 use map::Map;
@@ -108,6 +110,10 @@ fn main() -> Result<(), Box<dyn Error>> {
         [] => all(None),
         ["life"] => {
             ours::life();
+            Ok(())
+        }
+        ["turns"] => {
+            turns::turns();
             Ok(())
         }
         ["soak", fan, changes] => Ok(soak::soak(fan.parse()?, changes.parse()?)?),

@@ -1,0 +1,179 @@
+//! Calls side by side, by turns, so that what disturbs one disturbs the others: what a session's marks cost, and what scans take.
+
+use crate::workload::{Keys, Random};
+use blink::{Entry, Index, Map, Pass, Room, Session, Table};
+use std::collections::BTreeMap;
+use std::sync::atomic::{AtomicBool, Ordering};
+use std::sync::{Barrier, RwLock};
+use std::thread;
+use std::time::Instant;
+
+const ROUNDS: usize = 9;
+const THREADS: usize = 4;
+// How many calls of a kind a round has, of all threads together; of scans, so many of so many entries.
+const CALLS: usize = 200_000;
+const SCANS: usize = 800;
+const LENGTH: usize = 1_000;
+
+// A side's name, and a round of it: nanoseconds of a call, or of an entry.
+type Round<'a> = (&'static str, Box<dyn FnMut() -> f64 + 'a>);
+
+// Measures the sides by turns, and prints the median of each.
+fn measure(title: &str, mut sides: Vec<Round>) {
+    let mut figures = vec![Vec::new(); sides.len()];
+    for _ in 0..ROUNDS {
+        for ((_, round), figures) in sides.iter_mut().zip(&mut figures) {
+            figures.push(round());
+        }
+    }
+    println!("{title}:");
+    for ((name, _), figures) in sides.iter().zip(&mut figures) {
+        figures.sort_by(f64::total_cmp);
+        println!("    {name}: {:.2} ns ({:.2} to {:.2})", figures[ROUNDS / 2], figures[0], figures[ROUNDS - 1]);
+    }
+}
+
+// Nanoseconds of one of so many items, from the start of the first thread to the end of the last one, where each of these handles works in
+// a thread of its own.
+fn timed<H: Send>(handles: Vec<H>, items: usize, work: impl Fn(H, u64) + Sync) -> f64 {
+    let (start, count) = (Barrier::new(handles.len()), handles.len());
+    let times: Vec<(Instant, Instant)> = thread::scope(|scope| {
+        let run = |(thread, handle): (usize, H)| {
+            let (start, work) = (&start, &work);
+            scope.spawn(move || {
+                start.wait();
+                let began = Instant::now();
+                work(handle, thread as u64);
+                (began, Instant::now())
+            })
+        };
+        let threads: Vec<_> = handles.into_iter().enumerate().map(run).collect();
+        threads.into_iter().map(|thread| thread.join().expect("a thread that works")).collect()
+    });
+    let (began, ended) = times.into_iter().reduce(|one, other| (one.0.min(other.0), one.1.max(other.1))).expect("a thread");
+    (ended - began).as_nanos() as f64 / (items / count * count) as f64
+}
+
+// The sum of a scan, so that it can't be left out.
+fn sum(entries: impl Iterator<Item = Entry>) -> u64 {
+    entries.take(LENGTH).fold(0, |sum, entry| sum.wrapping_add(entry.key ^ entry.pointer))
+}
+
+// So many scans of one thread, from a key that is drawn for each.
+fn scans(sorted: &[u64], seed: u64, count: usize, mut scan: impl FnMut(u64) -> u64) {
+    let mut random = Random(seed);
+    let sums = (0..count).fold(0, |sum: u64, _| sum.wrapping_add(scan(sorted[random.below(sorted.len() - LENGTH)])));
+    assert_ne!(sums, 0);
+}
+
+fn by_tree(tree: &BTreeMap<u64, u64>, from: u64) -> u64 {
+    sum(tree.range(from..).map(|(&key, &pointer)| Entry { key, pointer }))
+}
+
+fn sessions<'a>(map: &'a Map, count: usize) -> Vec<Session<'a>> {
+    (0..count).map(|_| map.session().expect("a session")).collect()
+}
+
+// What a session's call costs beside a pass's, which announces nothing: finds, and replacements.
+fn marks(index: &Index, keys: &[u64]) {
+    let map = Map::open(index, Room { pages: 100, rows: 4_096 * THREADS as u32, sessions: THREADS as u32 }).expect("a map");
+    let mut table = Table::open(index, 0, 0).expect("a table");
+    for threads in [1, THREADS] {
+        let draw = |thread: u64| {
+            let mut random = Random(thread);
+            (0..CALLS / threads).map(move |_| keys[random.below(keys.len())])
+        };
+        let mut passes: Vec<Pass> = (0..threads).map(|_| table.deal(&[], 0, 0).expect("a pass")).collect();
+        let session = || timed(sessions(&map, threads), CALLS, |mut session, thread| draw(thread).for_each(|key| assert!(session.get(key).is_some())));
+        let pass = || timed(passes.iter_mut().collect(), CALLS, |pass: &mut Pass, thread| draw(thread).for_each(|key| assert!(pass.glance(key).is_some())));
+        measure(&format!("a find of any key, {threads} threads"), vec![("session", Box::new(session)), ("pass", Box::new(pass))]);
+        let own = |thread: u64| keys.iter().skip(thread as usize).step_by(threads).map(move |&key| (key, key ^ thread));
+        let session = || {
+            timed(sessions(&map, threads), keys.len(), |mut session, thread| own(thread).for_each(|(key, pointer)| _ = session.replace(key, pointer).expect("rows")))
+        };
+        let pass = || {
+            let mut table = Table::open(index, 0, keys.len() as u32).expect("a table");
+            let deal = |thread| {
+                let keys: Vec<u64> = own(thread).map(|(key, _)| key).collect();
+                table.deal(&keys, 0, keys.len() as u32).expect("a pass")
+            };
+            let passes: Vec<Pass> = (0..threads as u64).map(deal).collect();
+            timed(passes, keys.len(), |mut pass, thread| own(thread).for_each(|(key, pointer)| _ = pass.replace(key, pointer).expect("rows")))
+        };
+        measure(&format!("a replacement, {threads} threads"), vec![("session", Box::new(session)), ("pass", Box::new(pass))]);
+    }
+}
+
+// Scans of a thousand entries: alone, by several threads, and beside as many that replace.
+fn scanning(index: &Index, keys: &[u64]) {
+    let mut sorted = keys.to_vec();
+    sorted.sort_unstable();
+    let tree: BTreeMap<u64, u64> = keys.iter().map(|&key| (key, !key)).collect();
+    let map = Map::open(index, Room { pages: 100, rows: 2 * 4_096 * THREADS as u32, sessions: 2 * THREADS as u32 }).expect("a map");
+    let mut table = Table::open(index, 0, 0).expect("a table");
+    let pass = table.deal(&[], 0, 0).expect("a pass");
+    let alone = |scan: &mut dyn FnMut(u64) -> u64| {
+        let start = Instant::now();
+        scans(&sorted, 1, SCANS, scan);
+        start.elapsed().as_nanos() as f64 / (SCANS * LENGTH) as f64
+    };
+    let (mut session, mut pass) = (map.session().expect("a session"), pass);
+    measure(
+        "a scan of 1,000 of 40,000 entries, an entry",
+        vec![
+            ("session", Box::new(|| alone(&mut |from| sum(session.range(from..))))),
+            ("pass", Box::new(|| alone(&mut |from| sum(pass.scan(from..))))),
+            ("index", Box::new(|| alone(&mut |from| sum(index.scan(from..))))),
+            ("BTreeMap", Box::new(|| alone(&mut |from| by_tree(&tree, from)))),
+        ],
+    );
+    drop(session);
+    let tree = RwLock::new(tree);
+    for writers in [0, THREADS] {
+        let stop = AtomicBool::new(false);
+        // Runs scans while so many writers replace.
+        let beside = |write: &(dyn Fn(u64) + Sync), scan: &mut dyn FnMut() -> f64| {
+            stop.store(false, Ordering::Relaxed);
+            thread::scope(|scope| {
+                (0..writers as u64).for_each(|writer| _ = scope.spawn(move || write(writer)));
+                let figure = scan();
+                stop.store(true, Ordering::Relaxed);
+                figure
+            })
+        };
+        let items = SCANS * LENGTH;
+        let by_sessions = |writer: u64| {
+            let (mut session, mut random) = (map.session().expect("a session"), Random(writer));
+            while !stop.load(Ordering::Relaxed) {
+                let key = keys[random.below(keys.len())];
+                session.replace(key, !key).expect("rows");
+            }
+        };
+        let under_lock = |writer: u64| {
+            let mut random = Random(writer);
+            while !stop.load(Ordering::Relaxed) {
+                let key = keys[random.below(keys.len())];
+                tree.write().unwrap().insert(key, !key);
+            }
+        };
+        let session = || {
+            let mut scan = || timed(sessions(&map, THREADS), items, |mut session, thread| scans(&sorted, thread, SCANS / THREADS, |from| sum(session.range(from..))));
+            beside(&by_sessions, &mut scan)
+        };
+        let lock = || {
+            let mut scan = || timed(vec![(); THREADS], items, |(), thread| scans(&sorted, thread, SCANS / THREADS, |from| by_tree(&tree.read().unwrap(), from)));
+            beside(&under_lock, &mut scan)
+        };
+        let title = format!("the same by {THREADS} threads, beside {writers} that replace");
+        measure(&title, vec![("session", Box::new(session)), ("BTreeMap under an RwLock", Box::new(lock))]);
+    }
+}
+
+/// Measures and prints all of it.
+pub fn turns() {
+    let keys = Keys::random(40_000, 0).present;
+    let mut index = Index::new(32).expect("an index");
+    keys.iter().for_each(|&key| _ = index.insert(key, !key).expect("memory"));
+    marks(&index, &keys);
+    scanning(&index, &keys);
+}
