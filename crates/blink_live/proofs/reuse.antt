@@ -3,3 +3,4 @@ pub mod RowsAreTakenOut
 pub mod StocksChange
 pub mod RowsWait
 pub mod RowsComeIn
+pub mod RowsAreFreed

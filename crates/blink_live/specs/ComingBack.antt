@@ -45,6 +45,13 @@ gets_waiting stock = record stock { free = stock.waiting ++ stock.free; waiting 
 abbrev pub collects : Step ℕ → SeatState → ℕ → SeatState → Type 0
 collects st me found then = then ≡ (with_stock me.0 (gets_waiting me.0.stock), me.1)
 
+-- the last row of the session's span is a free one
+abbrev pub frees_last : View → ℕ → View
+frees_last v row = record v { rows = span v.rows.next row; stock = record v.stock { free = row ∷ v.stock.free } }
+
+abbrev pub frees_row : Step ℕ → SeatState → ℕ → SeatState → Type 0
+frees_row st me found then = (row : ℕ) → me.0.rows.next ≤ row → me.0.rows.stop ≡ suc row → then ≡ (frees_last me.0 row, me.1)
+
 -- the call may use a free row, and that row alone: the others are set aside
 abbrev pub takes_in : View → ℕ → List ℕ → View
 takes_in v row rest = record v {

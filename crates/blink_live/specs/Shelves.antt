@@ -1,7 +1,8 @@
 -- Where a session keeps the rows of its stock between the steps of its operations.
-use Rattle.std.specs.Prelude.{◌≡◌, ℕ, ◌+◌, ◌≤◌, Option, Some, None, List, reverse, ⊤}
+use Rattle.std.specs.Prelude.{◌≡◌, ℕ, suc, ◌+◌, ◌≤◌, Option, Some, None, List, reverse, ⊤}
 use Rattle.std.specs.Coded.{×_prop, Unit-prop, le_prop}
 use Rattle.std.proofs.Props.{props}
+use Rattle.blink_rows.specs.declared.span.Span.{Span}
 use Rattle.blink_live.specs.declared.room.Room.{Room}
 use Rattle.blink_live.specs.declared.shelf.Shelf.{Shelf}
 use Rattle.blink_live.specs.declared.view.Stock.{Stock}
@@ -35,6 +36,13 @@ abbrev pub HasSpaceFor : Option Shelf → ℕ → Type 0
 HasSpaceFor None count = ⊤
 HasSpaceFor (Some shelf) count = shelf.retired.len + count ≤ shelf.retired.cap
 
+-- the shelf has still room for so many rows as before, or for one less
+abbrev pub KeepsSpace : Option Shelf → Option Shelf → Type 0
+KeepsSpace old new = (count : ℕ) → HasSpaceFor old count → HasSpaceFor new count
+
+abbrev pub KeepsSpaceButOne : Option Shelf → Option Shelf → Type 0
+KeepsSpaceButOne old new = (count : ℕ) → HasSpaceFor old (suc count) → HasSpaceFor new count
+
 -- a session's shelf has its stock; a pass has no shelf
 abbrev pub IsShelved : Option Shelf → View → Type 0
 IsShelved None v = ⊤
@@ -63,7 +71,13 @@ pub record HasOtherStock (me then : SeatState) : Type 0 where
   pub stock : Stock
   pub is : then ≡ (with_stock me.0 stock, me.1)
 
--- and so is the room, but for its shelf
+-- the seat has another stock and other rows in its span, and is else as it was
+pub record HasOtherRows (me then : SeatState) : Type 0 where
+  pub rows : Span
+  pub stock : Stock
+  pub is : then ≡ (record me.0 { rows = rows; stock = stock }, me.1)
+
+-- the room is as it was, but for its shelf
 pub record IsSameBesideShelf (room after : Room) : Type 0 where
   pub rows : after.rows ≡ room.rows
   pub pages : after.pages ≡ room.pages

@@ -1,12 +1,14 @@
-//! How a session brings the rows that it has taken out back onto its shelf.
+//! How a session brings rows onto its shelf: those that it has taken out, once they have come back, and those of its span.
 ghost use Rattle.std.specs.Prelude.{◌≡◌, ◌+◌, ◌<◌, ◌≤◌, Some, [], IsTrue, length};
+ghost use Rattle.blink_live.specs.Allowed.{length_of};
 ghost use Rattle.blink_live.specs.Seats.{HasSameNumber, IsPassSeat};
-ghost use Rattle.blink_live.specs.Shelves.{HasOtherStock, IsShelved};
+ghost use Rattle.blink_live.specs.Shelves.{HasOtherRows, HasOtherStock, IsShelved, rows_on};
 
 use crate::live::Live;
 use crate::shelf::Shelf;
 use crate::view::View;
 use atomic_table::Seat;
+use blink_rows::Span;
 use std::mem;
 
 impl Live {
@@ -133,5 +135,51 @@ impl Live {
         if shelf.free.append(&mut shelf.waiting).is_ok() {
             self.collect(seat);
         }
+    }
+
+    /// The rows of a session's span are free ones then, from the last on, as many as its shelf has room for.
+    pub fn free_rows(&self, seat: &mut Seat<u8, View>, rows: &mut Span, shelf: &mut Shelf)
+        requires seat { IsPassSeat self.now seat.old.table_id seat.old.me }
+        requires rows { rows.old ≡ seat.old.me.0.rows }
+        requires in_order { rows.old.next ≤ rows.old.stop }
+        requires shelved { IsShelved (Some shelf.old) seat.old.me.0 }
+        ensures same { HasSameNumber seat.old seat.new }
+        ensures other_rows { HasOtherRows seat.old.me seat.new.me }
+        ensures rows { rows.new ≡ seat.new.me.0.rows }
+        ensures in_order { rows.new.next ≤ rows.new.stop }
+        ensures shelved { IsShelved (Some shelf.new) seat.new.me.0 }
+        ensures none_lost { length_of rows.new + rows_on (Some shelf.new)
+            ≡ length_of rows.old + rows_on (Some shelf.old) }
+    {
+        for _ in 0..rows.len() {
+            if !self.free_last(seat, rows, shelf) {
+                return;
+            }
+        }
+    }
+
+    // The last row of the span is a free one, if there is room for it.
+    fn free_last(&self, seat: &mut Seat<u8, View>, rows: &mut Span, shelf: &mut Shelf) -> bool
+        requires seat { IsPassSeat self.now seat.old.table_id seat.old.me }
+        requires rows { rows.old ≡ seat.old.me.0.rows }
+        requires in_order { rows.old.next ≤ rows.old.stop }
+        requires shelved { IsShelved (Some shelf.old) seat.old.me.0 }
+        ensures same { HasSameNumber seat.old seat.new }
+        ensures other_rows { HasOtherRows seat.old.me seat.new.me }
+        ensures rows { rows.new ≡ seat.new.me.0.rows }
+        ensures in_order { rows.new.next ≤ rows.new.stop }
+        ensures shelved { IsShelved (Some shelf.new) seat.new.me.0 }
+        ensures none_lost { length_of rows.new + rows_on (Some shelf.new)
+            ≡ length_of rows.old + rows_on (Some shelf.old) }
+    {
+        if rows.next == rows.stop || shelf.free.len() == shelf.free.capacity() {
+            return false;
+        }
+        self.free_row(seat);
+        rows.stop -= 1;
+        if shelf.free.push(rows.stop).is_err() {
+            unreachable!()
+        }
+        true
     }
 }

@@ -267,6 +267,15 @@ impl Play<u8, View> for Collect {
     ghost then = { collects };
 }
 
+/// The load of the prime block's page word by a session whose last row of its span is a free one.
+pub struct FreeRow;
+
+impl Play<u8, View> for FreeRow {
+    ghost use Rattle.blink_live.specs.ComingBack.{frees_row};
+
+    ghost then = { frees_row };
+}
+
 /// The load of the prime block's page word by a session whose call is to write a free row.
 pub struct TakeRowIn;
 

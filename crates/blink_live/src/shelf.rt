@@ -1,7 +1,7 @@
 //! Where a session keeps the rows of its stock, and how an operation writes such rows.
-ghost use Rattle.std.specs.Prelude.{◌≡◌, ℕ, suc, IfNone, IfOk, IfSome};
+ghost use Rattle.std.specs.Prelude.{◌≡◌, suc, IfNone, IfOk, IfSome};
 ghost use Rattle.blink_live.specs.Seats.{HasSameNumber, IsPassSeat};
-ghost use Rattle.blink_live.specs.Shelves.{HasSpaceFor, IsLent, IsSameBesideShelf, IsShelved, IsShelvedBut, free_in, stock_of};
+ghost use Rattle.blink_live.specs.Shelves.{HasSpaceFor, IsLent, IsSameBesideShelf, IsShelved, IsShelvedBut, KeepsSpace, KeepsSpaceButOne, free_in, stock_of};
 ghost use Rattle.blink_live.specs.Views.{no_stock};
 ghost use Rattle.blink_live.specs.Words.{IsRowNumber};
 
@@ -54,7 +54,7 @@ impl Live {
             (λ _. free_in room.old.shelf ≡ suc (free_in room.new.shelf)) }
         ensures none { IfNone result (seat.new.me ≡ seat.old.me) }
         ensures none_free { IfNone result (free_in room.old.shelf ≡ 0) }
-        ensures space { (count : ℕ) → HasSpaceFor room.old.shelf count → HasSpaceFor room.new.shelf count }
+        ensures space { KeepsSpace room.old.shelf room.new.shelf }
         ensures shelved { IfNone result (IsShelved room.new.shelf seat.new.me.0) }
         ensures same_room { IsSameBesideShelf room.old room.new }
     {
@@ -71,7 +71,7 @@ impl Live {
         ensures shelved { IsShelved room.new.shelf _seat.now.me.0 }
         ensures same_room { IsSameBesideShelf room.old room.new }
         ensures same_free { free_in room.new.shelf ≡ free_in room.old.shelf }
-        ensures space { (count : ℕ) → HasSpaceFor room.old.shelf (suc count) → HasSpaceFor room.new.shelf count }
+        ensures space { KeepsSpaceButOne room.old.shelf room.new.shelf }
     {
         let Some(shelf) = room.shelf.as_mut() else {
             return;

@@ -276,7 +276,8 @@ impl Live {
         requires row { IsRowNumber self.now.counts row }
         ensures same_table { HasSameNumber seat.old seat.new }
         ensures same { seat.new.me ≡ seat.old.me }
-        ensures has { IsTrue result → (page : PlainPage) → ReadsPage seat.old.me row page → IsKeyOf page key }
+        ensures has { IsTrue result
+            → (page : PlainPage) → ReadsPage seat.old.me row page → IsKeyOf page key }
     {
         let start = self.row_place(row);
         let has_floor = self.load_word(seat, start, HAS_FLOOR);

@@ -1,13 +1,13 @@
 //! How the rows that a session has taken out come back: they wait until no seat can still read them.
-ghost use Rattle.std.specs.Prelude.{◌≡◌, ◌∷◌, ◌<◌, ◌≤◌, ℕ, List, [], length};
-ghost use Rattle.blink_live.specs.ComingBack.{ChecksPlace, begins_to_wait, gets_waiting, puts_back, sees_mark, takes_in, with_stock};
+ghost use Rattle.std.specs.Prelude.{◌≡◌, ◌∷◌, ◌<◌, ◌≤◌, ℕ, suc, List, [], length};
+ghost use Rattle.blink_live.specs.ComingBack.{ChecksPlace, begins_to_wait, frees_last, gets_waiting, puts_back, sees_mark, takes_in, with_stock};
 ghost use Rattle.blink_live.specs.Seats.{HasSameNumber, IsPassSeat};
 ghost use Rattle.blink_live.specs.Words.{IsRowNumber};
 
 use crate::common::PLACE_WORDS;
 use crate::live::Live;
 use crate::open::word_count;
-use crate::rule::{BeginWait, CheckPlace, Collect, PutRowsBack, SeePlace, TakeRowIn};
+use crate::rule::{BeginWait, CheckPlace, Collect, FreeRow, PutRowsBack, SeePlace, TakeRowIn};
 use crate::view::View;
 use atomic_table::Seat;
 
@@ -69,6 +69,18 @@ impl Live {
             ≡ (with_stock seat.old.me.0 (gets_waiting seat.old.me.0.stock), seat.old.me.1) }
     {
         self.table.shared.load::<Collect>(seat, 0);
+    }
+
+    // The last row of the seat's span is a free one.
+    pub(crate) fn free_row(&self, seat: &mut Seat<u8, View>)
+        requires seat { IsPassSeat self.now seat.old.table_id seat.old.me }
+        requires common { 1 ≤ self.now.places }
+        requires some_row { seat.old.me.0.rows.next < seat.old.me.0.rows.stop }
+        ensures same { HasSameNumber seat.old seat.new }
+        ensures free { (row : ℕ) → seat.old.me.0.rows.stop ≡ suc row
+            → seat.new.me ≡ (frees_last seat.old.me.0 row, seat.old.me.1) }
+    {
+        self.table.shared.load::<FreeRow>(seat, 0);
     }
 
     // The seat's call may use the first of the free rows, and that row alone. Its other rows are set aside.

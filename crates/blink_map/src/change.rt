@@ -20,7 +20,6 @@ ghost use Rattle.blink_map.specs.Sessions.{HasRoom, HasRoomInAll, IsAnswered, Is
 use crate::error::Full;
 use crate::map::{Map, Session};
 use crate::member::{Member, REST, next_mark};
-use crate::open::SHELF_ROWS;
 use atomic_table::Seat;
 use blink_batch::{Answer, Op};
 use blink_live::{Live, Room, Shelf, View};
@@ -197,8 +196,8 @@ impl Member {
     }
 
     // Where the member hasn't the room that the operation may need, it takes back the rows that have come back, and draws from the
-    // pool what it still lacks. Returns whether it has the room then. What it had left before of its span, or of its page numbers,
-    // is lost where it draws others.
+    // pool what it still lacks. Returns whether it has the room then. What it had left before of its page numbers is lost where it
+    // draws others.
     pub(crate) fn draw(&mut self, live: &Live, op: Op) -> bool
         requires its_own { IsMemberOf live.now self.old }
         ensures drawn { HasDrawn self.old self.new }
@@ -256,15 +255,16 @@ impl Member {
         }
     }
 
-    // Draws rows, if the member has fewer than these, and not so many already that its shelf hasn't room for more.
+    // Draws rows, if the member has fewer than these at hand, and fewer in all than it may have. What its span has left goes onto
+    // the shelf before, so that the draw loses none.
     fn draw_rows(&mut self, live: &Live, least: u64)
         requires its_own { IsMemberOf live.now self.old }
-        requires few { least ≤ ROW_CHUNK }
         ensures { HasDrawn self.old self.new }
     {
         let has = self.rows.len().saturating_add(free_in(&self.shelf));
-        let most = (SHELF_ROWS as u64 - ROW_CHUNK).saturating_sub(self.rows.len());
-        if has >= least || lacking_on(&self.shelf, most) == 0 {
+        let quota = quota_of(&self.shelf).saturating_sub(self.rows.len());
+        let most = lacking_on(&self.shelf, quota).min(ROW_CHUNK);
+        if has >= least || most == 0 {
             return;
         }
         let Member {
@@ -272,13 +272,15 @@ impl Member {
             rows,
             pages: _,
             place: _,
-            shelf: _,
+            shelf,
             mark: _,
         } = self;
-        if least >= 1 {
-            if let Some(drawn) = live.draw_rows(seat, least, ROW_CHUNK) {
-                *rows = drawn;
-            }
+        if let Some(shelf) = shelf.as_mut() {
+            live.free_rows(seat, rows, shelf);
+        }
+        let need = lacking_on(shelf, least).max(1).min(most);
+        if let Some(drawn) = live.draw_rows(seat, need, most) {
+            *rows = drawn;
         }
     }
 
@@ -357,6 +359,15 @@ fn free_in(shelf: &Option<Shelf>) -> u64
 {
     match shelf {
         Some(shelf) => shelf.free.len() as u64,
+        None => 0,
+    }
+}
+
+// The number of rows that the shelf's session has at most, in all: the shelf has room for these, and for those that an insertion
+// takes out beside.
+fn quota_of(shelf: &Option<Shelf>) -> u64 {
+    match shelf {
+        Some(shelf) => (shelf.free.capacity() as u64).saturating_sub(MAX_ROWS_PER_INSERT),
         None => 0,
     }
 }

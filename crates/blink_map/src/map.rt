@@ -22,9 +22,10 @@ pub struct Room {
 /// A map from `u64` to `u64`, which any number of threads read and change without a global lock, each by sessions of its own.
 ///
 /// A change takes the row of a page's version before out of the tree. The row comes back to its session once no session can still
-/// read it, and is written again. So a map with a few hundred rows for each session takes changes as long as its page numbers last. A
-/// session draws at most 4,096 rows. While another one is held up in the midst of a call, no row comes back, and a session that has
-/// too few left waits, or is refused where its call waits for nobody.
+/// read it, and is written again. So a map with two rows for each page number, and a few hundred for each session, takes changes as
+/// long as its page numbers last. Half of the rows are the sessions' in equal parts, of 44 rows at least and 4,096 at most, so that
+/// a session which comes late finds its own. While another session is held up in the midst of a call, no row comes back, and one that
+/// has too few left waits, or is refused where its call waits for nobody.
 #[derive(Drop)]
 pub struct Map {
     pub(crate) live: Live,
@@ -50,8 +51,9 @@ pub struct Session {
 /// An insertion, a deletion or a replacement that has begun, with the session that makes it. `Map::advance` takes its next steps.
 ///
 /// The session comes back when the operation has ended. Until then its place stays marked. So a `Pending` that is dropped makes
-/// `Map::close` refuse with `UnderWay`, and costs the session's place. It reads nothing while it rests, so it holds no row back. What the operation has written stays, its change too, if
-/// it has made it. An operation waits only while it holds no page's latch, so no latch stays held and nobody waits for it.
+/// `Map::close` refuse with `UnderWay`, and costs the session's place. It reads nothing while it rests, so it holds no row back. What
+/// the operation has written stays, its change too, if it has made it. An operation waits only while it holds no page's latch, so no
+/// latch stays held and nobody waits for it.
 #[derive(Drop)]
 pub struct Pending {
     pub(crate) now: UnderWay,

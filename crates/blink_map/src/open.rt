@@ -16,7 +16,7 @@ use atomic_table::{Seat, Table};
 use blink_index::Index;
 use blink_live::{Dealt, Extent, Live, Shelf, View};
 use blink_page::MAX_PAGE;
-use blink_rows::Span;
+use blink_rows::{MAX_ROWS_PER_INSERT, Span};
 use std::alloc::{AllocError, Global};
 use std::marker::Brand;
 use std::snapshot::Snapshot;
@@ -24,14 +24,15 @@ use std::snapshot::Snapshot;
 /// The greatest number of sessions of a map.
 pub const MAX_SESSIONS: u32 = 256;
 
-// The greatest number of rows that a session draws, so that its shelf has room for them.
-pub(crate) const SHELF_ROWS: usize = 4096;
+// The greatest number of rows that a session has: more would wait longer and serve no better.
+const MOST_ROWS: u32 = 4096;
 
-// The number of rows of each kind that the shelf of a place has room for: all that the session has, and those of one operation more.
-const SHELF_ROOM: usize = SHELF_ROWS + 44;
+// And the least: an insertion may need so many.
+const LEAST_ROWS: u32 = MAX_ROWS_PER_INSERT as u32;
 
 impl Map {
     /// Opens a map over the index's tree. The index stays as it is. Sessions draw the rows and page numbers of `room` from a pool.
+    /// Half of the rows are the sessions' in equal parts, of 44 rows at least and 4,096 at most. The others are for pages to come.
     ///
     /// The call refuses with `Sessions` exactly if there are to be none or more than 256; then with `TooLarge`, before it asks for
     /// memory, exactly if there aren't so many page numbers. It refuses with `OutOfMemory`, if memory was refused.
@@ -58,7 +59,7 @@ impl Map {
         let Ok((live, mut host)) = Live::open_common(alloc, index, extent) else {
             return Err(MapError::OutOfMemory);
         };
-        let Ok(members) = members(alloc, &live, &mut host, room.sessions) else {
+        let Ok(members) = members(alloc, &live, &mut host, room.sessions, quota_of(&room)) else {
             return Err(MapError::OutOfMemory);
         };
         let Ok(words) = zeros(alloc, room.sessions) else {
@@ -79,12 +80,21 @@ impl Map {
     }
 }
 
-// Deals the members of all places. None has a row or a page number yet.
+// The number of rows that each session has at most.
+fn quota_of(room: &Room) -> u32
+    requires some { 1 ≤ room.now.sessions }
+{
+    (room.rows / 2 / room.sessions).clamp(LEAST_ROWS, MOST_ROWS)
+}
+
+// Deals the members of all places. None has a row or a page number yet. Its shelf has room for so many rows as the member may have,
+// and for those that one operation takes out beside.
 fn members(
     alloc: Global,
     live: &Live,
     host: &mut Seat<u8, View>,
     sessions: u32,
+    quota: u32,
 ) -> Result<Vec<Option<Member>>, AllocError>
     requires host { IsHostWith live.now host.old 0 }
     requires places { live.now.places ≡ sessions }
@@ -93,13 +103,18 @@ fn members(
 {
     let mut members = Vec::with_capacity(alloc, sessions as usize)?;
     for place in 0..u64::from(sessions) {
-        let shelf = Shelf::with_room(alloc, SHELF_ROOM, sessions as usize)?;
+        let shelf = Shelf::with_room(alloc, room_for(quota), sessions as usize)?;
         let member = admit::<Brand>(live, host, place, shelf);
         let Ok(()) = push(&mut members, member) else {
             return Err(AllocError);
         };
     }
     Ok(members)
+}
+
+// How many rows of each kind a shelf has room for, whose session has so many at most.
+fn room_for(quota: u32) -> usize {
+    quota as usize + LEAST_ROWS as usize
 }
 
 // So many words of free places.

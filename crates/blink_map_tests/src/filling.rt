@@ -45,6 +45,24 @@ fn a_session_tells_what_it_has(rt: HostRuntime) {
     );
 }
 
+// Of 200 rows each of two sessions has 50 at most. The first insertion draws 44. The fifth splits the leaf, which makes two pages more
+// and keeps two rows. So the sixth draws the 8 rows that the session may still have, and the 42 that it has left stay its own.
+#[test]
+fn a_draw_loses_no_row(rt: HostRuntime) {
+    let mut two = Two::open(&rt, rt.alloc(), 200, 200);
+    for key in 1..6u64 {
+        assert_eq!(&rt; two.insert(&rt, key, key), Ok(Answer::Inserted));
+    }
+    assert_eq!(&rt; (two.room().0, rows_of(two.map.stock(&two.one))), (156, 42));
+    assert_eq!(&rt; two.insert(&rt, 6, 6), Ok(Answer::Inserted));
+    assert_eq!(&rt; (two.room().0, rows_of(two.map.stock(&two.one))), (148, 50));
+}
+
+// The number of all rows that a session has.
+fn rows_of(stock: Stock) -> u64 {
+    stock.unwritten + stock.free + stock.taken_out + stock.waiting
+}
+
 // A page has 4 entries. The fifth insertion splits the leaf, which makes two pages more and keeps two rows. So fewer than the 44 rows
 // are left in all that an insertion may need; a deletion needs one.
 #[test]

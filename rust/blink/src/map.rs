@@ -18,10 +18,10 @@ pub struct Room {
     pub pages: u32,
     /// Rows, of 560 bytes. Each write of a page takes one. An insertion has to have 44 when it begins, and writes one page mostly;
     /// a deletion, a replacement or an exchange has to have one. The row that a write replaces comes back to its session, once
-    /// each call that was in progress has ended. So a few hundred rows a session last as long as no thread is held up inside a call.
-    /// While one is, no row comes back. A session that runs short then draws more, up to 4,096 in all, and a later session may find
-    /// none and be refused with [`Error::Full`]. 4,096 rows a session are enough for all. A change that is short of rows on their way
-    /// back waits, or is refused with [`Error::RowsBusy`] where it mustn't wait.
+    /// each call that was in progress has ended. Half of the rows are the sessions', in equal parts, of 44 at least and 4,096 at
+    /// most; a new page keeps one of the others. So two rows for each page number, and a few hundred for each session, are enough for
+    /// all changes as long as the page numbers last. While a thread is held up inside a call no row comes back. A change that is
+    /// short of rows on their way back waits, or is refused with [`Error::RowsBusy`] where it mustn't wait.
     pub rows: u32,
     /// Places for sessions, 1 to 256.
     pub sessions: u32,

@@ -13,6 +13,9 @@ use stepped::{by_instruction, handle};
 // The rows of the map's room. A replacement writes one.
 const ROWS: u32 = 100;
 
+// The most rows that a session has: half of them over all sessions would be fewer than an insertion may need.
+const QUOTA: u32 = 44;
+
 // The pointer of the key at first.
 const FIRST: u64 = 1_000;
 
@@ -60,35 +63,38 @@ impl<'map> Writer<'map> {
 // ---- a reader that is stopped at each of its instructions
 
 // Whether rows came back while the reader was stopped after so many instructions of its call; none, if the call has fewer. All
-// rows are written meanwhile.
+// rows of the writer are written meanwhile. Another session that begins then has its own.
 fn stops_after(instructions: u32) -> Option<bool> {
-    let map = map_of_four(2);
+    let map = map_of_four(3);
     let mut writer = Writer::new(&map);
     let mut reader = map.session().unwrap();
+    let mut late = map.session().unwrap();
     let (mut passed, mut replaced) = (0, None);
     let found = by_instruction(
         || reader.get(1),
         || {
             if passed == instructions {
                 replaced = Some(writer.replaces_at_most(3 * ROWS));
+                assert_eq!(late.replace(2, 21), Ok(Answer::Replaced(20)));
             }
             passed += 1;
             replaced.is_none()
         },
     );
     let replaced = replaced?;
-    // The rows come back, or each is written once and none comes back: one for each replacement.
-    assert!(replaced == ROWS || replaced == 3 * ROWS, "{replaced} changes after {instructions} instructions");
+    // The rows come back, or each of the writer's is written once and none comes back: one for each replacement.
+    assert!(replaced == QUOTA || replaced == 3 * ROWS, "{replaced} changes after {instructions} instructions");
     let found = found.unwrap();
     assert!(found == FIRST || found == FIRST + u64::from(replaced), "{found} after {instructions} instructions");
-    // A session draws an eighth of what the pool has. It draws again only while its rows don't come back.
-    assert_eq!(map.room(), Left { pages: 0, rows: if replaced == ROWS { 0 } else { 88 } });
+    // A session draws an eighth of what the pool has, of 100 rows 12, and the late one 11 of the other 88. The writer draws again only
+    // while its rows don't come back, up to its quota; then the late one draws 7 of 56.
+    assert_eq!(map.room(), Left { pages: 0, rows: if replaced == QUOTA { 49 } else { 77 } });
     // The reader has gone on, so no row is held back any more.
     assert_eq!(writer.replaces_at_most(5 * ROWS), 5 * ROWS);
     assert_eq!(reader.get(1), Some(writer.pointer));
-    drop((writer, reader));
+    drop((writer, reader, late));
     let last = FIRST + u64::from(replaced + 5 * ROWS);
-    assert!(map.close().unwrap().scan(..).eq([(1, last), (2, 20), (3, 30), (4, 40)].map(Entry::from)));
+    assert!(map.close().unwrap().scan(..).eq([(1, last), (2, 21), (3, 30), (4, 40)].map(Entry::from)));
     Some(replaced == 3 * ROWS)
 }
 

@@ -35,11 +35,11 @@ use Rattle.blink_live.proofs.table.SeatsThatStay.{views_stay, counted_stays}
 
 -- ---- rows with other owners
 
-abbrev with_row : Owners → (ℕ → ℕ) → Owners
+abbrev pub with_row : Owners → (ℕ → ℕ) → Owners
 with_row old row = record old { row = row }
 
 module _ (plan : Plan) (old : Owners) (row : ℕ → ℕ) (words : List ℕ) (tree_state : TreeState) (log : List Change) where
-  share_same : (owner : ℕ) (share : Share) → IsShare plan old log owner share → IsShare plan (with_row old row) log owner share
+  pub share_same : (owner : ℕ) (share : Share) → IsShare plan old log owner share → IsShare plan (with_row old row) log owner share
   share_same owner share is key has = let own = is key has in record { own = own.own; kept = own.kept; changes = own.changes }
 
   role_same : (seat : ℕ) (v : View) (role : Role) → IsInRole plan old log seat v role → IsInRole plan (with_row old row) log seat v role
@@ -48,7 +48,7 @@ module _ (plan : Plan) (old : Owners) (row : ℕ → ℕ) (words : List ℕ) (tr
   role_same seat v Spent is = is
 
   -- a seat that owns what it did, and whose row is published still, knows what it knew
-  row_owners_knows : (seat : ℕ) (v : View) → ((r : ℕ) → old.row r ≡ suc seat → row r ≡ suc seat) → Reads plan (with_row old row) words tree_state v → Knows plan old words tree_state log seat v → Knows plan (with_row old row) words tree_state log seat v
+  pub row_owners_knows : (seat : ℕ) (v : View) → ((r : ℕ) → old.row r ≡ suc seat → row r ≡ suc seat) → Reads plan (with_row old row) words tree_state v → Knows plan old words tree_state log seat v → Knows plan (with_row old row) words tree_state log seat v
   row_owners_knows seat v owns reads known = record {
     same_plan = known.same_plan;
     operation = known.operation;

@@ -1,4 +1,4 @@
-use Rattle.std.proofs.Common.{◌≡◌, ◌<◌, ℕ, inr, sym, ◌∙◌, subst, arith}
+use Rattle.std.proofs.Common.{◌<◌, ℕ, inr, sym, ◌∙◌, subst, arith}
 use Rattle.blink_map.proofs.MembersComeBack.{its_place, its_seat}
 use Rattle.blink_map.proofs.OperationsRest.{comes_to_rest, goes_on_from_rest, place_at_rest, seat_at_rest, steps_on}
 use Rattle.blink_map.proofs.change.to_end.Goals as goal

@@ -1,4 +1,3 @@
-use Rattle.std.proofs.Common.{ℕ}
 use Rattle.blink_batch.specs.declared.Op.{Op}
 use Rattle.blink_live.specs.Pendings.{IsWaiting}
 use Rattle.blink_map.specs.declared.member.Member.{Member}

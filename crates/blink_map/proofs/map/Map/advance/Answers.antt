@@ -1,4 +1,4 @@
-use Rattle.std.proofs.Common.{◌≡◌, ℕ, refl, sym, ap, ◌∙◌, subst}
+use Rattle.std.proofs.Common.{◌≡◌, ℕ, refl, sym, ◌∙◌, subst}
 use Rattle.blink_machine.specs.{PlainMachine}
 use Rattle.blink_live.specs.Pendings.{IsWaiting}
 use Rattle.atomic_table.specs.declared.Seat.{Seat}

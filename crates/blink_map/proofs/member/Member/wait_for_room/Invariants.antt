@@ -1,4 +1,3 @@
-use Rattle.std.proofs.Common.{◌≡◌}
 use Rattle.blink_map.specs.Changing.{HasDrawn}
 use Rattle.blink_map.specs.Places.{IsMemberOf}
 use Rattle.blink_map.specs.Sessions.{HasRoom}

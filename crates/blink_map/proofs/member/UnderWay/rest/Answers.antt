@@ -1,4 +1,4 @@
-use Rattle.std.proofs.Common.{◌≡◌, ◌<◌, ℕ, inr, ◌∙◌, subst, sym, arith}
+use Rattle.std.proofs.Common.{◌<◌, ℕ, inr, ◌∙◌, subst, sym, arith}
 use Rattle.blink_map.proofs.MembersComeBack.{its_place, its_seat}
 use Rattle.blink_map.proofs.OperationsRest.{comes_to_rest}
 use Rattle.blink_map.proofs.member.UnderWay.rest.Goals as goal

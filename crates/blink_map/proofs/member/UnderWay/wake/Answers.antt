@@ -1,4 +1,4 @@
-use Rattle.std.proofs.Common.{◌≡◌, ◌<◌, ℕ, inr, ◌∙◌, subst, sym, arith}
+use Rattle.std.proofs.Common.{◌<◌, ℕ, inr, ◌∙◌, subst, sym, arith}
 use Rattle.blink_map.proofs.OperationsRest.{goes_on_from_rest, place_at_rest, seat_at_rest}
 use Rattle.blink_map.proofs.member.UnderWay.wake.Goals as goal
 
