@@ -322,7 +322,7 @@ impl Pass {
     }
 
     /// Takes a key of the pass away, if it maps to `expected`, and returns `expected`. Otherwise it returns what the key maps to,
-    /// or none if it isn't there, and the key stays as it was. The outer error is a refusal, as of [`Pass::remove`].
+    /// or none if it isn't there, and the key stays as it was. The outer error is a refusal, as of [`Pass::delete`].
     ///
     /// ```
     /// use blink::{Entry, Error, Index, Table};
