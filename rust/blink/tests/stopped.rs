@@ -239,8 +239,8 @@ fn a_reader_that_sleeps_in_a_call_holds_rows_back_until_it_wakes() {
         let counts = stops_and_writes(&mut writer, &told);
         (reader.join().unwrap(), counts)
     });
-    let enough = calls >= u64::from(inside) && inside >= held && held > 0;
-    assert!(enough, "{calls} calls, {inside} stops inside one, {held} with a mark");
+    // A reader that holds rows back is inside a call.
+    assert!(inside >= held && held > 0, "{calls} calls, {inside} stops inside, {held} with a mark");
     let last = writer.pointer;
     assert!(last >= FIRST + u64::from(STOPS) * 5 * u64::from(ROWS));
     drop(writer);
