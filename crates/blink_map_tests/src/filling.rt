@@ -60,7 +60,11 @@ fn a_draw_loses_no_row(rt: HostRuntime) {
 
 // The number of all rows that a session has.
 fn rows_of(stock: Stock) -> u64 {
-    stock.unwritten + stock.free + stock.taken_out + stock.waiting
+    stock
+        .unwritten
+        .wrapping_add(stock.free)
+        .wrapping_add(stock.taken_out)
+        .wrapping_add(stock.waiting)
 }
 
 // A page has 4 entries. The fifth insertion splits the leaf, which makes two pages more and keeps two rows. So fewer than the 44 rows
