@@ -1,72 +1,92 @@
 //! Finds of several keys by one call.
+use crate::same::same;
 use crate::shared::Two;
-use blink_batch::Answer;
-use std::alloc::Global;
+use crate::shared::Who::One;
+use crate::story::Act::{self, Call, FindAll, InsertEach, Tell, Turn};
+use crate::story::{End, Story, play};
+use blink_batch::{Answer, Op};
 use std::process::Abort;
-use std::sync::Wait;
+
+// The number of keys that one call looks up at most.
+const MOST: usize = 16;
 
 impl Two {
-    // The first session looks up these keys.
-    fn find_all<const N: usize>(&mut self, keys: &[u64; N]) -> [Option<u64>; N] {
+    // The first session looks up these keys by one call, which gives these answers.
+    pub(crate) fn find_all(&mut self, rt: &impl Abort, keys: &[u64], expected: &[Option<u64>]) {
+        assert!(rt; keys.len() <= MOST, "too many keys");
         let Two { map, one, other: _ } = self;
-        let mut answers = [None; N];
-        map.find_all(one, keys, &mut answers);
-        answers
+        let mut answers = [None; MOST];
+        let answers = &mut answers[..keys.len()];
+        map.find_all(one, keys, answers);
+        same(rt, &&*answers, &expected);
     }
 }
 
-// A map of the keys 1 to 14, each with ten times the key, without 2.
-fn fourteen<R: Abort + Wait>(rt: &R, alloc: Global) -> Two {
-    let mut two = Two::open(rt, alloc, 2000, 4000);
-    for key in 1..15u64 {
-        assert_eq!(rt;
-            two.insert(rt, key, key.wrapping_mul(10)),
-            Ok(Answer::Inserted)
-        );
-    }
-    assert_eq!(rt; two.delete(rt, 2), Ok(Answer::Removed(20)));
-    two
-}
+// The keys 1 to 14, each with ten times the key, without 2.
+const FOURTEEN: &[Act] = &[
+    InsertEach(1, 15, 10),
+    Call(One, Op::Delete(2), Ok(Answer::Removed(20))),
+];
 
 // More keys than the descents of one group, some of them twice, and two of them absent.
-const KEYS: [u64; 11] = [9, 20, 1, 14, 3, 4, 9, 2, 7, 20, 14];
-
-const ANSWERS: [Option<u64>; 11] = [
-    Some(90),
-    None,
-    Some(10),
-    Some(140),
-    Some(30),
-    Some(40),
-    Some(90),
-    None,
-    Some(70),
-    None,
-    Some(140),
-];
+const IN_ORDER: Story = Story {
+    room: (2000, 4000),
+    scenes: &[
+        FOURTEEN,
+        &[FindAll(
+            &[9, 20, 1, 14, 3, 4, 9, 2, 7, 20, 14],
+            &[
+                Some(90),
+                None,
+                Some(10),
+                Some(140),
+                Some(30),
+                Some(40),
+                Some(90),
+                None,
+                Some(70),
+                None,
+                Some(140),
+            ],
+        )],
+    ],
+    end: End::StaysOpen,
+};
 
 #[test]
 fn find_all_answers_in_the_order_of_the_keys(rt: HostRuntime) {
-    let mut two = fourteen(&rt, rt.alloc());
-    assert_eq!(&rt; two.find_all(&KEYS), ANSWERS);
+    play(&rt, rt.alloc(), &IN_ORDER);
 }
+
+const NO_KEY: Story = Story {
+    room: (2000, 4000),
+    scenes: &[FOURTEEN, &[FindAll(&[], &[])]],
+    end: End::StaysOpen,
+};
 
 #[test]
 fn find_all_of_no_key_answers_nothing(rt: HostRuntime) {
-    let mut two = fourteen(&rt, rt.alloc());
-    assert_eq!(&rt; two.find_all(&[]), []);
+    play(&rt, rt.alloc(), &NO_KEY);
 }
+
+// What the first session has changed it tells the second, which looks the keys up in its place.
+const TOLD: Story = Story {
+    room: (2000, 4000),
+    scenes: &[
+        FOURTEEN,
+        &[
+            Call(One, Op::Delete(9), Ok(Answer::Removed(90))),
+            Call(One, Op::Insert(20, 200), Ok(Answer::Inserted)),
+            Call(One, Op::Replace(1, 11), Ok(Answer::Replaced(10))),
+            Tell,
+            Turn,
+            FindAll(&[1, 9, 20, 8], &[Some(11), None, Some(200), Some(80)]),
+        ],
+    ],
+    end: End::StaysOpen,
+};
 
 #[test]
 fn find_all_shows_what_the_session_was_told(rt: HostRuntime) {
-    let mut two = fourteen(&rt, rt.alloc());
-    assert_eq!(&rt; two.delete(&rt, 9), Ok(Answer::Removed(90)));
-    assert_eq!(&rt; two.insert(&rt, 20, 200), Ok(Answer::Inserted));
-    assert_eq!(&rt; two.replace(&rt, 1, 11), Ok(Answer::Replaced(10)));
-    two.tell();
-    let mut two = two.turn();
-    assert_eq!(&rt;
-        two.find_all(&[1, 9, 20, 8]),
-        [Some(11), None, Some(200), Some(80)]
-    );
+    play(&rt, rt.alloc(), &TOLD);
 }

@@ -2,6 +2,8 @@
 #![tactic(auto)]
 
 #[cfg(test)]
+mod beside;
+#[cfg(test)]
 mod filling;
 #[cfg(test)]
 mod finding_all;
@@ -12,16 +14,22 @@ mod plain;
 #[cfg(test)]
 mod rows_again;
 #[cfg(test)]
+mod same;
+#[cfg(test)]
 mod scanning;
 #[cfg(test)]
 mod sessions;
 #[cfg(test)]
 mod shared;
 #[cfg(test)]
+mod sights;
+#[cfg(test)]
 mod snapshots;
 #[cfg(test)]
 mod splitting;
 #[cfg(test)]
 mod stepping;
+#[cfg(test)]
+mod story;
 #[cfg(test)]
 mod threads;

@@ -1,11 +1,17 @@
 //! A map by one thread, measured by the plain map.
-use crate::shared::Two;
-use blink_batch::{Answer, Op, Plain};
-use blink_map::Full;
+use crate::same::{given, same};
+use crate::shared::{Two, Who};
+use blink_batch::{Op, Plain};
+use std::alloc::Global;
 use std::process::Abort;
 use std::sync::Wait;
 
-const OPERATIONS: u64 = 800;
+// So many operations that look like chance, on a map with so many rows.
+struct Comparison {
+    seed: u64,
+    operations: u64,
+    rows: u32,
+}
 
 const KEYS: u64 = 60;
 
@@ -33,51 +39,54 @@ fn operation(drawn: u64) -> Op {
     }
 }
 
-// Runs the operation by a call or in steps.
-fn run<R: Wait>(rt: &R, mut two: Two, op: Op, in_steps: bool) -> (Two, Result<Answer, Full>) {
-    if in_steps {
-        return two.apply_in_steps(rt, op);
+// The map's operation gives what the plain map's gives: each third in steps, the others by a call.
+fn run<R: Wait + Abort>(rt: &R, two: Two, plain: &mut Plain, op: Op, turn: u64) -> Two {
+    let expected = given(rt, plain.apply(op));
+    let mut two = if turn % 5 == 0 { two.turn() } else { two };
+    if turn % 3 == 0 {
+        return two.call_in_steps(rt, Who::One, op, Ok(expected));
     }
-    let answer = two.apply(rt, op);
-    (two, answer)
+    two.call(rt, Who::One, op, Ok(expected));
+    two
 }
+
+fn compare<R: Wait + Abort>(rt: &R, alloc: Global, case: &Comparison) {
+    let mut plain = Plain::new(alloc);
+    let mut two = Two::open(rt, alloc, (4_000, case.rows));
+    let mut drawn = case.seed;
+    for turn in 0..case.operations {
+        drawn = next(drawn);
+        two = run(rt, two, &mut plain, operation(drawn), turn);
+    }
+    has_entries_of(rt, alloc, two, &plain);
+}
+
+// The map closes to the plain map's entries.
+fn has_entries_of(rt: &impl Abort, alloc: Global, two: Two, plain: &Plain) {
+    let index = given(rt, two.close(alloc));
+    let entries = given(rt, index.entries(alloc));
+    same(rt, &entries.as_slice(), &plain.entries());
+}
+
+const MANY_ROWS: Comparison = Comparison {
+    seed: 1,
+    operations: 800,
+    rows: 8_000,
+};
 
 #[test]
 fn a_map_answers_as_the_plain_map(rt: HostRuntime) {
-    let alloc = rt.alloc();
-    let mut plain = Plain::new(alloc);
-    let mut two = Two::open(&rt, alloc, 4_000, 8_000);
-    let mut drawn = 1;
-    for turn in 0..OPERATIONS {
-        drawn = next(drawn);
-        let op = operation(drawn);
-        let (then, answer) = run(&rt, two, op, turn % 3 == 0);
-        let expected = plain.apply(op).expect(&rt, "no memory");
-        assert_eq!(&rt; answer, Ok(expected), "{op:?}");
-        two = if turn % 5 == 0 { then.turn() } else { then };
-    }
-    let index = two.close(alloc).expect(&rt, "not closed");
-    let entries = index.entries(alloc).expect(&rt, "no memory");
-    assert_eq!(&rt; entries.as_slice(), plain.entries());
+    compare(&rt, rt.alloc(), &MANY_ROWS);
 }
 
-// So many operations with so few rows: each row is written hundreds of times.
-const MANY_OPERATIONS: u64 = 200_000;
-
-const FEW_ROWS: u32 = 600;
+// Each row is written hundreds of times.
+const FEW_ROWS: Comparison = Comparison {
+    seed: 2,
+    operations: 200_000,
+    rows: 600,
+};
 
 #[test]
 fn a_map_with_few_rows_answers_as_the_plain_map(rt: HostRuntime) {
-    let alloc = rt.alloc();
-    let mut plain = Plain::new(alloc);
-    let mut two = Two::open(&rt, alloc, 4_000, FEW_ROWS);
-    let mut drawn = 2;
-    for turn in 0..MANY_OPERATIONS {
-        drawn = next(drawn);
-        let op = operation(drawn);
-        let (then, answer) = run(&rt, two, op, turn % 3 == 0);
-        let expected = plain.apply(op).expect(&rt, "no memory");
-        assert_eq!(&rt; answer, Ok(expected), "{op:?}");
-        two = if turn % 5 == 0 { then.turn() } else { then };
-    }
+    compare(&rt, rt.alloc(), &FEW_ROWS);
 }

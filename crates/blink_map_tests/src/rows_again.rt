@@ -1,23 +1,28 @@
 //! Rows are written again: a map with few rows takes any number of changes.
 use crate::shared::Two;
-use blink_batch::Answer;
+use crate::shared::Who::One;
+use crate::sights::Sight::PoolRows;
+use blink_batch::{Answer, Op};
 use std::process::Abort;
+use std::sync::Wait;
 
-// So many changes of one key, in turn insertions and deletions.
-const CHANGES: u64 = 200_000;
+// So often one key is inserted and deleted.
+const TURNS: u64 = 100_000;
+
+impl Two {
+    fn insert_and_delete<R: Wait + Abort>(&mut self, rt: &R, key: u64, pointer: u64) {
+        self.call(rt, One, Op::Insert(key, pointer), Ok(Answer::Inserted));
+        self.call(rt, One, Op::Delete(key), Ok(Answer::Removed(pointer)));
+    }
+}
 
 // 300 rows would be used up after 300 changes, were each written once. The session has drawn as few as an insertion may need, since
 // the rows that it writes over come back in time.
 #[test]
 fn many_changes_take_few_rows(rt: HostRuntime) {
-    let mut two = Two::open(&rt, rt.alloc(), 100, 300);
-    for change in 0..CHANGES {
-        let pointer = change / 2;
-        if change % 2 == 0 {
-            assert_eq!(&rt; two.insert(&rt, 7, pointer), Ok(Answer::Inserted));
-        } else {
-            assert_eq!(&rt; two.delete(&rt, 7), Ok(Answer::Removed(pointer)));
-        }
+    let mut two = Two::open(&rt, rt.alloc(), (100, 300));
+    for pointer in 0..TURNS {
+        two.insert_and_delete(&rt, 7, pointer);
     }
-    assert_eq!(&rt; two.room().0, 256);
+    two.see(&rt, PoolRows(256));
 }

@@ -1,14 +1,17 @@
 //! Scans of ranges of keys.
+ghost use Rattle.std.specs.Prelude.{◌≤◌};
 ghost use Rattle.blink_map.specs.{IsSessionOf};
 
-use crate::shared::Two;
-use blink_batch::{Answer, Entry};
+use crate::beside::{Told, Work, in_two_threads};
+use crate::same::{same, same_for};
+use crate::shared::Who::One;
+use crate::shared::{Two, call};
+use crate::story::Act::{self, Call, DeleteEach, InsertEach, Scan as Scans, Tell, Turn};
+use crate::story::{End, Story, play};
+use blink_batch::{Answer, Entry, Op};
 use blink_map::{Map, Scanned, Session};
-use std::alloc::Global;
 use std::process::Abort;
 use std::sync::Wait;
-use std::sync::atomic::{AtomicBool, Ordering};
-use std::thread::{self, Threads};
 
 // What a place of the slice has before a scan.
 const BEFORE: Entry = Entry {
@@ -17,7 +20,7 @@ const BEFORE: Entry = Entry {
 };
 
 // A scan into so many places, the entries that it fills in, and the key from which it is to go on.
-struct Scan {
+pub(crate) struct Scan {
     range: (u64, u64),
     places: usize,
     entries: &'static [(u64, u64)],
@@ -25,7 +28,13 @@ struct Scan {
 }
 
 impl Two {
-    // The first session scans.
+    // The first session scans these ranges.
+    pub(crate) fn scan_all(&mut self, rt: &impl Abort, cases: &[Scan]) {
+        for case in cases {
+            self.scan(rt, case);
+        }
+    }
+
     fn scan(&mut self, rt: &impl Abort, case: &Scan) {
         assert!(rt; case.places <= 20, "too many places");
         let Two { map, one, other: _ } = self;
@@ -36,35 +45,28 @@ impl Two {
             filled: case.entries.len(),
             next: case.next,
         };
-        assert_eq!(rt; scanned, expected, "{:?}", case.range);
-        for (place, entry) in into.iter().enumerate() {
-            let (key, pointer) = *case.entries.get(place).unwrap_or(&(77, 7));
-            assert_eq!(rt; *entry, Entry { key, pointer }, "{:?}", case.range);
-        }
+        same_for(rt, &scanned, &expected, &case.range);
+        are_entries(rt, &into, case);
     }
 }
 
-// A map of the keys 1 to 3, 10 to 14 and the greatest, each of the first ones with ten times the key, in leaves of at most 4
+// The entries of the case, and behind them what was there before.
+fn are_entries(rt: &impl Abort, into: &[Entry], case: &Scan) {
+    for (place, entry) in into.iter().enumerate() {
+        let (key, pointer) = *case.entries.get(place).unwrap_or(&(77, 7));
+        same_for(rt, entry, &Entry { key, pointer }, &case.range);
+    }
+}
+
+// The keys 1 to 3, 10 to 14 and the greatest, each of the first ones with ten times the key, in leaves of at most 4
 // entries. At least one leaf between has no entry.
-fn with_empty_leaves<R: Abort + Wait>(rt: &R, alloc: Global) -> Two {
-    let mut two = Two::open(rt, alloc, 2000, 4000);
-    for key in 1..15u64 {
-        assert_eq!(rt;
-            two.insert(rt, key, key.wrapping_mul(10)),
-            Ok(Answer::Inserted)
-        );
-    }
-    for key in 4..10u64 {
-        assert_eq!(rt;
-            two.delete(rt, key),
-            Ok(Answer::Removed(key.wrapping_mul(10)))
-        );
-    }
-    assert_eq!(rt; two.insert(rt, u64::MAX, 1), Ok(Answer::Inserted));
-    two
-}
+pub(crate) const WITH_EMPTY_LEAVES: &[Act] = &[
+    InsertEach(1, 15, 10),
+    DeleteEach(4, 10, 10),
+    Call(One, Op::Insert(u64::MAX, 1), Ok(Answer::Inserted)),
+];
 
-const SCANS: [Scan; 9] = [
+const SCANS: &[Scan] = &[
     Scan {
         range: (0, u64::MAX),
         places: 20,
@@ -131,30 +133,45 @@ const SCANS: [Scan; 9] = [
     },
 ];
 
+const RANGES: Story = Story {
+    room: (2000, 4000),
+    scenes: &[WITH_EMPTY_LEAVES, &[Scans(SCANS)]],
+    end: End::StaysOpen,
+};
+
 #[test]
 fn a_scan_reports_its_range(rt: HostRuntime) {
-    let mut two = with_empty_leaves(&rt, rt.alloc());
-    for case in &SCANS {
-        two.scan(&rt, case);
-    }
+    play(&rt, rt.alloc(), &RANGES);
 }
 
-const TOLD: Scan = Scan {
+const TOLD: &[Scan] = &[Scan {
     range: (2, 12),
     places: 20,
     entries: &[(2, 22), (5, 55), (10, 100), (12, 120)],
     next: None,
+}];
+
+// What the first session has changed it tells the second, which scans in its place.
+const TOLD_RANGE: Story = Story {
+    room: (2000, 4000),
+    scenes: &[
+        WITH_EMPTY_LEAVES,
+        &[
+            Call(One, Op::Replace(2, 22), Ok(Answer::Replaced(20))),
+            Call(One, Op::Delete(3), Ok(Answer::Removed(30))),
+            Call(One, Op::Insert(5, 55), Ok(Answer::Inserted)),
+            Call(One, Op::Delete(11), Ok(Answer::Removed(110))),
+            Tell,
+            Turn,
+            Scans(TOLD),
+        ],
+    ],
+    end: End::StaysOpen,
 };
 
 #[test]
 fn a_scan_shows_what_the_session_was_told(rt: HostRuntime) {
-    let mut two = with_empty_leaves(&rt, rt.alloc());
-    assert_eq!(&rt; two.replace(&rt, 2, 22), Ok(Answer::Replaced(20)));
-    assert_eq!(&rt; two.delete(&rt, 3), Ok(Answer::Removed(30)));
-    assert_eq!(&rt; two.insert(&rt, 5, 55), Ok(Answer::Inserted));
-    assert_eq!(&rt; two.delete(&rt, 11), Ok(Answer::Removed(110)));
-    two.tell();
-    two.turn().scan(&rt, &TOLD);
+    play(&rt, rt.alloc(), &TOLD_RANGE);
 }
 
 // ---- a scan while another session changes the map
@@ -166,8 +183,8 @@ fn insert_odd<R: Abort + Wait>(rt: &R, map: &Map, session: &mut Session)
 {
     for place in 0..1000u64 {
         let key = place.wrapping_mul(2).wrapping_add(1);
-        let answer = map.insert(rt, session, key, key.wrapping_mul(10));
-        assert_eq!(rt; answer, Ok(Answer::Inserted));
+        let op = Op::Insert(key, key.wrapping_mul(10));
+        call(rt, map, session, op, Ok(Answer::Inserted));
     }
 }
 
@@ -178,27 +195,32 @@ fn delete_odd<R: Abort + Wait>(rt: &R, map: &Map, session: &mut Session)
 {
     for place in 0..1000u64 {
         let key = place.wrapping_mul(2).wrapping_add(1);
-        let answer = map.delete(rt, session, key);
-        assert_eq!(rt; answer, Ok(Answer::Removed(key.wrapping_mul(10))));
+        let removed = Answer::Removed(key.wrapping_mul(10));
+        call(rt, map, session, Op::Delete(key), Ok(removed));
     }
 }
 
-fn change<R: Abort + Wait>(rt: &R, map: &Map, mut session: Session, ended: &AtomicBool) -> bool
+pub(crate) fn change_odd<R: Abort + Wait>(
+    rt: &R,
+    map: &Map,
+    mut session: Session,
+    told: &Told,
+) -> bool
     requires { IsSessionOf map.now session }
 {
     insert_odd(rt, map, &mut session);
     delete_odd(rt, map, &mut session);
-    ended.store(true, Ordering::SeqCst);
+    told.end();
     true
 }
 
 // Scans all keys, again and again, until the other thread has ended.
-fn scan_meanwhile(rt: &impl Abort, map: &Map, mut session: Session, ended: &AtomicBool) -> bool
+pub(crate) fn scan_meanwhile(rt: &impl Abort, map: &Map, mut session: Session, told: &Told) -> bool
     requires { IsSessionOf map.now session }
 {
     for _ in 0..1_000_000u64 {
-        scan_all(rt, map, &mut session);
-        if ended.load(Ordering::SeqCst) {
+        scan_even(rt, map, &mut session);
+        if told.has_ended() {
             return true;
         }
     }
@@ -206,7 +228,7 @@ fn scan_meanwhile(rt: &impl Abort, map: &Map, mut session: Session, ended: &Atom
 }
 
 // Scans all keys, sixty places at a time: the even ones are all there, and each key comes once, with ten times the key.
-fn scan_all(rt: &impl Abort, map: &Map, session: &mut Session)
+fn scan_even(rt: &impl Abort, map: &Map, session: &mut Session)
     requires { IsSessionOf map.now session.old }
     ensures { IsSessionOf map.now session.new }
 {
@@ -221,7 +243,7 @@ fn scan_all(rt: &impl Abort, map: &Map, session: &mut Session)
             None => break,
         }
     }
-    assert_eq!(rt; even, 1000);
+    same(rt, &even, &1000);
 }
 
 // How many of these have an even key. They ascend from this key on.
@@ -233,62 +255,28 @@ fn even_among(rt: &impl Abort, entries: &[Entry], from: u64) -> u64 {
             least <= entry.key && entry.key < 2000,
             "{entry:?} after {least}"
         );
-        assert_eq!(rt; entry.pointer, entry.key.wrapping_mul(10));
+        same(rt, &entry.pointer, &entry.key.wrapping_mul(10));
         even = even.wrapping_add(u64::from(entry.key % 2 == 0));
         least = entry.key.wrapping_add(1);
     }
     even
 }
 
-// Changes the map in one thread, and scans it in another; `false`, if a thread couldn't be started.
-fn change_and_scan<R: Threads + Abort + Wait + Sync>(
-    rt: &R,
-    map: &Map,
-    one: Session,
-    other: Session,
-    ended: &AtomicBool,
-) -> bool
-    requires one { IsSessionOf map.now one }
-    requires other { IsSessionOf map.now other }
-{
-    thread::scope(
-        thread::scope_env(),
-        rt,
-        move |scope| -> bool
-            requires one { IsSessionOf map.now one }
-            requires other { IsSessionOf map.now other }
-        {
-            let first = scope
-                .spawn(
-                    move || -> bool
-                        requires one { IsSessionOf map.now one }
-                    { change(rt, map, one, ended) },
-                )
-                .is_ok();
-            let second = scope
-                .spawn(
-                    move || -> bool
-                        requires other { IsSessionOf map.now other }
-                    { scan_meanwhile(rt, map, other, ended) },
-                )
-                .is_ok();
-            first && second
-        },
-    )
+impl Two {
+    // The first session inserts every so-manyeth key, so many of them, each with ten times the key.
+    pub(crate) fn insert_every<R: Wait + Abort>(&mut self, rt: &R, step: u64, count: u64) {
+        for place in 0..count {
+            let key = place.wrapping_mul(step);
+            let op = Op::Insert(key, key.wrapping_mul(10));
+            self.call(rt, One, op, Ok(Answer::Inserted));
+        }
+    }
 }
 
 #[test]
 fn one_session_scans_while_another_changes(rt: HostRuntime) {
-    let mut two = Two::open(&rt, rt.alloc(), 30_000, 100_000);
-    for place in 0..1000u64 {
-        let key = place.wrapping_mul(2);
-        assert_eq!(&rt;
-            two.insert(&rt, key, key.wrapping_mul(10)),
-            Ok(Answer::Inserted)
-        );
-    }
-    let ended = AtomicBool::new(false);
-    let Two { map, one, other } = two;
-    assert!(&rt; change_and_scan(&rt, &map, one, other, &ended));
-    assert!(&rt; ended.load(Ordering::SeqCst));
+    let mut two = Two::open(&rt, rt.alloc(), (30_000, 100_000));
+    two.insert_every(&rt, 2, 1000);
+    let works = (Work::ChangeOdd, Work::ScanEven);
+    let _map = in_two_threads(&rt, rt.alloc(), two, works, &Told::nothing());
 }

@@ -1,7 +1,7 @@
-//! A map with sessions, whose calls have no condition: what is so of them is in the type.
-ghost use Rattle.std.specs.Prelude.{◌≡◌, All};
+//! A map with two sessions, whose calls have no condition: what is so of them is in the type.
 ghost use Rattle.blink_map.specs.{IsSessionOf};
 
+use crate::same::{given, same_for};
 use blink_batch::{Answer, Op};
 use blink_index::Index;
 use blink_map::{Full, Map, MapError, Room, Session};
@@ -19,20 +19,21 @@ pub(crate) struct Two {
     ghost others: { IsSessionOf map other },
 }
 
+// Which of the two sessions is meant.
+#[derive(Clone, Copy)]
+pub(crate) enum Who {
+    One,
+    Other,
+}
+
 impl Two {
     // Over an empty index, with room for so many page numbers and rows.
-    pub(crate) fn open(rt: &impl Abort, alloc: Global, pages: u32, rows: u32) -> Two {
-        let index = Index::new(alloc, 4).expect(rt, "no index");
-        Two::over(rt, alloc, &index, pages, rows)
+    pub(crate) fn open(rt: &impl Abort, alloc: Global, room: (u32, u32)) -> Two {
+        Two::over(rt, alloc, &given(rt, Index::new(alloc, 4)), room)
     }
 
-    pub(crate) fn over(
-        rt: &impl Abort,
-        alloc: Global,
-        index: &Index,
-        pages: u32,
-        rows: u32,
-    ) -> Two {
+    pub(crate) fn over(rt: &impl Abort, alloc: Global, index: &Index, room: (u32, u32)) -> Two {
+        let (pages, rows) = room;
         let room = Room {
             pages,
             rows,
@@ -44,39 +45,35 @@ impl Two {
         Two { map, one, other }
     }
 
-    pub(crate) fn insert<R: Wait>(
+    // The session's operation gives this.
+    pub(crate) fn call<R: Wait + Abort>(
         &mut self,
         rt: &R,
-        key: u64,
-        pointer: u64,
-    ) -> Result<Answer, Full> {
-        let Two { map, one, other: _ } = self;
-        map.insert(rt, one, key, pointer)
+        who: Who,
+        op: Op,
+        expected: Result<Answer, Full>,
+    ) {
+        let Two { map, one, other } = self;
+        match who {
+            Who::One => call(rt, map, one, op, expected),
+            Who::Other => call(rt, map, other, op, expected),
+        }
     }
 
-    pub(crate) fn delete<R: Wait>(&mut self, rt: &R, key: u64) -> Result<Answer, Full> {
-        let Two { map, one, other: _ } = self;
-        map.delete(rt, one, key)
+    // The first session inserts the keys from the first number up to the second, each with so many times the key.
+    pub(crate) fn insert_each<R: Wait + Abort>(&mut self, rt: &R, keys: (u64, u64), times: u64) {
+        for key in keys.0..keys.1 {
+            let op = Op::Insert(key, key.wrapping_mul(times));
+            self.call(rt, Who::One, op, Ok(Answer::Inserted));
+        }
     }
 
-    pub(crate) fn replace<R: Wait>(
-        &mut self,
-        rt: &R,
-        key: u64,
-        pointer: u64,
-    ) -> Result<Answer, Full> {
-        let Two { map, one, other: _ } = self;
-        map.replace(rt, one, key, pointer)
-    }
-
-    pub(crate) fn apply<R: Wait>(&mut self, rt: &R, op: Op) -> Result<Answer, Full> {
-        let Two { map, one, other: _ } = self;
-        apply(rt, map, one, op)
-    }
-
-    pub(crate) fn find(&mut self, key: u64) -> Option<u64> {
-        let Two { map, one, other: _ } = self;
-        map.find(one, key)
+    // It deletes them again.
+    pub(crate) fn delete_each<R: Wait + Abort>(&mut self, rt: &R, keys: (u64, u64), times: u64) {
+        for key in keys.0..keys.1 {
+            let removed = Answer::Removed(key.wrapping_mul(times));
+            self.call(rt, Who::One, Op::Delete(key), Ok(removed));
+        }
     }
 
     // The first session and the second change places.
@@ -101,16 +98,6 @@ impl Two {
         map.leave(one);
         let one = map.join().expect(rt, "no place again");
         Two { map, one, other }
-    }
-
-    // Each place is taken.
-    pub(crate) fn refusal(&self) -> Option<MapError> {
-        self.map.join().err()
-    }
-
-    // The number of rows that the pool has left, and of page numbers.
-    pub(crate) fn room(&self) -> (u64, u64) {
-        self.map.room()
     }
 
     pub(crate) fn close(self, alloc: Global) -> Result<Index, MapError> {
@@ -141,4 +128,19 @@ pub(crate) fn apply<R: Wait>(
         Op::Exchange(key, expected, pointer) => map.exchange(rt, session, key, expected, pointer),
         Op::DeleteExact(key, expected) => map.delete_exact(rt, session, key, expected),
     }
+}
+
+// The session's operation gives this.
+pub(crate) fn call<R: Wait + Abort>(
+    rt: &R,
+    map: &Map,
+    session: &mut Session,
+    op: Op,
+    expected: Result<Answer, Full>,
+)
+    requires { IsSessionOf map.now session.old }
+    ensures { IsSessionOf map.now session.new }
+{
+    let answer = apply(rt, map, session, op);
+    same_for(rt, &answer, &expected, &op);
 }

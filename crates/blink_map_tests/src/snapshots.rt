@@ -1,39 +1,50 @@
 //! Snapshots of ranges of keys, also while another session changes the map.
 ghost use Rattle.blink_map.specs.{IsSessionOf};
 
-use crate::shared::Two;
-use blink_batch::{Answer, Entry};
+use crate::beside::{Told, Work, in_two_threads};
+use crate::same::{given, same, same_for};
+use crate::scanning::WITH_EMPTY_LEAVES;
+use crate::shared::{Two, call};
+use crate::story::Act::Snapshot;
+use crate::story::{End, Story, play};
+use blink_batch::{Answer, Entry, Op};
 use blink_map::{Map, Session};
 use std::alloc::Global;
 use std::process::Abort;
 use std::sync::Wait;
-use std::sync::atomic::{AtomicBool, AtomicU64, Ordering};
-use std::thread::{self, Threads};
 
 // A range and its entries.
-struct Taken {
+pub(crate) struct Taken {
     range: (u64, u64),
     entries: &'static [(u64, u64)],
 }
 
 impl Two {
-    // The first session takes a snapshot at the first try, since nobody else changes the map.
+    // The first session takes a snapshot of each range at the first try, since nobody else changes the map.
+    pub(crate) fn snapshot_all(&mut self, rt: &impl Abort, alloc: Global, cases: &[Taken]) {
+        for case in cases {
+            self.snapshot(rt, alloc, case);
+        }
+    }
+
     fn snapshot(&mut self, rt: &impl Abort, alloc: Global, case: &Taken) {
         let Two { map, one, other: _ } = self;
         let (lo, hi) = case.range;
-        let Ok(Some(entries)) = map.snapshot(alloc, one, lo, hi, 1) else {
-            panic!(rt; "no snapshot of {:?}", case.range)
-        };
-        assert_eq!(rt; entries.len(), case.entries.len(), "{:?}", case.range);
-        for (place, entry) in entries.iter().enumerate() {
-            let (key, pointer) = *case.entries.get(place).unwrap_or(&(0, 0));
-            assert_eq!(rt; *entry, Entry { key, pointer }, "{:?}", case.range);
-        }
+        let found = given(rt, map.snapshot(alloc, one, lo, hi, 1));
+        let entries = found.expect(rt, "no snapshot");
+        are_entries(rt, &entries, case);
     }
 }
 
-// Of the keys 1 to 3, 10 to 14 and the greatest, in leaves of at most 4 entries. At least one leaf between has no entry.
-const TAKEN: [Taken; 6] = [
+// These are the entries of the case.
+fn are_entries(rt: &impl Abort, entries: &[Entry], case: &Taken) {
+    same_for(rt, &entries.len(), &case.entries.len(), &case.range);
+    for (entry, &(key, pointer)) in entries.iter().zip(case.entries) {
+        same_for(rt, entry, &Entry { key, pointer }, &case.range);
+    }
+}
+
+const TAKEN: &[Taken] = &[
     Taken {
         range: (0, u64::MAX),
         entries: &[
@@ -70,70 +81,49 @@ const TAKEN: [Taken; 6] = [
     },
 ];
 
+const RANGES: Story = Story {
+    room: (2000, 4000),
+    scenes: &[WITH_EMPTY_LEAVES, &[Snapshot(TAKEN)]],
+    end: End::StaysOpen,
+};
+
 #[test]
 fn a_snapshot_has_its_range(rt: HostRuntime) {
-    let mut two = Two::open(&rt, rt.alloc(), 2000, 4000);
-    for key in 1..15u64 {
-        assert_eq!(&rt;
-            two.insert(&rt, key, key.wrapping_mul(10)),
-            Ok(Answer::Inserted)
-        );
-    }
-    for key in 4..10u64 {
-        assert_eq!(&rt;
-            two.delete(&rt, key),
-            Ok(Answer::Removed(key.wrapping_mul(10)))
-        );
-    }
-    assert_eq!(&rt; two.insert(&rt, u64::MAX, 1), Ok(Answer::Inserted));
-    for case in &TAKEN {
-        two.snapshot(&rt, rt.alloc(), case);
-    }
+    play(&rt, rt.alloc(), &RANGES);
 }
 
 // ---- snapshots while another session changes the map
 
 // Inserts the keys below 2,000 in ascending order, so that the map has a key only if it has each lesser one.
-fn insert_ascending<R: Abort + Wait>(
+pub(crate) fn insert_ascending<R: Abort + Wait>(
     rt: &R,
     map: &Map,
     mut session: Session,
-    ended: &AtomicBool,
+    told: &Told,
 ) -> bool
     requires { IsSessionOf map.now session }
 {
     for key in 0..2000u64 {
-        let answer = map.insert(rt, &mut session, key, key.wrapping_mul(10));
-        assert_eq!(rt; answer, Ok(Answer::Inserted));
+        let op = Op::Insert(key, key.wrapping_mul(10));
+        call(rt, map, &mut session, op, Ok(Answer::Inserted));
     }
-    ended.store(true, Ordering::SeqCst);
+    told.end();
     true
 }
 
 // Takes snapshots of all keys until the other thread has ended, and counts them. Each has the keys from 0 to some key.
-fn take_meanwhile(
+pub(crate) fn take_meanwhile(
     rt: &impl Abort,
     alloc: Global,
     map: &Map,
     mut session: Session,
-    ended: &AtomicBool,
-    taken: &AtomicU64,
+    told: &Told,
 ) -> bool
     requires { IsSessionOf map.now session }
 {
     for _ in 0..1_000_000u64 {
-        let last = ended.load(Ordering::SeqCst);
-        let Ok(found) = map.snapshot(alloc, &mut session, 0, u64::MAX, 100) else {
-            panic!(rt; "no memory")
-        };
-        if let Some(entries) = found {
-            taken.fetch_add(1, Ordering::SeqCst);
-            for (place, entry) in entries.iter().enumerate() {
-                let key = place as u64;
-                let pointer = key.wrapping_mul(10);
-                assert_eq!(rt; *entry, Entry { key, pointer });
-            }
-        }
+        let last = told.has_ended();
+        take_one(rt, alloc, map, &mut session, told);
         if last {
             return true;
         }
@@ -141,52 +131,32 @@ fn take_meanwhile(
     true
 }
 
-// Changes the map in one thread, and takes snapshots in another; `false`, if a thread couldn't be started.
-fn change_and_take<R: Threads + Abort + Wait + Sync>(
-    rt: &R,
-    alloc: Global,
-    map: &Map,
-    one: Session,
-    other: Session,
-    shared: (&AtomicBool, &AtomicU64),
-) -> bool
-    requires one { IsSessionOf map.now one }
-    requires other { IsSessionOf map.now other }
+// Takes a snapshot of all keys, if one succeeds.
+fn take_one(rt: &impl Abort, alloc: Global, map: &Map, session: &mut Session, told: &Told)
+    requires { IsSessionOf map.now session.old }
+    ensures { IsSessionOf map.now session.new }
 {
-    let (ended, taken) = shared;
-    thread::scope(
-        thread::scope_env(),
-        rt,
-        move |scope| -> bool
-            requires one { IsSessionOf map.now one }
-            requires other { IsSessionOf map.now other }
-        {
-            let first = scope
-                .spawn(
-                    move || -> bool
-                        requires one { IsSessionOf map.now one }
-                    { insert_ascending(rt, map, one, ended) },
-                )
-                .is_ok();
-            let second = scope
-                .spawn(
-                    move || -> bool
-                        requires other { IsSessionOf map.now other }
-                    { take_meanwhile(rt, alloc, map, other, ended, taken) },
-                )
-                .is_ok();
-            first && second
-        },
-    )
+    let found = given(rt, map.snapshot(alloc, session, 0, u64::MAX, 100));
+    if let Some(entries) = found {
+        told.count_snapshot();
+        ascend(rt, &entries);
+    }
+}
+
+// The keys ascend from 0 on, each with ten times the key.
+fn ascend(rt: &impl Abort, entries: &[Entry]) {
+    for (place, entry) in entries.iter().enumerate() {
+        let key = place as u64;
+        let pointer = key.wrapping_mul(10);
+        same(rt, entry, &Entry { key, pointer });
+    }
 }
 
 #[test]
 fn snapshots_show_no_key_without_the_lesser_ones(rt: HostRuntime) {
-    let two = Two::open(&rt, rt.alloc(), 30_000, 100_000);
-    let ended = AtomicBool::new(false);
-    let taken = AtomicU64::new(0);
-    let Two { map, one, other } = two;
-    assert!(&rt; change_and_take(&rt, rt.alloc(), &map, one, other, (&ended, &taken)));
-    assert!(&rt; ended.load(Ordering::SeqCst));
-    assert!(&rt; taken.load(Ordering::SeqCst) > 0);
+    let two = Two::open(&rt, rt.alloc(), (30_000, 100_000));
+    let told = Told::nothing();
+    let works = (Work::InsertAscending, Work::TakeSnapshots);
+    let _map = in_two_threads(&rt, rt.alloc(), two, works, &told);
+    assert!(&rt; told.snapshots() > 0);
 }

@@ -2,7 +2,11 @@
 ghost use Rattle.std.specs.Prelude.{IfErr, IfOk};
 ghost use Rattle.blink_map.specs.{IsPendingOf, IsSessionOf};
 
-use crate::shared::{Two, apply};
+use crate::same::{same, same_for};
+use crate::shared::Who::{One, Other};
+use crate::shared::{Two, Who, call};
+use crate::story::Act::{AtOnce, Call, InSteps, InsertEach, Interrupt};
+use crate::story::{End, Story, play};
 use blink_batch::{Answer, Op};
 use blink_index::Index;
 use blink_map::{Full, Map, MapError, Pending, Session};
@@ -40,6 +44,17 @@ fn begin(
     }
 }
 
+// Begins the operation, which isn't refused.
+fn begun(rt: &impl Abort, map: &Map, session: Session, op: Op) -> Pending
+    requires { IsSessionOf map.now session }
+    ensures { IsPendingOf map.now result }
+{
+    let Ok(begun) = begin(map, session, op) else {
+        panic!(rt; "refused")
+    };
+    begun
+}
+
 // Takes the operation's steps to its end.
 fn end<R: Wait>(rt: &R, map: &Map, begun: Pending) -> (Session, Answer)
     requires { IsPendingOf map.now begun }
@@ -54,6 +69,16 @@ fn end<R: Wait>(rt: &R, map: &Map, begun: Pending) -> (Session, Answer)
         thread::yield_now();
     }
     unreachable!()
+}
+
+// Takes the operation's steps to its end, which gives this answer.
+fn end_with<R: Wait + Abort>(rt: &R, map: &Map, begun: Pending, expected: Answer) -> Session
+    requires { IsPendingOf map.now begun }
+    ensures { IsSessionOf map.now result }
+{
+    let (session, answer) = end(rt, map, begun);
+    same(rt, &answer, &expected);
+    session
 }
 
 // Runs the operation in steps.
@@ -81,7 +106,7 @@ fn apply_all<R: Wait + Abort>(rt: &R, map: &Map, session: &mut Session, steps: &
     ensures { IsSessionOf map.now session.new }
 {
     for &(op, answer) in steps {
-        assert_eq!(rt; apply(rt, map, session, op), Ok(answer));
+        call(rt, map, session, op, Ok(answer));
     }
 }
 
@@ -91,39 +116,130 @@ fn turn_over<R: Wait + Abort>(rt: &R, map: &Map, session: &mut Session)
     ensures { IsSessionOf map.now session.new }
 {
     for pointer in 0..TURNS {
-        let inserted = apply(rt, map, session, Op::Insert(9, pointer));
-        assert_eq!(rt; inserted, Ok(Answer::Inserted));
-        let deleted = apply(rt, map, session, Op::Delete(9));
-        assert_eq!(rt; deleted, Ok(Answer::Removed(pointer)));
+        call(
+            rt,
+            map,
+            session,
+            Op::Insert(9, pointer),
+            Ok(Answer::Inserted),
+        );
+        call(
+            rt,
+            map,
+            session,
+            Op::Delete(9),
+            Ok(Answer::Removed(pointer)),
+        );
     }
 }
 
-// An operation that rests half-way, what the other session does meanwhile with which answers, and the operation's own answer.
-struct Interrupted {
-    begun: Op,
-    meanwhile: &'static [(Op, Answer)],
-    answer: Answer,
+// The session's operation, taken to its end in steps, gives this.
+fn run_in_steps<R: Wait + Abort>(
+    rt: &R,
+    map: &Map,
+    session: Session,
+    op: Op,
+    expected: Result<Answer, Full>,
+) -> Session
+    requires { IsSessionOf map.now session }
+    ensures { IsSessionOf map.now result }
+{
+    let (session, answer) = apply_in_steps(rt, map, session, op);
+    same_for(rt, &answer, &expected, &op);
+    session
+}
+
+// The session's insertion or replacement ends at the first try, since nobody has a page.
+fn run_at_once(rt: &impl Abort, map: &Map, session: Session, op: Op, expected: Answer) -> Session
+    requires { IsSessionOf map.now session }
+    ensures { IsSessionOf map.now result }
+{
+    match op {
+        Op::Insert(key, pointer) => {
+            let Ok(begun) = map.begin(session, Op::Insert(key, pointer)) else {
+                panic!(rt; "refused")
+            };
+            end_at_once(rt, map, begun, expected)
+        }
+        Op::Replace(key, pointer) => {
+            let Ok(begun) = map.begin(session, Op::Replace(key, pointer)) else {
+                panic!(rt; "refused")
+            };
+            end_at_once(rt, map, begun, expected)
+        }
+        _ => panic!(rt; "neither"),
+    }
+}
+
+fn end_at_once(rt: &impl Abort, map: &Map, begun: Pending, expected: Answer) -> Session
+    requires { IsPendingOf map.now begun }
+    ensures { IsSessionOf map.now result }
+{
+    let Ok((session, answer)) = map.advance(begun, 1) else {
+        panic!(rt; "not ended")
+    };
+    same(rt, &answer, &expected);
+    session
 }
 
 impl Two {
-    // The first session begins the operation, and goes on when the second has done its own.
-    fn interrupt<R: Wait + Abort>(self, rt: &R, case: &Interrupted) -> Two {
+    // The session's operation, taken to its end in steps, gives this.
+    pub(crate) fn call_in_steps<R: Wait + Abort>(
+        self,
+        rt: &R,
+        who: Who,
+        op: Op,
+        expected: Result<Answer, Full>,
+    ) -> Two {
+        let Two { map, one, other } = self;
+        match who {
+            One => {
+                let one = run_in_steps(rt, &map, one, op, expected);
+                Two { map, one, other }
+            }
+            Other => {
+                let other = run_in_steps(rt, &map, other, op, expected);
+                Two { map, one, other }
+            }
+        }
+    }
+
+    // The session's operation ends at the first try.
+    pub(crate) fn call_at_once(self, rt: &impl Abort, who: Who, op: Op, answer: Answer) -> Two {
+        let Two { map, one, other } = self;
+        match who {
+            One => {
+                let one = run_at_once(rt, &map, one, op, answer);
+                Two { map, one, other }
+            }
+            Other => {
+                let other = run_at_once(rt, &map, other, op, answer);
+                Two { map, one, other }
+            }
+        }
+    }
+
+    // The first session begins the operation, and ends it with this answer when the second has done its own.
+    pub(crate) fn interrupt<R: Wait + Abort>(
+        self,
+        rt: &R,
+        op: Op,
+        meanwhile: &[(Op, Answer)],
+        expected: Answer,
+    ) -> Two {
         let Two {
             map,
             one,
             mut other,
         } = self;
-        let Ok(begun) = begin(&map, one, case.begun) else {
-            panic!(rt; "refused");
-        };
-        apply_all(rt, &map, &mut other, case.meanwhile);
-        let (one, answer) = end(rt, &map, begun);
-        assert_eq!(rt; answer, case.answer);
+        let begun = begun(rt, &map, one, op);
+        apply_all(rt, &map, &mut other, meanwhile);
+        let one = end_with(rt, &map, begun, expected);
         Two { map, one, other }
     }
 
     // The first session begins the operation, and is dropped with it. The second does its own, and the map is closed.
-    fn lose_one<R: Wait + Abort>(
+    pub(crate) fn lose_one<R: Wait + Abort>(
         self,
         rt: &R,
         alloc: Global,
@@ -135,138 +251,163 @@ impl Two {
             one,
             mut other,
         } = self;
-        let _lost = begin(&map, one, op).ok().expect(rt, "refused");
+        let _lost = begun(rt, &map, one, op);
         apply_all(rt, &map, &mut other, meanwhile);
         map.close(alloc, Vec::new(alloc))
     }
 
-    // The first session begins the operation. While that rests, the second writes each of its rows many times. Returns the answer
-    // of the operation, or `None` if it is dropped.
-    fn rest_meanwhile<R: Wait + Abort>(self, rt: &R, op: Op, dropped: bool) -> Option<Answer> {
+    // The first session begins the operation. While that rests, the second writes each of its rows many times. Then the operation
+    // ends with this answer.
+    fn rest_meanwhile<R: Wait + Abort>(self, rt: &R, op: Op, expected: Answer) {
         let Two {
             map,
             one,
             mut other,
         } = self;
-        let Ok(begun) = begin(&map, one, op) else {
-            panic!(rt; "refused");
-        };
-        if dropped {
-            drop(begun);
-            turn_over(rt, &map, &mut other);
-            return None;
-        }
+        let begun = begun(rt, &map, one, op);
         turn_over(rt, &map, &mut other);
-        let (_, answer) = end(rt, &map, begun);
-        Some(answer)
+        let _one = end_with(rt, &map, begun, expected);
     }
 
-    // The first session runs the operation in steps.
-    pub(crate) fn apply_in_steps<R: Wait>(self, rt: &R, op: Op) -> (Two, Result<Answer, Full>) {
-        let Two { map, one, other } = self;
-        let (one, answer) = apply_in_steps(rt, &map, one, op);
-        (Two { map, one, other }, answer)
+    // The first session begins the operation, and is dropped with it. The second writes each of its rows many times.
+    fn lose_meanwhile<R: Wait + Abort>(self, rt: &R, op: Op) {
+        let Two {
+            map,
+            one,
+            mut other,
+        } = self;
+        drop(begun(rt, &map, one, op));
+        turn_over(rt, &map, &mut other);
     }
 }
 
-const OF_ONE_KEY: [Interrupted; 6] = [
-    Interrupted {
-        begun: Op::Insert(7, 70),
-        meanwhile: &[(Op::Insert(7, 71), Answer::Inserted)],
-        answer: Answer::Exists(71),
-    },
-    Interrupted {
-        begun: Op::Replace(7, 72),
-        meanwhile: &[(Op::Replace(7, 73), Answer::Replaced(71))],
-        answer: Answer::Replaced(73),
-    },
-    Interrupted {
-        begun: Op::Delete(7),
-        meanwhile: &[(Op::Replace(7, 74), Answer::Replaced(72))],
-        answer: Answer::Removed(74),
-    },
-    Interrupted {
-        begun: Op::Delete(7),
-        meanwhile: &[(Op::Insert(7, 75), Answer::Inserted)],
-        answer: Answer::Removed(75),
-    },
-    Interrupted {
-        begun: Op::Replace(7, 76),
-        meanwhile: &[(Op::Delete(7), Answer::Absent)],
-        answer: Answer::Absent,
-    },
-    Interrupted {
-        begun: Op::Insert(7, 77),
-        meanwhile: &[(Op::Find(7), Answer::Absent)],
-        answer: Answer::Inserted,
-    },
-];
+const OF_ONE_KEY: Story = Story {
+    room: (200, 2000),
+    scenes: &[&[
+        Interrupt(
+            Op::Insert(7, 70),
+            &[(Op::Insert(7, 71), Answer::Inserted)],
+            Answer::Exists(71),
+        ),
+        Interrupt(
+            Op::Replace(7, 72),
+            &[(Op::Replace(7, 73), Answer::Replaced(71))],
+            Answer::Replaced(73),
+        ),
+        Interrupt(
+            Op::Delete(7),
+            &[(Op::Replace(7, 74), Answer::Replaced(72))],
+            Answer::Removed(74),
+        ),
+        Interrupt(
+            Op::Delete(7),
+            &[(Op::Insert(7, 75), Answer::Inserted)],
+            Answer::Removed(75),
+        ),
+        Interrupt(
+            Op::Replace(7, 76),
+            &[(Op::Delete(7), Answer::Absent)],
+            Answer::Absent,
+        ),
+        Interrupt(
+            Op::Insert(7, 77),
+            &[(Op::Find(7), Answer::Absent)],
+            Answer::Inserted,
+        ),
+        Call(One, Op::Find(7), Ok(Answer::Found(77))),
+    ]],
+    end: End::StaysOpen,
+};
 
 #[test]
 fn a_pending_operation_sees_what_was_done_to_its_key_meanwhile(rt: HostRuntime) {
-    let mut two = Two::open(&rt, rt.alloc(), 200, 2000);
-    for case in &OF_ONE_KEY {
-        two = two.interrupt(&rt, case);
-    }
-    assert_eq!(&rt; two.find(7), Some(77));
+    play(&rt, rt.alloc(), &OF_ONE_KEY);
 }
 
 // The leaf of the keys 1 to 4 is full. It is split while the insertion rests.
-const SPLIT_MEANWHILE: Interrupted = Interrupted {
-    begun: Op::Insert(5, 5),
-    meanwhile: &[
-        (Op::Insert(6, 6), Answer::Inserted),
-        (Op::Insert(7, 7), Answer::Inserted),
-        (Op::Find(5), Answer::Absent),
-    ],
-    answer: Answer::Inserted,
+const SPLIT_MEANWHILE: Story = Story {
+    room: (200, 2000),
+    scenes: &[&[
+        InsertEach(1, 5, 1),
+        Interrupt(
+            Op::Insert(5, 5),
+            &[
+                (Op::Insert(6, 6), Answer::Inserted),
+                (Op::Insert(7, 7), Answer::Inserted),
+                (Op::Find(5), Answer::Absent),
+            ],
+            Answer::Inserted,
+        ),
+    ]],
+    end: End::Closes(&[
+        (1, Some(1)),
+        (2, Some(2)),
+        (3, Some(3)),
+        (4, Some(4)),
+        (5, Some(5)),
+        (6, Some(6)),
+        (7, Some(7)),
+    ]),
 };
 
 #[test]
 fn a_pending_insertion_lets_another_session_split_its_leaf(rt: HostRuntime) {
-    let alloc = rt.alloc();
-    let mut two = Two::open(&rt, alloc, 200, 2000);
-    for key in 1..5u64 {
-        assert_eq!(&rt; two.insert(&rt, key, key), Ok(Answer::Inserted));
-    }
-    let two = two.interrupt(&rt, &SPLIT_MEANWHILE);
-    let index = two.close(alloc).expect(&rt, "not closed");
-    for key in 1..8u64 {
-        assert_eq!(&rt; index.find(key), Some(key));
-    }
+    play(&rt, rt.alloc(), &SPLIT_MEANWHILE);
 }
+
+const DROPPED: Story = Story {
+    room: (200, 2000),
+    scenes: &[],
+    end: End::Refused(
+        Op::Insert(2, 20),
+        &[
+            (Op::Insert(3, 30), Answer::Inserted),
+            (Op::Find(2), Answer::Absent),
+        ],
+        MapError::UnderWay,
+    ),
+};
 
 #[test]
 fn a_dropped_operation_leaves_no_latch_and_the_map_is_not_closed(rt: HostRuntime) {
-    let alloc = rt.alloc();
-    let two = Two::open(&rt, alloc, 200, 2000);
-    let meanwhile = [
-        (Op::Insert(3, 30), Answer::Inserted),
-        (Op::Find(2), Answer::Absent),
-    ];
-    let closed = two.lose_one(&rt, alloc, Op::Insert(2, 20), &meanwhile);
-    assert_eq!(&rt; closed.err(), Some(MapError::UnderWay));
+    play(&rt, rt.alloc(), &DROPPED);
 }
 
 // The first session draws all 44 rows, so the second has none.
+const REFUSED: Story = Story {
+    room: (22, 44),
+    scenes: &[&[
+        InSteps(One, Op::Insert(1, 10), Ok(Answer::Inserted)),
+        InSteps(Other, Op::Insert(2, 20), Err(Full)),
+        InSteps(One, Op::Replace(1, 11), Ok(Answer::Replaced(10))),
+        InSteps(Other, Op::Delete(1), Err(Full)),
+        InSteps(One, Op::Delete(1), Ok(Answer::Removed(11))),
+        Call(One, Op::Find(1), Ok(Answer::Absent)),
+        Call(One, Op::Find(2), Ok(Answer::Absent)),
+    ]],
+    end: End::Closes(&[(1, None)]),
+};
+
 #[test]
 fn begun_operations_are_refused_as_calls_are(rt: HostRuntime) {
-    let alloc = rt.alloc();
-    let two = Two::open(&rt, alloc, 22, 44);
-    let (two, answer) = two.apply_in_steps(&rt, Op::Insert(1, 10));
-    assert_eq!(&rt; answer, Ok(Answer::Inserted));
-    let (two, answer) = two.turn().apply_in_steps(&rt, Op::Insert(2, 20));
-    assert_eq!(&rt; answer, Err(Full));
-    let (two, answer) = two.turn().apply_in_steps(&rt, Op::Replace(1, 11));
-    assert_eq!(&rt; answer, Ok(Answer::Replaced(10)));
-    let (two, answer) = two.turn().apply_in_steps(&rt, Op::Delete(1));
-    assert_eq!(&rt; answer, Err(Full));
-    let (mut two, answer) = two.turn().apply_in_steps(&rt, Op::Delete(1));
-    assert_eq!(&rt; answer, Ok(Answer::Removed(11)));
-    assert_eq!(&rt; two.find(1), None);
-    assert_eq!(&rt; two.find(2), None);
-    let index = two.close(alloc).expect(&rt, "not closed");
-    assert_eq!(&rt; index.find(1), None);
+    play(&rt, rt.alloc(), &REFUSED);
+}
+
+// The first session draws 44 of 45 rows. That is too few for the second one's insertion, and enough for its replacement.
+const AT_ONCE: Story = Story {
+    room: (22, 45),
+    scenes: &[&[
+        AtOnce(One, Op::Insert(7, 70), Answer::Inserted),
+        Call(Other, Op::Find(7), Ok(Answer::Found(70))),
+        InSteps(Other, Op::Insert(8, 80), Err(Full)),
+        AtOnce(Other, Op::Replace(7, 71), Answer::Replaced(70)),
+    ]],
+    end: End::StaysOpen,
+};
+
+#[test]
+fn an_operation_goes_on_without_a_wait(rt: HostRuntime) {
+    play(&rt, rt.alloc(), &AT_ONCE);
 }
 
 // So often each of the few rows is written some hundred times.
@@ -274,15 +415,12 @@ const TURNS: u64 = 10_000;
 
 #[test]
 fn an_operation_that_rests_holds_no_row_back(rt: HostRuntime) {
-    let two = Two::open(&rt, rt.alloc(), 100, 200);
-    assert_eq!(&rt;
-        two.rest_meanwhile(&rt, Op::Insert(7, 70), false),
-        Some(Answer::Inserted)
-    );
+    let two = Two::open(&rt, rt.alloc(), (100, 200));
+    two.rest_meanwhile(&rt, Op::Insert(7, 70), Answer::Inserted);
 }
 
 #[test]
 fn an_operation_that_is_dropped_holds_no_row_back(rt: HostRuntime) {
-    let two = Two::open(&rt, rt.alloc(), 100, 200);
-    assert_eq!(&rt; two.rest_meanwhile(&rt, Op::Insert(7, 70), true), None);
+    let two = Two::open(&rt, rt.alloc(), (100, 200));
+    two.lose_meanwhile(&rt, Op::Insert(7, 70));
 }

@@ -1,13 +1,16 @@
 //! Threads, each with a session of one map.
 ghost use Rattle.blink_map.specs.{IsSessionOf};
 
+use crate::beside::{Told, Work, in_two_threads};
+use crate::same::{given, same};
 use crate::shared::{Two, apply};
 use crate::stepping::apply_in_steps;
 use blink_batch::{Answer, Op};
+use blink_index::Index;
 use blink_map::{Full, Map, Session};
+use std::process::Abort;
 use std::sync::Wait;
 use std::sync::atomic::{AtomicU64, Ordering};
-use std::thread::{self, Threads};
 
 // The keys that all threads change, and how many operations each thread does.
 const KEYS: u64 = 61;
@@ -16,14 +19,14 @@ const TURNS: u64 = 30_000;
 
 // How many operations were answered so, of all threads.
 #[derive(Drop)]
-struct Counts {
+pub(crate) struct Counts {
     inserted: AtomicU64,
     removed: AtomicU64,
     full: AtomicU64,
 }
 
 impl Counts {
-    fn new() -> Counts {
+    pub(crate) fn new() -> Counts {
         Counts {
             inserted: AtomicU64::new(0),
             removed: AtomicU64::new(0),
@@ -47,72 +50,45 @@ impl Counts {
     }
 }
 
-#[test]
-fn each_entry_is_inserted_once_more_than_removed(rt: HostRuntime) {
-    let alloc = rt.alloc();
-    let two = Two::open(&rt, alloc, 400_000, 800_000);
-    let Two { map, one, other } = two;
-    let counts = Counts::new();
-    assert!(&rt; run_two(&rt, &map, one, other, &counts));
-    let index = map.close(alloc, Vec::new(alloc)).expect(&rt, "not closed");
-    let left = found(Two::over(&rt, alloc, &index, 0, 0));
+// Each key was inserted once more than it was removed, if the index has it, and else as often.
+fn balance(rt: &impl Abort, counts: &Counts, index: &Index) {
     let inserted = counts.inserted.load(Ordering::SeqCst);
     let removed = counts.removed.load(Ordering::SeqCst);
-    assert_eq!(&rt; counts.full.load(Ordering::SeqCst), 0);
-    assert!(&rt; removed > 1_000);
-    assert_eq!(&rt; removed.wrapping_add(left), inserted);
+    same(rt, &counts.full.load(Ordering::SeqCst), &0);
+    assert!(rt; removed > 1_000);
+    same(rt, &removed.wrapping_add(entries_of(index)), &inserted);
 }
 
 // How many of the keys have an entry.
-fn found(mut two: Two) -> u64 {
+fn entries_of(index: &Index) -> u64 {
     let mut found: u64 = 0;
     for key in 0..KEYS {
-        if two.find(key).is_some() {
+        if index.find(key).is_some() {
             found = found.wrapping_add(1);
         }
     }
     found
 }
 
-// Each of the sessions works in a thread of its own; `false`, if a thread couldn't be started.
-fn run_two<R: Threads + Wait + Sync>(
-    rt: &R,
-    map: &Map,
-    one: Session,
-    other: Session,
-    counts: &Counts,
-) -> bool
-    requires one { IsSessionOf map.now one }
-    requires other { IsSessionOf map.now other }
-{
-    thread::scope(
-        thread::scope_env(),
-        rt,
-        move |scope| -> bool
-            requires one { IsSessionOf map.now one }
-            requires other { IsSessionOf map.now other }
-        {
-            let first = scope
-                .spawn(
-                    move || -> bool
-                        requires one { IsSessionOf map.now one }
-                    { work(rt, map, one, counts, 7) },
-                )
-                .is_ok();
-            let second = scope
-                .spawn(
-                    move || -> bool
-                        requires other { IsSessionOf map.now other }
-                    { work(rt, map, other, counts, 11) },
-                )
-                .is_ok();
-            first && second
-        },
-    )
+#[test]
+fn each_entry_is_inserted_once_more_than_removed(rt: HostRuntime) {
+    let alloc = rt.alloc();
+    let two = Two::open(&rt, alloc, (400_000, 800_000));
+    let told = Told::nothing();
+    let works = (Work::ChangeDrawn(7), Work::ChangeDrawn(11));
+    let map = in_two_threads(&rt, alloc, two, works, &told);
+    let index = given(&rt, map.close(alloc, Vec::new(alloc)));
+    balance(&rt, &told.counts, &index);
 }
 
 // Runs each second operation in steps, and the others by calls.
-fn work<R: Wait>(rt: &R, map: &Map, mut session: Session, counts: &Counts, step: u64) -> bool
+pub(crate) fn change_drawn<R: Wait>(
+    rt: &R,
+    map: &Map,
+    mut session: Session,
+    told: &Told,
+    step: u64,
+) -> bool
     requires its { IsSessionOf map.now session }
 {
     for turn in 0..TURNS {
@@ -125,8 +101,9 @@ fn work<R: Wait>(rt: &R, map: &Map, mut session: Session, counts: &Counts, step:
         };
         let (then, answer) = run(rt, map, session, op, turn % 2 == 0);
         session = then;
-        counts.count(answer);
+        told.counts.count(answer);
     }
+    told.end();
     true
 }
 

@@ -3,6 +3,3 @@ use Rattle.blink_map_tests.proofs.splitting.scan_all.Given as goal
 
 abbrev pub invariant-loop : goal.invariant-loop
 invariant-loop g l = IsSessionOf l.map l.session
-
-abbrev pub invariant-loop-entry : goal.invariant-loop-entry
-invariant-loop-entry g l = IsSessionOf l.map l.session

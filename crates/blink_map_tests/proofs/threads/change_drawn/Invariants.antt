@@ -1,5 +1,5 @@
 use Rattle.blink_map.specs.{IsSessionOf}
-use Rattle.blink_map_tests.proofs.threads.work.Given as goal
+use Rattle.blink_map_tests.proofs.threads.change_drawn.Given as goal
 
 -- the session is one of the map
 abbrev pub invariant-loop-turn : goal.invariant-loop-turn
