@@ -72,7 +72,7 @@ output_of() {
 # pays where all others wait for the crate: most where nothing else can be proved meanwhile.
 jobs_of() {
     case $1 in
-    blink_c | blink_index | blink_live | blink_machine | blink_map | blink_run | index_main) echo "$processors" ;;
+    blink_c | blink_index | blink_live | blink_machine | blink_map | blink_owners | blink_run | index_main) echo "$processors" ;;
     blink_locked | blink_page | blink_replay | blink_rest | blink_settings | blink_steps | blink_store) echo $(((processors + 1) / 2)) ;;
     *) echo 1 ;;
     esac

@@ -1,8 +1,8 @@
 #!/bin/sh
 # Compares include/blink.h with the exports of src/: their names, the number, order and widths of their parameters, what they return,
-# the structs of numbers, and the numbers of kinds and codes. It prints a line for each finding and exits 1, or prints nothing and
-# exits 0. The C compiler does the comparison: what src/ says is declared once more beside the header. Without a compiler only the
-# names are compared.
+# and the structs of numbers, and the numbers of kinds and codes, of blink_owners. It prints a line for each finding and exits 1, or
+# prints nothing and exits 0. The C compiler does the comparison: what the sources say is declared once more beside the header. Without
+# a compiler only the names are compared.
 #
 #     compare.sh [LIBRARY ..]    also looks whether each library exports exactly these names, and those of the allocator
 LC_ALL=C
@@ -58,7 +58,7 @@ grep -oE '\bblink_(index|reader|table|pass|map|session)_[a-z_]+\(' "$header/blin
 cut -d"|" -f1 "$work/exports" | sort >"$work/names"
 diff "$work/names" "$work/declared" | sed -n 's/^< \(.*\)/include\/blink.h: lacks \1/p; s/^> \(.*\)/include\/blink.h: no export \1/p' >>"$work/found"
 
-# A number of src/ or of a definition, and the name that the header gives it.
+# A number of the sources or of a definition, and the name that the header gives it.
 number() {
     if [ -z "$2" ]; then
         echo "crates/blink_c/link/compare.sh: no number for $1" >>"$work/found"
@@ -73,21 +73,21 @@ code() { sed -n "s/^code_of[a-z_]* (*$2[ a-z)]* *= \([0-9]*\)$/\1/p" "$here/$1";
     echo '#include "blink.h"'
     cat "$work/prototypes"
     for it in FIND INSERT DELETE REPLACE ABSENT FOUND INSERTED EXISTS REMOVED REPLACED; do
-        number "BLINK_$it" "$(constant src/raw.rt $it)"
+        number "BLINK_$it" "$(constant ../blink_owners/src/raw.rt $it)"
     done
-    number BLINK_DONE "$(constant src/refusal.rt DONE)"
+    number BLINK_DONE "$(constant ../blink_owners/src/refusal.rt DONE)"
     number BLINK_BATCH_LIMIT "$(constant ../blink_batch/src/batch.rt BATCH_LIMIT)"
     while read -r name file word; do
         number "BLINK_$name" "$(code "$file" "$word")"
     done <<'WORDS'
-TOO_MANY specs/Codes.antt TooMany
-WRONG_LENGTH specs/Codes.antt WrongLength
-UNKNOWN_OPERATION specs/Codes.antt UnknownOperation
-INDEX_TOO_LARGE specs/Codes.antt TooLarge
-BAD_FAN specs/Codes.antt BadFan
-INDEX_NO_MEMORY specs/Codes.antt OutOfMemory
+TOO_MANY ../blink_owners/specs/Codes.antt TooMany
+WRONG_LENGTH ../blink_owners/specs/Codes.antt WrongLength
+UNKNOWN_OPERATION ../blink_owners/specs/Codes.antt UnknownOperation
+INDEX_TOO_LARGE ../blink_owners/specs/Codes.antt TooLarge
+BAD_FAN ../blink_owners/specs/Codes.antt BadFan
+INDEX_NO_MEMORY ../blink_owners/specs/Codes.antt OutOfMemory
 NOT_ASCENDING ../blink_index/specs/Codes.antt SortedError.NotAscending
-SHARED specs/Codes.antt Shared
+SHARED ../blink_owners/specs/Codes.antt Shared
 NO_MEMORY ../blink_live/specs/Codes.antt OutOfMemory
 TAKEN ../blink_live/specs/Codes.antt Taken
 NO_ALLOWANCE ../blink_live/specs/Codes.antt NoAllowance
@@ -98,23 +98,23 @@ MISSING ../blink_live/specs/Codes.antt Missing
 TABLE_TOO_LARGE ../blink_live/specs/Codes.antt TooLarge
 HAND_NOT_YOURS ../blink_live/specs/Codes.antt KeyNotYours
 HAND_NO_MEMORY ../blink_live/specs/Codes.antt NoMemory
-FOREIGN specs/TableCodes.antt Foreign
-PENDING specs/TableCodes.antt UnderWay
-IDLE specs/TableCodes.antt Idle
-RETURNED specs/TableCodes.antt Returned
+FOREIGN ../blink_owners/specs/TableCodes.antt Foreign
+PENDING ../blink_owners/specs/TableCodes.antt UnderWay
+IDLE ../blink_owners/specs/TableCodes.antt Idle
+RETURNED ../blink_owners/specs/TableCodes.antt Returned
 MAP_NO_MEMORY ../blink_map/specs/Codes.antt OutOfMemory
 MAP_TOO_LARGE ../blink_map/specs/Codes.antt TooLarge
 BAD_SESSIONS ../blink_map/specs/Codes.antt Sessions
 NO_PLACE ../blink_map/specs/Codes.antt NoPlace
 LOST_UNDER_WAY ../blink_map/specs/Codes.antt UnderWay
-FULL specs/MapCodes.antt Full
-SESSION_MISSING specs/MapCodes.antt Missing
-ROWS_BUSY specs/MapCodes.antt RowsBusy
+FULL ../blink_owners/specs/MapCodes.antt Full
+SESSION_MISSING ../blink_owners/specs/MapCodes.antt Missing
+ROWS_BUSY ../blink_owners/specs/MapCodes.antt RowsBusy
 WORDS
     # The structs of numbers, field by field.
     awk '/^pub struct (Raw|Entry)/ { name = $3; on = 1; print "struct " name " {"; next }
         on && /^}/ { on = 0; print "};" }
-        on { sub(/^ *pub /, ""); sub(/,$/, ""); split($0, f, ": "); print "uint" substr(f[2], 2) "_t " f[1] ";" }' "$here/src/raw.rt" "$here/../blink_operation/src/entry.rt"
+        on { sub(/^ *pub /, ""); sub(/,$/, ""); split($0, f, ": "); print "uint" substr(f[2], 2) "_t " f[1] ";" }' "$here/../blink_owners/src/raw.rt" "$here/../blink_operation/src/entry.rt"
     for it in "RawEntry blink_entry key pointer" "Entry blink_entry key pointer" "RawScanned blink_scanned filled more next" "RawTaken blink_taken taken there" "RawStock blink_stock pages unwritten free taken_out waiting" "RawOperation blink_operation kind key pointer" "RawAnswer blink_answer kind pointer"; do
         # shellcheck disable=SC2086
         set -- $it "" "$@"

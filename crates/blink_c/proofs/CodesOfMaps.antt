@@ -1,9 +1,9 @@
 -- The codes of the refusals of a map or a session.
 use Rattle.std.proofs.Common.{◌≡◌, arith}
 use Rattle.blink_map.specs.declared.error.MapError.TheVariants as map
-use Rattle.blink_c.specs.declared.map_refusal.MapRefusal.{MapRefusal}
-use Rattle.blink_c.specs.declared.map_refusal.MapRefusal.TheVariants.{Map, Full, RowsBusy, Missing, Foreign, UnderWay, Idle}
-use Rattle.blink_c.specs.MapCodes.{code_of}
+use Rattle.blink_owners.specs.declared.map_refusal.MapRefusal.{MapRefusal}
+use Rattle.blink_owners.specs.declared.map_refusal.MapRefusal.TheVariants.{Map, Full, RowsBusy, Missing, Foreign, UnderWay, Idle}
+use Rattle.blink_owners.specs.MapCodes.{code_of}
 
 -- no refusal has the code of a call that isn't refused
 pub not_done : (refusal : MapRefusal) → code_of refusal ≡ 0 → ⊥

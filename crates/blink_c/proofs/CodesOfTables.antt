@@ -3,9 +3,9 @@ use Rattle.std.proofs.Common.{◌≡◌, arith}
 use Rattle.blink_live.specs.declared.error.HandError.TheVariants as hand
 use Rattle.blink_live.specs.declared.error.LiveError.TheVariants as live
 use Rattle.blink_live.specs.declared.error.PassError.TheVariants as pass
-use Rattle.blink_c.specs.declared.table_refusal.TableRefusal.{TableRefusal}
-use Rattle.blink_c.specs.declared.table_refusal.TableRefusal.TheVariants.{Live, Pass, Hand, Foreign, UnderWay, Idle, Returned}
-use Rattle.blink_c.specs.TableCodes.{code_of}
+use Rattle.blink_owners.specs.declared.table_refusal.TableRefusal.{TableRefusal}
+use Rattle.blink_owners.specs.declared.table_refusal.TableRefusal.TheVariants.{Live, Pass, Hand, Foreign, UnderWay, Idle, Returned}
+use Rattle.blink_owners.specs.TableCodes.{code_of}
 
 -- no refusal has the code of a call that isn't refused
 pub not_done : (refusal : TableRefusal) → code_of refusal ≡ 0 → ⊥

@@ -12,8 +12,8 @@ use Rattle.std.proofs.BoxSteps.Form.{Bx}
 use Rattle.std.specs.contracts.alloc.Global as Heap
 use Rattle.std.specs.contracts.impls.GlobalAllocator.TheImpl.{ghosts, dict}
 use Rattle.std.proofs.alloc.Global.TheLaws as heap
-use Rattle.blink_c.specs.contracts.map_owner.MapOwner as Owner
-use Rattle.blink_c.proofs.map_owner.MapOwner.TheLaws as owner
+use Rattle.blink_owners.specs.contracts.map_owner.MapOwner as Owner
+use Rattle.blink_owners.proofs.map_owner.MapOwner.TheLaws as owner
 use Rattle.blink_c.proofs.Destruct++none.drop.Symbol.{symbol}
 use Rattle.blink_c.specs.contracts.map_handle.MapHandle as Handle
 use Rattle.blink_c.specs.contracts.parts.Parts as Parts

@@ -12,8 +12,8 @@ use Rattle.std.proofs.BoxSteps.Form.{Bx}
 use Rattle.std.specs.contracts.alloc.Global as Heap
 use Rattle.std.specs.contracts.impls.GlobalAllocator.TheImpl.{ghosts, dict}
 use Rattle.std.proofs.alloc.Global.TheLaws as heap
-use Rattle.blink_c.specs.contracts.pass_owner.PassOwner as Owner
-use Rattle.blink_c.proofs.pass_owner.PassOwner.TheLaws as owner
+use Rattle.blink_owners.specs.contracts.pass_owner.PassOwner as Owner
+use Rattle.blink_owners.proofs.pass_owner.PassOwner.TheLaws as owner
 use Rattle.blink_c.proofs.Destruct++none.drop.Symbol.{symbol}
 use Rattle.blink_c.specs.contracts.pass_handle.PassHandle as Handle
 use Rattle.blink_c.specs.contracts.parts.Parts as Parts

@@ -12,8 +12,8 @@ use Rattle.std.proofs.BoxSteps.Form.{Bx}
 use Rattle.std.specs.contracts.alloc.Global as Heap
 use Rattle.std.specs.contracts.impls.GlobalAllocator.TheImpl.{ghosts, dict}
 use Rattle.std.proofs.alloc.Global.TheLaws as heap
-use Rattle.blink_c.specs.contracts.reader_owner.ReaderOwner as Owner
-use Rattle.blink_c.proofs.reader_owner.ReaderOwner.TheLaws as owner
+use Rattle.blink_owners.specs.contracts.reader_owner.ReaderOwner as Owner
+use Rattle.blink_owners.proofs.reader_owner.ReaderOwner.TheLaws as owner
 use Rattle.blink_c.proofs.Destruct++none.drop.Symbol.{symbol}
 use Rattle.blink_c.specs.contracts.reader_handle.ReaderHandle as Handle
 use Rattle.blink_c.specs.contracts.reader_slot.ReaderSlot as Slot

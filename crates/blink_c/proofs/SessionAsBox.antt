@@ -12,8 +12,8 @@ use Rattle.std.proofs.BoxSteps.Form.{Bx}
 use Rattle.std.specs.contracts.alloc.Global as Heap
 use Rattle.std.specs.contracts.impls.GlobalAllocator.TheImpl.{ghosts, dict}
 use Rattle.std.proofs.alloc.Global.TheLaws as heap
-use Rattle.blink_c.specs.contracts.session_owner.SessionOwner as Owner
-use Rattle.blink_c.proofs.session_owner.SessionOwner.TheLaws as owner
+use Rattle.blink_owners.specs.contracts.session_owner.SessionOwner as Owner
+use Rattle.blink_owners.proofs.session_owner.SessionOwner.TheLaws as owner
 use Rattle.blink_c.proofs.Destruct++none.drop.Symbol.{symbol}
 use Rattle.blink_c.specs.contracts.session_handle.SessionHandle as Handle
 use Rattle.blink_c.specs.contracts.parts.Parts as Parts

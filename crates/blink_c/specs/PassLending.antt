@@ -1,6 +1,6 @@
 -- What the handle of a pass is once the pass that it lent comes back.
 use Rattle.std.specs.Borrow.{Lends, MutBor, Fml}
-use Rattle.blink_c.specs.contracts.pass_owner.PassOwner as owner
+use Rattle.blink_owners.specs.contracts.pass_owner.PassOwner as owner
 use Rattle.blink_c.specs.declared.pass_handle.PassHandle.{PassHandle}
 use Rattle.blink_c.specs.contracts.pass_handle.PassHandle.{the_row}
 

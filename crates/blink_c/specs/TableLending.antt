@@ -1,6 +1,6 @@
 -- What the handle of a table is once the table that it lent comes back.
 use Rattle.std.specs.Borrow.{Lends, MutBor, Fml}
-use Rattle.blink_c.specs.contracts.table_owner.TableOwner as owner
+use Rattle.blink_owners.specs.contracts.table_owner.TableOwner as owner
 use Rattle.blink_c.specs.declared.table_handle.TableHandle.{TableHandle}
 use Rattle.blink_c.specs.contracts.table_handle.TableHandle.{the_row}
 

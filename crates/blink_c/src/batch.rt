@@ -1,21 +1,13 @@
-//! Running a batch over an index by one thread, in the order of its operations.
-ghost use Rattle.std.specs.Prelude.{◌≡◌, ◌↔◌, ◌≤◌, ◌<◌, ◌≢◌, Some, IsSome, IsTrue, IsErrOf, IfOk, IfErr, OnErr, OnOk, length, map};
-ghost use Rattle.blink_batch.specs.{answers, map_after_all};
-ghost use Rattle.blink_batch.specs.declared.batch.TheConstants.{BATCH_LIMIT};
-ghost use Rattle.blink_index.specs.{map_of};
-ghost use Rattle.blink_steps.specs.{IsTooLarge};
-ghost use Rattle.blink_c.specs.Codes.{TellsWhy, code_of, code_of_outcome};
-ghost use Rattle.blink_c.specs.Raw.{AreOperations, raw_given};
-ghost use Rattle.blink_c.specs.Runs.{AreKnown, HasRun, HasRunToEnd, IsBatchRefusal, IsRunRefusal, IsStartRefusal};
+//! The export that runs a batch over an index by one thread, in the order of its operations.
+ghost use Rattle.std.specs.Prelude.{◌≡◌, ◌≢◌, length};
+ghost use Rattle.blink_owners.specs.Codes.{TellsWhy, code_of};
+ghost use Rattle.blink_owners.specs.Runs.{HasRun, IsRunRefusal};
 
 use crate::index_handle::IndexHandle;
-use crate::raw::{RawAnswer, RawOperation};
-use crate::refusal::{Refusal, code_of};
-use blink_batch::{Answer, BATCH_LIMIT, Batch, Cut, Op};
-use blink_index::Index;
-use blink_index::laws::{no_other_map_is_kept, the_map_is_kept};
-use blink_steps::{StepError, World};
-use std::alloc::{AllocError, Global};
+use blink_owners::batch::run;
+use blink_owners::raw::{RawAnswer, RawOperation};
+use blink_owners::refusal::code_of;
+use std::alloc::Global;
 
 /// Runs a batch of operations on the index, one after another, and gives the answer of each at its place. A refusal leaves the
 /// index and the answers as they were.
@@ -33,105 +25,4 @@ pub extern "C" fn blink_index_run(
         → (index.new.value ≡ index.old.value) × (answers.new ≡ answers.old) }
 {
     code_of(&run(alloc, index.get(), operations, answers))
-}
-
-// Runs the operations on a copy of the index, which then takes its place.
-fn run(
-    alloc: Global,
-    index: &mut Index,
-    operations: &[RawOperation],
-    answers: &mut [RawAnswer],
-) -> Result<(), Refusal>
-    ensures ran { OnOk result (HasRun index.old operations.now answers.new index.new) }
-    ensures refused { IfErr result (IsRunRefusal index.old operations.now (length answers.old)) }
-    ensures unchanged { OnErr result ((index.new ≡ index.old) × (answers.new ≡ answers.old)) }
-{
-    if answers.len() != operations.len() {
-        return Err(Refusal::WrongLength);
-    }
-    let batch = batch_of(alloc, operations)?;
-    let Ok(copy) = index.copy(alloc) else {
-        return Err(Refusal::OutOfMemory);
-    };
-    let world = run_to_end(alloc, copy, batch)?;
-    give_answers(world.answers(), answers);
-    *index = Index::from_rest(world.into_rest());
-    Ok(())
-}
-
-// The batch of the caller's operations.
-fn batch_of(alloc: Global, operations: &[RawOperation]) -> Result<Batch, Refusal>
-    ensures batch { IfOk result (λ batch. AreOperations operations.now batch) }
-    ensures limit { OnOk result (length operations.now ≤ BATCH_LIMIT) }
-    ensures refused { IfErr result (IsBatchRefusal operations.now) }
-{
-    if operations.len() > BATCH_LIMIT {
-        return Err(Refusal::TooMany);
-    }
-    if !are_known(operations) {
-        return Err(Refusal::UnknownOperation);
-    }
-    let Ok(ops) = ops_of(alloc, operations) else {
-        return Err(Refusal::OutOfMemory);
-    };
-    match Batch::new(ops) {
-        Ok(batch) => Ok(batch),
-        Err(_) => Err(Refusal::TooMany),
-    }
-}
-
-// Whether each operation's kind is one of the four.
-fn are_known(operations: &[RawOperation]) -> bool
-    ensures { IsTrue result ↔ AreKnown operations.now }
-{
-    for operation in operations {
-        if !operation.is_known() {
-            return false;
-        }
-    }
-    true
-}
-
-// The operations that the caller's numbers mean.
-fn ops_of(alloc: Global, operations: &[RawOperation]) -> Result<Vec<Op>, AllocError>
-    requires { AreKnown operations.now }
-    ensures { IfOk result (λ ops. AreOperations operations.now ops.items) }
-{
-    let mut ops = Vec::with_capacity(alloc, operations.len())?;
-    for operation in operations {
-        ops.push_reserved(operation.op().unwrap());
-    }
-    Ok(ops)
-}
-
-/// Runs a batch over an index by one worker, to its end.
-pub(crate) fn run_to_end(alloc: Global, index: Index, batch: Batch) -> Result<World, Refusal>
-    ensures ran { IfOk result (HasRunToEnd index batch) }
-    ensures refused { IfErr result (IsStartRefusal index batch) }
-{
-    let Ok(cut) = Cut::by_residue(alloc, &batch, 1) else {
-        return Err(Refusal::OutOfMemory);
-    };
-    let started = World::start(alloc, index.into_rest(), batch, cut.into_lanes());
-    let mut world = match started {
-        Ok(world) => world,
-        Err(StepError::TooLarge) => return Err(Refusal::TooLarge),
-        Err(_) => return Err(Refusal::OutOfMemory),
-    };
-    let Ok(()) = world.finish() else {
-        return Err(Refusal::OutOfMemory);
-    };
-    the_map_is_kept();
-    no_other_map_is_kept();
-    Ok(world)
-}
-
-// Gives the caller the answers, each at its place.
-fn give_answers(given: &[Option<Answer>], answers: &mut [RawAnswer])
-    requires { length answers.old ≡ length given.now }
-    ensures { answers.new ≡ map raw_given given.now }
-{
-    for place in 0..given.len() {
-        answers[place] = RawAnswer::given(given[place]);
-    }
 }

@@ -3,15 +3,15 @@ ghost use Rattle.std.specs.Prelude.{◌≡◌, ◌≢◌, ◌↔◌, ◌≤◌, 
 ghost use Rattle.blink_batch.specs.declared.Op.TheVariants.{Delete, DeleteExact, Exchange, Insert, Replace};
 ghost use Rattle.blink_index.specs.{IsInOrder, NeedsPages, first_of, is_above, last_of, map_of};
 ghost use Rattle.blink_page.specs.{ExceedsPageLimit};
-ghost use Rattle.blink_c.specs.Codes.{code_of};
-ghost use Rattle.blink_c.specs.Edits.{HasEdited, TellsEditFault, entry_or};
-ghost use Rattle.blink_c.specs.Runs.{HasPagesFor};
+ghost use Rattle.blink_owners.specs.Codes.{code_of};
+ghost use Rattle.blink_owners.specs.Edits.{HasEdited, TellsEditFault, entry_or};
+ghost use Rattle.blink_owners.specs.Runs.{HasPagesFor};
 
 use crate::index_handle::IndexHandle;
-use crate::raw::{RawAnswer, RawEntry};
-use crate::reads::give_entry;
-use crate::refusal::{DONE, Refusal};
 use blink_index::EditError;
+use blink_owners::raw::{RawAnswer, RawEntry};
+use blink_owners::reads::give_entry;
+use blink_owners::refusal::{DONE, Refusal};
 use std::alloc::Global;
 
 /// Adds a key with its pointer in place, unless the key is present, and gives the answer. A refusal leaves the index and the

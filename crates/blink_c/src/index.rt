@@ -1,18 +1,19 @@
 //! The exports that make an index, look keys up in it, count it, and free it.
-ghost use Rattle.std.specs.Prelude.{◌≡◌, ◌≢◌, ◌↔◌, [], None, Some, IsSome, IsTrue, IfOk, IfErr, IsErrOf, length, map};
+ghost use Rattle.std.specs.Prelude.{◌≡◌, ◌≢◌, ◌↔◌, None, Some, IsSome, IsTrue, length, map};
 ghost use Rattle.blink_batch.specs.{pointer_of};
 ghost use Rattle.blink_index.specs.{IsBadFan, map_of};
 ghost use Rattle.blink_page.specs.{IsPageNumber};
 ghost use Rattle.blink_store.specs.{new_store};
-ghost use Rattle.blink_c.specs.Codes.{IsNewFault, TellsNewFault, code_of};
-ghost use Rattle.blink_c.specs.Found.{found_answer, pointer_or};
+ghost use Rattle.blink_owners.specs.Codes.{TellsNewFault, code_of};
+ghost use Rattle.blink_owners.specs.Found.{found_answer, pointer_or};
 
 use crate::index_handle::IndexHandle;
 use crate::index_slot::IndexSlot;
-use crate::raw::RawAnswer;
-use crate::reads;
-use crate::refusal::{DONE, Refusal};
-use blink_index::{Index, IndexError};
+use blink_index::Index;
+use blink_owners::make::new_index;
+use blink_owners::raw::RawAnswer;
+use blink_owners::reads;
+use blink_owners::refusal::{DONE, Refusal};
 use std::alloc::Global;
 
 /// Makes an index without an entry, whose pages will have at most `fan` entries each.
@@ -27,20 +28,6 @@ pub extern "C" fn blink_index_new(alloc: Global, fan: u8, out: &mut IndexSlot) -
     match new_index(alloc, fan) {
         Ok(index) => fill(alloc, index, out),
         Err(refusal) => refusal.code(),
-    }
-}
-
-/// An index without an entry, or the refusal.
-pub(crate) fn new_index(alloc: Global, fan: u8) -> Result<Index, Refusal>
-    ensures index { IfOk result (λ index. index ≡ new_store fan) }
-    ensures empty { IfOk result (λ index. map_of index ≡ []) }
-    ensures bad_fan { IsErrOf result Refusal.BadFan ↔ IsBadFan fan }
-    ensures refused { IfErr result IsNewFault }
-{
-    match Index::new(alloc, fan) {
-        Ok(index) => Ok(index),
-        Err(IndexError::BadFan) => Err(Refusal::BadFan),
-        Err(IndexError::OutOfMemory) => Err(Refusal::OutOfMemory),
     }
 }
 

@@ -3,17 +3,17 @@ ghost use Rattle.std.specs.Prelude.{◌≡◌, ◌≢◌, ◌↔◌, ◌⊎◌, 
 ghost use Rattle.blink_index.specs.{map_of};
 ghost use Rattle.blink_live.specs.{IsNumberedInOrder};
 ghost use Rattle.blink_map.specs.{IsClosedWith};
-ghost use Rattle.blink_c.specs.Maps.{HasBadSessions, IsNewMap, IsOwnerOfSame, IsTooLargeMap, Joins, fan_in, map_in};
-ghost use Rattle.blink_c.specs.Sessions.{IsOwnSession};
+ghost use Rattle.blink_owners.specs.Maps.{HasBadSessions, IsNewMap, IsOwnerOfSame, IsTooLargeMap, Joins, fan_in, map_in};
+ghost use Rattle.blink_owners.specs.Sessions.{IsOwnSession};
 
 use crate::index_handle::IndexHandle;
 use crate::index_slot::IndexSlot;
 use crate::map_handle::MapHandle;
-use crate::map_owner::MapOwner;
 use crate::map_slot::MapSlot;
-use crate::refusal::DONE;
 use crate::session_slot::SessionSlot;
 use blink_map::{MapError, Room};
+use blink_owners::map_owner::MapOwner;
+use blink_owners::refusal::DONE;
 use std::alloc::Global;
 
 /// Opens a map over the index, with such room for changes and sessions. The caller gives the map a number that no other open map

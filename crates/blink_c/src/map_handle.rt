@@ -1,9 +1,9 @@
 //! The handle of a map.
 ghost use Rattle.std.specs.Prelude.{◌≡◌};
-ghost use Rattle.blink_c.specs.declared.map_owner.MapOwner.{MapOwner};
+ghost use Rattle.blink_owners.specs.declared.map_owner.MapOwner.{MapOwner};
 ghost use Rattle.blink_c.specs.MapOwned.{handle_owns, map_coded};
 
-use crate::map_owner::MapOwner;
+use blink_owners::map_owner::MapOwner;
 use std::alloc::Global;
 use std::marker::Model;
 

@@ -1,16 +1,16 @@
 //! The exports of a pass.
 ghost use Rattle.std.specs.Prelude.{◌≡◌, ◌≢◌};
 ghost use Rattle.blink_batch.specs.declared.Op.TheVariants.{Delete, DeleteExact, Exchange, Insert, Replace};
-ghost use Rattle.blink_c.specs.Codes.{TellsWhy};
-ghost use Rattle.blink_c.specs.Passes.{Begins, Ends, Finds, Glances, Hands, IsAdvanceRefusal, IsBeginRefusal, IsFindRefusal, IsNotFree, IsOwn, IsTakeRefusal, IsTellRefusal, Scans, Takes, TellsHandFault, TellsOn, table_of};
-ghost use Rattle.blink_c.specs.TableCodes.{code_of};
+ghost use Rattle.blink_owners.specs.Codes.{TellsWhy};
+ghost use Rattle.blink_owners.specs.Passes.{Begins, Ends, Finds, Glances, Hands, IsAdvanceRefusal, IsBeginRefusal, IsFindRefusal, IsNotFree, IsOwn, IsTakeRefusal, IsTellRefusal, Scans, Takes, TellsHandFault, TellsOn, table_of};
+ghost use Rattle.blink_owners.specs.TableCodes.{code_of};
 
 use crate::pass_handle::PassHandle;
-use crate::raw::{RawAnswer, RawScanned, RawTaken};
-use crate::refusal::DONE;
-use crate::table_refusal::{TableRefusal, code_of};
 use blink_batch::Entry;
 use blink_live::HandError;
+use blink_owners::raw::{RawAnswer, RawScanned, RawTaken};
+use blink_owners::refusal::DONE;
+use blink_owners::table_refusal::{TableRefusal, code_of};
 use std::alloc::Global;
 
 /// Looks a key of the pass up.

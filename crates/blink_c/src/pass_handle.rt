@@ -1,9 +1,9 @@
 //! The handle of a pass.
 ghost use Rattle.std.specs.Prelude.{◌≡◌};
-ghost use Rattle.blink_c.specs.declared.pass_owner.PassOwner.{PassOwner};
+ghost use Rattle.blink_owners.specs.declared.pass_owner.PassOwner.{PassOwner};
 ghost use Rattle.blink_c.specs.PassOwned.{handle_owns, pass_coded};
 
-use crate::pass_owner::PassOwner;
+use blink_owners::pass_owner::PassOwner;
 use std::alloc::Global;
 use std::marker::Model;
 

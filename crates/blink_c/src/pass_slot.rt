@@ -1,10 +1,10 @@
 //! Where the caller gets the handle of a pass.
 ghost use Rattle.std.specs.Prelude.{◌≡◌, Option, Some};
-ghost use Rattle.blink_c.specs.declared.pass_owner.PassOwner.{PassOwner};
+ghost use Rattle.blink_owners.specs.declared.pass_owner.PassOwner.{PassOwner};
 ghost use Rattle.blink_c.specs.PassOwned.{slot_coded, slot_owns};
 
 use crate::parts::Parts;
-use crate::pass_owner::PassOwner;
+use blink_owners::pass_owner::PassOwner;
 use std::alloc::Global;
 use std::marker::Model;
 

@@ -3,19 +3,19 @@ ghost use Rattle.std.specs.Prelude.{◌≡◌, ◌≢◌, ◌↔◌, None, Some,
 ghost use Rattle.blink_batch.specs.{pointer_of};
 ghost use Rattle.blink_index.specs.{first_of, is_above, is_from, is_within, last_of, map_of, text_of_store};
 ghost use Rattle.blink_page.specs.{IsPageNumber};
-ghost use Rattle.blink_c.specs.Codes.{code_of};
-ghost use Rattle.blink_c.specs.Edits.{entry_or};
-ghost use Rattle.blink_c.specs.Filled.{overlaid, put_if_fits};
-ghost use Rattle.blink_c.specs.Found.{found_answer, pointer_or};
-ghost use Rattle.blink_c.specs.Readers.{index_at, index_in};
+ghost use Rattle.blink_owners.specs.Codes.{code_of};
+ghost use Rattle.blink_owners.specs.Edits.{entry_or};
+ghost use Rattle.blink_owners.specs.Filled.{overlaid, put_if_fits};
+ghost use Rattle.blink_owners.specs.Found.{found_answer, pointer_or};
+ghost use Rattle.blink_owners.specs.Readers.{index_at, index_in};
 
 use crate::index_slot::IndexSlot;
-use crate::raw::{RawAnswer, RawEntry};
 use crate::reader_handle::ReaderHandle;
-use crate::reader_owner::ReaderOwner;
 use crate::reader_slot::ReaderSlot;
-use crate::reads;
-use crate::refusal::{DONE, Refusal};
+use blink_owners::raw::{RawAnswer, RawEntry};
+use blink_owners::reader_owner::ReaderOwner;
+use blink_owners::reads;
+use blink_owners::refusal::{DONE, Refusal};
 use std::alloc::Global;
 
 /// Makes the index one that is only read, and gives its first reader. The index's place is empty then. No entry is copied.

@@ -1,11 +1,11 @@
 //! The exports that give entries in the order of their keys, and that count them.
 ghost use Rattle.std.specs.Prelude.{◌≡◌, filter, length, min, take};
 ghost use Rattle.blink_index.specs.{is_from, is_within, map_of};
-ghost use Rattle.blink_c.specs.Filled.{overlaid};
+ghost use Rattle.blink_owners.specs.Filled.{overlaid};
 
 use crate::index_handle::IndexHandle;
-use crate::raw::RawEntry;
-use crate::reads;
+use blink_owners::raw::RawEntry;
+use blink_owners::reads;
 
 /// Gives the entries whose keys are from `lo` to `hi`, as many as there are places. It returns how many there are, and stores
 /// how many fitted.

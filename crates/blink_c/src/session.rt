@@ -1,15 +1,15 @@
 //! The exports of a session.
 ghost use Rattle.std.specs.Prelude.{◌≡◌, ◌≢◌};
 ghost use Rattle.blink_batch.specs.declared.Op.TheVariants.{Delete, DeleteExact, Exchange, Insert, Replace};
-ghost use Rattle.blink_c.specs.Codes.{TellsWhy};
-ghost use Rattle.blink_c.specs.MapCodes.{code_of};
-ghost use Rattle.blink_c.specs.Sessions.{Answers, EndsFrom, Finds, IsAdvanceRefusal, IsChangeRefusal, IsNotFree, IsOwnSession, IsPutRefusal, IsTakeRefusal, IsTellRefusal, Puts, Scans, Takes, TellsOn, TellsStock, in_map};
+ghost use Rattle.blink_owners.specs.Codes.{TellsWhy};
+ghost use Rattle.blink_owners.specs.MapCodes.{code_of};
+ghost use Rattle.blink_owners.specs.Sessions.{Answers, EndsFrom, Finds, IsAdvanceRefusal, IsChangeRefusal, IsNotFree, IsOwnSession, IsPutRefusal, IsTakeRefusal, IsTellRefusal, Puts, Scans, Takes, TellsOn, TellsStock, in_map};
 
-use crate::map_refusal::code_of;
-use crate::raw::{RawAnswer, RawScanned, RawStock, RawTaken};
 use crate::session_handle::SessionHandle;
-use crate::session_owner::{HeldSession, SessionOwner};
 use blink_batch::{Entry, Op};
+use blink_owners::map_refusal::code_of;
+use blink_owners::raw::{RawAnswer, RawScanned, RawStock, RawTaken};
+use blink_owners::session_owner::{HeldSession, SessionOwner};
 use std::alloc::Global;
 
 /// Looks any key up, as the session has seen it by the end of the call.

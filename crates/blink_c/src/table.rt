@@ -2,22 +2,22 @@
 ghost use Rattle.std.specs.Prelude.{◌≡◌, ◌≢◌, ◌↔◌, ◌⊎◌, ◌<◌, None, Some, IfSome, IsSome, [], length};
 ghost use Rattle.blink_index.specs.{map_of};
 ghost use Rattle.blink_live.specs.{IsMerge, IsNumberedInOrder, IsTooLarge, counts_of, fan_of, passes_out};
-ghost use Rattle.blink_c.specs.Codes.{TellsWhy};
-ghost use Rattle.blink_c.specs.Passes.{IsOwn, table_of};
-ghost use Rattle.blink_c.specs.TableCodes.{code_of};
-ghost use Rattle.blink_c.specs.Tables.{DealsTo, IsNewTable, IsOwnTable, IsReturnRefusal, TakesBack, TellsDealFault, table_in};
+ghost use Rattle.blink_owners.specs.Codes.{TellsWhy};
+ghost use Rattle.blink_owners.specs.Passes.{IsOwn, table_of};
+ghost use Rattle.blink_owners.specs.TableCodes.{code_of};
+ghost use Rattle.blink_owners.specs.Tables.{DealsTo, IsNewTable, IsOwnTable, IsReturnRefusal, TakesBack, TellsDealFault, table_in};
 
 use crate::index_handle::IndexHandle;
 use crate::index_slot::IndexSlot;
 use crate::pass_handle::PassHandle;
 use crate::pass_slot::PassSlot;
-use crate::refusal::DONE;
 use crate::table_handle::TableHandle;
-use crate::table_owner::TableOwner;
-use crate::table_refusal::code_of;
 use crate::table_slot::TableSlot;
 use blink_index::Index;
 use blink_live::LiveError;
+use blink_owners::refusal::DONE;
+use blink_owners::table_owner::TableOwner;
+use blink_owners::table_refusal::code_of;
 use blink_rows::Allowance;
 use std::alloc::Global;
 

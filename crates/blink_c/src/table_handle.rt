@@ -1,9 +1,9 @@
 //! The handle of a table.
 ghost use Rattle.std.specs.Prelude.{◌≡◌};
-ghost use Rattle.blink_c.specs.declared.table_owner.TableOwner.{TableOwner};
+ghost use Rattle.blink_owners.specs.declared.table_owner.TableOwner.{TableOwner};
 ghost use Rattle.blink_c.specs.TableOwned.{handle_owns, table_coded};
 
-use crate::table_owner::TableOwner;
+use blink_owners::table_owner::TableOwner;
 use std::alloc::Global;
 use std::marker::Model;
 

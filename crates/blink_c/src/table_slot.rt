@@ -1,10 +1,10 @@
 //! Where the caller gets the handle of a table.
 ghost use Rattle.std.specs.Prelude.{◌≡◌, Option, Some};
-ghost use Rattle.blink_c.specs.declared.table_owner.TableOwner.{TableOwner};
+ghost use Rattle.blink_owners.specs.declared.table_owner.TableOwner.{TableOwner};
 ghost use Rattle.blink_c.specs.TableOwned.{slot_coded, slot_owns};
 
 use crate::parts::Parts;
-use crate::table_owner::TableOwner;
+use blink_owners::table_owner::TableOwner;
 use std::alloc::Global;
 use std::marker::Model;
 

@@ -1,8 +1,8 @@
 use Rattle.std.proofs.Common.{IfErr, subst}
 use Rattle.blink_batch.specs.declared.Op.TheVariants.{DeleteExact}
-use Rattle.blink_c.specs.declared.pass_owner.PassOwner.{PassOwner}
-use Rattle.blink_c.specs.Passes.{Begins, IsBeginRefusal}
-use Rattle.blink_c.specs.TableCodes.{code_of}
+use Rattle.blink_owners.specs.declared.pass_owner.PassOwner.{PassOwner}
+use Rattle.blink_owners.specs.Passes.{Begins, IsBeginRefusal}
+use Rattle.blink_owners.specs.TableCodes.{code_of}
 use Rattle.blink_c.proofs.Codes.{on_done, told_why}
 use Rattle.blink_c.proofs.CodesOfTables.{not_done}
 use Rattle.blink_c.proofs.pass.blink_pass_begin_delete_exact.Goals as goal

@@ -1,8 +1,8 @@
 use Rattle.std.proofs.Common.{IfErr, subst}
 use Rattle.blink_batch.specs.declared.Op.TheVariants.{DeleteExact}
-use Rattle.blink_c.specs.declared.session_owner.SessionOwner.{SessionOwner}
-use Rattle.blink_c.specs.MapCodes.{code_of}
-use Rattle.blink_c.specs.Sessions.{Answers, IsChangeRefusal}
+use Rattle.blink_owners.specs.declared.session_owner.SessionOwner.{SessionOwner}
+use Rattle.blink_owners.specs.MapCodes.{code_of}
+use Rattle.blink_owners.specs.Sessions.{Answers, IsChangeRefusal}
 use Rattle.blink_c.proofs.Codes.{on_done, told_why}
 use Rattle.blink_c.proofs.CodesOfMaps.{not_done}
 use Rattle.blink_c.proofs.session.blink_session_delete_exact.Goals as goal

@@ -6,8 +6,8 @@ use denote.Struct.Owning.{shape, fields, to}
 use denote.Param.Send.{IsSend, AllSend, Quiet, owning_send, struct_send, sendable}
 use Rattle.std.proofs.Crossing as heap
 use Rattle.std.proofs.alloc.Global.TheSendSync as global
-use Rattle.blink_c.specs.contracts.session_owner.SessionOwner as Owner
-use Rattle.blink_c.proofs.SessionsCross.{owner_send as owner}
+use Rattle.blink_owners.specs.contracts.session_owner.SessionOwner as Owner
+use Rattle.blink_owners.proofs.Offered.{session_owner_send as owner}
 use Rattle.blink_c.specs.contracts.session_handle.SessionHandle.{the_row, the_type}
 
 -- nothing that it leaves behind is tied to a thread

@@ -1,0 +1,16 @@
+pub mod Offered
+pub mod PagesAreFew
+pub mod RunOfBatch
+pub mod RunRefusals
+pub mod Found
+pub mod EntriesAreFew
+pub mod Overlays
+pub mod RunsInParts
+pub mod PassesCross
+pub mod KeysOfPasses
+pub mod SessionsCross
+pub mod SessionsGoOn
+pub mod SnapshotsAreGiven
+pub mod AnswersOfPuts
+pub mod DealFaults
+pub mod AppliedSoFar

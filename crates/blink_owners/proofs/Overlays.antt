@@ -1,0 +1,71 @@
+-- One entry more in the caller's places, or none where there is no place; and what a filter and a prefix leave is no longer.
+use Rattle.std.proofs.Common.{◌≡◌, ℕ, suc, ◌<◌, ◌≤◌, Bool, List, [], ◌∷◌, ◌++◌, length, set, take, refl, ap, sym, ◌∙◌, arith}
+use Rattle.std.specs.Prelude.{filter, slice_set, if◌then◌else◌}
+use Rattle.std.proofs.Common.{inl, inr}
+use Rattle.std.proofs.lemmas.Bool.{cases_lt, le-leb}
+use Rattle.std.proofs.lemmas.List.{length-take, take_all}
+use Rattle.std.proofs.lemmas.List.Sums.{count_by-le-length, length-filter}
+use Rattle.blink_batch.specs.declared.Entry.{Entry}
+use Rattle.blink_index.specs.{is_from}
+use Rattle.blink_owners.specs.declared.raw.RawEntry.{RawEntry}
+use Rattle.blink_owners.specs.Filled.{overlaid}
+use Rattle.blink_owners.specs.Raw.{raw_entry}
+
+pub overlaid-inside : (shown : List Entry) (e : Entry) (places : List RawEntry) → length shown < length places
+    → overlaid (shown ++ e ∷ []) places ≡ set (overlaid shown places) (length shown) (raw_entry e)
+overlaid-inside [] e [] inside = absurd (omega (arith, inside))
+overlaid-inside [] e (place ∷ places) inside = refl
+overlaid-inside (x ∷ shown) e [] inside = absurd (omega (arith, inside))
+overlaid-inside (x ∷ shown) e (place ∷ places) inside = ap (λ (rest : List RawEntry). raw_entry x ∷ rest) (overlaid-inside shown e places (omega (arith, inside)))
+
+pub overlaid-beyond : (shown : List Entry) (e : Entry) (places : List RawEntry) → length places ≤ length shown
+    → overlaid (shown ++ e ∷ []) places ≡ overlaid shown places
+overlaid-beyond [] e [] beyond = refl
+overlaid-beyond [] e (place ∷ places) beyond = absurd (omega (arith, beyond))
+overlaid-beyond (x ∷ shown) e [] beyond = refl
+overlaid-beyond (x ∷ shown) e (place ∷ places) beyond = ap (λ (rest : List RawEntry). raw_entry x ∷ rest) (overlaid-beyond shown e places (omega (arith, beyond)))
+
+-- there are as many places as before
+pub length-overlaid : (shown : List Entry) (places : List RawEntry) → length (overlaid shown places) ≡ length places
+length-overlaid [] places = refl
+length-overlaid (x ∷ shown) [] = refl
+length-overlaid (x ∷ shown) (place ∷ places) = ap suc (length-overlaid shown places)
+
+-- a place that is set if the array has it
+pub overlaid-more : (shown : List Entry) (e : Entry) (places entries new : List RawEntry) (there : ℕ) (raw : RawEntry)
+    → entries ≡ overlaid shown places → there ≡ length shown → raw ≡ raw_entry e
+    → (there < length entries → new ≡ slice_set entries there raw) → (length entries ≤ there → new ≡ entries)
+    → new ≡ overlaid (shown ++ e ∷ []) places
+overlaid-more shown e places entries new there raw so_far counted is_raw inside beyond =
+    let same = ap (λ (xs : List RawEntry). length xs) so_far ∙ length-overlaid shown places in
+    elim (cases_lt (length shown) (length places)) [
+      | inl fits ↦ inside (omega (arith, fits, same, counted)) ∙ (λ i. slice_set (so_far i) (counted i) (is_raw i)) ∙ sym (overlaid-inside shown e places fits)
+      | inr full ↦ beyond (omega (arith, full, same, counted)) ∙ so_far ∙ sym (overlaid-beyond shown e places full)
+    ]
+
+-- ---- lists that are no longer
+
+pub few_filtered : (p : Entry → Bool) (entries : List Entry) (most : ℕ) → length entries < most → length (filter p entries) < most
+few_filtered p entries most few =
+    let counted = length-filter p entries in
+    let fewer = count_by-le-length p entries in
+    omega (arith, few, counted, fewer)
+
+pub few_taken : (n : ℕ) (entries : List Entry) (most : ℕ) → length entries < most → length (take n entries) < most
+few_taken n entries most few =
+    let counted = length-take n entries in
+    omega (arith, few, counted)
+
+-- all keys are at least 0
+from_zero : (entries : List Entry) → filter (is_from 0) entries ≡ entries
+from_zero [] = refl
+from_zero (e ∷ entries) =
+    ap (λ (b : Bool). if b then e ∷ filter (is_from 0) entries else filter (is_from 0) entries) (le-leb 0 e.key (omega arith))
+    ∙ ap (λ (rest : List Entry). e ∷ rest) (from_zero entries)
+
+-- so the first entries from 0 on are all, if there aren't more
+all_from_zero : (n : ℕ) (entries : List Entry) → length entries ≤ n → take n (filter (is_from 0) entries) ≡ entries
+all_from_zero n entries few = ap (take n) (from_zero entries) ∙ take_all n entries few
+
+pub whole_page : (page entries : List Entry) → page ≡ take 18446744073709551615 (filter (is_from 0) entries) → length entries < 9223372036854775808 → page ≡ entries
+whole_page page entries is few = is ∙ all_from_zero 18446744073709551615 entries (omega (arith, few))

@@ -1,0 +1,10 @@
+use Rattle.std.proofs.Common.{◌∙◌, ap}
+use Rattle.blink_owners.specs.Raw.{raw_stock}
+use Rattle.blink_owners.proofs.session_owner.SessionOwner.stock.Goals as goal
+
+pub returns-clause-told : goal.returns-clause-told
+returns-clause-told c = record {
+  session = c.in-Free.session;
+  free = c.in-Free.is;
+  stock = c.of.ensures ∙ ap raw_stock c.stock.ensures;
+}

@@ -1,0 +1,44 @@
+-- What a reader of `blink_owners`, and of `blink_c`'s exports above it, reads, in this order; then the files themselves.
+
+-- entries, operations and answers as structs of numbers
+pub use Rattle.blink_owners.specs.Raw.{AreOperations, insertion_of, op_of, raw_answer, raw_entry, raw_given, raw_scanned, raw_shown, raw_stock}
+-- a batch that one thread runs over an index, an index made of entries, and why they are refused
+pub use Rattle.blink_owners.specs.Runs.{HasEntriesOf, HasPagesFor, HasPagesOf, HasRun, IsMakeRefusal, IsRunRefusal}
+-- why an index isn't made of entries that have to ascend
+pub use Rattle.blink_owners.specs.Sorted.{TellsSortedFault}
+-- one operation on an index in place, and the entry that a call may give
+pub use Rattle.blink_owners.specs.Edits.{HasApplied, HasEdited, IsApplyRefusal, TellsEditFault, entry_or}
+-- what the code of a refused call tells
+pub use Rattle.blink_owners.specs.Codes.{TellsNewFault, TellsWhy}
+-- what the look-ups give, and the caller's arrays after a scan, a page or a dump
+pub use Rattle.blink_owners.specs.Found.{found_answer, pointer_or}
+pub use Rattle.blink_owners.specs.Filled.{overlaid, put_if_fits}
+-- what a scan of a table or a map gives, and a snapshot
+pub use Rattle.blink_owners.specs.Reports.{HasReported, TellsTaken}
+-- a table behind a handle: what the calls make of it, and why they are refused
+pub use Rattle.blink_owners.specs.Tables.{DealsTo, IsNewTable, IsOwnTable, IsReturnRefusal, TakesBack, TellsDealFault}
+-- a pass behind a handle likewise
+pub use Rattle.blink_owners.specs.Passes.{Begins, Ends, Finds, Glances, Hands, IsAdvanceRefusal, IsBeginRefusal, IsFindRefusal, IsHandRefusal, IsOwn, IsTakeRefusal, IsTellRefusal, Scans, Takes, TellsHandFault, TellsOn}
+-- a map behind a handle: what the calls make of it, and why they are refused
+pub use Rattle.blink_owners.specs.Maps.{HasBadSessions, IsNewMap, IsTooLargeMap, Joins}
+-- a session behind a handle likewise
+pub use Rattle.blink_owners.specs.Sessions.{Answers, EndsFrom, Finds as SessionFinds, IsAdvanceRefusal as IsSessionAdvanceRefusal, IsChangeRefusal, IsOwnSession, IsPutRefusal, IsShortage, IsTakeRefusal as IsSessionTakeRefusal, IsTellRefusal as IsSessionTellRefusal, Puts, Scans as SessionScans, Takes as SessionTakes, TellsOn as SessionTellsOn, TellsStock}
+-- readers of an index, each behind a handle
+pub use Rattle.blink_owners.specs.Readers.{index_at, index_in}
+-- ---- the files
+pub mod Raw
+pub mod Runs
+pub mod Sorted
+pub mod Edits
+pub mod Found
+pub mod Filled
+pub mod Reports
+pub mod Tables
+pub mod Passes
+pub mod Maps
+pub mod Sessions
+pub mod Readers
+-- the codes of refusals
+pub mod Codes
+pub mod TableCodes
+pub mod MapCodes

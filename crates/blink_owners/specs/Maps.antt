@@ -1,0 +1,68 @@
+-- A map behind a handle: what the calls make of it, and why they are refused.
+use Rattle.std.specs.Prelude.{◌≡◌, ◌⊎◌, ◌<◌, ◌≤◌, ℕ}
+use Rattle.std.specs.Arc.{arc_value}
+use Rattle.blink_map.specs.declared.error.MapError.{MapError}
+use Rattle.blink_map.specs.declared.error.MapError.TheVariants as map
+use Rattle.blink_map.specs.declared.map.Map.{Map}
+use Rattle.blink_map.specs.declared.map.Room.{Room}
+use Rattle.blink_map.specs.declared.map.Session.{Session}
+use Rattle.blink_map.specs.{IsOpenedWith, IsSessionOf, IsTooLarge}
+use Rattle.blink_store.specs.{PlainStore}
+use Rattle.blink_owners.specs.declared.map_owner.MapOwner.{MapOwner}
+use Rattle.blink_owners.specs.declared.map_refusal.MapRefusal.{MapRefusal}
+use Rattle.blink_owners.specs.declared.map_refusal.MapRefusal.TheVariants as refused
+use Rattle.blink_owners.specs.declared.session_owner.HeldSession.TheVariants.{Free}
+use Rattle.blink_owners.specs.declared.session_owner.SessionOwner.{SessionOwner}
+use Rattle.blink_owners.specs.Sessions.{in_map}
+
+-- the map
+abbrev pub map_in : MapOwner → Map
+map_in owner = arc_value owner.shared
+
+-- the fan of its tree
+abbrev pub fan_in : MapOwner → ℕ
+fan_in owner = (map_in owner).live.fan
+
+-- ---- opening
+
+-- a map that was opened over this tree, with such room
+pub record IsNewMap (store : PlainStore) (room : Room) (number : ℕ) (owner : MapOwner) : Type 0 where
+  pub opened : IsOpenedWith store room (map_in owner)
+  pub same_number : owner.number ≡ number
+
+-- there are to be no sessions, or more than 256
+abbrev pub HasBadSessions : Room → Type 0
+HasBadSessions room = (room.sessions ≡ 0) ⊎ (256 < room.sessions)
+
+-- there aren't so many page numbers, and the sessions aren't refused first
+abbrev pub IsTooLargeMap : ℕ → Room → Type 0
+IsTooLargeMap count room = (1 ≤ room.sessions) × (room.sessions ≤ 256) × IsTooLarge count room
+
+abbrev pub IsOpenFault : MapError → Type 0
+IsOpenFault refusal = (refusal ≡ map.OutOfMemory) ⊎ (refusal ≡ map.TooLarge) ⊎ (refusal ≡ map.Sessions)
+
+-- ---- one more handle
+
+-- the other handle is of the same map
+pub record IsOwnerOfSame (owner other : MapOwner) : Type 0 where
+  pub one_map : map_in other ≡ map_in owner
+  pub one_number : other.number ≡ owner.number
+
+-- ---- joining
+
+-- the new handle has a session of the map
+pub record Joins (owner : MapOwner) (given : SessionOwner) : Type 0 where
+  pub session : Session
+  pub free : given.held ≡ Free session
+  pub its_own : IsSessionOf (map_in owner) session
+  pub one_map : in_map given ≡ map_in owner
+  pub one_number : given.number ≡ owner.number
+
+abbrev pub IsJoinFault : MapError → Type 0
+IsJoinFault refusal = (refusal ≡ map.OutOfMemory) ⊎ (refusal ≡ map.NoPlace)
+
+-- ---- closing
+
+abbrev pub IsCloseFault : MapRefusal → Type 0
+IsCloseFault refusal =
+    (refusal ≡ refused.Map map.OutOfMemory) ⊎ (refusal ≡ refused.Map map.UnderWay) ⊎ (refusal ≡ refused.Missing)

@@ -1,0 +1,167 @@
+//! Reading an index: what the exports of an index and those of a reader do alike.
+ghost use Rattle.std.specs.Prelude.{◌≡◌, ◌≢◌, ◌↔◌, ◌<◌, ◌≤◌, ◌^◌, IsSome, IsTrue, filter, length, map, min, slice_set, take};
+ghost use Rattle.blink_batch.specs.{pointer_of};
+ghost use Rattle.blink_index.specs.{is_from, is_within, map_of, text_of_store};
+ghost use Rattle.blink_owners.specs.Codes.{code_of};
+ghost use Rattle.blink_owners.specs.Edits.{entry_or};
+ghost use Rattle.blink_owners.specs.Filled.{overlaid, put_if_fits};
+ghost use Rattle.blink_owners.specs.Found.{found_answer, pointer_or};
+
+use crate::raw::{RawAnswer, RawEntry};
+use crate::refusal::{DONE, Refusal};
+use blink_batch::Entry;
+use blink_index::{Index, Scan};
+use std::alloc::Global;
+
+/// Looks a key up. It gives the key's record pointer, or leaves `pointer` as it was.
+pub fn find(index: &Index, key: u64, pointer: &mut u64) -> bool
+    ensures found { IsTrue result ↔ IsSome (pointer_of (map_of index.now) key) }
+    ensures pointer { pointer.new ≡ pointer_or (pointer_of (map_of index.now) key) pointer.old }
+{
+    let found = index.find(key);
+    *pointer = found.unwrap_or(*pointer);
+    found.is_some()
+}
+
+/// Looks keys up, and gives the answer of each at its place.
+pub fn find_many(index: &Index, keys: &[u64], answers: &mut [RawAnswer]) -> u8
+    ensures found { result ≡ 0 → answers.new ≡ map (found_answer (map_of index.now)) keys.now }
+    ensures wrong_length { result ≡ code_of Refusal.WrongLength ↔ length answers.old ≢ length keys.now }
+    ensures refused { result ≢ 0 → result ≡ code_of Refusal.WrongLength }
+    ensures unchanged { result ≢ 0 → answers.new ≡ answers.old }
+{
+    if answers.len() != keys.len() {
+        return Refusal::WrongLength.code();
+    }
+    find_each(index, keys, answers);
+    DONE
+}
+
+// Looks keys up, and gives the answer of each at its place.
+fn find_each(index: &Index, keys: &[u64], answers: &mut [RawAnswer])
+    requires { length answers.old ≡ length keys.now }
+    ensures { answers.new ≡ map (found_answer (map_of index.now)) keys.now }
+{
+    for place in 0..keys.len() {
+        answers[place] = found_at(index, keys[place]);
+    }
+}
+
+// The answer of a find.
+fn found_at(index: &Index, key: u64) -> RawAnswer
+    ensures { result ≡ found_answer (map_of index.now) key }
+{
+    RawAnswer::shown(index.find(key))
+}
+
+/// Gives an entry, if there is one, or leaves `entry` as it was.
+pub fn give_entry(found: Option<Entry>, entry: &mut RawEntry) -> bool
+    ensures found { IsTrue result ↔ IsSome found }
+    ensures entry { entry.new ≡ entry_or found entry.old }
+{
+    match found {
+        Some(found) => {
+            *entry = RawEntry::of(found);
+            true
+        }
+        None => false,
+    }
+}
+
+/// Gives the entries whose keys are from `lo` to `hi`, as many as there are places, and returns how many there are.
+pub fn scan(index: &Index, lo: u64, hi: u64, entries: &mut [RawEntry], fitted: &mut usize) -> usize
+    ensures there { result ≡ length (filter (is_within lo hi) (map_of index.now)) }
+    ensures entries { entries.new
+        ≡ overlaid (filter (is_within lo hi) (map_of index.now)) entries.old }
+    ensures fitted { fitted.new ≡ min result (length entries.old) }
+{
+    few_entries(index);
+    let there = fill_entries(index.scan(lo, hi), entries);
+    *fitted = there.min(entries.len());
+    there
+}
+
+/// Gives the first `n` entries whose keys are at least `lo`, as many as there are places, and returns how many there are, at most `n`.
+pub fn page(index: &Index, lo: u64, n: u64, entries: &mut [RawEntry], fitted: &mut usize) -> usize
+    ensures there { result ≡ length (take n (filter (is_from lo) (map_of index.now))) }
+    ensures entries { entries.new
+        ≡ overlaid (take n (filter (is_from lo) (map_of index.now))) entries.old }
+    ensures fitted { fitted.new ≡ min result (length entries.old) }
+{
+    few_entries(index);
+    let there = fill_entries(index.page(lo, n), entries);
+    *fitted = there.min(entries.len());
+    there
+}
+
+/// Counts the entries. It walks all leaves.
+pub fn count(index: &Index) -> usize
+    ensures { result ≡ length (map_of index.now) }
+{
+    few_entries(index);
+    fill_entries(index.page(0, u64::MAX), &mut [])
+}
+
+// Gives entries, as many as there are places, and returns how many there are.
+fn fill_entries(scan: Scan<'_>, entries: &mut [RawEntry]) -> usize
+    requires { length scan < 2 ^ 63 }
+    ensures there { result ≡ length scan.entry }
+    ensures entries { entries.new ≡ overlaid scan.entry entries.old }
+{
+    let mut there = 0usize;
+    for entry in scan {
+        set_inside(entries, there, RawEntry::of(entry));
+        there += 1;
+    }
+    there
+}
+
+// Sets a place of the array, if the array has it.
+fn set_inside(entries: &mut [RawEntry], place: usize, entry: RawEntry)
+    ensures inside { place < length entries.old → entries.new ≡ slice_set entries.old place entry }
+    ensures beyond { length entries.old ≤ place → entries.new ≡ entries.old }
+{
+    if place < entries.len() {
+        entries[place] = entry;
+    }
+}
+
+// Called for the proof: an index has few pages, so the number of its entries fits a word.
+fn few_entries(index: &Index)
+    ensures { length (map_of index.now) < 2 ^ 63 }
+{
+    let _store = index.rest().store();
+}
+
+/// Returns the greatest number of entries in a page.
+pub fn fan(index: &Index) -> u8
+    ensures { result ≡ index.now.fan }
+{
+    index.rest().store().fan()
+}
+
+/// Gives the tree as text, if all of it fits, and stores how many bytes it has.
+pub fn dump(alloc: Global, index: &Index, text: &mut [u8], bytes: &mut usize) -> u8
+    ensures bytes { result ≡ 0 → bytes.new ≡ length (text_of_store index.now) }
+    ensures text { result ≡ 0 → text.new ≡ put_if_fits (text_of_store index.now) text.old }
+    ensures refused { result ≢ 0 → result ≡ code_of Refusal.OutOfMemory }
+    ensures unchanged { result ≢ 0 → (text.new ≡ text.old) × (bytes.new ≡ bytes.old) }
+{
+    match index.dump(alloc) {
+        Ok(dump) => {
+            *bytes = dump.len();
+            put(dump.as_bytes(), text);
+            DONE
+        }
+        Err(_) => Refusal::OutOfMemory.code(),
+    }
+}
+
+// Puts a text into the places, if all of it fits.
+fn put(text: &[u8], places: &mut [u8])
+    ensures { places.new ≡ put_if_fits text.now places.old }
+{
+    if text.len() <= places.len() {
+        places[..text.len()].copy_from_slice(text);
+    }
+}

@@ -1,0 +1,329 @@
+//! What the box of a session's handle holds: an owner of the map, and the session or its operation.
+ghost use Rattle.std.specs.Prelude.{◌≡◌, ◌≢◌, IfErr, IfOk, OnErr, OnOk};
+ghost use Rattle.blink_batch.specs.{FitsWords};
+ghost use Rattle.blink_machine.specs.{IsUpdate};
+ghost use Rattle.blink_map.specs.{IsPendingOf, IsSessionOf, op_of, session_of};
+ghost use Rattle.blink_owners.specs.Sessions.{Answers, EndsFrom, Finds, HasAnswered, HasPut, IsAdvanceRefusal, IsChangeRefusal, IsFree, IsNotFree, IsNotPut, IsOfPut, IsOwnSession, IsPutRefusal, IsShortage, IsTakeRefusal, IsTellRefusal, Puts, Scans, StaysBusy, Takes, TellsOn, TellsStock, in_map};
+
+use crate::map_refusal::MapRefusal;
+use crate::raw::{RawAnswer, RawScanned, RawStock, RawTaken};
+use blink_batch::{Answer, Entry, Op};
+use blink_map::{Map, MapError, Pending, Session};
+use std::alloc::Global;
+use std::mem;
+use std::sync::Arc;
+
+/// A session, free or with an operation under way, which may be that of a put. Within a call it may be gone.
+#[derive(Drop)]
+pub enum HeldSession {
+    Free(Session),
+    Busy(Pending),
+    /// With the key and the pointer that are to be put.
+    Putting(Pending, u64, u64),
+    Gone,
+}
+
+/// A session with an owner of its map, so that its thread needs nothing else.
+#[derive(Drop)]
+pub struct SessionOwner {
+    /// The map.
+    pub shared: Arc<Map>,
+    /// The number that the caller gave the map.
+    pub number: u64,
+    /// The session, or its operation.
+    pub held: HeldSession,
+}
+
+impl SessionOwner {
+    /// Looks any key up.
+    pub fn find(&mut self, key: u64, answer: &mut RawAnswer) -> Result<(), MapRefusal>
+        requires its_own { IsOwnSession self.old }
+        ensures its_own { IsOwnSession self.new }
+        ensures found { OnOk result (Finds key self.old self.new answer.new) }
+        ensures refused { IfErr result (IsNotFree self.old.held) }
+        ensures unchanged { OnErr result ((self.new ≡ self.old) × (answer.new ≡ answer.old)) }
+    {
+        let HeldSession::Free(session) = &mut self.held else {
+            return Err(MapRefusal::UnderWay);
+        };
+        let shown = self.shared.find(session, key);
+        *answer = RawAnswer::shown(shown);
+        Ok(())
+    }
+
+    /// Scans a range of keys.
+    pub fn scan(
+        &mut self,
+        lo: u64,
+        hi: u64,
+        entries: &mut [Entry],
+        scanned: &mut RawScanned,
+    ) -> Result<(), MapRefusal>
+        requires its_own { IsOwnSession self.old }
+        ensures its_own { IsOwnSession self.new }
+        ensures scanned { OnOk result
+            (Scans lo hi self.old self.new entries.old entries.new scanned.new) }
+        ensures refused { IfErr result (IsNotFree self.old.held) }
+        ensures unchanged { OnErr result
+            ((self.new ≡ self.old) × (entries.new ≡ entries.old) × (scanned.new ≡ scanned.old)) }
+    {
+        let HeldSession::Free(session) = &mut self.held else {
+            return Err(MapRefusal::UnderWay);
+        };
+        let came = self.shared.scan(session, lo, hi, entries);
+        *scanned = RawScanned::of(came);
+        Ok(())
+    }
+
+    /// Takes a snapshot of a range of keys.
+    pub fn snapshot(
+        &mut self,
+        alloc: Global,
+        range: (u64, u64),
+        tries: u32,
+        entries: &mut [Entry],
+        taken: &mut RawTaken,
+    ) -> Result<(), MapRefusal>
+        requires its_own { IsOwnSession self.old }
+        ensures its_own { IsOwnSession self.new }
+        ensures taken { OnOk result
+            (Takes range.0 range.1 self.old self.new entries.old entries.new taken.new) }
+        ensures refused { IfErr result (IsTakeRefusal self.old self.new) }
+        ensures unchanged { OnErr result
+            ((entries.new ≡ entries.old) × (taken.new ≡ taken.old)) }
+    {
+        let HeldSession::Free(session) = &mut self.held else {
+            return Err(MapRefusal::UnderWay);
+        };
+        let (lo, hi) = range;
+        match self.shared.snapshot(alloc, session, lo, hi, tries) {
+            Ok(found) => {
+                *taken = RawTaken::of(&found, entries);
+                Ok(())
+            }
+            Err(_) => Err(MapRefusal::Map(MapError::OutOfMemory)),
+        }
+    }
+
+    /// Tells the other session what this one has seen.
+    pub fn tell(&mut self, to: &mut SessionOwner) -> Result<(), MapRefusal>
+        requires its_own { IsOwnSession self.old }
+        requires others_own { IsOwnSession to.old }
+        requires numbered { self.old.number ≡ to.old.number → in_map self.old ≡ in_map to.old }
+        ensures its_own { IsOwnSession self.new }
+        ensures others_own { IsOwnSession to.new }
+        ensures told { OnOk result (TellsOn self.old self.new to.old to.new) }
+        ensures refused { IfErr result (IsTellRefusal self.old to.old) }
+        ensures unchanged { OnErr result ((self.new ≡ self.old) × (to.new ≡ to.old)) }
+    {
+        if self.number != to.number {
+            return Err(MapRefusal::Foreign);
+        }
+        let HeldSession::Free(from) = &mut self.held else {
+            return Err(MapRefusal::UnderWay);
+        };
+        let HeldSession::Free(session) = &mut to.held else {
+            return Err(MapRefusal::UnderWay);
+        };
+        self.shared.tell(from, session);
+        Ok(())
+    }
+
+    /// Tells what the session has of page numbers and rows.
+    pub fn stock(&self, stock: &mut RawStock) -> Result<(), MapRefusal>
+        ensures told { OnOk result (TellsStock self.now stock.new) }
+        ensures refused { IfErr result (IsNotFree self.now.held) }
+        ensures unchanged { OnErr result (stock.new ≡ stock.old) }
+    {
+        let HeldSession::Free(session) = &self.held else {
+            return Err(MapRefusal::UnderWay);
+        };
+        *stock = RawStock::of(self.shared.stock(session));
+        Ok(())
+    }
+
+    /// Begins an operation that changes the map, and takes its steps.
+    pub fn change(&mut self, op: Op, tries: u32, answer: &mut RawAnswer) -> Result<(), MapRefusal>
+        requires its_own { IsOwnSession self.old }
+        requires updates { IsUpdate op }
+        requires fits { FitsWords op }
+        ensures its_own { IsOwnSession self.new }
+        ensures answered { OnOk result (Answers op self.old self.new answer.new) }
+        ensures refused { IfErr result (IsChangeRefusal op self.old self.new) }
+        ensures unchanged { OnErr result (answer.new ≡ answer.old) }
+    {
+        let session = self.take_free()?;
+        match self.shared.begin(session, op) {
+            Ok(pending) => self.go_on(pending, tries, answer),
+            Err((session, _full)) => {
+                let refusal = shortage(&session, op);
+                self.held = HeldSession::Free(session);
+                Err(refusal)
+            }
+        }
+    }
+
+    /// Begins to put an entry, and takes the steps of the insertion.
+    pub fn put(
+        &mut self,
+        key: u64,
+        pointer: u64,
+        tries: u32,
+        answer: &mut RawAnswer,
+    ) -> Result<(), MapRefusal>
+        requires its_own { IsOwnSession self.old }
+        ensures its_own { IsOwnSession self.new }
+        ensures put { OnOk result (Puts key pointer self.old self.new answer.new) }
+        ensures refused { IfErr result (IsPutRefusal key pointer self.old self.new) }
+        ensures unchanged { OnErr result (answer.new ≡ answer.old) }
+    {
+        let session = self.take_free()?;
+        match self.shared.begin(session, Op::Insert(key, pointer)) {
+            Ok(pending) => self.put_on(pending, key, pointer, tries, answer),
+            Err((session, _full)) => {
+                let refusal = shortage(&session, Op::Insert(key, pointer));
+                self.held = HeldSession::Free(session);
+                Err(refusal)
+            }
+        }
+    }
+
+    /// Takes the next steps of the operation or the put that is under way.
+    pub fn advance(&mut self, tries: u32, answer: &mut RawAnswer) -> Result<(), MapRefusal>
+        requires its_own { IsOwnSession self.old }
+        ensures its_own { IsOwnSession self.new }
+        ensures ended { OnOk result (EndsFrom self.old.held self.old self.new answer.new) }
+        ensures refused { IfErr result (IsAdvanceRefusal self.old.held self.old self.new) }
+        ensures unchanged { OnErr result (answer.new ≡ answer.old) }
+    {
+        match mem::replace(&mut self.held, HeldSession::Gone) {
+            HeldSession::Busy(pending) => self.go_on(pending, tries, answer),
+            HeldSession::Putting(pending, key, pointer) => {
+                self.put_on(pending, key, pointer, tries, answer)
+            }
+            held => {
+                self.held = held;
+                Err(MapRefusal::Idle)
+            }
+        }
+    }
+
+    // Takes the next steps of an operation.
+    fn go_on(
+        &mut self,
+        pending: Pending,
+        tries: u32,
+        answer: &mut RawAnswer,
+    ) -> Result<(), MapRefusal>
+        requires its_own { IsPendingOf (in_map self.old) pending }
+        ensures its_own { IsOwnSession self.new }
+        ensures ended { OnOk result
+            (HasAnswered (op_of pending) (session_of pending) self.old self.new answer.new) }
+        ensures goes_on { OnErr result (StaysBusy pending self.old self.new) }
+        ensures refused { IfErr result (λ refusal. refusal ≡ MapRefusal.UnderWay) }
+        ensures unchanged { OnErr result (answer.new ≡ answer.old) }
+    {
+        match self.shared.advance(pending, tries) {
+            Ok((session, given)) => {
+                self.held = HeldSession::Free(session);
+                *answer = RawAnswer::of(given);
+                Ok(())
+            }
+            Err(pending) => {
+                self.held = HeldSession::Busy(pending);
+                Err(MapRefusal::UnderWay)
+            }
+        }
+    }
+
+    // Takes the next steps of a put. Where its insertion finds the key there, or its replacement finds it gone, the other of the two
+    // begins.
+    fn put_on(
+        &mut self,
+        pending: Pending,
+        key: u64,
+        pointer: u64,
+        tries: u32,
+        answer: &mut RawAnswer,
+    ) -> Result<(), MapRefusal>
+        requires its_own { IsPendingOf (in_map self.old) pending }
+        requires of_put { IsOfPut key pointer (op_of pending) }
+        ensures its_own { IsOwnSession self.new }
+        ensures ended { OnOk result
+            (HasPut key pointer (session_of pending) self.old self.new answer.new) }
+        ensures refused { IfErr result
+            (IsNotPut key pointer (session_of pending) self.old self.new) }
+        ensures unchanged { OnErr result (answer.new ≡ answer.old) }
+    {
+        match self.shared.advance(pending, tries) {
+            Ok((session, given)) => match given {
+                Answer::Inserted | Answer::Replaced(_) => {
+                    self.held = HeldSession::Free(session);
+                    *answer = RawAnswer::of(given);
+                    Ok(())
+                }
+                Answer::Exists(_) => Err(self.put_by(
+                    session,
+                    key,
+                    pointer,
+                    Op::Replace(key, pointer),
+                )),
+                _ => Err(self.put_by(session, key, pointer, Op::Insert(key, pointer))),
+            },
+            Err(pending) => {
+                self.held = HeldSession::Putting(pending, key, pointer);
+                Err(MapRefusal::UnderWay)
+            }
+        }
+    }
+
+    // Begins the insertion or the replacement of a put.
+    fn put_by(&mut self, session: Session, key: u64, pointer: u64, op: Op) -> MapRefusal
+        requires its_own { IsSessionOf (in_map self.old) session }
+        requires of_put { IsOfPut key pointer op }
+        requires fits { FitsWords op }
+        ensures its_own { IsOwnSession self.new }
+        ensures refused { IsNotPut key pointer session self.old self.new result }
+    {
+        match self.shared.begin(session, op) {
+            Ok(pending) => {
+                self.held = HeldSession::Putting(pending, key, pointer);
+                MapRefusal::UnderWay
+            }
+            Err((session, _full)) => {
+                let refusal = shortage(&session, op);
+                self.held = HeldSession::Free(session);
+                refusal
+            }
+        }
+    }
+
+    // Takes the free session out.
+    fn take_free(&mut self) -> Result<Session, MapRefusal>
+        requires its_own { IsOwnSession self.old }
+        ensures free { IfOk result (λ session. self.old.held ≡ HeldSession.Free session) }
+        ensures its_own { IfOk result (IsSessionOf (in_map self.old)) }
+        ensures gone { OnOk result (self.new ≡ record self.old { held = HeldSession.Gone }) }
+        ensures refused { IfErr result (IsNotFree self.old.held) }
+        ensures unchanged { OnErr result (self.new ≡ self.old) }
+    {
+        match mem::replace(&mut self.held, HeldSession::Gone) {
+            HeldSession::Free(session) => Ok(session),
+            held => {
+                self.held = held;
+                Err(MapRefusal::UnderWay)
+            }
+        }
+    }
+}
+
+// Why a session that lacks room can't begin an operation.
+fn shortage(session: &Session, op: Op) -> MapRefusal
+    ensures { IsShortage op session.now result }
+{
+    if session.lacks_room_in_all(op) {
+        MapRefusal::Full
+    } else {
+        MapRefusal::RowsBusy
+    }
+}
