@@ -73,17 +73,15 @@ output_of() {
 jobs_of() {
     case $1 in
     blink_c | blink_index | blink_live | blink_machine | blink_map | blink_owners | blink_run | index_main) echo "$processors" ;;
-    blink_locked | blink_page | blink_replay | blink_rest | blink_settings | blink_steps | blink_store) echo $(((processors + 1) / 2)) ;;
+    blink_page | blink_rest | blink_settings | blink_steps | blink_store) echo $(((processors + 1) / 2)) ;;
     *) echo 1 ;;
     esac
 }
 
-# How far a crate gives way to others. These can be proved early and are needed late, so they take less than the chain of the others, but
-# enough to be there when it needs them.
+# How far a crate gives way to others. This one can be proved early and is needed late, so it takes what the chain of the others leaves.
 niceness_of() {
     case $1 in
     blink_rows) echo 19 ;;
-    blink_command | blink_locked | blink_replay) echo 3 ;;
     *) echo 0 ;;
     esac
 }
