@@ -9,7 +9,7 @@ use std::marker::Model;
 
 /// The answers so far, the order of the deciding steps, and for each operation the number of pages it has read and the number of
 /// steps it has taken.
-#[derive(Debug, Drop)]
+#[derive(Drop)]
 pub(crate) struct Outcome {
     pub answers: Vec<Option<Answer>>,
     pub order: Vec<u32>,

@@ -18,7 +18,7 @@ use std::alloc::{AllocError, Global};
 use std::marker::Model;
 
 /// The tree, the workers, and the outcome so far.
-#[derive(Debug, Drop)]
+#[derive(Drop)]
 pub(crate) struct Run {
     shared: Shared,
     batch: Batch,

@@ -20,7 +20,7 @@ pub struct Working {
 
 /// A worker's state: its operation under way, unless it is idle, and the place of its next operation, unless its lane is at its
 /// end.
-#[derive(Debug, Drop)]
+#[derive(Drop)]
 pub(crate) struct WorkerState {
     pub working: Option<Working>,
     pub next: Option<u32>,

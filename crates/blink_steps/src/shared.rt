@@ -12,7 +12,7 @@ use blink_store::{Latches, Store};
 use std::marker::Model;
 
 /// The store, and for each latched page the worker that holds its latch.
-#[derive(Debug, Drop)]
+#[derive(Drop)]
 pub(crate) struct Shared {
     pub store: Store,
     pub latches: Latches,

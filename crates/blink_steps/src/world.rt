@@ -17,13 +17,14 @@ use blink_page::exceeds_page_limit;
 use blink_rest::Rest;
 use blink_store::{Latches, Store};
 use std::alloc::Global;
+use std::fmt;
 use std::marker::Model;
 
 /// A batch's run over a tree at rest, up to some tree state. The run has taken one turn for each number of its schedule.
 ///
 /// The type guarantees that a world is the world of its own schedule, over the tree, the batch and the lanes that it began with.
 /// So what is promised of every schedule holds for any `World`.
-#[derive(Debug, Drop)]
+#[derive(Drop)]
 pub struct World {
     run: Run,
     schedule: Vec<u8>,
@@ -37,6 +38,13 @@ impl Model for World {
     ghost view = { λ world. record { run = world.run; schedule = world.schedule.items } };
 
     ghost invariant = { λ world. IsWorld (record { run = world.run; schedule = world.schedule.items }) };
+}
+
+/// Writes how many turns the run has taken. Its tree would fill a screen.
+impl fmt::Debug for World {
+    fn fmt<W: fmt::Write>(&self, f: &mut fmt::Formatter<W>) -> fmt::Result {
+        write!(f, "a world after {} turns", self.schedule.len())
+    }
 }
 
 impl World {
