@@ -6,6 +6,8 @@ use Rattle.blink_batch.specs.declared.error.RecordError.{RecordError}
 use Rattle.blink_batch.specs.declared.error.RecordError.TheVariants as row
 use Rattle.blink_batch.specs.declared.error.ScriptError.{ScriptError}
 use Rattle.blink_batch.specs.declared.error.ScriptError.TheVariants as script
+use Rattle.blink_batch.specs.declared.step_error.StepError.{StepError}
+use Rattle.blink_batch.specs.declared.step_error.StepError.TheVariants as step
 
 abbrev pub code_of_cut_error : CutError → ℕ
 code_of_cut_error cut.BadWorkers = 2
@@ -26,3 +28,8 @@ code_of_script_error (script.Csv number) = 13
 code_of_script_error (script.TooMany number) = 14
 code_of_script_error script.Read = 15
 code_of_script_error script.OutOfMemory = 16
+
+abbrev pub code_of_step_error : StepError → ℕ
+code_of_step_error step.OutOfMemory = 30
+code_of_step_error (step.NoWorker worker) = 31
+code_of_step_error step.TooLarge = 32

@@ -21,7 +21,7 @@ pub use Rattle.blink_batch.specs.ScriptLaw.{FirstRefusalIsTold, ScriptsHaveTheir
 -- the spelling of numbers in scripts and on the command line
 pub use Rattle.blink_batch.specs.Number.{number_of}
 -- the code of each refusal
-pub use Rattle.blink_batch.specs.Codes.{code_of_cut_error, code_of_record_error, code_of_script_error}
+pub use Rattle.blink_batch.specs.Codes.{code_of_cut_error, code_of_record_error, code_of_script_error, code_of_step_error}
 -- ---- for proofs above
 pub use Rattle.blink_operation.specs.Operation.{map_at}
 pub use Rattle.blink_batch.specs.Order.{is_worker}

@@ -13,6 +13,7 @@ mod parts;
 mod plain;
 mod record;
 mod script;
+mod step_error;
 
 pub use batch::{BATCH_LIMIT, Batch, BatchError};
 pub use blink_operation::{Answer, Entry, Op};
@@ -22,3 +23,4 @@ pub use lanes::Lanes;
 pub use number::read_number;
 pub use plain::Plain;
 pub use script::{Part, Script, read_script};
+pub use step_error::StepError;

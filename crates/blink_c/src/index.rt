@@ -1,8 +1,8 @@
 //! The exports that make an index, look keys up in it, count it, and free it.
 ghost use Rattle.std.specs.Prelude.{◌≡◌, ◌≢◌, ◌↔◌, None, Some, IsSome, IsTrue, length, map};
 ghost use Rattle.blink_batch.specs.{pointer_of};
-ghost use Rattle.blink_index.specs.{IsBadFan, map_of};
-ghost use Rattle.blink_page.specs.{IsPageNumber};
+ghost use Rattle.blink_index.specs.{map_of};
+ghost use Rattle.blink_page.specs.{IsBadFan, IsPageNumber};
 ghost use Rattle.blink_store.specs.{new_store};
 ghost use Rattle.blink_owners.specs.Codes.{TellsNewFault, code_of};
 ghost use Rattle.blink_owners.specs.Found.{found_answer, pointer_or};

@@ -14,7 +14,7 @@ use Rattle.blink_rest.specs.{IsMapOf, entries_from, pairs_of}
 use Rattle.blink_rest.proofs.Offered.{entries_ascend, entries_from-pairs_of}
 use Rattle.blink_store.specs.{PlainStore, page_of}
 use Rattle.blink_index.specs.Ends.{first_of, is_above, last_of}
-use Rattle.blink_index.specs.Index.{map_of}
+use Rattle.blink_entries.specs.Index.{map_of}
 
 -- a map that has no key is empty
 pub empty_if_none : (map : List Entry) → ((key : ℕ) → pointer_of map key ≡ None) → map ≡ []

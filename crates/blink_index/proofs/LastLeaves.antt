@@ -13,11 +13,10 @@ use Rattle.blink_rest.specs.{IsStoreAtRest}
 use Rattle.blink_rest.proofs.Offered.{entries_ascend, entries_exist_at_rest}
 use Rattle.blink_store.specs.{PlainStore, page_of}
 use Rattle.blink_index.specs.Ends.{last_of}
-use Rattle.blink_index.specs.Index.{map_of}
-use Rattle.blink_index.specs.Leaf.{IsLeafFor}
+use Rattle.blink_entries.specs.Index.{map_of}
+use Rattle.blink_entries.specs.Leaf.{IsLeafFor}
 use Rattle.blink_index.proofs.EndsOfMaps.{empty_if_none, last_if_none_above}
-use Rattle.blink_index.proofs.MapOfStore.{map_of-entries, pointer_of-entries_from, the_map_is_kept}
-use Rattle.blink_index.proofs.WayDown.{leaf_pointer}
+use Rattle.blink_entries.proofs.Offered.{leaf_pointer, map_of-entries, pointer_of-entries_from, the_map_is_kept}
 
 -- a list without a last element is empty
 pub empty_if_no_last : (pairs : List (ℕ × ℕ)) → None ≡ slice_get pairs (length pairs - 1) → pairs ≡ []

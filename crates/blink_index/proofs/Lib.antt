@@ -1,13 +1,5 @@
-pub mod PagesAlongLinks
-pub mod MapOfStore
-pub mod EntriesOfMaps
-pub mod WayDown
-pub mod StretchOfScan
-pub mod WhereLinksLead
-pub mod LevelsAsLines
 pub mod alone
 pub mod OneOperationMore
 pub mod EndsOfMaps
 pub mod LastLeaves
-pub mod packed
 pub mod Offered

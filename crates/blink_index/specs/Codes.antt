@@ -1,6 +1,5 @@
--- The code of each refusal, and the numbers that are no fan.
-use Rattle.std.specs.Prelude.{ℕ, ◌<◌, ◌⊎◌}
-use Rattle.blink_page.specs.declared.limits.TheConstants.{MIN_FAN, MAX_FAN}
+-- The code of each refusal.
+use Rattle.std.specs.Prelude.{ℕ}
 use Rattle.blink_index.specs.declared.error.IndexError.{IndexError}
 use Rattle.blink_index.specs.declared.error.IndexError.TheVariants.{BadFan, OutOfMemory}
 use Rattle.blink_index.specs.declared.error.EditError.{EditError}
@@ -19,7 +18,3 @@ code_of_sorted SortedError.BadFan = 40
 code_of_sorted (SortedError.NotAscending place) = 42
 code_of_sorted SortedError.TooLarge = 32
 code_of_sorted SortedError.OutOfMemory = 41
-
--- no tree allows its pages this many entries
-abbrev pub IsBadFan : ℕ → Type 0
-IsBadFan fan = (fan < MIN_FAN) ⊎ (MAX_FAN < fan)

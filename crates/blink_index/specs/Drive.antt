@@ -7,10 +7,6 @@ use Rattle.blink_machine.specs.declared.machine.Need.{Need}
 use Rattle.blink_machine.specs.declared.machine.Need.TheVariants.{ReadPrime, ReadPage, Latch, WriteNew, WritePage, WritePrime, Unlatch, End}
 use Rattle.blink_machine.specs.{IsReadable, PlainMachine, PrimeOut, SeesPage, SeesPrime, WaitsForLevel, done, page_out}
 
--- the store of a fan, a prime block and a list of pages
-abbrev pub store_of : ℕ → List ℕ → List PlainPage → PlainStore
-store_of fan prime pages = record { fan = fan; prime = prime; pages = pages }
-
 -- the operation sees this page of the store
 pub record SeesOne (store : PlainStore) (m : PlainMachine) (number : ℕ) (after : PlainMachine) : Type 0 where
   pub page : PlainPage

@@ -11,7 +11,7 @@ use Rattle.blink_rest.specs.{IsMapOf, IsStoreAtRest}
 use Rattle.blink_store.specs.{IsLeafOf, PlainStore}
 use Rattle.blink_index.specs.declared.error.EditError.{EditError}
 use Rattle.blink_index.specs.declared.error.EditError.TheVariants.{OutOfMemory, TooLarge}
-use Rattle.blink_index.specs.Index.{map_of}
+use Rattle.blink_entries.specs.Index.{map_of}
 
 -- the store is at rest after the operation, which has answered and changed the plain map as it has to
 pub record IsEdited (old new : PlainStore) (op : Op) (answer : Answer) : Type 0 where

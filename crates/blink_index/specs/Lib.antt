@@ -1,36 +1,33 @@
 -- What a caller of `blink_index` reads, in this order; then what proofs above it need; then the files themselves.
 
 -- the content of an index: the levels of its tree, its tree's entries, and these as a plain map
-pub use Rattle.blink_index.specs.Index.{map_of}
+pub use Rattle.blink_entries.specs.Index.{map_of}
 -- the entries that a scan gives, up to a key or to a number of entries
-pub use Rattle.blink_index.specs.Scan.{BringsInOrder, is_from, is_within}
+pub use Rattle.blink_entries.specs.Scan.{BringsInOrder, is_from, is_within}
 -- the text of a tree at rest: a line for each page, the top level first, and each level from the left
-pub use Rattle.blink_index.specs.Dump.{entry_text, text_of_store, words_of}
+pub use Rattle.blink_entries.specs.Dump.{entry_text, text_of_store, words_of}
 -- the entries at the ends of a plain map, and those above a key
 pub use Rattle.blink_index.specs.Ends.{first_of, is_above, last_of}
 -- what one operation makes of a tree at rest, in place
 pub use Rattle.blink_index.specs.Edit.{HasPagesFor, IsEditRefusal, SplitsLeaf, StopsEdits}
 -- why an index can't be made of entries
 pub use Rattle.blink_index.specs.Sorted.{CanBePacked, IsFirstUnsorted, IsSortedRefusal}
--- the code of each refusal, and the numbers that are no fan
-pub use Rattle.blink_index.specs.Codes.{IsBadFan, code_of, code_of_edit, code_of_sorted}
+-- the code of each refusal
+pub use Rattle.blink_index.specs.Codes.{code_of, code_of_edit, code_of_sorted}
 -- laws of the plain map of an index and of its text
-pub use Rattle.blink_index.specs.Laws.{MapIsKept, NoOtherMapIsKept, TextIsOfLevels}
+pub use Rattle.blink_entries.specs.Laws.{MapIsKept, NoOtherMapIsKept, TextIsOfLevels}
 -- trees in as few pages as their entries need
-pub use Rattle.blink_index.specs.Packed.{AreFewest, ExceedsNumbers, IsFewest, IsInOrder, NeedsPages, numbered}
+pub use Rattle.blink_entries.specs.Packed.{AreFewest, ExceedsNumbers, IsFewest, IsInOrder, NeedsPages, numbered}
 -- ---- for proofs above
 pub use Rattle.blink_index.specs.Edit.{IsEdited, for_answers, for_next}
 -- ---- the files
-pub mod Index
-pub mod Leaf
 pub mod Ends
 pub mod Edit
 pub mod Drive
-pub mod Packed
-pub mod Packing
 pub mod Sorted
-pub mod Scan
-pub mod Dump
 pub mod Codes
-pub mod Laws
-pub mod ScanView
+-- ---- what stands below, by its files
+pub use Rattle.blink_entries.specs.Index
+pub use Rattle.blink_entries.specs.Scan
+pub use Rattle.blink_entries.specs.Dump
+pub use Rattle.blink_entries.specs.Packed

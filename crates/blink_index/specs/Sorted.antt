@@ -2,10 +2,10 @@
 use Rattle.std.specs.Prelude.{◌≡◌, ◌-◌, ◌≤◌, ℕ, Some, List, length, slice_get, take}
 use Rattle.blink_operation.specs.declared.Entry.{Entry}
 use Rattle.blink_operation.specs.{IsAscending}
+use Rattle.blink_page.specs.{IsBadFan}
 use Rattle.blink_index.specs.declared.error.SortedError.{SortedError}
 use Rattle.blink_index.specs.declared.error.SortedError.TheVariants.{BadFan, NotAscending, OutOfMemory, TooLarge}
-use Rattle.blink_index.specs.Codes.{IsBadFan}
-use Rattle.blink_index.specs.Packed.{ExceedsNumbers}
+use Rattle.blink_entries.specs.Packed.{ExceedsNumbers}
 
 -- the first place whose key isn't above the one before
 pub record IsFirstUnsorted (entries : List Entry) (place : ℕ) : Type 0 where

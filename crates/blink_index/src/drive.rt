@@ -5,9 +5,10 @@ ghost use Rattle.blink_page.specs.declared.limits.TheConstants.{MAX_NEW_PAGES_PE
 ghost use Rattle.blink_rest.specs.{IsStoreAtRest};
 ghost use Rattle.blink_store.specs.{IsLawfulStore};
 ghost use Rattle.blink_machine.specs.{need_at, NeedsNew, NeedsWrite};
-ghost use Rattle.blink_index.specs.Drive.{ActsOn, CanActOn, store_of};
+ghost use Rattle.blink_index.specs.Drive.{ActsOn, CanActOn};
+ghost use Rattle.blink_entries.specs.Index.{store_of};
 ghost use Rattle.blink_index.specs.Edit.{IsEdited};
-ghost use Rattle.blink_index.specs.Index.{map_of};
+ghost use Rattle.blink_entries.specs.Index.{map_of};
 
 use blink_machine::{Machine, Need};
 use blink_operation::Op;

@@ -8,11 +8,11 @@ ghost use Rattle.blink_page.specs.declared.limits.TheConstants.{MAX_NEW_PAGES_PE
 ghost use Rattle.blink_page.specs.Put.{IfPresent, OnDone, OnFull, UnlessDone};
 ghost use Rattle.blink_rest.specs.{IsMapOf};
 ghost use Rattle.blink_index.specs.Edit.{IsEdited, SplitsLeaf};
-ghost use Rattle.blink_index.specs.Index.{map_of};
+ghost use Rattle.blink_entries.specs.Index.{map_of};
 
-use crate::down::leaf_number;
 use crate::drive::run;
 use crate::error::EditError;
+use blink_entries::leaf_number;
 use blink_operation::Op;
 use blink_page::{MAX_NEW_PAGES_PER_INSERT, Put};
 use blink_rest::Rest;

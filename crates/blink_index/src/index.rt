@@ -1,23 +1,20 @@
 //! A tree at rest, as a map to be read.
 ghost use Rattle.std.specs.Prelude.{◌≡◌, ℕ, ◌↔◌, List, [], filter, length, string_bytes, IfOk, IsErrOf, IsOkUnless, take};
 ghost use Rattle.blink_operation.specs.{pointer_of};
-ghost use Rattle.blink_page.specs.{value_at, IsPageNumber};
+ghost use Rattle.blink_page.specs.{value_at, IsBadFan, IsPageNumber};
 ghost use Rattle.blink_rest.specs.{AreEntries, IsStoreAtRest, IsMapOf};
 ghost use Rattle.blink_store.specs.{page_of, new_store};
-ghost use Rattle.blink_index.specs.Codes.{IsBadFan};
-ghost use Rattle.blink_index.specs.Dump.{text_of_store};
-ghost use Rattle.blink_index.specs.Index.{map_of};
-ghost use Rattle.blink_index.specs.Scan.{is_from, is_within, BringsInOrder};
+ghost use Rattle.blink_entries.specs.Dump.{text_of_store};
+ghost use Rattle.blink_entries.specs.Index.{map_of};
+ghost use Rattle.blink_entries.specs.Scan.{is_from, is_within, BringsInOrder};
 
 mod change;
 mod compact;
 mod ends;
 mod sorted;
 
-use crate::down::leaf_for;
-use crate::dump::tree_text;
 use crate::error::IndexError;
-use crate::scan::Scan;
+use blink_entries::{Scan, leaf_for, tree_text};
 use blink_operation::Entry;
 use blink_page::{MAX_FAN, MIN_FAN};
 use blink_rest::Rest;

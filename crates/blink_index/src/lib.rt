@@ -5,17 +5,12 @@
 //! `the_map_is_kept` ties the two.
 #![tactic(auto)]
 
-mod down;
 mod drive;
-mod dump;
 mod edit;
 mod error;
 mod index;
 pub mod laws;
-mod pack;
-mod scan;
 
-pub use dump::{OrDash, push_entries};
+pub use blink_entries::{OrDash, Scan, push_entries};
 pub use error::{EditError, IndexError, SortedError};
 pub use index::{Applied, Index};
-pub use scan::Scan;

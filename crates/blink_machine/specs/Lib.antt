@@ -32,8 +32,6 @@ pub use Rattle.blink_machine.specs.StepLaw.{IsMapAt}
 pub use Rattle.blink_machine.specs.LeafLaw.{LeafTellsItsKeys, TellsItsKeys}
 -- what an operation makes of what it reads is determined
 pub use Rattle.blink_machine.specs.OneResult.{OneChange, OneResultOfPage, OneResultOfPrime}
--- the code of each refusal
-pub use Rattle.blink_machine.specs.Codes.{code_of}
 -- by their file, since they have its name or another file's word: TreeState.{TreeState}; Invariant.{Invariant}; StepLaw.{StepLaw}
 
 -- ---- for proofs above
@@ -71,5 +69,4 @@ pub mod OneResult
 pub mod MachineView
 pub mod Resting
 pub mod RestingView
-pub mod Codes
 pub mod LeafLaw

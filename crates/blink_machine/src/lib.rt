@@ -2,12 +2,10 @@
 //! each of its steps keeps.
 #![tactic(auto)]
 
-mod error;
 pub mod laws;
 mod machine;
 mod remembered;
 mod step;
 
-pub use error::StepError;
 pub use machine::{Debt, Job, Machine, Need, Next, Resting, State};
 pub use step::{Kind, Step};

@@ -4,7 +4,7 @@ use Rattle.std.proofs.lemmas.List.{take-append-drop}
 use Rattle.std.proofs.lemmas.List.Sums.{sum_by-cons}
 use Rattle.blink_batch.specs.declared.Op.{Op}
 use Rattle.blink_batch.specs.{is_insert}
-use Rattle.blink_index.specs.{IsBadFan}
+use Rattle.blink_page.specs.{IsBadFan}
 use Rattle.blink_store.specs.{PlainStore}
 use Rattle.blink_owners.specs.declared.raw.RawEntry.{RawEntry}
 use Rattle.blink_owners.specs.declared.refusal.Refusal.{Refusal}

@@ -4,8 +4,8 @@ use Rattle.std.specs.List.{count_by}
 use Rattle.blink_batch.specs.declared.Op.{Op}
 use Rattle.blink_batch.specs.declared.batch.TheConstants.{BATCH_LIMIT}
 use Rattle.blink_batch.specs.{answers, is_insert, map_after_all}
-use Rattle.blink_index.specs.{IsBadFan, map_of}
-use Rattle.blink_page.specs.{ExceedsPageLimit}
+use Rattle.blink_index.specs.{map_of}
+use Rattle.blink_page.specs.{ExceedsPageLimit, IsBadFan}
 use Rattle.blink_page.specs.declared.limits.TheConstants.{MAX_NEW_PAGES_PER_INSERT}
 use Rattle.blink_store.specs.{PlainStore}
 use Rattle.blink_steps.specs.{HasEnded, IsTooLarge, PlainWorld}

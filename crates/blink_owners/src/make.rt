@@ -2,7 +2,8 @@
 ghost use Rattle.std.specs.Prelude.{◌≡◌, ◌↔◌, ◌≤◌, [], IfOk, IfErr, IsErrOf, length, map};
 ghost use Rattle.blink_batch.specs.{map_after_all};
 ghost use Rattle.blink_batch.specs.declared.batch.TheConstants.{BATCH_LIMIT};
-ghost use Rattle.blink_index.specs.{IsBadFan, IsInOrder, IsSortedRefusal, NeedsPages, map_of};
+ghost use Rattle.blink_index.specs.{IsInOrder, IsSortedRefusal, NeedsPages, map_of};
+ghost use Rattle.blink_page.specs.{IsBadFan};
 ghost use Rattle.blink_store.specs.{new_store};
 ghost use Rattle.blink_owners.specs.Codes.{IsNewFault};
 ghost use Rattle.blink_owners.specs.Raw.{insertion_of};

@@ -15,7 +15,7 @@ pub use Rattle.blink_page.specs.Post.{OnAlready, UnlessAlready}
 -- the split of a full page with one more entry
 pub use Rattle.blink_page.specs.Split.{kept_count, lower_half, separator_of, upper_half}
 -- the bounds of a page's number of entries, and of page numbers
-pub use Rattle.blink_page.specs.Limits.{ExceedsPageLimit, IsFan, IsPageNumber}
+pub use Rattle.blink_page.specs.Limits.{ExceedsPageLimit, IsBadFan, IsFan, IsPageNumber}
 -- laws of postings, for any page
 pub use Rattle.blink_page.specs.Laws.{PostingsCommute}
 -- the end of a search within a page

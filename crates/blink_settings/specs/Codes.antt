@@ -1,7 +1,6 @@
 -- The code of each refusal.
 use Rattle.std.specs.Prelude.{ℕ}
-use Rattle.blink_batch.specs.{code_of_script_error}
-use Rattle.blink_machine.specs.Codes as step
+use Rattle.blink_batch.specs.{code_of_script_error, code_of_step_error}
 use Rattle.blink_settings.specs.declared.error.ServeError.{ServeError}
 use Rattle.blink_settings.specs.declared.error.ServeError.TheVariants as serve
 use Rattle.blink_settings.specs.declared.error.RunError.{RunError}
@@ -22,6 +21,6 @@ code_of_settings_error BadFan = 40
 abbrev pub code_of_serve_error : ServeError → ℕ
 code_of_serve_error (serve.Script error) = code_of_script_error error
 code_of_serve_error (serve.Run number error) = code_of error
-code_of_serve_error (serve.Step error) = step.code_of error
+code_of_serve_error (serve.Step error) = code_of_step_error error
 code_of_serve_error serve.Output = 70
 code_of_serve_error serve.OutOfMemory = 71

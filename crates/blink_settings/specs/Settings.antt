@@ -3,7 +3,7 @@ use Rattle.std.specs.Prelude.{ℕ, ◌-◌, ◌*◌, ◌/◌, ◌%◌, ◌^◌, 
 use Rattle.std.specs.List.{range_with_len}
 use Rattle.blink_batch.specs.declared.Op.{Op}
 use Rattle.blink_batch.specs.{MayWork, key_of, lanes_by_ranges}
-use Rattle.blink_index.specs.{IsBadFan}
+use Rattle.blink_page.specs.{IsBadFan}
 use Rattle.blink_settings.specs.declared.settings.Driver.{Driver}
 use Rattle.blink_settings.specs.declared.settings.CutKind.{CutKind}
 use Rattle.blink_settings.specs.declared.settings.CutKind.TheVariants.{Residue, Ranges}

@@ -2,8 +2,7 @@
 ghost use Rattle.std.specs.Prelude.{◌≡◌};
 ghost use Rattle.blink_settings.specs.Codes.{code_of, code_of_serve_error};
 
-use blink_batch::ScriptError;
-use blink_machine::StepError;
+use blink_batch::{ScriptError, StepError};
 use std::alloc::AllocError;
 use thiserror::Error;
 

@@ -1,7 +1,7 @@
 //! The settings that a script is run by.
 ghost use Rattle.std.specs.Prelude.{◌≡◌, ◌+◌, ◌<◌, ◌↔◌, IfOk, IfErr, IsOkUnless, IsErrOf, IsOk, length};
 ghost use Rattle.blink_batch.specs.{IsLawfulCut, MayWork, lanes_by_ranges};
-ghost use Rattle.blink_index.specs.{IsBadFan};
+ghost use Rattle.blink_page.specs.{IsBadFan};
 ghost use Rattle.blink_settings.specs.Codes.{code_of_settings_error};
 ghost use Rattle.blink_settings.specs.Settings.{IsAllowed, even_bounds, lanes_by, lanes_by_residue};
 

@@ -2,7 +2,7 @@
 use Rattle.std.specs.Prelude.{◌≡◌, ℕ, Option, Some, None, List, slice_get, slice_set, Result, IfOk, OnErr}
 use Rattle.blink_batch.specs.declared.Answer.{Answer}
 use Rattle.blink_steps.specs.Acts.{PlainShared, Acts, CanAct}
-use Rattle.blink_machine.specs.declared.error.StepError.{StepError}
+use Rattle.blink_batch.specs.declared.step_error.StepError.{StepError}
 use Rattle.blink_machine.specs.declared.step.Step.{Step}
 use Rattle.blink_steps.specs.declared.seat.WorkerState.{WorkerState}
 use Rattle.blink_steps.specs.declared.seat.Working.{Working}

@@ -6,8 +6,8 @@ use Rattle.blink_page.specs.declared.limits.TheConstants.{MAX_PAGE}
 use Rattle.blink_page.specs.{ExceedsPageLimit}
 use Rattle.blink_rest.specs.{IsStoreAtRest}
 use Rattle.blink_store.specs.{holder_of, PlainStore, IsLawfulStore, page_of}
-use Rattle.blink_machine.specs.declared.error.StepError.{StepError}
-use Rattle.blink_machine.specs.declared.error.StepError.TheVariants.{OutOfMemory, NoWorker, TooLarge}
+use Rattle.blink_batch.specs.declared.step_error.StepError.{StepError}
+use Rattle.blink_batch.specs.declared.step_error.StepError.TheVariants.{OutOfMemory, NoWorker, TooLarge}
 use Rattle.blink_machine.specs.declared.step.Step.{Step}
 use Rattle.blink_machine.specs.declared.step.Step.TheVariants.{Moved}
 use Rattle.blink_page.specs.declared.limits.TheConstants.{MAX_NEW_PAGES_PER_INSERT}

@@ -10,8 +10,9 @@ mod seat;
 mod shared;
 mod world;
 
+pub use blink_batch::StepError;
 pub use blink_machine::laws::step_keeps;
-pub use blink_machine::{Debt, Job, Kind, Machine, Need, Next, State, Step, StepError};
+pub use blink_machine::{Debt, Job, Kind, Machine, Need, Next, State, Step};
 pub use blink_page::MAX_NEW_PAGES_PER_INSERT;
 pub use seat::Working;
 pub use world::{World, replay};

@@ -6,8 +6,8 @@ ghost use Rattle.blink_steps.specs.Run.{busy_seat, idle_seat};
 ghost use Rattle.blink_steps.specs.Seats.{left_in_seat, answer_in_seat, IsAbleInSeat, ActsInSeat};
 
 use crate::shared::Shared;
-use blink_batch::{Answer, Op};
-use blink_machine::{Machine, Step, StepError};
+use blink_batch::{Answer, Op, StepError};
+use blink_machine::{Machine, Step};
 
 /// An operation under way, and its place in the batch.
 #[derive(Debug, Drop)]

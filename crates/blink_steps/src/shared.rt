@@ -7,7 +7,8 @@ ghost use Rattle.blink_store.specs.declared.latches.TheConstants.{WORKERS};
 ghost use Rattle.blink_steps.specs.Acts.{Acts, CanAct, MayRead, MayReplace};
 ghost use Rattle.blink_machine.specs.{NeedsLatch, NeedsNew, NeedsPage, NeedsPrime, NeedsPrimeWrite, NeedsUnlatch, NeedsWrite, page_out};
 
-use blink_machine::{Kind, Machine, Need, Step, StepError};
+use blink_batch::StepError;
+use blink_machine::{Kind, Machine, Need, Step};
 use blink_store::{Latches, Store};
 use std::marker::Model;
 

@@ -11,8 +11,8 @@ ghost use Rattle.blink_steps.specs.World.{FollowsSchedule, GoesOnBy, HasEnded, I
 
 use crate::run::Run;
 use crate::seat::Working;
-use blink_batch::{Answer, Batch, Lanes};
-use blink_machine::{Step, StepError};
+use blink_batch::{Answer, Batch, Lanes, StepError};
+use blink_machine::Step;
 use blink_page::exceeds_page_limit;
 use blink_rest::Rest;
 use blink_store::{Latches, Store};

@@ -16,9 +16,8 @@ use Rattle.blink_store.specs.{IsLawfulStore, IsLeafOf, PlainStore, WritesPage}
 use Rattle.blink_machine.specs.{IsUpdate}
 use Rattle.blink_machine.specs.Table.{IsChange}
 use Rattle.blink_index.specs.Edit.{IsEdited, SplitsLeaf}
-use Rattle.blink_index.specs.Index.{map_of}
-use Rattle.blink_index.proofs.MapOfStore.{the_map_is_kept}
-use Rattle.blink_index.proofs.WayDown.{leaf_pointer}
+use Rattle.blink_entries.specs.Index.{map_of}
+use Rattle.blink_entries.proofs.Offered.{leaf_pointer, the_map_is_kept}
 use Rattle.blink_index.proofs.alone.LeafChanges.{about_to_change, leaf_change_answers, leaf_change_maps, leaf_change_rests}
 
 module _ (old new : PlainStore) (lawful : IsLawfulStore old) (at_rest : IsStoreAtRest old) (number key : ℕ) (leaf_of : IsLeafOf old number key) (in_range : key ≤ GREATEST_KEY) where

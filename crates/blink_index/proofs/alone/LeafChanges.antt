@@ -14,8 +14,8 @@ use Rattle.blink_machine.specs.Table.{IsChange}
 use Rattle.blink_machine.specs.Placed.{IsPlaced}
 use Rattle.blink_machine.specs.Tree.{BeginsBelow}
 use Rattle.blink_machine.proofs.Offered.{stands_so, step_law}
-use Rattle.blink_index.specs.Index.{map_of}
-use Rattle.blink_index.proofs.MapOfStore.{no_other_map_is_kept, the_map_is_kept}
+use Rattle.blink_entries.specs.Index.{map_of}
+use Rattle.blink_entries.proofs.Offered.{no_other_map_is_kept, the_map_is_kept}
 use Rattle.blink_index.proofs.alone.AloneInTree.{alone, begins_alone, holds_its, latch_gone, no_operation, only_it_holds, only_it_works, rests_at_end, worker_now}
 
 -- an operation that has read the leaf under its latch, and writes it next

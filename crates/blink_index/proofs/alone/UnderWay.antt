@@ -23,8 +23,8 @@ use Rattle.blink_machine.proofs.Offered.{goes_on_if_needed, has_answer_at_end, n
 use Rattle.blink_machine.proofs.tree_state.InvariantStatements.{IsWaiting}
 use Rattle.blink_index.specs.Drive.{ActsOn, CanActOn}
 use Rattle.blink_index.specs.Edit.{IsEdited}
-use Rattle.blink_index.specs.Index.{map_of}
-use Rattle.blink_index.proofs.MapOfStore.{no_other_map_is_kept, the_map_is_kept}
+use Rattle.blink_entries.specs.Index.{map_of}
+use Rattle.blink_entries.proofs.Offered.{no_other_map_is_kept, the_map_is_kept}
 use Rattle.blink_index.proofs.alone.ActsAreSteps.{MovesAlone, acts_alone}
 use Rattle.blink_index.proofs.alone.AloneInTree.{alone, begins_alone, no_operation, only_it_works, rests_at_end}
 use Rattle.blink_index.proofs.alone.StepsLeft.{steps_left, steps_left_fall}

@@ -6,7 +6,7 @@ ghost use Rattle.blink_page.specs.{ExceedsPageLimit};
 ghost use Rattle.blink_page.specs.declared.limits.TheConstants.{MAX_NEW_PAGES_PER_INSERT};
 ghost use Rattle.blink_rest.specs.{IsMapOf};
 ghost use Rattle.blink_index.specs.Edit.{HasPagesFor, IsEditRefusal, SplitsLeaf, StopsEdits};
-ghost use Rattle.blink_index.specs.Index.{map_of};
+ghost use Rattle.blink_entries.specs.Index.{map_of};
 
 use super::Index;
 use crate::edit::{put, split, swap, take};

@@ -1,12 +1,12 @@
 //! Packing an index into as few pages as its entries need.
 ghost use Rattle.std.specs.Prelude.{◌≡◌, ◌≤◌, length, IfOk, IsOkUnless, OnErr, OnOk};
 ghost use Rattle.blink_rest.specs.{IsMapOf};
-ghost use Rattle.blink_index.specs.Index.{map_of};
-ghost use Rattle.blink_index.specs.Packed.{IsInOrder, NeedsPages};
+ghost use Rattle.blink_entries.specs.Index.{map_of};
+ghost use Rattle.blink_entries.specs.Packed.{IsInOrder, NeedsPages};
 
 use super::Index;
 use crate::error::EditError;
-use crate::pack::{add_entry, first_leaf, pages_needed, tree_over};
+use blink_entries::{add_entry, first_leaf, pages_needed, tree_over};
 use blink_rest::Rest;
 use std::alloc::{AllocError, Global};
 

@@ -1,10 +1,10 @@
 //! The first and the last entry of an index, and the next above a key.
 ghost use Rattle.std.specs.Prelude.{◌≡◌, filter};
 ghost use Rattle.blink_index.specs.Ends.{first_of, is_above, last_of};
-ghost use Rattle.blink_index.specs.Index.{map_of};
+ghost use Rattle.blink_entries.specs.Index.{map_of};
 
 use super::Index;
-use crate::down::leaf_for;
+use blink_entries::leaf_for;
 use blink_operation::Entry;
 
 impl Index {

@@ -5,13 +5,13 @@ ghost use Rattle.blink_page.specs.{IsFan};
 ghost use Rattle.blink_page.specs.Rising.{Rises};
 ghost use Rattle.blink_page.specs.declared.limits.TheConstants.{MAX_PAGE};
 ghost use Rattle.blink_rest.specs.{IsMapOf, pairs_of};
-ghost use Rattle.blink_index.specs.Index.{map_of};
-ghost use Rattle.blink_index.specs.Packed.{IsInOrder, NeedsPages};
+ghost use Rattle.blink_entries.specs.Index.{map_of};
+ghost use Rattle.blink_entries.specs.Packed.{IsInOrder, NeedsPages};
 ghost use Rattle.blink_index.specs.Sorted.{CanBePacked, IsFirstUnsorted, IsSortedRefusal};
 
 use super::Index;
 use crate::error::SortedError;
-use crate::pack::{add_entry, first_leaf, pages_needed, tree_over};
+use blink_entries::{add_entry, first_leaf, pages_needed, tree_over};
 use blink_operation::Entry;
 use blink_page::{MAX_FAN, MAX_PAGE, MIN_FAN};
 use blink_rest::Rest;

@@ -9,8 +9,8 @@ use Rattle.blink_batch.specs.declared.Entry.{Entry}
 use Rattle.blink_batch.specs.declared.Op.{Op}
 use Rattle.blink_batch.specs.{Assignment, operations_at}
 use Rattle.blink_store.specs.{PlainStore}
-use Rattle.blink_machine.specs.declared.error.StepError.{StepError}
-use Rattle.blink_machine.specs.declared.error.StepError.TheVariants.{OutOfMemory, NoWorker, TooLarge}
+use Rattle.blink_batch.specs.declared.step_error.StepError.{StepError}
+use Rattle.blink_batch.specs.declared.step_error.StepError.TheVariants.{OutOfMemory, NoWorker, TooLarge}
 use Rattle.blink_machine.specs.declared.step.Step.{Step}
 use Rattle.blink_steps.specs.Counts.{page_reads_in, moves_in}
 use Rattle.blink_machine.specs.{PlainMachine, IsMapOf}

@@ -5,7 +5,8 @@ use Rattle.blink_store.specs.{PlainStore}
 use Rattle.blink_store.proofs.Offered.{page_at_place}
 use Rattle.blink_machine.specs.declared.machine.Need.{Need}
 use Rattle.blink_machine.specs.{PlainMachine, SeesPage, SeesPrime, WaitsForLevel}
-use Rattle.blink_index.specs.Drive.{ActsOn, CanActOn, store_of}
+use Rattle.blink_index.specs.Drive.{ActsOn, CanActOn}
+use Rattle.blink_entries.specs.Index.{store_of}
 use Rattle.blink_index.proofs.drive.act.Goals as goal
 
 -- an operation that doesn't wait sees the prime block

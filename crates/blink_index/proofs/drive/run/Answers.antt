@@ -2,7 +2,8 @@ use Rattle.std.proofs.Common.{◌≢◌, ℕ, false, refl, sym, subst, ◌∙◌
 use Rattle.std.specs.Bool.{IsTrue}
 use Rattle.blink_machine.specs.declared.machine.State.TheVariants.{Ended}
 use Rattle.blink_machine.specs.{PlainMachine, need_at}
-use Rattle.blink_index.specs.Drive.{ActsOn, CanActOn, store_of}
+use Rattle.blink_index.specs.Drive.{ActsOn, CanActOn}
+use Rattle.blink_entries.specs.Index.{store_of}
 use Rattle.blink_index.proofs.alone.UnderWay.{can_begin, can_go_on, edited_at_end, fewer_left, own_fan, room_left, under_way_at_first, under_way_still}
 use Rattle.blink_index.proofs.drive.run.Goals as goal
 

@@ -1,6 +1,6 @@
 use Rattle.std.proofs.Common.{◌≡◌, vec_capacity}
 use Rattle.blink_store.specs.{page_of}
-use Rattle.blink_index.specs.Drive.{store_of}
+use Rattle.blink_entries.specs.Index.{store_of}
 use Rattle.blink_index.proofs.alone.StepsLeft.{steps_left}
 use Rattle.blink_index.proofs.alone.UnderWay.{IsUnderWay}
 use Rattle.blink_index.proofs.drive.run.Given as goal

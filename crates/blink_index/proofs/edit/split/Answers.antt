@@ -5,10 +5,10 @@ use Rattle.blink_page.specs.{PlainPage}
 use Rattle.blink_page.specs.declared.limits.TheConstants.{GREATEST_KEY}
 use Rattle.blink_rest.specs.{IsStoreAtRest}
 use Rattle.blink_store.specs.{PlainStore}
-use Rattle.blink_index.specs.Drive.{store_of}
+use Rattle.blink_entries.specs.Index.{store_of}
 use Rattle.blink_index.specs.Edit.{IsEdited}
-use Rattle.blink_index.specs.Index.{map_of}
-use Rattle.blink_index.proofs.MapOfStore.{the_map_is_kept}
+use Rattle.blink_entries.specs.Index.{map_of}
+use Rattle.blink_entries.proofs.Offered.{the_map_is_kept}
 use Rattle.blink_index.proofs.alone.EditsOfLeaves.{absent_if_split}
 use Rattle.blink_index.proofs.edit.split.Goals as goal
 

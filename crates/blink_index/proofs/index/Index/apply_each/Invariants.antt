@@ -2,7 +2,7 @@ use Rattle.std.proofs.Common.{◌≡◌, ◌≤◌, length, take, vec_capacity}
 use Rattle.blink_operation.specs.{answers, map_after_all}
 use Rattle.blink_rest.specs.{IsMapOf}
 use Rattle.blink_index.specs.Edit.{HasPagesFor}
-use Rattle.blink_index.specs.Index.{map_of}
+use Rattle.blink_entries.specs.Index.{map_of}
 use Rattle.blink_index.proofs.index.Index.apply_each.Given as goal
 
 -- the operations so far are carried out and answered, and there is room for all answers

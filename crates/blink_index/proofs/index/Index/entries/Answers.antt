@@ -3,8 +3,8 @@ use Rattle.std.proofs.lemmas.Iterator.{items_from_collect}
 use Rattle.std.proofs.lemmas.Iterator.Consumers.{YieldsList-from_first}
 use Rattle.std.proofs.lemmas.Result.{IfOk-weaker}
 use Rattle.blink_rest.specs.{IsMapOf}
-use Rattle.blink_index.specs.Index.{map_of}
-use Rattle.blink_index.proofs.WhereLinksLead.{scan_of_all}
+use Rattle.blink_entries.specs.Index.{map_of}
+use Rattle.blink_entries.proofs.Offered.{scan_of_all}
 use Rattle.blink_index.proofs.index.Index.entries.Goals as goal
 
 pub returns-clause-map : goal.returns-clause-map

@@ -1,8 +1,7 @@
 use Rattle.std.proofs.Common.{ap, ◌∙◌, length, arith}
 use Rattle.blink_store.specs.{PlainStore}
-use Rattle.blink_index.specs.Index.{map_of}
-use Rattle.blink_index.proofs.WhereLinksLead.{scan_of_all}
-use Rattle.blink_index.proofs.packed.EntriesOfScan.{counted}
+use Rattle.blink_entries.specs.Index.{map_of}
+use Rattle.blink_entries.proofs.Offered.{counted, scan_of_all}
 use Rattle.blink_index.proofs.index.Index.entry_count.Goals as goal
 
 pub entries-init : goal.entries-init

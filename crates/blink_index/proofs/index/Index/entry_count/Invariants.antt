@@ -1,5 +1,5 @@
 use Rattle.std.proofs.Common.{◌≡◌, ◌+◌, length}
-use Rattle.blink_index.specs.Index.{map_of}
+use Rattle.blink_entries.specs.Index.{map_of}
 use Rattle.blink_index.proofs.index.Index.entry_count.Given as goal
 
 -- the entries that are counted, and those to come

@@ -1,8 +1,8 @@
 use Rattle.std.proofs.Common.{◌≡◌, ◌∙◌, ap}
 use Rattle.blink_index.specs.Ends.{first_of}
-use Rattle.blink_index.specs.Index.{map_of}
+use Rattle.blink_entries.specs.Index.{map_of}
 use Rattle.blink_index.proofs.EndsOfMaps.{first_yielded}
-use Rattle.blink_index.proofs.WhereLinksLead.{scan_of_all}
+use Rattle.blink_entries.proofs.Offered.{scan_of_all}
 use Rattle.blink_index.proofs.index.Index.first.Goals as goal
 
 pub returns : goal.returns

@@ -1,15 +1,12 @@
 use Rattle.std.proofs.Common.{◌≡◌, ◌≤◌, ℕ, List, inl, inr, length, sym, subst, arith}
 use Rattle.blink_operation.specs.declared.Entry.{Entry}
+use Rattle.blink_page.specs.{IsBadFan}
 use Rattle.blink_page.specs.declared.limits.TheConstants.{MAX_FAN, MAX_PAGE, MIN_FAN}
 use Rattle.blink_rest.specs.{IsMapOf, pairs_of}
 use Rattle.blink_store.specs.{PlainStore}
-use Rattle.blink_index.specs.Codes.{IsBadFan}
-use Rattle.blink_index.specs.Index.{map_of}
-use Rattle.blink_index.specs.Packed.{ExceedsNumbers, IsInOrder, NeedsPages}
-use Rattle.blink_index.proofs.MapOfStore.{the_map_is_kept}
-use Rattle.blink_index.proofs.packed.FewestPages.{same_needs}
-use Rattle.blink_index.proofs.packed.NoTreeHasFewer.{no_tree_has_fewer}
-use Rattle.blink_index.proofs.packed.SortedEntries.{length-pairs_of}
+use Rattle.blink_entries.specs.Index.{map_of}
+use Rattle.blink_entries.specs.Packed.{ExceedsNumbers, IsInOrder, NeedsPages}
+use Rattle.blink_entries.proofs.Offered.{length-pairs_of, no_tree_has_fewer, same_needs, the_map_is_kept}
 use Rattle.blink_index.proofs.index.Index.from_sorted.Goals as goal
 
 -- a fan between the bounds is none that is bad

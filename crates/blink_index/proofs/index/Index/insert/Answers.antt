@@ -2,7 +2,7 @@ use Rattle.std.proofs.Common.{◌≡◌, ◌∙◌, ap}
 use Rattle.blink_operation.specs.declared.Op.TheVariants.{Insert}
 use Rattle.blink_operation.specs.{answer_of, map_after}
 use Rattle.blink_store.specs.{PlainStore}
-use Rattle.blink_index.specs.Index.{map_of}
+use Rattle.blink_entries.specs.Index.{map_of}
 use Rattle.blink_index.proofs.index.Index.insert.Goals.{in-Ok, in-Err}
 use Rattle.blink_index.proofs.index.Index.insert.Goals as goal
 

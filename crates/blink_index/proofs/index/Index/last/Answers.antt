@@ -5,7 +5,7 @@ use Rattle.blink_page.specs.{IsLawfulPage, PlainPage, least_above}
 use Rattle.blink_rest.specs.{IsStoreAtRest}
 use Rattle.blink_store.specs.{PlainStore}
 use Rattle.blink_index.specs.Ends.{last_of}
-use Rattle.blink_index.specs.Index.{map_of}
+use Rattle.blink_entries.specs.Index.{map_of}
 use Rattle.blink_index.proofs.LastLeaves.{absent_beyond, empty_if_no_last, is_last, no_last, none_from_floor}
 use Rattle.blink_index.proofs.index.Index.last.Goals as goal
 

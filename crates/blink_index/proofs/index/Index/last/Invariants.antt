@@ -1,6 +1,6 @@
 use Rattle.std.proofs.Common.{◌≡◌, ℕ, ◌<◌, None}
 use Rattle.blink_operation.specs.{pointer_of}
-use Rattle.blink_index.specs.Index.{map_of}
+use Rattle.blink_entries.specs.Index.{map_of}
 use Rattle.blink_index.proofs.index.Index.last.Given as goal
 
 -- no key is above those that are left

@@ -1,7 +1,7 @@
 use Rattle.std.proofs.Common.{ℕ, sym, ap, ◌∙◌}
 use Rattle.std.specs.Prelude.{filter}
 use Rattle.blink_index.specs.Ends.{first_of, is_above}
-use Rattle.blink_index.specs.Index.{map_of}
+use Rattle.blink_entries.specs.Index.{map_of}
 use Rattle.blink_index.proofs.EndsOfMaps.{none_above_greatest}
 use Rattle.blink_index.proofs.index.Index.next.Goals as goal
 

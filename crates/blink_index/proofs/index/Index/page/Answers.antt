@@ -1,9 +1,7 @@
 use Rattle.std.proofs.Common.{List, take, ap, ◌∙◌, subst, sym}
 use Rattle.blink_operation.specs.declared.Entry.{Entry}
 use Rattle.blink_rest.specs.{IsStoreAtRest}
-use Rattle.blink_index.proofs.MapOfStore.{the_map_is_kept}
-use Rattle.blink_index.proofs.StretchOfScan.{brings_in_order}
-use Rattle.blink_index.proofs.WhereLinksLead.{scan_of_rest}
+use Rattle.blink_entries.proofs.Offered.{brings_in_order, scan_of_rest, the_map_is_kept}
 use Rattle.blink_index.proofs.index.Index.page.Goals as goal
 
 pub new-requires : goal.new-requires

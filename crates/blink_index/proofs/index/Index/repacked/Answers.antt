@@ -6,13 +6,10 @@ use Rattle.blink_operation.specs.declared.Entry.{Entry}
 use Rattle.blink_page.specs.declared.limits.TheConstants.{MAX_PAGE}
 use Rattle.blink_rest.specs.{IsMapOf, IsStoreAtRest, entries_from}
 use Rattle.blink_store.specs.{PlainStore}
-use Rattle.blink_index.specs.Index.{map_of}
-use Rattle.blink_index.specs.Packed.{IsInOrder, NeedsPages}
-use Rattle.blink_index.specs.Packing.{AreEnough, AreLeaves, entries_in}
-use Rattle.blink_index.proofs.MapOfStore.{the_map_is_kept}
-use Rattle.blink_index.proofs.WhereLinksLead.{scan_of_all}
-use Rattle.blink_index.proofs.packed.EntriesOfScan.{all_given, fewer_so_far, length-entries_from, needs_no_more, next_above, parts_more}
-use Rattle.blink_index.proofs.packed.NumbersSuffice.{no_more_pages, number_for_entry, numbers_above}
+use Rattle.blink_entries.specs.Index.{map_of}
+use Rattle.blink_entries.specs.Packed.{IsInOrder, NeedsPages}
+use Rattle.blink_entries.specs.Packing.{AreEnough, AreLeaves, entries_in}
+use Rattle.blink_entries.proofs.Offered.{all_given, fewer_so_far, length-entries_from, needs_no_more, next_above, no_more_pages, number_for_entry, numbers_above, parts_more, scan_of_all, the_map_is_kept}
 use Rattle.blink_index.proofs.index.Index.repacked.Goals as goal
 
 pub entries-init : goal.entries-init

@@ -1,4 +1,4 @@
-use Rattle.blink_index.proofs.MapOfStore.{the_map_is_kept}
+use Rattle.blink_entries.proofs.Offered.{the_map_is_kept}
 use Rattle.blink_index.proofs.index.Index.rest.Goals as goal
 
 -- the tree is at rest, so it has its plain map

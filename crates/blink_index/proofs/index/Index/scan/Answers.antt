@@ -1,7 +1,6 @@
 use Rattle.std.proofs.Common.{subst, sym}
 use Rattle.blink_rest.specs.{IsStoreAtRest}
-use Rattle.blink_index.proofs.MapOfStore.{the_map_is_kept}
-use Rattle.blink_index.proofs.StretchOfScan.{brings_in_order}
+use Rattle.blink_entries.proofs.Offered.{brings_in_order, the_map_is_kept}
 use Rattle.blink_index.proofs.index.Index.scan.Goals as goal
 
 pub new-requires : goal.new-requires

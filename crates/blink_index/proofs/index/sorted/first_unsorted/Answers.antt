@@ -1,7 +1,7 @@
 use Rattle.std.proofs.Common.{◌-◌, get_or, take, arith}
 use Rattle.std.proofs.lemmas.Option.{slice_get-get_or}
 use Rattle.blink_operation.specs.{entry}
-use Rattle.blink_index.proofs.packed.SortedEntries.{all_rise, ascending_of, rising_first, rising_next}
+use Rattle.blink_entries.proofs.Offered.{all_rise, ascending_of, rising_first, rising_next}
 use Rattle.blink_index.proofs.index.sorted.first_unsorted.Goals as goal
 
 pub loop-place-init : goal.loop-place-init

@@ -3,7 +3,7 @@ use Rattle.std.proofs.lemmas.Result.{err_from_is_err_and}
 use Rattle.std.specs.List.{slice_get}
 use Rattle.blink_batch.specs.declared.Answer.{Answer}
 use Rattle.blink_steps.proofs.runs.TurnFromItsParts.{decides_now-before, seat_found, seat_with, seats-same, working_kept, IsLinked-with_seat, turn_moves, turn_waits}
-use Rattle.blink_machine.specs.declared.error.StepError.{StepError}
+use Rattle.blink_batch.specs.declared.step_error.StepError.{StepError}
 use Rattle.blink_steps.specs.declared.seat.WorkerState.{WorkerState}
 use Rattle.blink_machine.specs.declared.step.Step.{Step}
 use Rattle.blink_steps.specs.Acts.{Acts}

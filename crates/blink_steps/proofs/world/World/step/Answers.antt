@@ -1,6 +1,6 @@
 use Rattle.std.proofs.Common.{◌≡◌, ◌↔◌, ◌<◌, ◌≤◌, ◌++◌, ℕ, List, [], ◌∷◌, Result, Ok, Err, refl, ap, subst, ◌∙◌, arith}
-use Rattle.blink_machine.specs.declared.error.StepError.{StepError}
-use Rattle.blink_machine.specs.declared.error.StepError.TheVariants.{OutOfMemory, NoWorker}
+use Rattle.blink_batch.specs.declared.step_error.StepError.{StepError}
+use Rattle.blink_batch.specs.declared.step_error.StepError.TheVariants.{OutOfMemory, NoWorker}
 use Rattle.blink_machine.specs.declared.step.Step.{Step}
 use Rattle.blink_steps.specs.World.{PlainWorld, TakesStep}
 use Rattle.blink_steps.proofs.worlds.WorldsGoOn.{would_move_moves, would_wait_waits}

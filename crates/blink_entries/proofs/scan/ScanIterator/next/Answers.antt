@@ -1,0 +1,23 @@
+use Rattle.std.proofs.Common.{arith, rules, ◌≡◌, ◌++◌, ◌∷◌, ℕ, List, Option, Some, sym, ap, ◌∙◌}
+use Rattle.std.proofs.lemmas.Grind.{common_steps}
+use Rattle.blink_operation.specs.declared.Entry.{Entry}
+use Rattle.blink_operation.specs.{entry}
+use Rattle.blink_entries.specs.Scan.{at_most, entries_after, entries_to, one_fewer}
+use Rattle.blink_entries.proofs.StretchOfScan.{one_brought}
+use Rattle.blink_entries.proofs.scan.ScanIterator.next.Goals as goal
+use Rattle.blink_entries.proofs.scan.ScanIterator.next.Goals.{then-is_empty+in_ok-leaf, else-is_empty}
+
+-- an entry is brought, and one fewer may come after it
+pub returns-clause-steps : goal.returns-clause-steps
+returns-clause-steps c =
+    let old = c.self.inside in
+    let new = c.if-is_empty.self-inside in
+    let first : Entry = entry c.in_ok-key.field-0-0.now.0 c.in_ok-key.field-0-0.now.1 in
+    let rest : List Entry = entries_to new.hi (c.in_ok-key.rest.now ++ entries_after new.store.now new.link) in
+    let brought : entries_to old.hi (old.entries.now ++ entries_after old.store.now old.link) ≡ first ∷ rest = elim c.if-is_empty.branch [
+      | then-is_empty+in_ok-leaf w ↦ grind (arith, common_steps, w.self-inside-is, c.split_first.ensures, c.in_ok-key.was, c.in_ok-key.is)
+      | else-is_empty w ↦ grind (arith, common_steps, w.self-inside-is, c.split_first.ensures, c.in_ok-key.was, c.in_ok-key.is)
+    ] in
+    let fewer : c.one_fewer-self-inside.result ≡ one_fewer old.most = search rules in
+    let more : old.most ≡ Some 0 → ⊥ = search rules in
+    sym c.self.view_is ∙ ap (at_most old.most) brought ∙ one_brought old.most first rest more ∙ ap (λ (most : Option ℕ). first ∷ at_most most rest) (sym fewer)
