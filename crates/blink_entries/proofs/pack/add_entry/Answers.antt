@@ -3,7 +3,7 @@ use Rattle.std.specs.Prelude.{OnOk}
 use Rattle.blink_page.specs.{IsPageNumber, IsRising, PlainPage, least_above, with_entries}
 use Rattle.blink_page.specs.Entries.{last_key}
 use Rattle.blink_page.specs.declared.limits.TheConstants.{GREATEST_KEY}
-use Rattle.blink_entries.specs.Packing.{AreLeaves, entries_in, leaf_after}
+use Rattle.blink_entries.specs.Packing.{AreLeaves, HasLeafNumber, entries_in, leaf_after}
 use Rattle.blink_entries.proofs.packed.LeavesGrow.{closed, entries_by_entry, entries_by_leaf, grown_by_entry, grown_by_leaf, is_last_leaf, last_key_below, last_leaf_set, leaves_before, next_in_range, rises_in_last, some_leaf, with_entry}
 use Rattle.blink_entries.proofs.pack.add_entry.Goals as goal
 
@@ -24,6 +24,20 @@ last_is c = its_last c.args.fan c.len-count.result c.args.pages.now.items c.requ
 
 full_is : (c : goal.Else-len-from) → c.index_mut-last.result.now ≡ c.requires.leaves.last
 full_is c = its_last c.args.fan c.len-count.result c.args.pages.now.items c.requires.leaves (omega (arith, c.len-count.ensures)) c.index_mut-last.result.now c.index_mut-last.ensures.value
+
+pub append-requires-clause-leaf : goal.append-requires-clause-leaf
+append-requires-clause-leaf c = ap (λ (p : PlainPage). p.level) (last_is c) ∙ c.requires.leaves.is_leaf
+
+pub append-requires-clause-below_high : goal.append-requires-clause-below_high
+append-requires-clause-below_high c =
+    let range = c.ranges.key.fits in
+    subst (λ (high : ℕ). c.args.key ≤ high) (sym (ap (λ (p : PlainPage). p.high) (last_is c) ∙ c.requires.leaves.is_last)) (omega (arith, range))
+
+pub append-requires-clause-room : goal.append-requires-clause-room
+append-requires-clause-room c =
+    let long = ap (λ (p : PlainPage). length p.entries) c.last.view_is in
+    let room = c.if-len-from.true in let is = c.from.ensures in let count = c.len.ensures.value in let most = c.requires.fan.1 in
+    omega (arith, room, is, count, long, most)
 
 pub append-requires-clause-above : goal.append-requires-clause-above
 append-requires-clause-above c =
@@ -58,6 +72,29 @@ returns-then-len-from-clause-entries c =
 full_of : {fan count from : ℕ} {page last other : PlainPage} → page ≡ other → other ≡ last → from ≤ count → from ≡ fan → count ≡ length page.entries → length last.entries ≤ fan → length last.entries ≡ fan
 full_of same is full from count most = let long = ap (λ (p : PlainPage). length p.entries) (same ∙ is) in omega (arith, long, full, from, count, most)
 
+pub close-floor-requires-clause-leaf : goal.close-floor-requires-clause-leaf
+close-floor-requires-clause-leaf c = ap (λ (p : PlainPage). p.level) (full_is c) ∙ c.requires.leaves.is_leaf
+
+pub close-floor-requires-clause-some : goal.close-floor-requires-clause-some
+close-floor-requires-clause-some c =
+    let full = full_of c.last.view_is (full_is c) c.if-len-from.false c.from.ensures c.len.ensures.value c.requires.leaves.lawful.at_most_fan in
+    let least = c.requires.fan.0 in
+    subst (λ (p : PlainPage). 0 < length p.entries) (sym (full_is c)) (omega (arith, full, least))
+
+-- the place behind the last leaf has a number
+next_number : (fan count : ℕ) (pages : List PlainPage) (leaves : AreLeaves fan pages) → HasLeafNumber fan pages → count ≡ length pages → length leaves.last.entries ≡ fan → IsPageNumber (count + 1)
+next_number fan count pages leaves number is full =
+    let same = counted fan count pages leaves is in
+    let before = leaves_before fan pages leaves (count - 1) same in
+    let some = some_leaf fan pages leaves in
+    let most = next_in_range fan pages leaves full number in
+    (omega arith, omega (arith, before, same, some, is, most))
+
+pub close-floor-requires-clause-next : goal.close-floor-requires-clause-next
+close-floor-requires-clause-next c =
+    let full = full_of c.last.view_is (full_is c) c.if-len-from.false c.from.ensures c.len.ensures.value c.requires.leaves.lawful.at_most_fan in
+    next_number c.args.fan c.len-count.result c.args.pages.now.items c.requires.leaves c.requires.number (omega (arith, c.len-count.ensures)) full
+
 pub close-floor-requires-clause-not_last : goal.close-floor-requires-clause-not_last
 close-floor-requires-clause-not_last c =
     let full = full_of c.last.view_is (full_is c) c.if-len-from.false c.from.ensures c.len.ensures.value c.requires.leaves.lawful.at_most_fan in
@@ -84,7 +121,7 @@ module _ (c : goal.After-push) where
       omega (arith, before, count, some, c.len-count.ensures)
 
   number : IsPageNumber (c.len-count.result + 1)
-  number = let most = next_in_range c.args.fan pages c.requires.leaves full c.requires.number in (omega arith, omega (arith, most, is_next))
+  number = next_number c.args.fan c.len-count.result pages c.requires.leaves c.requires.number (omega (arith, c.len-count.ensures)) full
 
   with_leaf : set pages (c.len-count.result - 1) c.close-floor.new.leaf ++ c.leaf_after.result ∷ []
       ≡ (c.requires.leaves.before ++ closed c.args.fan pages c.requires.leaves c.args.key c.requires.above (c.len-count.result + 1) ∷ []) ++ leaf_after (last_key c.requires.leaves.last.entries) c.args.key c.args.pointer ∷ []
