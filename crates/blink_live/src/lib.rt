@@ -15,7 +15,6 @@ mod open;
 mod operations;
 mod place;
 mod read;
-mod recycle;
 mod retire;
 mod room;
 mod rule;

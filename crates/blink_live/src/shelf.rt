@@ -1,15 +1,13 @@
 //! Where a session keeps the rows of its stock, and how an operation writes such rows.
-ghost use Rattle.std.specs.Prelude.{◌≡◌, suc, IfNone, IfOk, IfSome};
+ghost use Rattle.std.specs.Prelude.{◌≡◌, suc, IfNone, IfSome};
 ghost use Rattle.blink_live.specs.Seats.{HasSameNumber, IsPassSeat};
-ghost use Rattle.blink_live.specs.Shelves.{HasSpaceFor, IsLent, IsSameBesideShelf, IsShelved, IsShelvedBut, KeepsSpace, KeepsSpaceButOne, free_in, stock_of};
-ghost use Rattle.blink_live.specs.Views.{no_stock};
+ghost use Rattle.blink_live.specs.Shelves.{HasSpaceFor, IsLent, IsSameBesideShelf, IsShelved, IsShelvedBut, KeepsSpace, KeepsSpaceButOne, free_in};
 ghost use Rattle.blink_live.specs.Words.{IsRowNumber};
 
 use crate::live::Live;
 use crate::room::Room;
 use crate::view::View;
 use atomic_table::Seat;
-use std::alloc::{AllocError, Global};
 
 /// The rows of a session's stock, and what it has seen of the places while some of them wait. The memory of each list is taken
 /// once.
@@ -25,21 +23,6 @@ pub struct Shelf {
     pub before: Vec<u64>,
     /// The number of places, from the first on, whose sessions are past.
     pub passed: u64,
-}
-
-impl Shelf {
-    /// An empty shelf with room for so many rows of each kind, and for the marks of so many places.
-    pub fn with_room(alloc: Global, rows: usize, places: usize) -> Result<Shelf, AllocError>
-        ensures { IfOk result (λ shelf. stock_of shelf ≡ no_stock) }
-    {
-        Ok(Shelf {
-            free: Vec::with_capacity(alloc, rows)?,
-            retired: Vec::with_capacity(alloc, rows)?,
-            waiting: Vec::with_capacity(alloc, rows)?,
-            before: Vec::with_capacity(alloc, places)?,
-            passed: 0,
-        })
-    }
 }
 
 impl Live {

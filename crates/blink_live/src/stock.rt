@@ -71,8 +71,8 @@ impl Live {
         self.table.shared.load::<Collect>(seat, 0);
     }
 
-    // The last row of the seat's span is a free one.
-    pub(crate) fn free_row(&self, seat: &mut Seat<u8, View>)
+    /// The last row of the seat's span is a free one.
+    pub fn free_row(&self, seat: &mut Seat<u8, View>)
         requires seat { IsPassSeat self.now seat.old.table_id seat.old.me }
         requires common { 1 ≤ self.now.places }
         requires some_row { seat.old.me.0.rows.next < seat.old.me.0.rows.stop }

@@ -20,6 +20,8 @@ ghost use Rattle.blink_map.specs.Sessions.{HasRoom, HasRoomInAll, IsAnswered, Is
 use crate::error::Full;
 use crate::map::{Map, Session};
 use crate::member::{Member, REST, next_mark};
+use crate::pool::{draw_pages, draw_rows};
+use crate::recycle::{free_rows, recycle};
 use atomic_table::Seat;
 use blink_batch::{Answer, Op};
 use blink_live::{Live, Room, Shelf, View};
@@ -251,7 +253,7 @@ impl Member {
             mark: _,
         } = self;
         if let Some(shelf) = shelf.as_mut() {
-            live.recycle(seat, shelf, least);
+            recycle(live, seat, shelf, least);
         }
     }
 
@@ -276,10 +278,10 @@ impl Member {
             mark: _,
         } = self;
         if let Some(shelf) = shelf.as_mut() {
-            live.free_rows(seat, rows, shelf);
+            free_rows(live, seat, rows, shelf);
         }
         let need = lacking_on(shelf, least).max(1).min(most);
-        if let Some(drawn) = live.draw_rows(seat, need, most) {
+        if let Some(drawn) = draw_rows(live, seat, need, most) {
             *rows = drawn;
         }
     }
@@ -299,7 +301,7 @@ impl Member {
             mark: _,
         } = self;
         if pages.len() < least {
-            if let Some(drawn) = live.draw_pages(seat, least, PAGE_CHUNK) {
+            if let Some(drawn) = draw_pages(live, seat, least, PAGE_CHUNK) {
                 *pages = drawn;
             }
         }

@@ -103,13 +103,26 @@ fn members(
 {
     let mut members = Vec::with_capacity(alloc, sessions as usize)?;
     for place in 0..u64::from(sessions) {
-        let shelf = Shelf::with_room(alloc, room_for(quota), sessions as usize)?;
+        let shelf = shelf_with_room(alloc, room_for(quota), sessions as usize)?;
         let member = admit::<Brand>(live, host, place, shelf);
         let Ok(()) = push(&mut members, member) else {
             return Err(AllocError);
         };
     }
     Ok(members)
+}
+
+// An empty shelf with room for so many rows of each kind, and for the marks of so many places.
+fn shelf_with_room(alloc: Global, rows: usize, places: usize) -> Result<Shelf, AllocError>
+    ensures { IfOk result (λ shelf. stock_of shelf ≡ no_stock) }
+{
+    Ok(Shelf {
+        free: Vec::with_capacity(alloc, rows)?,
+        retired: Vec::with_capacity(alloc, rows)?,
+        waiting: Vec::with_capacity(alloc, rows)?,
+        before: Vec::with_capacity(alloc, places)?,
+        passed: 0,
+    })
 }
 
 // How many rows of each kind a shelf has room for, whose session has so many at most.

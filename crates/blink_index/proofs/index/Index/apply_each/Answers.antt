@@ -5,7 +5,7 @@ use Rattle.blink_operation.specs.{answers, map_after_all}
 use Rattle.blink_store.specs.{PlainStore}
 use Rattle.blink_index.specs.Edit.{HasPagesFor, IsEditRefusal}
 use Rattle.blink_index.specs.Edit.StopsEdits.{for_next}
-use Rattle.blink_index.specs.Index.{map_of}
+use Rattle.blink_entries.specs.Index.{map_of}
 use Rattle.blink_index.proofs.OneOperationMore.{answers-one_more, map_after_all-one_more, one_more_page_for}
 use Rattle.blink_index.proofs.index.Index.apply_each.Goals as goal
 

@@ -1,5 +1,5 @@
 use Rattle.std.proofs.Common.{ℕ, List, length, refl, sym, ap}
-use Rattle.blink_live.proofs.live.Live.see_places.Goals as goal
+use Rattle.blink_map.proofs.recycle.see_places.Goals as goal
 
 pub loop-place-init : goal.loop-place-init
 loop-place-init c = record {

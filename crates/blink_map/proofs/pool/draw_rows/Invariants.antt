@@ -1,6 +1,6 @@
 use Rattle.std.proofs.Common.{◌≡◌}
 use Rattle.blink_live.specs.Seats.{HasSameNumber}
-use Rattle.blink_live.proofs.live.Live.draw_rows.Given as goal
+use Rattle.blink_map.proofs.pool.draw_rows.Given as goal
 
 -- nothing is drawn yet
 abbrev pub invariant-loop : goal.invariant-loop

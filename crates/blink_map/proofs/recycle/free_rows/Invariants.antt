@@ -1,7 +1,7 @@
 use Rattle.std.proofs.Common.{◌≡◌, ◌+◌, ◌≤◌, Some}
 use Rattle.blink_live.specs.Allowed.{length_of}
 use Rattle.blink_live.specs.Shelves.{HasOtherRows, IsShelved, rows_on}
-use Rattle.blink_live.proofs.live.Live.free_rows.Given as goal
+use Rattle.blink_map.proofs.recycle.free_rows.Given as goal
 
 abbrev pub invariant-loop : goal.invariant-loop
 invariant-loop l = record {

@@ -6,7 +6,7 @@ use Rattle.blink_live.specs.declared.view.Plan.{Plan}
 use Rattle.blink_live.specs.declared.view.Stock.{Stock}
 use Rattle.blink_live.specs.ComingBack.{frees_last}
 use Rattle.blink_live.specs.Views.{IsCommon, SeatState, no_aside, span}
-use Rattle.blink_live.proofs.live.Live.free_last.Goals as goal
+use Rattle.blink_map.proofs.recycle.free_last.Goals as goal
 
 pub returns-then-rows-clause-other_rows : goal.returns-then-rows-clause-other_rows
 returns-then-rows-clause-other_rows c = record { rows = c.args.seat.now.me.0.rows; stock = c.args.seat.now.me.0.stock; is = refl }

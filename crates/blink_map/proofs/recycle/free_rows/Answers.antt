@@ -1,5 +1,5 @@
 use Rattle.std.proofs.Common.{refl}
-use Rattle.blink_live.proofs.live.Live.free_rows.Goals as goal
+use Rattle.blink_map.proofs.recycle.free_rows.Goals as goal
 
 pub loop-init : goal.loop-init
 loop-init c = record {

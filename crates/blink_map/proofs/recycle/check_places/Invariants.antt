@@ -1,11 +1,10 @@
-use Rattle.std.proofs.Common.{◌≡◌, Some, length}
+use Rattle.std.proofs.Common.{◌≡◌, Some}
 use Rattle.blink_live.specs.Shelves.{HasOtherStock, IsShelved}
-use Rattle.blink_live.proofs.live.Live.see_places.Given as goal
+use Rattle.blink_map.proofs.recycle.check_places.Given as goal
 
-abbrev pub invariant-loop-place : goal.invariant-loop-place
-invariant-loop-place l = record {
+abbrev pub invariant-loop : goal.invariant-loop
+invariant-loop l = record {
   same : (l.seat.table_id ≡ l.initial.seat.table_id) × (l.seat.id ≡ l.initial.seat.id);
   restocked : HasOtherStock l.initial.seat.me l.seat.me;
   shelved : IsShelved (Some l.shelf) l.seat.me.0;
-  next : l.place ≡ length l.shelf.before.items;
 }
