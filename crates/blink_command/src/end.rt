@@ -52,20 +52,16 @@ impl fmt::Display for ProgramError {
 
     fn fmt<W: fmt::Write>(&self, f: &mut fmt::Formatter<W>) -> fmt::Result {
         match self {
-            ProgramError::Line(LineError::Usage(text)) => {
-                let lines = text.as_str().trim_end();
-                write!(f, "{lines}")
-            }
-            ProgramError::Line(LineError::OutOfMemory) | ProgramError::Memory => {
-                write!(f, "run: out of memory")
-            }
+            ProgramError::Line(LineError::Usage(text)) => f.write_str(text.as_str().trim_end()),
+            ProgramError::Line(LineError::OutOfMemory)
+            | ProgramError::Serve(ServeError::OutOfMemory)
+            | ProgramError::Memory => f.write_str("run: out of memory"),
             ProgramError::Serve(ServeError::Script(error)) => write!(f, "script: {error}"),
             ProgramError::Serve(ServeError::Run(number, error)) => {
                 write!(f, "run: batch {number}: {error}")
             }
             ProgramError::Serve(ServeError::Step(error)) => write!(f, "run: {error}"),
-            ProgramError::Serve(ServeError::Output) => write!(f, "output: write failed"),
-            ProgramError::Serve(ServeError::OutOfMemory) => write!(f, "run: out of memory"),
+            ProgramError::Serve(ServeError::Output) => f.write_str("output: write failed"),
         }
     }
 }

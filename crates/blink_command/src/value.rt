@@ -29,12 +29,10 @@ pub fn fan_of(text: &str) -> Option<u8>
 pub fn cut_of(text: &str) -> Option<CutKind>
     ensures { result ≡ cut_of text.now }
 {
-    if text == "residue" {
-        Some(CutKind::Residue)
-    } else if text == "ranges" {
-        Some(CutKind::Ranges)
-    } else {
-        None
+    match text {
+        "residue" => Some(CutKind::Residue),
+        "ranges" => Some(CutKind::Ranges),
+        _ => None,
     }
 }
 
@@ -42,12 +40,10 @@ pub fn cut_of(text: &str) -> Option<CutKind>
 pub fn driver_of(text: &str) -> Option<Driver>
     ensures { result ≡ driver_of text.now }
 {
-    if text == "locked" {
-        Some(Driver::Locked)
-    } else if text == "live" {
-        Some(Driver::Live)
-    } else {
-        None
+    match text {
+        "locked" => Some(Driver::Locked),
+        "live" => Some(Driver::Live),
+        _ => None,
     }
 }
 
