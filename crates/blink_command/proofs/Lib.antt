@@ -1,3 +1,4 @@
 pub mod Commands
 pub mod OneMissing
+pub mod OptionsAsked
 pub mod ScheduleFromParts
