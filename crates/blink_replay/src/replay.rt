@@ -218,8 +218,13 @@ impl Replay {
         ensures refused { IfErr result (IsReplayFault self.index batch) }
     {
         let mut world = first_world(self.alloc, self.index, batch, self.workers)?;
-        let answers = run_to_end(self.alloc, &mut world, schedule, &mut self.trace)?;
-        push_answers(&mut self.text, &answers)?;
+        tell_run(
+            self.alloc,
+            &mut world,
+            schedule,
+            &mut self.trace,
+            &mut self.text,
+        )?;
         the_map_is_kept();
         no_other_map_is_kept();
         self.index = Index::from_rest(world.into_rest());
@@ -268,6 +273,26 @@ fn first_world(alloc: Global, index: Index, batch: Batch, workers: u8) -> Result
 {
     let assignment = lanes_by_residue(alloc, &batch, workers)?;
     Ok(World::start(alloc, index.into_rest(), batch, assignment)?)
+}
+
+// Runs a batch to its end. Each scheduled turn adds a line to the trace, and each answer a line to the text.
+fn tell_run(
+    alloc: Global,
+    world: &mut World,
+    schedule: &[u8],
+    trace: &mut String,
+    text: &mut String,
+) -> Result<(), ServeError>
+    requires { All (λ worker. worker < world.old.run.assignment.workers) schedule.now }
+    ensures told { OnOk result ((given : _)
+        × TellsRun world.old schedule.now world.new
+        (string_bytes trace.old) (string_bytes trace.new) given
+        × (string_bytes text.new ≡ string_bytes text.old ++ text_of given)) }
+    ensures refused { IfErr result IsRefusedMemory }
+{
+    let answers = run_to_end(alloc, world, schedule, trace)?;
+    push_answers(text, &answers)?;
+    Ok(())
 }
 
 // Takes the turns of the schedule, and then picked turns to the end, and returns the answers. Each scheduled turn adds a line

@@ -1,5 +1,6 @@
 //! The trace of a schedule's turns.
-ghost use Rattle.std.specs.Prelude.{◌≡◌, ◌<◌, ◌++◌, All, Some, OnOk, IfErr, string_bytes};
+ghost use Rattle.std.specs.Prelude.{◌≡◌, ◌<◌, ◌++◌, All, Some, OnOk, IfErr, MatchOption, string_bytes};
+ghost use Rattle.std.specs.Fmt.{decimal};
 ghost use Rattle.blink_replay.specs.Replay.{IsRefusedMemory, TellsSteps};
 ghost use Rattle.blink_replay.specs.Trace.{turn_line, words_of_step};
 
@@ -17,16 +18,27 @@ impl fmt::Display for Words {
     ghost output = { λ words. Some (words_of_step words.0) };
 
     fn fmt<W: fmt::Write>(&self, f: &mut fmt::Formatter<W>) -> fmt::Result {
-        match self.0 {
-            Step::Moved(Kind::ReadPrime) => write!(f, "P"),
-            Step::Moved(Kind::WritePrime) => write!(f, "Q"),
-            Step::Moved(Kind::ReadPage(page)) => write!(f, "R{page}"),
-            Step::Moved(Kind::WritePage(page)) => write!(f, "W{page}"),
-            Step::Moved(Kind::Latch(page)) => write!(f, "L{page}"),
-            Step::Moved(Kind::Unlatch(page)) => write!(f, "U{page}"),
-            Step::Waited => write!(f, "wait"),
-            Step::Idle => write!(f, "idle"),
+        match word_of(self.0) {
+            (word, Some(page)) => write!(f, "{word}{page}"),
+            (word, None) => write!(f, "{word}"),
         }
+    }
+}
+
+// The word of a step, and the page whose number follows it.
+fn word_of(step: Step) -> (&'static str, Option<u32>)
+    ensures { MatchOption result.1 (result.0.now ≡ words_of_step step)
+        (λ page. result.0.now ++ decimal page ≡ words_of_step step) }
+{
+    match step {
+        Step::Moved(Kind::ReadPrime) => ("P", None),
+        Step::Moved(Kind::WritePrime) => ("Q", None),
+        Step::Moved(Kind::ReadPage(page)) => ("R", Some(page)),
+        Step::Moved(Kind::WritePage(page)) => ("W", Some(page)),
+        Step::Moved(Kind::Latch(page)) => ("L", Some(page)),
+        Step::Moved(Kind::Unlatch(page)) => ("U", Some(page)),
+        Step::Waited => ("wait", None),
+        Step::Idle => ("idle", None),
     }
 }
 
