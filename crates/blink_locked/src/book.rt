@@ -1,5 +1,5 @@
 //! The book of a run. Its workers take turns to write it.
-ghost use Rattle.std.specs.Prelude.{◌≡◌, ◌↔◌, IfOk, IfErr, IsTrue, IsErrOf, Some, map, slice_get};
+ghost use Rattle.std.specs.Prelude.{◌≡◌, ◌↔◌, IfOk, IfErr, IsTrue, IsErrOf, IsOk, Some, map, slice_get};
 ghost use Rattle.blink_batch.specs.{IsLawfulCut};
 ghost use Rattle.std.specs.Bool.{OnFalse};
 ghost use Rattle.blink_steps.specs.{WouldMove, HasEnded, IsAtLanesEnd, IsStart, IsTooLarge};
@@ -172,6 +172,20 @@ impl<B: Origin> Book<B> {
         ensures foreign { IsErrOf result RunError.Foreign ↔ IsLeftEarly self }
         ensures refused { IfErr result IsSettleRefusal }
     {
+        match self.given_at_end(alloc) {
+            Ok(given) => Ok(self.into_result(given)),
+            Err(refusal) => Err(refusal),
+        }
+    }
+
+    // The answers of a run that isn't stopped and has no operation left.
+    fn given_at_end(&self, alloc: Global) -> Result<Vec<Answer>, RunError>
+        ensures ended { IsOk result → HasEnded self.now.world.run }
+        ensures given { IfOk result
+            (λ given. self.now.world.run.outcome.answers ≡ map Some given.items) }
+        ensures foreign { IsErrOf result RunError.Foreign ↔ IsLeftEarly self.now }
+        ensures refused { IfErr result IsSettleRefusal }
+    {
         if self.stopped {
             return Err(RunError::OutOfMemory);
         }
@@ -179,7 +193,7 @@ impl<B: Origin> Book<B> {
             return Err(RunError::Foreign);
         }
         match self.all_answers(alloc) {
-            Ok(given) => Ok(self.into_result(given)),
+            Ok(given) => Ok(given),
             Err(_) => Err(RunError::OutOfMemory),
         }
     }
