@@ -4,7 +4,7 @@ ghost use Rattle.blink_operation.specs.declared.entry.Entry.{Entry};
 ghost use Rattle.blink_operation.specs.declared.operation.Op.TheVariants.{DeleteExact, Exchange};
 ghost use Rattle.blink_batch.specs.Search.{IsPlaceOf, IsGapFor};
 ghost use Rattle.blink_operation.specs.PlainMap.{IsAscending, pointer_of, removed, replaced};
-ghost use Rattle.blink_operation.specs.Operation.{AddsEntry, StopsForMemory, answer_of, map_after, answers, map_after_all};
+ghost use Rattle.blink_operation.specs.Operation.{AddsEntry, StopsForMemory, answer_of, key_of, map_after, answers, map_after_all};
 
 use blink_operation::{Answer, Entry, Op};
 use std::alloc::{AllocError, Global};
@@ -42,27 +42,9 @@ impl Plain {
         ensures growth { OnErr result (AddsEntry self.old op) }
         ensures unchanged { OnErr result (self.new ≡ self.old) }
     {
-        let place = self.place(op.key());
-        match (op, place) {
-            (Op::Find(_), Ok(at)) => Ok(Answer::Found(self.entries[at].pointer)),
-            (Op::Find(_), Err(_)) => Ok(Answer::Absent),
-            (Op::Insert(_, _), Ok(at)) => Ok(Answer::Exists(self.entries[at].pointer)),
-            (Op::Insert(key, pointer), Err(at)) => {
-                self.entries.insert(at, Entry { key, pointer })?;
-                Ok(Answer::Inserted)
-            }
-            (Op::Delete(key), Ok(at)) => Ok(Answer::Removed(self.remove_at(at, key))),
-            (Op::Delete(_), Err(_)) => Ok(Answer::Absent),
-            (Op::Replace(key, pointer), Ok(at)) => {
-                Ok(Answer::Replaced(self.replace_at(at, key, pointer)))
-            }
-            (Op::Replace(_, _), Err(_)) => Ok(Answer::Absent),
-            (Op::Exchange(key, expected, pointer), Ok(at)) => {
-                Ok(self.exchange_at(at, key, expected, pointer))
-            }
-            (Op::Exchange(_, _, _), Err(_)) => Ok(Answer::Absent),
-            (Op::DeleteExact(key, expected), Ok(at)) => Ok(self.delete_exact_at(at, key, expected)),
-            (Op::DeleteExact(_, _), Err(_)) => Ok(Answer::Absent),
+        match self.place(op.key()) {
+            Ok(at) => Ok(self.apply_at(at, op)),
+            Err(at) => self.apply_in_gap(at, op),
         }
     }
 
@@ -90,6 +72,43 @@ impl Plain {
         ensures ascending { IsAscending self.now }
     {
         &self.entries
+    }
+
+    // Runs an operation on a key that stands at the place.
+    fn apply_at(&mut self, at: usize, op: Op) -> Answer
+        requires place { IsPlaceOf self.old (key_of op) at }
+        ensures answer { result ≡ answer_of self.old op }
+        ensures map { self.new ≡ map_after self.old op }
+    {
+        match op {
+            Op::Find(_) => Answer::Found(self.entries[at].pointer),
+            Op::Insert(_, _) => Answer::Exists(self.entries[at].pointer),
+            Op::Delete(key) => Answer::Removed(self.remove_at(at, key)),
+            Op::Replace(key, pointer) => Answer::Replaced(self.replace_at(at, key, pointer)),
+            Op::Exchange(key, expected, pointer) => self.exchange_at(at, key, expected, pointer),
+            Op::DeleteExact(key, expected) => self.delete_exact_at(at, key, expected),
+        }
+    }
+
+    // Runs an operation on a key that isn't there, and would go to the place.
+    fn apply_in_gap(&mut self, at: usize, op: Op) -> Result<Answer, AllocError>
+        requires gap { IsGapFor self.old (key_of op) at }
+        ensures answer { IfOk result (λ answer. answer ≡ answer_of self.old op) }
+        ensures map { OnOk result (self.new ≡ map_after self.old op) }
+        ensures growth { OnErr result (AddsEntry self.old op) }
+        ensures unchanged { OnErr result (self.new ≡ self.old) }
+    {
+        match op {
+            Op::Insert(key, pointer) => {
+                self.entries.insert(at, Entry { key, pointer })?;
+                Ok(Answer::Inserted)
+            }
+            Op::Find(_) => Ok(Answer::Absent),
+            Op::Delete(_) => Ok(Answer::Absent),
+            Op::Replace(_, _) => Ok(Answer::Absent),
+            Op::Exchange(_, _, _) => Ok(Answer::Absent),
+            Op::DeleteExact(_, _) => Ok(Answer::Absent),
+        }
     }
 
     // Removes the key, which stands at the place, and returns its pointer.

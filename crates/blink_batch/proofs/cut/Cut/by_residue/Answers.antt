@@ -1,4 +1,4 @@
-use Rattle.std.proofs.Common.{◌%◌, ap, arith}
+use Rattle.std.proofs.Common.{◌%◌, ap, inl, inr, refl, arith}
 use Rattle.blink_operation.specs.declared.operation.Op.TheVariants.{Find}
 use Rattle.blink_batch.proofs.CutsByKey.{lanes_of_all, lawful_by_key, one_lane_more}
 use Rattle.blink_batch.proofs.cut.Cut.by_residue.Goals as goal
@@ -28,3 +28,31 @@ invariant_of-result c =
       allowed = (omega arith, omega arith);
       lanes_are_workers = rw (returns-clause-lanes c) lawful.lanes_are_workers;
     }
+
+-- the number of workers was looked at first
+pub returns-clause-bad_workers : goal.returns-clause-bad_workers
+returns-clause-bad_workers c =
+    let none = c.if-workers-eq0.false in
+    let many = c.if-workers-gt-WORKER_LIMIT.false in
+    (λ same. absurd (cc), λ bad. absurd (elim bad [ inl zero_workers ↦ none zero_workers | inr more ↦ omega (arith, more, many) ]))
+
+pub returns-in-Err-clause-bad_workers : goal.returns-in-Err-clause-bad_workers
+returns-in-Err-clause-bad_workers c =
+    let none = c.if-workers-eq0.false in
+    let many = c.if-workers-gt-WORKER_LIMIT.false in
+    (λ same. absurd (cc), λ bad. absurd (elim bad [ inl zero_workers ↦ none zero_workers | inr more ↦ omega (arith, more, many) ]))
+
+pub returns-then-workers-eq0-clause-memory : goal.returns-then-workers-eq0-clause-memory
+returns-then-workers-eq0-clause-memory c = λ allowed. elim c.then-workers-eq0.either [
+  | inl none ↦ absurd (omega (arith, none, allowed))
+  | inr many ↦ absurd (omega (arith, many, allowed))
+]
+
+pub returns-then-workers-eq0-clause-bad_workers : goal.returns-then-workers-eq0-clause-bad_workers
+returns-then-workers-eq0-clause-bad_workers c = (
+  λ same. elim c.then-workers-eq0.either [
+    | inl none ↦ inl none
+    | inr many ↦ inr many.1
+  ],
+  λ bad. refl,
+)

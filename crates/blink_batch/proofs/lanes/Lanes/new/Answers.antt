@@ -1,4 +1,4 @@
-use Rattle.std.proofs.Common.{◌≡◌, ◌<◌, ◌≤◌, ◌+◌, ℕ, List, length, get_or, subst, inl, inr, arith}
+use Rattle.std.proofs.Common.{◌≡◌, ◌<◌, ◌≤◌, ◌+◌, ◌∙◌, ℕ, List, length, get_or, ap, refl, subst, sym, inl, inr, arith}
 use Rattle.std.proofs.lemmas.Bool.{cases_lt, false≢true}
 use Rattle.std.proofs.lemmas.List.{get_or_read}
 use Rattle.std.proofs.lemmas.List.Elements.{All-from_get_or}
@@ -51,3 +51,38 @@ invariant_of-result c =
     let some = c.if-workers-eq0.false in
     all_good c.args.workers c.args.lanes.items c.loop-place.place _ _ 0 c.loop-place.invariant c.loop-place-test.false c.len-place-end.ensures c.args.lanes.ok.0
     (omega (arith, some), c.if-workers-gt-WORKER_LIMIT.false)
+
+-- as many lanes as operations
+pub returns-clause-taken : goal.returns-clause-taken
+returns-clause-taken c =
+    let some = c.if-workers-eq0.false in
+    let good = all_good c.args.workers c.args.lanes.items c.loop-place.place _ _ 0 c.loop-place.invariant c.loop-place-test.false c.len-place-end.ensures c.args.lanes.ok.0
+    (omega (arith, some), c.if-workers-gt-WORKER_LIMIT.false) in
+    let long = sym c.args.lanes.ok.0 ∙ sym c.len.ensures ∙ c.if-len-ops.false ∙ ap length c.ops.ensures.ops in
+    (λ taken. record { of_workers = good; a_lane_each = long }, λ given. refl)
+
+-- more or fewer
+pub returns-then-len-ops-clause-taken : goal.returns-then-len-ops-clause-taken
+returns-then-len-ops-clause-taken c =
+    (λ taken. absurd (false≢true taken), λ given. absurd (c.if-len-ops.true (c.len.ensures ∙ c.args.lanes.ok.0 ∙ given.a_lane_each ∙ sym (ap length c.ops.ensures.ops))))
+
+-- no such number of workers
+pub returns-then-workers-eq0-clause-taken : goal.returns-then-workers-eq0-clause-taken
+returns-then-workers-eq0-clause-taken c = (
+  λ taken. absurd (false≢true taken),
+  λ given. let allowed = given.of_workers.allowed in elim c.then-workers-eq0.either [
+    | inl none ↦ absurd (omega (arith, none, allowed))
+    | inr many ↦ absurd (omega (arith, many, allowed))
+  ],
+)
+
+-- the first bad lane is told
+pub returns-then-index-workers-clause-refused : goal.returns-then-index-workers-clause-refused
+returns-then-index-workers-clause-refused c =
+    let some = c.if-workers-eq0.false in
+    let long = sym c.args.lanes.ok.0 ∙ sym c.len.ensures ∙ c.if-len-ops.false ∙ ap length c.ops.ensures.ops in (
+      (omega (arith, some), c.if-workers-gt-WORKER_LIMIT.false),
+      long,
+      first_bad c.args.workers c.args.lanes.items c.loop-place.place _ _ c.index.result.now c.loop-place.invariant c.loop-place-test.true c.len-place-end.ensures c.args.lanes.ok.0
+          c.index.ensures c.if-index-workers.true,
+    )
