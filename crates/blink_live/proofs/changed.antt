@@ -8,6 +8,7 @@ pub mod RowsTaken
 pub mod UpdatesBegin
 pub mod OwnChangesByKey
 pub mod RowsAreLent
+pub mod CallsWrite
 pub mod StepsOfUpdates
 pub mod UpdatesGoOn
 pub mod LatchesAreLeft

@@ -15,10 +15,10 @@ use Rattle.blink_rows.specs.declared.span.Span.{Span}
 use Rattle.blink_live.specs.declared.view.Call.{Call}
 use Rattle.blink_live.specs.declared.view.View.{View}
 use Rattle.blink_live.specs.AtomicSteps.{AnswersInOrder, CanGoOn}
-use Rattle.blink_live.specs.Seats.{HasSameNumber, IsPassSeat}
+use Rattle.blink_live.specs.Seats.{HasSameNumber, IsFirst, IsPassSeat}
 use Rattle.blink_live.specs.Shelves.{HasSpaceFor, IsShelved, free_in}
 use Rattle.blink_live.specs.Views.{SeatState, KnowsItsOwn, CanBegin, MayChange, for_call, latch_number_by, no_words, pages_of, rows_of, rows_taken, span}
-use Rattle.blink_live.specs.Words.{AreNumbersIn, AreRowsIn}
+use Rattle.blink_live.specs.Words.{AreNumbersIn, AreRowsIn, IsRowNumber}
 
 -- what an operation may use of its seat's rows and page numbers: the first of them
 abbrev pub room_in : Op → View → Option Shelf → Room
@@ -109,6 +109,15 @@ pub record CanUpdate (live : Live) (op : Op) (first : Seat ℕ View) : Type 0 wh
   pub can_begin : CanBegin first.me.0 op
   pub rows : AreRowsIn live.counts first.me.0.rows
   pub pages : AreNumbersIn live.counts first.me.0.pages
+
+-- the seat's call can write this row for the operation: the row is the first that it may use, and nothing is stored there yet
+pub record CanWrite (live : Live) (m : PlainMachine) (row : ℕ) (its : Seat ℕ View) : Type 0 where
+  pub seat : IsPassSeat live its.table_id its.me
+  pub at : its.me.0.operation ≡ Some m
+  pub fits : FitsWords m.op
+  pub first_row : IsFirst row its.me.0.call.rows × IsRowNumber live.counts row
+  pub blank : its.me.0.call.staged ≡ no_words
+  pub may : MayChange its.me.0 (key_of m.op)
 
 -- the state between two turns of the operation: the seat was `first` when the operation began, and has the rows and page numbers
 -- that its call has left

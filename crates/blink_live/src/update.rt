@@ -15,7 +15,7 @@ ghost use Rattle.blink_machine.specs.{IsUpdate, fresh, done, PrimeOut, page_out,
 ghost use Rattle.blink_live.specs.declared.view.View.{View};
 ghost use Rattle.blink_live.specs.Seats.{HasSameNumber, IsPassSeat, IsFirst};
 ghost use Rattle.blink_live.specs.Shelves.{IsShelved};
-ghost use Rattle.blink_live.specs.Updating.{HasEnded, HasRowsFor, IsUnderWay, room_in, ComesNearer, IsPastDescent};
+ghost use Rattle.blink_live.specs.Updating.{CanWrite, HasEnded, HasRowsFor, IsUnderWay, room_in, ComesNearer, IsPastDescent};
 ghost use Rattle.blink_live.specs.Views.{CanBegin, MayChange, is_staged, knows_word, latch_number_by, no_words, stage_word};
 ghost use Rattle.blink_live.specs.Pendings.{IsWaiting};
 ghost use Rattle.blink_live.specs.AtomicSteps.{PublishesNew, PublishesPage, PublishesPrime, GoesOn};
@@ -280,14 +280,9 @@ impl Live {
         number: u32,
         row: u64,
     ) -> u64
-        requires seat { IsPassSeat self.now seat.old.table_id seat.old.me }
-        requires at { seat.old.me.0.operation ≡ Some machine.old }
-        requires fits { FitsWords machine.old.op }
+        requires can { CanWrite self.now machine.old row seat.old }
         requires needs { NeedsWrite machine.old number }
         requires in_range { (1 ≤ number) × (number < self.now.counts.numbers) }
-        requires row { IsFirst row seat.old.me.0.call.rows × IsRowNumber self.now.counts row }
-        requires blank { seat.old.me.0.call.staged ≡ no_words }
-        requires may { MayChange seat.old.me.0 (key_of machine.old.op) }
         ensures same { HasSameNumber seat.old seat.new }
         ensures machine { machine.new ≡ done machine.old 0 }
         ensures published { PublishesPage number result machine.old seat.old.me seat.new.me }
@@ -299,15 +294,10 @@ impl Live {
 
     // Writes the operation's new page at this number, the first of the call's page numbers. It stands in the call's first row.
     fn write_new(&self, seat: &mut Seat<u8, View>, machine: &mut Machine, number: u32, row: u64)
-        requires seat { IsPassSeat self.now seat.old.table_id seat.old.me }
-        requires at { seat.old.me.0.operation ≡ Some machine.old }
-        requires fits { FitsWords machine.old.op }
+        requires can { CanWrite self.now machine.old row seat.old }
         requires needs { NeedsNew machine.old }
         requires number { IsFirst number seat.old.me.0.call.pages }
         requires in_range { IsPageNumber number × (number < self.now.counts.numbers) }
-        requires row { IsFirst row seat.old.me.0.call.rows × IsRowNumber self.now.counts row }
-        requires blank { seat.old.me.0.call.staged ≡ no_words }
-        requires may { MayChange seat.old.me.0 (key_of machine.old.op) }
         ensures same { HasSameNumber seat.old seat.new }
         ensures machine { machine.new ≡ done machine.old number }
         ensures published { PublishesNew machine.old seat.old.me seat.new.me }
@@ -320,13 +310,8 @@ impl Live {
 
     // Writes the prime block with the operation's new root, in the call's first row, and returns the row that it had before.
     fn write_prime(&self, seat: &mut Seat<u8, View>, machine: &mut Machine, row: u64) -> u64
-        requires seat { IsPassSeat self.now seat.old.table_id seat.old.me }
-        requires at { seat.old.me.0.operation ≡ Some machine.old }
-        requires fits { FitsWords machine.old.op }
+        requires can { CanWrite self.now machine.old row seat.old }
         requires needs { NeedsPrimeWrite machine.old }
-        requires row { IsFirst row seat.old.me.0.call.rows × IsRowNumber self.now.counts row }
-        requires blank { seat.old.me.0.call.staged ≡ no_words }
-        requires may { MayChange seat.old.me.0 (key_of machine.old.op) }
         ensures same { HasSameNumber seat.old seat.new }
         ensures machine { machine.new ≡ done machine.old 0 }
         ensures published { PublishesPrime result machine.old seat.old.me seat.new.me }

@@ -3,6 +3,7 @@ use Rattle.std.proofs.Common.{◌≡◌, ◌≢◌, ◌+◌, ◌≤◌, ℕ, Lis
 use Rattle.std.proofs.lemmas.List.Elements.{Contains-append_right}
 use mathlib.Core.List.{IsPrefix}
 use Rattle.atomic_table.specs.Seated.{TableId}
+use Rattle.atomic_table.specs.declared.Seat.{Seat}
 use Rattle.blink_batch.specs.declared.Answer.{Answer}
 use Rattle.blink_batch.specs.declared.Answer.TheVariants.{Found}
 use Rattle.blink_batch.specs.declared.Op.TheVariants.{Find}
@@ -13,7 +14,7 @@ use Rattle.blink_live.specs.declared.live.Pass.{Pass}
 use Rattle.blink_live.specs.declared.view.Share.{Share}
 use Rattle.blink_live.specs.declared.view.View.{View}
 use Rattle.blink_live.specs.Finding.{AllAreOwn, AreFound, HasSearched, IsIdle}
-use Rattle.blink_live.specs.Seats.{IsPassSeat}
+use Rattle.blink_live.specs.Seats.{IsPassSeat, IsSameSeat}
 use Rattle.blink_live.specs.Views.{IsCommon, CanBegin, KnowsItsOwn, SameBesideReads, SeatState, for_call, known_of, span}
 use Rattle.blink_live.proofs.told.PrefixesOfOneList.{prefix_of_prefix}
 
@@ -58,7 +59,7 @@ searched_more u v w first second = record {
 }
 
 -- a find takes no row and no page number
-takes_none : (s : Span) → span (s.next + 0) s.stop ≡ s
+pub takes_none : (s : Span) → span (s.next + 0) s.stop ≡ s
 takes_none s = let same : s.next + 0 ≡ s.next = omega arith in λ i. span (same i) s.stop
 
 pub searched_once : (key : ℕ) (me new : SeatState) → IsIdle me.0 → IsPrefix me.0.seen new.0.seen → KnowsItsOwn new.0 → new.0.operation ≡ None → SameBesideReads (for_call me.0 (Find key)) new.0 → new.1 ≡ me.1 → HasSearched me new
@@ -90,6 +91,14 @@ searched_seat live before table first me same searched seat = record {
   same_table = same ∙ seat.same_table;
   same_plan = searched.same_plan ∙ seat.same_plan;
   role = searched.same_role ∙ seat.role;
+}
+
+-- and so it is after a read that leaves it as it was
+pub same_seat : (live : Live) (old new : Seat ℕ View) → IsSameSeat old new → IsPassSeat live old.table_id old.me → IsPassSeat live new.table_id new.me
+same_seat live old new same seat = record {
+  same_table = same.0 ∙ seat.same_table;
+  same_plan = ap (λ (x : SeatState). x.0.plan) same.2 ∙ seat.same_plan;
+  role = ap (λ (x : SeatState). x.0.role) same.2 ∙ seat.role;
 }
 
 -- the answer of a find as a pointer

@@ -5,6 +5,7 @@ use Rattle.blink_live.specs.Deals.{NoneIsTaken}
 use Rattle.blink_live.specs.Handles.{taken_of}
 use Rattle.blink_live.proofs.dealt.KeysInOrder.{none_twice, of_both}
 use Rattle.blink_live.proofs.dealt.RefusalsOfDeal.{same_refusal}
+use Rattle.blink_live.proofs.table.RefusalsTold.{no_refusal}
 use Rattle.blink_live.proofs.live.Keeper.taken_with.Goals as goal
 
 pub returns : goal.returns
@@ -33,7 +34,7 @@ returns-then-not-lacks_allowance-clause-all c =
     (of_both c.deref.result.now c.args.keys.now c.in-Ok.all.items c.in-Ok.ensures.of_both)
 
 pub returns-then-not-lacks_allowance-clause-taken : goal.returns-then-not-lacks_allowance-clause-taken
-returns-then-not-lacks_allowance-clause-taken c key = (λ same. absurd (cc), λ first. absurd (none_of c first.place key first.is_taken))
+returns-then-not-lacks_allowance-clause-taken c key = no_refusal _ _ (λ first. none_of c first.place key first.is_taken)
 
 pub returns-then-not-lacks_allowance-clause-ascending : goal.returns-then-not-lacks_allowance-clause-ascending
 returns-then-not-lacks_allowance-clause-ascending c = subst IsStrictlyIncreasing c.deref-in-Ok.ensures.value (c.ascends.ensures c.if-ascends.true)

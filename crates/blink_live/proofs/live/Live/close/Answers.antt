@@ -1,4 +1,4 @@
-use Rattle.std.proofs.Common.{◌≡◌, ℕ, zero, suc, ◌+◌, ◌-◌, ◌<◌, ◌≤◌, Some, List, [], ◌∷◌, ◌++◌, length, map, sym, ap, ◌∙◌, subst, arith}
+use Rattle.std.proofs.Common.{◌≡◌, ◌↔◌, ℕ, zero, suc, ◌+◌, ◌-◌, ◌<◌, ◌≤◌, Some, Result, Err, List, [], ◌∷◌, ◌++◌, length, map, sym, ap, ◌∙◌, subst, arith}
 use Rattle.std.specs.Prelude.{Contains, slice_get}
 use Rattle.std.specs.Mem.Slots.{slots_items}
 use Rattle.blink_batch.specs.declared.Entry.{Entry}
@@ -7,6 +7,8 @@ use Rattle.blink_index.specs.{map_of}
 use Rattle.blink_rows.specs.{PlainCounts}
 use Rattle.blink_machine.specs.{IsMapOf}
 use Rattle.blink_store.specs.{PlainStore}
+use Rattle.blink_live.specs.declared.error.LiveError.{LiveError}
+use Rattle.blink_live.specs.declared.error.LiveError.TheVariants.{Missing, OutOfMemory}
 use Rattle.blink_live.specs.declared.live.Pass.{Pass}
 use Rattle.blink_live.specs.declared.view.Role.{Role}
 use Rattle.blink_live.specs.declared.live.Keeper.{Keeper}
@@ -17,11 +19,13 @@ use Rattle.blink_live.specs.Rule.{IsTable}
 use Rattle.std.proofs.lemmas.List.{length-map}
 use Rattle.blink_live.specs.declared.view.Share.{Share}
 use Rattle.blink_live.specs.declared.view.View.{View}
+use Rattle.blink_live.specs.Gathered.{IsNumberedInOrder}
 use Rattle.blink_live.specs.Handles.{opening_of, passes_out, seen_by}
 use Rattle.blink_live.specs.Merge.{KeepsTree, IsMerge, shares_of}
 use Rattle.blink_live.specs.Views.{SeatState, plan_of, takes_more, takes_all_back}
 use Rattle.blink_live.proofs.closed.EntriesOfStore.{map_is}
 use Rattle.blink_live.proofs.closed.TableAtTheEnd.{IsAtEnd, at_end}
+use Rattle.blink_live.proofs.table.RefusalsTold.{no_refusal}
 use Rattle.blink_live.proofs.told.EntriesAfterChanges.{entries_after-state}
 use Rattle.blink_live.proofs.live.Live.close.Goals as goal
 
@@ -74,6 +78,40 @@ merges live keeper passes words store end taken_is is =
           ap (λ (entries : List Entry). pointer_of entries key) same
           ∙ (end.others key (subst (λ (taken : List ℕ). ¬ Contains taken key) (sym taken_is) free) ∙ sym (entries_after-state (opening_of live) (seen_by keeper) key));
     }
+
+pub take_back-requires-clause-role : goal.take_back-requires-clause-role
+take_back-requires-clause-role c = (c.args.keeper.dealt, c.args.keeper.back, c.args.keeper.role_is)
+
+pub take_back-requires-clause-its_passes : goal.take_back-requires-clause-its_passes
+take_back-requires-clause-its_passes c = c.requires.its_passes
+
+pub close_with-closed-requires : goal.close_with-closed-requires
+close_with-closed-requires c = c.take_back.ensures.same.0 ∙ c.requires.its_keeper.0
+
+pub tree_at_end-tree-requires-clause-fan : goal.tree_at_end-tree-requires-clause-fan
+tree_at_end-tree-requires-clause-fan c = c.args.self.fan_is.1
+
+-- all passes are back
+none_misses : (out were count passes : ℕ) → out ≡ were → count ≡ passes → out ≤ count → ¬ (passes < were)
+none_misses out were count passes same is all few = let back = enough out were count passes same is all in omega (arith, back, few)
+
+pub returns-in-Ok-clause-missing : goal.returns-in-Ok-clause-missing
+returns-in-Ok-clause-missing c =
+    no_refusal _ _ (none_misses c.out.result (passes_out c.args.keeper) c.len.result (length c.args.passes.items) c.out.ensures (c.len.ensures ∙ c.args.passes.ok.0) c.if-len-out.false)
+
+-- a refusal of memory is no other
+other_refusal : {T P : Type 0} → ¬ P → (◌≡◌ {A = Result T LiveError} (Err OutOfMemory) (Err Missing)) ↔ P
+other_refusal never = (λ refused. absurd (cc), λ p. absurd (never p))
+
+pub returns-clause-missing : goal.returns-clause-missing
+returns-clause-missing c =
+    other_refusal (none_misses c.out.result (passes_out c.args.keeper) c.len.result (length c.args.passes.items) c.out.ensures (c.len.ensures ∙ c.args.passes.ok.0) c.if-len-out.false)
+
+pub returns-in-Ok-clause-fan : goal.returns-in-Ok-clause-fan
+returns-in-Ok-clause-fan c = ap (λ (store : PlainStore). store.fan) c.from_rest.ensures ∙ c.in-Ok.ensures.fan
+
+pub returns-in-Ok-clause-numbered : goal.returns-in-Ok-clause-numbered
+returns-in-Ok-clause-numbered c = subst IsNumberedInOrder (sym c.from_rest.ensures) c.in-Ok.ensures.numbered
 
 pub tree_at_end-tree-requires-clause-tree : goal.tree_at_end-tree-requires-clause-tree
 tree_at_end-tree-requires-clause-tree c =

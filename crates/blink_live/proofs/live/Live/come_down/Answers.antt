@@ -1,6 +1,35 @@
+use Rattle.std.proofs.Common.{◌∙◌}
 use Rattle.blink_live.specs.Views.{SeatState}
-use Rattle.blink_live.proofs.found.FindsOfSeveral.{searched_more, searched_once}
+use Rattle.blink_live.proofs.found.FindsOfSeveral.{can_find, searched_more, searched_once, searched_seat}
 use Rattle.blink_live.proofs.live.Live.come_down.Goals as goal
+
+pub follow-requires-clause-seat : goal.follow-requires-clause-seat
+follow-requires-clause-seat c =
+    let come = c.come_to_noted-row.ensures in
+    searched_seat c.args.self.now c.args.seat.now.table_id c.come_to_noted-row.new.seat.table_id c.args.seat.now.me c.come_to_noted-row.new.seat.me come.same_table.0 come.searched c.requires.seat
+
+pub follow-requires-clause-idle : goal.follow-requires-clause-idle
+follow-requires-clause-idle c = c.come_to_noted-row.ensures.searched.idle
+
+pub returns-then-leaf-eq0-clause-searched : goal.returns-then-leaf-eq0-clause-searched
+returns-then-leaf-eq0-clause-searched c = c.come_to_noted-row.ensures.searched
+
+pub returns-in-Some-clause-searched : goal.returns-in-Some-clause-searched
+returns-in-Some-clause-searched c =
+    searched_more c.args.seat.now.me c.come_to_noted-row.new.seat.me c.follow.new.seat.me c.come_to_noted-row.ensures.searched c.follow.ensures.searched
+
+pub come_to_leaf-row-requires-clause-seat : goal.come_to_leaf-row-requires-clause-seat
+come_to_leaf-row-requires-clause-seat c =
+    let come = c.come_to_noted-row.ensures in
+    let then = c.follow.ensures in
+    searched_seat c.args.self.now c.args.seat.now.table_id c.follow.new.seat.table_id c.args.seat.now.me c.follow.new.seat.me (then.same_table.0 ∙ come.same_table.0)
+    (searched_more c.args.seat.now.me c.come_to_noted-row.new.seat.me c.follow.new.seat.me come.searched then.searched) c.requires.seat
+
+pub come_to_leaf-row-requires-clause-idle : goal.come_to_leaf-row-requires-clause-idle
+come_to_leaf-row-requires-clause-idle c = c.follow.ensures.searched.idle.idle
+
+pub come_to_leaf-row-requires-clause-can_begin : goal.come_to_leaf-row-requires-clause-can_begin
+come_to_leaf-row-requires-clause-can_begin c = can_find c.args.key c.follow.new.seat.me.0 c.follow.ensures.searched.idle
 
 pub returns-clause-searched : goal.returns-clause-searched
 returns-clause-searched c =

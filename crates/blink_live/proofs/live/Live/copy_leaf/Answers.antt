@@ -7,10 +7,23 @@ use Rattle.blink_rows.specs.{page_words}
 use Rattle.blink_live.specs.declared.view.View.{View}
 use Rattle.blink_live.specs.Seats.{ReadsPage}
 use Rattle.blink_live.specs.Views.{SeatState}
+use Rattle.blink_live.proofs.found.FindsOfSeveral.{same_seat}
 use Rattle.blink_live.proofs.found.EntriesInRow.{key_word, value_word}
 use Rattle.blink_live.proofs.scanned.LeavesAreCopied.{HasCopied, copied_more, copied_none, copied_past, ends_at_hi, ends_at_high, ends_at_place, ends_with_leaf, place_is_behind}
 use Rattle.blink_live.proofs.live.Live.copy_leaf.Goals.{then-key-from+else-filled-into, else-key-from}
 use Rattle.blink_live.proofs.live.Live.copy_leaf.Goals as goal
+
+pub load_word-key-requires-clause-seat : goal.load_word-key-requires-clause-seat
+load_word-key-requires-clause-seat c = same_seat c.args.self.now c.args.seat.now c.loop-place.seat c.loop-place.invariant.same c.requires.seat
+
+pub load_word-pointer-requires-clause-seat : goal.load_word-pointer-requires-clause-seat
+load_word-pointer-requires-clause-seat c =
+    let key = c.load_word-key.ensures.same in
+    let same = c.loop-place.invariant.same in
+    same_seat c.args.self.now c.args.seat.now c.load_word-key.new.seat (key.0 ∙ same.0, key.1 ∙ same.1, key.2 ∙ same.2) c.requires.seat
+
+pub load_word-high-requires-clause-seat : goal.load_word-high-requires-clause-seat
+load_word-high-requires-clause-seat c = same_seat c.args.self.now c.args.seat.now c.loop-place.seat c.loop-place.invariant.same c.requires.seat
 
 pub loop-place-init : goal.loop-place-init
 loop-place-init c = record {

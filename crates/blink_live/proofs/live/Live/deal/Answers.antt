@@ -5,10 +5,29 @@ use Rattle.blink_live.specs.declared.error.LiveError.TheVariants.{Taken, NoAllow
 use Rattle.blink_live.specs.Deals.{IsFirstTaken, NoneIsTaken, LacksAllowance}
 use Rattle.blink_live.specs.Handles.{taken_of}
 use Rattle.blink_live.proofs.dealt.RefusalsOfDeal.{same_refusal}
+use Rattle.blink_live.proofs.table.RefusalsTold.{no_refusal}
 use Rattle.blink_live.proofs.live.Live.deal.Goals as goal
+
+pub hand_out-requires-clause-free : goal.hand_out-requires-clause-free
+hand_out-requires-clause-free c = subst (NoneIsTaken (taken_of c.args.keeper.now)) c.deref.ensures.value c.in-Ok.ensures.free
+
+pub hand_out-requires-clause-allowed : goal.hand_out-requires-clause-allowed
+hand_out-requires-clause-allowed c = c.in-Ok.ensures.allowed
+
+pub hand_out-requires-clause-ascending : goal.hand_out-requires-clause-ascending
+hand_out-requires-clause-ascending c = c.in-Ok.ensures.ascending
+
+pub returns-in-Ok-clause-free : goal.returns-in-Ok-clause-free
+returns-in-Ok-clause-free c = subst (NoneIsTaken (taken_of c.args.keeper.now)) c.deref.ensures.value c.in-Ok.ensures.free
+
+pub returns-in-Ok-clause-no_allowance : goal.returns-in-Ok-clause-no_allowance
+returns-in-Ok-clause-no_allowance c = no_refusal _ _ (λ lacks. c.in-Ok.ensures.allowed lacks.1)
 
 pub hand_out-requires-clause-taken : goal.hand_out-requires-clause-taken
 hand_out-requires-clause-taken c = subst (λ (l : List ℕ). (key : ℕ) → Contains c.in-Ok.taken.items key ↔ (Contains (taken_of c.args.keeper.now) key ⊎ Contains l key)) c.deref.ensures.value c.in-Ok.ensures.all
+
+pub returns-in-Err-clause-refused : goal.returns-in-Err-clause-refused
+returns-in-Err-clause-refused c = c.in-Err.ensures.refused
 
 pub returns-in-Err-clause-taken : goal.returns-in-Err-clause-taken
 returns-in-Err-clause-taken c key =

@@ -5,6 +5,7 @@ use Rattle.blink_page.specs.{place_of}
 use Rattle.blink_rows.specs.{page_words}
 use Rattle.blink_live.specs.Seats.{ReadsPage}
 use Rattle.blink_live.specs.Views.{SeatState}
+use Rattle.blink_live.proofs.found.FindsOfSeveral.{same_seat}
 use Rattle.blink_live.proofs.found.EntriesInRow.{key_word, value_word, goes_on_behind, ends_at}
 use Rattle.blink_live.proofs.live.Live.entry_from.Goals as goal
 
@@ -12,6 +13,24 @@ none_past : (entries : List (ℕ × ℕ)) (n : ℕ) → length entries ≤ n →
 none_past [] n past = refl
 none_past (e ∷ rest) zero past = absurd (omega (arith, past))
 none_past (e ∷ rest) (suc n) past = none_past rest n (omega (arith, past))
+
+pub first_place-first-requires-clause-seat : goal.first_place-first-requires-clause-seat
+first_place-first-requires-clause-seat c = same_seat c.args.self.now c.args.seat.now c.load_word-count.new.seat c.load_word-count.ensures.same c.requires.seat
+
+pub load_word-found-requires-clause-seat : goal.load_word-found-requires-clause-seat
+load_word-found-requires-clause-seat c =
+    let one = c.load_word-count.ensures.same in
+    let two = c.first_place-first.ensures.same in
+    let same = c.loop-place.invariant.same in
+    same_seat c.args.self.now c.args.seat.now c.loop-place.seat (same.0 ∙ two.0 ∙ one.0, same.1 ∙ two.1 ∙ one.1, same.2 ∙ two.2 ∙ one.2) c.requires.seat
+
+pub load_word-requires-clause-seat : goal.load_word-requires-clause-seat
+load_word-requires-clause-seat c =
+    let one = c.load_word-count.ensures.same in
+    let two = c.first_place-first.ensures.same in
+    let same = c.loop-place.invariant.same in
+    let found = c.load_word-found.ensures.same in
+    same_seat c.args.self.now c.args.seat.now c.load_word-found.new.seat (found.0 ∙ same.0 ∙ two.0 ∙ one.0, found.1 ∙ same.1 ∙ two.1 ∙ one.1, found.2 ∙ same.2 ∙ two.2 ∙ one.2) c.requires.seat
 
 pub first_place-first-requires-clause-page : goal.first_place-first-requires-clause-page
 first_place-first-requires-clause-page c =

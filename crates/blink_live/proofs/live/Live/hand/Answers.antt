@@ -3,10 +3,11 @@ use Rattle.std.specs.Prelude.{Contains}
 use Rattle.std.specs.List.Sorted.{IsStrictlyIncreasing}
 use Rattle.blink_live.specs.declared.error.HandError.{HandError}
 use Rattle.blink_live.specs.declared.error.HandError.TheVariants.{NotYours}
-use Rattle.blink_live.specs.Handing.{AllAreYours, IsFirstForeign}
+use Rattle.blink_live.specs.Handing.{AllAreYours, IsFirstForeign, IsHandRefusal}
 use Rattle.blink_live.specs.Handles.{keys_of}
 use Rattle.blink_live.proofs.handed.HandedByKeys.{by_same_keys}
 use Rattle.blink_live.proofs.handed.KeysInList.{same_keys, same_refusal, yours_from}
+use Rattle.blink_live.proofs.table.RefusalsTold.{no_refusal}
 use Rattle.blink_live.proofs.live.Live.hand.Goals.{After-drop-handed}
 use Rattle.blink_live.proofs.live.Live.hand.Goals as goal
 
@@ -26,6 +27,17 @@ hand_over-requires-clause-all c key =
       λ either. all.1 (⊎_elim (λ (mine : Contains own key). inl mine) (λ (new : Contains handed key). inr (same.0 new)) either),
     )
 
+pub hand_over-requires-clause-ascending : goal.hand_over-requires-clause-ascending
+hand_over-requires-clause-ascending c =
+    let rises : IsStrictlyIncreasing c.in-Ok.handed.items = subst IsStrictlyIncreasing c.deref-in-Ok.ensures.value (c.ascends.ensures c.if-ascends.true) in
+    (subst IsStrictlyIncreasing (sym c.deref-then-has_all.ensures.value) rises, c.in-Ok.ensures.ascending)
+
+pub refusal-requires : goal.refusal-requires
+refusal-requires c = record { ascending = subst IsStrictlyIncreasing (sym c.deref-2.ensures.value) c.args.from.now.ascending }
+
+pub returns-clause-refused : goal.returns-clause-refused
+returns-clause-refused c = subst (λ (own : List ℕ). IsHandRefusal own c.args.keys.now c.refusal.result) c.deref-2.ensures.value c.refusal.ensures.refused
+
 pub returns-then-has_all-clause-handed : goal.returns-then-has_all-clause-handed
 returns-then-has_all-clause-handed c =
     let keys : List ℕ = c.args.keys.now in
@@ -44,7 +56,7 @@ pub returns-then-has_all-clause-yours : goal.returns-then-has_all-clause-yours
 returns-then-has_all-clause-yours c = all_yours c
 
 pub returns-then-has_all-clause-not_yours : goal.returns-then-has_all-clause-not_yours
-returns-then-has_all-clause-not_yours c key = (λ same. absurd (cc), λ first. absurd (all_yours c first.place key first.is_foreign))
+returns-then-has_all-clause-not_yours c key = no_refusal _ _ (λ first. all_yours c first.place key first.is_foreign)
 
 pub returns-clause-not_yours : goal.returns-clause-not_yours
 returns-clause-not_yours c key =

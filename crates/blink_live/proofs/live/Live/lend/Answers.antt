@@ -35,6 +35,12 @@ returns-clause-in_range c =
     let first = first_free c.in_ok-shelf.shelf.now c.args.room.now.shelf c.args.seat.now.me.0 c.pop.new.self.items c.in_ok-row.row c.in_ok-shelf.ensures.value c.in_ok-row.ensures.items c.requires.shelved in
     (c.take_row_in.ensures.taken c.in_ok-row.row (reverse c.pop.new.self.items) first).1
 
+pub returns-in_err-row-clause-same_room : goal.returns-in_err-row-clause-same_room
+returns-in_err-row-clause-same_room c = record { rows = refl; pages = refl; latch_number = refl }
+
+pub returns-clause-same_room : goal.returns-clause-same_room
+returns-clause-same_room c = record { rows = refl; pages = refl; latch_number = refl }
+
 pub returns-in_err-row-clause-space : goal.returns-in_err-row-clause-space
 returns-in_err-row-clause-space c count has = subst (λ (x : Option Shelf). HasSpaceFor x count) (sym c.in_ok-shelf.ensures.value) has
 

@@ -1,17 +1,22 @@
-use Rattle.std.proofs.Common.{ℕ, ◌≡◌, ◌+◌, ◌*◌, ◌<◌, ◌≤◌, List, [], length, ap, sym, ◌∙◌, subst, arith}
+use Rattle.std.proofs.Common.{ℕ, ◌≡◌, ◌↔◌, Bool, false, Result, Err, ◌+◌, ◌*◌, ◌<◌, ◌≤◌, List, [], length, ap, sym, ◌∙◌, subst, arith}
+use Rattle.std.specs.Prelude.{IsTrue}
 use Rattle.std.specs.List.Sorted.{IsStrictlyIncreasing}
 use Rattle.atomic_table.specs.Table.{opening}
+use Rattle.blink_page.specs.{ExceedsPageLimit}
 use Rattle.blink_rest.specs.{IsStoreAtRest}
 use Rattle.blink_rows.specs.{PlainCounts, AreBounded}
 use Rattle.blink_store.specs.{PlainStore, IsLawfulStore}
 use Rattle.blink_live.specs.Laid.{IsLaid}
 use Rattle.blink_live.specs.Rule.{IsTable}
 use Rattle.blink_live.specs.Words.{word_count}
+use Rattle.blink_live.specs.declared.error.LiveError.{LiveError}
+use Rattle.blink_live.specs.declared.error.LiveError.TheVariants.{OutOfMemory, TooLarge}
 use Rattle.blink_live.specs.declared.view.Opened.{Opened}
 use Rattle.blink_live.specs.Views.{SeatState, first_view, span}
 use Rattle.blink_live.proofs.dealt.ChangesLeft.{opened_for_changes}
 use Rattle.blink_live.proofs.opened.PlacesAreLaid.{laid_alone}
 use Rattle.blink_live.proofs.opened.OpeningIsTable.{plan_over, opens}
+use Rattle.blink_live.proofs.table.RefusalsTold.{no_refusal}
 use Rattle.blink_live.proofs.live.Live.open.Goals as goal
 
 pub of_words-requires : goal.of_words-requires
@@ -29,6 +34,29 @@ of_words-requires c =
     let opened = opens store counts 0 words numbers rows (laid_alone counts store words numbers rows laid) at_rest lawful c.rest.ensures.map bounded in
     let T : PlainStore → List ℕ → Type 0 = λ s ws. IsTable (plan_over s counts 0) (opening ws [] (first_view (length s.pages) (plan_over s counts 0))) in
     subst (λ (s : PlainStore). T s c.deref.result.now) (sym c.of.ensures) (subst (T store) (sym c.deref.ensures.value) opened)
+
+not_over : (over : Bool) → over ≡ false → ¬ IsTrue over
+not_over over is exceeds = absurd (cc)
+
+-- the index has few enough pages
+few_pages : (count pages inserts : ℕ) → count ≡ pages → ¬ ExceedsPageLimit count inserts → ¬ ExceedsPageLimit pages inserts
+few_pages count pages inserts same few = subst (λ (n : ℕ). ¬ ExceedsPageLimit n inserts) same few
+
+-- a refusal of memory is no other
+other_refusal : {T P : Type 0} → ¬ P → (◌≡◌ {A = Result T LiveError} (Err OutOfMemory) (Err TooLarge)) ↔ P
+other_refusal never = (λ refused. absurd (cc), λ p. absurd (never p))
+
+pub returns-in_default-clause-too_large : goal.returns-in_default-clause-too_large
+returns-in_default-clause-too_large c =
+    other_refusal (few_pages c.page_count-count.result (length c.args.index.now.pages) c.args.allowance.inserts c.page_count-count.ensures.count (λ many. not_over c.exceeds_page_limit.result c.if-exceeds_page_limit.false (c.exceeds_page_limit.ensures.1 many)))
+
+pub returns-in_default-of_words-clause-too_large : goal.returns-in_default-of_words-clause-too_large
+returns-in_default-of_words-clause-too_large c =
+    other_refusal (few_pages c.page_count-count.result (length c.args.index.now.pages) c.args.allowance.inserts c.page_count-count.ensures.count (λ many. not_over c.exceeds_page_limit.result c.if-exceeds_page_limit.false (c.exceeds_page_limit.ensures.1 many)))
+
+pub returns-clause-too_large : goal.returns-clause-too_large
+returns-clause-too_large c =
+    no_refusal _ _ (few_pages c.page_count-count.result (length c.args.index.now.pages) c.args.allowance.inserts c.page_count-count.ensures.count (λ many. not_over c.exceeds_page_limit.result c.if-exceeds_page_limit.false (c.exceeds_page_limit.ensures.1 many)))
 
 at_least_one : (numbers count more : ℕ) → numbers ≡ 1 + count + more → 1 ≤ numbers
 at_least_one numbers count more is = omega (arith, is)

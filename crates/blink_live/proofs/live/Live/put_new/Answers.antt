@@ -1,14 +1,53 @@
-use Rattle.std.proofs.Common.{ℕ, suc, ◌+◌, Option, refl, sym, ap, ◌∙◌, subst, true, false}
+use Rattle.std.proofs.Common.{ℕ, suc, ◌+◌, ◌<◌, Option, refl, sym, ap, ◌∙◌, subst, true, false}
+use Rattle.blink_page.specs.{IsPageNumber}
 use Rattle.blink_rows.specs.declared.span.Span.{Span}
 use Rattle.blink_machine.specs.{write_page, done}
 use Rattle.blink_live.specs.declared.shelf.Shelf.{Shelf}
 use Rattle.blink_live.specs.AtomicSteps.{PublishesNew}
 use Rattle.blink_live.specs.ComingBack.{takes_in}
+use Rattle.blink_live.specs.Seats.{IsFirst}
 use Rattle.blink_live.specs.Shelves.{IsShelved}
 use Rattle.blink_live.specs.Views.{IsCommon, SeatState, no_aside, span}
+use Rattle.blink_live.specs.Updating.{IsUnderWay}
+use Rattle.blink_live.proofs.changed.CallsWrite.{writes_lent, writes_own}
 use Rattle.blink_live.proofs.changed.RowsAreLent.{lent_and_back, shelved_so}
 use Rattle.blink_live.proofs.changed.UpdatesGoOn as on
 use Rattle.blink_live.proofs.live.Live.put_new.Goals as goal
+
+pub write_new-requires-clause-can : goal.write_new-requires-clause-can
+write_new-requires-clause-can c =
+    let under_way = c.requires.under_way in
+    writes_lent c.args.self.now under_way.0 under_way.1 c.args.seat.now c.lend.new.seat c.args.machine.now c.args.room.now c.lend.new.room under_way.2 c.requires.goes_on c.lend.ensures.same c.in-Some.row c.in-Some.ensures.lent c.in-Some.ensures.in_range
+
+pub write_new-requires-2-clause-can : goal.write_new-requires-2-clause-can
+write_new-requires-2-clause-can c =
+    let under_way = c.requires.under_way in
+    let is : IsUnderWay c.args.self.now under_way.0 under_way.1 c.args.seat.now c.args.machine.now c.args.room.now = under_way.2 in
+    writes_own c.args.self.now under_way.0 under_way.1 c.args.seat.now c.lend.new.seat c.args.machine.now c.args.room.now c.lend.new.room is c.requires.goes_on c.lend.ensures.same c.in_default.ensures.none c.lend.ensures.same_room (on.row_for_new is c.requires.needs c.in_default.ensures.none_free)
+
+pub write_new-requires-clause-number : goal.write_new-requires-clause-number
+write_new-requires-clause-number c =
+    let number = on.number_for_new c.requires.under_way.2 c.requires.needs in
+    let pages = c.lend.ensures.same_room.pages in
+    let lent = c.in-Some.ensures.lent.is in
+    subst (λ (x : Span × SeatState). IsFirst x.0.next x.1.0.call.pages) (λ i. (sym pages i, sym lent i)) number.0
+
+pub write_new-requires-clause-in_range : goal.write_new-requires-clause-in_range
+write_new-requires-clause-in_range c =
+    let number = on.number_for_new c.requires.under_way.2 c.requires.needs in
+    subst (λ (pages : Span). IsPageNumber pages.next × (pages.next < c.args.self.now.counts.numbers)) (sym c.lend.ensures.same_room.pages) (number.1, number.2)
+
+pub write_new-requires-2-clause-number : goal.write_new-requires-2-clause-number
+write_new-requires-2-clause-number c =
+    let number = on.number_for_new c.requires.under_way.2 c.requires.needs in
+    let pages = c.lend.ensures.same_room.pages in
+    let none = c.in_default.ensures.none in
+    subst (λ (x : Span × SeatState). IsFirst x.0.next x.1.0.call.pages) (λ i. (sym pages i, sym none i)) number.0
+
+pub write_new-requires-2-clause-in_range : goal.write_new-requires-2-clause-in_range
+write_new-requires-2-clause-in_range c =
+    let number = on.number_for_new c.requires.under_way.2 c.requires.needs in
+    subst (λ (pages : Span). IsPageNumber pages.next × (pages.next < c.args.self.now.counts.numbers)) (sym c.lend.ensures.same_room.pages) (number.1, number.2)
 
 pub returns-in-Some-clause-under_way : goal.returns-in-Some-clause-under_way
 returns-in-Some-clause-under_way c op first is =

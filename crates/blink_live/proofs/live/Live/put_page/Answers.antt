@@ -4,9 +4,22 @@ use Rattle.blink_machine.specs.{write_page, done}
 use Rattle.blink_live.specs.AtomicSteps.{PublishesPage}
 use Rattle.blink_live.specs.ComingBack.{takes_in}
 use Rattle.blink_live.specs.Views.{SeatState, no_aside, span, takes_out}
+use Rattle.blink_live.specs.Updating.{IsUnderWay}
+use Rattle.blink_live.proofs.changed.CallsWrite.{writes_lent, writes_own}
 use Rattle.blink_live.proofs.changed.RowsAreLent.{lent_and_back}
 use Rattle.blink_live.proofs.changed.UpdatesGoOn as on
 use Rattle.blink_live.proofs.live.Live.put_page.Goals as goal
+
+pub write_page-out-requires-clause-can : goal.write_page-out-requires-clause-can
+write_page-out-requires-clause-can c =
+    let under_way = c.requires.under_way in
+    writes_lent c.args.self.now under_way.0 under_way.1 c.args.seat.now c.lend.new.seat c.args.machine.now c.args.room.now c.lend.new.room under_way.2 c.requires.goes_on c.lend.ensures.same c.in-Some.row c.in-Some.ensures.lent c.in-Some.ensures.in_range
+
+pub write_page-out-requires-2-clause-can : goal.write_page-out-requires-2-clause-can
+write_page-out-requires-2-clause-can c =
+    let under_way = c.requires.under_way in
+    let is : IsUnderWay c.args.self.now under_way.0 under_way.1 c.args.seat.now c.args.machine.now c.args.room.now = under_way.2 in
+    writes_own c.args.self.now under_way.0 under_way.1 c.args.seat.now c.lend.new.seat c.args.machine.now c.args.room.now c.lend.new.room is c.requires.goes_on c.lend.ensures.same c.in_default.ensures.none c.lend.ensures.same_room (on.row_for_page is c.args.number c.requires.needs c.in_default.ensures.none_free)
 
 pub returns-in-Some-clause-under_way : goal.returns-in-Some-clause-under_way
 returns-in-Some-clause-under_way c op first is =

@@ -1,10 +1,11 @@
-use Rattle.std.proofs.Common.{◌≡◌, ℕ, ◌+◌, ◌<◌, ◌≤◌, Option, List, ◌++◌, sym, ◌∙◌, subst, arith}
+use Rattle.std.proofs.Common.{◌≡◌, ℕ, ◌+◌, ◌<◌, ◌≤◌, Option, Some, List, ◌++◌, sym, ◌∙◌, subst, arith}
 use Rattle.std.specs.Prelude.{IfSome}
 use Rattle.blink_batch.specs.declared.Entry.{Entry}
 use Rattle.blink_live.specs.Scanning.{IsCopied, stop_of}
 use Rattle.blink_live.specs.Snapshots.{IsSameBesideRow}
 use Rattle.blink_live.specs.Views.{SeatState, known_of}
-use Rattle.blink_live.proofs.looked.SnapshotsGoOn.{copied_on, is_snapshot, row_twice}
+use Rattle.blink_live.proofs.found.FindsOfSeveral.{searched_seat}
+use Rattle.blink_live.proofs.looked.SnapshotsGoOn.{copied_on, is_snapshot, row_twice, searched_row}
 use Rattle.blink_live.proofs.scanned.PlacesAreFilled.{first_places}
 use Rattle.blink_live.proofs.live.Live.read_leaves.Goals as goal
 
@@ -14,6 +15,37 @@ copied_so_far : (first then : SeatState) (lo from stop : ℕ) (entries more fill
 copied_so_far first then lo from stop entries more filled same before copied is begins ends =
     subst (λ (es : List Entry). IsCopied (known_of first.0) lo stop (entries ++ es)) (sym is)
     (copied_on (known_of first.0) lo from stop entries more before (subst (λ (x : SeatState). IsCopied (known_of x.0) from stop more) same copied) begins ends)
+
+pub read_again-requires-clause-seat : goal.read_again-requires-clause-seat
+read_again-requires-clause-seat c =
+    let before = c.loop-leaf.invariant in
+    searched_seat c.args.self.now c.args.seat.now.table_id c.loop-leaf.seat.table_id c.args.seat.now.me c.loop-leaf.seat.me before.same_table.0 (searched_row c.args.seat.now.me c.loop-leaf.seat.me c.requires.idle before.same) c.requires.seat
+
+pub read_again-requires-clause-idle : goal.read_again-requires-clause-idle
+read_again-requires-clause-idle c = (searched_row c.args.seat.now.me c.loop-leaf.seat.me c.requires.idle c.loop-leaf.invariant.same).idle
+
+pub read_again-requires-clause-marked : goal.read_again-requires-clause-marked
+read_again-requires-clause-marked c = subst (λ (x : SeatState). x.0.look.marked ≡ Some x.0.seen) (sym c.loop-leaf.invariant.same) c.requires.marked
+
+pub copy_leaf-run-requires-clause-seat : goal.copy_leaf-run-requires-clause-seat
+copy_leaf-run-requires-clause-seat c =
+    let before = c.loop-leaf.invariant in
+    let again = c.read_again.ensures in
+    let both = row_twice c.args.seat.now.me c.loop-leaf.seat.me c.read_again.new.seat.me before.same again.same in
+    searched_seat c.args.self.now c.args.seat.now.table_id c.read_again.new.seat.table_id c.args.seat.now.me c.read_again.new.seat.me (again.same_table.0 ∙ before.same_table.0) (searched_row c.args.seat.now.me c.read_again.new.seat.me c.requires.idle both) c.requires.seat
+
+pub returns-then-not-read_again-clause-same : goal.returns-then-not-read_again-clause-same
+returns-then-not-read_again-clause-same c = row_twice c.args.seat.now.me c.loop-leaf.seat.me c.read_again.new.seat.me c.loop-leaf.invariant.same c.read_again.ensures.same
+
+pub returns-in_err-extend_from_slice-clause-same : goal.returns-in_err-extend_from_slice-clause-same
+returns-in_err-extend_from_slice-clause-same c =
+    subst (IsSameBesideRow c.args.seat.now.me) (sym c.copy_leaf-run.ensures.same.2)
+    (row_twice c.args.seat.now.me c.loop-leaf.seat.me c.read_again.new.seat.me c.loop-leaf.invariant.same c.read_again.ensures.same)
+
+pub returns-in-None-clause-same : goal.returns-in-None-clause-same
+returns-in-None-clause-same c =
+    subst (IsSameBesideRow c.args.seat.now.me) (sym c.copy_leaf-run.ensures.same.2)
+    (row_twice c.args.seat.now.me c.loop-leaf.seat.me c.read_again.new.seat.me c.loop-leaf.invariant.same c.read_again.ensures.same)
 
 pub loop-leaf-preserved : goal.loop-leaf-preserved
 loop-leaf-preserved c =

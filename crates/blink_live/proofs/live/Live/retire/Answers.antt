@@ -11,6 +11,37 @@ use Rattle.blink_live.proofs.retired.KeeperKnowsThen.{comes_to, free_changes, fr
 use Rattle.blink_live.proofs.retired.KeysWithout.{left_out, stays}
 use Rattle.blink_live.proofs.live.Live.retire.Goals as goal
 
+pub tell_each_other-requires-clause-keeper : goal.tell_each_other-requires-clause-keeper
+tell_each_other-requires-clause-keeper c = (c.args.keeper.now.dealt, c.args.keeper.now.back, c.args.keeper.now.role_is)
+
+pub tell_each_other-requires-clause-pass : goal.tell_each_other-requires-clause-pass
+tell_each_other-requires-clause-pass c = record { same_table = c.requires.its_pass.0; same_plan = c.requires.its_pass.1; role = c.args.pass.role_is }
+
+pub take_in-requires-clause-tables : goal.take_in-requires-clause-tables
+take_in-requires-clause-tables c = let same = c.tell_each_other.ensures.same in (same.0.0 ∙ c.requires.its_keeper.0, same.1.0 ∙ c.requires.its_pass.0)
+
+pub take_in-requires-clause-owned : goal.take_in-requires-clause-owned
+take_in-requires-clause-owned c = ap (λ (x : SeatState). x.0.plan.places) c.tell_each_other.ensures.told.same_keeper ∙ c.args.keeper.now.owned
+
+pub take_in-requires-clause-pass : goal.take_in-requires-clause-pass
+take_in-requires-clause-pass c =
+    let is = c.tell_each_other.ensures.told.is in
+    let pass = c.args.pass in (ap (λ (x : SeatState). x.0.role) is ∙ pass.role_is, ap (λ (x : SeatState). x.0.operation) is ∙ pass.idle, ap (λ (x : SeatState). x.1) is ∙ pass.no_slot)
+
+pub take_in-requires-clause-saw : goal.take_in-requires-clause-saw
+take_in-requires-clause-saw c =
+    let told = c.tell_each_other.ensures.told in
+    let keeper = ap (λ (x : SeatState). x.0.seen) told.same_keeper in
+    let pass = ap (λ (x : SeatState). x.0.seen) told.is in
+    (told.knows_own.changes, subst (λ (seen : List Change × List Change). IsPrefix seen.0 seen.1) (λ i. (sym keeper i, sym pass i)) told.heard)
+
+pub look_around-requires-clause-table : goal.look_around-requires-clause-table
+look_around-requires-clause-table c = c.take_in.ensures.same.0 ∙ (c.tell_each_other.ensures.same.0.0 ∙ c.requires.its_keeper.0)
+
+pub look_around-requires-clause-owned : goal.look_around-requires-clause-owned
+look_around-requires-clause-owned c =
+    ap (λ (x : SeatState). x.0.plan.places) c.take_in.ensures.back ∙ (ap (λ (x : SeatState). x.0.plan.places) c.tell_each_other.ensures.told.same_keeper ∙ c.args.keeper.now.owned)
+
 pub take_in-requires-clause-picked : goal.take_in-requires-clause-picked
 take_in-requires-clause-picked c = (refl, refl)
 

@@ -1,0 +1,26 @@
+use Rattle.std.proofs.Common.{sym, ap, ◌∙◌, subst}
+use Rattle.blink_batch.specs.{key_of}
+use Rattle.blink_live.specs.Seats.{IsFirst}
+use Rattle.blink_live.specs.Views.{MayChange, SeatState}
+use Rattle.blink_live.proofs.live.Live.write_new.Goals as goal
+
+pub publish_new-requires-clause-seat : goal.publish_new-requires-clause-seat
+publish_new-requires-clause-seat c =
+    let seat = c.requires.can.seat in
+    let staged = c.stage_row.ensures.staged in record {
+      same_table = c.stage_row.ensures.same.0 ∙ seat.same_table;
+      same_plan = ap (λ (x : SeatState). x.0.plan) staged ∙ seat.same_plan;
+      role = ap (λ (x : SeatState). x.0.role) staged ∙ seat.role;
+    }
+
+pub publish_new-requires-clause-at : goal.publish_new-requires-clause-at
+publish_new-requires-clause-at c = ap (λ (x : SeatState). x.0.operation) c.stage_row.ensures.staged ∙ c.requires.can.at
+
+pub publish_new-requires-clause-number : goal.publish_new-requires-clause-number
+publish_new-requires-clause-number c = subst (λ (x : SeatState). IsFirst c.args.number x.0.call.pages) (sym c.stage_row.ensures.staged) c.requires.number
+
+pub publish_new-requires-clause-row : goal.publish_new-requires-clause-row
+publish_new-requires-clause-row c = subst (λ (x : SeatState). IsFirst c.args.row x.0.call.rows) (sym c.stage_row.ensures.staged) c.requires.can.first_row.0
+
+pub publish_new-requires-clause-may : goal.publish_new-requires-clause-may
+publish_new-requires-clause-may c = subst (λ (x : SeatState). MayChange x.0 (key_of c.args.machine.now.op)) (sym c.stage_row.ensures.staged) c.requires.can.may
