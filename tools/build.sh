@@ -67,21 +67,22 @@ output_of() {
     fi
 }
 
-# How many processes prove a crate. Each more loads the libraries once more, and a function's proof waits for those of the functions that it
-# calls. So two took 0.6 to 0.8 of the time of one, and 1.1 to 1.4 of its processor time; four took 0.7 of it for `index_main`, and 1.1. That
-# pays where all others wait for the crate: most where nothing else can be proved meanwhile.
+# How many processes prove a crate. Each more loads the libraries once more, a function's proof waits for those of the functions that it
+# calls, and what one has worked out the others don't know. `blink_machine` took 95 processor seconds by one in 92 seconds, 138 by two in 74,
+# and 165 by four in 66. So there are several only where other crates wait for this one.
 jobs_of() {
     case $1 in
     blink_c | blink_index | blink_live | blink_machine | blink_map | blink_owners | blink_run | index_main) echo "$processors" ;;
-    blink_page | blink_rest | blink_settings | blink_steps | blink_store) echo $(((processors + 1) / 2)) ;;
+    blink_page | blink_rest | blink_steps | blink_store) echo $(((processors + 1) / 2)) ;;
     *) echo 1 ;;
     esac
 }
 
-# How far a crate gives way to others. This one can be proved early and is needed late, so it takes what the chain of the others leaves.
+# How far a crate gives way to others. These can be proved early and are needed late, so they take what the chain of the others leaves.
 niceness_of() {
     case $1 in
     blink_rows) echo 19 ;;
+    blink_command) echo 5 ;;
     *) echo 0 ;;
     esac
 }
