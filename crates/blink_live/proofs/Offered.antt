@@ -31,3 +31,20 @@ pub use Rattle.blink_live.proofs.scanned.PlacesAreFilled.{first_places, other_pl
 pub use Rattle.blink_live.proofs.changed.OperationsRest.{marked, under_way_marked}
 -- how many rows an operation takes
 pub use Rattle.blink_live.proofs.changed.RowsTaken.{enough_taken, few_taken, less_space, taken_in_order}
+-- a session's seat marks its place, and takes back what its call hasn't used
+pub use Rattle.blink_live.proofs.changed.PlacesAreMarked.{place_is_marked}
+pub use Rattle.blink_live.proofs.changed.RoomComesBack.{room_comes_back}
+-- rows wait until each place is past, and are free then; the last row of a span is free too
+pub use Rattle.blink_live.proofs.reuse.RowsWait.{begins_wait_at, checks_place_at, collects_at, sees_place_at}
+pub use Rattle.blink_live.proofs.reuse.RowsAreFreed.{frees_row_at}
+-- the pool's words are drawn from
+pub use Rattle.blink_live.proofs.changed.PoolIsDrawn.{pages_are_drawn, rows_are_drawn}
+-- a table with places opens
+pub use Rattle.blink_live.proofs.opened.PlacesAreLaid.{laid_common}
+pub use Rattle.blink_live.proofs.opened.OpeningIsTable.{opens, plan_over}
+-- its host sees what sessions told it, and takes their accounts; what is there at the end
+pub use Rattle.blink_live.proofs.told.LooksUpKeepTable.{host_looks_up_prime}
+pub use Rattle.blink_live.proofs.closed.AccountsComeBack.{taking_account_keeps_table}
+pub use Rattle.blink_live.proofs.closed.CommonTableAtTheEnd.{AreIdle, IsAtEndOfAll, at_end_of_all}
+pub use Rattle.blink_live.proofs.closed.EntriesOfStore.{map_is}
+pub use Rattle.blink_live.proofs.gathered.RowIsOfKeptPage.{word_there}

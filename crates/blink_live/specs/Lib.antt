@@ -67,4 +67,3 @@ pub mod Gathered
 pub mod ToCome
 pub mod Renumbered
 pub mod GivingBack
-pub mod Common

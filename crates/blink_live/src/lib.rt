@@ -4,7 +4,6 @@
 
 mod advance;
 mod close;
-mod common;
 mod deal;
 mod error;
 mod find_all;
@@ -13,7 +12,6 @@ mod keys;
 mod live;
 mod open;
 mod operations;
-mod place;
 mod read;
 mod retire;
 mod room;
@@ -31,10 +29,14 @@ pub use live::{Keeper, Live, Pass, Pending};
 pub use scan::{Scanned, reports_tell};
 
 // What a map is made of, in the crate above: the seats of a table, and what their calls are made of.
-pub use common::{CloseRefusal, Extent};
+pub use close::tree_at_end;
 pub use find_all::Trail;
+pub use open::{lay_tree, word_count};
 pub use room::Room;
-pub use rule::{Dealt, InvariantOfTree};
+pub use rule::{
+    BeginWait, CheckPlace, Collect, Dealt, DrawPages, DrawRows, FreeRow, GiveBack, InvariantOfTree,
+    LookUp, MarkPlace, Planned, SeePlace, TakeAccount,
+};
 pub use shelf::Shelf;
 pub use snapshot::NotedLeaf;
 pub use view::{Aside, Call, Change, Look, Opened, Plan, Role, Share, Stock, View};

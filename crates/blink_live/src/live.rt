@@ -26,11 +26,12 @@ use std::snapshot::Snapshot;
 /// hold a tree state for which the invariant holds (`specs/Rule.antt`).
 #[derive(Drop)]
 pub struct Live {
-    pub(crate) table: Table<u8, View, Opened, InvariantOfTree, Global>,
-    pub(crate) counts: Counts,
-    pub(crate) fan: u8,
+    // Open to the crate of maps, which takes atomic steps of its own. The clauses below bind whoever makes a table.
+    pub table: Table<u8, View, Opened, InvariantOfTree, Global>,
+    pub counts: Counts,
+    pub fan: u8,
     // 0 where passes own the keys; else the number of places for sessions.
-    pub(crate) places: u64,
+    pub places: u64,
     ghost counts_are: { counts ≡ table.shared.key.counts },
     ghost fan_is: { (fan ≡ table.shared.key.index.value.fan) × IsFan fan },
     ghost some_number: { 1 ≤ counts.numbers },

@@ -125,14 +125,14 @@ fn laid_words(alloc: Global, counts: &Counts, store: &Store) -> Result<Vec<u64>,
 }
 
 // The number of words of a table.
-pub(crate) fn word_count(counts: &Counts) -> usize
+pub fn word_count(counts: &Counts) -> usize
     ensures { result ≡ word_count counts.now }
 {
     2 * counts.numbers as usize + ROW_WORDS * counts.rows as usize
 }
 
 // Lays the prime block and the pages into words that are all 0 before.
-pub(crate) fn lay_tree(words: &mut [u64], counts: &Counts, store: &Store)
+pub fn lay_tree(words: &mut [u64], counts: &Counts, store: &Store)
     requires numbers { length store.now.pages < counts.now.numbers }
     requires rows { length store.now.pages < counts.now.rows }
     requires blank { words.old ≡ replicate (word_count counts.now) 0 }

@@ -5,7 +5,7 @@ use Rattle.atomic_table.specs.declared.Seat.{Seat}
 use Rattle.atomic_table.specs.Table.{State}
 use Rattle.blink_live.specs.declared.live.Live.{Live}
 use Rattle.blink_live.specs.declared.view.View.{View}
-use Rattle.blink_live.specs.Common.{IsHost}
+use Rattle.blink_map.specs.Common.{IsHost}
 use Rattle.blink_map.specs.declared.places.Claim.{Claim}
 
 -- the host's seat is in the one slot

@@ -12,6 +12,7 @@ pub use Rattle.blink_map.specs.Stocks.{stock_of}
 pub use Rattle.blink_map.specs.Codes.{code_of}
 -- ---- the files
 pub mod Codes
+pub mod Common
 pub mod Hosting
 pub mod Finding
 pub mod Changing

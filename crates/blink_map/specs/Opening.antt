@@ -6,7 +6,7 @@ use Rattle.atomic_table.specs.declared.Seat.{Seat}
 use Rattle.blink_live.specs.declared.live.Live.{Live}
 use Rattle.blink_live.specs.declared.view.Role.TheVariants.{Keeper}
 use Rattle.blink_live.specs.declared.view.View.{View}
-use Rattle.blink_live.specs.Common.{IsHost}
+use Rattle.blink_map.specs.Common.{IsHost}
 use Rattle.blink_live.specs.Views.{span}
 use Rattle.blink_map.specs.declared.member.Member.{Member}
 use Rattle.blink_map.specs.Places.{IsMemberOf}

@@ -18,6 +18,7 @@ use crate::change::{BATCH_ROWS, come_back, room_of};
 use crate::error::Full;
 use crate::map::{Map, Pending, Session};
 use crate::member::{Member, REST, UnderWay, next_mark};
+use crate::steps::mark_place;
 use blink_batch::{Answer, Op};
 use blink_live::Live;
 use blink_machine::Machine;
@@ -212,11 +213,11 @@ impl Member {
             shelf,
             mut mark,
         } = self;
-        live.mark(&mut seat, place, next_mark(&mut mark));
+        mark_place(live, &mut seat, place, next_mark(&mut mark));
         let room = room_of(op, &rows, &pages, shelf);
         let mut machine = Machine::new(op, live.fan());
         live.set_out(&mut seat, &mut machine, &room, op);
-        live.mark(&mut seat, place, REST);
+        mark_place(live, &mut seat, place, REST);
         UnderWay {
             seat,
             rows,
@@ -248,7 +249,7 @@ impl UnderWay {
             room: _,
             mark,
         } = self;
-        live.mark(seat, *place, next_mark(mark));
+        mark_place(live, seat, *place, next_mark(mark));
     }
 
     // The operation rests: it reads no row, and holds no row back.
@@ -260,7 +261,7 @@ impl UnderWay {
             → IsAtRest live.now op old self.new }
         ensures machine { self.new.machine ≡ self.old.machine }
     {
-        live.mark(&mut self.seat, self.place, REST);
+        mark_place(live, &mut self.seat, self.place, REST);
     }
 
     // The member when its operation has ended. What the operation hasn't used of its rows and page numbers is the member's again.

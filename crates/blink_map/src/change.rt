@@ -22,6 +22,7 @@ use crate::map::{Map, Session};
 use crate::member::{Member, REST, next_mark};
 use crate::pool::{draw_pages, draw_rows};
 use crate::recycle::{free_rows, recycle};
+use crate::steps::{give_back, mark_place};
 use atomic_table::Seat;
 use blink_batch::{Answer, Op};
 use blink_live::{Live, Room, Shelf, View};
@@ -342,7 +343,7 @@ impl Member {
             shelf,
             mark,
         } = self;
-        live.mark(seat, *place, next_mark(mark));
+        mark_place(live, seat, *place, next_mark(mark));
         let mut room = room_of(op, rows, pages, shelf.take());
         let mut machine = Machine::new(op, live.fan());
         live.set_out(seat, &mut machine, &room, op);
@@ -460,9 +461,9 @@ fn to_end<R: Wait>(
         if let Some(answer) = live.take_steps(seat, machine, room, 1) {
             return answer;
         }
-        live.mark(seat, place, REST);
+        mark_place(live, seat, place, REST);
         thread::yield_now();
-        live.mark(seat, place, next_mark(mark));
+        mark_place(live, seat, place, next_mark(mark));
     }
     unreachable!()
 }
@@ -477,6 +478,6 @@ pub(crate) fn come_back(live: &Live, seat: &mut Seat<u8, View>, place: u64)
     ensures idle { seat.new.me ≡ (is_busy (gives_back seat.old.me.0) 0, seat.old.me.1) }
     ensures saw_own { HasSeenItsOwn seat.new.me.0 }
 {
-    live.give_back(seat);
-    live.mark(seat, place, 0);
+    give_back(live, seat);
+    mark_place(live, seat, place, 0);
 }

@@ -2,20 +2,21 @@
 ghost use Rattle.std.specs.Prelude.{◌≡◌, ◌⊎◌, ◌∷◌, All, IfErr, IfOk};
 ghost use mathlib.Core.List.{IsPrefix};
 ghost use Rattle.blink_index.specs.{map_of};
-ghost use Rattle.blink_live.specs.Common.{IsHost};
+ghost use Rattle.blink_map.specs.Common.{IsHost};
 ghost use Rattle.blink_live.specs.Accounts.{account_of};
 ghost use Rattle.blink_live.specs.{IsNumberedInOrder};
 ghost use Rattle.blink_map.specs.Closing.{HasSettled};
 ghost use Rattle.blink_map.specs.Places.{IsMemberOf};
 ghost use Rattle.blink_map.specs.Sessions.{IsClosedWith, IsSessionOf, seen_by};
 
+use crate::common::{CloseRefusal, close_common, settle_with};
 use crate::error::MapError;
 use crate::map::{Map, Session};
 use crate::member::Member;
 use crate::rest::take_host;
 use atomic_table::Seat;
 use blink_index::Index;
-use blink_live::{CloseRefusal, Live, View};
+use blink_live::{Live, View};
 use std::alloc::Global;
 
 impl Map {
@@ -41,7 +42,7 @@ impl Map {
         } = self;
         let mut host = take_host(host);
         settle_all(&live, &mut host, sessions);
-        match live.close_common(alloc, host) {
+        match close_common(live, alloc, host) {
             Ok(index) => Ok(index),
             Err(CloseRefusal::UnderWay) => Err(MapError::UnderWay),
             Err(CloseRefusal::OutOfMemory) => Err(MapError::OutOfMemory),
@@ -83,5 +84,5 @@ fn settle(live: &Live, host: &mut Seat<u8, View>, member: Member)
         shelf: _,
         mark: _,
     } = member;
-    live.settle_with(host, seat);
+    settle_with(live, host, seat);
 }

@@ -9,6 +9,7 @@ ghost use Rattle.blink_map.specs.Sessions.{IsSameBesideSeen, IsSessionOf, openin
 
 use crate::map::{Map, Session};
 use crate::member::{Member, next_mark};
+use crate::steps::mark_place;
 use blink_batch::Answer;
 use blink_live::Live;
 
@@ -45,9 +46,9 @@ impl Member {
             shelf: _,
             mark,
         } = self;
-        live.mark(seat, *place, next_mark(mark));
+        mark_place(live, seat, *place, next_mark(mark));
         let answer = live.search(seat, key, None);
-        live.mark(seat, *place, 0);
+        mark_place(live, seat, *place, 0);
         match answer {
             Answer::Found(pointer) => Some(pointer),
             _ => None,

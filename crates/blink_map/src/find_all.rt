@@ -7,6 +7,7 @@ ghost use Rattle.blink_map.specs.Sessions.{AnswersAsSeen, IsSameBesideSeen, IsSe
 
 use crate::map::{Map, Session};
 use crate::member::{Member, next_mark};
+use crate::steps::mark_place;
 use blink_live::Live;
 
 impl Map {
@@ -47,8 +48,8 @@ impl Member {
             shelf: _,
             mark,
         } = self;
-        live.mark(seat, *place, next_mark(mark));
+        mark_place(live, seat, *place, next_mark(mark));
         live.search_all(seat, keys, answers);
-        live.mark(seat, *place, 0);
+        mark_place(live, seat, *place, 0);
     }
 }

@@ -4,6 +4,7 @@
 mod advance;
 mod change;
 mod close;
+mod common;
 mod error;
 mod find;
 mod find_all;
@@ -20,6 +21,7 @@ mod scan;
 mod sessions;
 mod shortage;
 mod snapshot;
+mod steps;
 mod stock;
 mod tell;
 

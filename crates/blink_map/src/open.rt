@@ -1,12 +1,13 @@
 //! Opening a map over an index.
 ghost use Rattle.std.specs.Prelude.{◌≡◌, ◌⊎◌, ◌↔◌, ◌+◌, ◌++◌, ◌<◌, ◌≤◌, [], ◌∷◌, Some, replicate, IfErr, IfOk, OnOk, IsErrOf, length};
-ghost use Rattle.blink_live.specs.Common.{IsHost};
+ghost use Rattle.blink_map.specs.Common.{IsHost};
 ghost use Rattle.blink_live.specs.Shelves.{stock_of};
 ghost use Rattle.blink_live.specs.Views.{no_stock};
 ghost use Rattle.blink_map.specs.Opening.{AreMembers, IsHostWith};
 ghost use Rattle.blink_map.specs.Places.{IsMemberOf};
 ghost use Rattle.blink_map.specs.Sessions.{IsOpenedWith, IsTooLarge};
 
+use crate::common::{Extent, open_common};
 use crate::error::MapError;
 use crate::map::{Map, Room};
 use crate::member::Member;
@@ -14,7 +15,7 @@ use crate::places::{Claim, RuleOfPlaces, Stand};
 use crate::rest::lay_host;
 use atomic_table::{Seat, Table};
 use blink_index::Index;
-use blink_live::{Dealt, Extent, Live, Shelf, View};
+use blink_live::{Dealt, Live, Shelf, View};
 use blink_page::MAX_PAGE;
 use blink_rows::{MAX_ROWS_PER_INSERT, Span};
 use std::alloc::{AllocError, Global};
@@ -56,7 +57,7 @@ impl Map {
             rows: room.rows,
             places: room.sessions,
         };
-        let Ok((live, mut host)) = Live::open_common(alloc, index, extent) else {
+        let Ok((live, mut host)) = open_common(alloc, index, extent) else {
             return Err(MapError::OutOfMemory);
         };
         let Ok(members) = members(alloc, &live, &mut host, room.sessions, quota_of(&room)) else {

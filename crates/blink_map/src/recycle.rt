@@ -4,6 +4,7 @@ ghost use Rattle.blink_live.specs.Allowed.{length_of};
 ghost use Rattle.blink_live.specs.Seats.{HasSameNumber, IsPassSeat};
 ghost use Rattle.blink_live.specs.Shelves.{HasOtherRows, HasOtherStock, IsShelved, rows_on};
 
+use crate::steps::{begin_wait, check_place, collect, free_row, see_place};
 use atomic_table::Seat;
 use blink_live::{Live, Shelf, View};
 use blink_rows::Span;
@@ -27,7 +28,7 @@ pub(crate) fn recycle(live: &Live, seat: &mut Seat<u8, View>, shelf: &mut Shelf,
         see_places(live, seat, shelf);
     }
     check_places(live, seat, shelf);
-    if shelf.passed == live.places() {
+    if shelf.passed == live.places {
         take_waiting(live, seat, shelf);
     }
 }
@@ -45,7 +46,7 @@ fn start_wait(live: &Live, seat: &mut Seat<u8, View>, shelf: &mut Shelf)
     mem::swap(&mut shelf.retired, &mut shelf.waiting);
     shelf.before.clear();
     shelf.passed = 0;
-    live.begin_wait(seat);
+    begin_wait(live, seat);
 }
 
 // Looks at the mark of each place for the first time.
@@ -57,7 +58,7 @@ fn see_places(live: &Live, seat: &mut Seat<u8, View>, shelf: &mut Shelf)
     ensures restocked { HasOtherStock seat.old.me seat.new.me }
     ensures shelved { IsShelved (Some shelf.new) seat.new.me.0 }
 {
-    for place in 0..live.places() {
+    for place in 0..live.places {
         if !note_mark(live, seat, shelf, place) {
             return;
         }
@@ -78,7 +79,7 @@ fn note_mark(live: &Live, seat: &mut Seat<u8, View>, shelf: &mut Shelf, place: u
     if shelf.before.len() == shelf.before.capacity() {
         return false;
     }
-    let mark = live.see_place(seat, place);
+    let mark = see_place(live, seat, place);
     if shelf.before.push(mark).is_err() {
         unreachable!()
     }
@@ -93,7 +94,7 @@ fn check_places(live: &Live, seat: &mut Seat<u8, View>, shelf: &mut Shelf)
     ensures restocked { HasOtherStock seat.old.me seat.new.me }
     ensures shelved { IsShelved (Some shelf.new) seat.new.me.0 }
 {
-    for _ in 0..live.places() {
+    for _ in 0..live.places {
         if !find_past(live, seat, shelf) {
             return;
         }
@@ -109,10 +110,10 @@ fn find_past(live: &Live, seat: &mut Seat<u8, View>, shelf: &mut Shelf) -> bool
     ensures shelved { IsShelved (Some shelf.new) seat.new.me.0 }
 {
     let place = shelf.passed;
-    if place >= live.places() || place as usize >= shelf.before.len() {
+    if place >= live.places || place as usize >= shelf.before.len() {
         return false;
     }
-    let mark = live.check_place(seat, place);
+    let mark = check_place(live, seat, place);
     if mark > 1 && mark == shelf.before[place as usize] {
         return false;
     }
@@ -130,7 +131,7 @@ fn take_waiting(live: &Live, seat: &mut Seat<u8, View>, shelf: &mut Shelf)
     ensures shelved { IsShelved (Some shelf.new) seat.new.me.0 }
 {
     if shelf.free.append(&mut shelf.waiting).is_ok() {
-        live.collect(seat);
+        collect(live, seat);
     }
 }
 
@@ -172,7 +173,7 @@ fn free_last(live: &Live, seat: &mut Seat<u8, View>, rows: &mut Span, shelf: &mu
     if rows.next == rows.stop || shelf.free.len() == shelf.free.capacity() {
         return false;
     }
-    live.free_row(seat);
+    free_row(live, seat);
     rows.stop -= 1;
     if shelf.free.push(rows.stop).is_err() {
         unreachable!()

@@ -1,6 +1,6 @@
 //! The rest of the host's seat while a map is open: a table of its own, since threads can't share a seat.
 ghost use Rattle.std.specs.Prelude.{◌≡◌, IfOk};
-ghost use Rattle.blink_live.specs.Common.{IsHost};
+ghost use Rattle.blink_map.specs.Common.{IsHost};
 
 use crate::places::{Claim, Stand};
 use atomic_table::{Seat, Table, TableRule};

@@ -7,6 +7,7 @@ ghost use Rattle.blink_map.specs.Sessions.{IsSameBesideSeen, IsSessionOf, openin
 
 use crate::map::{Map, Session};
 use crate::member::{Member, next_mark};
+use crate::steps::mark_place;
 use blink_batch::Entry;
 use blink_live::{Live, Scanned};
 
@@ -57,9 +58,9 @@ impl Member {
             shelf: _,
             mark,
         } = self;
-        live.mark(seat, *place, next_mark(mark));
+        mark_place(live, seat, *place, next_mark(mark));
         let scanned = live.scan_by(seat, lo, hi, into);
-        live.mark(seat, *place, 0);
+        mark_place(live, seat, *place, 0);
         scanned
     }
 }

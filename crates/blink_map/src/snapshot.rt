@@ -8,6 +8,7 @@ ghost use Rattle.blink_map.specs.Sessions.{IsSameBesideSeen, IsSessionOf, openin
 
 use crate::map::{Map, Session};
 use crate::member::{Member, next_mark};
+use crate::steps::mark_place;
 use blink_batch::Entry;
 use blink_live::Live;
 use std::alloc::{AllocError, Global};
@@ -66,9 +67,9 @@ impl Member {
             shelf: _,
             mark,
         } = self;
-        live.mark(seat, *place, next_mark(mark));
+        mark_place(live, seat, *place, next_mark(mark));
         let found = live.snapshot_by(alloc, seat, lo, hi, tries);
-        live.mark(seat, *place, 0);
+        mark_place(live, seat, *place, 0);
         found
     }
 }

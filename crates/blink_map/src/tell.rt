@@ -9,6 +9,7 @@ ghost use Rattle.blink_map.specs.Telling.{IsStill};
 
 use crate::map::{Map, Session};
 use crate::member::Member;
+use crate::steps::mark_place;
 use blink_live::Live;
 
 impl Map {
@@ -65,6 +66,6 @@ impl Member {
         live.pass_on(teller, seat);
         live.look_up(seat);
         // Stored for the proof: it shows that the member has seen its own changes.
-        live.mark(seat, *place, 0);
+        mark_place(live, seat, *place, 0);
     }
 }

@@ -2,8 +2,8 @@ use Rattle.std.proofs.Common.{inl, sym, ap, ◌∙◌}
 use Rattle.blink_live.specs.Views.{SeatState}
 use Rattle.blink_map.proofs.change.come_back.Goals as goal
 
-pub mark-requires : goal.mark-requires
-mark-requires c =
+pub mark_place-requires : goal.mark_place-requires
+mark_place-requires c =
     let back = c.give_back.ensures.back in record {
       seat = record {
         same_table = c.give_back.ensures.same.0 ∙ c.requires.seat.same_table;

@@ -13,19 +13,19 @@ pub returns-in-Some-take_steps-clause-set_out : goal.returns-in-Some-take_steps-
 returns-in-Some-take_steps-clause-set_out g c op old is =
     let out = c.loop.invariant.set_out op old is in steps_on out (c.take_steps.ensures.under_way op out.first out.under_way)
 
-pub mark-requires : goal.mark-requires
-mark-requires g c =
+pub mark_place-requires : goal.mark_place-requires
+mark_place-requires g c =
     let is = c.requires.set_out in
     let out = c.loop.invariant.set_out is.0 is.1 is.3 in
     let now = steps_on out (c.take_steps.ensures.under_way is.0 out.first out.under_way) in
     let place = its_place now is.2 in
     record { seat = its_seat now; place = (is.4 ∙ place.0, subst (λ (n : ℕ). n < c.args.live.now.places) (sym is.4) place.1); idle = inr (omega arith) }
 
-pub mark-requires-in-loop : goal.mark-requires-in-loop
-mark-requires-in-loop g c =
+pub mark_place-requires-in-loop : goal.mark_place-requires-in-loop
+mark_place-requires-in-loop g c =
     let is = c.requires.set_out in
     let out = c.loop.invariant.set_out is.0 is.1 is.3 in
-    let rest = comes_to_rest (steps_on out (c.take_steps.ensures.under_way is.0 out.first out.under_way)) c.mark.new.seat c.mark.ensures.same c.mark.ensures.marked in
+    let rest = comes_to_rest (steps_on out (c.take_steps.ensures.under_way is.0 out.first out.under_way)) c.mark_place.new.seat c.mark_place.ensures.same c.mark_place.ensures.marked in
     let place = place_at_rest rest is.2 in
     let works = c.next_mark.ensures.works in
     record { seat = seat_at_rest rest; place = (is.4 ∙ place.0, subst (λ (n : ℕ). n < c.args.live.now.places) (sym is.4) place.1); idle = inr (omega (arith, works)) }
@@ -35,7 +35,7 @@ loop-preserved g c = record {
   turns = (tt, tt);
   set_out = λ op old is.
       let out = c.loop.invariant.set_out op old is in
-      let rest = comes_to_rest (steps_on out (c.take_steps.ensures.under_way op out.first out.under_way)) c.mark.new.seat c.mark.ensures.same c.mark.ensures.marked in
-      goes_on_from_rest rest c.next_mark.result c.next_mark.ensures.works c.mark-in-loop.new.seat c.mark-in-loop.ensures.same c.mark-in-loop.ensures.marked;
+      let rest = comes_to_rest (steps_on out (c.take_steps.ensures.under_way op out.first out.under_way)) c.mark_place.new.seat c.mark_place.ensures.same c.mark_place.ensures.marked in
+      goes_on_from_rest rest c.next_mark.result c.next_mark.ensures.works c.mark_place-in-loop.new.seat c.mark_place-in-loop.ensures.same c.mark_place-in-loop.ensures.marked;
   waits = c.in_default.ensures.waits;
 }

@@ -1,5 +1,5 @@
 use Rattle.std.proofs.Common.{◌≡◌, List, ◌++◌, length}
-use Rattle.blink_live.specs.Common.{IsHost}
+use Rattle.blink_map.specs.Common.{IsHost}
 use Rattle.blink_map.specs.declared.map.Session.{Session}
 use Rattle.blink_map.specs.Closing.{HasSettled}
 use Rattle.blink_map.proofs.close.settle_all.Given as goal

@@ -3,8 +3,8 @@ use Rattle.blink_map.proofs.MembersComeBack.{its_place, its_seat}
 use Rattle.blink_map.proofs.OperationsRest.{comes_to_rest}
 use Rattle.blink_map.proofs.member.UnderWay.rest.Goals as goal
 
-pub mark-requires : goal.mark-requires
-mark-requires c =
+pub mark_place-requires : goal.mark_place-requires
+mark_place-requires c =
     let is = c.requires.at_work in
     let place = its_place is.3.set_out is.2 in record {
       seat = its_seat is.3.set_out;
@@ -14,6 +14,6 @@ mark-requires c =
 
 pub returns-clause-at_rest : goal.returns-clause-at_rest
 returns-clause-at_rest c op old its is = record {
-  rest = comes_to_rest is.set_out c.mark.new.seat c.mark.ensures.same c.mark.ensures.marked;
+  rest = comes_to_rest is.set_out c.mark_place.new.seat c.mark_place.ensures.same c.mark_place.ensures.marked;
   beside = record { rows = is.beside.rows; pages = is.beside.pages; place = is.beside.place };
 }

@@ -2,8 +2,8 @@ use Rattle.std.proofs.Common.{◌<◌, ℕ, inr, ◌∙◌, subst, sym, arith}
 use Rattle.blink_map.proofs.OperationsRest.{goes_on_from_rest, place_at_rest, seat_at_rest}
 use Rattle.blink_map.proofs.member.UnderWay.wake.Goals as goal
 
-pub mark-requires : goal.mark-requires
-mark-requires c =
+pub mark_place-requires : goal.mark_place-requires
+mark_place-requires c =
     let is = c.requires.at_rest in
     let place = place_at_rest is.3.rest is.2 in record {
       seat = seat_at_rest is.3.rest;
@@ -13,6 +13,6 @@ mark-requires c =
 
 pub returns-clause-at_work : goal.returns-clause-at_work
 returns-clause-at_work c op old its is = record {
-  set_out = goes_on_from_rest is.rest c.next_mark.result c.next_mark.ensures.works c.mark.new.seat c.mark.ensures.same c.mark.ensures.marked;
+  set_out = goes_on_from_rest is.rest c.next_mark.result c.next_mark.ensures.works c.mark_place.new.seat c.mark_place.ensures.same c.mark_place.ensures.marked;
   beside = record { rows = is.beside.rows; pages = is.beside.pages; place = is.beside.place };
 }

@@ -1,0 +1,227 @@
+//! Tables whose keys any seat changes: how they open, and how they close. The crate of maps makes its calls of these.
+ghost use Rattle.std.specs.Prelude.{◌≡◌, ◌+◌, ◌<◌, ◌≤◌, ◌++◌, ◌∷◌, ◌*◌, ℕ, List, IfOk, IsTrue, drop, length, replicate, set, slice_index};
+ghost use Rattle.std.specs.Mem.Slots.{slots_items, slots_len, IsFull};
+ghost use mathlib.Core.List.{IsPrefix};
+ghost use Rattle.blink_index.specs.{map_of};
+ghost use Rattle.blink_page.specs.declared.limits.TheConstants.{MAX_PAGE};
+ghost use Rattle.blink_map.specs.Common.{HasAllChanges, IsOpenedCommon, IsHost};
+ghost use Rattle.blink_live.specs.Gathered.{IsNumberedInOrder};
+ghost use Rattle.blink_live.specs.Handles.{fan_of};
+ghost use Rattle.blink_live.specs.Laid.{IsLaid};
+ghost use Rattle.blink_live.specs.Accounts.{account_of};
+ghost use Rattle.blink_live.specs.Seats.{HasSameNumber, IsIdleIn, IsPassSeat};
+ghost use Rattle.blink_live.specs.Views.{plan_of, takes_account};
+ghost use Rattle.blink_live.specs.declared.view.Role.TheVariants.{Pass};
+ghost use Rattle.blink_live.specs.Words.{place_word, pool_page, pool_row, word_count};
+
+use crate::steps::host_looks_up;
+use atomic_table::{Closed, Seat, Table};
+use blink_index::Index;
+use blink_live::{
+    InvariantOfTree, Live, Opened, Planned, TakeAccount, View, lay_tree, tree_at_end, word_count,
+};
+use blink_rows::Counts;
+use blink_store::Store;
+use std::alloc::{AllocError, Global};
+use std::marker::Brand;
+use std::snapshot::Snapshot;
+
+/// The number of words in the line of a place, as many as in a line of the processor's cache.
+pub(crate) const PLACE_WORDS: usize = 8;
+
+// The places of the pool's words behind the rows.
+pub(crate) const POOL_ROW: usize = 1;
+
+pub(crate) const POOL_PAGE: usize = 2;
+
+/// What a common table has beside the rows and numbers of its pages: page numbers, rows, and places for sessions.
+#[derive(Clone, Copy)]
+pub(crate) struct Extent {
+    pub pages: u32,
+    pub rows: u32,
+    pub places: u32,
+}
+
+/// Why a common table can't be closed.
+#[derive(Clone, Copy)]
+pub(crate) enum CloseRefusal {
+    /// A session has an operation under way.
+    UnderWay,
+    /// Memory was refused.
+    OutOfMemory,
+}
+
+/// Opens a common table over the index's tree, and returns it with the seat of its host, which has all rows and page numbers
+/// that no page has. The index stays as it is.
+pub(crate) fn open_common(
+    alloc: Global,
+    index: &Index,
+    extent: Extent,
+) -> Result<(Live, Seat<u8, View>), AllocError>
+    requires pages { length index.now.pages + extent.pages ≤ MAX_PAGE }
+    requires places { (1 ≤ extent.places) × (extent.places ≤ 256) }
+    ensures opened { IfOk result (λ opened. IsOpenedCommon index.now extent opened.0 opened.1) }
+{
+    let count = index.page_count();
+    let counts = counts_over(count, &extent);
+    let places = u64::from(extent.places);
+    let store = index.rest().store();
+    let words = words_with_places(alloc, &counts, places, store)?;
+    let opened = Opened {
+        counts,
+        places,
+        index: Snapshot::of(index),
+    };
+    let (table, seat) = Table::<u8, View, Opened, InvariantOfTree, Global>::of_words(
+        alloc, &words, &opened,
+    )?;
+    let fan = store.fan();
+    let live = Live {
+        table,
+        counts,
+        fan,
+        places,
+    };
+    Ok((live, seat))
+}
+
+/// The host's seat takes the account of a session's seat, and has then seen all that the session has seen.
+pub(crate) fn settle_with(live: &Live, host: &mut Seat<u8, View>, seat: Seat<u8, View>)
+    requires host { IsHost live.now host.old }
+    requires seat { IsPassSeat live.now seat.table_id seat.me }
+    requires idle { IsIdleIn Pass seat.me }
+    ensures host { IsHost live.now host.new }
+    ensures saw { IsPrefix host.old.me.0.seen host.new.me.0.seen }
+    ensures heard { IsPrefix seat.me.0.seen host.new.me.0.seen }
+    ensures taken { host.new.me.0.accounts ≡ account_of seat.me.0 ∷ host.old.me.0.accounts }
+{
+    take_account::<Brand>(live, host, seat);
+    host_looks_up(live, host);
+}
+
+// The host's seat takes the account of a session's seat, and is told what the session has seen.
+fn take_account<B: Planned>(live: &Live, host: &mut Seat<u8, View>, seat: Seat<u8, View>)
+    requires host { IsHost live.now host.old }
+    requires picked { B.plan ≡ plan_of live.now.table.shared.key }
+    requires seat { IsPassSeat live.now seat.table_id seat.me }
+    requires idle { IsIdleIn Pass seat.me }
+    ensures same { HasSameNumber host.old host.new }
+    ensures taken { host.new.me ≡ (takes_account host.old.me.0 seat.me.0, host.old.me.1) }
+{
+    live.table.shared.join_seat::<TakeAccount<B>>(host, seat);
+}
+
+/// Closes a common table, and returns the index of its tree, with its pages numbered anew. The entries are the opening ones
+/// after one list of changes, which goes on from all that the host's seat has seen. Each change was made at one of the places,
+/// and of each account that the host has taken the list has exactly the changes.
+///
+/// The table is given up either way.
+pub(crate) fn close_common(
+    live: Live,
+    alloc: Global,
+    seat: Seat<u8, View>,
+) -> Result<Index, CloseRefusal>
+    requires host { IsHost live seat }
+    ensures fan { IfOk result (λ index. index.fan ≡ fan_of live) }
+    ensures entries { IfOk result (λ index. HasAllChanges live seat (map_of index)) }
+    ensures numbered { IfOk result IsNumberedInOrder }
+{
+    let Live {
+        table,
+        counts,
+        fan,
+        places,
+    } = live;
+    let closed = table.close_with(seat);
+    if !are_idle(&closed, &counts, places) {
+        closed.free();
+        return Err(CloseRefusal::UnderWay);
+    }
+    let tree = tree_at_end(alloc, &closed, &counts, fan);
+    closed.free();
+    match tree {
+        Ok(rest) => Ok(Index::from_rest(rest)),
+        Err(_) => Err(CloseRefusal::OutOfMemory),
+    }
+}
+
+// The counts of a table over this many pages, of such an extent.
+fn counts_over(count: u32, extent: &Extent) -> Counts
+    requires { count + extent.now.pages ≤ MAX_PAGE }
+    ensures numbers { result.numbers ≡ 1 + count + extent.now.pages }
+    ensures rows { result.rows ≡ 1 + count + extent.now.rows }
+{
+    Counts {
+        numbers: 1 + u64::from(count) + u64::from(extent.pages),
+        rows: 1 + u64::from(count) + u64::from(extent.rows),
+    }
+}
+
+// The words of a common table over the store's tree. The words of its places, behind the rows, are 0. Its pool has all rows and
+// page numbers that no page has.
+fn words_with_places(
+    alloc: Global,
+    counts: &Counts,
+    places: u64,
+    store: &Store,
+) -> Result<Vec<u64>, AllocError>
+    requires numbers { length store.now.pages < counts.now.numbers }
+    requires rows { length store.now.pages < counts.now.rows }
+    requires places { (1 ≤ places) × (places ≤ 256) }
+    ensures { IfOk result (λ words. (front : List ℕ) × IsLaid counts.now store.now front
+        × (words.items ≡ set (set (front ++ replicate (8 * places) 0)
+        (pool_row counts.now) (length store.now.pages + 2))
+        (pool_page counts.now) (length store.now.pages + 1))) }
+{
+    // Read for the proof: there are few numbers and rows.
+    let _numbers = counts.numbers;
+    let _rows = counts.rows;
+    let mut words = vec![in alloc; 0u64; word_count(counts) + PLACE_WORDS * places as usize]?;
+    lay_common(&mut words, counts, store);
+    Ok(words)
+}
+
+// Lays the tree into the first words, and the pool's words behind them.
+fn lay_common(words: &mut [u64], counts: &Counts, store: &Store)
+    requires numbers { length store.now.pages < counts.now.numbers }
+    requires rows { length store.now.pages < counts.now.rows }
+    requires blank { (places : ℕ) × (1 ≤ places)
+        × (words.old ≡ replicate (word_count counts.now + 8 * places) 0) }
+    ensures { (front : List ℕ) × IsLaid counts.now store.now front
+        × (words.new ≡ set (set (front ++ drop (word_count counts.now) words.old)
+        (pool_row counts.now) (length store.now.pages + 2))
+        (pool_page counts.now) (length store.now.pages + 1)) }
+{
+    let front = word_count(counts);
+    lay_front(words, counts, store);
+    words[front + POOL_ROW] = u64::from(store.pages()) + 2;
+    words[front + POOL_PAGE] = u64::from(store.pages()) + 1;
+}
+
+// Lays the tree into the first words.
+fn lay_front(words: &mut [u64], counts: &Counts, store: &Store)
+    requires numbers { length store.now.pages < counts.now.numbers }
+    requires rows { length store.now.pages < counts.now.rows }
+    requires blank { (places : ℕ) × (words.old ≡ replicate (word_count counts.now + 8 * places) 0) }
+    ensures { (front : List ℕ) × IsLaid counts.now store.now front
+        × (words.new ≡ front ++ drop (word_count counts.now) words.old) }
+{
+    let front = word_count(counts);
+    lay_tree(&mut words[..front], counts, store);
+}
+
+// Whether the word of each place is 0.
+fn are_idle(closed: &Closed<u8, Global>, counts: &Counts, places: u64) -> bool
+    requires full { IsFull closed.now.words }
+    requires width { slots_len closed.now.words ≡ word_count counts.now + 8 * places }
+    ensures { IsTrue result → (place : ℕ) → place < places
+        → slice_index (slots_items closed.now.words) (place_word counts.now place) ≡ 0 }
+{
+    let start = word_count(counts);
+    for place in 0..places {
+        if closed.word(start + PLACE_WORDS * place as usize) != 0 {
+            return false;
+        }
+    }
+    true
+}
