@@ -3,7 +3,7 @@ ghost use Rattle.std.specs.Prelude.{◌≡◌, false, codes, IfOk, IfErr};
 ghost use Rattle.clap.specs.Words.{app_of, kind_of, new_app, rule_of, subcommand_of, subcommand_rows_of};
 ghost use Rattle.clap.specs.Walk.{texts};
 ghost use Rattle.clap.specs.declared.builder.command.Command.TheViews.{out-Command};
-ghost use Rattle.blink_command.specs.Grammar.{IsTaken, blink, option, option_or, replay, run, runner, with_sizes};
+ghost use Rattle.blink_command.specs.Grammar.{IsTaken, blink, option, option_or, replay, run, runner, wanting_subcommand, with_sizes};
 
 use clap::error::ErrorKind;
 use clap::{Arg, ArgMatches, Command};
@@ -25,7 +25,15 @@ pub fn matches_of<'a>(alloc: Global, words: &'a [&'a str]) -> Result<ArgMatches<
 fn command<'a>(alloc: Global) -> Result<Command<'a>, AllocError>
     ensures { IfOk result (λ command. app_of command ≡ blink) }
 {
-    let command = runner(alloc)?;
+    with_replay(alloc, runner(alloc)?)
+}
+
+// The command with `replay` as its other subcommand. It is a function of its own because a proof costs less where fewer commands
+// are alive.
+fn with_replay<'a>(alloc: Global, command: Command<'a>) -> Result<Command<'a>, AllocError>
+    requires { app_of command ≡ runner }
+    ensures { IfOk result (λ command. app_of command ≡ blink) }
+{
     command.subcommand(replay_command(alloc)?)
 }
 
@@ -34,10 +42,16 @@ fn runner<'a>(alloc: Global) -> Result<Command<'a>, AllocError>
     ensures { IfOk result (λ command. app_of command ≡ runner) }
 {
     let run = run_command(alloc)?;
+    without_subcommands(alloc).subcommand(run)
+}
+
+// The command with no subcommand yet, a function of its own for the same reason.
+fn without_subcommands<'a>(alloc: Global) -> Command<'a>
+    ensures { app_of result ≡ wanting_subcommand (new_app (codes "blink")) }
+{
     Command::new(alloc, "blink")
         .about("Runs scripts of index operations on a B-link tree")
         .subcommand_required(true)
-        .subcommand(run)
 }
 
 fn run_command<'a>(alloc: Global) -> Result<Command<'a>, AllocError>
@@ -85,36 +99,52 @@ fn workers_option<'a>(alloc: Global) -> Arg<'a>
     ensures rule { rule_of result ≡ option_or (codes "workers") (codes "4") }
     ensures local { result.global ≡ false }
 {
-    option(alloc, "workers", "N")
-        .default_value("4")
-        .help("How many workers share the work, 1 to 64")
+    option_or(
+        alloc,
+        "workers",
+        "N",
+        "4",
+        "How many workers share the work, 1 to 64",
+    )
 }
 
 fn fan_option<'a>(alloc: Global) -> Arg<'a>
     ensures rule { rule_of result ≡ option_or (codes "fan") (codes "16") }
     ensures local { result.global ≡ false }
 {
-    option(alloc, "fan", "F")
-        .default_value("16")
-        .help("How many entries a page has at most, 4 to 32")
+    option_or(
+        alloc,
+        "fan",
+        "F",
+        "16",
+        "How many entries a page has at most, 4 to 32",
+    )
 }
 
 fn cut_option<'a>(alloc: Global) -> Arg<'a>
     ensures rule { rule_of result ≡ option_or (codes "cut") (codes "residue") }
     ensures local { result.global ≡ false }
 {
-    option(alloc, "cut", "residue|ranges")
-        .default_value("residue")
-        .help("How keys go to workers: by their remainders (residue) or by equal ranges (ranges)")
+    option_or(
+        alloc,
+        "cut",
+        "residue|ranges",
+        "residue",
+        "How keys go to workers: by their remainders (residue) or by equal ranges (ranges)",
+    )
 }
 
 fn driver_option<'a>(alloc: Global) -> Arg<'a>
     ensures rule { rule_of result ≡ option_or (codes "driver") (codes "locked") }
     ensures local { result.global ≡ false }
 {
-    option(alloc, "driver", "locked|live")
-        .default_value("locked")
-        .help("How workers share the tree: each step under one lock (locked) or without one (live)")
+    option_or(
+        alloc,
+        "driver",
+        "locked|live",
+        "locked",
+        "How workers share the tree: each step under one lock (locked) or without one (live)",
+    )
 }
 
 fn schedule_option<'a>(alloc: Global) -> Arg<'a>
@@ -124,6 +154,20 @@ fn schedule_option<'a>(alloc: Global) -> Arg<'a>
     option(alloc, "schedule", "S").help(
         "Which worker takes each turn: numbers from 0 to 63, separated by single commas [default: none]",
     )
+}
+
+// An option with one value, which is `default` if the words give none.
+fn option_or<'a>(
+    alloc: Global,
+    name: &'a str,
+    value: &'a str,
+    default: &'a str,
+    help: &'a str,
+) -> Arg<'a>
+    ensures rule { rule_of result ≡ option_or name.entry.now default.entry.now }
+    ensures local { result.global ≡ false }
+{
+    option(alloc, name, value).default_value(default).help(help)
 }
 
 /// Returns an option with one value: `--name VALUE`, where help calls the value as `value` says.

@@ -53,15 +53,14 @@ impl fmt::Display for ProgramError {
     fn fmt<W: fmt::Write>(&self, f: &mut fmt::Formatter<W>) -> fmt::Result {
         match self {
             ProgramError::Line(LineError::Usage(text)) => f.write_str(text.as_str().trim_end()),
+            ProgramError::Serve(ServeError::Script(error)) => write!(f, "script: {error}"),
+            ProgramError::Serve(error @ (ServeError::Run(_, _) | ServeError::Step(_))) => {
+                write!(f, "run: {error}")
+            }
+            ProgramError::Serve(ServeError::Output) => f.write_str("output: write failed"),
             ProgramError::Line(LineError::OutOfMemory)
             | ProgramError::Serve(ServeError::OutOfMemory)
             | ProgramError::Memory => f.write_str("run: out of memory"),
-            ProgramError::Serve(ServeError::Script(error)) => write!(f, "script: {error}"),
-            ProgramError::Serve(ServeError::Run(number, error)) => {
-                write!(f, "run: batch {number}: {error}")
-            }
-            ProgramError::Serve(ServeError::Step(error)) => write!(f, "run: {error}"),
-            ProgramError::Serve(ServeError::Output) => f.write_str("output: write failed"),
         }
     }
 }

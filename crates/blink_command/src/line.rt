@@ -58,11 +58,22 @@ pub fn read_line(alloc: Global, words: &[&str]) -> Result<Line, LineError>
         (λ error. (line : _) → Asks (texts words.now) line → error ≡ LineError.OutOfMemory) }
     ensures bad_value { IfErr result (λ error. IsTaken (texts words.now) → IsBadValue error) }
 {
-    let matches = match matches_of(alloc, words) {
-        Ok(matches) => matches,
-        Err(error) => return Err(refusal(alloc, &error)),
-    };
-    match line_of_matches(alloc, &matches) {
+    match matches_of(alloc, words) {
+        Ok(matches) => line_of(alloc, &matches),
+        Err(error) => Err(refusal(alloc, &error)),
+    }
+}
+
+// The request of words in which `clap` found these matches.
+fn line_of(alloc: Global, matches: &ArgMatches<'_>) -> Result<Line, LineError>
+    ensures asked { IfOk result (SubcommandMeans (subcommand_rows_of matches.now)) }
+    ensures allowed { IfOk result HasAllowedSizes }
+    ensures refused { IfErr result
+        (λ error. (line : _) → SubcommandMeans (subcommand_rows_of matches.now) line
+        → error ≡ LineError.OutOfMemory) }
+    ensures bad_value { IfErr result IsBadValue }
+{
+    match line_of_matches(alloc, matches) {
         Ok(Some(line)) => Ok(line),
         Ok(None) => Err(bad_value(alloc)),
         Err(_) => Err(LineError::OutOfMemory),
@@ -116,12 +127,10 @@ fn line_of_subcommand(
         (Means name.now (rows_of (found_of found.now)))) }
     ensures allowed { IfOk result (λ meant. IfSome meant HasAllowedSizes) }
 {
-    if name == "run" {
-        Ok(run_of(found).map(Line::Run))
-    } else if name == "replay" {
-        replay_of(alloc, found)
-    } else {
-        Ok(None)
+    match name {
+        "run" => Ok(run_of(found).map(Line::Run)),
+        "replay" => replay_of(alloc, found),
+        _ => Ok(None),
     }
 }
 

@@ -1,7 +1,7 @@
-use Rattle.std.proofs.Common.{ap}
-use Rattle.clap.specs.Words.{App}
-use Rattle.blink_command.proofs.Commands.{ends_with_subcommand}
 use Rattle.blink_command.proofs.command.command.Goals as goal
 
+pub with_replay-requires : goal.with_replay-requires
+with_replay-requires c = c.in_ok-runner.ensures
+
 pub returns : goal.returns
-returns c = ends_with_subcommand _ _ _ _ c.subcommand.result c.in_ok-command.ensures (ap (λ (app : App). app.top) c.in_ok-replay_command.ensures.app) c.in_ok-replay_command.ensures.local c.subcommand.ensures
+returns c = c.with_replay.ensures
