@@ -1,4 +1,4 @@
-//! Tables whose keys any seat changes: how they open, and how they close. The crate of maps makes its calls of these.
+//! The table of a map, whose keys any seat changes: how it opens, and how it closes.
 ghost use Rattle.std.specs.Prelude.{◌≡◌, ◌+◌, ◌<◌, ◌≤◌, ◌++◌, ◌∷◌, ◌*◌, ℕ, List, IfOk, IsTrue, drop, length, replicate, set, slice_index};
 ghost use Rattle.std.specs.Mem.Slots.{slots_items, slots_len, IsFull};
 ghost use mathlib.Core.List.{IsPrefix};
