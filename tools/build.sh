@@ -72,8 +72,8 @@ output_of() {
 # and 165 by four in 66. So there are several only where other crates wait for this one.
 jobs_of() {
     case $1 in
-    blink_c | blink_index | blink_live | blink_machine | blink_map | blink_owners | blink_run | index_main) echo "$processors" ;;
-    blink_page | blink_rest | blink_steps | blink_store) echo $(((processors + 1) / 2)) ;;
+    blink_c | blink_index | blink_live | blink_machine | blink_map | blink_owners | index_main) echo "$processors" ;;
+    blink_entries | blink_page | blink_rest | blink_run | blink_steps | blink_store) echo $(((processors + 1) / 2)) ;;
     *) echo 1 ;;
     esac
 }
