@@ -67,29 +67,19 @@ output_of() {
     fi
 }
 
-# How many processes prove a crate. Each more loads the libraries once more, a function's proof waits for those of the functions that it
-# calls, and what one has worked out the others don't know. `blink_machine` took 95 processor seconds by one in 92 seconds, 138 by two in 74,
-# and 165 by four in 66. So there are several only where other crates wait for this one.
+# How many processes prove a crate. Each more costs processor time: it loads the libraries once more, and works out again what the others
+# have worked out. `blink_machine` took 79 processor seconds by one in 77 seconds, and 98 by two in 52. So there are several only where
+# processors would be idle, since all other crates that are left wait for this one or are few: bench/README.md tells what other numbers gave.
 jobs_of() {
     case $1 in
-    blink_c | blink_index | blink_live | blink_machine | blink_map | blink_owners | index_main) echo "$processors" ;;
-    blink_entries | blink_page | blink_rest | blink_run | blink_steps | blink_store) echo $(((processors + 1) / 2)) ;;
+    blink_c | blink_live | blink_map | blink_owners | blink_run | index_main) echo "$processors" ;;
+    blink_machine) echo $(((processors + 1) / 2)) ;;
     *) echo 1 ;;
-    esac
-}
-
-# How far a crate gives way to others. These can be proved early and are needed late, so they take what the chain of the others leaves.
-niceness_of() {
-    case $1 in
-    blink_rows) echo 19 ;;
-    blink_command) echo 5 ;;
-    *) echo 0 ;;
     esac
 }
 
 # Proves and builds a crate. No word of rattle's has a space in it: each path is the toolchain's or begins at crates/.
 make_crate() {
-    niceness=$(niceness_of "$1")
     set -- "$1" --jobs "$(jobs_of "$1")" --extern "std=$kit/rlibs/std.rlib" -L "dependency=$kit/rlibs"
     for it in $(named "$1"); do
         if [ -d "$it" ]; then
@@ -106,7 +96,7 @@ make_crate() {
     compiled="--toolchain $kit/toolchain --backend llvm"
     # shellcheck disable=SC2086
     case $output in
-    *.rlib) (cd "$1" && nice -n "$niceness" rattle build --crate-name "$@" --statements -o "$output" src/lib.rt) ;;
+    *.rlib) (cd "$1" && rattle build --crate-name "$@" --statements -o "$output" src/lib.rt) ;;
     *.a) (cd "$1" && rattle build --crate-name "$@" $compiled --crate-type staticlib -o "$output" src/lib.rt) ;;
     *)
         (cd "$1" && rattle build --crate-name "$@" $compiled -o "$output.o" src/main.rt) &&
