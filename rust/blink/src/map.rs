@@ -322,10 +322,10 @@ impl<'map> Session<'map> {
         Ok(answer.exchanged())
     }
 
-    /// Maps a key to what `next` makes of the pointer that it maps to, or of none, in one step: no other session changes the key
-    /// between what `next` is given and the change. Where `next` returns none, the key is taken away. It returns what `next` was
-    /// given last. Where another session is faster, `next` is called again, with what that has left. Where `next` returns what it
-    /// was given, nothing changes; so `next` also ends the call if it has been called often enough.
+    /// Maps a key to what `next` makes of the pointer that it maps to, or of none, in one step: when the change is made, the key maps
+    /// to what `next` was given. Where it maps to something else by then, `next` is called again, with that. Where `next` returns none,
+    /// the key is taken away. It returns what `next` was given last. Where `next` returns what it was given, nothing changes; so `next`
+    /// also ends the call if it has been called often enough.
     ///
     /// It is refused as [`Session::insert`] is.
     ///
