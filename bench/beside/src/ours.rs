@@ -1,6 +1,7 @@
 //! The index, the table and the map, with pages of at most `FAN` entries.
 
 use crate::side::{timed, Handle, Side};
+use crate::soak::{memory, Dice};
 use crate::workload::{Case, Mode, Phase, Step, ABSENT, DELETE, INSERT, REPLACE};
 use blink::{Answer, Entry, Index, Map, Pass, Room, Session, Table};
 use std::sync::Arc;
@@ -274,6 +275,22 @@ pub fn life() {
     let (pages, rows) = (before.pages - left.pages, before.rows - left.rows);
     println!("each insertion: {:.4} page numbers and {:.3} rows", pages as f64 / f64::from(INSERTIONS), rows as f64 / f64::from(INSERTIONS));
     println!("1,048,575 page numbers are enough for {} million", u64::from(INSERTIONS) * 1_048_575 / pages / 1_000_000);
+    bytes_of_a_map();
+}
+
+// Tells the memory of a map over a million entries with random keys, whose session has a megabyte of rows, before and after changes.
+fn bytes_of_a_map() {
+    const ENTRIES: u64 = 1_000_000;
+    let mut dice = Dice(1);
+    let entries: Vec<(u64, u64)> = (0..ENTRIES).map(|number| (dice.next(), number)).collect();
+    let index = grown(32, &entries);
+    let before = memory();
+    let bytes = || (memory() - before) as f64 * 1024.0 / ENTRIES as f64;
+    let map = Map::open(&index, Room { pages: 22, rows: 1_800, sessions: 1 }).expect("a map");
+    let opened = bytes();
+    let mut session = map.session().expect("a session");
+    entries.iter().chain(&entries).for_each(|&(key, pointer)| _ = session.replace(key, pointer + 1).expect("room"));
+    println!("a map over {ENTRIES} entries: {opened:.1} bytes an entry, {:.1} after two million replacements", bytes());
 }
 
 // A key of each number, in no order.

@@ -17,11 +17,11 @@ const KEYS: u64 = 10_000;
 // So many changes of all threads before memory is looked at for the first time.
 const FIRST: u64 = 10_000;
 
-// Numbers in no order, by splitmix64.
-struct Dice(u64);
+/// Numbers in no order, by splitmix64.
+pub struct Dice(pub u64);
 
 impl Dice {
-    fn next(&mut self) -> u64 {
+    pub fn next(&mut self) -> u64 {
         self.0 = self.0.wrapping_add(0x9E37_79B9_7F4A_7C15);
         let mut z = self.0;
         z = (z ^ (z >> 30)).wrapping_mul(0xBF58_476D_1CE4_E5B9);
@@ -75,8 +75,8 @@ fn work(thread: u64, mut session: Session, changes: u64, made: &AtomicU64) -> Re
     Ok(known)
 }
 
-// The memory that the process has now, in kilobytes.
-fn memory() -> u64 {
+/// The memory that the process has now, in kilobytes.
+pub fn memory() -> u64 {
     let status = fs::read_to_string("/proc/self/status").unwrap_or_default();
     let line = status.lines().find_map(|line| line.strip_prefix("VmRSS:"));
     line.and_then(|line| line.trim().trim_end_matches(" kB").parse().ok()).unwrap_or(0)
