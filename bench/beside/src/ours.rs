@@ -278,7 +278,8 @@ pub fn life() {
     bytes_of_a_map();
 }
 
-// Tells the memory of a map over a million entries with random keys, whose session has a megabyte of rows, before and after changes.
+// Tells the memory of a map over a million entries with random keys, with a megabyte of rows beside those of its pages, before and
+// after changes.
 fn bytes_of_a_map() {
     const ENTRIES: u64 = 1_000_000;
     let mut dice = Dice(1);

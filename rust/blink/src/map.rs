@@ -14,7 +14,9 @@ use std::thread;
 /// What a map has beside its entries, for changes and sessions to come.
 #[derive(Clone, Copy, Debug, PartialEq, Eq, Hash)]
 pub struct Room {
-    /// Page numbers. A split of a page takes one. An insertion has to have 22 when it begins, and uses none mostly.
+    /// Page numbers. A split of a page takes one. An insertion has to have 22 when it begins, and uses none mostly. A session with
+    /// fewer draws others from the pool, 22 to 512, and loses those that it had left. So splits by one session take 18,688 of 20,000
+    /// numbers, but 559 of 1,000, and 11 of 200 (measured): have some thousands.
     pub pages: u32,
     /// Rows, of 560 bytes. Each write of a page takes one. An insertion has to have 44 when it begins, and writes one page mostly;
     /// a deletion, a replacement or an exchange has to have one. The row that a write replaces comes back to its session, once
