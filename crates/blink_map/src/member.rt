@@ -32,6 +32,7 @@ pub(crate) struct Member {
     ghost no_key: { seat.me.0.share.keys ≡ [] },
     ghost none_told: { seat.me.0.told ≡ [] },
     ghost idle: { seat.me.0.operation ≡ None },
+    ghost rests: { seat.me.0.busy ≡ 0 },
     ghost saw_own: { HasSeenItsOwn seat.me.0 },
     ghost no_slot: { seat.me.1 ≡ [] },
     ghost shelved: { IsShelved shelf seat.me.0 } by { IsShelved-prop shelf seat.me.0 },

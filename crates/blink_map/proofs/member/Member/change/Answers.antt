@@ -1,4 +1,5 @@
-use Rattle.std.proofs.Common.{refl}
+use Rattle.std.proofs.Common.{refl, ap}
+use Rattle.blink_live.specs.Views.{SeatState}
 use Rattle.blink_map.specs.Changing.{HasSetOut}
 use Rattle.blink_map.proofs.MembersComeBack.{gives, has_changed, is_idle_again, its_end, its_place, its_seat}
 use Rattle.blink_map.proofs.member.Member.change.Goals as goal
@@ -32,6 +33,7 @@ invariant_of-self g c =
       no_key = again.no_key;
       none_told = again.none_told;
       idle = again.idle;
+      rests = ap (λ (x : SeatState). x.0.busy) c.come_back.ensures.idle;
       saw_own = c.come_back.ensures.saw_own;
       no_slot = again.no_slot;
       shelved = again.shelved;

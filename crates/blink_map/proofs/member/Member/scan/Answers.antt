@@ -45,6 +45,7 @@ invariant_of-self c =
       no_key = ap (λ (x : SeatState). x.0.share.keys) now ∙ (ap (λ (s : Share). s.keys) (found.same_share ∙ ap (λ (x : SeatState). x.0.share) marked) ∙ old.no_key);
       none_told = ap (λ (x : SeatState). x.0.told) now ∙ (found.same_told ∙ (ap (λ (x : SeatState). x.0.told) marked ∙ old.none_told));
       idle = ap (λ (x : SeatState). x.0.operation) now ∙ found.idle.idle;
+      rests = ap (λ (x : SeatState). x.0.busy) now;
       saw_own = subst HasSeenItsOwn (sym (ap (λ (x : SeatState). x.0) now)) c.mark_place-2.ensures.saw_own;
       no_slot = ap (λ (x : SeatState). x.1) now ∙ (found.same_slots ∙ (ap (λ (x : SeatState). x.1) marked ∙ old.no_slot));
       shelved = shelved_so old.shelf old.seat.me.0 c.mark_place-2.new.seat.me.0 plan (ap (λ (x : SeatState). x.0.stock) now ∙ (found.same_stock ∙ ap (λ (x : SeatState). x.0.stock) marked)) old.shelved;

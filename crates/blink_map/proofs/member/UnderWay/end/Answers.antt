@@ -1,6 +1,6 @@
 use Rattle.std.proofs.Common.{◌<◌, ◌≤◌, ℕ, sym, ap, subst, ◌∙◌}
 use Rattle.blink_rows.specs.declared.span.Span.{Span}
-use Rattle.blink_live.specs.Views.{span}
+use Rattle.blink_live.specs.Views.{SeatState, span}
 use Rattle.blink_map.proofs.MembersComeBack.{gives, has_changed, is_idle_again, its_end, its_place, its_seat}
 use Rattle.blink_map.proofs.member.UnderWay.end.Goals as goal
 
@@ -31,6 +31,7 @@ invariant_of-result c =
       no_key = again.no_key;
       none_told = again.none_told;
       idle = again.idle;
+      rests = ap (λ (x : SeatState). x.0.busy) c.come_back.ensures.idle;
       saw_own = c.come_back.ensures.saw_own;
       no_slot = again.no_slot;
       shelved = again.shelved;
