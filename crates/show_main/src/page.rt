@@ -35,7 +35,7 @@ button { font: inherit; padding: .15rem .6rem; border: 1px solid var(--line); bo
   background: var(--pick); display: flex; gap: .4rem 1rem; align-items: flex-start; justify-content: space-between; }
 #tour[hidden], #next-page[hidden] { display: none; }
 #note { margin: 0; max-width: 56rem; font-size: 1.05rem; min-height: 4.1em; }
-#note.soft { color: var(--soft); }
+#note.soft { color: var(--soft); min-height: 0; }
 #tour nav { flex: none; display: flex; flex-wrap: wrap; gap: .4rem; align-items: center; justify-content: flex-end; max-width: 19rem; }
 #note-count { font-variant-numeric: tabular-nums; white-space: nowrap; }
 button:disabled { opacity: .45; cursor: default; }
@@ -95,17 +95,24 @@ svg .debt { fill: var(--back); font-weight: 700; }
 #tip-link path { fill: var(--link); }
 @media (max-width: 900px) {
   body { grid-template: auto auto auto / minmax(0, 1fr); height: auto; }
-  header { grid-column: 1; position: sticky; top: 0; z-index: 1; background: var(--back); gap: .3rem .6rem; }
-  h1 { flex: 1 1 10rem; margin: 0; }
+  header { grid-column: 1; position: sticky; top: 0; z-index: 1; background: var(--back); gap: .2rem .5rem; padding: .25rem .6rem; }
+  h1 { flex: 1 1 10rem; margin: 0; font-size: .95rem; }
   #steps { order: 1; flex-basis: 100%; gap: .4rem; }
-  #keys { order: 2; font-size: .85rem; }
-  #tour { order: 3; flex-direction: column; }
-  #note { font-size: 1rem; min-height: 6.8em; }
-  #tour nav { max-width: none; align-self: stretch; justify-content: flex-start; }
-  #next-page { flex: 1 1 auto; }
+  /* the note and its buttons stand in the header's own rows, so that keys has room beside them */
+  #tour { display: contents; }
+  #note { order: 2; flex: 1 1 100%; max-width: none; margin: 0 -.6rem; padding: .25rem .6rem; font-size: .9rem; line-height: 1.3; min-height: 0;
+    background: var(--pick); border-left: 5px solid var(--link); }
+  #tour nav { order: 3; flex: 1 1 auto; max-width: none; justify-content: flex-start; font-size: .85rem; gap: .2rem .4rem; }
+  #next-page { order: 5; }
+  #keys { order: 4; font-size: .85rem; }
   #count { min-width: 0; }
-  #told { padding-top: .3rem; }
-  #sight { flex: none; max-height: 75vh; }
+  #told { padding: .25rem .6rem; }
+  #now { font-size: 1rem; }
+  #way:empty { display: none; }
+  /* a shadow at the edge behind which the tree goes on */
+  #sight { flex: none; max-height: 75vh; padding: .2rem .6rem; background:
+    linear-gradient(to right, var(--back) 2rem, transparent) local, linear-gradient(to left, var(--back) 2rem, transparent) 100% 0 local,
+    linear-gradient(to right, var(--line), transparent 1rem), linear-gradient(to left, var(--line), transparent 1rem); }
   aside { border-left: 0; border-top: 1px solid var(--line); height: 90vh; }
 }
 @media print {
