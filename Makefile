@@ -1,7 +1,7 @@
 # The doors of this folder by the names that C and Rust users look for. Each goal calls what README.md names.
 PREFIX ?= /usr/local
 
-.PHONY: lib blink show test install gate
+.PHONY: lib blink show test install uninstall gate
 
 # The library: out/libblink.a, out/libblink.so and out/blink.pc. It is proved first.
 lib:
@@ -19,9 +19,13 @@ test:
 	./libblink --test
 	cargo test --quiet --manifest-path rust/blink/Cargo.toml
 
-# The header, both libraries and blink.pc into PREFIX, below DESTDIR where that is set: all of them, or nothing.
+# The headers, both libraries and blink.pc into PREFIX, below DESTDIR where that is set: all of them, or nothing.
 install: lib
 	sh include/install.sh "$(DESTDIR)" "$(PREFIX)"
+
+# Takes them away again.
+uninstall:
+	sh include/install.sh --uninstall "$(DESTDIR)" "$(PREFIX)"
 
 # Every proof, edit, test and program.
 gate:

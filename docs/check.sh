@@ -1,7 +1,7 @@
 #!/bin/sh
 # Looks whether the documents say what is there: links and their anchors, paths, must-fail edits, names in backticks, and pictures; that EDITS.md
-# lists each edit, BELIEVE.md quotes the sources, and PROMISES.md cites clauses that there are; that no old word stands in them; and that they
-# have fewer words of prose than an engineer reads in an evening. It prints a line for each finding and exits 1, or prints nothing and exits 0.
+# lists each edit, BELIEVE.md quotes the sources, and PROMISES.md cites clauses that there are; that no old word stands in them; and that
+# each is short enough: README.md by lines, other documents by words of prose, and tables by the words of a cell. It prints a line for each finding and exits 1, or prints nothing and exits 0.
 # A new old word goes to `old`.
 LC_ALL=C
 export LC_ALL
@@ -11,8 +11,13 @@ trap 'rm -rf "$work"' EXIT
 
 # The documents, and beside them what else users read.
 documents="README.md docs/*.md bench/README.md examples/README.md crates/README.md crates/*/README.md"
-shown="examples/tour/*.notes examples/tour/index.html docs/pictures/draw.py include/blink.h rust/blink/src/*.rs examples/c/*.c examples/rust/*.rs"
-most_words=20000
+shown="examples/tour/*.notes examples/tour/index.html docs/pictures/draw.py include/blink.h include/blink.hpp python/*.py rust/blink/src/*.rs examples/*/*.c examples/*/*.cpp examples/*/*.py examples/rust/*.rs"
+
+# README.md has at most so many lines; each other document but BOOK.md so many words of prose; each cell of a table so many words. Names in
+# backticks don't count.
+most_lines=130
+most_words=2500
+most_in_cell=40
 
 # Names of code that were renamed, and words of prose that the field has others for. CHANGING.md says why, in lines that begin with "Not".
 old='IsSound|Sound|SoundRun|SoundTree|SoundStatements|StepKeepsSound|TurnKeepsSoundRun|sound'
@@ -34,14 +39,25 @@ done >"$work/found"
 # Every .md file, without what a build leaves; of each the lines outside code blocks.
 find . \( -name .git -o -name out \) -prune -o -name '*.md' -print | sed 's|^\./||' | sort >"$work/pages"
 
-# Words of prose: lines of code blocks and of tables are looked up, not read, and don't count.
-words=$(xargs awk '
-    FNR == 1 { code = 0 }
+lines=$(wc -l <README.md)
+[ "$lines" -le $most_lines ] || echo "README.md: $lines lines, and $most_lines are enough" >>"$work/found"
+
+# Words of prose: lines of code blocks and of tables are looked up, not read, and don't count. A cell that reads as a paragraph is to be one.
+xargs awk -v most="$most_words" -v most_in_cell="$most_in_cell" '
+    function tell() { if (page != "" && page != "docs/BOOK.md" && words > most) print page ": " words " words of prose, and " most " are enough" }
+    FNR == 1 { tell(); page = FILENAME; words = 0; code = 0 }
     /^```/ { code = !code; next }
+    code { next }
     { bare = $0; gsub(/`[^`]*`/, "", bare) }
-    !code && bare !~ /[|]/ { words += NF }
-    END { print words }' <"$work/pages")
-[ "$words" -lt $most_words ] || echo "all documents have $words words of prose, and $most_words are too many" >>"$work/found"
+    bare !~ /[|]/ { words += NF; next }
+    {
+        cells = split(bare, cell, "|")
+        for (at = 1; at <= cells; at++) {
+            count = split(cell[at], parts, " ")
+            if (count > most_in_cell) print FILENAME ":" FNR ": a cell of " count " words, and " most_in_cell " are enough"
+        }
+    }
+    END { tell() }' <"$work/pages" >>"$work/found"
 
 prose() {
     awk '/^```/ { code = !code; print ""; next } { print code ? "" : $0 }' "$1"

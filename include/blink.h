@@ -2,22 +2,35 @@
  * blink.h: a proved B-link tree index, and a table and a map that threads share without a global lock, for C and C++.
  *
  * Link with libblink.a or libblink.so, which ./libblink builds. What the comment of a function says of its results, and of what
- * it changes, is proved in crates/blink_c, unless it says "tested". Of all functions it is tested alone that memory is refused
- * only where malloc or realloc gives none, that an operation gets on by blink_pass_advance or blink_session_advance, and that
- * what is freed is free. What follows is what the caller keeps.
+ * it changes, is proved in crates/blink_c, unless it says "tested". Inline functions are made of the others, and tested alone. Of all
+ * functions it is tested alone that memory is refused only where malloc or realloc gives none, that an operation gets on by
+ * blink_pass_advance or blink_session_advance, and that what is freed is free. What follows is what the caller keeps.
  *
  * Handles. blink_index, blink_reader, blink_table, blink_pass, blink_map and blink_session are handles. A handle begins as {NULL},
  * and is then empty. A function with a parameter `out` takes the place of an empty handle, and fills it if it returns BLINK_DONE. All
  * other functions take a full one. A handle is freed once: by its free function, or, of a table or a map, by its close function.
  * blink_index_share and blink_reader_unshare, if they return BLINK_DONE, leave the handle empty that they take, and then it isn't freed.
- * Nothing looks whether a handle is empty, full or freed: an empty or freed handle passed where a full one is asked for, or a
- * full one as `out`, is undefined, as a wild pointer is.
  *
- * Threads. One call at a time uses a handle. Any thread may use it; one gives it to another by what orders memory between the
- * two: a lock, a start or join of a thread, or an atomic that one stores with release order, at least, and the other loads with
+ * Misuse. A call out of order is refused, and its comment says by which code: while an operation is under way (BLINK_PENDING) or none is
+ * (BLINK_IDLE), by a pass that was given back (BLINK_RETURNED), by one of another table or a session of another map (BLINK_FOREIGN), and a
+ * close before all is given back or freed (BLINK_MISSING, BLINK_SESSION_MISSING). Undefined, of every call, as a wild pointer is, since
+ * nothing looks for it: an empty handle, a freed one or a copy of a freed one, where a full one is asked for; a full one as `out`; a handle
+ * of another type, which takes a cast; one handle as two parameters; two calls at once by one handle; and NULL for a handle, an array or a
+ * result.
+ *
+ * Threads. One call at a time uses a handle, but several threads at once may call blink_map_join, blink_map_share and blink_map_room
+ * with one handle of a map, which wait for each other. Any thread may use a handle; one gives it to another by what orders memory
+ * between the two: a lock, a start or join of a thread, or an atomic that one stores with release order, at least, and the other loads with
  * acquire order. Different handles may be used by different threads at the same time, also readers of one index; passes of one table,
- * and the table itself; or sessions of one map, and the map itself. No call waits for another thread. None may be called from a signal
- * handler, or in a forked child of a process with threads.
+ * and the table itself; or sessions of one map, and the map itself. No call waits for another thread, but those three and the inline
+ * functions at the end. None may be called from a signal handler, or in a forked child of a process with threads. Tested: what a thread
+ * wrote before a call of a pass or a session that stores a pointer is seen by whoever gets this pointer from a call of another one, by a
+ * find, a glance, a scan, a snapshot or a change. So a pointer may be the address of a record, which isn't changed from then on but by what
+ * orders memory itself.
+ *
+ * No call has a cancellation point, so a thread that may be cancelled, but not at any time, ends behind its call. One that ends within a
+ * call, cancelled at any time or by a jump out of a signal handler, leaves its handle as if it were never freed, and may leave a page
+ * latched: then a change that wants this page gets on no more, and a map doesn't close.
  *
  * Arrays. A pointer and the number of its elements follow one another. The pointer isn't NULL, also where that number is 0, and
  * no two arrays or results of one call overlap.
@@ -27,6 +40,7 @@
 #ifndef BLINK_H
 #define BLINK_H
 
+#include <sched.h>
 #include <stdbool.h>
 #include <stddef.h>
 #include <stdint.h>
@@ -34,6 +48,10 @@
 #ifdef __cplusplus
 extern "C" {
 #endif
+
+/* The version: of this header, and as text that of the library that the program runs with. The first number is that of libblink.so.0. */
+#define BLINK_VERSION "0.1.0"
+const char *blink_version(void);
 
 typedef struct { void *at; } blink_index;
 typedef struct { void *at; } blink_reader;
@@ -85,7 +103,8 @@ enum {
     BLINK_REPLACED = 5  /* a replacement or an exchange: the key mapped to this pointer, and maps to the new one now */
 };
 
-/* What a call returns: BLINK_DONE, or why it is refused. A refused call changes nothing but where its comment says so. */
+/* What a call returns: BLINK_DONE, or why it is refused. A refused call changes nothing but where its comment says so. A code has one
+ * meaning, the same in every release, and all calls that are refused for want of memory have one code. */
 enum {
     BLINK_DONE = 0,
     BLINK_TOO_MANY = 1,            /* more than BLINK_BATCH_LIMIT operations */
@@ -93,67 +112,102 @@ enum {
     BLINK_UNKNOWN_OPERATION = 11,  /* the kind of an operation is none of the four */
     BLINK_INDEX_TOO_LARGE = 32,    /* 1 + pages + 22 for each insertion is above 1,048,576 */
     BLINK_BAD_FAN = 40,            /* the fan isn't from 4 to 32 */
-    BLINK_INDEX_NO_MEMORY = 41,    /* memory was refused, of an index or a reader */
+    BLINK_NO_MEMORY = 41,          /* malloc or realloc gave no memory */
     BLINK_NOT_ASCENDING = 42,      /* a key of the entries isn't above the one before */
     BLINK_SHARED = 43,             /* the index has another reader */
-    BLINK_NO_MEMORY = 50,          /* memory was refused, of a table */
     BLINK_TAKEN = 51,              /* a pass has the key that wasn't given back, or it stands twice in the list */
     BLINK_NO_ALLOWANCE = 52,       /* the table has fewer insertions or deletions left, or has dealt 2^32 - 1 passes */
-    BLINK_DEAL_NO_MEMORY = 53,     /* memory was refused, of a deal */
     BLINK_NOT_YOURS = 54,          /* the key isn't one of the pass's */
     BLINK_SPENT = 55,              /* the pass has no insertion, or no deletion, left */
     BLINK_MISSING = 56,            /* a pass wasn't given back, or its handle isn't freed */
     BLINK_TABLE_TOO_LARGE = 57,    /* as 32, by the insertions that the table is to have room for */
     BLINK_HAND_NOT_YOURS = 58,     /* a key isn't one of the pass's that is to hand it over, or stands twice in the list */
-    BLINK_HAND_NO_MEMORY = 59,     /* memory was refused, of a hand */
-    BLINK_FOREIGN = 63,            /* the pass is of another table, or the session of another map: the numbers differ */
+    BLINK_FOREIGN = 63,            /* the pass is of another table, or the session of another map */
     BLINK_PENDING = 90,            /* the pass or the session has an operation under way */
     BLINK_IDLE = 91,               /* the pass or the session has no operation under way */
     BLINK_RETURNED = 92,           /* the pass was given back to its table */
-    BLINK_MAP_NO_MEMORY = 100,     /* memory was refused, of a map */
     BLINK_MAP_TOO_LARGE = 101,     /* the index's pages and the page numbers of the room are above 1,048,575 */
     BLINK_BAD_SESSIONS = 102,      /* there are to be no sessions, or more than 256 */
     BLINK_NO_PLACE = 103,          /* each place for a session was taken */
-    BLINK_LOST_UNDER_WAY = 104,    /* a session's handle was freed with an operation under way */
+    BLINK_LOST_UNDER_WAY = 104,    /* a session's handle was freed with an operation under way, which couldn't be ended */
     BLINK_FULL = 105,              /* the session has too few rows or page numbers in all, and the map's pool too */
     BLINK_SESSION_MISSING = 106,   /* the handle of a session, or another handle of the map, isn't freed */
+    BLINK_MAP_CLOSED = 108,        /* the map is closed, or a close of it has begun */
     BLINK_ROWS_BUSY = 107          /* the session has enough rows and page numbers in all, but some rows are on their way back */
 };
 
 /* The greatest number of operations that run at once. */
 #define BLINK_BATCH_LIMIT 8192
 
+/* A good number of `tries`, for a call that may come back before an operation has ended. */
+#define BLINK_TRIES 100
+
+/* The text of a code, in a few words without a full stop. A number that is no code has one too. */
+static inline const char *blink_message(int code) {
+    switch (code) {
+    case BLINK_DONE: return "done";
+    case BLINK_TOO_MANY: return "too many operations";
+    case BLINK_WRONG_LENGTH: return "two arrays of different lengths";
+    case BLINK_UNKNOWN_OPERATION: return "unknown operation";
+    case BLINK_INDEX_TOO_LARGE: return "the index is too large";
+    case BLINK_BAD_FAN: return "the fan isn't from 4 to 32";
+    case BLINK_NO_MEMORY: return "out of memory";
+    case BLINK_NOT_ASCENDING: return "the keys don't ascend";
+    case BLINK_SHARED: return "the index has another reader";
+    case BLINK_TAKEN: return "a pass has the key";
+    case BLINK_NO_ALLOWANCE: return "the table has too few changes left";
+    case BLINK_NOT_YOURS: return "the key isn't the pass's";
+    case BLINK_SPENT: return "the pass has no change left";
+    case BLINK_MISSING: return "a pass wasn't given back or freed";
+    case BLINK_TABLE_TOO_LARGE: return "the table is too large";
+    case BLINK_HAND_NOT_YOURS: return "a key isn't the pass's that hands it over";
+    case BLINK_FOREIGN: return "of another table or map";
+    case BLINK_PENDING: return "an operation is under way";
+    case BLINK_IDLE: return "no operation is under way";
+    case BLINK_RETURNED: return "the pass was given back";
+    case BLINK_MAP_TOO_LARGE: return "the map is too large";
+    case BLINK_BAD_SESSIONS: return "a map has 1 to 256 sessions";
+    case BLINK_NO_PLACE: return "no place for a session";
+    case BLINK_LOST_UNDER_WAY: return "a session was freed with an operation under way";
+    case BLINK_FULL: return "the map is full";
+    case BLINK_SESSION_MISSING: return "a session or another handle isn't freed";
+    case BLINK_ROWS_BUSY: return "rows are on their way back: try again";
+    case BLINK_MAP_CLOSED: return "a close of the map has begun";
+    default: return "unknown code";
+    }
+}
+
 /* ---- The index: a map from keys to record pointers. ---- */
 
 /* Makes an index without an entry, whose pages have at most `fan` entries, 4 to 32. Refused: BLINK_BAD_FAN, for every other fan;
- * BLINK_INDEX_NO_MEMORY. */
-uint8_t blink_index_new(uint8_t fan, blink_index *out);
+ * BLINK_NO_MEMORY. */
+int blink_index_new(uint8_t fan, blink_index *out);
 
 /* Makes an index of entries in any order, sorted or not. Of two with one key the first stays. It has at most 1 page and 22 for
- * each entry. Refused: BLINK_BAD_FAN; then BLINK_INDEX_NO_MEMORY, or BLINK_INDEX_TOO_LARGE, only if 2 and 22 for each entry are
+ * each entry. Refused: BLINK_BAD_FAN; then BLINK_NO_MEMORY, or BLINK_INDEX_TOO_LARGE, only if 2 and 22 for each entry are
  * above 1,048,576. */
-uint8_t blink_index_from_entries(uint8_t fan, const blink_entry *entries, size_t count, blink_index *out);
+int blink_index_from_entries(uint8_t fan, const blink_entry *entries, size_t count, blink_index *out);
 
 /* Makes an index of entries whose keys strictly ascend, in as few pages as any tree of these entries has: each leaf but the last is
  * full. Refused, looked for in this order: BLINK_BAD_FAN; BLINK_NOT_ASCENDING, and `bad_place` is the first place, counted from 0,
  * whose key isn't above the one before; BLINK_INDEX_TOO_LARGE, exactly if the entries need more than 1,048,575 pages;
- * BLINK_INDEX_NO_MEMORY. Without BLINK_NOT_ASCENDING, `bad_place` stays as it was. */
-uint8_t blink_index_from_sorted(uint8_t fan, const blink_entry *entries, size_t count, blink_index *out, size_t *bad_place);
+ * BLINK_NO_MEMORY. Without BLINK_NOT_ASCENDING, `bad_place` stays as it was. */
+int blink_index_from_sorted(uint8_t fan, const blink_entry *entries, size_t count, blink_index *out, size_t *bad_place);
 
-/* Makes a copy, page by page. Refused: BLINK_INDEX_NO_MEMORY. */
-uint8_t blink_index_copy(blink_index *index, blink_index *out);
+/* Makes a copy, page by page. Refused: BLINK_NO_MEMORY. */
+int blink_index_copy(blink_index *index, blink_index *out);
 
 /* Runs operations one after another, and gives the answer of each at its place. It works on a copy of the index, which then takes
  * its place: so run many at once. Refused, looked for in this order: BLINK_WRONG_LENGTH, if there aren't as many places for
- * answers as operations; BLINK_TOO_MANY; BLINK_UNKNOWN_OPERATION; then BLINK_INDEX_TOO_LARGE or BLINK_INDEX_NO_MEMORY. Then the
+ * answers as operations; BLINK_TOO_MANY; BLINK_UNKNOWN_OPERATION; then BLINK_INDEX_TOO_LARGE or BLINK_NO_MEMORY. Then the
  * index and the answers are as they were. Otherwise the index has at most 22 pages more for each insertion. */
-uint8_t blink_index_run(blink_index *index, const blink_operation *operations, size_t count, blink_answer *answers,
-                        size_t places);
+int blink_index_run(blink_index *index, const blink_operation *operations, size_t count, blink_answer *answers,
+                    size_t places);
 
 /* Adds a key with its pointer in place, unless the key is there: BLINK_INSERTED, or BLINK_EXISTS. It asks for memory only where the
  * key's leaf is split, before anything changes. Refused: BLINK_INDEX_TOO_LARGE, exactly if 1 + pages + 22 is above 1,048,576;
- * BLINK_INDEX_NO_MEMORY. Then the index and the answer are as they were. Otherwise the index has at most 22 pages more. */
-uint8_t blink_index_insert(blink_index *index, uint64_t key, uint64_t pointer, blink_answer *answer);
+ * BLINK_NO_MEMORY. Then the index and the answer are as they were. Otherwise the index has at most 22 pages more. */
+int blink_index_insert(blink_index *index, uint64_t key, uint64_t pointer, blink_answer *answer);
 
 /* Removes a key with its pointer in place: BLINK_REMOVED, or BLINK_ABSENT. It takes no memory. */
 void blink_index_delete(blink_index *index, uint64_t key, blink_answer *answer);
@@ -172,21 +226,21 @@ void blink_index_delete_exact(blink_index *index, uint64_t key, uint64_t expecte
 /* Carries operations out in place, one after another, up to the first that is refused, and gives the answer of each at its place. It
  * stores how many were carried out. The other places stay as they were. Refused: BLINK_WRONG_LENGTH, if there aren't as many places
  * for answers as operations, and then none is carried out; or, of the operation next to those carried out,
- * BLINK_UNKNOWN_OPERATION, BLINK_INDEX_TOO_LARGE or BLINK_INDEX_NO_MEMORY. */
-uint8_t blink_index_apply(blink_index *index, const blink_operation *operations, size_t count, blink_answer *answers,
-                          size_t places, size_t *carried_out);
+ * BLINK_UNKNOWN_OPERATION, BLINK_INDEX_TOO_LARGE or BLINK_NO_MEMORY. */
+int blink_index_apply(blink_index *index, const blink_operation *operations, size_t count, blink_answer *answers,
+                      size_t places, size_t *carried_out);
 
 /* Packs the entries into as few pages as any tree of these entries has, in place: each leaf but the last is full then, so that an
- * insertion splits it. It takes memory for all new pages, before the old ones are freed. Refused: BLINK_INDEX_NO_MEMORY, and then the
+ * insertion splits it. It takes memory for all new pages, before the old ones are freed. Refused: BLINK_NO_MEMORY, and then the
  * index is as it was. */
-uint8_t blink_index_compact(blink_index *index);
+int blink_index_compact(blink_index *index);
 
 /* Looks a key up: true, and its record pointer; or false, and `pointer` stays as it was. */
 bool blink_index_find(blink_index *index, uint64_t key, uint64_t *pointer);
 
 /* Looks keys up, and gives the answer of each at its place, BLINK_FOUND or BLINK_ABSENT. Refused: BLINK_WRONG_LENGTH, exactly if
  * there aren't as many places as keys. */
-uint8_t blink_index_find_many(blink_index *index, const uint64_t *keys, size_t count, blink_answer *answers, size_t places);
+int blink_index_find_many(blink_index *index, const uint64_t *keys, size_t count, blink_answer *answers, size_t places);
 
 /* Gives the entries with keys from `lo` to `hi`, both included, in ascending order, as many as there are places. It returns how
  * many there are, and stores how many fitted. The other places stay as they were. */
@@ -214,8 +268,8 @@ uint32_t blink_index_pages(blink_index *index);
 uint8_t blink_index_fan(blink_index *index);
 
 /* Gives the tree as text, a line a page, if all of it fits, and stores how many bytes it has; it ends without a zero byte.
- * docs/FORMATS.md has the format. Refused: BLINK_INDEX_NO_MEMORY; then `text` and `bytes` are as they were. */
-uint8_t blink_index_dump(blink_index *index, uint8_t *text, size_t places, size_t *bytes);
+ * docs/FORMATS.md has the format. Refused: BLINK_NO_MEMORY; then `text` and `bytes` are as they were. */
+int blink_index_dump(blink_index *index, uint8_t *text, size_t places, size_t *bytes);
 
 /* Frees the index. */
 void blink_index_free(blink_index index);
@@ -229,21 +283,21 @@ void blink_index_free(blink_index index);
  */
 
 /* Makes the index one that is only read, and gives its first reader. The handle `index` is empty then. No entry is copied: it takes
- * memory for the handle and for an index without an entry. Refused: BLINK_INDEX_NO_MEMORY, and then `index` is as it was. */
-uint8_t blink_index_share(blink_index *index, blink_reader *out);
+ * memory for the handle and for an index without an entry. Refused: BLINK_NO_MEMORY, and then `index` is as it was. */
+int blink_index_share(blink_index *index, blink_reader *out);
 
 /* Gives one more reader of the same index, for another thread. No entry is copied: it takes memory for the handle and for an index
- * without an entry. Refused: BLINK_INDEX_NO_MEMORY. */
-uint8_t blink_reader_join(blink_reader *reader, blink_reader *out);
+ * without an entry. Refused: BLINK_NO_MEMORY. */
+int blink_reader_join(blink_reader *reader, blink_reader *out);
 
 /* Gives the index back, as it was when it was shared, if no other reader has it. The handle `reader` is empty then. No entry is copied,
  * and it takes no memory. Refused: BLINK_SHARED, and then the reader is as it was. Tested: it is BLINK_SHARED if another reader of the
  * index isn't freed, and in no other case. */
-uint8_t blink_reader_unshare(blink_reader *reader, blink_index *out);
+int blink_reader_unshare(blink_reader *reader, blink_index *out);
 
 /* Read the index. Each gives, returns and refuses what the call of the index does that has the same name, as blink_index_find. */
 bool blink_reader_find(blink_reader *reader, uint64_t key, uint64_t *pointer);
-uint8_t blink_reader_find_many(blink_reader *reader, const uint64_t *keys, size_t count, blink_answer *answers, size_t places);
+int blink_reader_find_many(blink_reader *reader, const uint64_t *keys, size_t count, blink_answer *answers, size_t places);
 size_t blink_reader_scan(blink_reader *reader, uint64_t lo, uint64_t hi, blink_entry *entries, size_t places, size_t *fitted);
 size_t blink_reader_page(blink_reader *reader, uint64_t lo, uint64_t n, blink_entry *entries, size_t places, size_t *fitted);
 bool blink_reader_first(blink_reader *reader, blink_entry *entry);
@@ -252,7 +306,7 @@ bool blink_reader_next(blink_reader *reader, uint64_t key, blink_entry *entry);
 size_t blink_reader_len(blink_reader *reader);
 uint32_t blink_reader_pages(blink_reader *reader);
 uint8_t blink_reader_fan(blink_reader *reader);
-uint8_t blink_reader_dump(blink_reader *reader, uint8_t *text, size_t places, size_t *bytes);
+int blink_reader_dump(blink_reader *reader, uint8_t *text, size_t places, size_t *bytes);
 
 /* Frees the reader. Tested: the last one frees the index. */
 void blink_reader_free(blink_reader reader);
@@ -266,45 +320,57 @@ void blink_reader_free(blink_reader reader);
  */
 
 /* Opens a table over the index, which stays as it is, with room for so many insertions and deletions; a replacement or an
- * exchange uses a deletion. `number` is one that no other table of the process has while it or a pass of it lives: by it passes
- * of two tables are told apart. Refused: BLINK_TABLE_TOO_LARGE, exactly if 1 + pages + 22 for each insertion is above 1,048,576;
- * BLINK_NO_MEMORY. */
-uint8_t blink_table_open(blink_index *index, uint32_t inserts, uint32_t deletes, uint64_t number, blink_table *out);
+ * exchange uses a deletion. It is made of the two exports below. Refused: BLINK_TABLE_TOO_LARGE, exactly if 1 + pages + 22 for each
+ * insertion is above 1,048,576; BLINK_NO_MEMORY. */
+static inline int blink_table_open(blink_index *index, uint32_t inserts, uint32_t deletes, blink_table *out);
+
+/* Opens a table whose number is 0, and stores its place, at which no other table lies while it or a pass of it lives; and gives a table
+ * its number. Passes get the number when they are dealt, and by it passes of two tables are told apart. So whoever calls these, as a
+ * program in another language, names each table by its place before it deals. Refused: as blink_table_open. */
+int blink_table_open_unnamed(blink_index *index, uint32_t inserts, uint32_t deletes, blink_table *out, uint64_t *place);
+void blink_table_name(blink_table *table, uint64_t number);
+
+static inline int blink_table_open(blink_index *index, uint32_t inserts, uint32_t deletes, blink_table *out) {
+    uint64_t place;
+    int code = blink_table_open_unnamed(index, inserts, deletes, out, &place);
+    if (code == BLINK_DONE) blink_table_name(out, place);
+    return code;
+}
 
 /* Deals a pass with these keys, in any order, and room for so many changes. A key that was dealt before has the state that its last
  * pass left. Refused: BLINK_TAKEN, and `taken` is the first key of the list that a pass has which wasn't given back, or that stands
- * earlier in the list; BLINK_NO_ALLOWANCE; BLINK_DEAL_NO_MEMORY, at any time. Without BLINK_TAKEN, `taken` stays as it was. */
-uint8_t blink_table_deal(blink_table *table, const uint64_t *keys, size_t count, uint32_t inserts, uint32_t deletes,
-                         blink_pass *out, uint64_t *taken);
+ * earlier in the list; BLINK_NO_ALLOWANCE; BLINK_NO_MEMORY, at any time. Without BLINK_TAKEN, `taken` stays as it was. */
+int blink_table_deal(blink_table *table, const uint64_t *keys, size_t count, uint32_t inserts, uint32_t deletes,
+                     blink_pass *out, uint64_t *taken);
 
 /* Gives a pass back to its table: its keys can be dealt again. Its handle then holds nothing, is BLINK_RETURNED to all calls, and
  * is still to be freed. It takes no memory. Refused, looked for in this order: BLINK_FOREIGN; BLINK_PENDING or BLINK_RETURNED. */
-uint8_t blink_table_return(blink_table *table, blink_pass *pass);
+int blink_table_return(blink_table *table, blink_pass *pass);
 
 /* Closes the table, and gives the index of its tree: the entries that it was opened with, except that each key that was dealt has
  * the state that its last pass left. The index has at most the pages that the table was opened over, and 22 for each insertion that
  * the table has room for. The table is given up either way. Refused: BLINK_MISSING, if a pass wasn't given back; BLINK_NO_MEMORY.
  * Tested: it is BLINK_MISSING also if the handle of a pass isn't freed, and in no other case. */
-uint8_t blink_table_close(blink_table table, blink_index *out);
+int blink_table_close(blink_table table, blink_index *out);
 
 /* Frees the table, without an index. The handles of its passes may still be used, and are still to be freed. */
 void blink_table_free(blink_table table);
 
 /* Looks a key of the pass up: BLINK_FOUND or BLINK_ABSENT. Refused: BLINK_NOT_YOURS, for every key that isn't the pass's;
  * BLINK_PENDING; BLINK_RETURNED. */
-uint8_t blink_pass_find(blink_pass *pass, uint64_t key, blink_answer *answer);
+int blink_pass_find(blink_pass *pass, uint64_t key, blink_answer *answer);
 
 /* Looks any key up: BLINK_FOUND or BLINK_ABSENT, after the changes that the pass has seen by the end of the call. A pass never
  * un-sees a change that it has seen, for all keys at once. How much new it sees isn't promised. Refused: BLINK_PENDING;
  * BLINK_RETURNED. */
-uint8_t blink_pass_glance(blink_pass *pass, uint64_t key, blink_answer *answer);
+int blink_pass_glance(blink_pass *pass, uint64_t key, blink_answer *answer);
 
 /* Gives the entries whose keys are from `lo` to `hi`, both included, in ascending order, as many as there are places; other places
  * stay as they were. The keys may be anybody's. It reads leaf after leaf, from the left, each at one time: what it says of a key is
  * what the changes up to some time in the call leave of it, and of a greater key those up to that time or a later one. A key that
  * is there throughout the call is reported, and one that isn't there throughout isn't. Of the pass's own keys the report is exact. It
  * takes no memory. Refused: BLINK_PENDING; BLINK_RETURNED; then nothing changes. */
-uint8_t blink_pass_scan(blink_pass *pass, uint64_t lo, uint64_t hi, blink_entry *entries, size_t places, blink_scanned *scanned);
+int blink_pass_scan(blink_pass *pass, uint64_t lo, uint64_t hi, blink_entry *entries, size_t places, blink_scanned *scanned);
 
 /* Takes a snapshot: the entries whose keys are from `lo` to `hi`, both included, in ascending order, as all of them were at one time in
  * the call. They are what the changes that the pass has seen then leave of each of these keys. The array gets as many as there are
@@ -312,38 +378,38 @@ uint8_t blink_pass_scan(blink_pass *pass, uint64_t lo, uint64_t hi, blink_entry 
  * tries, there is no snapshot, and the places stay as they were: try again, or scan. It waits for nobody. It takes memory for the
  * entries and 16 bytes for each leaf, and frees it again. Refused: BLINK_PENDING; BLINK_RETURNED; BLINK_NO_MEMORY, and then the pass may
  * have seen more. */
-uint8_t blink_pass_snapshot(blink_pass *pass, uint64_t lo, uint64_t hi, uint32_t tries, blink_entry *entries, size_t places,
-                            blink_taken *taken);
+int blink_pass_snapshot(blink_pass *pass, uint64_t lo, uint64_t hi, uint32_t tries, blink_entry *entries, size_t places,
+                        blink_taken *taken);
 
 /* Tells pass `to` what pass `from` has seen: then `to` has seen all that `from` has seen. The two handles are different. Refused,
  * looked for in this order: BLINK_FOREIGN, if the passes are of two tables; BLINK_PENDING or BLINK_RETURNED, if `from` isn't free;
  * the same, if `to` isn't. */
-uint8_t blink_pass_tell(blink_pass *from, blink_pass *to);
+int blink_pass_tell(blink_pass *from, blink_pass *to);
 
 /* Hands these keys, in any order, from pass `from` to pass `to`, which can change them then as `from` could; `from` still glances
  * at them. Each pass keeps the changes that it has left, and `to` has then seen all that `from` has seen. The two handles are
  * different. Refused, looked for in this order: as blink_pass_tell; BLINK_HAND_NOT_YOURS, and `bad_key` is the first key of the
- * list that isn't one of `from`'s, or that stands earlier in the list; BLINK_HAND_NO_MEMORY. Without BLINK_HAND_NOT_YOURS,
+ * list that isn't one of `from`'s, or that stands earlier in the list; BLINK_NO_MEMORY. Without BLINK_HAND_NOT_YOURS,
  * `bad_key` stays as it was. A refusal leaves both passes as they were. */
-uint8_t blink_pass_hand(blink_pass *from, blink_pass *to, const uint64_t *keys, size_t count, uint64_t *bad_key);
+int blink_pass_hand(blink_pass *from, blink_pass *to, const uint64_t *keys, size_t count, uint64_t *bad_key);
 
 /* Begin an insertion, a deletion, a replacement or an exchange of a key of the pass; the last answers as blink_index_exchange does.
  * It goes on by blink_pass_advance, and until it has ended the pass can do nothing else. Each uses one insertion, or one deletion, of the pass, whatever it answers. Refused:
  * BLINK_NOT_YOURS, for every key that isn't the pass's; then BLINK_SPENT; BLINK_PENDING; BLINK_RETURNED. */
-uint8_t blink_pass_begin_insert(blink_pass *pass, uint64_t key, uint64_t pointer);
-uint8_t blink_pass_begin_delete(blink_pass *pass, uint64_t key);
-uint8_t blink_pass_begin_replace(blink_pass *pass, uint64_t key, uint64_t pointer);
-uint8_t blink_pass_begin_exchange(blink_pass *pass, uint64_t key, uint64_t expected, uint64_t pointer);
+int blink_pass_begin_insert(blink_pass *pass, uint64_t key, uint64_t pointer);
+int blink_pass_begin_delete(blink_pass *pass, uint64_t key);
+int blink_pass_begin_replace(blink_pass *pass, uint64_t key, uint64_t pointer);
+int blink_pass_begin_exchange(blink_pass *pass, uint64_t key, uint64_t expected, uint64_t pointer);
 
 /* Begins a deletion of a key of the pass, if its pointer is `expected`, as blink_pass_begin_delete begins one of any pointer. It
  * answers as blink_index_delete_exact does, and uses one deletion. */
-uint8_t blink_pass_begin_delete_exact(blink_pass *pass, uint64_t key, uint64_t expected);
+int blink_pass_begin_delete_exact(blink_pass *pass, uint64_t key, uint64_t expected);
 
 /* Takes the next steps of the operation under way. It returns BLINK_DONE and the answer once the operation has ended, and
  * BLINK_PENDING if it hasn't: then the operation holds no page, so that no other pass waits for it, and the thread may do something
  * else, yield or wait as it likes, and calls again. Tested: that is after `tries` steps in vain, since another pass has the page that
  * it wants. It never waits itself. Refused: BLINK_IDLE, if nothing is under way; BLINK_RETURNED. */
-uint8_t blink_pass_advance(blink_pass *pass, uint32_t tries, blink_answer *answer);
+int blink_pass_advance(blink_pass *pass, uint32_t tries, blink_answer *answer);
 
 /* Frees the handle. A pass that wasn't given back before is lost: blink_table_close is then refused with BLINK_MISSING. */
 void blink_pass_free(blink_pass pass);
@@ -360,7 +426,8 @@ void blink_pass_free(blink_pass pass);
  * first four and blink_map_room use a handle of the map; those of sessions don't.
  */
 
-/* Opens a map over the index, which stays as it is, with places for 1 to 256 sessions. A split of a page takes one of `pages` page
+/* Opens a map over the index, which stays as it is, with places for 1 to 256 sessions. While it opens, it takes twice the memory that the
+ * map has then. A split of a page takes one of `pages` page
  * numbers, and every write of a page one of `rows` rows. An insertion writes one page mostly, and has to have 22 numbers and 44 rows when
  * it begins; a deletion, a replacement or an exchange has to have one row. Sessions draw both from the map's pool, at most 512 numbers and
  * 1,024 rows at once; what one draws no other gets, before its place is taken again. One that has fewer than 22 numbers draws others, and
@@ -368,93 +435,293 @@ void blink_pass_free(blink_pass pass);
  * Half of the rows are the sessions', in equal parts, of 44 at least and 4,096 at most; a new page keeps one of the others. Tested: a row
  * that a write replaces comes back to its session, once each call that was in progress has ended. So two rows for each page number, and a
  * few hundred for each session, are enough for all changes as long as the page numbers last. While a thread is held up inside a call no
- * row comes back, and a change may be refused with BLINK_ROWS_BUSY, and let through later. `number` is one that no other map of the
- * process has while it or a session of it lives: by it sessions of two maps are told apart. Refused: BLINK_BAD_SESSIONS, exactly if there
+ * row comes back, and a change may be refused with BLINK_ROWS_BUSY, and let through later. Refused: BLINK_BAD_SESSIONS, exactly if there
  * are to be none or more than 256; then BLINK_MAP_TOO_LARGE, exactly if the index's pages and `pages` are above 1,048,575;
- * BLINK_MAP_NO_MEMORY. */
-uint8_t blink_map_open(blink_index *index, uint32_t pages, uint32_t rows, uint32_t sessions, uint64_t number, blink_map *out);
+ * BLINK_NO_MEMORY. */
+static inline int blink_map_open(blink_index *index, uint32_t pages, uint32_t rows, uint32_t sessions, blink_map *out);
 
-/* Gives one more handle of the map. Threads that each have one call at the same time: one joins without waiting for another. It takes
- * memory for the handle alone. Refused: BLINK_MAP_NO_MEMORY. */
-uint8_t blink_map_share(blink_map *map, blink_map *out);
+/* Opens a map whose number is 0, and stores its place, at which no other map lies while it or a session of it lives; and gives a map its
+ * number. Sessions get the number when they join, and by it sessions of two maps are told apart. So whoever calls these, as a program in
+ * another language, names each map by its place before a session joins. Refused: as blink_map_open. */
+int blink_map_open_unnamed(blink_index *index, uint32_t pages, uint32_t rows, uint32_t sessions, blink_map *out, uint64_t *place);
+void blink_map_name(blink_map *map, uint64_t number);
 
-/* Gives a session. It takes memory for the handle alone. Refused: BLINK_NO_PLACE; BLINK_MAP_NO_MEMORY. Tested: it is BLINK_NO_PLACE
+static inline int blink_map_open(blink_index *index, uint32_t pages, uint32_t rows, uint32_t sessions, blink_map *out) {
+    uint64_t place;
+    int code = blink_map_open_unnamed(index, pages, rows, sessions, out, &place);
+    if (code == BLINK_DONE) blink_map_name(out, place);
+    return code;
+}
+
+/* Gives one more handle of the map. It takes memory for the handle alone. Refused: BLINK_MAP_CLOSED, if a close of the map has begun;
+ * BLINK_NO_MEMORY. */
+static inline int blink_map_share(blink_map *map, blink_map *out);
+
+/* Gives a session. It takes memory for the handle alone. Refused: BLINK_NO_PLACE; BLINK_NO_MEMORY. Tested: it is BLINK_NO_PLACE
  * only if each place was taken. */
-uint8_t blink_map_join(blink_map *map, blink_session *out);
+static inline int blink_map_join(blink_map *map, blink_session *out);
 
-/* Stores how many rows and page numbers the map's pool has left, for a look: sessions may draw at any time. */
-void blink_map_room(blink_map *map, uint64_t *rows, uint64_t *pages);
+/* Stores how many rows and page numbers the map's pool has left, for a look: sessions may draw at any time. Tested: it stores what
+ * there is. */
+static inline void blink_map_room(blink_map *map, uint64_t *rows, uint64_t *pages);
 
-/* Closes the map, and gives the index of its tree: the entries that it was opened with, after all changes of the list. The handle
- * is given up either way. Refused: BLINK_SESSION_MISSING; BLINK_LOST_UNDER_WAY; BLINK_MAP_NO_MEMORY. Tested: it is
+/* The same three, where no other call uses the handle `map` at the same time. */
+int blink_map_share_alone(blink_map *map, blink_map *out);
+int blink_map_join_alone(blink_map *map, blink_session *out);
+void blink_map_room_alone(blink_map *map, uint64_t *rows, uint64_t *pages);
+
+/* Takes the pointer out of a handle, which the caller puts back. Until then this waits in other threads. For the functions below. */
+static inline blink_map blink_map_taken(blink_map *map) {
+    blink_map taken;
+    while ((taken.at = __atomic_exchange_n(&map->at, (void *)0, __ATOMIC_ACQUIRE)) == 0) sched_yield();
+    return taken;
+}
+
+static inline int blink_map_share(blink_map *map, blink_map *out) {
+    blink_map taken = blink_map_taken(map);
+    int code = blink_map_share_alone(&taken, out);
+    __atomic_store_n(&map->at, taken.at, __ATOMIC_RELEASE);
+    return code;
+}
+
+static inline int blink_map_join(blink_map *map, blink_session *out) {
+    blink_map taken = blink_map_taken(map);
+    int code = blink_map_join_alone(&taken, out);
+    __atomic_store_n(&map->at, taken.at, __ATOMIC_RELEASE);
+    return code;
+}
+
+static inline void blink_map_room(blink_map *map, uint64_t *rows, uint64_t *pages) {
+    blink_map taken = blink_map_taken(map);
+    blink_map_room_alone(&taken, rows, pages);
+    __atomic_store_n(&map->at, taken.at, __ATOMIC_RELEASE);
+}
+
+/* Closes the map, and gives the index of its tree: the entries that it was opened with, after all changes of the list. The handle stays,
+ * and is still to be freed. Refused: BLINK_MAP_CLOSED, if the map is closed; BLINK_SESSION_MISSING; BLINK_LOST_UNDER_WAY;
+ * BLINK_NO_MEMORY. After BLINK_SESSION_MISSING and BLINK_LOST_UNDER_WAY the map stays, with all its entries, and the call may be made
+ * again, though no session joins any more after the latter. After BLINK_NO_MEMORY the map may be gone. Tested: it is
  * BLINK_SESSION_MISSING if the handle of a session, or another handle of the map, isn't freed, and in no other case. */
-uint8_t blink_map_close(blink_map map, blink_index *out);
+int blink_map_close(blink_map *map, blink_index *out);
 
-/* Frees the handle, without an index. The handles of sessions, and others of the map, may still be used, and are still to be freed. */
+/* Frees the handle. The handles of sessions, and others of the map, may still be used, and are still to be freed. */
 void blink_map_free(blink_map map);
 
 /* Looks any key up: BLINK_FOUND or BLINK_ABSENT, after the changes that the session has seen by the end of the call. Refused:
  * BLINK_PENDING; then nothing changes. */
-uint8_t blink_session_find(blink_session *session, uint64_t key, blink_answer *answer);
+int blink_session_find(blink_session *session, uint64_t key, blink_answer *answer);
 
 /* Gives the entries whose keys are from `lo` to `hi`, both included, in ascending order, as many as there are places; other places
  * stay as they were. It reads leaf after leaf, from the left, each at one time: what it says of a key is what the changes up to some
  * time in the call leave of it, and of a greater key those up to that time or a later one. A key that is there throughout the
  * call is reported, and one that isn't there throughout isn't. The session has seen the changes up to these times then. It takes no
  * memory. Refused: BLINK_PENDING; then nothing changes. */
-uint8_t blink_session_scan(blink_session *session, uint64_t lo, uint64_t hi, blink_entry *entries, size_t places,
-                           blink_scanned *scanned);
+int blink_session_scan(blink_session *session, uint64_t lo, uint64_t hi, blink_entry *entries, size_t places,
+                       blink_scanned *scanned);
 
 /* Takes a snapshot: the entries whose keys are from `lo` to `hi`, both included, in ascending order, as all of them were at one time in
  * the call. They are what the changes that the session has seen then leave of each of these keys. The array gets as many as there are
  * places, and `taken` says how many there are; other places stay as they were. If some leaf of the range was changed at each of `tries`
  * tries, there is no snapshot, and the places stay as they were: try again, or scan. It waits for nobody. It takes memory for the
- * entries and 16 bytes for each leaf, and frees it again. Refused: BLINK_PENDING; BLINK_MAP_NO_MEMORY, and then the session may have seen
+ * entries and 16 bytes for each leaf, and frees it again. Refused: BLINK_PENDING; BLINK_NO_MEMORY, and then the session may have seen
  * more. */
-uint8_t blink_session_snapshot(blink_session *session, uint64_t lo, uint64_t hi, uint32_t tries, blink_entry *entries, size_t places,
-                               blink_taken *taken);
+int blink_session_snapshot(blink_session *session, uint64_t lo, uint64_t hi, uint32_t tries, blink_entry *entries, size_t places,
+                           blink_taken *taken);
 
 /* Insert, delete, replace or exchange any key; the last answers as blink_index_exchange does, and no other session changes the key
  * between the test and the replacement. It returns BLINK_DONE and the answer once the operation has ended, and BLINK_PENDING if it
  * hasn't: then it goes on by blink_session_advance, and until it has ended the session can do nothing else. Tested: that is after
  * `tries` steps in vain, since another session has the page that it wants. Refused: BLINK_FULL, only if the session lacks the room that
  * the operation may need also once all its rows have come back; BLINK_ROWS_BUSY, only if it has the room then, so that the call may be
- * made again. Both change nothing but what the session has drawn. Refused also: BLINK_PENDING, if an operation was under way before,
- * and then nothing changes. */
-uint8_t blink_session_insert(blink_session *session, uint64_t key, uint64_t pointer, uint32_t tries, blink_answer *answer);
-uint8_t blink_session_delete(blink_session *session, uint64_t key, uint32_t tries, blink_answer *answer);
-uint8_t blink_session_replace(blink_session *session, uint64_t key, uint64_t pointer, uint32_t tries, blink_answer *answer);
-uint8_t blink_session_exchange(blink_session *session, uint64_t key, uint64_t expected, uint64_t pointer, uint32_t tries,
-                               blink_answer *answer);
+ * made again. Both change nothing but what the session has drawn, and an insertion has them only if its key is absent: otherwise it is
+ * BLINK_EXISTS all the same. Refused also: BLINK_PENDING, if an operation was under way before, and then nothing changes. */
+int blink_session_insert(blink_session *session, uint64_t key, uint64_t pointer, uint32_t tries, blink_answer *answer);
+int blink_session_delete(blink_session *session, uint64_t key, uint32_t tries, blink_answer *answer);
+int blink_session_replace(blink_session *session, uint64_t key, uint64_t pointer, uint32_t tries, blink_answer *answer);
+int blink_session_exchange(blink_session *session, uint64_t key, uint64_t expected, uint64_t pointer, uint32_t tries,
+                           blink_answer *answer);
 
 /* Deletes any key, if its pointer is `expected`, as blink_session_delete deletes one of any pointer. It answers as
  * blink_index_delete_exact does, and no other session changes the key between the test and the deletion. */
-uint8_t blink_session_delete_exact(blink_session *session, uint64_t key, uint64_t expected, uint32_t tries, blink_answer *answer);
+int blink_session_delete_exact(blink_session *session, uint64_t key, uint64_t expected, uint32_t tries, blink_answer *answer);
 
-/* Maps any key to the pointer: BLINK_INSERTED, if nothing was there, or BLINK_REPLACED and the pointer that was there. It inserts, and
- * where the key is there it replaces; it begins anew where another session has deleted the key between. It goes on as an insertion
- * does, and comes back with BLINK_PENDING also where it has still to replace. Refused: as an insertion, also when it goes on; then it
- * has made no change. */
-uint8_t blink_session_put(blink_session *session, uint64_t key, uint64_t pointer, uint32_t tries, blink_answer *answer);
+/* Maps any key to the pointer: BLINK_INSERTED, if nothing was there, or BLINK_REPLACED and the pointer that was there. It replaces, and
+ * where the key is absent it inserts; it begins anew where another session has inserted the key between. It goes on as a replacement
+ * does, and comes back with BLINK_PENDING also where it begins anew. Refused: as a replacement; or, where it found the key absent, as an
+ * insertion; also when it goes on. Then it has made no change. */
+int blink_session_put(blink_session *session, uint64_t key, uint64_t pointer, uint32_t tries, blink_answer *answer);
 
 /* Takes the next steps of the operation or the put that is under way. It returns BLINK_DONE and the answer once that has ended, and
  * BLINK_PENDING if it hasn't: then it holds no page, so that no other session waits for it, and the thread may do something else,
  * yield or wait as it likes, and calls again. It never waits itself. Refused: BLINK_IDLE, if nothing is under way; BLINK_FULL or
  * BLINK_ROWS_BUSY, of a put, which has then ended without a change. */
-uint8_t blink_session_advance(blink_session *session, uint32_t tries, blink_answer *answer);
+int blink_session_advance(blink_session *session, uint32_t tries, blink_answer *answer);
 
 /* Tells session `to` what session `from` has seen: then `to` has seen all that `from` has seen. The two handles are different.
  * Refused, looked for in this order: BLINK_FOREIGN, if the sessions are of two maps; BLINK_PENDING, if `from` isn't free; the same, if
  * `to` isn't. Then nothing changes. */
-uint8_t blink_session_tell(blink_session *from, blink_session *to);
+int blink_session_tell(blink_session *from, blink_session *to);
 
 /* Tells what the session has of page numbers and rows, for a look; blink_map_room tells what the pool has left. It changes
  * nothing. Refused: BLINK_PENDING; then `stock` stays as it was. */
-uint8_t blink_session_stock(blink_session *session, blink_stock *stock);
+int blink_session_stock(blink_session *session, blink_stock *stock);
 
-/* Frees the handle. Tested: a session leaves its map by it, and its place can be taken again. One with an operation under way is lost:
- * blink_map_close is then refused with BLINK_LOST_UNDER_WAY. */
+/* Frees the handle. Tested: a session leaves its map by it, and its place can be taken again. An operation under way goes on to its end
+ * before; of a put the half that is under way, so a put of an absent key may be left undone. If it still waits for other sessions after
+ * 1,000 tries, its place is lost, and blink_map_close is refused with BLINK_LOST_UNDER_WAY. */
 void blink_session_free(blink_session session);
+
+/* Tells ThreadSanitizer, where it is on, what "Threads" says of pointers: of the calls above, and so of the functions below. */
+#if defined(__SANITIZE_THREAD__)
+#include "blink_tsan.h"
+#elif defined(__has_feature)
+#if __has_feature(thread_sanitizer)
+#include "blink_tsan.h"
+#endif
+#endif
+
+/* ---- Changes to their end. ----
+ *
+ * For a thread that may wait. These make a change and go on until it has ended. Where another thread has the page that the change wants,
+ * or the session's rows are on their way back, they let other threads run (sched_yield) and go on. They are made of the calls above, which
+ * wait for nobody, and are no exports. Each answers and is refused as the call that begins the change, but they never return
+ * BLINK_ROWS_BUSY, and BLINK_PENDING only if an operation was under way before; then nothing changes.
+ */
+
+/* Ends the operation or the put that is under way. Refused: as blink_session_advance, but never with BLINK_PENDING. */
+static inline int blink_session_finish(blink_session *session, blink_answer *answer) {
+    int code;
+    while ((code = blink_session_advance(session, BLINK_TRIES, answer)) == BLINK_PENDING) sched_yield();
+    return code;
+}
+
+/* Whether a change with this code has to begin once more; if not, `code` is how it has ended. For the functions below. */
+static inline bool blink_session_again(blink_session *session, int *code, blink_answer *answer) {
+    if (*code == BLINK_PENDING) *code = blink_session_finish(session, answer);
+    if (*code != BLINK_ROWS_BUSY) return false;
+    sched_yield();
+    return true;
+}
+
+/* Whether the session is free: BLINK_DONE, or BLINK_PENDING. */
+static inline int blink_session_is_free(blink_session *session) {
+    blink_stock stock;
+    return blink_session_stock(session, &stock);
+}
+
+static inline int blink_session_insert_wait(blink_session *session, uint64_t key, uint64_t pointer, blink_answer *answer) {
+    int code = blink_session_is_free(session);
+    if (code != BLINK_DONE) return code;
+    do code = blink_session_insert(session, key, pointer, BLINK_TRIES, answer);
+    while (blink_session_again(session, &code, answer));
+    return code;
+}
+
+static inline int blink_session_delete_wait(blink_session *session, uint64_t key, blink_answer *answer) {
+    int code = blink_session_is_free(session);
+    if (code != BLINK_DONE) return code;
+    do code = blink_session_delete(session, key, BLINK_TRIES, answer);
+    while (blink_session_again(session, &code, answer));
+    return code;
+}
+
+static inline int blink_session_replace_wait(blink_session *session, uint64_t key, uint64_t pointer, blink_answer *answer) {
+    int code = blink_session_is_free(session);
+    if (code != BLINK_DONE) return code;
+    do code = blink_session_replace(session, key, pointer, BLINK_TRIES, answer);
+    while (blink_session_again(session, &code, answer));
+    return code;
+}
+
+static inline int blink_session_exchange_wait(blink_session *session, uint64_t key, uint64_t expected, uint64_t pointer,
+                                              blink_answer *answer) {
+    int code = blink_session_is_free(session);
+    if (code != BLINK_DONE) return code;
+    do code = blink_session_exchange(session, key, expected, pointer, BLINK_TRIES, answer);
+    while (blink_session_again(session, &code, answer));
+    return code;
+}
+
+static inline int blink_session_delete_exact_wait(blink_session *session, uint64_t key, uint64_t expected, blink_answer *answer) {
+    int code = blink_session_is_free(session);
+    if (code != BLINK_DONE) return code;
+    do code = blink_session_delete_exact(session, key, expected, BLINK_TRIES, answer);
+    while (blink_session_again(session, &code, answer));
+    return code;
+}
+
+static inline int blink_session_put_wait(blink_session *session, uint64_t key, uint64_t pointer, blink_answer *answer) {
+    int code = blink_session_is_free(session);
+    if (code != BLINK_DONE) return code;
+    do code = blink_session_put(session, key, pointer, BLINK_TRIES, answer);
+    while (blink_session_again(session, &code, answer));
+    return code;
+}
+
+/* Ends the operation that is under way. Refused: as blink_pass_advance, but never with BLINK_PENDING. */
+static inline int blink_pass_finish(blink_pass *pass, blink_answer *answer) {
+    int code;
+    while ((code = blink_pass_advance(pass, BLINK_TRIES, answer)) == BLINK_PENDING) sched_yield();
+    return code;
+}
+
+static inline int blink_pass_insert_wait(blink_pass *pass, uint64_t key, uint64_t pointer, blink_answer *answer) {
+    int code = blink_pass_begin_insert(pass, key, pointer);
+    return code == BLINK_DONE ? blink_pass_finish(pass, answer) : code;
+}
+
+static inline int blink_pass_delete_wait(blink_pass *pass, uint64_t key, blink_answer *answer) {
+    int code = blink_pass_begin_delete(pass, key);
+    return code == BLINK_DONE ? blink_pass_finish(pass, answer) : code;
+}
+
+static inline int blink_pass_replace_wait(blink_pass *pass, uint64_t key, uint64_t pointer, blink_answer *answer) {
+    int code = blink_pass_begin_replace(pass, key, pointer);
+    return code == BLINK_DONE ? blink_pass_finish(pass, answer) : code;
+}
+
+static inline int blink_pass_exchange_wait(blink_pass *pass, uint64_t key, uint64_t expected, uint64_t pointer, blink_answer *answer) {
+    int code = blink_pass_begin_exchange(pass, key, expected, pointer);
+    return code == BLINK_DONE ? blink_pass_finish(pass, answer) : code;
+}
+
+static inline int blink_pass_delete_exact_wait(blink_pass *pass, uint64_t key, uint64_t expected, blink_answer *answer) {
+    int code = blink_pass_begin_delete_exact(pass, key, expected);
+    return code == BLINK_DONE ? blink_pass_finish(pass, answer) : code;
+}
+
+/* ---- Objects behind pointers: when may one be freed? ----
+ *
+ * Who finds a pointer reads the object there after the call, and meanwhile another thread may take the pointer out of the map. So each
+ * thread that reads objects has a guard, and holds it from before a find until it has done with what it found, for as many calls as it
+ * likes. A thread that has taken pointers out, by a deletion, a replacement, an exchange or a put, notes which guards are held, and frees
+ * the objects once all these are past. Held guards hold nobody up but who waits for them: the calls on the map go on. A guard begins as
+ * {0}, and one thread at a time uses it. The guards of a map's readers stand in one array. Tested: an object that was freed so isn't
+ * read any more. It is so since stores and loads of the map and of guards are sequentially consistent, and a find sees each change of a
+ * call that ended before it began.
+ */
+
+/* A guard, on a line of the cache for itself. */
+typedef struct { uint64_t turn, apart[7]; } blink_guard;
+
+/* Holds the guard, which is free. */
+static inline void blink_guard_hold(blink_guard *guard) { __atomic_store_n(&guard->turn, guard->turn + 1, __ATOMIC_SEQ_CST); }
+
+/* Lets go of the guard, which is held. */
+static inline void blink_guard_release(blink_guard *guard) { __atomic_store_n(&guard->turn, guard->turn + 1, __ATOMIC_RELEASE); }
+
+/* Notes which of the guards are held, once pointers have been taken out. `turns` has a place for each guard. */
+static inline void blink_guards_note(const blink_guard *guards, size_t count, uint64_t *turns) {
+    for (size_t place = 0; place < count; place++) turns[place] = __atomic_load_n(&guards[place].turn, __ATOMIC_SEQ_CST);
+}
+
+/* Whether each guard that was held when these turns were noted is past: it was let go then, also if it is held again. A thread that holds
+ * one of them waits for itself in vain. */
+static inline bool blink_guards_are_past(const blink_guard *guards, size_t count, const uint64_t *turns) {
+    for (size_t place = 0; place < count; place++)
+        if (turns[place] % 2 == 1 && __atomic_load_n(&guards[place].turn, __ATOMIC_ACQUIRE) == turns[place]) return false;
+    return true;
+}
 
 #ifdef __cplusplus
 }

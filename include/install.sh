@@ -1,34 +1,92 @@
 #!/bin/sh
-# Installs what ./libblink has built: include/blink.h, lib/libblink.a, lib/libblink.so and lib/pkgconfig/blink.pc in a folder. Each file is
-# copied beside its place first, and all take their places in the end. So where one can't be written, none is changed.
+# Installs what ./libblink has built in a folder: the headers into include; the archive, and the shared library with its two links, into lib;
+# and blink.pc into lib/pkgconfig. Each file is copied beside its place first, and all take their places in the end. So where one can't be
+# written, none is changed, and no new folder is left.
 #
-#     install.sh DESTDIR PREFIX    PREFIX is where programs find them, and DESTDIR, which may be empty, stands before it
+#     install.sh DESTDIR PREFIX              PREFIX is where programs find them, and DESTDIR, which may be empty, stands before it
+#     install.sh --uninstall DESTDIR PREFIX  takes these files away, and their folders where nothing else is in them
 set -eu
 top=$(cd "$(dirname "$0")/.." && pwd)
-prefix=$2
+uninstall=
+if [ "$1" = --uninstall ]; then
+    uninstall=yes
+    shift
+fi
+prefix=$(realpath -ms -- "$2")
 root=$1$prefix
-pc=$(mktemp)
-placed=
+version=$(sed -n 's/^#define BLINK_VERSION "\(.*\)"$/\1/p' "$top/include/blink.h")
+headers="blink.h blink.hpp blink_tsan.h"
+shared=libblink.so.$version
+soname=libblink.so.${version%%.*}
 
+if [ -n "$uninstall" ]; then
+    for it in $headers; do
+        rm -f "$root/include/$it"
+    done
+    for it in libblink.a "$shared" "$soname" libblink.so pkgconfig/blink.pc; do
+        rm -f "$root/lib/$it"
+    done
+    for it in lib/pkgconfig lib include; do
+        rmdir "$root/$it" 2>/dev/null || true
+    done
+    exit 0
+fi
+
+work=$(mktemp -d)
+placed=
+: >"$work/made"
 undo() {
-    rm -f "$pc"
     for it in $placed; do
         rm -f "$root/$it.new"
     done
+    while read -r it; do
+        rmdir "$it"
+    done <"$work/made"
+    rm -rf "$work"
 }
 trap undo EXIT
 
-sed -e "s|@top@|$prefix|" -e 's|^Libs: .*|Libs: -L${top}/lib -lblink|' "$top/include/blink.pc.in" >"$pc"
-mkdir -p "$root/include" "$root/lib/pkgconfig"
+# Makes a folder, and those above it; what is made is noted, the last one first.
+folder() {
+    if [ ! -d "$1" ]; then
+        folder "$(dirname "$1")"
+        mkdir "$1"
+        { echo "$1" && cat "$work/made"; } >"$work/made.new"
+        mv "$work/made.new" "$work/made"
+    fi
+}
+# Notes a file, whose place must not be a folder's.
+note() {
+    if [ -d "$root/$1" ] && [ ! -L "$root/$1" ]; then
+        echo "install: $root/$1 is a folder" >&2
+        exit 1
+    fi
+    placed="$placed $1"
+}
 place() {
-    placed="$placed $2"
+    note "$2"
     install -m "$3" "$1" "$root/$2.new"
 }
-place "$top/include/blink.h" include/blink.h 644
-place "$top/out/libblink.a" lib/libblink.a 644
-place "$top/out/libblink.so" lib/libblink.so 755
-place "$pc" lib/pkgconfig/blink.pc 644
-for it in $placed; do
-    mv -f "$root/$it.new" "$root/$it"
+link() {
+    note "$2"
+    ln -sfn "$1" "$root/$2.new"
+}
+
+for it in include lib lib/pkgconfig; do
+    folder "$root/$it"
 done
-echo "install: $placed in $root" >&2
+for it in $headers; do
+    place "$top/include/$it" "include/$it" 644
+done
+place "$top/out/libblink.a" lib/libblink.a 644
+place "$top/out/$shared" "lib/$shared" 755
+link "$shared" "lib/$soname"
+link "$soname" lib/libblink.so
+sh "$top/include/pc.sh" "$prefix" lib >"$work/pc"
+place "$work/pc" lib/pkgconfig/blink.pc 644
+for it in $placed; do
+    mv -fT "$root/$it.new" "$root/$it"
+done
+: >"$work/made"
+echo "install:$placed in $root" >&2
+placed=

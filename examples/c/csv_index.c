@@ -5,8 +5,8 @@
 #include <stdlib.h>
 #include <string.h>
 
-static void expect(uint8_t code) {
-    if (code != BLINK_DONE) exit(fprintf(stderr, "libblink: code %d\n", code));
+static void expect(int code) {
+    if (code != BLINK_DONE) exit(fprintf(stderr, "libblink: %s\n", blink_message(code)));
 }
 
 int main(int argc, char **argv) {

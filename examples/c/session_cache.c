@@ -2,11 +2,10 @@
 // request of a user who isn't there logs in; one of a user who was idle for too long logs out first. Run: session_cache
 #include "blink.h"
 #include <pthread.h>
-#include <sched.h>
 #include <stdio.h>
 #include <stdlib.h>
 
-enum { THREADS = 8, REQUESTS = 25000, USERS = 10000, IDLE = 60000, TRIES = 100 };
+enum { THREADS = 8, REQUESTS = 25000, USERS = 10000, IDLE = 60000 };
 
 // What one thread has done, and its session.
 struct worker {
@@ -17,25 +16,13 @@ struct worker {
 // Counts the requests of all threads.
 static uint64_t clock_of_requests;
 
-static void expect(uint8_t code) {
-    if (code != BLINK_DONE) exit(fprintf(stderr, "libblink: code %d\n", code));
-}
-
-// Ends the change that a call with this code has begun, yielding where another thread has the page. Whether it has to be made again, since
-// the session's rows are on their way back; if not, what the answer tells is in `answer`.
-static bool again(blink_session *cache, uint8_t code, blink_answer *answer) {
-    while (code == BLINK_PENDING) {
-        code = blink_session_advance(cache, TRIES, answer);
-        if (code == BLINK_PENDING) sched_yield();
-    }
-    if (code != BLINK_ROWS_BUSY) expect(code);
-    else sched_yield();
-    return code == BLINK_ROWS_BUSY;
+static void expect(int code) {
+    if (code != BLINK_DONE) exit(fprintf(stderr, "libblink: %s\n", blink_message(code)));
 }
 
 static bool removes(blink_session *cache, uint64_t user) {
     blink_answer answer;
-    while (again(cache, blink_session_delete(cache, user, TRIES, &answer), &answer)) {}
+    expect(blink_session_delete_wait(cache, user, &answer));
     return answer.kind == BLINK_REMOVED;
 }
 
@@ -45,7 +32,7 @@ static void show_page(struct worker *self, uint64_t user, uint64_t now) {
     expect(blink_session_find(&self->cache, user, &there));
     // of two threads that find it run out one removes it
     if (there.kind == BLINK_FOUND && there.pointer + IDLE < now && removes(&self->cache, user)) self->expiries++;
-    while (again(&self->cache, blink_session_put(&self->cache, user, now, TRIES, &answer), &answer)) {}
+    expect(blink_session_put_wait(&self->cache, user, now, &answer));
     if (answer.kind == BLINK_INSERTED) self->logins++;
     self->pages++;
 }
@@ -69,7 +56,7 @@ int main(void) {
     pthread_t threads[THREADS];
     // a request writes a page once or twice; 10,000 users on pages of 16 to 32 entries are some 600 pages
     expect(blink_index_new(32, &index));
-    expect(blink_map_open(&index, 10000, 300000, THREADS, 1, &map));
+    expect(blink_map_open(&index, 10000, 300000, THREADS, &map));
     blink_index_free(index);
     for (int i = 0; i < THREADS; i++) {
         workers[i].random = (uint64_t)i + 1;
@@ -84,7 +71,8 @@ int main(void) {
         logouts += workers[i].logouts, expiries += workers[i].expiries;
     }
     index.at = NULL;
-    expect(blink_map_close(map, &index));
+    expect(blink_map_close(&map, &index));
+    blink_map_free(map);
     uint64_t left = blink_index_len(&index);
     blink_index_free(index);
     printf("%llu pages, %llu logins, %llu logouts, %llu expiries, %llu users at the end\n", (unsigned long long)pages,

@@ -2,7 +2,6 @@
 #include "blink.h"
 #include <ctype.h>
 #include <pthread.h>
-#include <sched.h>
 #include <stdio.h>
 #include <stdlib.h>
 #include <string.h>
@@ -12,8 +11,8 @@ enum { THREADS = 2, MOST = 1 << 16 };
 static uint64_t words[MOST]; // the hash of each word of the file, in order
 static uint32_t count;
 
-static void expect(uint8_t code) {
-    if (code != BLINK_DONE) exit(fprintf(stderr, "libblink: code %d\n", code));
+static void expect(int code) {
+    if (code != BLINK_DONE) exit(fprintf(stderr, "libblink: %s\n", blink_message(code)));
 }
 
 // FNV-1a. Two words with one hash would be counted as one.
@@ -33,14 +32,12 @@ static void *count_own(void *at) {
     blink_pass *pass = at;
     blink_answer met, answer;
     for (uint32_t i = 0; i < count; i++) {
-        uint8_t code = blink_pass_find(pass, words[i], &met);
+        int code = blink_pass_find(pass, words[i], &met);
         if (code == BLINK_NOT_YOURS) continue;
         expect(code);
-        if (met.kind == BLINK_ABSENT) expect(blink_pass_begin_insert(pass, words[i], 1));
-        else expect(blink_pass_begin_replace(pass, words[i], met.pointer + 1));
         // where the other thread has the page, this one yields
-        while ((code = blink_pass_advance(pass, 100, &answer)) == BLINK_PENDING) sched_yield();
-        expect(code);
+        if (met.kind == BLINK_ABSENT) expect(blink_pass_insert_wait(pass, words[i], 1, &answer));
+        else expect(blink_pass_replace_wait(pass, words[i], met.pointer + 1, &answer));
     }
     return NULL;
 }
@@ -64,7 +61,7 @@ int main(int argc, char **argv) {
     blink_pass passes[THREADS] = {{NULL}};
     pthread_t threads[THREADS];
     expect(blink_index_new(32, &index));
-    expect(blink_table_open(&index, own[0] + own[1], THREADS * count, 1, &table));
+    expect(blink_table_open(&index, own[0] + own[1], THREADS * count, &table));
     blink_index_free(index);
     for (int t = 0; t < THREADS; t++) expect(blink_table_deal(&table, keys[t], own[t], own[t], count, &passes[t], &taken));
     for (int t = 0; t < THREADS; t++) pthread_create(&threads[t], NULL, count_own, &passes[t]);

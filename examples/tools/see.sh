@@ -2,10 +2,11 @@
 # Opens the pages of the replays in a browser without a window, 1280 by 800 and 400 by 800, and looks at every frame: nothing may be told
 # on the console, the keys, the slider and the lines must step, no two boxes overlap, all text of a page stands in its box, each arrow
 # ends at a box and crosses none, with keys shortened and as numbers, and each note is of a turn that there is and is read without
-# scrolling. Then it makes the pictures in tour/pictures/, of a frame of each page, light and dark, smaller ones where there is python3. Last it
+# scrolling, with the tree's beginning below it in the window. Then it makes the pictures in tour/pictures/, of a frame of each page, light and dark, smaller ones where there is python3. Last it
 # prints one page into a file that it throws away.
 #
 #     see.sh [PAGE.html ..]     without a page, those below; of other pages no pictures are made
+#     see.sh --look             looks at those below by both sizes, and makes nothing
 #
 # It needs Chromium: apt-get install --no-install-recommends chromium. The variable CHROMIUM names another program.
 set -eu
@@ -77,6 +78,7 @@ cat >"$work/look.html" <<'END_OF_LOOK'
     if (note.textContent !== text) fail("another note");
     if (box.top < 0 || box.bottom > innerHeight || box.left < 0 || box.right > innerWidth) fail("a note isn't in the window");
     if (note.scrollHeight > note.clientHeight) fail("a note isn't whole");
+    if (document.getElementById("tree").getBoundingClientRect().top > 0.6 * innerHeight) fail("the tree begins too far down");
   }
 
   const inside = (x, y, box, margin) => x > box.left + margin && x < box.right - margin && y > box.top + margin && y < box.bottom - margin;
@@ -203,6 +205,13 @@ pictures() {
     picture "$1" "$2" 1280,800 dark -dark
 }
 
+if [ "${1-}" = --look ]; then
+    for name in half_a_split overtaking root_grows inner_split; do
+        look "$name.html" 1280,800
+        look "$name.html" 400,800
+    done
+    exit $failed
+fi
 if [ $# -gt 0 ]; then
     for page in "$@"; do
         look "$page" 1280,800

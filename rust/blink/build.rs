@@ -1,18 +1,22 @@
-//! Links `libblink.a`, which `./libblink` at the top of the repository builds into `out/`. `BLINK_LIB_DIR` names another folder.
+//! Links `libblink.a`, which `./libblink` at the top of the repository builds into `out/`. `BLINK_LIB_DIR` names another folder. Without
+//! that archive the crate can be checked and documented; what links it fails, as rustc says.
 
 use std::env;
 use std::path::{Path, PathBuf};
 
 fn main() {
     println!("cargo:rerun-if-env-changed=BLINK_LIB_DIR");
-    let folder = match env::var_os("BLINK_LIB_DIR") {
+    let folder = match env::var_os("BLINK_LIB_DIR").filter(|folder| !folder.is_empty()) {
         Some(folder) => PathBuf::from(folder),
         None => Path::new(&env::var_os("CARGO_MANIFEST_DIR").expect("cargo sets CARGO_MANIFEST_DIR")).join("../../out"),
     };
     let archive = folder.join("libblink.a");
     println!("cargo:rerun-if-changed={}", archive.display());
     if !archive.exists() {
-        panic!("no {}: run ./libblink at the top of the repository first", archive.display());
+        println!(
+            "cargo:warning=no {}: to link a program, run ./libblink at the top of the repository, or name its folder by BLINK_LIB_DIR",
+            archive.display()
+        );
     }
     println!("cargo:rustc-link-search=native={}", folder.display());
     println!("cargo:rustc-link-lib=static=blink");

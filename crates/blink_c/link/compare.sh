@@ -4,7 +4,7 @@
 # prints nothing and exits 0. The C compiler does the comparison: what the sources say is declared once more beside the header. Without
 # a compiler only the names are compared.
 #
-#     compare.sh [LIBRARY ..]    also looks whether each library exports exactly these names, and those of the allocator
+#     compare.sh [LIBRARY ..]    also looks whether each library exports exactly these names, and blink_version of include/version.c
 LC_ALL=C
 export LC_ALL
 here=$(cd "$(dirname "$0")/.." && pwd) || exit 1
@@ -29,11 +29,12 @@ cat "$here"/src/*.rt | awk '
 # The same as C declares it.
 sed 's/|/ | /g' "$work/exports" | awk -F ' [|] ' '
     BEGIN {
-        c["u8"] = "uint8_t"; c["u32"] = "uint32_t"; c["u64"] = "uint64_t"; c["usize"] = "size_t"; c["bool"] = "bool"
+        c["Code"] = "int"; c["u8"] = "uint8_t"; c["u32"] = "uint32_t"; c["u64"] = "uint64_t"; c["usize"] = "size_t"; c["bool"] = "bool"
         c["()"] = "void"; c["RawEntry"] = c["Entry"] = "blink_entry"; c["RawOperation"] = "blink_operation"; c["RawAnswer"] = "blink_answer"
         c["RawScanned"] = "blink_scanned"; c["RawTaken"] = "blink_taken"; c["RawStock"] = "blink_stock"
         c["IndexHandle"] = c["IndexSlot"] = "blink_index"; c["TableHandle"] = c["TableSlot"] = "blink_table"
         c["PassHandle"] = c["PassSlot"] = "blink_pass"; c["MapHandle"] = c["MapSlot"] = "blink_map"
+        c["Place"] = "uint64_t"
         c["SessionHandle"] = c["SessionSlot"] = "blink_session"; c["ReaderHandle"] = c["ReaderSlot"] = "blink_reader"
     }
     {
@@ -53,10 +54,17 @@ sed 's/|/ | /g' "$work/exports" | awk -F ' [|] ' '
         print line (comma == "" ? "void" : "") ");"
     }' >"$work/prototypes"
 
-# The names in the header.
-grep -oE '\bblink_(index|reader|table|pass|map|session)_[a-z_]+\(' "$header/blink.h" | tr -d '(' | sort -u >"$work/declared"
+# The names in the header, but those of its inline functions.
+sed -n 's/^static inline [^(]*[ *]\(blink_[a-z_]*\)(.*/\1/p' "$header/blink.h" | sort -u >"$work/inline"
+grep -oE '\bblink_(index|reader|table|pass|map|session)_[a-z_]+\(' "$header/blink.h" | tr -d '(' | sort -u | comm -23 - "$work/inline" >"$work/declared"
 cut -d"|" -f1 "$work/exports" | sort >"$work/names"
 diff "$work/names" "$work/declared" | sed -n 's/^< \(.*\)/include\/blink.h: lacks \1/p; s/^> \(.*\)/include\/blink.h: no export \1/p' >>"$work/found"
+
+# Each code of the header has a text.
+awk '/^enum \{/ { on = 1 } /^\};/ { on = 0 } on { print }' "$header/blink.h" | awk '/BLINK_DONE = 0/ { on = 1 } on' | grep -oE '^ *BLINK_[A-Z_]+' | tr -d ' ' |
+    while read -r name; do
+        grep -q "case $name: return \"" "$header/blink.h" || echo "include/blink.h: blink_message lacks $name" >>"$work/found"
+    done
 
 # A number of the sources or of a definition, and the name that the header gives it.
 number() {
@@ -66,7 +74,7 @@ number() {
         echo "_Static_assert($1 == $2, \"$1 is $2\");"
     fi
 }
-constant() { sed -n "s/.*const $2: [a-z0-9]* = \([0-9]*\);.*/\1/p" "$here/$1"; }
+constant() { sed -n "s/.*const $2: [A-Za-z0-9]* = \([0-9]*\);.*/\1/p" "$here/$1"; }
 code() { sed -n "s/^code_of[a-z_]* (*$2[ a-z)]* *= \([0-9]*\)$/\1/p" "$here/$1"; }
 
 {
@@ -85,30 +93,31 @@ WRONG_LENGTH ../blink_owners/specs/Codes.antt WrongLength
 UNKNOWN_OPERATION ../blink_owners/specs/Codes.antt UnknownOperation
 INDEX_TOO_LARGE ../blink_owners/specs/Codes.antt TooLarge
 BAD_FAN ../blink_owners/specs/Codes.antt BadFan
-INDEX_NO_MEMORY ../blink_owners/specs/Codes.antt OutOfMemory
+NO_MEMORY ../blink_owners/specs/Codes.antt OutOfMemory
 NOT_ASCENDING ../blink_index/specs/Codes.antt SortedError.NotAscending
 SHARED ../blink_owners/specs/Codes.antt Shared
 NO_MEMORY ../blink_live/specs/Codes.antt OutOfMemory
 TAKEN ../blink_live/specs/Codes.antt Taken
 NO_ALLOWANCE ../blink_live/specs/Codes.antt NoAllowance
-DEAL_NO_MEMORY ../blink_live/specs/Codes.antt DealOutOfMemory
+NO_MEMORY ../blink_live/specs/Codes.antt DealOutOfMemory
 NOT_YOURS ../blink_live/specs/Codes.antt NotYours
 SPENT ../blink_live/specs/Codes.antt Spent
 MISSING ../blink_live/specs/Codes.antt Missing
 TABLE_TOO_LARGE ../blink_live/specs/Codes.antt TooLarge
 HAND_NOT_YOURS ../blink_live/specs/Codes.antt KeyNotYours
-HAND_NO_MEMORY ../blink_live/specs/Codes.antt NoMemory
+NO_MEMORY ../blink_live/specs/Codes.antt NoMemory
 FOREIGN ../blink_owners/specs/TableCodes.antt Foreign
 PENDING ../blink_owners/specs/TableCodes.antt UnderWay
 IDLE ../blink_owners/specs/TableCodes.antt Idle
 RETURNED ../blink_owners/specs/TableCodes.antt Returned
-MAP_NO_MEMORY ../blink_map/specs/Codes.antt OutOfMemory
+NO_MEMORY ../blink_map/specs/Codes.antt OutOfMemory
 MAP_TOO_LARGE ../blink_map/specs/Codes.antt TooLarge
 BAD_SESSIONS ../blink_map/specs/Codes.antt Sessions
 NO_PLACE ../blink_map/specs/Codes.antt NoPlace
 LOST_UNDER_WAY ../blink_map/specs/Codes.antt UnderWay
 FULL ../blink_owners/specs/MapCodes.antt Full
 SESSION_MISSING ../blink_owners/specs/MapCodes.antt Missing
+MAP_CLOSED ../blink_owners/specs/MapCodes.antt Closed
 ROWS_BUSY ../blink_owners/specs/MapCodes.antt RowsBusy
 WORDS
     # The structs of numbers, field by field.
@@ -143,7 +152,7 @@ for library in "$@"; do
     case $library in
         *.so) nm -D --defined-only "$library" ;;
         *) nm -g --defined-only "$library" ;;
-    esac | awk '$2 == "T" { print $3 }' | grep -v '^rattle_\(alloc\|dealloc\|realloc\)$\|^_init$\|^_fini$' | sort >"$work/there"
+    esac | awk 'NF == 3 && $3 != "blink_version" { print $3 }' | sort >"$work/there"
     diff "$work/names" "$work/there" | sed -n "s|^< \(.*\)|$library: lacks \1|p; s|^> \(.*\)|$library: \1 is no export|p" >>"$work/found"
 done
 

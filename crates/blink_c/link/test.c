@@ -1,5 +1,5 @@
-// Calls every export: what it gives, each refusal by its code, two threads at one table, eight at one map and at one index, and memory
-// that is refused at each request in turn. Link with -Wl,--wrap=malloc,--wrap=realloc.
+// Calls every export: what it gives, each refusal by its code and its text, two threads at one table, eight at one map and at one index, and memory
+// that is refused at each request in turn. An argument leaves out what helgrind can't judge. Link with -Wl,--wrap=malloc,--wrap=realloc.
 #include "blink.h"
 #include <pthread.h>
 #include <sched.h>
@@ -22,6 +22,24 @@ void *__real_realloc(void *at, size_t size);
 void *__wrap_malloc(size_t size) { return refused_at >= 0 && refused_at-- == 0 ? NULL : __real_malloc(size); }
 void *__wrap_realloc(void *at, size_t size) { return refused_at >= 0 && refused_at-- == 0 ? NULL : __real_realloc(at, size); }
 
+// Each code has a text of its own, and no other number has one.
+static void tells_each_code(void) {
+    static const int codes[] = {BLINK_DONE, BLINK_TOO_MANY, BLINK_WRONG_LENGTH, BLINK_UNKNOWN_OPERATION, BLINK_INDEX_TOO_LARGE,
+                                BLINK_BAD_FAN, BLINK_NO_MEMORY, BLINK_NOT_ASCENDING, BLINK_SHARED, BLINK_TAKEN, BLINK_NO_ALLOWANCE,
+                                BLINK_NOT_YOURS, BLINK_SPENT, BLINK_MISSING, BLINK_TABLE_TOO_LARGE, BLINK_HAND_NOT_YOURS,
+                                BLINK_FOREIGN, BLINK_PENDING, BLINK_IDLE, BLINK_RETURNED, BLINK_MAP_TOO_LARGE, BLINK_BAD_SESSIONS, BLINK_MAP_CLOSED,
+                                BLINK_NO_PLACE, BLINK_LOST_UNDER_WAY, BLINK_FULL, BLINK_SESSION_MISSING, BLINK_ROWS_BUSY};
+    const char *unknown = blink_message(-1);
+    size_t count = sizeof codes / sizeof codes[0], told = 0;
+    for (int code = -1000; code <= 1000; code++) told += strcmp(blink_message(code), unknown) != 0;
+    CHECK(told == count);
+    for (size_t one = 0; one < count; one++) {
+        CHECK(blink_message(codes[one])[0] != 0);
+        for (size_t other = 0; other < one; other++) CHECK(strcmp(blink_message(codes[one]), blink_message(codes[other])) != 0);
+    }
+    CHECK(strcmp(blink_message(BLINK_NO_MEMORY), "out of memory") == 0);
+}
+
 static blink_index index_of(uint8_t fan, const blink_entry *entries, size_t count) {
     blink_index index = {NULL};
     CHECK(blink_index_from_entries(fan, entries, count, &index) == BLINK_DONE);
@@ -33,7 +51,7 @@ static const blink_entry five[] = {{5, 50}, {1, 10}, {3, 30}, {2, 20}, {4, 40}, 
 static void makes_an_index(void) {
     blink_index index = {NULL};
     for (unsigned fan = 0; fan < 256; fan++) {
-        uint8_t code = blink_index_new((uint8_t)fan, &index);
+        int code = blink_index_new((uint8_t)fan, &index);
         CHECK(code == (fan < 4 || fan > 32 ? BLINK_BAD_FAN : BLINK_DONE));
         if (code == BLINK_DONE) {
             CHECK(blink_index_fan(&index) == fan && blink_index_pages(&index) == 1 && blink_index_len(&index) == 0);
@@ -68,7 +86,7 @@ static void packs_an_index(void) {
     size_t bad_place = 77;
     CHECK(blink_index_from_sorted(3, ten, 10, &index, &bad_place) == BLINK_BAD_FAN && bad_place == 77);
     refused_at = 0;
-    CHECK(blink_index_from_sorted(4, ten, 10, &index, &bad_place) == BLINK_INDEX_NO_MEMORY && bad_place == 77);
+    CHECK(blink_index_from_sorted(4, ten, 10, &index, &bad_place) == BLINK_NO_MEMORY && bad_place == 77);
     refused_at = -1;
     ten[6].key = ten[5].key;
     CHECK(blink_index_from_sorted(4, ten, 10, &index, &bad_place) == BLINK_NOT_ASCENDING && bad_place == 6);
@@ -83,7 +101,7 @@ static void packs_an_index(void) {
     }
     CHECK(blink_index_len(&index) == 3 && blink_index_pages(&index) == 4);
     refused_at = 0;
-    CHECK(blink_index_compact(&index) == BLINK_INDEX_NO_MEMORY && blink_index_pages(&index) == 4);
+    CHECK(blink_index_compact(&index) == BLINK_NO_MEMORY && blink_index_pages(&index) == 4);
     refused_at = -1;
     CHECK(blink_index_compact(&index) == BLINK_DONE && blink_index_len(&index) == 3 && blink_index_pages(&index) == 1);
     uint64_t pointer = 7;
@@ -173,12 +191,12 @@ static void changes_nothing_without_memory(void) {
         blink_answer answer = {9, 9};
         CHECK(blink_index_dump(&index, before, sizeof before, &bytes_before) == BLINK_DONE && bytes_before <= sizeof before);
         refused_at = 0;
-        uint8_t code = blink_index_insert(&index, key, key, &answer);
+        int code = blink_index_insert(&index, key, key, &answer);
         refused_at = -1;
         if (code == BLINK_DONE)
             continue;
         refused++;
-        CHECK(code == BLINK_INDEX_NO_MEMORY && answer.kind == 9);
+        CHECK(code == BLINK_NO_MEMORY && answer.kind == 9);
         CHECK(blink_index_dump(&index, after, sizeof after, &bytes_after) == BLINK_DONE);
         CHECK(bytes_after == bytes_before && memcmp(before, after, bytes_before) == 0);
         refused_at = 1;
@@ -210,12 +228,10 @@ static void runs_batches(void) {
     blink_index_free(index);
 }
 
-// Ends the operation under way, yielding between the calls.
+// Ends the operation under way.
 static blink_answer ended(blink_pass *pass) {
     blink_answer answer;
-    uint8_t code;
-    while ((code = blink_pass_advance(pass, 100, &answer)) == BLINK_PENDING) sched_yield();
-    CHECK(code == BLINK_DONE);
+    CHECK(blink_pass_finish(pass, &answer) == BLINK_DONE);
     return answer;
 }
 
@@ -225,8 +241,8 @@ static void refuses_at_a_table(void) {
     blink_pass pass = {NULL}, more = {NULL}, foreign = {NULL};
     uint64_t keys[] = {1, 6, 1}, taken = 8;
     blink_answer answer = {9, 9};
-    CHECK(blink_table_open(&index, 47663, 0, 1, &table) == BLINK_TABLE_TOO_LARGE);
-    CHECK(blink_table_open(&index, 2, 2, 1, &table) == BLINK_DONE && blink_table_open(&index, 0, 0, 2, &other) == BLINK_DONE);
+    CHECK(blink_table_open(&index, 47663, 0, &table) == BLINK_TABLE_TOO_LARGE);
+    CHECK(blink_table_open(&index, 2, 2, &table) == BLINK_DONE && blink_table_open(&index, 0, 0, &other) == BLINK_DONE);
     CHECK(blink_table_deal(&table, keys, 3, 1, 1, &pass, &taken) == BLINK_TAKEN && taken == 1);
     CHECK(blink_table_deal(&table, keys, 2, 3, 0, &pass, &taken) == BLINK_NO_ALLOWANCE);
     CHECK(blink_table_deal(&table, keys, 2, 1, 1, &pass, &taken) == BLINK_DONE);
@@ -249,6 +265,9 @@ static void refuses_at_a_table(void) {
     CHECK(range[0].key == 1 && range[1].key == 3);
     CHECK(blink_pass_snapshot(&pass, 1, 4, 0, range, 2, &snapshot) == BLINK_DONE && snapshot.taken == 0 && snapshot.there == 0);
     CHECK(range[0].key == 1 && range[1].key == 3);
+    refused_at = 0;
+    CHECK(blink_pass_snapshot(&pass, 1, 4, 1, range, 2, &snapshot) == BLINK_NO_MEMORY && snapshot.taken == 0);
+    refused_at = -1;
     CHECK(blink_pass_tell(&pass, &foreign) == BLINK_FOREIGN && blink_table_return(&other, &pass) == BLINK_FOREIGN);
     CHECK(blink_pass_advance(&pass, 1, &answer) == BLINK_IDLE);
     CHECK(blink_pass_begin_insert(&pass, 2, 0) == BLINK_NOT_YOURS && blink_pass_begin_replace(&pass, 3, 0) == BLINK_NOT_YOURS);
@@ -258,8 +277,10 @@ static void refuses_at_a_table(void) {
     CHECK(blink_pass_find(&pass, 1, &answer) == BLINK_PENDING && blink_pass_glance(&pass, 1, &answer) == BLINK_PENDING);
     CHECK(blink_pass_tell(&pass, &more) == BLINK_PENDING && blink_pass_tell(&more, &pass) == BLINK_PENDING);
     CHECK(blink_pass_begin_delete(&pass, 1) == BLINK_PENDING && blink_table_return(&table, &pass) == BLINK_PENDING);
+    CHECK(blink_pass_delete_wait(&pass, 1, &answer) == BLINK_PENDING && blink_pass_insert_wait(&pass, 1, 0, &answer) == BLINK_PENDING);
     answer = ended(&pass);
     CHECK(answer.kind == BLINK_INSERTED);
+    CHECK(blink_pass_finish(&pass, &answer) == BLINK_IDLE && blink_pass_insert_wait(&pass, 6, 60, &answer) == BLINK_SPENT);
     CHECK(blink_pass_begin_insert(&pass, 6, 60) == BLINK_SPENT);
     CHECK(blink_pass_begin_delete(&pass, 1) == BLINK_DONE);
     answer = ended(&pass);
@@ -283,13 +304,13 @@ static void refuses_at_a_table(void) {
     CHECK(blink_table_close(other, &closed) == BLINK_MISSING);
     CHECK(blink_pass_glance(&foreign, 1, &answer) == BLINK_DONE && answer.pointer == 10);
     blink_pass_free(foreign);
-    CHECK(blink_table_open(&index, 1, 1, 3, &table) == BLINK_DONE);
+    CHECK(blink_table_open(&index, 1, 1, &table) == BLINK_DONE);
     blink_table_free(table);
     blink_index_free(index);
 }
 
 // Whether two calls with these two passes are refused so, before any key is looked at.
-static bool both_refuse(blink_pass *from, blink_pass *to, uint8_t code) {
+static bool both_refuse(blink_pass *from, blink_pass *to, int code) {
     uint64_t absent = 9, bad_key = 8;
     return blink_pass_tell(from, to) == code && blink_pass_hand(from, to, &absent, 1, &bad_key) == code && bad_key == 8;
 }
@@ -299,7 +320,7 @@ static void refuses_in_order(void) {
     blink_table table = {NULL}, other = {NULL};
     blink_pass free_one = {NULL}, busy = {NULL}, gone = {NULL}, foreign = {NULL};
     uint64_t keys[] = {1, 2, 3, 4}, taken;
-    CHECK(blink_table_open(&index, 0, 1, 1, &table) == BLINK_DONE && blink_table_open(&index, 0, 0, 2, &other) == BLINK_DONE);
+    CHECK(blink_table_open(&index, 0, 1, &table) == BLINK_DONE && blink_table_open(&index, 0, 0, &other) == BLINK_DONE);
     CHECK(blink_table_deal(&table, keys, 1, 0, 0, &free_one, &taken) == BLINK_DONE);
     CHECK(blink_table_deal(&table, keys + 1, 1, 0, 1, &busy, &taken) == BLINK_DONE);
     CHECK(blink_table_deal(&table, keys + 2, 1, 0, 0, &gone, &taken) == BLINK_DONE);
@@ -329,7 +350,7 @@ static void hands_keys_over(void) {
     blink_pass from = {NULL}, to = {NULL}, again = {NULL};
     uint64_t keys[] = {1, 6, 2}, third[] = {3}, more[] = {6, 1, 9, 6}, twice[] = {6, 1, 6}, taken = 8, bad_key = 8;
     blink_answer answer;
-    CHECK(blink_table_open(&index, 1, 1, 1, &table) == BLINK_DONE);
+    CHECK(blink_table_open(&index, 1, 1, &table) == BLINK_DONE);
     CHECK(blink_table_deal(&table, keys, 3, 1, 0, &from, &taken) == BLINK_DONE);
     CHECK(blink_table_deal(&table, third, 1, 0, 1, &to, &taken) == BLINK_DONE);
     CHECK(blink_pass_begin_insert(&from, 6, 60) == BLINK_DONE && ended(&from).kind == BLINK_INSERTED);
@@ -370,17 +391,16 @@ static void *changes_its_keys(void *at) {
     uint64_t first = 0;
     while (blink_pass_find(pass, first, &answer) == BLINK_NOT_YOURS) first++;
     for (uint64_t key = first; key < THREADS * KEYS; key += THREADS) {
-        CHECK(blink_pass_begin_insert(pass, key, key) == BLINK_DONE && ended(pass).kind == BLINK_INSERTED);
-        CHECK(blink_pass_begin_replace(pass, key, key + 1) == BLINK_DONE);
-        answer = ended(pass);
+        CHECK(blink_pass_insert_wait(pass, key, key, &answer) == BLINK_DONE && answer.kind == BLINK_INSERTED);
+        CHECK(blink_pass_replace_wait(pass, key, key + 1, &answer) == BLINK_DONE);
         CHECK(answer.kind == BLINK_REPLACED && answer.pointer == key);
-        CHECK(blink_pass_begin_exchange(pass, key, key, key + 2) == BLINK_DONE);
-        answer = ended(pass);
+        CHECK(blink_pass_exchange_wait(pass, key, key, key + 2, &answer) == BLINK_DONE);
         CHECK(answer.kind == BLINK_EXISTS && answer.pointer == key + 1);
         CHECK(blink_pass_begin_exchange(pass, key, key + 1, key + 1) == BLINK_DONE && ended(pass).kind == BLINK_REPLACED);
         if (key % 3 == 0) {
-            uint8_t begun = key % 2 ? blink_pass_begin_delete(pass, key) : blink_pass_begin_delete_exact(pass, key, key + 1);
-            CHECK(begun == BLINK_DONE && ended(pass).kind == BLINK_REMOVED);
+            CHECK((key % 2 ? blink_pass_delete_wait(pass, key, &answer) : blink_pass_delete_exact_wait(pass, key, key + 1, &answer)) ==
+                  BLINK_DONE);
+            CHECK(answer.kind == BLINK_REMOVED);
         }
         CHECK(blink_pass_find(pass, key, &answer) == BLINK_DONE && answer.kind == (key % 3 ? BLINK_FOUND : BLINK_ABSENT));
     }
@@ -394,7 +414,7 @@ static void shares_a_table(void) {
     pthread_t threads[THREADS];
     uint64_t taken, keys[KEYS];
     CHECK(blink_index_new(4, &index) == BLINK_DONE);
-    CHECK(blink_table_open(&index, THREADS * KEYS, THREADS * KEYS * 4, 1, &table) == BLINK_DONE);
+    CHECK(blink_table_open(&index, THREADS * KEYS, THREADS * KEYS * 4, &table) == BLINK_DONE);
     for (uint64_t i = 0; i < THREADS; i++) {
         for (uint64_t k = 0; k < KEYS; k++) keys[k] = k * THREADS + i;
         CHECK(blink_table_deal(&table, keys, KEYS, KEYS, KEYS * 4, &passes[i], &taken) == BLINK_DONE);
@@ -414,41 +434,34 @@ static void shares_a_table(void) {
     blink_index_free(index);
 }
 
-// Ends the operation that a call with this code has begun, if it is under way, yielding between the calls.
-static blink_answer answered(blink_session *session, uint8_t code, blink_answer answer) {
-    while (code == BLINK_PENDING) {
-        sched_yield();
-        code = blink_session_advance(session, 100, &answer);
-    }
-    CHECK(code == BLINK_DONE);
-    return answer;
-}
-
 enum { NONE = 100 }; // a pointer for the calls that take none
 
 // An operation by a session, to its end.
 static blink_answer changes(blink_session *session, uint64_t kind, uint64_t key, uint64_t pointer) {
     blink_answer answer = {9, 9};
-    uint8_t code = kind == BLINK_FIND     ? blink_session_find(session, key, &answer)
-                   : kind == BLINK_INSERT ? blink_session_insert(session, key, pointer, 100, &answer)
-                   : kind == BLINK_DELETE ? blink_session_delete(session, key, 100, &answer)
-                                          : blink_session_replace(session, key, pointer, 100, &answer);
-    return answered(session, code, answer);
+    CHECK((kind == BLINK_FIND     ? blink_session_find(session, key, &answer)
+           : kind == BLINK_INSERT ? blink_session_insert_wait(session, key, pointer, &answer)
+           : kind == BLINK_DELETE ? blink_session_delete_wait(session, key, &answer)
+                                  : blink_session_replace_wait(session, key, pointer, &answer)) == BLINK_DONE);
+    return answer;
 }
 
 static blink_answer puts_so(blink_session *session, uint64_t key, uint64_t pointer) {
     blink_answer answer = {9, 9};
-    return answered(session, blink_session_put(session, key, pointer, 100, &answer), answer);
+    CHECK(blink_session_put_wait(session, key, pointer, &answer) == BLINK_DONE);
+    return answer;
 }
 
 static blink_answer exchanges(blink_session *session, uint64_t key, uint64_t expected, uint64_t pointer) {
     blink_answer answer = {9, 9};
-    return answered(session, blink_session_exchange(session, key, expected, pointer, 100, &answer), answer);
+    CHECK(blink_session_exchange_wait(session, key, expected, pointer, &answer) == BLINK_DONE);
+    return answer;
 }
 
 static blink_answer removes(blink_session *session, uint64_t key, uint64_t expected) {
     blink_answer answer = {9, 9};
-    return answered(session, blink_session_delete_exact(session, key, expected, 100, &answer), answer);
+    CHECK(blink_session_delete_exact_wait(session, key, expected, &answer) == BLINK_DONE);
+    return answer;
 }
 
 static bool is(blink_answer answer, uint64_t kind, uint64_t pointer) { return answer.kind == kind && answer.pointer == pointer; }
@@ -464,15 +477,15 @@ static void changes_a_map(void) {
     blink_map map = {NULL};
     blink_session one = {NULL}, other = {NULL};
     uint64_t rows = 0, pages = 0, pointer;
-    CHECK(blink_map_open(&index, 300, 600, 2, 1, &map) == BLINK_DONE);
+    CHECK(blink_map_open(&index, 300, 600, 2, &map) == BLINK_DONE);
     blink_map_room(&map, &rows, &pages);
     CHECK(rows == 600 && pages == 300);
     CHECK(blink_map_join(&map, &one) == BLINK_DONE && blink_map_join(&map, &other) == BLINK_DONE);
     CHECK(is(changes(&one, BLINK_FIND, 3, NONE), BLINK_FOUND, 30) && is(changes(&one, BLINK_FIND, 6, NONE), BLINK_ABSENT, 0));
     CHECK(has(&one, (blink_stock){0, 0, 0, 0, 0}));
     CHECK(is(changes(&one, BLINK_INSERT, 6, 60), BLINK_INSERTED, 0) && is(changes(&one, BLINK_INSERT, 6, 61), BLINK_EXISTS, 60));
-    // it has drawn an eighth of the pool, 37 numbers and 75 rows, and has replaced one row by another
-    CHECK(has(&one, (blink_stock){37, 74, 0, 1, 0}));
+    // of two sessions it has drawn a quarter of the pool, 75 numbers and 150 rows, and has replaced one row by another
+    CHECK(has(&one, (blink_stock){75, 149, 0, 1, 0}));
     CHECK(is(changes(&one, BLINK_REPLACE, 6, 62), BLINK_REPLACED, 60) && is(changes(&one, BLINK_REPLACE, 7, 70), BLINK_ABSENT, 0));
     CHECK(is(changes(&one, BLINK_DELETE, 2, NONE), BLINK_REMOVED, 20) && is(changes(&one, BLINK_DELETE, 2, NONE), BLINK_ABSENT, 0));
     CHECK(is(puts_so(&one, 7, 71), BLINK_INSERTED, 0) && is(puts_so(&one, 7, 72), BLINK_REPLACED, 71));
@@ -486,11 +499,56 @@ static void changes_a_map(void) {
     CHECK(is(changes(&other, BLINK_DELETE, 6, NONE), BLINK_REMOVED, 62));
     blink_map_room(&map, &rows, &pages);
     CHECK(rows < 600 && pages < 300);
+    // a snapshot that is refused memory, and a scan into no place, leave the session at rest: the map closes
+    blink_entry range[2];
+    blink_taken taken = {9, 9};
+    blink_scanned scanned = {9, 9, 9};
+    refused_at = 0;
+    CHECK(blink_session_snapshot(&one, 0, 9, 1, range, 2, &taken) == BLINK_NO_MEMORY && taken.taken == 9);
+    refused_at = -1;
+    CHECK(blink_session_scan(&other, 0, 9, range, 0, &scanned) == BLINK_DONE && scanned.filled == 0);
     blink_session_free(one), blink_session_free(other);
-    CHECK(blink_map_close(map, &closed) == BLINK_DONE);
+    CHECK(blink_map_close(&map, &closed) == BLINK_DONE);
+    // a closed map has no session, no second handle, no room and no second index
+    blink_index again = {NULL};
+    blink_map second = {NULL};
+    one.at = NULL;
+    CHECK(blink_map_close(&map, &again) == BLINK_MAP_CLOSED && again.at == NULL);
+    CHECK(blink_map_join(&map, &one) == BLINK_NO_PLACE && blink_map_share(&map, &second) == BLINK_MAP_CLOSED && second.at == NULL);
+    blink_map_room(&map, &rows, &pages);
+    CHECK(rows == 0 && pages == 0);
+    blink_map_free(map);
     CHECK(blink_index_len(&closed) == 5 && blink_index_fan(&closed) == 4 && blink_index_len(&index) == 5);
     CHECK(blink_index_find(&closed, 3, &pointer) && pointer == 33 && blink_index_find(&closed, 7, &pointer) && pointer == 72);
     CHECK(blink_index_find(&closed, 5, &pointer) && pointer == 50 && !blink_index_find(&closed, 2, &pointer));
+    blink_index_free(closed);
+    blink_index_free(index);
+}
+
+// A change that meets no other session ends at its first call: of 1,600,000 changes of one session none comes back pending. 200,000 puts
+// among them insert, and as many replace.
+static void changes_end_at_once(void) {
+    blink_index index = index_of(4, five, 6), closed = {NULL};
+    blink_map map = {NULL};
+    blink_session one = {NULL};
+    uint64_t done = 0;
+    CHECK(blink_map_open(&index, 300, 600, 2, &map) == BLINK_DONE && blink_map_join(&map, &one) == BLINK_DONE);
+    for (uint64_t turn = 0; turn < 200000; turn++) {
+        blink_answer put = {9, 9}, again = {9, 9}, other = {9, 9}, gone = {9, 9}, back = {9, 9};
+        blink_answer same = {9, 9}, new = {9, 9}, over = {9, 9};
+        done += blink_session_replace(&one, 3, turn, 1, &put) == BLINK_DONE && put.kind == BLINK_REPLACED;
+        done += blink_session_exchange(&one, 3, turn, 30, 1, &again) == BLINK_DONE && is(again, BLINK_REPLACED, turn);
+        done += blink_session_delete(&one, 5, 1, &gone) == BLINK_DONE && is(gone, BLINK_REMOVED, 50);
+        done += blink_session_insert(&one, 5, 50, 1, &back) == BLINK_DONE && is(back, BLINK_INSERTED, 0);
+        done += blink_session_delete_exact(&one, 5, 50, 1, &same) == BLINK_DONE && is(same, BLINK_REMOVED, 50);
+        done += blink_session_put(&one, 5, turn, 1, &new) == BLINK_DONE && is(new, BLINK_INSERTED, 0);
+        done += blink_session_put(&one, 5, 50, 1, &over) == BLINK_DONE && is(over, BLINK_REPLACED, turn);
+        done += blink_session_delete_exact(&one, 5, turn + 51, 1, &other) == BLINK_DONE && is(other, BLINK_EXISTS, 50);
+    }
+    CHECK(done == 1600000);
+    blink_session_free(one);
+    CHECK(blink_map_close(&map, &closed) == BLINK_DONE && blink_index_len(&closed) == 5);
+    blink_map_free(map);
     blink_index_free(closed);
     blink_index_free(index);
 }
@@ -501,10 +559,10 @@ static void refuses_at_a_map(void) {
     blink_session one = {NULL}, two = {NULL}, foreign = {NULL};
     blink_answer answer = {9, 9};
     // 3 pages and 1,048,572 numbers are as many as there may be; the sessions are looked at first
-    CHECK(blink_map_open(&index, 1048573, 0, 0, 1, &map) == BLINK_BAD_SESSIONS && map.at == NULL);
-    CHECK(blink_map_open(&index, 0, 0, 257, 1, &map) == BLINK_BAD_SESSIONS);
-    CHECK(blink_map_open(&index, 1048573, 0, 256, 1, &map) == BLINK_MAP_TOO_LARGE && map.at == NULL);
-    CHECK(blink_map_open(&index, 22, 46, 2, 1, &map) == BLINK_DONE && blink_map_open(&index, 0, 0, 256, 2, &other) == BLINK_DONE);
+    CHECK(blink_map_open(&index, 1048573, 0, 0, &map) == BLINK_BAD_SESSIONS && map.at == NULL);
+    CHECK(blink_map_open(&index, 0, 0, 257, &map) == BLINK_BAD_SESSIONS);
+    CHECK(blink_map_open(&index, 1048573, 0, 256, &map) == BLINK_MAP_TOO_LARGE && map.at == NULL);
+    CHECK(blink_map_open(&index, 22, 46, 2, &map) == BLINK_DONE && blink_map_open(&index, 0, 0, 256, &other) == BLINK_DONE);
     CHECK(blink_map_join(&map, &one) == BLINK_DONE && blink_map_join(&map, &two) == BLINK_DONE);
     CHECK(blink_map_join(&map, &foreign) == BLINK_NO_PLACE && foreign.at == NULL);
     CHECK(blink_map_join(&other, &foreign) == BLINK_DONE);
@@ -512,45 +570,89 @@ static void refuses_at_a_map(void) {
     CHECK(blink_session_advance(&one, 1, &answer) == BLINK_IDLE && answer.kind == 9);
     // the first session draws 44 rows and all 22 numbers, so there are 2 rows for the second, and no number
     CHECK(is(changes(&one, BLINK_INSERT, 6, 60), BLINK_INSERTED, 0));
-    CHECK(blink_session_insert(&two, 7, 70, 100, &answer) == BLINK_FULL && blink_session_put(&two, 3, 33, 100, &answer) == BLINK_FULL);
+    CHECK(blink_session_insert(&two, 7, 70, 100, &answer) == BLINK_FULL && blink_session_put(&two, 7, 70, 100, &answer) == BLINK_FULL);
     CHECK(answer.kind == 9 && is(changes(&two, BLINK_FIND, 3, NONE), BLINK_FOUND, 30));
-    CHECK(is(changes(&two, BLINK_REPLACE, 3, 31), BLINK_REPLACED, 30) && is(changes(&two, BLINK_DELETE, 1, NONE), BLINK_REMOVED, 10));
+    // a key that is there needs no room for an insertion
+    CHECK(is(changes(&two, BLINK_INSERT, 3, 33), BLINK_EXISTS, 30) && is(puts_so(&two, 3, 33), BLINK_REPLACED, 30));
+    CHECK(is(changes(&two, BLINK_REPLACE, 3, 31), BLINK_REPLACED, 33) && is(changes(&two, BLINK_DELETE, 1, NONE), BLINK_REMOVED, 10));
     // a row that is written over comes back
     for (uint64_t pointer = 21; pointer < 1000; pointer++)
         CHECK(is(changes(&two, BLINK_REPLACE, 2, pointer), BLINK_REPLACED, pointer == 21 ? 20 : pointer - 1));
     CHECK(blink_session_delete(&foreign, 2, 100, &answer) == BLINK_FULL && blink_session_replace(&foreign, 2, 21, 100, &answer) == BLINK_FULL);
     CHECK(blink_session_exchange(&foreign, 2, 20, 21, 100, &answer) == BLINK_FULL);
     CHECK(blink_session_delete_exact(&foreign, 2, 20, 100, &answer) == BLINK_FULL);
+    CHECK(blink_session_delete_wait(&foreign, 2, &answer) == BLINK_FULL && blink_session_put_wait(&foreign, 2, 21, &answer) == BLINK_FULL);
     // the place of a session that is freed can be taken again, with what it has drawn
     blink_session_free(two);
     two = (blink_session){NULL};
     CHECK(blink_map_join(&map, &two) == BLINK_DONE && is(changes(&two, BLINK_DELETE, 2, NONE), BLINK_REMOVED, 999));
     blink_session_free(two);
     two = (blink_session){NULL};
-    // another handle of a map that isn't freed: the first is given up by a close that is refused, and the map lives by the other
+    // another handle of a map that isn't freed: the close is refused, and both handles stay
     blink_map again = {NULL};
     CHECK(blink_map_share(&map, &again) == BLINK_DONE);
-    CHECK(blink_map_close(map, &closed) == BLINK_SESSION_MISSING && closed.at == NULL);
-    map = again;
-    CHECK(blink_map_join(&map, &two) == BLINK_DONE && is(changes(&two, BLINK_FIND, 6, NONE), BLINK_FOUND, 60));
+    CHECK(blink_map_close(&map, &closed) == BLINK_SESSION_MISSING && closed.at == NULL);
+    CHECK(blink_map_join(&again, &two) == BLINK_DONE && is(changes(&two, BLINK_FIND, 6, NONE), BLINK_FOUND, 60));
     blink_session_free(two);
-    // a session that isn't freed: its map is lost, and it isn't
-    CHECK(blink_map_close(map, &closed) == BLINK_SESSION_MISSING && closed.at == NULL);
+    blink_map_free(again);
+    // a session that isn't freed: the close is refused, and succeeds once it is
+    CHECK(blink_map_close(&map, &closed) == BLINK_SESSION_MISSING && closed.at == NULL);
     CHECK(is(changes(&one, BLINK_FIND, 6, NONE), BLINK_FOUND, 60));
     blink_session_free(one);
+    uint64_t pointer;
+    CHECK(blink_map_close(&map, &closed) == BLINK_DONE && blink_index_find(&closed, 6, &pointer) && pointer == 60);
+    blink_index_free(closed);
+    blink_map_free(map);
     blink_map_free(other);
     CHECK(is(changes(&foreign, BLINK_FIND, 2, NONE), BLINK_FOUND, 20));
     blink_session_free(foreign);
     blink_index_free(index);
 }
 
-// A put of a key that is there comes back before it replaces. Then nothing else can be done by its session.
+// A session that another thread uses to replace a key again and again, until it is told to stop.
+typedef struct {
+    blink_session *session;
+    pthread_mutex_t lock;
+    bool stops;
+} replacer;
+
+static void *replaces_five(void *at) {
+    replacer *it = at;
+    for (bool stops = false; !stops;) {
+        for (int turn = 0; turn < 100; turn++) CHECK(is(changes(it->session, BLINK_REPLACE, 5, 50), BLINK_REPLACED, 50));
+        pthread_mutex_lock(&it->lock);
+        stops = it->stops;
+        pthread_mutex_unlock(&it->lock);
+    }
+    return NULL;
+}
+
+// Puts an absent key, until a put comes back pending, since `other` has the page that it wants. Key 5 lies on this page. Nothing is under
+// way by `other` then. No put without another thread's does so.
+static void leaves_a_put_under_way(blink_session *one, blink_session *other, uint64_t key, uint64_t pointer) {
+    replacer it = {other, PTHREAD_MUTEX_INITIALIZER, false};
+    pthread_t thread;
+    blink_answer answer = {9, 9};
+    int code = BLINK_DONE;
+    CHECK(pthread_create(&thread, NULL, replaces_five, &it) == 0);
+    for (long tries = 0; tries < 20000000 && code != BLINK_PENDING; tries++) {
+        code = blink_session_put(one, key, pointer, 1, &answer);
+        CHECK(code == BLINK_DONE || code == BLINK_PENDING || code == BLINK_ROWS_BUSY);
+        if (code == BLINK_DONE) CHECK(is(answer, BLINK_INSERTED, 0) && is(changes(one, BLINK_DELETE, key, NONE), BLINK_REMOVED, pointer));
+    }
+    pthread_mutex_lock(&it.lock);
+    it.stops = true;
+    pthread_mutex_unlock(&it.lock);
+    CHECK(pthread_join(thread, NULL) == 0 && code == BLINK_PENDING);
+}
+
+// While a put is under way, nothing else can be done by its session.
 static void refuses_under_way(void) {
     blink_index index = index_of(4, five, 6), closed = {NULL};
     blink_map map = {NULL};
     blink_session one = {NULL}, other = {NULL};
     blink_answer answer = {9, 9};
-    CHECK(blink_map_open(&index, 300, 600, 2, 1, &map) == BLINK_DONE);
+    CHECK(blink_map_open(&index, 300, 600, 2, &map) == BLINK_DONE);
     CHECK(blink_map_join(&map, &one) == BLINK_DONE && blink_map_join(&map, &other) == BLINK_DONE);
     blink_entry range[2] = {{9, 9}, {9, 9}};
     blink_scanned scanned = {9, 9, 9};
@@ -560,7 +662,7 @@ static void refuses_under_way(void) {
     CHECK(blink_session_snapshot(&one, 5, 9, 1, range, 2, &snapshot) == BLINK_DONE && snapshot.taken == 1 && snapshot.there == 1);
     CHECK(range[0].key == 5 && range[0].pointer == 50 && range[1].key == 5);
     CHECK(blink_session_scan(&one, 4, 9, range, 2, &scanned) == BLINK_DONE && scanned.filled == 2);
-    CHECK(blink_session_put(&one, 3, 33, 100, &answer) == BLINK_PENDING);
+    leaves_a_put_under_way(&one, &other, 9, 99);
     CHECK(blink_session_snapshot(&one, 0, 9, 1, range, 2, &snapshot) == BLINK_PENDING && snapshot.there == 1);
     CHECK(blink_session_scan(&one, 0, 9, range, 2, &scanned) == BLINK_PENDING && range[0].key == 4 && scanned.filled == 2);
     CHECK(blink_session_find(&one, 3, &answer) == BLINK_PENDING && blink_session_insert(&one, 9, 90, 100, &answer) == BLINK_PENDING);
@@ -568,21 +670,69 @@ static void refuses_under_way(void) {
     CHECK(blink_session_replace(&one, 3, 34, 100, &answer) == BLINK_PENDING);
     CHECK(blink_session_exchange(&one, 3, 30, 34, 100, &answer) == BLINK_PENDING);
     CHECK(blink_session_delete_exact(&one, 3, 30, 100, &answer) == BLINK_PENDING);
+    CHECK(blink_session_insert_wait(&one, 9, 90, &answer) == BLINK_PENDING && blink_session_put_wait(&one, 9, 90, &answer) == BLINK_PENDING);
+    CHECK(blink_session_delete_wait(&one, 3, &answer) == BLINK_PENDING && blink_session_replace_wait(&one, 3, 34, &answer) == BLINK_PENDING);
+    CHECK(blink_session_exchange_wait(&one, 3, 30, 34, &answer) == BLINK_PENDING);
+    CHECK(blink_session_delete_exact_wait(&one, 3, 30, &answer) == BLINK_PENDING);
     blink_stock stock = {9, 9, 9, 9, 9};
     CHECK(blink_session_stock(&one, &stock) == BLINK_PENDING && stock.pages == 9 && stock.waiting == 9);
     CHECK(blink_session_tell(&one, &other) == BLINK_PENDING && blink_session_tell(&other, &one) == BLINK_PENDING);
     CHECK(answer.kind == 9 && is(changes(&other, BLINK_FIND, 3, NONE), BLINK_FOUND, 30));
-    CHECK(blink_session_advance(&one, 1, &answer) == BLINK_DONE && is(answer, BLINK_REPLACED, 30));
-    CHECK(blink_session_advance(&one, 1, &answer) == BLINK_IDLE && is(changes(&one, BLINK_FIND, 9, NONE), BLINK_ABSENT, 0));
-    // where another session deletes the key between, the put inserts it; where it inserts it between, the put replaces once more
-    CHECK(blink_session_put(&one, 4, 44, 100, &answer) == BLINK_PENDING && is(changes(&other, BLINK_DELETE, 4, NONE), BLINK_REMOVED, 40));
-    CHECK(blink_session_advance(&one, 1, &answer) == BLINK_PENDING && is(changes(&other, BLINK_INSERT, 4, 45), BLINK_INSERTED, 0));
-    CHECK(blink_session_advance(&one, 1, &answer) == BLINK_PENDING && blink_session_advance(&one, 1, &answer) == BLINK_DONE);
-    CHECK(is(answer, BLINK_REPLACED, 45) && is(changes(&other, BLINK_FIND, 4, NONE), BLINK_FOUND, 44));
-    // a session that is freed under way
-    CHECK(blink_session_put(&one, 3, 35, 100, &answer) == BLINK_PENDING);
+    CHECK(blink_session_advance(&one, 1, &answer) == BLINK_DONE && is(answer, BLINK_INSERTED, 0));
+    CHECK(blink_session_advance(&one, 1, &answer) == BLINK_IDLE && is(changes(&one, BLINK_FIND, 9, NONE), BLINK_FOUND, 99));
+    // where another session inserts the key meanwhile, the put replaces it; where it deletes it again, the put inserts
+    leaves_a_put_under_way(&one, &other, 8, 80);
+    CHECK(is(changes(&other, BLINK_INSERT, 8, 85), BLINK_INSERTED, 0));
+    CHECK(blink_session_finish(&one, &answer) == BLINK_DONE && is(answer, BLINK_REPLACED, 85));
+    CHECK(is(changes(&other, BLINK_DELETE, 8, NONE), BLINK_REMOVED, 80));
+    leaves_a_put_under_way(&one, &other, 8, 81);
+    CHECK(is(changes(&other, BLINK_INSERT, 8, 85), BLINK_INSERTED, 0) && is(changes(&other, BLINK_DELETE, 8, NONE), BLINK_REMOVED, 85));
+    CHECK(blink_session_finish(&one, &answer) == BLINK_DONE && is(answer, BLINK_INSERTED, 0));
+    CHECK(is(changes(&other, BLINK_FIND, 8, NONE), BLINK_FOUND, 81));
+    CHECK(blink_session_finish(&one, &answer) == BLINK_IDLE);
+    // a session that is freed under way: the half of the put that is under way goes on to its end, and its place can be taken again. Which
+    // half it is is open: after a replacement that found the key absent nothing was put
+    leaves_a_put_under_way(&one, &other, 7, 70);
+    blink_session_free(one);
+    one.at = NULL;
+    CHECK(blink_map_join(&map, &one) == BLINK_DONE);
+    blink_answer seven = changes(&one, BLINK_FIND, 7, NONE);
+    bool was_put = seven.kind == BLINK_FOUND;
+    CHECK(was_put ? seven.pointer == 70 : seven.kind == BLINK_ABSENT);
     blink_session_free(one), blink_session_free(other);
-    CHECK(blink_map_close(map, &closed) == BLINK_LOST_UNDER_WAY && closed.at == NULL);
+    uint64_t pointer;
+    CHECK(blink_map_close(&map, &closed) == BLINK_DONE);
+    CHECK(blink_index_find(&closed, 7, &pointer) == was_put && (!was_put || pointer == 70));
+    CHECK(blink_index_find(&closed, 8, &pointer) && pointer == 81);
+    blink_index_free(closed);
+    blink_map_free(map);
+    blink_index_free(index);
+}
+
+// A session and a pass live on after their map and their table, whose places no other gets meanwhile.
+static void tells_others_apart(void) {
+    blink_index index = index_of(4, five, 6);
+    blink_map map = {NULL};
+    blink_table table = {NULL};
+    blink_session session = {NULL};
+    blink_pass pass = {NULL};
+    uint64_t key = 3, taken, bad_key = 8;
+    CHECK(blink_map_open(&index, 0, 0, 2, &map) == BLINK_DONE && blink_map_join(&map, &session) == BLINK_DONE);
+    CHECK(blink_table_open(&index, 0, 0, &table) == BLINK_DONE && blink_table_deal(&table, &key, 1, 0, 0, &pass, &taken) == BLINK_DONE);
+    blink_map_free(map), blink_table_free(table);
+    for (int turn = 0; turn < 100; turn++) {
+        blink_session other = {NULL};
+        blink_pass more = {NULL};
+        map.at = table.at = NULL;
+        CHECK(blink_map_open(&index, 0, 0, 2, &map) == BLINK_DONE && blink_map_join(&map, &other) == BLINK_DONE);
+        CHECK(blink_session_tell(&session, &other) == BLINK_FOREIGN && blink_session_tell(&other, &session) == BLINK_FOREIGN);
+        blink_session_free(other), blink_map_free(map);
+        CHECK(blink_table_open(&index, 0, 0, &table) == BLINK_DONE && blink_table_return(&table, &pass) == BLINK_FOREIGN);
+        CHECK(blink_table_deal(&table, &key, 1, 0, 0, &more, &taken) == BLINK_DONE && blink_pass_tell(&pass, &more) == BLINK_FOREIGN);
+        CHECK(blink_pass_hand(&more, &pass, &key, 1, &bad_key) == BLINK_FOREIGN && bad_key == 8);
+        blink_pass_free(more), blink_table_free(table);
+    }
+    blink_session_free(session), blink_pass_free(pass);
     blink_index_free(index);
 }
 
@@ -630,18 +780,49 @@ static void shares_a_map(void) {
     blink_map map = {NULL};
     pthread_t threads[SESSIONS];
     CHECK(blink_index_new(4, &index) == BLINK_DONE);
-    CHECK(blink_map_open(&index, 40000, 80000, SESSIONS, 1, &map) == BLINK_DONE);
+    CHECK(blink_map_open(&index, 40000, 80000, SESSIONS, &map) == BLINK_DONE);
     pthread_mutex_init(&room.joins, NULL);
     for (uintptr_t i = 0; i < SESSIONS; i++) CHECK(blink_map_share(&map, &room.maps[i]) == BLINK_DONE);
     for (uintptr_t i = 0; i < SESSIONS; i++)
         CHECK(pthread_create(&threads[i], NULL, changes_any_key, (void *)(i + 1)) == 0);
     for (int i = 0; i < SESSIONS; i++) CHECK(pthread_join(threads[i], NULL) == 0);
-    CHECK(blink_map_close(map, &closed) == BLINK_DONE);
+    CHECK(blink_map_close(&map, &closed) == BLINK_DONE);
+    blink_map_free(map);
     uint64_t pointer;
     for (uint64_t key = 0; key < SHARED; key++) {
         CHECK(room.there[key] == (blink_index_find(&closed, key, &pointer) ? 1 : 0));
         CHECK(room.there[key] == 0 || pointer % (1ull << 32) == key);
     }
+    blink_index_free(closed);
+    blink_index_free(index);
+}
+
+// Joins by the handle that all threads have, inserts a key of its own, and leaves, again and again.
+static void *joins_again(void *at) {
+    blink_map *map = at;
+    for (int turn = 0; turn < 500; turn++) {
+        blink_session session = {NULL};
+        blink_map again = {NULL};
+        uint64_t rows, pages;
+        CHECK(blink_map_join(map, &session) == BLINK_DONE);
+        blink_map_room(map, &rows, &pages);
+        CHECK(pages <= 3000 && blink_map_share(map, &again) == BLINK_DONE);
+        blink_map_free(again);
+        puts_so(&session, (uint64_t)turn, (uint64_t)turn);
+        blink_session_free(session);
+    }
+    return NULL;
+}
+
+static void joins_at_once(void) {
+    blink_index index = {NULL}, closed = {NULL};
+    blink_map map = {NULL};
+    pthread_t threads[SESSIONS];
+    CHECK(blink_index_new(32, &index) == BLINK_DONE && blink_map_open(&index, 3000, 100000, SESSIONS, &map) == BLINK_DONE);
+    for (int i = 0; i < SESSIONS; i++) CHECK(pthread_create(&threads[i], NULL, joins_again, &map) == 0);
+    for (int i = 0; i < SESSIONS; i++) CHECK(pthread_join(threads[i], NULL) == 0);
+    CHECK(blink_map_close(&map, &closed) == BLINK_DONE && blink_index_len(&closed) == 500);
+    blink_map_free(map);
     blink_index_free(closed);
     blink_index_free(index);
 }
@@ -713,10 +894,10 @@ static bool gives_up_its_key(blink_table *table, blink_pass *pass, uint64_t key)
     blink_pass to = {NULL};
     blink_answer answer;
     uint64_t bad_key = 8;
-    uint8_t code = blink_table_deal(table, &key, 0, 0, 0, &to, &bad_key);
-    if (code != BLINK_DONE) return CHECK(code == BLINK_DEAL_NO_MEMORY), false;
+    int code = blink_table_deal(table, &key, 0, 0, 0, &to, &bad_key);
+    if (code != BLINK_DONE) return CHECK(code == BLINK_NO_MEMORY), false;
     code = blink_pass_hand(pass, &to, &key, 1, &bad_key);
-    CHECK((code == BLINK_DONE || code == BLINK_HAND_NO_MEMORY) && bad_key == 8);
+    CHECK((code == BLINK_DONE || code == BLINK_NO_MEMORY) && bad_key == 8);
     CHECK(blink_pass_find(pass, key, &answer) == (code == BLINK_DONE ? BLINK_NOT_YOURS : BLINK_DONE));
     CHECK(blink_pass_find(&to, key, &answer) == (code == BLINK_DONE ? BLINK_DONE : BLINK_NOT_YOURS));
     CHECK(blink_table_return(table, &to) == BLINK_DONE);
@@ -729,16 +910,17 @@ static bool uses_a_map(blink_index *index) {
     blink_map map = {NULL};
     blink_session session = {NULL};
     blink_index closed = {NULL};
-    uint8_t code = blink_map_open(index, 22, 45, 1, 1, &map);
-    if (code != BLINK_DONE) return CHECK(code == BLINK_MAP_NO_MEMORY && map.at == NULL), false;
+    blink_answer answer = {9, 9};
+    int code = blink_map_open(index, 22, 45, 1, &map);
+    if (code != BLINK_DONE) return CHECK(code == BLINK_NO_MEMORY && map.at == NULL), false;
     blink_map again = {NULL};
     code = blink_map_share(&map, &again);
     if (code == BLINK_DONE) blink_map_free(again);
-    else CHECK(code == BLINK_MAP_NO_MEMORY && again.at == NULL);
+    else CHECK(code == BLINK_NO_MEMORY && again.at == NULL);
     bool shared = code == BLINK_DONE;
     code = blink_map_join(&map, &session);
     if (code != BLINK_DONE) {
-        CHECK(code == BLINK_MAP_NO_MEMORY && session.at == NULL);
+        CHECK(code == BLINK_NO_MEMORY && session.at == NULL);
         refused_at = -1;
         CHECK(blink_map_join(&map, &session) == BLINK_DONE);
         blink_session_free(session);
@@ -747,9 +929,13 @@ static bool uses_a_map(blink_index *index) {
     }
     CHECK(is(changes(&session, BLINK_INSERT, 7, 70), BLINK_INSERTED, 0));
     blink_session_free(session);
-    code = blink_map_close(map, &closed);
-    CHECK(code == BLINK_DONE || code == BLINK_MAP_NO_MEMORY);
-    if (code == BLINK_DONE) blink_index_free(closed);
+    code = blink_map_close(&map, &closed);
+    CHECK(code == BLINK_DONE || code == BLINK_NO_MEMORY);
+    if (code == BLINK_DONE) {
+        CHECK(blink_index_find(&closed, 7, &answer.pointer) && answer.pointer == 70 && blink_index_len(&closed) == blink_index_len(index) + 1);
+        blink_index_free(closed);
+    }
+    blink_map_free(map);
     return shared && code == BLINK_DONE;
 }
 
@@ -757,12 +943,13 @@ static bool uses_a_map(blink_index *index) {
 static bool uses_readers(blink_index *index) {
     blink_reader reader = {NULL}, other = {NULL};
     size_t bytes = 0;
-    uint8_t text[300], code = blink_index_share(index, &reader);
-    if (code != BLINK_DONE) return CHECK(code == BLINK_INDEX_NO_MEMORY && reader.at == NULL && blink_index_len(index) == 6), false;
+    uint8_t text[300];
+    int code = blink_index_share(index, &reader);
+    if (code != BLINK_DONE) return CHECK(code == BLINK_NO_MEMORY && reader.at == NULL && blink_index_len(index) == 6), false;
     bool dumped = (code = blink_reader_dump(&reader, text, sizeof text, &bytes)) == BLINK_DONE;
-    CHECK(dumped || (code == BLINK_INDEX_NO_MEMORY && bytes == 0));
+    CHECK(dumped || (code == BLINK_NO_MEMORY && bytes == 0));
     bool joined = (code = blink_reader_join(&reader, &other)) == BLINK_DONE;
-    CHECK(joined || (code == BLINK_INDEX_NO_MEMORY && other.at == NULL));
+    CHECK(joined || (code == BLINK_NO_MEMORY && other.at == NULL));
     if (joined) blink_reader_free(other);
     CHECK(blink_reader_unshare(&reader, index) == BLINK_DONE && blink_index_len(index) == 6);
     return dumped && joined;
@@ -776,21 +963,22 @@ static bool uses_memory(void) {
     blink_operation operation = {BLINK_INSERT, 6, 60};
     blink_answer answer = {9, 9};
     uint64_t key = 7, taken = 8;
-    uint8_t text[300], code;
+    uint8_t text[300];
+    int code;
     size_t bytes;
-    if ((code = blink_index_from_entries(4, five, 6, &index)) != BLINK_DONE) return CHECK(code == BLINK_INDEX_NO_MEMORY), false;
+    if ((code = blink_index_from_entries(4, five, 6, &index)) != BLINK_DONE) return CHECK(code == BLINK_NO_MEMORY), false;
     bool all = false;
     if ((code = blink_index_run(&index, &operation, 1, &answer, 1)) != BLINK_DONE)
-        CHECK(code == BLINK_INDEX_NO_MEMORY && answer.kind == 9 && blink_index_len(&index) == 5);
+        CHECK(code == BLINK_NO_MEMORY && answer.kind == 9 && blink_index_len(&index) == 5);
     else if ((code = blink_index_copy(&index, &copy)) != BLINK_DONE)
-        CHECK(code == BLINK_INDEX_NO_MEMORY);
+        CHECK(code == BLINK_NO_MEMORY);
     else if ((code = blink_index_dump(&copy, text, sizeof text, &bytes)) != BLINK_DONE)
-        CHECK(code == BLINK_INDEX_NO_MEMORY);
-    else if ((code = blink_table_open(&copy, 1, 1, 1, &table)) != BLINK_DONE)
+        CHECK(code == BLINK_NO_MEMORY);
+    else if ((code = blink_table_open(&copy, 1, 1, &table)) != BLINK_DONE)
         CHECK(code == BLINK_NO_MEMORY);
     else {
         if ((code = blink_table_deal(&table, &key, 1, 1, 1, &pass, &taken)) != BLINK_DONE)
-            CHECK(code == BLINK_DEAL_NO_MEMORY && taken == 8);
+            CHECK(code == BLINK_NO_MEMORY && taken == 8);
         else {
             all = gives_up_its_key(&table, &pass, key);
             CHECK(blink_table_return(&table, &pass) == BLINK_DONE);
@@ -807,7 +995,9 @@ static bool uses_memory(void) {
     return all;
 }
 
-int main(void) {
+int main(int argc, char **argv) {
+    (void)argv;
+    tells_each_code();
     makes_an_index();
     packs_an_index();
     looks_up();
@@ -819,9 +1009,12 @@ int main(void) {
     hands_keys_over();
     shares_a_table();
     changes_a_map();
+    changes_end_at_once();
     refuses_at_a_map();
     refuses_under_way();
+    tells_others_apart();
     shares_a_map();
+    if (argc == 1) joins_at_once();
     shares_an_index();
     long requests = 0;
     do refused_at = requests++;

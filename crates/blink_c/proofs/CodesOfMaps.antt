@@ -2,7 +2,7 @@
 use Rattle.std.proofs.Common.{◌≡◌, arith}
 use Rattle.blink_map.specs.declared.error.MapError.TheVariants as map
 use Rattle.blink_owners.specs.declared.map_refusal.MapRefusal.{MapRefusal}
-use Rattle.blink_owners.specs.declared.map_refusal.MapRefusal.TheVariants.{Map, Full, RowsBusy, Missing, Foreign, UnderWay, Idle}
+use Rattle.blink_owners.specs.declared.map_refusal.MapRefusal.TheVariants.{Map, Full, RowsBusy, Missing, Foreign, UnderWay, Idle, Closed}
 use Rattle.blink_owners.specs.MapCodes.{code_of}
 
 -- no refusal has the code of a call that isn't refused
@@ -18,3 +18,4 @@ not_done Missing is = omega (arith, is)
 not_done Foreign is = omega (arith, is)
 not_done UnderWay is = omega (arith, is)
 not_done Idle is = omega (arith, is)
+not_done Closed is = omega (arith, is)

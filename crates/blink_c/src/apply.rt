@@ -6,7 +6,7 @@ ghost use Rattle.blink_owners.specs.Edits.{HasApplied, IsApplyRefusal};
 use crate::index_handle::IndexHandle;
 use blink_owners::apply::apply;
 use blink_owners::raw::{RawAnswer, RawOperation};
-use blink_owners::refusal::code_of;
+use blink_owners::refusal::{Code, code_of};
 
 /// Carries operations out in place, one after another, up to the first that is refused, and gives the answer of each at its
 /// place. It stores how many were carried out. The other places stay as they were.
@@ -16,7 +16,7 @@ pub extern "C" fn blink_index_apply(
     operations: &[RawOperation],
     answers: &mut [RawAnswer],
     carried_out: &mut usize,
-) -> u8
+) -> Code
     ensures applied { HasApplied index.old.value operations.now carried_out.new
         answers.old answers.new index.new.value }
     ensures all { result ≡ 0 → carried_out.new ≡ length operations.now }

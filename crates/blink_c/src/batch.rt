@@ -6,7 +6,7 @@ ghost use Rattle.blink_owners.specs.Runs.{HasRun, IsRunRefusal};
 use crate::index_handle::IndexHandle;
 use blink_owners::batch::run;
 use blink_owners::raw::{RawAnswer, RawOperation};
-use blink_owners::refusal::code_of;
+use blink_owners::refusal::{Code, code_of};
 use std::alloc::Global;
 
 /// Runs a batch of operations on the index, one after another, and gives the answer of each at its place. A refusal leaves the
@@ -17,7 +17,7 @@ pub extern "C" fn blink_index_run(
     index: &mut IndexHandle,
     operations: &[RawOperation],
     answers: &mut [RawAnswer],
-) -> u8
+) -> Code
     ensures ran { result ≡ 0 → HasRun index.old.value operations.now answers.new index.new.value }
     ensures refused { TellsWhy code_of
         (IsRunRefusal index.old.value operations.now (length answers.old)) result }

@@ -6,7 +6,7 @@ ghost use Rattle.blink_owners.specs.Filled.{put_if_fits};
 
 use crate::index_handle::IndexHandle;
 use blink_owners::reads;
-use blink_owners::refusal::Refusal;
+use blink_owners::refusal::{Code, Refusal};
 use std::alloc::Global;
 
 /// Gives the tree as text, if all of it fits, and stores how many bytes it has.
@@ -16,7 +16,7 @@ pub extern "C" fn blink_index_dump(
     index: &mut IndexHandle,
     text: &mut [u8],
     bytes: &mut usize,
-) -> u8
+) -> Code
     ensures bytes { result ≡ 0 → bytes.new ≡ length (text_of_store index.old.value) }
     ensures text { result ≡ 0 → text.new ≡ put_if_fits (text_of_store index.old.value) text.old }
     ensures refused { result ≢ 0 → result ≡ code_of Refusal.OutOfMemory }

@@ -11,7 +11,7 @@ use crate::index_handle::IndexHandle;
 use blink_index::EditError;
 use blink_owners::raw::{RawAnswer, RawEntry};
 use blink_owners::reads::give_entry;
-use blink_owners::refusal::{DONE, Refusal};
+use blink_owners::refusal::{Code, DONE, Refusal};
 use std::alloc::Global;
 
 /// Adds a key with its pointer in place, unless the key is present, and gives the answer. A refusal leaves the index and the
@@ -22,7 +22,7 @@ pub extern "C" fn blink_index_insert(
     key: u64,
     pointer: u64,
     answer: &mut RawAnswer,
-) -> u8
+) -> Code
     ensures inserted { result ≡ 0
         → HasEdited index.old.value (Insert key pointer) answer.new index.new.value }
     ensures few_pages { HasPagesFor 1 index.old.value index.new.value }
@@ -94,7 +94,7 @@ pub extern "C" fn blink_index_delete_exact(
 
 /// Packs the entries into as few pages as they need, in place. A refusal leaves the index as it was.
 #[unsafe(no_mangle)]
-pub extern "C" fn blink_index_compact(alloc: Global, index: &mut IndexHandle) -> u8
+pub extern "C" fn blink_index_compact(alloc: Global, index: &mut IndexHandle) -> Code
     ensures map { map_of index.new.value ≡ map_of index.old.value }
     ensures same_fan { index.new.value.fan ≡ index.old.value.fan }
     ensures pages { result ≡ 0

@@ -13,12 +13,12 @@ use blink_index::Index;
 use blink_owners::make::new_index;
 use blink_owners::raw::RawAnswer;
 use blink_owners::reads;
-use blink_owners::refusal::{DONE, Refusal};
+use blink_owners::refusal::{Code, DONE, Refusal};
 use std::alloc::Global;
 
 /// Makes an index without an entry, whose pages will have at most `fan` entries each.
 #[unsafe(no_mangle)]
-pub extern "C" fn blink_index_new(alloc: Global, fan: u8, out: &mut IndexSlot) -> u8
+pub extern "C" fn blink_index_new(alloc: Global, fan: u8, out: &mut IndexSlot) -> Code
     requires { out.old.value ≡ None }
     ensures made { result ≡ 0 → out.new.value ≡ Some (new_store fan) }
     ensures bad_fan { result ≡ code_of Refusal.BadFan ↔ IsBadFan fan }
@@ -32,7 +32,7 @@ pub extern "C" fn blink_index_new(alloc: Global, fan: u8, out: &mut IndexSlot) -
 }
 
 /// Puts an index into a box, and its handle into the empty slot.
-pub(crate) fn fill(alloc: Global, index: Index, out: &mut IndexSlot) -> u8
+pub(crate) fn fill(alloc: Global, index: Index, out: &mut IndexSlot) -> Code
     requires { out.old.value ≡ None }
     ensures made { result ≡ 0 → out.new.value ≡ Some index }
     ensures refused { result ≢ 0 → result ≡ code_of Refusal.OutOfMemory }
@@ -69,7 +69,7 @@ pub extern "C" fn blink_index_find_many(
     index: &mut IndexHandle,
     keys: &[u64],
     answers: &mut [RawAnswer],
-) -> u8
+) -> Code
     ensures found { result ≡ 0 → answers.new ≡ map (found_answer (map_of index.old.value)) keys.now }
     ensures wrong_length { result ≡ code_of Refusal.WrongLength ↔ length answers.old ≢ length keys.now }
     ensures refused { result ≢ 0 → result ≡ code_of Refusal.WrongLength }
@@ -85,7 +85,7 @@ pub extern "C" fn blink_index_copy(
     alloc: Global,
     index: &mut IndexHandle,
     out: &mut IndexSlot,
-) -> u8
+) -> Code
     requires { out.old.value ≡ None }
     ensures copied { result ≡ 0 → out.new.value ≡ Some index.old.value }
     ensures refused { result ≢ 0 → result ≡ code_of Refusal.OutOfMemory }

@@ -17,6 +17,7 @@ mod parts;
 mod pass;
 mod pass_handle;
 mod pass_slot;
+mod place;
 mod reader;
 mod reader_handle;
 mod reader_slot;

@@ -11,7 +11,7 @@ use blink_batch::Entry;
 use blink_index::SortedError;
 use blink_owners::make::{index_of, packed};
 use blink_owners::raw::RawEntry;
-use blink_owners::refusal::DONE;
+use blink_owners::refusal::{Code, DONE};
 use std::alloc::Global;
 
 /// Makes an index of entries in any order. Of two with one key the first stays.
@@ -21,7 +21,7 @@ pub extern "C" fn blink_index_from_entries(
     fan: u8,
     entries: &[RawEntry],
     out: &mut IndexSlot,
-) -> u8
+) -> Code
     requires { out.old.value ≡ None }
     ensures made { result ≡ 0 → IsSome out.new.value × IfSome out.new.value (HasEntriesOf entries.now) }
     ensures fan { IfSome out.new.value (λ index. index.fan ≡ fan) }
@@ -44,7 +44,7 @@ pub extern "C" fn blink_index_from_sorted(
     entries: &[Entry],
     out: &mut IndexSlot,
     bad_place: &mut usize,
-) -> u8
+) -> Code
     requires { out.old.value ≡ None }
     ensures made { result ≡ 0 → IsSome out.new.value }
     ensures map { IfSome out.new.value (λ index. map_of index ≡ entries.now) }
@@ -65,7 +65,7 @@ pub extern "C" fn blink_index_from_sorted(
             if let SortedError::NotAscending(place) = refusal {
                 *bad_place = place;
             }
-            refusal.code()
+            u32::from(refusal.code())
         }
     }
 }

@@ -1,41 +1,43 @@
 //! The exports of a map.
-ghost use Rattle.std.specs.Prelude.{◌≡◌, ◌≢◌, ◌↔◌, ◌⊎◌, None, IfSome, IsSome, [], length};
+ghost use Rattle.std.specs.Prelude.{◌≡◌, ◌≢◌, ◌↔◌, ◌⊎◌, None, IfSome, IsSome, length};
 ghost use Rattle.blink_index.specs.{map_of};
 ghost use Rattle.blink_live.specs.{IsNumberedInOrder};
-ghost use Rattle.blink_map.specs.{IsClosedWith};
-ghost use Rattle.blink_owners.specs.Maps.{HasBadSessions, IsNewMap, IsOwnerOfSame, IsTooLargeMap, Joins, fan_in, map_in};
+ghost use Rattle.blink_owners.specs.Maps.{HasBadSessions, IsClosedMap, IsNewMap, IsOwnMap, IsOwnerOfSame, IsTooLargeMap, Joins, fan_in, map_in};
 ghost use Rattle.blink_owners.specs.Sessions.{IsOwnSession};
 
 use crate::index_handle::IndexHandle;
 use crate::index_slot::IndexSlot;
 use crate::map_handle::MapHandle;
 use crate::map_slot::MapSlot;
+use crate::place::Place;
 use crate::session_slot::SessionSlot;
 use blink_map::{MapError, Room};
 use blink_owners::map_owner::MapOwner;
-use blink_owners::refusal::DONE;
+use blink_owners::map_state::MapState;
+use blink_owners::refusal::{Code, DONE};
 use std::alloc::Global;
 
-/// Opens a map over the index, with such room for changes and sessions. The caller gives the map a number that no other open map
-/// has, by which sessions of two maps are told apart.
+/// Opens a map over the index, with such room for changes and sessions, and stores where it lies. Its number is 0, and its caller
+/// names it before a session joins it.
 #[unsafe(no_mangle)]
-pub extern "C" fn blink_map_open(
+pub extern "C" fn blink_map_open_unnamed(
     alloc: Global,
     index: &mut IndexHandle,
     pages: u32,
     rows: u32,
     sessions: u32,
-    number: u64,
     out: &mut MapSlot,
-) -> u8
+    place: &mut Place,
+) -> Code
     requires { out.old.value ≡ None }
     ensures opened { result ≡ 0 → IsSome out.new.value × IfSome out.new.value (IsNewMap
-        index.old.value (record { pages = pages; rows = rows; sessions = sessions }) number) }
+        index.old.value (record { pages = pages; rows = rows; sessions = sessions }) 0) }
+    ensures its_own { IfSome out.new.value IsOwnMap }
     ensures sessions { result ≡ 102 ↔ HasBadSessions
         (record { pages = pages; rows = rows; sessions = sessions }) }
     ensures too_large { result ≡ 101 ↔ IsTooLargeMap (length index.old.value.pages)
         (record { pages = pages; rows = rows; sessions = sessions }) }
-    ensures refused { result ≢ 0 → (result ≡ 100) ⊎ (result ≡ 101) ⊎ (result ≡ 102) }
+    ensures refused { result ≢ 0 → (result ≡ 41) ⊎ (result ≡ 101) ⊎ (result ≡ 102) }
     ensures unchanged { result ≢ 0 → out.new.value ≡ None }
     ensures same { index.new.value ≡ index.old.value }
 {
@@ -44,23 +46,41 @@ pub extern "C" fn blink_map_open(
         rows,
         sessions,
     };
-    match MapOwner::open(alloc, index.get(), room, number) {
+    match MapOwner::open(alloc, index.get(), room, 0) {
         Ok(map) => {
+            if let MapState::Open(shared) = &map.state {
+                *place = Place::of(&**shared);
+            }
             *out = MapSlot::of(map);
             DONE
         }
-        Err(refusal) => refusal.code(),
+        Err(refusal) => u32::from(refusal.code()),
     }
 }
 
-/// Gives one more handle of the map, for another thread: calls with different handles may be made at the same time. The map closes by
-/// its last handle.
+/// Names the map: gives it a number that no other open map has, by which sessions of two maps are told apart. Sessions that joined
+/// before have the number from before.
 #[unsafe(no_mangle)]
-pub extern "C" fn blink_map_share(alloc: Global, map: &mut MapHandle, out: &mut MapSlot) -> u8
+pub extern "C" fn blink_map_name(map: &mut MapHandle, number: u64)
+    ensures named { map.new.value ≡ record map.old.value { number = number } }
+{
+    map.get().number = number;
+}
+
+/// Gives one more handle of the map, for another thread: calls with different handles may be made at the same time. The map closes by
+/// its last handle. The call is refused with `Closed`, if a close of the map has begun.
+#[unsafe(no_mangle)]
+pub extern "C" fn blink_map_share_alone(
+    alloc: Global,
+    map: &mut MapHandle,
+    out: &mut MapSlot,
+) -> Code
+    requires its_own { IsOwnMap map.old.value }
     requires empty { out.old.value ≡ None }
     ensures shared { result ≡ 0 → IsSome out.new.value × IfSome out.new.value
         (IsOwnerOfSame map.old.value) }
-    ensures refused { result ≢ 0 → result ≡ 100 }
+    ensures its_own { IfSome out.new.value IsOwnMap }
+    ensures refused { result ≢ 0 → (result ≡ 41) ⊎ (result ≡ 108) }
     ensures unchanged { result ≢ 0 → out.new.value ≡ None }
     ensures same { map.new.value ≡ map.old.value }
 {
@@ -69,17 +89,22 @@ pub extern "C" fn blink_map_share(alloc: Global, map: &mut MapHandle, out: &mut 
             *out = MapSlot::of(other);
             DONE
         }
-        Err(_) => MapError::OutOfMemory.code(),
+        Err(refusal) => u32::from(refusal.code()),
     }
 }
 
-/// Joins the map: gives a session, if a place is free.
+/// Joins the map: gives a session, if one rests.
 #[unsafe(no_mangle)]
-pub extern "C" fn blink_map_join(alloc: Global, map: &mut MapHandle, out: &mut SessionSlot) -> u8
+pub extern "C" fn blink_map_join_alone(
+    alloc: Global,
+    map: &mut MapHandle,
+    out: &mut SessionSlot,
+) -> Code
+    requires its_own { IsOwnMap map.old.value }
     requires empty { out.old.value ≡ None }
     ensures joined { result ≡ 0 → IsSome out.new.value × IfSome out.new.value
         (λ session. IsOwnSession session × Joins map.old.value session) }
-    ensures refused { result ≢ 0 → (result ≡ 100) ⊎ (result ≡ 103) }
+    ensures refused { result ≢ 0 → (result ≡ 41) ⊎ (result ≡ 103) }
     ensures unchanged { result ≢ 0 → out.new.value ≡ None }
     ensures same { map.new.value ≡ map.old.value }
 {
@@ -88,43 +113,46 @@ pub extern "C" fn blink_map_join(alloc: Global, map: &mut MapHandle, out: &mut S
             *out = SessionSlot::of(session);
             DONE
         }
-        Err(refusal) => refusal.code(),
+        Err(refusal) => u32::from(refusal.code()),
     }
 }
 
 /// Stores how many rows and page numbers the map's pool has left. Sessions may draw at any time, so the counts prove nothing.
 #[unsafe(no_mangle)]
-pub extern "C" fn blink_map_room(map: &mut MapHandle, rows: &mut u64, pages: &mut u64)
+pub extern "C" fn blink_map_room_alone(map: &mut MapHandle, rows: &mut u64, pages: &mut u64)
     ensures same { map.new.value ≡ map.old.value }
 {
-    let (rows_left, pages_left) = map.get().shared.room();
+    let (rows_left, pages_left) = map.get().room();
     *rows = rows_left;
     *pages = pages_left;
 }
 
-/// Closes the map, and gives the index of its tree. The handle is given up either way. The call is refused with `Missing` if the
-/// handle of a session, or another one of the map, isn't freed.
+/// Closes the map, and gives the index of its tree. The handle stays, and is still to be freed. The call is refused with `Missing` if
+/// the handle of a session, or another one of the map, isn't freed. After that the call may be made again.
 #[unsafe(no_mangle)]
-pub extern "C" fn blink_map_close(alloc: Global, map: MapHandle, out: &mut IndexSlot) -> u8
+pub extern "C" fn blink_map_close(alloc: Global, map: &mut MapHandle, out: &mut IndexSlot) -> Code
+    requires its_own { IsOwnMap map.old.value }
     requires empty { out.old.value ≡ None }
+    ensures its_own { IsOwnMap map.new.value }
+    ensures same { IsOwnerOfSame map.old.value map.new.value }
     ensures closed { result ≡ 0 → IsSome out.new.value × IfSome out.new.value
-        (λ index. IsClosedWith (map_in map.value) [] (map_of index)) }
-    ensures fan { IfSome out.new.value (λ index. index.fan ≡ fan_in map.value) }
+        (λ index. IsClosedMap (map_in map.old.value) (map_of index)) }
+    ensures fan { IfSome out.new.value (λ index. index.fan ≡ fan_in map.old.value) }
     ensures numbered { IfSome out.new.value IsNumberedInOrder }
-    ensures refused { result ≢ 0 → (result ≡ 100) ⊎ (result ≡ 104) ⊎ (result ≡ 106) }
+    ensures refused { result ≢ 0
+        → (result ≡ 41) ⊎ (result ≡ 104) ⊎ (result ≡ 106) ⊎ (result ≡ 108) }
     ensures unchanged { result ≢ 0 → out.new.value ≡ None }
 {
-    let owner = Box::into_inner(map.into_box());
-    match owner.close(alloc) {
+    match map.get().close(alloc) {
         Ok(index) => {
             *out = IndexSlot::of(index);
             DONE
         }
-        Err(refusal) => refusal.code(),
+        Err(refusal) => u32::from(refusal.code()),
     }
 }
 
-/// Frees the handle, without an index. The sessions' handles, and others of the map, may still be used, and are still to be freed.
+/// Frees the handle. The handles of sessions, and others of the map, may still be used, and are still to be freed.
 #[unsafe(no_mangle)]
 pub extern "C" fn blink_map_free(map: MapHandle) {
     drop(map.into_box());

@@ -9,13 +9,13 @@ use crate::pass_handle::PassHandle;
 use blink_batch::Entry;
 use blink_live::HandError;
 use blink_owners::raw::{RawAnswer, RawScanned, RawTaken};
-use blink_owners::refusal::DONE;
+use blink_owners::refusal::{Code, DONE};
 use blink_owners::table_refusal::{TableRefusal, code_of};
 use std::alloc::Global;
 
 /// Looks a key of the pass up.
 #[unsafe(no_mangle)]
-pub extern "C" fn blink_pass_find(pass: &mut PassHandle, key: u64, answer: &mut RawAnswer) -> u8
+pub extern "C" fn blink_pass_find(pass: &mut PassHandle, key: u64, answer: &mut RawAnswer) -> Code
     requires its_own { IsOwn pass.old.value }
     ensures its_own { IsOwn pass.new.value }
     ensures found { result ≡ 0 → Finds key pass.old.value pass.new.value answer.new }
@@ -27,7 +27,7 @@ pub extern "C" fn blink_pass_find(pass: &mut PassHandle, key: u64, answer: &mut 
 
 /// Looks any key up, as the pass has seen it by the end of the call.
 #[unsafe(no_mangle)]
-pub extern "C" fn blink_pass_glance(pass: &mut PassHandle, key: u64, answer: &mut RawAnswer) -> u8
+pub extern "C" fn blink_pass_glance(pass: &mut PassHandle, key: u64, answer: &mut RawAnswer) -> Code
     requires its_own { IsOwn pass.old.value }
     ensures its_own { IsOwn pass.new.value }
     ensures glanced { result ≡ 0 → Glances key pass.old.value pass.new.value answer.new }
@@ -45,7 +45,7 @@ pub extern "C" fn blink_pass_scan(
     hi: u64,
     entries: &mut [Entry],
     scanned: &mut RawScanned,
-) -> u8
+) -> Code
     requires its_own { IsOwn pass.old.value }
     ensures its_own { IsOwn pass.new.value }
     ensures scanned { result ≡ 0
@@ -68,7 +68,7 @@ pub extern "C" fn blink_pass_snapshot(
     tries: u32,
     entries: &mut [Entry],
     taken: &mut RawTaken,
-) -> u8
+) -> Code
     requires its_own { IsOwn pass.old.value }
     ensures its_own { IsOwn pass.new.value }
     ensures taken { result ≡ 0
@@ -79,10 +79,10 @@ pub extern "C" fn blink_pass_snapshot(
     code_of(&pass.get().snapshot(alloc, (lo, hi), tries, entries, taken))
 }
 
-/// Tells pass `to` what pass `from` has seen. Passes of two tables are told apart by the numbers that the caller gave these. The
+/// Tells pass `to` what pass `from` has seen. Passes of two tables are told apart by the numbers of these. The
 /// call is refused for two tables first, then for a `from` that isn't free, and then for a `to` that isn't.
 #[unsafe(no_mangle)]
-pub extern "C" fn blink_pass_tell(from: &mut PassHandle, to: &mut PassHandle) -> u8
+pub extern "C" fn blink_pass_tell(from: &mut PassHandle, to: &mut PassHandle) -> Code
     requires its_own { IsOwn from.old.value }
     requires others_own { IsOwn to.old.value }
     requires numbered { from.old.value.number ≡ to.old.value.number
@@ -105,7 +105,7 @@ pub extern "C" fn blink_pass_hand(
     to: &mut PassHandle,
     keys: &[u64],
     bad_key: &mut u64,
-) -> u8
+) -> Code
     requires its_own { IsOwn from.old.value }
     requires others_own { IsOwn to.old.value }
     requires numbered { from.old.value.number ≡ to.old.value.number
@@ -133,7 +133,7 @@ pub extern "C" fn blink_pass_hand(
 
 /// Begins an insertion of a key of the pass.
 #[unsafe(no_mangle)]
-pub extern "C" fn blink_pass_begin_insert(pass: &mut PassHandle, key: u64, pointer: u64) -> u8
+pub extern "C" fn blink_pass_begin_insert(pass: &mut PassHandle, key: u64, pointer: u64) -> Code
     requires its_own { IsOwn pass.old.value }
     ensures its_own { IsOwn pass.new.value }
     ensures begun { result ≡ 0 → Begins (Insert key pointer) pass.old.value pass.new.value }
@@ -145,7 +145,7 @@ pub extern "C" fn blink_pass_begin_insert(pass: &mut PassHandle, key: u64, point
 
 /// Begins a deletion of a key of the pass.
 #[unsafe(no_mangle)]
-pub extern "C" fn blink_pass_begin_delete(pass: &mut PassHandle, key: u64) -> u8
+pub extern "C" fn blink_pass_begin_delete(pass: &mut PassHandle, key: u64) -> Code
     requires its_own { IsOwn pass.old.value }
     ensures its_own { IsOwn pass.new.value }
     ensures begun { result ≡ 0 → Begins (Delete key) pass.old.value pass.new.value }
@@ -157,7 +157,7 @@ pub extern "C" fn blink_pass_begin_delete(pass: &mut PassHandle, key: u64) -> u8
 
 /// Begins a replacement of a key of the pass.
 #[unsafe(no_mangle)]
-pub extern "C" fn blink_pass_begin_replace(pass: &mut PassHandle, key: u64, pointer: u64) -> u8
+pub extern "C" fn blink_pass_begin_replace(pass: &mut PassHandle, key: u64, pointer: u64) -> Code
     requires its_own { IsOwn pass.old.value }
     ensures its_own { IsOwn pass.new.value }
     ensures begun { result ≡ 0 → Begins (Replace key pointer) pass.old.value pass.new.value }
@@ -174,7 +174,7 @@ pub extern "C" fn blink_pass_begin_exchange(
     key: u64,
     expected: u64,
     pointer: u64,
-) -> u8
+) -> Code
     requires its_own { IsOwn pass.old.value }
     ensures its_own { IsOwn pass.new.value }
     ensures begun { result ≡ 0
@@ -192,7 +192,7 @@ pub extern "C" fn blink_pass_begin_delete_exact(
     pass: &mut PassHandle,
     key: u64,
     expected: u64,
-) -> u8
+) -> Code
     requires its_own { IsOwn pass.old.value }
     ensures its_own { IsOwn pass.new.value }
     ensures begun { result ≡ 0 → Begins (DeleteExact key expected) pass.old.value pass.new.value }
@@ -210,7 +210,7 @@ pub extern "C" fn blink_pass_advance(
     pass: &mut PassHandle,
     tries: u32,
     answer: &mut RawAnswer,
-) -> u8
+) -> Code
     requires its_own { IsOwn pass.old.value }
     ensures its_own { IsOwn pass.new.value }
     ensures ended { result ≡ 0 → Ends pass.old.value pass.new.value answer.new }

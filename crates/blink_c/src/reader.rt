@@ -15,7 +15,7 @@ use crate::reader_slot::ReaderSlot;
 use blink_owners::raw::{RawAnswer, RawEntry};
 use blink_owners::reader_owner::ReaderOwner;
 use blink_owners::reads;
-use blink_owners::refusal::{DONE, Refusal};
+use blink_owners::refusal::{Code, DONE, Refusal};
 use std::alloc::Global;
 
 /// Makes the index one that is only read, and gives its first reader. The index's place is empty then. No entry is copied.
@@ -24,7 +24,7 @@ pub extern "C" fn blink_index_share(
     alloc: Global,
     index: &mut IndexSlot,
     out: &mut ReaderSlot,
-) -> u8
+) -> Code
     requires full { IsSome index.old.value }
     requires empty { out.old.value ≡ None }
     ensures shared { result ≡ 0
@@ -51,7 +51,7 @@ pub extern "C" fn blink_reader_join(
     alloc: Global,
     reader: &mut ReaderHandle,
     out: &mut ReaderSlot,
-) -> u8
+) -> Code
     requires empty { out.old.value ≡ None }
     ensures joined { result ≡ 0 → index_at out.new.value ≡ Some (index_in reader.old.value) }
     ensures refused { result ≢ 0 → result ≡ code_of Refusal.OutOfMemory }
@@ -74,7 +74,7 @@ pub extern "C" fn blink_reader_unshare(
     alloc: Global,
     reader: &mut ReaderSlot,
     out: &mut IndexSlot,
-) -> u8
+) -> Code
     requires full { IsSome reader.old.value }
     requires empty { out.old.value ≡ None }
     ensures given { result ≡ 0
@@ -118,7 +118,7 @@ pub extern "C" fn blink_reader_find_many(
     reader: &mut ReaderHandle,
     keys: &[u64],
     answers: &mut [RawAnswer],
-) -> u8
+) -> Code
     ensures found { result ≡ 0
         → answers.new ≡ map (found_answer (map_of (index_in reader.old.value))) keys.now }
     ensures wrong_length { result ≡ code_of Refusal.WrongLength ↔ length answers.old ≢ length keys.now }
@@ -239,7 +239,7 @@ pub extern "C" fn blink_reader_dump(
     reader: &mut ReaderHandle,
     text: &mut [u8],
     bytes: &mut usize,
-) -> u8
+) -> Code
     ensures bytes { result ≡ 0 → bytes.new ≡ length (text_of_store (index_in reader.old.value)) }
     ensures text { result ≡ 0
         → text.new ≡ put_if_fits (text_of_store (index_in reader.old.value)) text.old }

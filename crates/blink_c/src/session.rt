@@ -9,7 +9,7 @@ use crate::session_handle::SessionHandle;
 use blink_batch::{Entry, Op};
 use blink_owners::map_refusal::code_of;
 use blink_owners::raw::{RawAnswer, RawScanned, RawStock, RawTaken};
-use blink_owners::session_owner::{HeldSession, SessionOwner};
+use blink_owners::refusal::Code;
 use std::alloc::Global;
 
 /// Looks any key up, as the session has seen it by the end of the call.
@@ -18,7 +18,7 @@ pub extern "C" fn blink_session_find(
     session: &mut SessionHandle,
     key: u64,
     answer: &mut RawAnswer,
-) -> u8
+) -> Code
     requires its_own { IsOwnSession session.old.value }
     ensures its_own { IsOwnSession session.new.value }
     ensures found { result ≡ 0 → Finds key session.old.value session.new.value answer.new }
@@ -37,7 +37,7 @@ pub extern "C" fn blink_session_scan(
     hi: u64,
     entries: &mut [Entry],
     scanned: &mut RawScanned,
-) -> u8
+) -> Code
     requires its_own { IsOwnSession session.old.value }
     ensures its_own { IsOwnSession session.new.value }
     ensures scanned { result ≡ 0
@@ -60,7 +60,7 @@ pub extern "C" fn blink_session_snapshot(
     tries: u32,
     entries: &mut [Entry],
     taken: &mut RawTaken,
-) -> u8
+) -> Code
     requires its_own { IsOwnSession session.old.value }
     ensures its_own { IsOwnSession session.new.value }
     ensures taken { result ≡ 0
@@ -84,7 +84,7 @@ pub extern "C" fn blink_session_insert(
     pointer: u64,
     tries: u32,
     answer: &mut RawAnswer,
-) -> u8
+) -> Code
     requires its_own { IsOwnSession session.old.value }
     ensures its_own { IsOwnSession session.new.value }
     ensures answered { result ≡ 0
@@ -107,7 +107,7 @@ pub extern "C" fn blink_session_delete(
     key: u64,
     tries: u32,
     answer: &mut RawAnswer,
-) -> u8
+) -> Code
     requires its_own { IsOwnSession session.old.value }
     ensures its_own { IsOwnSession session.new.value }
     ensures answered { result ≡ 0
@@ -127,7 +127,7 @@ pub extern "C" fn blink_session_replace(
     pointer: u64,
     tries: u32,
     answer: &mut RawAnswer,
-) -> u8
+) -> Code
     requires its_own { IsOwnSession session.old.value }
     ensures its_own { IsOwnSession session.new.value }
     ensures answered { result ≡ 0
@@ -152,7 +152,7 @@ pub extern "C" fn blink_session_exchange(
     pointer: u64,
     tries: u32,
     answer: &mut RawAnswer,
-) -> u8
+) -> Code
     requires its_own { IsOwnSession session.old.value }
     ensures its_own { IsOwnSession session.new.value }
     ensures answered { result ≡ 0
@@ -176,7 +176,7 @@ pub extern "C" fn blink_session_delete_exact(
     expected: u64,
     tries: u32,
     answer: &mut RawAnswer,
-) -> u8
+) -> Code
     requires its_own { IsOwnSession session.old.value }
     ensures its_own { IsOwnSession session.new.value }
     ensures answered { result ≡ 0
@@ -201,7 +201,7 @@ pub extern "C" fn blink_session_put(
     pointer: u64,
     tries: u32,
     answer: &mut RawAnswer,
-) -> u8
+) -> Code
     requires its_own { IsOwnSession session.old.value }
     ensures its_own { IsOwnSession session.new.value }
     ensures put { result ≡ 0 → Puts key pointer session.old.value session.new.value answer.new }
@@ -218,7 +218,7 @@ pub extern "C" fn blink_session_advance(
     session: &mut SessionHandle,
     tries: u32,
     answer: &mut RawAnswer,
-) -> u8
+) -> Code
     requires its_own { IsOwnSession session.old.value }
     ensures its_own { IsOwnSession session.new.value }
     ensures ended { result ≡ 0
@@ -230,10 +230,10 @@ pub extern "C" fn blink_session_advance(
     code_of(&session.get().advance(tries, answer))
 }
 
-/// Tells session `to` what session `from` has seen. Sessions of two maps are told apart by the numbers that the caller gave these.
+/// Tells session `to` what session `from` has seen. Sessions of two maps are told apart by the numbers of these.
 /// The call is refused for two maps first, then for a `from` that isn't free, and then for a `to` that isn't.
 #[unsafe(no_mangle)]
-pub extern "C" fn blink_session_tell(from: &mut SessionHandle, to: &mut SessionHandle) -> u8
+pub extern "C" fn blink_session_tell(from: &mut SessionHandle, to: &mut SessionHandle) -> Code
     requires its_own { IsOwnSession from.old.value }
     requires others_own { IsOwnSession to.old.value }
     requires numbered { from.old.value.number ≡ to.old.value.number
@@ -250,7 +250,7 @@ pub extern "C" fn blink_session_tell(from: &mut SessionHandle, to: &mut SessionH
 
 /// Tells what the session has of its map's page numbers and rows.
 #[unsafe(no_mangle)]
-pub extern "C" fn blink_session_stock(session: &mut SessionHandle, stock: &mut RawStock) -> u8
+pub extern "C" fn blink_session_stock(session: &mut SessionHandle, stock: &mut RawStock) -> Code
     requires its_own { IsOwnSession session.old.value }
     ensures its_own { IsOwnSession session.new.value }
     ensures told { result ≡ 0 → TellsStock session.old.value stock.new }
@@ -261,18 +261,14 @@ pub extern "C" fn blink_session_stock(session: &mut SessionHandle, stock: &mut R
     code_of(&session.get().stock(stock))
 }
 
-/// Frees the handle. A free session leaves its map, and its place can be taken again. The place of another is lost.
+// How often an operation that is freed tries to go on.
+const TRIES: u32 = 1000;
+
+/// Frees the handle. A free session rests at its place again, which can be taken. An operation under way is driven to its end before.
+/// If it still waits after 1,000 tries, its place is lost.
 #[unsafe(no_mangle)]
 pub extern "C" fn blink_session_free(session: SessionHandle)
     requires its_own { IsOwnSession session.value }
 {
-    let owner = Box::into_inner(session.into_box());
-    let SessionOwner {
-        shared,
-        number: _,
-        held,
-    } = owner;
-    if let HeldSession::Free(session) = held {
-        shared.leave(session);
-    }
+    Box::into_inner(session.into_box()).free(TRIES);
 }

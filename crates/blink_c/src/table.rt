@@ -11,43 +11,56 @@ use crate::index_handle::IndexHandle;
 use crate::index_slot::IndexSlot;
 use crate::pass_handle::PassHandle;
 use crate::pass_slot::PassSlot;
+use crate::place::Place;
 use crate::table_handle::TableHandle;
 use crate::table_slot::TableSlot;
 use blink_index::Index;
 use blink_live::LiveError;
-use blink_owners::refusal::DONE;
+use blink_owners::refusal::{Code, DONE};
 use blink_owners::table_owner::TableOwner;
 use blink_owners::table_refusal::code_of;
 use blink_rows::Allowance;
 use std::alloc::Global;
 
-/// Opens a table over the index, with room for so many insertions and deletions; a replacement uses a deletion. The caller gives
-/// the table a number that no other open table has, by which passes of two tables are told apart.
+/// Opens a table over the index, with room for so many insertions and deletions, and stores where it lies; a replacement uses a
+/// deletion. Its number is 0, and its caller names it before it deals.
 #[unsafe(no_mangle)]
-pub extern "C" fn blink_table_open(
+pub extern "C" fn blink_table_open_unnamed(
     alloc: Global,
     index: &mut IndexHandle,
     inserts: u32,
     deletes: u32,
-    number: u64,
     out: &mut TableSlot,
-) -> u8
+    place: &mut Place,
+) -> Code
     requires { out.old.value ≡ None }
     ensures opened { result ≡ 0 → IsSome out.new.value × IfSome out.new.value
-        (IsNewTable index.old.value (record { inserts = inserts; deletes = deletes }) number) }
+        (IsNewTable index.old.value (record { inserts = inserts; deletes = deletes }) 0) }
     ensures too_large { result ≡ 57 ↔ IsTooLarge (length index.old.value.pages)
         (record { inserts = inserts; deletes = deletes }) }
-    ensures refused { result ≢ 0 → (result ≡ 57) ⊎ (result ≡ 50) }
+    ensures refused { result ≢ 0 → (result ≡ 57) ⊎ (result ≡ 41) }
     ensures unchanged { result ≢ 0 → out.new.value ≡ None }
     ensures same { index.new.value ≡ index.old.value }
 {
-    match TableOwner::open(alloc, index.get(), Allowance { inserts, deletes }, number) {
+    match TableOwner::open(alloc, index.get(), Allowance { inserts, deletes }, 0) {
         Ok(table) => {
+            *place = Place::of(&*table.live);
             *out = TableSlot::of(table);
             DONE
         }
-        Err(refusal) => refusal.code(),
+        Err(refusal) => u32::from(refusal.code()),
     }
+}
+
+/// Names the table: gives it a number that no other open table has, by which passes of two tables are told apart. Passes that were dealt
+/// before have the number from before.
+#[unsafe(no_mangle)]
+pub extern "C" fn blink_table_name(table: &mut TableHandle, number: u64)
+    requires its_own { IsOwnTable table.old.value }
+    ensures its_own { IsOwnTable table.new.value }
+    ensures named { table.new.value ≡ record table.old.value { number = number } }
+{
+    table.get().number = number;
 }
 
 /// Deals a pass with these keys and room for so many changes. If a pass that is out has a key, or a key stands earlier in the list,
@@ -61,7 +74,7 @@ pub extern "C" fn blink_table_deal(
     deletes: u32,
     out: &mut PassSlot,
     taken: &mut u64,
-) -> u8
+) -> Code
     requires its_own { IsOwnTable table.old.value }
     requires empty { out.old.value ≡ None }
     ensures its_own { IsOwnTable table.new.value }
@@ -82,7 +95,7 @@ pub extern "C" fn blink_table_deal(
             if let LiveError::Taken(key) = refusal {
                 *taken = key;
             }
-            refusal.code()
+            u32::from(refusal.code())
         }
     }
 }
@@ -90,7 +103,7 @@ pub extern "C" fn blink_table_deal(
 /// Gives a pass back to its table, so that its keys can be dealt again. Its handle then holds nothing, and is still to be freed. The
 /// call takes no memory. It is refused for a pass of another table first, and then for one that isn't free.
 #[unsafe(no_mangle)]
-pub extern "C" fn blink_table_return(table: &mut TableHandle, pass: &mut PassHandle) -> u8
+pub extern "C" fn blink_table_return(table: &mut TableHandle, pass: &mut PassHandle) -> Code
     requires its_own { IsOwnTable table.old.value }
     requires its_pass { IsOwn pass.old.value }
     requires numbered { table.old.value.number ≡ pass.old.value.number
@@ -109,7 +122,7 @@ pub extern "C" fn blink_table_return(table: &mut TableHandle, pass: &mut PassHan
 /// Closes the table, and gives the index of its tree. The table is given up either way. The call is refused with `Missing` if a
 /// pass wasn't given back, or the handle of a pass isn't freed.
 #[unsafe(no_mangle)]
-pub extern "C" fn blink_table_close(alloc: Global, table: TableHandle, out: &mut IndexSlot) -> u8
+pub extern "C" fn blink_table_close(alloc: Global, table: TableHandle, out: &mut IndexSlot) -> Code
     requires its_own { IsOwnTable table.value }
     requires empty { out.old.value ≡ None }
     ensures closed { result ≡ 0 → IsSome out.new.value × IfSome out.new.value
@@ -119,21 +132,21 @@ pub extern "C" fn blink_table_close(alloc: Global, table: TableHandle, out: &mut
     ensures pages { IfSome out.new.value
         (λ index. length index.pages < (counts_of (table_in table.value)).numbers) }
     ensures missing { 0 < passes_out table.value.keeper → result ≡ 56 }
-    ensures refused { result ≢ 0 → (result ≡ 50) ⊎ (result ≡ 56) }
+    ensures refused { result ≢ 0 → (result ≡ 41) ⊎ (result ≡ 56) }
     ensures unchanged { result ≢ 0 → out.new.value ≡ None }
 {
     let owner = Box::into_inner(table.into_box());
     match owner.close(alloc) {
         Ok(index) => give_index(alloc, index, out),
-        Err(refusal) => refusal.code(),
+        Err(refusal) => u32::from(refusal.code()),
     }
 }
 
 // Puts the index into a box, and its handle into the empty slot.
-fn give_index(alloc: Global, index: Index, out: &mut IndexSlot) -> u8
+fn give_index(alloc: Global, index: Index, out: &mut IndexSlot) -> Code
     requires { out.old.value ≡ None }
     ensures given { result ≡ 0 → out.new.value ≡ Some index }
-    ensures refused { result ≢ 0 → result ≡ 50 }
+    ensures refused { result ≢ 0 → result ≡ 41 }
     ensures unchanged { result ≢ 0 → out.new.value ≡ None }
 {
     match Box::new(alloc, index) {
@@ -141,7 +154,7 @@ fn give_index(alloc: Global, index: Index, out: &mut IndexSlot) -> u8
             *out = IndexSlot::of(index);
             DONE
         }
-        Err(_) => LiveError::OutOfMemory.code(),
+        Err(_) => u32::from(LiveError::OutOfMemory.code()),
     }
 }
 

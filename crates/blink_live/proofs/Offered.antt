@@ -24,7 +24,7 @@ pub use Rattle.blink_live.proofs.told.PrefixesOfOneList.{prefixes_of_one_list}
 -- the state that more changes leave of a key
 pub use Rattle.blink_live.proofs.changed.ChangesAreTheMaps.{after-append}
 -- changes by one author, and the changes made at a place
-pub use Rattle.blink_live.proofs.table.AccountsStay.{AreBy, made_at-append, made_elsewhere, made_between, made_here, nothing_more, prefix_made}
+pub use Rattle.blink_live.proofs.table.AccountsStay.{AreBy, authors_of_prefix, made_at-append, made_elsewhere, made_between, made_here, nothing_more, prefix_made}
 -- what a slice has when its first places are filled
 pub use Rattle.blink_live.proofs.scanned.PlacesAreFilled.{first_places, other_places}
 -- an operation goes on under another mark
@@ -38,13 +38,15 @@ pub use Rattle.blink_live.proofs.changed.RoomComesBack.{room_comes_back}
 pub use Rattle.blink_live.proofs.reuse.RowsWait.{begins_wait_at, checks_place_at, collects_at, sees_place_at}
 pub use Rattle.blink_live.proofs.reuse.RowsAreFreed.{frees_row_at}
 -- the pool's words are drawn from
-pub use Rattle.blink_live.proofs.changed.PoolIsDrawn.{pages_are_drawn, rows_are_drawn}
+pub use Rattle.blink_live.proofs.changed.PoolIsDrawn.{pages_are_drawn, pages_are_joined, rows_are_drawn}
 -- a table with places opens
 pub use Rattle.blink_live.proofs.opened.PlacesAreLaid.{laid_common}
 pub use Rattle.blink_live.proofs.opened.OpeningIsTable.{opens, plan_over}
+-- a seat's note is a seat of its own, and another seat takes it
+pub use Rattle.blink_live.proofs.told.NotesKeepTable.{hearing_keeps_table, note_keeps_table}
 -- its host sees what sessions told it, and takes their accounts; what is there at the end
 pub use Rattle.blink_live.proofs.told.LooksUpKeepTable.{host_looks_up_prime}
 pub use Rattle.blink_live.proofs.closed.AccountsComeBack.{taking_account_keeps_table}
-pub use Rattle.blink_live.proofs.closed.CommonTableAtTheEnd.{AreIdle, IsAtEndOfAll, at_end_of_all}
+pub use Rattle.blink_live.proofs.closed.CommonTableAtTheEnd.{AreIdle, rests_at_end}
 pub use Rattle.blink_live.proofs.closed.EntriesOfStore.{map_is}
 pub use Rattle.blink_live.proofs.gathered.RowIsOfKeptPage.{word_there}

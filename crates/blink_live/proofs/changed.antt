@@ -1,6 +1,8 @@
 pub mod LatchesKeepTable
 pub mod StagingKeepsTable
 pub mod RowsAreStaged
+pub mod RowsAreSpliced
+pub mod EditsOfLeaves
 pub mod ChangesAreTheMaps
 pub mod RowsArePublished
 pub mod PublishesKeepTable
@@ -11,6 +13,8 @@ pub mod RowsAreLent
 pub mod CallsWrite
 pub mod StepsOfUpdates
 pub mod UpdatesGoOn
+pub mod LeavesAreChanged
+pub mod MachinesAreMade
 pub mod LatchesAreLeft
 pub mod PassesComeBack
 pub mod PassesSetOut

@@ -7,5 +7,6 @@ pub mod RootInRow
 pub mod WaysFromRow
 pub mod OperationsOnTheirWay
 pub mod DescentsGoOn
+pub mod DescentsOfChanges
 pub mod FindsOfSeveral
 pub mod PassesAfterSearches

@@ -38,6 +38,10 @@ pub record IsAccount (whose : ℕ → ℕ) (log : List Change) (owner : ℕ) (ac
 abbrev pub HasSeenItsOwn : View → Type 0
 HasSeenItsOwn v = made_at v.place v.seen ≡ v.share.changes
 
+-- and each change that it has seen was made at one of the table's places
+abbrev pub KnowsAuthors : View → Type 0
+KnowsAuthors v = HasSeenItsOwn v × HaveAuthors v.plan.places v.seen
+
 -- no two accounts are of one place
 abbrev pub AreApart : List Account → Type 0
 AreApart accounts = AllPairs (λ (one other : Account). one.place ≢ other.place) accounts

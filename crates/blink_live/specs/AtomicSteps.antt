@@ -21,7 +21,7 @@ use Rattle.blink_live.specs.declared.view.Share.{Share}
 use Rattle.blink_live.specs.declared.view.Stock.{Stock}
 use Rattle.blink_live.specs.declared.view.View.{View}
 use Rattle.blink_live.specs.Changes.{after, changes_made, states_of, Learns}
-use Rattle.blink_live.specs.Accounts.{HasSeenItsOwn}
+use Rattle.blink_live.specs.Accounts.{KnowsAuthors}
 use Rattle.blink_live.specs.Views.{SeatState, IsAnnounced, KnowsItsOwn, ShowsNoMore, for_call, going_on, has_pages, has_rows, is_busy, knows_word, stage_word, changed_by, publishes_from, reading, forgets_told, learns_of_others, span, takes_out, SawItsOwn}
 use Rattle.blink_live.specs.Words.{AreNumbersIn, AreRowsIn, IsRowNumber, row_start}
 
@@ -194,10 +194,10 @@ lets_go st me found then = (m : PlainMachine) (number : ℕ) → me.0.operation 
 
 -- ---- the word of a session's place
 
--- the session knows by it that it has seen its own changes
+-- the session knows by it whose the changes are that it has seen
 pub record MarksPlace (busy : ℕ) (me then : SeatState) : Type 0 where
   pub is : then ≡ (is_busy me.0 busy, me.1)
-  pub saw_own : HasSeenItsOwn me.0
+  pub authors : KnowsAuthors me.0
 
 abbrev pub marks_place : Step ℕ → SeatState → ℕ → SeatState → Type 0
 marks_place st me found then = MarksPlace st.first me then

@@ -50,6 +50,7 @@ pub mod Views
 pub mod AtomicSteps
 pub mod Seats
 pub mod Updating
+pub mod Straight
 pub mod Pendings
 pub mod Dealing
 pub mod Retiring

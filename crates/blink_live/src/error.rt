@@ -33,10 +33,10 @@ impl LiveError {
         ensures { result ≡ code_of self.now }
     {
         match self {
-            LiveError::OutOfMemory => 50,
+            LiveError::OutOfMemory => 41,
             LiveError::Taken(_) => 51,
             LiveError::NoAllowance => 52,
-            LiveError::DealOutOfMemory => 53,
+            LiveError::DealOutOfMemory => 41,
             LiveError::Missing => 56,
             LiveError::TooLarge => 57,
         }
@@ -84,7 +84,7 @@ impl HandError {
     {
         match self {
             HandError::NotYours(_) => 58,
-            HandError::OutOfMemory => 59,
+            HandError::OutOfMemory => 41,
         }
     }
 }

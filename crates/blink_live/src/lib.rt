@@ -5,6 +5,7 @@
 mod advance;
 mod close;
 mod deal;
+mod descent;
 mod error;
 mod find_all;
 mod hand;
@@ -19,7 +20,9 @@ mod rule;
 mod scan;
 mod shelf;
 mod snapshot;
+mod splice;
 mod stock;
+mod straight;
 mod tell;
 mod update;
 mod view;
@@ -30,12 +33,13 @@ pub use scan::{Scanned, reports_tell};
 
 // What a map is made of, in the crate above: the seats of a table, and what their calls are made of.
 pub use close::tree_at_end;
+pub use descent::Changed;
 pub use find_all::Trail;
 pub use open::{lay_tree, word_count};
 pub use room::Room;
 pub use rule::{
-    BeginWait, CheckPlace, Collect, Dealt, DrawPages, DrawRows, FreeRow, GiveBack, InvariantOfTree,
-    LookUp, MarkPlace, Planned, SeePlace, TakeAccount,
+    BeginWait, CheckPlace, Collect, Dealt, DrawPages, DrawRows, FreeRow, GiveBack, Hear,
+    InvariantOfTree, LookUp, MarkPlace, Note, Planned, SeePlace, TakeAccount,
 };
 pub use shelf::Shelf;
 pub use snapshot::NotedLeaf;

@@ -231,13 +231,27 @@ impl Live {
         ensures same { HasSameNumber seat.old seat.new }
         ensures read { (row : ℕ) × LoadsPage machine.old number seat.old.me row machine.new seat.new.me }
     {
-        let row = self.table.shared.load::<LoadPage>(seat, number as usize);
+        let row = self.load_latched(seat, number);
         let page = self.page_in_row(seat, row);
         machine.saw_own_page(page);
     }
 
+    // The step of `read_latched`, for any machine that the view's operation is: the load of the page word.
+    pub(crate) fn load_latched(&self, seat: &mut Seat<u8, View>, number: u32) -> u64
+        requires seat { IsPassSeat self.now seat.old.table_id seat.old.me }
+        requires at { (m : PlainMachine) × (seat.old.me.0.operation ≡ Some m) × FitsWords m.op
+            × NeedsPage m number }
+        requires in_range { (1 ≤ number) × (number < self.now.counts.numbers) }
+        requires announced { IsAnnounced seat.old.me.0 }
+        ensures same { HasSameNumber seat.old seat.new }
+        ensures read { (m : PlainMachine) → seat.old.me.0.operation ≡ Some m → NeedsPage m number
+            → (machine : PlainMachine) × LoadsPage m number seat.old.me result machine seat.new.me }
+    {
+        self.table.shared.load::<LoadPage>(seat, number as usize)
+    }
+
     // The page whose row the seat reads. Its words aren't tested, since they are a lawful page's.
-    fn page_in_row(&self, seat: &mut Seat<u8, View>, row: u64) -> Page
+    pub(crate) fn page_in_row(&self, seat: &mut Seat<u8, View>, row: u64) -> Page
         requires seat { IsPassSeat self.now seat.old.table_id seat.old.me }
         requires row { IsRowNumber self.now.counts row }
         requires page { (page : PlainPage) × ReadsPage seat.old.me row page }
@@ -331,7 +345,7 @@ impl Live {
 }
 
 // The pointer stored for `key`, if `found` is the first key that is at least `key`, and `value` its pointer.
-fn kept_under(key: u64, found: u64, value: u64) -> Option<u64>
+pub(crate) fn kept_under(key: u64, found: u64, value: u64) -> Option<u64>
     ensures { (from to : ℕ) (entries : List (ℕ × ℕ)) → IsRising from entries to
         → Some (found, value) ≡ slice_get entries (place_of key entries)
         → result ≡ value_at key entries }

@@ -11,26 +11,32 @@ ghost use Rattle.blink_page.specs.{IsPageNumber};
 ghost use Rattle.blink_rows.specs.{page_words, prime_words, IsRowOf};
 ghost use Rattle.blink_rows.specs.declared.limits.TheConstants.{ROW_WORDS};
 ghost use Rattle.blink_machine.specs.declared.machine.State.TheVariants.{Ended};
-ghost use Rattle.blink_machine.specs.{IsUpdate, fresh, done, PrimeOut, page_out, NeedsNew, NeedsPrimeWrite, NeedsWrite, NeedsLatch, NeedsUnlatch, latch, latch_of, unlatch};
+ghost use Rattle.blink_machine.specs.{IsUpdate, PlainMachine, fresh, done, PrimeOut, page_out, NeedsNew, NeedsPrimeWrite, NeedsWrite, NeedsLatch, NeedsUnlatch, latch, latch_of, unlatch};
+ghost use Rattle.blink_live.specs.declared.descent.Changed.{Changed};
 ghost use Rattle.blink_live.specs.declared.view.View.{View};
 ghost use Rattle.blink_live.specs.Seats.{HasSameNumber, IsPassSeat, IsFirst};
 ghost use Rattle.blink_live.specs.Shelves.{IsShelved};
+ghost use Rattle.blink_live.specs.Straight.{HasCome};
 ghost use Rattle.blink_live.specs.Updating.{CanWrite, HasEnded, HasRowsFor, IsUnderWay, room_in, ComesNearer, IsPastDescent};
 ghost use Rattle.blink_live.specs.Views.{CanBegin, MayChange, is_staged, knows_word, latch_number_by, no_words, stage_word};
 ghost use Rattle.blink_live.specs.Pendings.{IsWaiting};
 ghost use Rattle.blink_live.specs.AtomicSteps.{PublishesNew, PublishesPage, PublishesPrime, GoesOn};
 ghost use Rattle.blink_live.specs.Words.{IsRowNumber};
 
+use crate::descent::Changed;
 use crate::live::Live;
 use crate::room::Room;
 use crate::rule::{KnowWord, LetGo, Publish, PublishNew, PublishPrime, StoreWord, TryLatch};
 use crate::view::View;
 use atomic_table::Seat;
 use blink_batch::{Answer, Op};
-use blink_machine::{Machine, Need, State};
+use blink_machine::{Machine, Need, Resting, State};
 use blink_rows::{ROW_WORDS, page_row, prime_row};
 use std::sync::Wait;
 use std::{hint, thread};
+
+// How often a call that may wait tries a latch at once that another seat has, before it gives its processor up.
+const SPINS: u32 = 8;
 
 // The number of words in a cache line of the processor, at 64 bytes a line.
 const LINE_WORDS: usize = 8;
@@ -59,10 +65,32 @@ impl Live {
         requires may { MayChange seat.old.me.0 (key_of op) }
         ensures ended { HasEnded op seat.old seat.new result }
     {
-        let mut machine = Machine::new(op, self.fan);
-        self.set_out(seat, &mut machine, &room, op);
+        match self.change_by(seat, &mut room, op, SPINS) {
+            Changed::Ended(answer) => answer,
+            Changed::Rests(resting) => self.wait_on(rt, seat, &mut room, &resting),
+        }
+    }
+
+    // Takes the steps of an operation that rests, until it has ended.
+    #[cold]
+    #[inline(never)]
+    fn wait_on<R: Wait>(
+        &self,
+        rt: &R,
+        seat: &mut Seat<u8, View>,
+        room: &mut Room,
+        resting: &Resting,
+    ) -> Answer
+        requires under_way { (op : Op) × (first : Seat ℕ View)
+            × IsUnderWay self.now op first seat.old resting.now room.old }
+        requires waits { IsWaiting resting.now }
+        ensures ended { (op : Op) (first : Seat ℕ View)
+            → IsUnderWay self.now op first seat.old resting.now room.old
+            → HasCome self.now op first seat.new room.new (Changed.Ended result) }
+    {
+        let mut machine = resting.resume();
         for _ in rt.forever() {
-            if let Some(answer) = self.take_steps(seat, &mut machine, &mut room, 1) {
+            if let Some(answer) = self.take_steps(seat, &mut machine, room, 1) {
                 return answer;
             }
             thread::yield_now();
@@ -91,7 +119,7 @@ impl Live {
 
     // Loads a word of each of the row's cache lines. The call that is to store the row begins with this, so that the lines come
     // while it descends: a store waits for its line, and no other store overtakes it.
-    fn fetch_row(&self, row: u64) {
+    pub(crate) fn fetch_row(&self, row: u64) {
         if row == 0 || row > self.counts.rows {
             return;
         }
@@ -140,7 +168,7 @@ impl Live {
     }
 
     // Takes the operation's steps for as long as it holds a latch. None of these waits.
-    fn leave(&self, seat: &mut Seat<u8, View>, machine: &mut Machine, room: &mut Room)
+    pub(crate) fn leave(&self, seat: &mut Seat<u8, View>, machine: &mut Machine, room: &mut Room)
         requires under_way { (op : Op) × (first : Seat ℕ View)
             × IsUnderWay self.now op first seat.old machine.old room.old }
         ensures under_way { (op : Op) (first : Seat ℕ View)
@@ -369,6 +397,26 @@ impl Live {
         ensures got { IsTrue result → GoesOn (latch number) machine.old seat.old.me seat.new.me }
         ensures lost { ¬ IsTrue result → (machine.new ≡ machine.old) × (seat.new.me ≡ seat.old.me) }
     {
+        if !self.take_latch(seat, number, own) {
+            return false;
+        }
+        machine.done(0);
+        true
+    }
+
+    // The step of `try_latch`, for any machine that the view's operation is.
+    pub(crate) fn take_latch(&self, seat: &mut Seat<u8, View>, number: u32, own: u64) -> bool
+        requires seat { IsPassSeat self.now seat.old.table_id seat.old.me }
+        requires at { (m : PlainMachine) × (seat.old.me.0.operation ≡ Some m) × FitsWords m.op
+            × NeedsLatch m number }
+        requires in_range { number < self.now.counts.numbers }
+        requires own { (own ≡ latch_number_by seat.old.me.0) × (1 ≤ own) }
+        ensures same { HasSameNumber seat.old seat.new }
+        ensures got { IsTrue result → (m : PlainMachine) → seat.old.me.0.operation ≡ Some m
+            → NeedsLatch m number
+            → GoesOn (latch number) m seat.old.me seat.new.me }
+        ensures lost { ¬ IsTrue result → seat.new.me ≡ seat.old.me }
+    {
         let word = self.latch_place(number);
         if self
             .table
@@ -378,7 +426,6 @@ impl Live {
         {
             return false;
         }
-        machine.done(0);
         true
     }
 
@@ -393,13 +440,26 @@ impl Live {
         ensures machine { machine.new ≡ done machine.old 0 }
         ensures gone { GoesOn (unlatch number) machine.old seat.old.me seat.new.me }
     {
-        let word = self.latch_place(number);
-        self.table.shared.store::<LetGo>(seat, word, 0);
+        self.free_latch(seat, number);
         machine.done(0);
     }
 
+    // The step of `let_go`, for any machine that the view's operation is.
+    pub(crate) fn free_latch(&self, seat: &mut Seat<u8, View>, number: u32)
+        requires seat { IsPassSeat self.now seat.old.table_id seat.old.me }
+        requires at { (m : PlainMachine) × (seat.old.me.0.operation ≡ Some m) × FitsWords m.op
+            × NeedsUnlatch m number }
+        requires in_range { number < self.now.counts.numbers }
+        ensures same { HasSameNumber seat.old seat.new }
+        ensures gone { (m : PlainMachine) → seat.old.me.0.operation ≡ Some m → NeedsUnlatch m number
+            → GoesOn (unlatch number) m seat.old.me seat.new.me }
+    {
+        let word = self.latch_place(number);
+        self.table.shared.store::<LetGo>(seat, word, 0);
+    }
+
     // Loads a word of the row, which is the first that the seat's call may use. The call knows the words before it.
-    fn load_own(&self, seat: &mut Seat<u8, View>, row: u64, place: usize) -> u64
+    pub(crate) fn load_own(&self, seat: &mut Seat<u8, View>, row: u64, place: usize) -> u64
         requires seat { IsPassSeat self.now seat.old.table_id seat.old.me }
         requires row { IsFirst row seat.old.me.0.call.rows × IsRowNumber self.now.counts row }
         requires place { (place < ROW_WORDS) × (1 ≤ self.now.counts.numbers) }
@@ -414,7 +474,7 @@ impl Live {
     }
 
     // Stores a word of the row, which is the first that the seat's call may use.
-    fn store_word(&self, seat: &mut Seat<u8, View>, row: u64, place: usize, word: u64)
+    pub(crate) fn store_word(&self, seat: &mut Seat<u8, View>, row: u64, place: usize, word: u64)
         requires seat { IsPassSeat self.now seat.old.table_id seat.old.me }
         requires row { IsFirst row seat.old.me.0.call.rows × IsRowNumber self.now.counts row }
         requires place { (place < ROW_WORDS) × (1 ≤ self.now.counts.numbers) }
@@ -449,11 +509,27 @@ impl Live {
         ensures machine { machine.new ≡ done machine.old 0 }
         ensures published { PublishesPage number result machine.old seat.old.me seat.new.me }
     {
+        let out = self.name_row(seat, number, row);
+        machine.done(0);
+        out
+    }
+
+    // The step of `publish`, for any machine that the view's operation is.
+    pub(crate) fn name_row(&self, seat: &mut Seat<u8, View>, number: u32, row: u64) -> u64
+        requires seat { IsPassSeat self.now seat.old.table_id seat.old.me }
+        requires at { (m : PlainMachine) × (seat.old.me.0.operation ≡ Some m) × FitsWords m.op
+            × NeedsWrite m number × MayChange seat.old.me.0 (key_of m.op)
+            × IsRowOf seat.old.me.0.call.staged (page_words (page_out m 0)) }
+        requires in_range { (1 ≤ number) × (number < self.now.counts.numbers) }
+        requires row { IsFirst row seat.old.me.0.call.rows }
+        ensures same { HasSameNumber seat.old seat.new }
+        ensures published { (m : PlainMachine) → seat.old.me.0.operation ≡ Some m → NeedsWrite m number
+            → PublishesPage number result m seat.old.me seat.new.me }
+    {
         let out = self
             .table
             .shared
             .swap::<Publish>(seat, number as usize, row);
-        machine.done(0);
         out
     }
 

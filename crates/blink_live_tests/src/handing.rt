@@ -85,7 +85,7 @@ fn a_refused_list_moves_no_key(rt: HostRuntime) {
 #[test]
 fn codes_of_refused_hands(rt: HostRuntime) {
     same(&rt, &HandError::NotYours(7).code(), &58);
-    same(&rt, &HandError::OutOfMemory.code(), &59);
+    same(&rt, &HandError::OutOfMemory.code(), &41);
 }
 
 // ---- threads that hand keys round

@@ -7,10 +7,10 @@ use Rattle.atomic_table.specs.Table.{Final, opening}
 use Rattle.blink_live.specs.declared.live.Live.{Live}
 use Rattle.blink_live.specs.declared.view.View.{View}
 use Rattle.blink_map.specs.Common.{IsHost}
-use Rattle.blink_map.specs.declared.places.Claim.{Claim}
+use Rattle.blink_map.specs.declared.rest.Visitor.{Visitor}
 use Rattle.blink_map.specs.Hosting.{HoldsHost}
 
-pub opening_host : (live : Live) (words : List ℕ) (slots : List (Seat ℕ View)) (host : Seat ℕ View) (claim : Claim) → slots ≡ host ∷ [] → IsHost live host → HoldsHost live (opening words slots claim)
+pub opening_host : (live : Live) (words : List ℕ) (slots : List (Seat ℕ View)) (host : Seat ℕ View) (claim : Visitor) → slots ≡ host ∷ [] → IsHost live host → HoldsHost live (opening words slots claim)
 opening_host live words slots host claim only its = subst (λ (l : List (Seat ℕ View)). HoldsHost live (opening words l claim)) (sym only) (record { host = host; rests = refl; its = its })
 
 pub took_host : (live : Live) (words : List ℕ) (slots : List (Seat ℕ View)) (taken : Seat ℕ View) → Final (HoldsHost live) words slots → get_elem? slots 0 ≡ some taken → IsHost live taken

@@ -1,8 +1,10 @@
 mod PlacesKept
+mod PartsOfThePool
 mod ChangesOfMembers
 mod RoomOfMembers
 mod MembersComeBack
 mod OperationsRest
+mod OperationsStart
 mod PendingsGoOn
 pub mod PendingsAreSent
 mod LooksOver

@@ -27,23 +27,22 @@ no_latch_waiting : (m : PlainMachine) → IsWaiting m → latch_of m ≡ None
 no_latch_waiting m (for_latch page at) = ap latch_at at
 no_latch_waiting m (for_level at) = ap latch_at at
 
-pub its_member : (live : Live) (old drawn : Member) → IsMemberOf live old → HasDrawn old drawn → IsMemberOf live drawn
+pub its_member : (live : Live) {rows pages : ℕ} (old drawn : Member) → IsMemberOf live old → HasDrawn rows pages old drawn → IsMemberOf live drawn
 its_member live old drawn its has_drawn = record {
   same_table = has_drawn.same_member.same_table ∙ its.same_table;
   same_plan = has_drawn.same_member.same_plan ∙ its.same_plan;
 }
 
 -- the operation has begun, where its member may have drawn before
-pub has_begun : (map : Map) (op : Op) (session : Session) (drawn : Member) (pending : Pending) → IsSessionOf map session → session_of pending ≡ session → HasDrawn session.member drawn → IsAtRest map.live op drawn pending.now
-    → pending.claim.table_id ≡ session.claim.table_id → IsWaiting pending.now.machine → HasBegun map op session pending
-has_begun map op session drawn pending its same_session has_drawn at_rest same_places waits =
+pub has_begun : (map : Map) (op : Op) (session : Session) (drawn : Member) (pending : Pending) → IsSessionOf map session → session_of pending ≡ session → HasDrawn (rows_of op) (pages_of op) session.member drawn → IsAtRest map.live op drawn pending.now
+    → IsWaiting pending.now.machine → HasBegun map op session pending
+has_begun map op session drawn pending its same_session has_drawn at_rest waits =
     let same_op : op_of pending ≡ op = at_rest.rest.set_out.under_way.updating.same_op in record {
       its_own = record {
         its_own = subst (IsSessionOf map) (sym same_session) its;
         drawn = drawn;
-        has_drawn = subst (λ (s : Session). HasDrawn s.member drawn) (sym same_session) has_drawn;
+        has_drawn = subst (λ (x : Op × Session). HasDrawn (rows_of x.0) (pages_of x.0) x.1.member drawn) (λ i. (sym same_op i, sym same_session i)) has_drawn;
         at_rest = subst (λ (o : Op). IsAtRest map.live o drawn pending.now) (sym same_op) at_rest;
-        same_places = same_places ∙ ap (λ (s : Session). s.claim.table_id) (sym same_session);
         waits = waits;
         no_latch = no_latch_waiting pending.now.machine waits;
       };
@@ -60,7 +59,7 @@ goes_on live op old now next work under_way rows pages place = record {
 }
 
 -- a member whose rows have come nearer since has changed as it had
-pub changed_then : (live : Live) (op : Op) (old new then : Member) (answer : Answer) → HasChanged live op old new answer → HasDrawn new then → then.rows ≡ new.rows → then.pages ≡ new.pages → HasChanged live op old then answer
+pub changed_then : (live : Live) (op : Op) (old new then : Member) (answer : Answer) → HasChanged live op old new answer → HasDrawn 0 0 new then → then.rows ≡ new.rows → then.pages ≡ new.pages → HasChanged live op old then answer
 changed_then live op old new then answer changed drawn rows pages =
     let told = changed.in_order in
     record {
@@ -81,8 +80,8 @@ changed_then live op old new then answer changed drawn rows pages =
     }
 
 -- the answer of an operation before which its member may have drawn
-pub answered : (map : Map) (op : Op) (old new : Session) (drawn : Member) (answer : Answer) → HasDrawn old.member drawn → HasChanged map.live op drawn new.member answer → new.claim.table_id ≡ old.claim.table_id → IsAnswered map op old new answer
-answered map op old new drawn answer has_drawn changed same_places =
+pub answered : (map : Map) (op : Op) (old new : Session) {rows pages : ℕ} (drawn : Member) (answer : Answer) → HasDrawn rows pages old.member drawn → HasChanged map.live op drawn new.member answer → IsAnswered map op old new answer
+answered map op old new drawn answer has_drawn changed =
     let told = changed.in_order in
     let place = has_drawn.same_member.same_place in
     let made : ℕ → List Change = λ author. changes_made author op (after (pointer_of (opening_of map)) told.before (key_of op)) in record {
@@ -98,5 +97,4 @@ answered map op old new drawn answer has_drawn changed same_places =
         same_plan = changed.same_member.same_plan ∙ has_drawn.same_member.same_plan;
         same_place = changed.same_member.same_place ∙ place;
       };
-      same_places = same_places;
     }

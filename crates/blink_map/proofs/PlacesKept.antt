@@ -1,5 +1,6 @@
--- Entering, taking a place and leaving it keep the rule of the places.
-use Rattle.std.proofs.Common.{◌≡◌, ◌≢◌, ℕ, ◌<◌, ◌≤◌, Option, Some, List, [], ◌∷◌, length, set, refl, sym, ap, ◌∙◌, subst, ⊎_elim, length-set, get_or-set_same, get_or-set_other, eqb, arith}
+-- Entering, taking a slot and giving it back keep the rule of the places.
+use Rattle.std.proofs.Common.{◌≡◌, ◌≢◌, ℕ, ◌<◌, Option, Some, None, List, [], ◌∷◌, length, replicate, set, refl, sym, ap, ◌∙◌, subst, length-set, get_or-set_same, get_or-set_other, eqb, arith}
+use Rattle.std.proofs.lemmas.List.{get_or-replicate, length-map, length-replicate}
 use Rattle.std.specs.Prelude.{slice_index}
 use mathlib.Core.Option.{Option as Maybe, some, none}
 use mathlib.Core.Logic.{dite}
@@ -8,163 +9,138 @@ use prog.Atomic.{either}
 use lib.ListN.{get_elem?}
 use lib.Seq.{set-get_or}
 use Rattle.atomic_table.specs.Seated.{TableId}
-use Rattle.atomic_table.specs.Table.{State, Act, Valid, stepped, carried_after, keeps, takes, gives, step, Allows, Enters}
-use Rattle.atomic_table.proofs.Lists.{at_set, set_here, set_else, set_again, at_snoc, exchanged}
-use Rattle.blink_live.specs.declared.live.Live.{Live}
+use Rattle.atomic_table.specs.Table.{State, Act, Valid, stepped, carried_after, keeps, takes, gives, step, put_back, rest, opening, Allows, Enters}
+use Rattle.atomic_table.proofs.Lists.{set_here, set_else, exchanged, some_there}
 use Rattle.blink_live.specs.declared.view.Plan.{Plan}
 use Rattle.blink_live.specs.Views.{plan_of}
-use Rattle.blink_map.specs.declared.member.Member.{Member}
-use Rattle.blink_map.specs.declared.places.Claim.{Claim}
-use Rattle.blink_map.specs.Places.{IsMemberOf, ArePlaces, PlaceSeat, no_claim, claim_of, enters, takes_place, leaves_place}
+use Rattle.blink_map.specs.declared.map.Map.{Map}
+use Rattle.blink_map.specs.declared.map.Session.{Session}
+use Rattle.blink_map.specs.declared.rest.Visitor.{Visitor}
+use Rattle.blink_map.specs.Hosting.{visitor}
+use Rattle.blink_map.specs.Resting.{ArePlaces, PlaceSeat, takes_session, takes_space, visits}
+use Rattle.blink_map.specs.Sessions.{IsSessionOf}
 
-abbrev Places : Type 0
-Places = State (Option Member) Claim
+abbrev Slots : Type 0
+Slots = List (Maybe (Option Session))
 
-no_place : (place : ℕ) → no_claim.place ≡ Some place → ⊥
-no_place place is = cc
+-- ---- no word changes
 
--- a map of places with another owner at one place
-abbrev with_owner : (ℕ → ℕ) → ℕ → ℕ → ℕ → ℕ
-with_owner owner at seat place = dite (ℕ_discrete place at) (λ same. seat) (λ other. owner place)
+pub still : (map : Map) (s : State (Option Session) Visitor) (place : ℕ) (views : List Visitor) → ArePlaces map s → ArePlaces map record { words = set s.words place (slice_index s.words place); homes = s.homes; views = views }
+still map s place views are =
+    subst (λ (words : List ℕ). ArePlaces map record { words = words; homes = s.homes; views = views }) (sym (set-get_or s.words place 0)) (record { width = are.width; rests = are.rests; vacant = are.vacant })
 
-owner_here : (owner : ℕ → ℕ) (at seat : ℕ) → with_owner owner at seat at ≡ seat
-owner_here owner at seat = go (ℕ_discrete at at)
-  where
-    go : (d : Dec (at ≡ at)) → dite d (λ same. seat) (λ other. owner at) ≡ seat
-    go (yes e) = refl
-    go (no ne) = absurd (ne refl)
+pub visits_places : (map : Map) (slots : ℕ) → Enters (ArePlaces map) slots 0 (λ n w. visits (step slots 0 0 0 none) (visitor, []) n (w, []))
+visits_places map slots s are homes small = (visitor, record { width = are.width; rests = are.rests; vacant = are.vacant }, tt)
 
-owner_else : (owner : ℕ → ℕ) (at seat place : ℕ) → place ≢ at → with_owner owner at seat place ≡ owner place
-owner_else owner at seat place differ = go (ℕ_discrete place at)
-  where
-    go : (d : Dec (place ≡ at)) → dite d (λ same. seat) (λ other. owner place) ≡ owner place
-    go (yes e) = absurd (differ e)
-    go (no ne) = refl
+pub opening_places : (map : Map) (count : ℕ) (words : List ℕ) → words ≡ replicate count 0 → ArePlaces map (opening words (replicate count None) visitor)
+opening_places map count words zeros = record {
+  width = ap (λ (l : List ℕ). length l) zeros ∙ (length-replicate {A = ℕ} count 0 ∙ (sym (length-replicate {A = Option Session} count None) ∙ sym (length-map (replicate count None) (λ (m : Option Session). some m))));
+  rests = λ place inside is.
+      let within : place < count = let long = length-map (replicate count None) (λ (m : Option Session). some m) in let all = length-replicate {A = Option Session} count None in omega (arith, inside, long, all) in
+      absurd (let zero : slice_index words place ≡ 0 = ap (λ (l : List ℕ). slice_index l place) zeros ∙ get_or-replicate count place 0 0 within in let one : 0 ≡ 1 = sym zero ∙ is in omega (arith, one));
+  vacant = λ place inside is. some_there (replicate count None) place (let long = length-map (replicate count None) (λ (m : Option Session). some m) in omega (arith, inside, long));
+}
 
--- ---- a new seat
+-- ---- the word and the slot of one place change
 
-pub enters_places : (live : Live) (slots : ℕ) → Enters (ArePlaces live) slots 0 (λ n w. enters (step slots 0 0 0 none) (no_claim, []) n (w, []))
-enters_places live slots s are homes small = (
-  no_claim,
-  record {
-    owner = are.owner;
-    width = are.width;
-    free = are.free;
-    taken = λ seat claim place at is. ⊎_elim
-        (λ (was : get_elem? s.views seat ≡ some claim). are.taken seat claim place was is)
-        (λ (new : no_claim ≡ claim). absurd (no_place place (ap (λ (c : Claim). c.place) new ∙ is)))
-        (at_snoc s.views no_claim claim seat at);
-  },
-  refl,
-)
-
--- ---- a place is taken
-
-module _ (live : Live) (s : Places) (are : ArePlaces live s) (id place : ℕ) (at : get_elem? s.views id ≡ some no_claim) (inside : place < length s.homes) (free : slice_index s.words place ≡ 0) where
+module _ (map : Map) (s : State (Option Session) Visitor) (are : ArePlaces map s) (place x : ℕ) (slot : Maybe (Option Session)) (inside : place < length s.homes)
+    (rests_here : x ≡ 1 → (session : Session) × (slot ≡ some (Some session)) × IsSessionOf map session) (vacant_here : x ≡ 0 → (left : Option Session) × (slot ≡ some left)) where
   abbrev words : List ℕ
-  words = set s.words place 1
+  words = set s.words place x
 
-  abbrev homes_then : List (Maybe (Option Member))
-  homes_then = set s.homes place none
+  abbrev homes : Slots
+  homes = set s.homes place slot
 
-  word_here : slice_index words place ≡ 1
-  word_here = get_or-set_same s.words place 1 0 (let wide = are.width in omega (arith, wide, inside))
+  word_here : slice_index words place ≡ x
+  word_here = get_or-set_same s.words place x 0 (let wide = are.width in omega (arith, wide, inside))
 
   word_else : (other : ℕ) → other ≢ place → slice_index words other ≡ slice_index s.words other
-  word_else other differ = get_or-set_other s.words place other 1 0 differ
+  word_else other differ = get_or-set_other s.words place other x 0 differ
 
-  still_free : (other : ℕ) → other < length homes_then → slice_index words other ≡ 0 → (member : Member) × (get_elem? homes_then other ≡ some (some (Some member))) × IsMemberOf live member
-  still_free other within is = dite (ℕ_discrete other place)
-      (λ same. absurd (let one : 1 ≡ 0 = sym word_here ∙ (ap (slice_index words) (sym same) ∙ is) in omega (arith, one)))
-      (λ differ.
-      let was = are.free other (let long = length-set s.homes place none in omega (arith, long, within)) (sym (word_else other differ) ∙ is) in
-      (was.0, set_else s.homes place other none differ ∙ was.1, was.2))
+  was_inside : (other : ℕ) → other < length homes → other < length s.homes
+  was_inside other within = let long = length-set s.homes place slot in omega (arith, long, within)
 
-  taken_then : (seat : ℕ) (claim : Claim) (other : ℕ) → get_elem? (set s.views id (claim_of place)) seat ≡ some claim → claim.place ≡ Some other
-      → (with_owner are.owner place id other ≡ seat) × (1 ≤ slice_index words other)
-  taken_then seat claim other there is = ⊎_elim
-      (λ (t : (seat ≡ id) × (claim_of place ≡ claim)).
-      let same : place ≡ other = let e : Some place ≡ Some other = ap (λ (c : Claim). c.place) t.1 ∙ is in cc in
-      subst (λ (p : ℕ). (with_owner are.owner place id p ≡ seat) × (1 ≤ slice_index words p)) same
-      (owner_here are.owner place id ∙ sym t.0, let one = word_here in omega (arith, one)))
-      (λ (t : (seat ≢ id) × (get_elem? s.views seat ≡ some claim)).
-      let was = are.taken seat claim other t.1 is in
-      let differ : other ≢ place = λ same. let some_word = was.1 in let zero_is : slice_index s.words other ≡ 0 = ap (slice_index s.words) same ∙ free in omega (arith, some_word, zero_is) in
-      (owner_else are.owner place id other differ ∙ was.0, subst (λ (n : ℕ). 1 ≤ n) (sym (word_else other differ)) was.1))
-      (at_set s.views id seat (claim_of place) claim there)
+  slot_here : (other : ℕ) (value : Option Session) → other ≡ place → slot ≡ some value → get_elem? homes other ≡ some (some value)
+  slot_here other value same is = ap (get_elem? homes) same ∙ (set_here s.homes place slot inside ∙ ap (λ (m : Maybe (Option Session)). some m) is)
 
-  is_taken : ArePlaces live record { words = words; homes = homes_then; views = set s.views id (claim_of place) }
-  is_taken = record {
-    owner = with_owner are.owner place id;
-    width = length-set s.words place 1 ∙ (are.width ∙ sym (length-set s.homes place none));
-    free = still_free;
-    taken = taken_then;
+  rests_then : (other : ℕ) → other < length homes → slice_index words other ≡ 1 → (session : Session) × (get_elem? homes other ≡ some (some (Some session))) × IsSessionOf map session
+  rests_then other within is = dite (ℕ_discrete other place)
+      (λ same. let its = rests_here (sym word_here ∙ (ap (slice_index words) (sym same) ∙ is)) in (its.0, slot_here other (Some its.0) same its.1, its.2))
+      (λ differ. let was = are.rests other (was_inside other within) (sym (word_else other differ) ∙ is) in (was.0, set_else s.homes place other slot differ ∙ was.1, was.2))
+
+  vacant_then : (other : ℕ) → other < length homes → slice_index words other ≡ 0 → (left : Option Session) × (get_elem? homes other ≡ some (some left))
+  vacant_then other within is = dite (ℕ_discrete other place)
+      (λ same. let its = vacant_here (sym word_here ∙ (ap (slice_index words) (sym same) ∙ is)) in (its.0, slot_here other its.0 same its.1))
+      (λ differ. let was = are.vacant other (was_inside other within) (sym (word_else other differ) ∙ is) in (was.0, set_else s.homes place other slot differ ∙ was.1))
+
+  pub is_kept : (views : List Visitor) → ArePlaces map record { words = words; homes = homes; views = views }
+  is_kept views = record {
+    width = length-set s.words place x ∙ (are.width ∙ sym (length-set s.homes place slot));
+    rests = rests_then;
+    vacant = vacant_then;
   }
 
-pub place_is_taken : (live : Live) (slots id place : ℕ) (table : TableId) (plan : Plan) → table ≡ live.table.shared.table_id → plan ≡ plan_of live.table.shared.key → place < slots
-    → Allows (ArePlaces live) slots id (no_claim, []) place (λ n. either (eqb n 0) 1 n) (takes_place table plan (step slots place 0 1 none) (no_claim, []))
-place_is_taken live slots id place table plan same_table same_plan inside s are homes at small =
-    let me : PlaceSeat = (no_claim, []) in
+-- ---- a slot is taken
+
+pub session_is_taken : (map : Map) (slots id place : ℕ) (me : PlaceSeat) (table : TableId) (plan : Plan) → table ≡ map.live.table.shared.table_id → plan ≡ plan_of map.live.table.shared.key → place < slots
+    → Allows (ArePlaces map) slots id me place (λ n. either (eqb n 1) 2 n) (takes_session table plan (step slots place 1 2 none) me)
+session_is_taken map slots id place me table plan same_table same_plan inside s are homes at small =
     let found : ℕ = slice_index s.words place in
-    exchanged found 0 1 (λ (k : ℕ). (w : Claim) × (a : Act (Option Member)) × Valid s.homes [] a × ArePlaces live (stepped s place k id [] w a) × takes_place table plan (step slots place 0 1 none) me found (w, carried_after [] a))
-    (λ free.
+    exchanged found 1 2 (λ (k : ℕ). (w : Visitor) × (a : Act (Option Session)) × Valid s.homes me.1 a × ArePlaces map (stepped s place k id me.1 w a) × takes_session table plan (step slots place 1 2 none) me found (w, carried_after me.1 a))
+    (λ rests.
     let within : place < length s.homes = omega (arith, homes, inside) in
-    let rests = are.free place within free in (
-      claim_of place,
-      takes place (Some rests.0),
-      rests.1,
-      is_taken live s are id place at within free,
+    let its = are.rests place within rests in (
+      me.0,
+      takes place (Some its.0),
+      its.1,
+      is_kept map s are place 2 none within (λ one. absurd (omega (arith, one))) (λ zero. absurd (omega (arith, zero))) (set s.views id me.0),
       record {
-        got = λ none_found. (rests.0, record { same_table = rests.2.same_table ∙ sym same_table; same_plan = rests.2.same_plan ∙ sym same_plan }, refl);
-        lost = λ other. absurd (other free);
+        got = λ one. (its.0, record { same_table = its.2.member.same_table ∙ sym same_table; same_plan = its.2.member.same_plan ∙ sym same_plan }, refl);
+        lost = λ other. absurd (other rests);
       },
     ))
-    (λ other. (
-      no_claim,
-      keeps,
-      tt,
-      subst (λ (t : List ℕ × List Claim). ArePlaces live record { words = t.0; homes = s.homes; views = t.1 }) (λ i. (sym (set-get_or s.words place 0) i, sym (set_again s.views id no_claim at) i)) are,
-      record { got = λ none_found. absurd (other none_found); lost = λ differ. refl },
+    (λ other. (me.0, keeps, tt, still map s place (set s.views id me.0) are, record { got = λ one. absurd (other one); lost = λ differ. refl }))
+
+pub space_is_taken : (map : Map) (slots id place : ℕ) (me : PlaceSeat) → place < slots → Allows (ArePlaces map) slots id me place (λ n. either (eqb n 0) 2 n) (takes_space (step slots place 0 2 none) me)
+space_is_taken map slots id place me inside s are homes at small =
+    let found : ℕ = slice_index s.words place in
+    exchanged found 0 2 (λ (k : ℕ). (w : Visitor) × (a : Act (Option Session)) × Valid s.homes me.1 a × ArePlaces map (stepped s place k id me.1 w a) × takes_space (step slots place 0 2 none) me found (w, carried_after me.1 a))
+    (λ free.
+    let within : place < length s.homes = omega (arith, homes, inside) in
+    let its = are.vacant place within free in (
+      me.0,
+      takes place its.0,
+      its.1,
+      is_kept map s are place 2 none within (λ one. absurd (omega (arith, one))) (λ zero. absurd (omega (arith, zero))) (set s.views id me.0),
+      record { got = λ zero. (its.0, refl); lost = λ other. absurd (other free) },
     ))
+    (λ other. (me.0, keeps, tt, still map s place (set s.views id me.0) are, record { got = λ zero. absurd (other zero); lost = λ differ. refl }))
 
--- ---- a place is left
+-- ---- and given back
 
-module _ (live : Live) (s : Places) (are : ArePlaces live s) (id place : ℕ) (member : Member) (its : IsMemberOf live member) (at : get_elem? s.views id ≡ some (claim_of place)) (inside : place < length s.homes) where
-  abbrev words_left : List ℕ
-  words_left = set s.words place 0
+module _ (map : Map) (slots id place : ℕ) (me : PlaceSeat) (value : Option Session) (held : me.1 ≡ (place, value) ∷ []) (inside : place < slots) where
+  given : (x : ℕ) → (x ≡ 1 → (session : Session) × (value ≡ Some session) × IsSessionOf map session) → Allows (ArePlaces map) slots id me place (λ n. x) (λ n. visits (step slots place x 0 none) me x)
+  given x rests s are homes at small = (
+    me.0,
+    gives,
+    tt,
+    subst (λ (l : List (ℕ × Option Session)). ArePlaces map record { words = set s.words place x; homes = put_back s.homes l; views = set s.views id me.0 }) (sym held)
+        (is_kept map s are place x (some value) (omega (arith, homes, inside))
+        (λ one. let its = rests one in (its.0, ap (λ (m : Option Session). some m) its.1, its.2)) (λ zero. (value, refl)) (set s.views id me.0)),
+    tt,
+  )
 
-  abbrev homes_left : List (Maybe (Option Member))
-  homes_left = set s.homes place (some (Some member))
+  -- as space, or with a session that rests there
+  pub space_is_given : Allows (ArePlaces map) slots id me place (λ n. 0) (λ n. visits (step slots place 0 0 none) me 0)
+  space_is_given = given 0 (λ one. absurd (omega (arith, one)))
 
-  word_left : (other : ℕ) → other ≢ place → slice_index words_left other ≡ slice_index s.words other
-  word_left other differ = get_or-set_other s.words place other 0 0 differ
+  pub session_is_given : (session : Session) → value ≡ Some session → IsSessionOf map session → Allows (ArePlaces map) slots id me place (λ n. 1) (λ n. visits (step slots place 1 0 none) me 1)
+  session_is_given session is its = given 1 (λ one. (session, is, its))
 
-  free_left : (other : ℕ) → other < length homes_left → slice_index words_left other ≡ 0 → (one : Member) × (get_elem? homes_left other ≡ some (some (Some one))) × IsMemberOf live one
-  free_left other within is = dite (ℕ_discrete other place)
-      (λ same. (member, ap (get_elem? homes_left) same ∙ set_here s.homes place (some (Some member)) inside, its))
-      (λ differ.
-      let was = are.free other (let long = length-set s.homes place (some (Some member)) in omega (arith, long, within)) (sym (word_left other differ) ∙ is) in
-      (was.0, set_else s.homes place other (some (Some member)) differ ∙ was.1, was.2))
+-- ---- the one slot that a seat has
 
-  taken_left : (seat : ℕ) (claim : Claim) (other : ℕ) → get_elem? (set s.views id no_claim) seat ≡ some claim → claim.place ≡ Some other → (are.owner other ≡ seat) × (1 ≤ slice_index words_left other)
-  taken_left seat claim other there is = ⊎_elim
-      (λ (t : (seat ≡ id) × (no_claim ≡ claim)). absurd (no_place other (ap (λ (c : Claim). c.place) t.1 ∙ is)))
-      (λ (t : (seat ≢ id) × (get_elem? s.views seat ≡ some claim)).
-      let was = are.taken seat claim other t.1 is in
-      let mine = are.taken id (claim_of place) place at refl in
-      let differ : other ≢ place = λ same. t.0 (sym was.0 ∙ (ap are.owner same ∙ mine.0)) in
-      (was.0, subst (λ (n : ℕ). 1 ≤ n) (sym (word_left other differ)) was.1))
-      (at_set s.views id seat no_claim claim there)
+pub only_slot : (place : ℕ) (value : Option Session) (slots : List (ℕ × Option Session)) → slots ≡ (place, value) ∷ [] → slots ≡ (place, value) ∷ rest slots
+only_slot place value slots is = is ∙ ap (λ (others : List (ℕ × Option Session)). let all : List (ℕ × Option Session) = (place, value) ∷ others in all) (sym (ap (λ (l : List (ℕ × Option Session)). rest l) is))
 
-  is_left : ArePlaces live record { words = words_left; homes = homes_left; views = set s.views id no_claim }
-  is_left = record {
-    owner = are.owner;
-    width = length-set s.words place 0 ∙ (are.width ∙ sym (length-set s.homes place (some (Some member))));
-    free = free_left;
-    taken = taken_left;
-  }
-
-pub place_is_left : (live : Live) (slots id place : ℕ) (member : Member) → IsMemberOf live member → place < slots
-    → Allows (ArePlaces live) slots id (claim_of place, (place, Some member) ∷ []) place (λ n. 0) (λ n. leaves_place (step slots place 0 0 none) (claim_of place, (place, Some member) ∷ []) 0)
-place_is_left live slots id place member its inside s are homes at small =
-    (no_claim, gives, tt, is_left live s are id place member its at (omega (arith, homes, inside)), tt)
+pub slot_then : (place : ℕ) (value new : Option Session) (slots : List (ℕ × Option Session)) → slots ≡ (place, value) ∷ [] → (place, new) ∷ rest slots ≡ (place, new) ∷ []
+slot_then place value new slots is = ap (λ (l : List (ℕ × Option Session)). let all : List (ℕ × Option Session) = (place, new) ∷ rest l in all) is

@@ -1,20 +1,26 @@
 -- What an insertion or a replacement that is answered so has made of its session.
-use Rattle.std.proofs.Common.{◌≡◌, ◌≢◌, ℕ, Option, Some, None, List, [], ◌∷◌, ◌++◌, refl, sym, ap, ◌∙◌, subst, append-nil}
+use Rattle.std.proofs.Common.{◌≡◌, ◌≢◌, ℕ, ◌+◌, ◌≤◌, Option, Some, None, List, [], ◌∷◌, ◌++◌, refl, sym, ap, ◌∙◌, subst, append-nil, inl, inr, arith}
 use Rattle.std.specs.Prelude.{IfOk, OnErr, Result, Ok, Err}
 use mathlib.Core.List.{IsPrefix}
 use Rattle.blink_batch.specs.declared.Answer.{Answer}
-use Rattle.blink_batch.specs.declared.Answer.TheVariants.{Inserted, Replaced}
+use Rattle.blink_batch.specs.declared.Answer.TheVariants.{Exists, Inserted, Replaced}
 use Rattle.blink_batch.specs.declared.Op.{Op}
 use Rattle.blink_batch.specs.declared.Op.TheVariants.{Insert, Replace}
 use Rattle.blink_batch.specs.{answer_at, key_of, pointer_of}
 use Rattle.blink_live.specs.declared.view.Change.{Change}
 use Rattle.blink_live.specs.Changes.{after, changes_made}
+use Rattle.blink_live.specs.Allowed.{length_of}
+use Rattle.blink_live.specs.Shelves.{HasSpaceFor, free_in, rows_on}
+use Rattle.blink_live.specs.Views.{pages_of, rows_of}
+use Rattle.blink_live.specs.declared.shelf.Shelf.{Shelf}
+use Rattle.blink_rows.specs.declared.span.Span.{Span}
 use Rattle.blink_live.proofs.Offered.{prefix_of_prefix}
 use Rattle.blink_map.specs.declared.error.Full.{Full}
 use Rattle.blink_map.specs.declared.map.Map.{Map}
 use Rattle.blink_map.specs.declared.map.Session.{Session}
-use Rattle.blink_map.specs.Putting.{HasTried, IsPut, IsShortOfRoom, IsTried, change_to}
-use Rattle.blink_map.specs.Sessions.{IsAnswered, IsSameBesideRoom, IsSessionOf, LacksRoomInAll, made_by, opening_of, place_of, seen_by}
+use Rattle.blink_map.specs.declared.member.Member.{Member}
+use Rattle.blink_map.specs.Putting.{CannotPut, HasTried, IsPut, IsShortOfRoom, IsTried, WasAbsent, change_to}
+use Rattle.blink_map.specs.Sessions.{HasRoom, IsAnswered, IsSameBesideRoom, IsSameBesideSeen, IsSameMember, IsSessionOf, LacksRoom, LacksRoomInAll, made_by, opening_of, place_of, seen_by}
 
 -- ---- by the state of the key before
 
@@ -46,7 +52,6 @@ module _ (map : Map) (op : Op) (old new : Session) (answer : Answer) (is : IsAns
         (prefix_of_prefix is.in_order.before (is.in_order.before ++ changes_made (place_of old) op kept) (seen_by new) (changes_made (place_of old) op kept, refl) is.in_order.goes_on);
     made = is.in_order.made ∙ (ap (λ (l : List Change). made_by old ++ l) none ∙ append-nil (made_by old));
     same_member = is.same_member;
-    same_places = is.same_places;
   }
 
   pub put_so : (key pointer : ℕ) (was : Option ℕ) → key_of op ≡ key → changes_made (place_of old) op kept ≡ change_to (place_of old) key pointer ∷ [] → was ≡ kept → IsPut map key pointer old new was
@@ -57,7 +62,6 @@ module _ (map : Map) (op : Op) (old new : Session) (answer : Answer) (is : IsAns
     goes_on = subst (λ (l : List Change). IsPrefix (is.in_order.before ++ l) (seen_by new)) made_is is.in_order.goes_on;
     made = is.in_order.made ∙ ap (λ (l : List Change). made_by old ++ l) made_is;
     same_member = is.same_member;
-    same_places = is.same_places;
   }
 
 pub put_by_insertion : (map : Map) (old new : Session) (key pointer : ℕ) → IsAnswered map (Insert key pointer) old new Inserted → IsPut map key pointer old new None
@@ -83,7 +87,6 @@ tried_in_vain old new same = record {
   saw = ([], append-nil (seen_by old) ∙ sym same.seen);
   made = same.made;
   same_member = same.same_member;
-  same_places = same.same_places;
 }
 
 -- ---- two of them
@@ -91,7 +94,6 @@ tried_in_vain old new same = record {
 pub still_its : (map : Map) (old new : Session) → IsSessionOf map old → HasTried old new → IsSessionOf map new
 still_its map old new its tried_so = record {
   member = record { same_table = tried_so.same_member.same_table ∙ its.member.same_table; same_plan = tried_so.same_member.same_plan ∙ its.member.same_plan };
-  same_places = tried_so.same_places ∙ its.same_places;
 }
 
 module _ (old middle new : Session) (first : HasTried old middle) where
@@ -100,7 +102,6 @@ module _ (old middle new : Session) (first : HasTried old middle) where
     saw = prefix_of_prefix (seen_by old) (seen_by middle) (seen_by new) first.saw second.saw;
     made = second.made ∙ first.made;
     same_member = record { same_table = second.same_member.same_table ∙ first.same_member.same_table; same_plan = second.same_member.same_plan ∙ first.same_member.same_plan; same_place = second.same_member.same_place ∙ first.same_member.same_place };
-    same_places = second.same_places ∙ first.same_places;
   }
 
   pub put_then : (map : Map) (key pointer : ℕ) (was : Option ℕ) → IsPut map key pointer middle new was → IsPut map key pointer old new was
@@ -111,11 +112,77 @@ module _ (old middle new : Session) (first : HasTried old middle) where
     goes_on = subst (λ (author : ℕ). IsPrefix (put.before ++ change_to author key pointer ∷ []) (seen_by new)) first.same_member.same_place put.goes_on;
     made = put.made ∙ (ap (λ (l : List Change). l ++ change_to (place_of middle) key pointer ∷ []) first.made ∙ ap (λ (author : ℕ). made_by old ++ change_to author key pointer ∷ []) first.same_member.same_place);
     same_member = record { same_table = put.same_member.same_table ∙ first.same_member.same_table; same_plan = put.same_member.same_plan ∙ first.same_member.same_plan; same_place = put.same_member.same_place ∙ first.same_member.same_place };
-    same_places = put.same_places ∙ first.same_places;
   }
+
+  -- the key was absent since
+  pub absent_then : (map : Map) (key : ℕ) → WasAbsent map key middle new → WasAbsent map key old new
+  absent_then map key was = record {
+    before = was.before;
+    saw = prefix_of_prefix (seen_by old) (seen_by middle) was.before first.saw was.saw;
+    absent = was.absent;
+    goes_on = was.goes_on;
+  }
+
+  pub cannot_then : (map : Map) (key pointer : ℕ) → CannotPut map key pointer middle new → CannotPut map key pointer old new
+  cannot_then map key pointer (inl row) = inl row
+  cannot_then map key pointer (inr absent) = inr (absent_then map key absent.0, absent.1)
 
 -- a try after others is one from the beginning on
 pub tried_from_first : (map : Map) (key pointer : ℕ) (old middle new : Session) (was : Result (Option ℕ) Full) → HasTried old middle → IsTried map key pointer middle new (Some was)
-    → IfOk was (IsPut map key pointer old new) × OnErr was (HasTried old new) × OnErr was (IsShortOfRoom key pointer new) × OnErr was (LacksRoomInAll (Insert key pointer) new)
-tried_from_first map key pointer old middle new (Ok kept) first is = (put_then old middle new first map key pointer kept is, tt, tt, tt)
-tried_from_first map key pointer old middle new (Err full) first is = (tt, tried_twice old middle new first is.0, is.1, is.2)
+    → IfOk was (IsPut map key pointer old new) × OnErr was (HasTried old new) × OnErr was (IsShortOfRoom key pointer new) × OnErr was (LacksRoomInAll (Insert key pointer) new) × OnErr was (CannotPut map key pointer old new)
+tried_from_first map key pointer old middle new (Ok kept) first is = (put_then old middle new first map key pointer kept is, tt, tt, tt, tt)
+tried_from_first map key pointer old middle new (Err full) first is = (tt, tried_twice old middle new first is.0, is.1, is.2, cannot_then old middle new first map key pointer is.3)
+
+-- the same of a try that may be in vain
+pub tried_then : (map : Map) (key pointer : ℕ) (old middle new : Session) (outcome : Option (Result (Option ℕ) Full)) → HasTried old middle → IsTried map key pointer middle new outcome → IsTried map key pointer old new outcome
+tried_then map key pointer old middle new None first is = tried_twice old middle new first is
+tried_then map key pointer old middle new (Some (Ok was)) first is = put_then old middle new first map key pointer was is
+tried_then map key pointer old middle new (Some (Err full)) first is = (tried_twice old middle new first is.0, is.1, is.2, cannot_then old middle new first map key pointer is.3)
+
+-- ---- an insertion for which a session lacks room, where it has looked the key up
+
+module _ (map : Map) (old middle new : Session) (room : IsSameBesideRoom old middle) (looked : IsSameBesideSeen middle new) (key pointer : ℕ) where
+  saw_all : IsPrefix (seen_by old) (seen_by new)
+  saw_all = subst (λ (seen : List Change). IsPrefix seen (seen_by new)) room.seen looked.saw
+
+  same_member : IsSameMember old.member new.member
+  same_member = record {
+    same_table = looked.same_member.same_table ∙ room.same_member.same_table;
+    same_plan = looked.same_member.same_plan ∙ room.same_member.same_plan;
+    same_place = looked.same_member.same_place ∙ room.same_member.same_place;
+  }
+
+  pub looked_in_vain : HasTried old new
+  looked_in_vain = record { saw = saw_all; made = looked.made ∙ room.made; same_member = same_member }
+
+  pub found_there : (there : ℕ) → Some there ≡ after (pointer_of (opening_of map)) (seen_by new) key → IsAnswered map (Insert key pointer) old new (Exists there)
+  found_there there found = record {
+    in_order = record {
+      before = seen_by new;
+      saw = saw_all;
+      answers = ap (answer_at (Insert key pointer)) found;
+      goes_on = subst (λ (kept : Option ℕ). IsPrefix (seen_by new ++ changes_made (place_of old) (Insert key pointer) kept) (seen_by new)) found ([], append-nil (seen_by new ++ []) ∙ append-nil (seen_by new));
+      made = looked.made ∙ (room.made ∙ (sym (append-nil (made_by old)) ∙ ap (λ (kept : Option ℕ). made_by old ++ changes_made (place_of old) (Insert key pointer) kept) found));
+    };
+    same_member = same_member;
+  }
+
+  pub found_absent : None ≡ after (pointer_of (opening_of map)) (seen_by new) key → WasAbsent map key old new
+  found_absent found = record { before = seen_by new; saw = saw_all; absent = sym found; goes_on = ([], append-nil (seen_by new)) }
+
+-- a session that has looked a key up has the room that it had
+pub still_lacks : (op : Op) (old middle new : Session) → IsSameBesideSeen middle new → LacksRoom op old middle → LacksRoom op old new
+still_lacks op old middle new looked lacks = record {
+  before = lacks.before;
+  still = λ has. lacks.still (record {
+    enough_rows = subst (λ (x : Span × Option Shelf). rows_of op ≤ length_of x.0 + free_in x.1) (λ i. (looked.rows i, looked.shelf i)) has.enough_rows;
+    enough_pages = subst (λ (x : Span). pages_of op ≤ length_of x) looked.pages has.enough_pages;
+    space = subst (λ (x : Option Shelf). HasSpaceFor x (rows_of op)) looked.shelf has.space;
+  });
+}
+
+pub still_lacks_in_all : (op : Op) (middle new : Session) → IsSameBesideSeen middle new → LacksRoomInAll op middle → LacksRoomInAll op new
+still_lacks_in_all op middle new looked lacks has = lacks (record {
+  enough_rows = subst (λ (x : Span × Option Shelf). rows_of op ≤ length_of x.0 + rows_on x.1) (λ i. (looked.rows i, looked.shelf i)) has.enough_rows;
+  enough_pages = subst (λ (x : Span). pages_of op ≤ length_of x) looked.pages has.enough_pages;
+})

@@ -1,14 +1,20 @@
 -- What an operation that changes the tree makes of a member.
-use Rattle.std.specs.Prelude.{◌≡◌, ℕ, ◌+◌, ◌≤◌}
+use Rattle.std.specs.Prelude.{◌≡◌, ℕ, ◌+◌, ◌≤◌, Some}
 use Rattle.atomic_table.specs.declared.Seat.{Seat}
 use Rattle.blink_batch.specs.declared.Answer.{Answer}
 use Rattle.blink_batch.specs.declared.Op.{Op}
 use Rattle.blink_machine.specs.{PlainMachine}
+use Rattle.blink_machine.specs.declared.machine.State.TheVariants as state
+use Rattle.blink_live.specs.declared.descent.Changed.{Changed}
+use Rattle.blink_live.specs.declared.descent.Changed.TheVariants.{Ended, Rests}
 use Rattle.blink_live.specs.declared.live.Live.{Live}
 use Rattle.blink_live.specs.declared.room.Room.{Room as CallRoom}
 use Rattle.blink_live.specs.declared.view.View.{View}
+use Rattle.blink_live.specs.Allowed.{length_of}
 use Rattle.blink_live.specs.Handles.{opening_of}
+use Rattle.blink_live.specs.Pendings.{IsWaiting}
 use Rattle.blink_live.specs.Seats.{HasSameNumber}
+use Rattle.blink_live.specs.Shelves.{free_in, rows_on}
 use Rattle.blink_live.specs.Updating.{IsUnderWay}
 use Rattle.blink_live.specs.Views.{is_busy, pages_of, rows_of}
 use Rattle.blink_map.specs.declared.member.Member.{Member}
@@ -22,8 +28,21 @@ pub record HasChanged (live : Live) (op : Op) (old new : Member) (answer : Answe
   pub pages : (new.pages.stop ≡ old.pages.stop) × (new.pages.next ≤ old.pages.next + pages_of op)
   pub same_member : IsSameMember old new
 
--- the member has seen and made what it had; it may have other rows and page numbers
-pub record HasDrawn (old new : Member) : Type 0 where
+-- the rows that a member has in all, those that are on their way back too; and those that it may write now
+abbrev pub rows_in_all : Member → ℕ
+rows_in_all member = length_of member.rows + rows_on member.shelf
+
+abbrev pub rows_at_hand : Member → ℕ
+rows_at_hand member = length_of member.rows + free_in member.shelf
+
+-- the member has seen and made what it had, and no fewer rows and page numbers. It has more of them only of a kind of which it had
+-- fewer than these at hand
+pub record HasDrawn (rows pages : ℕ) (old new : Member) : Type 0 where
+  pub rows_kept : rows_in_all old ≤ rows_in_all new
+  pub at_hand : rows_at_hand old ≤ rows_at_hand new
+  pub rows_short : rows ≤ rows_at_hand old → rows_in_all new ≡ rows_in_all old
+  pub pages_kept : length_of old.pages ≤ length_of new.pages
+  pub pages_short : pages ≤ length_of old.pages → new.pages ≡ old.pages
   pub seen : seen_of_member new ≡ seen_of_member old
   pub made : made_by_member new ≡ made_by_member old
   pub same_member : IsSameMember old new
@@ -36,6 +55,11 @@ pub record HasSetOut (live : Live) (op : Op) (old : Member) (seat : Seat ℕ Vie
   pub marked : first.me ≡ (is_busy old.seat.me.0 mark, old.seat.me.1)
   pub same_number : HasSameNumber old.seat first
   pub under_way : IsUnderWay live op first seat m room
+
+-- it has ended with its answer, or has to wait
+abbrev pub HasComeOut : Live → Op → Member → Seat ℕ View → CallRoom → Changed → Type 0
+HasComeOut live op old seat room (Ended answer) = (m : PlainMachine) × HasSetOut live op old seat m room × (m.state ≡ state.Ended) × (m.answer ≡ Some answer)
+HasComeOut live op old seat room (Rests resting) = HasSetOut live op old seat resting room × IsWaiting resting
 
 -- and since then the place was marked as one whose operation rests
 pub record HasComeToRest (live : Live) (op : Op) (old : Member) (seat : Seat ℕ View) (m : PlainMachine) (room : CallRoom) : Type 0 where

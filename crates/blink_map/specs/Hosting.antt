@@ -6,10 +6,14 @@ use Rattle.atomic_table.specs.Table.{State}
 use Rattle.blink_live.specs.declared.live.Live.{Live}
 use Rattle.blink_live.specs.declared.view.View.{View}
 use Rattle.blink_map.specs.Common.{IsHost}
-use Rattle.blink_map.specs.declared.places.Claim.{Claim}
+use Rattle.blink_map.specs.declared.rest.Visitor.{Visitor}
+
+-- a seat of a table of rests knows nothing
+abbrev pub visitor : Visitor
+visitor = record { number = 0 }
 
 -- the host's seat is in the one slot
-pub record HoldsHost (live : Live) (s : State (Seat ℕ View) Claim) : Type 0 where
+pub record HoldsHost (live : Live) (s : State (Seat ℕ View) Visitor) : Type 0 where
   pub host : Seat ℕ View
   pub rests : s.homes ≡ some host ∷ []
   pub its : IsHost live host

@@ -1,11 +1,23 @@
 -- What a caller of `blink_map` reads, in this order; then the files themselves.
 
 -- a map and its sessions
-pub use Rattle.blink_map.specs.Sessions.{AnswersAsSeen, HasRoom, IsAnswered, IsClosedWith, IsOpenedWith, IsTooLarge, IsSameBesideRoom, IsSameBesideSeen, IsSameSession, IsSessionOf, LacksRoom, LacksRoomInAll, made_by, opening_of, place_of, places_of, seen_by}
+pub use Rattle.blink_map.specs.Sessions.{AnswersAsSeen, HasRoom, IsAnswered, IsOpenedWith, IsTooLarge, IsSameBesideRoom, IsSameBesideSeen, IsSameSession, IsSessionOf, LacksRoom, LacksRoomInAll, made_by, opening_of, place_of, places_of, seen_by}
+-- how a map opens: each session is the first of its place
+pub use Rattle.blink_map.specs.Opening.{AreFirstSessions, IsFirstAt}
+-- the places where sessions rest
+pub use Rattle.blink_map.specs.Joining.{map_at}
+-- what a session had seen
+pub use Rattle.blink_map.specs.Receipts.{IsReceiptFor, IsReceiptOf, made_in, place_in, seen_in}
+-- how a map is settled and closed
+pub use Rattle.blink_map.specs.Closing.{IsClosedWith, IsListOf, IsSettledWith}
+pub use Rattle.blink_map.specs.Common.{AreEntriesAfter, IsAfter}
+pub use Rattle.blink_map.specs.Unclosed.{IsUnclosed, IsUnsettled}
 -- an operation under way: which one it is, and the session before it
 pub use Rattle.blink_map.specs.Pendings.{GoesOn, HasBegun, IsPendingOf, op_of, session_of}
+-- an operation that hasn't ended at once
+pub use Rattle.blink_map.specs.Starting.{HasStopped}
 -- an entry that is put
-pub use Rattle.blink_map.specs.Putting.{HasTried, IsPut, change_to}
+pub use Rattle.blink_map.specs.Putting.{CannotPut, HasTried, IsPut, WasAbsent, change_to}
 -- what a session has of rows and page numbers
 pub use Rattle.blink_map.specs.Stocks.{stock_of}
 -- the code of each refusal
@@ -19,8 +31,14 @@ pub mod Changing
 pub mod Pendings
 pub mod Telling
 pub mod Closing
+pub mod Unclosed
+pub mod Drawing
 pub mod Opening
 pub mod Putting
 pub mod Places
+pub mod Resting
+pub mod Joining
+pub mod Receipts
 pub mod Sessions
+pub mod Starting
 pub mod Stocks

@@ -3,6 +3,7 @@ use Rattle.std.specs.Prelude.{◌≡◌, None}
 use Rattle.blink_batch.specs.declared.Op.{Op}
 use Rattle.blink_machine.specs.{latch_of}
 use Rattle.blink_live.specs.Pendings.{IsWaiting}
+use Rattle.blink_live.specs.Views.{pages_of, rows_of}
 use Rattle.blink_map.specs.declared.map.Map.{Map}
 use Rattle.blink_map.specs.declared.map.Pending.{Pending}
 use Rattle.blink_map.specs.declared.map.Session.{Session}
@@ -23,9 +24,8 @@ session_of pending = pending.begun.value
 pub record IsPendingOf (map : Map) (pending : Pending) : Type 0 where
   pub its_own : IsSessionOf map (session_of pending)
   pub drawn : Member
-  pub has_drawn : HasDrawn (session_of pending).member drawn
+  pub has_drawn : HasDrawn (rows_of (op_of pending)) (pages_of (op_of pending)) (session_of pending).member drawn
   pub at_rest : IsAtRest map.live (op_of pending) drawn pending.now
-  pub same_places : pending.claim.table_id ≡ (session_of pending).claim.table_id
   pub waits : IsWaiting pending.now.machine
   pub no_latch : latch_of pending.now.machine ≡ None
 

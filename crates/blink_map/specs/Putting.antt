@@ -1,7 +1,7 @@
 -- What a call makes of a session that inserts or replaces.
-use Rattle.std.specs.Prelude.{◌≡◌, ℕ, Option, Some, None, Result, Ok, Err, List, [], ◌∷◌, ◌++◌}
+use Rattle.std.specs.Prelude.{◌≡◌, ◌⊎◌, ℕ, Option, Some, None, Result, Ok, Err, List, [], ◌∷◌, ◌++◌}
 use mathlib.Core.List.{IsPrefix}
-use Rattle.blink_batch.specs.declared.Op.TheVariants.{Insert}
+use Rattle.blink_batch.specs.declared.Op.TheVariants.{Insert, Replace}
 use Rattle.blink_batch.specs.{pointer_of}
 use Rattle.blink_live.specs.declared.view.Change.{Change}
 use Rattle.blink_live.specs.Changes.{after}
@@ -15,7 +15,14 @@ pub record HasTried (old new : Session) : Type 0 where
   pub saw : IsPrefix (seen_by old) (seen_by new)
   pub made : made_by new ≡ made_by old
   pub same_member : IsSameMember old.member new.member
-  pub same_places : new.claim.table_id ≡ old.claim.table_id
+
+-- there is a list of changes that goes on from all that the session had seen, and after it the key was absent. The session has seen
+-- this list now
+pub record WasAbsent (map : Map) (key : ℕ) (old new : Session) : Type 0 where
+  pub before : List Change
+  pub saw : IsPrefix (seen_by old) before
+  pub absent : after (pointer_of (opening_of map)) before key ≡ None
+  pub goes_on : IsPrefix before (seen_by new)
 
 -- the session hasn't the room that the insertion of an entry may need
 abbrev pub IsShortOfRoom : ℕ → ℕ → Session → Type 0
@@ -34,10 +41,14 @@ pub record IsPut (map : Map) (key pointer : ℕ) (old new : Session) (was : Opti
   pub goes_on : IsPrefix (before ++ change_to (place_of old) key pointer ∷ []) (seen_by new)
   pub made : made_by new ≡ made_by old ++ change_to (place_of old) key pointer ∷ []
   pub same_member : IsSameMember old.member new.member
-  pub same_places : new.claim.table_id ≡ old.claim.table_id
+
+-- why a put is refused: the session has no row for a replacement; or the key was absent, and the session lacks what an insertion may
+-- need
+abbrev pub CannotPut : Map → ℕ → ℕ → Session → Session → Type 0
+CannotPut map key pointer old new = LacksRoomInAll (Replace key pointer) new ⊎ (WasAbsent map key old new × LacksRoomInAll (Insert key pointer) new)
 
 -- the session has put the pointer; or it has changed nothing, and was refused or is to try again
 abbrev pub IsTried : Map → ℕ → ℕ → Session → Session → Option (Result (Option ℕ) Full) → Type 0
 IsTried map key pointer old new None = HasTried old new
-IsTried map key pointer old new (Some (Err full)) = HasTried old new × IsShortOfRoom key pointer new × LacksRoomInAll (Insert key pointer) new
+IsTried map key pointer old new (Some (Err full)) = HasTried old new × IsShortOfRoom key pointer new × LacksRoomInAll (Insert key pointer) new × CannotPut map key pointer old new
 IsTried map key pointer old new (Some (Ok was)) = IsPut map key pointer old new was

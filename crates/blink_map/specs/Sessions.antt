@@ -1,5 +1,5 @@
 -- A map and its sessions, as contracts see them.
-use Rattle.std.specs.Prelude.{◌≡◌, ◌≢◌, ℕ, ◌+◌, ◌≤◌, ◌<◌, Option, List, [], ◌∷◌, ◌++◌, length, All, AllPairs}
+use Rattle.std.specs.Prelude.{◌≡◌, ℕ, ◌+◌, ◌≤◌, ◌<◌, Option, List, [], ◌∷◌, ◌++◌, length}
 use mathlib.Core.List.{IsPrefix}
 use Rattle.blink_batch.specs.declared.Answer.{Answer}
 use Rattle.blink_batch.specs.declared.Entry.{Entry}
@@ -13,7 +13,6 @@ use Rattle.blink_live.specs.declared.view.Change.{Change}
 use Rattle.blink_live.specs.Allowed.{length_of}
 use Rattle.blink_live.specs.Changes.{after, changes_made}
 use Rattle.blink_live.specs.Handles.{opening_of as opening_of_table}
-use Rattle.blink_live.specs.Accounts.{HaveAuthors, made_at}
 use Rattle.blink_live.specs.Shelves.{HasSpaceFor, free_in, rows_on}
 use Rattle.blink_live.specs.Views.{pages_of, rows_of}
 use Rattle.blink_map.specs.declared.map.Map.{Map}
@@ -35,7 +34,6 @@ places_of map = map.live.places
 -- the session is one of this map's
 pub record IsSessionOf (map : Map) (session : Session) : Type 0 where
   pub member : IsMemberOf map.live session.member
-  pub same_places : session.claim.table_id ≡ map.places.shared.table_id
 
 abbrev pub seen_of_member : Member → List Change
 seen_of_member member = member.seat.me.0.seen
@@ -93,8 +91,8 @@ pub record IsSameBesideSeen (old new : Session) : Type 0 where
   pub made : made_by new ≡ made_by old
   pub rows : new.member.rows ≡ old.member.rows
   pub pages : new.member.pages ≡ old.member.pages
+  pub shelf : new.member.shelf ≡ old.member.shelf
   pub same_member : IsSameMember old.member new.member
-  pub same_places : new.claim.table_id ≡ old.claim.table_id
 
 -- the session is as it was
 pub record IsSameSession (old new : Session) : Type 0 where
@@ -102,8 +100,8 @@ pub record IsSameSession (old new : Session) : Type 0 where
   pub made : made_by new ≡ made_by old
   pub rows : new.member.rows ≡ old.member.rows
   pub pages : new.member.pages ≡ old.member.pages
+  pub shelf : new.member.shelf ≡ old.member.shelf
   pub same_member : IsSameMember old.member new.member
-  pub same_places : new.claim.table_id ≡ old.claim.table_id
 
 -- what an operation of a member has answered: there is a list of changes that goes on from all that the member had seen. The answer
 -- is that of the operation on the opening entries after this list, and the operation's own change follows the list at once. The
@@ -119,7 +117,6 @@ pub record AnswersInOrder (opening : List Entry) (op : Op) (old new : Member) (a
 pub record IsAnswered (map : Map) (op : Op) (old new : Session) (answer : Answer) : Type 0 where
   pub in_order : AnswersInOrder (opening_of map) op old.member new.member answer
   pub same_member : IsSameMember old.member new.member
-  pub same_places : new.claim.table_id ≡ old.claim.table_id
 
 -- these are the answers to these keys, one after another, of a session that had seen `old` and has seen `new` now: each is what the
 -- opening entries say of its key after all that the session had seen by then
@@ -139,9 +136,8 @@ pub record IsSameBesideRoom (old new : Session) : Type 0 where
   pub seen : seen_by new ≡ seen_by old
   pub made : made_by new ≡ made_by old
   pub same_member : IsSameMember old.member new.member
-  pub same_places : new.claim.table_id ≡ old.claim.table_id
 
--- ---- how a map opens and closes
+-- ---- how a map opens
 
 -- the map is over this index, with such room
 pub record IsOpenedWith (store : PlainStore) (room : Room) (map : Map) : Type 0 where
@@ -149,20 +145,8 @@ pub record IsOpenedWith (store : PlainStore) (room : Room) (map : Map) : Type 0 
   pub same_fan : map.live.fan ≡ store.fan
   pub numbers : map.live.counts.numbers ≡ 1 + length store.pages + room.pages
   pub rows : map.live.counts.rows ≡ 1 + length store.pages + room.rows
-  pub sessions : map.places.shared.table_id.slots ≡ room.sessions
   pub places : places_of map ≡ room.sessions
 
 -- the index needs more page numbers than there are
 abbrev pub IsTooLarge : ℕ → Room → Type 0
 IsTooLarge count room = MAX_PAGE < count + room.pages
-
--- the entries are the opening ones after one list of changes, which goes on from all that each of these sessions had seen. Each
--- change was made at one of the map's places: at those of these sessions, no two of which have one place, exactly what is counted
--- as theirs
-pub record IsClosedWith (map : Map) (sessions : List Session) (entries : List Entry) : Type 0 where
-  pub final : List Change
-  pub saw : All (λ (session : Session). IsPrefix (seen_by session) final) sessions
-  pub authors : HaveAuthors (places_of map) final
-  pub made : All (λ (session : Session). made_at (place_of session) final ≡ made_by session) sessions
-  pub apart : AllPairs (λ (one other : Session). place_of one ≢ place_of other) sessions
-  pub kept : (key : ℕ) → pointer_of entries key ≡ after (pointer_of (opening_of map)) final key

@@ -9,4 +9,5 @@ pub record IsStill (old new : Member) : Type 0 where
   pub made : made_by_member new ≡ made_by_member old
   pub rows : new.rows ≡ old.rows
   pub pages : new.pages ≡ old.pages
+  pub shelf : new.shelf ≡ old.shelf
   pub same_member : IsSameMember old new

@@ -29,8 +29,9 @@ impl Map {
     /// Begins an insertion: what `insert` does, with no wait. The call reads the tree down to the key's leaf. It takes no memory,
     /// waits for nobody, and returns. The insertion goes on by `advance`.
     ///
-    /// The call refuses as `insert` does, and gives the session back. But it doesn't wait: it refuses also where the session's rows
-    /// are on their way back, or its shelf is full. Then a later call may be let through.
+    /// The call refuses as `insert` does, and gives the session back. But it looks no key up before, and it doesn't wait: it refuses
+    /// also where the key is there, and where the session's rows are on their way back, or its shelf is full. Then a later call may
+    /// be let through.
     pub fn begin_insert(
         &self,
         session: Session,
@@ -127,12 +128,7 @@ impl Map {
         ensures goes_on { IfErr result (GoesOn self.now pending) }
         ensures waits { IfErr result (λ pending. IsWaiting pending.now.machine) }
     {
-        let Pending {
-            mut now,
-            claim,
-            place,
-            begun,
-        } = pending;
+        let Pending { mut now, begun } = pending;
         now.wake(&self.live);
         let mut machine = now.machine.resume();
         match self
@@ -142,22 +138,13 @@ impl Map {
             Some(answer) => {
                 let mut member = now.end(&self.live, &machine);
                 member.recycle(&self.live, BATCH_ROWS);
-                let session = Session {
-                    member,
-                    claim,
-                    place,
-                };
+                let session = Session { member };
                 Ok((session, answer))
             }
             None => {
                 now.machine = machine.rest();
                 now.rest(&self.live);
-                Err(Pending {
-                    now,
-                    claim,
-                    place,
-                    begun,
-                })
+                Err(Pending { now, begun })
             }
         }
     }
@@ -172,26 +159,13 @@ impl Map {
         ensures unchanged { IfErr result (λ refused. IsSameBesideRoom session refused.0) }
     {
         let begun = Snapshot::of(&session);
-        let Session {
-            mut member,
-            claim,
-            place,
-        } = session;
+        let Session { mut member } = session;
         if !member.draw(&self.live, op) {
-            let session = Session {
-                member,
-                claim,
-                place,
-            };
+            let session = Session { member };
             return Err((session, Full));
         }
         let now = member.begin(&self.live, op);
-        Ok(Pending {
-            now,
-            claim,
-            place,
-            begun,
-        })
+        Ok(Pending { now, begun })
     }
 }
 

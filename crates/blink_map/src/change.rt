@@ -4,17 +4,18 @@ ghost use Rattle.blink_batch.specs.{FitsWords};
 ghost use Rattle.blink_batch.specs.declared.Op.{Op};
 ghost use Rattle.blink_batch.specs.declared.Op.TheVariants.{Delete, DeleteExact, Exchange, Insert, Replace};
 ghost use Rattle.blink_machine.specs.{IsUpdate};
-ghost use Rattle.blink_machine.specs.declared.machine.State.TheVariants.{Ended};
+ghost use Rattle.blink_live.specs.declared.descent.Changed.{Changed};
 ghost use Rattle.blink_live.specs.GivingBack.{CanGiveBack, gives_back};
-ghost use Rattle.blink_live.specs.Accounts.{HasSeenItsOwn};
+ghost use Rattle.blink_live.specs.Accounts.{KnowsAuthors};
 ghost use Rattle.blink_live.specs.Pendings.{IsWaiting};
 ghost use Rattle.blink_live.specs.Seats.{HasSameNumber, IsPassSeat};
 ghost use Rattle.blink_live.specs.Views.{is_busy, pages_of, rows_of, rows_taken, span};
 ghost use Rattle.blink_live.specs.Allowed.{length_of};
 ghost use Rattle.blink_live.specs.Shelves.{HasSpaceFor, free_in, rows_on};
 ghost use Rattle.blink_map.specs.declared.member.Member.{Member};
-ghost use Rattle.blink_map.specs.Changing.{HasChanged, HasDrawn, HasSetOut};
+ghost use Rattle.blink_map.specs.Changing.{HasChanged, HasComeOut, HasDrawn, HasSetOut};
 ghost use Rattle.blink_map.specs.Places.{IsMemberOf};
+ghost use Rattle.blink_map.specs.Putting.{HasTried, WasAbsent};
 ghost use Rattle.blink_map.specs.Sessions.{HasRoom, HasRoomInAll, IsAnswered, IsSameBesideRoom, IsSessionOf, LacksRoom, LacksRoomInAll};
 
 use crate::error::Full;
@@ -25,8 +26,8 @@ use crate::recycle::{free_rows, recycle};
 use crate::steps::{give_back, mark_place};
 use atomic_table::Seat;
 use blink_batch::{Answer, Op};
-use blink_live::{Live, Room, Shelf, View};
-use blink_machine::Machine;
+use blink_live::{Changed, Live, Room, Shelf, View};
+use blink_machine::Resting;
 use blink_page::MAX_NEW_PAGES_PER_INSERT;
 use blink_rows::{MAX_ROWS_PER_INSERT, Span};
 use std::sync::Wait;
@@ -34,6 +35,9 @@ use std::{hint, thread};
 
 // What each session puts into the latch words of pages.
 const LATCH: u64 = 1;
+
+// How often a call that may wait tries a latch at once that another session has, before its operation rests.
+const SPINS: u32 = 8;
 
 // The number of rows that a session draws at once, and of page numbers.
 const ROW_CHUNK: u64 = 1024;
@@ -52,9 +56,10 @@ impl Map {
     /// It waits for a page's latch that another session has, for a new root that another session is about to make, and, where the
     /// session is short of rows and the pool too, for those that its changes have taken out and other sessions may still read.
     ///
-    /// The call is refused if the session has fewer than 44 rows in all, those that are on their way back too, or fewer than 22 page
-    /// numbers, and the pool can't give them. Then it changes nothing, but for what the session has drawn. The refusal lasts: no
-    /// row or page number comes back to the session later.
+    /// The call is refused if the key is absent, and the session has fewer than 44 rows in all, those that are on their way back too,
+    /// or fewer than 22 page numbers, and the pool can't give them. Then it changes nothing, but for what the session has drawn, and
+    /// the session may have seen more. The shortage lasts: no row or page number comes back to the session later. A key that is
+    /// there is answered `Exists` all the same.
     pub fn insert<R: Wait>(
         &self,
         rt: &R,
@@ -66,9 +71,16 @@ impl Map {
         ensures answered { IfOk result (IsAnswered self.now (Insert key pointer) session.old session.new) }
         ensures full { OnErr result (LacksRoom (Insert key pointer) session.old session.new) }
         ensures in_all { OnErr result (LacksRoomInAll (Insert key pointer) session.new) }
-        ensures unchanged { OnErr result (IsSameBesideRoom session.old session.new) }
+        ensures absent { OnErr result (WasAbsent self.now key session.old session.new) }
+        ensures unchanged { OnErr result (HasTried session.old session.new) }
     {
-        self.change(rt, session, Op::Insert(key, pointer))
+        match self.change(rt, session, Op::Insert(key, pointer)) {
+            Ok(answer) => Ok(answer),
+            Err(full) => match self.find(session, key) {
+                Some(there) => Ok(Answer::Exists(there)),
+                None => Err(full),
+            },
+        }
     }
 
     /// Removes a key. It answers `Removed` with the key's pointer, or `Absent`. The call takes no memory. It waits for a page's
@@ -162,11 +174,7 @@ impl Map {
         ensures in_all { OnErr result (LacksRoomInAll op session.new) }
         ensures unchanged { OnErr result (IsSameBesideRoom session.old session.new) }
     {
-        let Session {
-            member,
-            claim: _,
-            place: _,
-        } = session;
+        let Session { member } = session;
         if !member.wait_for_room(rt, &self.live, op) {
             return Err(Full);
         }
@@ -181,7 +189,7 @@ impl Member {
     // member has taken out and that come back, and while it does its place isn't marked.
     fn wait_for_room<R: Wait>(&mut self, rt: &R, live: &Live, op: Op) -> bool
         requires its_own { IsMemberOf live.now self.old }
-        ensures drawn { HasDrawn self.old self.new }
+        ensures drawn { HasDrawn (rows_of op) (pages_of op) self.old self.new }
         ensures enough { IsTrue result → HasRoom op self.new }
         ensures lacks { ¬ IsTrue result → (¬ HasRoom op self.old) × (¬ HasRoom op self.new) }
         ensures in_all { ¬ IsTrue result → ¬ HasRoomInAll op self.new }
@@ -199,11 +207,10 @@ impl Member {
     }
 
     // Where the member hasn't the room that the operation may need, it takes back the rows that have come back, and draws from the
-    // pool what it still lacks. Returns whether it has the room then. What it had left before of its page numbers is lost where it
-    // draws others.
+    // pool what it still lacks. Returns whether it has the room then.
     pub(crate) fn draw(&mut self, live: &Live, op: Op) -> bool
         requires its_own { IsMemberOf live.now self.old }
-        ensures drawn { HasDrawn self.old self.new }
+        ensures drawn { HasDrawn (rows_of op) (pages_of op) self.old self.new }
         ensures enough { IsTrue result → HasRoom op self.new }
         ensures lacks { ¬ IsTrue result → (¬ HasRoom op self.old) × (¬ HasRoom op self.new) }
     {
@@ -224,7 +231,7 @@ impl Member {
     // a call that is in progress elsewhere, and ends soon, refuses no operation that mustn't wait.
     fn catch_up(&mut self, live: &Live, op: Op) -> bool
         requires its_own { IsMemberOf live.now self.old }
-        ensures drawn { HasDrawn self.old self.new }
+        ensures drawn { HasDrawn 0 0 self.old self.new }
         ensures enough { IsTrue result → HasRoom op self.new }
         ensures lacks { ¬ IsTrue result → ¬ HasRoom op self.new }
     {
@@ -241,7 +248,7 @@ impl Member {
     // Brings rows that the member's changes have taken out nearer to its free ones. At least `least` rows begin to wait together.
     pub(crate) fn recycle(&mut self, live: &Live, least: usize)
         requires its_own { IsMemberOf live.now self.old }
-        ensures drawn { HasDrawn self.old self.new }
+        ensures drawn { HasDrawn 0 0 self.old self.new }
         ensures rows { self.new.rows ≡ self.old.rows }
         ensures pages { self.new.pages ≡ self.old.pages }
     {
@@ -262,7 +269,7 @@ impl Member {
     // the shelf before, so that the draw loses none.
     fn draw_rows(&mut self, live: &Live, least: u64)
         requires its_own { IsMemberOf live.now self.old }
-        ensures { HasDrawn self.old self.new }
+        ensures { HasDrawn least 0 self.old self.new }
     {
         let has = self.rows.len().saturating_add(free_in(&self.shelf));
         let quota = quota_of(&self.shelf).saturating_sub(self.rows.len());
@@ -281,6 +288,9 @@ impl Member {
         if let Some(shelf) = shelf.as_mut() {
             free_rows(live, seat, rows, shelf);
         }
+        if rows.next < rows.stop {
+            return;
+        }
         let need = lacking_on(shelf, least).max(1).min(most);
         if let Some(drawn) = draw_rows(live, seat, need, most) {
             *rows = drawn;
@@ -291,7 +301,7 @@ impl Member {
     fn draw_pages(&mut self, live: &Live, least: u64)
         requires its_own { IsMemberOf live.now self.old }
         requires few { least ≤ PAGE_CHUNK }
-        ensures { HasDrawn self.old self.new }
+        ensures { HasDrawn 0 least self.old self.new }
     {
         let Member {
             seat,
@@ -302,7 +312,7 @@ impl Member {
             mark: _,
         } = self;
         if pages.len() < least {
-            if let Some(drawn) = draw_pages(live, seat, least, PAGE_CHUNK) {
+            if let Some(drawn) = draw_pages(live, seat, *pages, least, PAGE_CHUNK) {
                 *pages = drawn;
             }
         }
@@ -345,9 +355,8 @@ impl Member {
         } = self;
         mark_place(live, seat, *place, next_mark(mark));
         let mut room = room_of(op, rows, pages, shelf.take());
-        let mut machine = Machine::new(op, live.fan());
-        live.set_out(seat, &mut machine, &room, op);
-        let answer = to_end(rt, live, seat, *place, mark, &mut machine, &mut room);
+        let changed = live.change_by(seat, &mut room, op, SPINS);
+        let answer = end_of(rt, live, seat, *place, mark, changed, &mut room);
         come_back(live, seat, *place);
         rows.next = room.rows.next;
         pages.next = room.pages.next;
@@ -438,27 +447,52 @@ pub(crate) fn room_of(op: Op, rows: &Span, pages: &Span, shelf: Option<Shelf>) -
     }
 }
 
-// Takes steps of the operation until it has ended, and returns its answer. The operation rests between its tries.
+// The answer of an operation, which goes on to its end where it rests.
+fn end_of<R: Wait>(
+    rt: &R,
+    live: &Live,
+    seat: &mut Seat<u8, View>,
+    place: u64,
+    mark: &mut u64,
+    changed: Changed,
+    room: &mut Room,
+) -> Answer
+    requires came { (op : Op) × (old : Member) × IsMemberOf live.now old
+        × HasComeOut live.now op old seat.old room.old changed
+        × (place ≡ old.place) }
+    ensures { (op : Op) (old : Member) → HasComeOut live.now op old seat.old room.old changed
+        → HasComeOut live.now op old seat.new room.new (Changed.Ended result) }
+{
+    match changed {
+        Changed::Ended(answer) => answer,
+        Changed::Rests(resting) => to_end(rt, live, seat, place, mark, &resting, room),
+    }
+}
+
+// Takes steps of an operation that rests until it has ended, and returns its answer. The operation rests between its tries. The
+// function is out of line, so that only an operation that waits clears room for a machine.
+#[cold]
+#[inline(never)]
 fn to_end<R: Wait>(
     rt: &R,
     live: &Live,
     seat: &mut Seat<u8, View>,
     place: u64,
     mark: &mut u64,
-    machine: &mut Machine,
+    resting: &Resting,
     room: &mut Room,
 ) -> Answer
     requires set_out { (op : Op) × (old : Member) × IsMemberOf live.now old
-        × HasSetOut live.now op old seat.old machine.old room.old
+        × HasSetOut live.now op old seat.old resting.now room.old
         × (place ≡ old.place) }
-    requires waits { IsWaiting machine.old }
-    ensures set_out { (op : Op) (old : Member)
-        → HasSetOut live.now op old seat.old machine.old room.old
-        → HasSetOut live.now op old seat.new machine.new room.new }
-    ensures ended { (machine.new.state ≡ Ended) × (machine.new.answer ≡ Some result) }
+    requires waits { IsWaiting resting.now }
+    ensures { (op : Op) (old : Member)
+        → HasSetOut live.now op old seat.old resting.now room.old
+        → HasComeOut live.now op old seat.new room.new (Changed.Ended result) }
 {
+    let mut machine = resting.resume();
     for _ in rt.forever() {
-        if let Some(answer) = live.take_steps(seat, machine, room, 1) {
+        if let Some(answer) = live.take_steps(seat, &mut machine, room, 1) {
             return answer;
         }
         mark_place(live, seat, place, REST);
@@ -476,7 +510,7 @@ pub(crate) fn come_back(live: &Live, seat: &mut Seat<u8, View>, place: u64)
     requires place { (place ≡ seat.old.me.0.place) × (place < live.now.places) }
     ensures same { HasSameNumber seat.old seat.new }
     ensures idle { seat.new.me ≡ (is_busy (gives_back seat.old.me.0) 0, seat.old.me.1) }
-    ensures saw_own { HasSeenItsOwn seat.new.me.0 }
+    ensures authors { KnowsAuthors seat.new.me.0 }
 {
     give_back(live, seat);
     mark_place(live, seat, place, 0);

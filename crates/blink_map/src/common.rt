@@ -2,11 +2,9 @@
 ghost use Rattle.std.specs.Prelude.{◌≡◌, ◌+◌, ◌<◌, ◌≤◌, ◌++◌, ◌∷◌, ◌*◌, ℕ, List, IfOk, IsTrue, drop, length, replicate, set, slice_index};
 ghost use Rattle.std.specs.Mem.Slots.{slots_items, slots_len, IsFull};
 ghost use mathlib.Core.List.{IsPrefix};
-ghost use Rattle.blink_index.specs.{map_of};
 ghost use Rattle.blink_page.specs.declared.limits.TheConstants.{MAX_PAGE};
 ghost use Rattle.blink_map.specs.Common.{HasAllChanges, IsOpenedCommon, IsHost};
-ghost use Rattle.blink_live.specs.Gathered.{IsNumberedInOrder};
-ghost use Rattle.blink_live.specs.Handles.{fan_of};
+ghost use Rattle.blink_map.specs.Receipts.{seen_in};
 ghost use Rattle.blink_live.specs.Laid.{IsLaid};
 ghost use Rattle.blink_live.specs.Accounts.{account_of};
 ghost use Rattle.blink_live.specs.Seats.{HasSameNumber, IsIdleIn, IsPassSeat};
@@ -14,12 +12,12 @@ ghost use Rattle.blink_live.specs.Views.{plan_of, takes_account};
 ghost use Rattle.blink_live.specs.declared.view.Role.TheVariants.{Pass};
 ghost use Rattle.blink_live.specs.Words.{place_word, pool_page, pool_row, word_count};
 
-use crate::steps::host_looks_up;
+use crate::map::Receipt;
+use crate::settled::Settled;
+use crate::steps::{hear, host_looks_up};
 use atomic_table::{Closed, Seat, Table};
 use blink_index::Index;
-use blink_live::{
-    InvariantOfTree, Live, Opened, Planned, TakeAccount, View, lay_tree, tree_at_end, word_count,
-};
+use blink_live::{InvariantOfTree, Live, Opened, Planned, TakeAccount, View, lay_tree, word_count};
 use blink_rows::Counts;
 use blink_store::Store;
 use std::alloc::{AllocError, Global};
@@ -40,15 +38,6 @@ pub(crate) struct Extent {
     pub pages: u32,
     pub rows: u32,
     pub places: u32,
-}
-
-/// Why a common table can't be closed.
-#[derive(Clone, Copy)]
-pub(crate) enum CloseRefusal {
-    /// A session has an operation under way.
-    UnderWay,
-    /// Memory was refused.
-    OutOfMemory,
 }
 
 /// Opens a common table over the index's tree, and returns it with the seat of its host, which has all rows and page numbers
@@ -111,20 +100,27 @@ fn take_account<B: Planned>(live: &Live, host: &mut Seat<u8, View>, seat: Seat<u
     live.table.shared.join_seat::<TakeAccount<B>>(host, seat);
 }
 
-/// Closes a common table, and returns the index of its tree, with its pages numbered anew. The entries are the opening ones
-/// after one list of changes, which goes on from all that the host's seat has seen. Each change was made at one of the places,
-/// and of each account that the host has taken the list has exactly the changes.
-///
-/// The table is given up either way.
-pub(crate) fn close_common(
-    live: Live,
-    alloc: Global,
-    seat: Seat<u8, View>,
-) -> Result<Index, CloseRefusal>
+/// The host's seat has heard then all that is in the receipt.
+pub(crate) fn hear_receipt(live: &Live, host: &mut Seat<u8, View>, receipt: Receipt)
+    requires host { IsHost live.now host.old }
+    requires its_own { receipt.note.table_id ≡ live.now.table.shared.table_id }
+    ensures host { IsHost live.now host.new }
+    ensures saw { IsPrefix host.old.me.0.seen host.new.me.0.seen }
+    ensures heard { IsPrefix (seen_in receipt) host.new.me.0.seen }
+    ensures same_accounts { host.new.me.0.accounts ≡ host.old.me.0.accounts }
+{
+    let Receipt { note, place: _ } = receipt;
+    hear::<Brand>(live, host, note);
+    host_looks_up(live, host);
+}
+
+/// Closes a common table. It has one list of changes for good, which goes on from all that the host's seat has seen. Each change was
+/// made at one of the places, and of each account that the host has taken the list has exactly the changes.
+pub(crate) fn settle_common(live: Live, seat: Seat<u8, View>) -> Settled
     requires host { IsHost live seat }
-    ensures fan { IfOk result (λ index. index.fan ≡ fan_of live) }
-    ensures entries { IfOk result (λ index. HasAllChanges live seat (map_of index)) }
-    ensures numbered { IfOk result IsNumberedInOrder }
+    ensures changes { HasAllChanges live seat result }
+    ensures fan { result.fan ≡ live.fan }
+    ensures counts { result.counts ≡ live.counts }
 {
     let Live {
         table,
@@ -133,15 +129,11 @@ pub(crate) fn close_common(
         places,
     } = live;
     let closed = table.close_with(seat);
-    if !are_idle(&closed, &counts, places) {
-        closed.free();
-        return Err(CloseRefusal::UnderWay);
-    }
-    let tree = tree_at_end(alloc, &closed, &counts, fan);
-    closed.free();
-    match tree {
-        Ok(rest) => Ok(Index::from_rest(rest)),
-        Err(_) => Err(CloseRefusal::OutOfMemory),
+    Settled {
+        closed,
+        counts,
+        places,
+        fan,
     }
 }
 
@@ -210,8 +202,8 @@ fn lay_front(words: &mut [u64], counts: &Counts, store: &Store)
     lay_tree(&mut words[..front], counts, store);
 }
 
-// Whether the word of each place is 0.
-fn are_idle(closed: &Closed<u8, Global>, counts: &Counts, places: u64) -> bool
+/// Whether the word of each place is 0.
+pub(crate) fn are_idle(closed: &Closed<u8, Global>, counts: &Counts, places: u64) -> bool
     requires full { IsFull closed.now.words }
     requires width { slots_len closed.now.words ≡ word_count counts.now + 8 * places }
     ensures { IsTrue result → (place : ℕ) → place < places

@@ -4,10 +4,10 @@ ghost use Rattle.blink_map.specs.Codes.{code_of};
 
 use thiserror::Error;
 
-/// Why a map can't be opened, joined or closed.
+/// Why a map can't be opened or joined, or a settled one gives no index.
 #[derive(Clone, Copy, Debug, PartialEq, Eq, Error)]
 pub enum MapError {
-    /// Memory was refused when a map was to be opened or closed.
+    /// Memory was refused when a map was to be opened, or an index to be made of it.
     #[error("out of memory")]
     OutOfMemory,
     /// The map needs more page numbers than there are.
@@ -16,7 +16,7 @@ pub enum MapError {
     /// A map has 1 to 256 sessions.
     #[error("1 to 256 sessions")]
     Sessions,
-    /// All places for sessions are taken.
+    /// No session rests at any place.
     #[error("no place")]
     NoPlace,
     /// An operation is under way in a session.
@@ -30,7 +30,7 @@ impl MapError {
         ensures { result ≡ code_of self.now }
     {
         match self {
-            MapError::OutOfMemory => 100,
+            MapError::OutOfMemory => 41,
             MapError::TooLarge => 101,
             MapError::Sessions => 102,
             MapError::NoPlace => 103,

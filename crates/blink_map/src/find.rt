@@ -22,11 +22,7 @@ impl Map {
         ensures state { result ≡ after (pointer_of (opening_of self.now)) (seen_by session.new) key }
         ensures same { IsSameBesideSeen session.old session.new }
     {
-        let Session {
-            member,
-            claim: _,
-            place: _,
-        } = session;
+        let Session { member } = session;
         member.look(&self.live, key)
     }
 }

@@ -22,11 +22,7 @@ impl Map {
             keys.now answers.new (seen_by session.new) }
         ensures same { IsSameBesideSeen session.old session.new }
     {
-        let Session {
-            member,
-            claim: _,
-            place: _,
-        } = session;
+        let Session { member } = session;
         member.look_over(&self.live, keys, answers);
     }
 }

@@ -2,7 +2,7 @@
 //! while an operation is under way.
 ghost use Rattle.std.specs.Prelude.{◌≡◌, ◌≢◌, ◌<◌, ◌≤◌, [], None};
 ghost use Rattle.blink_live.specs.declared.view.Role.TheVariants.{Pass};
-ghost use Rattle.blink_live.specs.Accounts.{HasSeenItsOwn};
+ghost use Rattle.blink_live.specs.Accounts.{KnowsAuthors};
 ghost use Rattle.blink_live.specs.Shelves.{IsShelved, IsShelved-prop};
 ghost use Rattle.blink_live.specs.Views.{IsCommon};
 
@@ -33,7 +33,7 @@ pub(crate) struct Member {
     ghost none_told: { seat.me.0.told ≡ [] },
     ghost idle: { seat.me.0.operation ≡ None },
     ghost rests: { seat.me.0.busy ≡ 0 },
-    ghost saw_own: { HasSeenItsOwn seat.me.0 },
+    ghost authors: { KnowsAuthors seat.me.0 },
     ghost no_slot: { seat.me.1 ≡ [] },
     ghost shelved: { IsShelved shelf seat.me.0 } by { IsShelved-prop shelf seat.me.0 },
 }
@@ -57,8 +57,9 @@ pub(crate) const REST: u64 = 1;
 // The least mark of a session at work.
 const WORK: u64 = 2;
 
-/// The mark for a session that begins to work. It is another one than the last, so that whoever looks at the place twice sees that
-/// the session has ended what it read.
+/// The mark for a session that begins to work. It is another one than the last. Another session whose rows wait looks at each place
+/// twice: where it finds two marks, this session has ended the call that may read the rows. Were the mark the same in each call, the
+/// rows would wait for as long as this session makes one call after another.
 pub(crate) fn next_mark(mark: &mut u64) -> u64
     ensures works { 2 ≤ result }
     ensures other { result ≢ mark.old }

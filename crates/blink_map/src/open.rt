@@ -1,19 +1,17 @@
 //! Opening a map over an index.
-ghost use Rattle.std.specs.Prelude.{◌≡◌, ◌⊎◌, ◌↔◌, ◌+◌, ◌++◌, ◌<◌, ◌≤◌, [], ◌∷◌, Some, replicate, IfErr, IfOk, OnOk, IsErrOf, length};
+ghost use Rattle.std.specs.Prelude.{◌≡◌, ◌⊎◌, ◌↔◌, ◌+◌, ◌++◌, ◌<◌, ◌≤◌, [], ◌∷◌, All, IfErr, IfOk, OnOk, IsErrOf, length};
 ghost use Rattle.blink_map.specs.Common.{IsHost};
 ghost use Rattle.blink_live.specs.Shelves.{stock_of};
 ghost use Rattle.blink_live.specs.Views.{no_stock};
-ghost use Rattle.blink_map.specs.Opening.{AreMembers, IsHostWith};
-ghost use Rattle.blink_map.specs.Places.{IsMemberOf};
-ghost use Rattle.blink_map.specs.Sessions.{IsOpenedWith, IsTooLarge};
+ghost use Rattle.blink_map.specs.Opening.{AreFirst, AreFirstSessions, IsFirstAt, IsHostWith};
+ghost use Rattle.blink_map.specs.Sessions.{IsSessionOf, IsOpenedWith, IsTooLarge};
 
 use crate::common::{Extent, open_common};
 use crate::error::MapError;
-use crate::map::{Map, Room};
+use crate::map::{Map, Room, Session};
 use crate::member::Member;
-use crate::places::{Claim, RuleOfPlaces, Stand};
-use crate::rest::lay_host;
-use atomic_table::{Seat, Table};
+use crate::rest::{Stand, lay_host};
+use atomic_table::Seat;
 use blink_index::Index;
 use blink_live::{Dealt, Live, Shelf, View};
 use blink_page::MAX_PAGE;
@@ -32,13 +30,17 @@ const MOST_ROWS: u32 = 4096;
 const LEAST_ROWS: u32 = MAX_ROWS_PER_INSERT as u32;
 
 impl Map {
-    /// Opens a map over the index's tree. The index stays as it is. Sessions draw the rows and page numbers of `room` from a pool.
-    /// Half of the rows are the sessions' in equal parts, of 44 rows at least and 4,096 at most. The others are for pages to come.
+    /// Opens a map over the index's tree, and returns it with its sessions, one for each place, in the order of their places. The
+    /// index stays as it is. Nobody has seen a change of the new map, or made one. Sessions draw the rows and page numbers of `room`
+    /// from a pool. Half of the rows are the sessions' in equal parts, of 44 rows at least and 4,096 at most. The others are for
+    /// pages to come.
     ///
     /// The call refuses with `Sessions` exactly if there are to be none or more than 256; then with `TooLarge`, before it asks for
     /// memory, exactly if there aren't so many page numbers. It refuses with `OutOfMemory`, if memory was refused.
-    pub fn open(alloc: Global, index: &Index, room: Room) -> Result<Map, MapError>
-        ensures opened { IfOk result (IsOpenedWith index.now room) }
+    pub fn open(alloc: Global, index: &Index, room: Room) -> Result<(Map, Vec<Session>), MapError>
+        ensures opened { IfOk result (λ opened. IsOpenedWith index.now room opened.0) }
+        ensures dealt { IfOk result (λ opened. AreFirstSessions opened.0 opened.1.items) }
+        ensures its_own { IfOk result (λ opened. All (IsSessionOf opened.0) opened.1.items) }
         ensures sessions { IsErrOf result MapError.Sessions
             ↔ ((room.sessions ≡ 0) ⊎ (256 < room.sessions)) }
         ensures too_large { IsErrOf result MapError.TooLarge
@@ -60,24 +62,16 @@ impl Map {
         let Ok((live, mut host)) = open_common(alloc, index, extent) else {
             return Err(MapError::OutOfMemory);
         };
-        let Ok(members) = members(alloc, &live, &mut host, room.sessions, quota_of(&room)) else {
-            return Err(MapError::OutOfMemory);
-        };
-        let Ok(words) = zeros(alloc, room.sessions) else {
+        let Ok(sessions) = sessions(alloc, &live, &mut host, room.sessions, quota_of(&room)) else {
             return Err(MapError::OutOfMemory);
         };
         let stand = Stand {
             live: Snapshot::of(&live),
         };
-        let Ok((places, _first)) = Table::<Option<Member>, Claim, Stand, RuleOfPlaces, Global>::new(
-            alloc, &words, members, &stand,
-        ) else {
-            return Err(MapError::OutOfMemory);
-        };
         let Ok(host) = lay_host(alloc, &stand, host) else {
             return Err(MapError::OutOfMemory);
         };
-        Ok(Map { live, host, places })
+        Ok((Map { live, host }, sessions))
     }
 }
 
@@ -88,29 +82,29 @@ fn quota_of(room: &Room) -> u32
     (room.rows / 2 / room.sessions).clamp(LEAST_ROWS, MOST_ROWS)
 }
 
-// Deals the members of all places. None has a row or a page number yet. Its shelf has room for so many rows as the member may have,
-// and for those that one operation takes out beside.
-fn members(
+// Deals the sessions of all places. None has a row or a page number yet. Its shelf has room for so many rows as the session may
+// have, and for those that one operation takes out beside.
+fn sessions(
     alloc: Global,
     live: &Live,
     host: &mut Seat<u8, View>,
-    sessions: u32,
+    count: u32,
     quota: u32,
-) -> Result<Vec<Option<Member>>, AllocError>
+) -> Result<Vec<Session>, AllocError>
     requires host { IsHostWith live.now host.old 0 }
-    requires places { live.now.places ≡ sessions }
+    requires places { live.now.places ≡ count }
     ensures host { IsHost live.now host.new }
-    ensures members { IfOk result (λ members. AreMembers live.now sessions members.items) }
+    ensures sessions { IfOk result (λ sessions. AreFirst live.now count sessions.items) }
 {
-    let mut members = Vec::with_capacity(alloc, sessions as usize)?;
-    for place in 0..u64::from(sessions) {
-        let shelf = shelf_with_room(alloc, room_for(quota), sessions as usize)?;
+    let mut sessions = Vec::with_capacity(alloc, count as usize)?;
+    for place in 0..u64::from(count) {
+        let shelf = shelf_with_room(alloc, room_for(quota), count as usize)?;
         let member = admit::<Brand>(live, host, place, shelf);
-        let Ok(()) = push(&mut members, member) else {
+        let Ok(()) = push(&mut sessions, Session { member }) else {
             return Err(AllocError);
         };
     }
-    Ok(members)
+    Ok(sessions)
 }
 
 // An empty shelf with room for so many rows of each kind, and for the marks of so many places.
@@ -131,18 +125,11 @@ fn room_for(quota: u32) -> usize {
     quota as usize + LEAST_ROWS as usize
 }
 
-// So many words of free places.
-fn zeros(alloc: Global, count: u32) -> Result<Vec<u64>, AllocError>
-    ensures { IfOk result (λ words. words.items ≡ replicate count 0) }
+// Adds a session at the end.
+fn push(sessions: &mut Vec<Session>, session: Session) -> Result<(), AllocError>
+    ensures { OnOk result (sessions.new.items ≡ sessions.old.items ++ session ∷ []) }
 {
-    vec![in alloc; 0u64; count as usize]
-}
-
-// Adds a member at the end.
-fn push(members: &mut Vec<Option<Member>>, member: Member) -> Result<(), AllocError>
-    ensures { OnOk result (members.new.items ≡ members.old.items ++ Some member ∷ []) }
-{
-    match members.push(Some(member)) {
+    match sessions.push(session) {
         Ok(()) => Ok(()),
         Err(_) => Err(AllocError),
     }
@@ -155,7 +142,7 @@ fn admit<B: Dealt>(live: &Live, host: &mut Seat<u8, View>, place: u64, shelf: Sh
     requires in_range { place < live.now.places }
     requires empty { stock_of shelf ≡ no_stock }
     ensures host { IsHostWith live.now host.new (place + 1) }
-    ensures member { IsMemberOf live.now result }
+    ensures member { IsFirstAt live.now place result }
 {
     let seat = live.split_seat::<B>(host, &[], &[], 0, 0);
     Member {

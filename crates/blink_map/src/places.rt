@@ -1,49 +1,54 @@
-//! The places of a map's sessions: a table of its own, with a word for each place, which is 0 while the place is free, and a slot
-//! with the member that rests there.
-ghost use Rattle.std.specs.Prelude.{◌≡◌, ◌≢◌, ◌<◌, [], ◌∷◌, Some, None, IsTrue};
-ghost use Rattle.blink_map.specs.declared.member.Member.{Member};
-ghost use Rattle.blink_live.specs.Views.{plan_of};
-ghost use Rattle.blink_map.specs.Places.{IsMemberAt, claim_of, no_claim};
+//! The places where the sessions of a map rest that nobody uses: a table of its own, with a word and a slot for each place. The word
+//! is 0 while the slot is empty, 1 while a session rests there, and 2 while somebody is at the slot.
+ghost use Rattle.std.specs.Prelude.{◌≡◌, ◌≤◌};
 
-use crate::map::Map;
-use crate::member::Member;
-use atomic_table::{Play, Seat, TableRule};
-use blink_live::Live;
+use crate::map::{Map, Session};
+use crate::rest::Visitor;
+use atomic_table::{Play, Table, TableRule};
+use std::alloc::Global;
 use std::marker::{Brand, PhantomData};
 use std::snapshot::Snapshot;
 
-/// The tree's table whose members rest at the places.
+/// The map whose sessions rest.
 #[derive(Drop)]
-pub(crate) struct Stand {
-    pub live: Snapshot<Live>,
+pub(crate) struct Home {
+    pub map: Snapshot<Map>,
 }
 
-/// What a seat of the places knows: the place that it has taken, if it has one.
-pub struct Claim {
-    pub place: Option<u64>,
-}
-
-/// The rule of the places: at a free place a member rests, and a taken place is one seat's.
+/// The rule of the places: where the word says so, one of the map's sessions rests, or there is space for one.
 pub(crate) struct RuleOfPlaces;
 
-impl TableRule<Option<Member>, Claim, Stand> for RuleOfPlaces {
-    ghost use Rattle.blink_map.specs.Places.{ArePlaces, no_claim};
+impl TableRule<Option<Session>, Visitor, Home> for RuleOfPlaces {
+    ghost use Rattle.blink_map.specs.Hosting.{visitor};
+    ghost use Rattle.blink_map.specs.Resting.{ArePlaces};
 
-    ghost holds = { λ stand. ArePlaces stand.live.value };
+    ghost holds = { λ home. ArePlaces home.map.value };
 
-    ghost first = { λ stand. no_claim };
+    ghost first = { λ home. visitor };
 }
 
-/// The load that makes a seat of the places, which has no place.
+/// The sessions of a map that nobody uses. Any thread takes one of them, and gives its own back, at any time.
+///
+/// Who has these places can't read or change the map by them alone, and a map's calls don't reach the sessions that rest here. So a
+/// call with one session changes nothing at the place of another.
+#[derive(Drop)]
+pub struct Places {
+    pub(crate) table: Table<Option<Session>, Visitor, Home, RuleOfPlaces, Global>,
+    ghost words: { table.shared.table_id.words ≡ table.shared.table_id.slots },
+    ghost some_place: { 1 ≤ table.shared.table_id.slots },
+    ghost all_places: { table.shared.table_id.slots ≡ table.shared.key.map.value.live.places },
+}
+
+/// The load that makes a seat of the places.
 pub(crate) struct Enter;
 
-impl Play<Option<Member>, Claim> for Enter {
-    ghost use Rattle.blink_map.specs.Places.{enters};
+impl Play<Option<Session>, Visitor> for Enter {
+    ghost use Rattle.blink_map.specs.Resting.{visits};
 
-    ghost then = { enters };
+    ghost then = { visits };
 }
 
-/// The table and the plan of the members that rest at the places. Each call picks them.
+/// The table and the plan of the sessions that rest at the places. Each call picks them.
 pub(crate) trait Belongs {
     ghost use Rattle.atomic_table.specs.Seated.{TableId};
     ghost use Rattle.blink_live.specs.declared.view.Plan.{Plan};
@@ -54,7 +59,7 @@ pub(crate) trait Belongs {
 }
 
 impl Belongs for Brand {
-    ghost use Rattle.blink_map.specs.Places.{no_table};
+    ghost use Rattle.blink_map.specs.Resting.{no_table};
     ghost use Rattle.blink_live.specs.Views.{no_plan};
 
     ghost table = { no_table };
@@ -62,61 +67,31 @@ impl Belongs for Brand {
     ghost plan = { no_plan };
 }
 
-/// The compare-and-exchange of 0 for 1 in a place's word. If 0 was found, the seat has the place and the member at it.
-pub(crate) struct TakePlace<B> {
+/// The compare-and-exchange of 1 for 2 in a place's word. If 1 was found, the seat has the session that rested there.
+pub(crate) struct TakeSession<B> {
     of: PhantomData<B>,
 }
 
-impl<B: Belongs> Play<Option<Member>, Claim> for TakePlace<B> {
-    ghost use Rattle.blink_map.specs.Places.{takes_place};
+impl<B: Belongs> Play<Option<Session>, Visitor> for TakeSession<B> {
+    ghost use Rattle.blink_map.specs.Resting.{takes_session};
 
-    ghost then = { takes_place B.table B.plan };
+    ghost then = { takes_session B.table B.plan };
 }
 
-/// The store of 0 in the word of a place that the seat has taken. The member that it holds is at the place again.
-pub(crate) struct LeavePlace;
+/// The compare-and-exchange of 0 for 2 in a place's word. If 0 was found, the seat has the place's slot.
+pub(crate) struct TakeSpace;
 
-impl Play<Option<Member>, Claim> for LeavePlace {
-    ghost use Rattle.blink_map.specs.Places.{leaves_place};
+impl Play<Option<Session>, Visitor> for TakeSpace {
+    ghost use Rattle.blink_map.specs.Resting.{takes_space};
 
-    ghost then = { leaves_place };
+    ghost then = { takes_space };
 }
 
-impl Map {
-    // A seat of the places that has no place.
-    pub(crate) fn enter(&self) -> Seat<Option<Member>, Claim>
-        ensures table { result.table_id ≡ self.now.places.shared.table_id }
-        ensures free { result.me ≡ (no_claim, []) }
-    {
-        let (_, seat) = self.places.shared.load_new_seat::<Enter>(0);
-        seat
-    }
+/// The store of a place's word by the seat that has the slot, which it gives back.
+pub(crate) struct GiveSlot;
 
-    // Tries to take the place, and returns whether the seat has it now, with the member that rested there.
-    pub(crate) fn take<B: Belongs>(
-        &self,
-        seat: &mut Seat<Option<Member>, Claim>,
-        place: usize,
-    ) -> bool
-        requires table { seat.old.table_id ≡ self.now.places.shared.table_id }
-        requires free { seat.old.me ≡ (no_claim, []) }
-        requires in_range { place < self.now.places.shared.table_id.slots }
-        requires picked { (B.table ≡ self.now.live.table.shared.table_id)
-            × (B.plan ≡ plan_of self.now.live.table.shared.key) }
-        ensures table { seat.new.table_id ≡ self.now.places.shared.table_id }
-        ensures got { IsTrue result → (member : Member)
-            × IsMemberAt self.now.live.table.shared.table_id (plan_of self.now.live.table.shared.key) member
-            × (seat.new.me ≡ (claim_of place, (place, Some member) ∷ [])) }
-        ensures lost { ¬ IsTrue result → seat.new.me ≡ (no_claim, []) }
-    {
-        if self
-            .places
-            .shared
-            .compare_exchange::<TakePlace<B>>(seat, place, 0, 1)
-            != 0
-        {
-            return false;
-        }
-        true
-    }
+impl Play<Option<Session>, Visitor> for GiveSlot {
+    ghost use Rattle.blink_map.specs.Resting.{visits};
+
+    ghost then = { visits };
 }

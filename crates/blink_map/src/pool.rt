@@ -1,10 +1,13 @@
 //! How a session's seat draws rows and page numbers from the map's pool.
-ghost use Rattle.std.specs.Prelude.{◌≡◌, ◌+◌, ◌≤◌, IfNone, IfSome, IsTrue};
+ghost use Rattle.std.specs.Prelude.{◌≡◌, ◌≢◌, ◌⊎◌, ◌+◌, ◌-◌, ◌<◌, ◌≤◌, IfNone, IfSome, IsTrue};
+ghost use Rattle.blink_live.specs.Allowed.{length_of};
 ghost use Rattle.blink_live.specs.Seats.{HasSameNumber, IsPassSeat};
 ghost use Rattle.blink_live.specs.Views.{has_pages, has_rows, span};
 ghost use Rattle.blink_live.specs.Words.{pool_page, pool_row};
+ghost use Rattle.blink_map.specs.Drawing.{IsPart};
 
 use crate::common::{POOL_PAGE, POOL_ROW};
+use crate::steps::JoinPages;
 use atomic_table::Seat;
 use blink_live::{DrawPages, DrawRows, Live, View, word_count};
 use blink_rows::Span;
@@ -24,11 +27,13 @@ pub(crate) fn draw_rows(
     ensures drawn { IfSome result (λ rows.
         seat.new.me ≡ (has_rows seat.old.me.0 rows, seat.old.me.1)) }
     ensures enough { IfSome result (λ rows. rows.next + least ≤ rows.stop) }
+    ensures part { IfSome result (λ rows.
+        IsPart (live.now.counts.rows + 1) live.now.places least (length_of rows)) }
     ensures none { IfNone result (seat.new.me ≡ seat.old.me) }
 {
     // The range ends for the proof alone, which knows no bound of the tries.
     for _ in 0..u64::MAX {
-        let drawn = first_of(rows_in_pool(live), least, most)?;
+        let drawn = part_of(live, rows_in_pool(live), least, most)?;
         if exchange_rows(live, seat, drawn.next, drawn.stop) {
             return Some(drawn);
         }
@@ -36,26 +41,46 @@ pub(crate) fn draw_rows(
     None
 }
 
-/// Draws at least `least` page numbers from the pool for a session's seat, and at most `most`. The numbers that the seat had are
-/// nobody's then. It draws none if the pool has fewer.
+/// Draws page numbers for a session's seat, which has fewer than `least`, so that it has `least` at least. Where the pool's next
+/// number follows those that the seat has, the seat keeps these. Else they are nobody's then: a call takes its numbers from one
+/// span, and another session has drawn those between. It draws none if the pool has too few.
 pub(crate) fn draw_pages(
     live: &Live,
     seat: &mut Seat<u8, View>,
+    has: Span,
     least: u64,
     most: u64,
 ) -> Option<Span>
     requires seat { IsPassSeat live.now seat.old.table_id seat.old.me }
     requires common { 1 ≤ live.now.places }
     requires counts { (1 ≤ least) × (least ≤ most) }
+    requires has { has ≡ seat.old.me.0.pages }
+    requires in_order { has.next ≤ has.stop }
+    requires short { length_of has < least }
     ensures same { HasSameNumber seat.old seat.new }
     ensures drawn { IfSome result (λ pages.
         seat.new.me ≡ (has_pages seat.old.me.0 pages, seat.old.me.1)) }
     ensures enough { IfSome result (λ pages. pages.next + least ≤ pages.stop) }
+    ensures none_lost { IfSome result
+        (λ pages. (pages.next ≡ has.next) ⊎ (pages.next ≢ has.stop)) }
+    ensures part { IfSome result (λ pages. IsPart live.now.counts.numbers live.now.places
+        least (length_of pages - length_of has)) }
     ensures none { IfNone result (seat.new.me ≡ seat.old.me) }
 {
     // The range ends for the proof alone, which knows no bound of the tries.
     for _ in 0..u64::MAX {
-        let drawn = first_of(pages_in_pool(live), least, most)?;
+        let left = pages_in_pool(live);
+        if left.next == has.stop {
+            let more = part_of(live, left, least - has.len(), most)?;
+            if join_pages(live, seat, more.next, more.stop) {
+                return Some(Span {
+                    next: has.next,
+                    stop: more.stop,
+                });
+            }
+            continue;
+        }
+        let drawn = part_of(live, left, least, most)?;
         if exchange_pages(live, seat, drawn.next, drawn.stop) {
             return Some(drawn);
         }
@@ -63,23 +88,27 @@ pub(crate) fn draw_pages(
     None
 }
 
-// A draw takes at most this part of what the pool has left, so that one session leaves some for others.
-const SHARES: u64 = 8;
+// A draw takes what the pool has left, over this many times the number of places, so that a session which comes late finds its part.
+const SHARES: u64 = 2;
 
-// The first of these numbers, at least `least` of them and at most `most`; `None`, if there are fewer.
-fn first_of(left: Span, least: u64, most: u64) -> Option<Span>
-    requires { (1 ≤ least) × (least ≤ most) }
-    ensures { IfSome result
+// The first of these numbers, a place's part of them: at least `least` and at most `most`; `None`, if there are fewer.
+fn part_of(live: &Live, left: Span, least: u64, most: u64) -> Option<Span>
+    requires common { 1 ≤ live.now.places }
+    requires counts { (1 ≤ least) × (least ≤ most) }
+    ensures first { IfSome result (λ drawn. drawn.next ≡ left.next) }
+    ensures some { IfSome result
         (λ drawn. (drawn.next + least ≤ drawn.stop) × (drawn.stop ≤ left.stop)) }
+    ensures part { IfSome result
+        (λ drawn. IsPart (length_of left) live.now.places least (length_of drawn)) }
 {
     let count = left.len();
     if count < least {
         return None;
     }
-    let share = least.max(count / SHARES);
+    let part = least.max(count / SHARES / live.places);
     Some(Span {
         next: left.next,
-        stop: left.next + most.min(share),
+        stop: left.next + most.min(part),
     })
 }
 
@@ -138,6 +167,26 @@ pub(crate) fn exchange_pages(live: &Live, seat: &mut Seat<u8, View>, next: u64, 
     live.table
         .shared
         .compare_exchange::<DrawPages>(seat, word, next, stop)
+        == next
+}
+
+/// Draws the page numbers from `next` to `stop` for a session's seat, if `next` is the pool's next number, and returns whether it
+/// is. They follow those that the seat has, which keeps these.
+pub(crate) fn join_pages(live: &Live, seat: &mut Seat<u8, View>, next: u64, stop: u64) -> bool
+    requires seat { IsPassSeat live.now seat.old.table_id seat.old.me }
+    requires common { 1 ≤ live.now.places }
+    requires pages { (next ≤ stop) × (stop ≤ live.now.counts.numbers) }
+    requires follows { seat.old.me.0.pages.stop ≡ next }
+    requires in_order { seat.old.me.0.pages.next ≤ next }
+    ensures same { HasSameNumber seat.old seat.new }
+    ensures got { IsTrue result
+        → seat.new.me ≡ (has_pages seat.old.me.0 (span seat.old.me.0.pages.next stop), seat.old.me.1) }
+    ensures lost { ¬ IsTrue result → seat.new.me ≡ seat.old.me }
+{
+    let word = page_word(live);
+    live.table
+        .shared
+        .compare_exchange::<JoinPages>(seat, word, next, stop)
         == next
 }
 

@@ -19,6 +19,8 @@ pub(crate) fn recycle(live: &Live, seat: &mut Seat<u8, View>, shelf: &mut Shelf,
     ensures same { HasSameNumber seat.old seat.new }
     ensures restocked { HasOtherStock seat.old.me seat.new.me }
     ensures shelved { IsShelved (Some shelf.new) seat.new.me.0 }
+    ensures none_lost { rows_on (Some shelf.new) ≡ rows_on (Some shelf.old) }
+    ensures free { shelf.old.free.len ≤ shelf.new.free.len }
 {
     if shelf.waiting.is_empty() {
         if shelf.retired.len() < least {
@@ -41,6 +43,8 @@ fn start_wait(live: &Live, seat: &mut Seat<u8, View>, shelf: &mut Shelf)
     ensures same { HasSameNumber seat.old seat.new }
     ensures restocked { HasOtherStock seat.old.me seat.new.me }
     ensures shelved { IsShelved (Some shelf.new) seat.new.me.0 }
+    ensures none_lost { rows_on (Some shelf.new) ≡ rows_on (Some shelf.old) }
+    ensures free { shelf.old.free.len ≤ shelf.new.free.len }
     ensures none_seen { shelf.new.before.items ≡ [] }
 {
     mem::swap(&mut shelf.retired, &mut shelf.waiting);
@@ -57,6 +61,8 @@ fn see_places(live: &Live, seat: &mut Seat<u8, View>, shelf: &mut Shelf)
     ensures same { HasSameNumber seat.old seat.new }
     ensures restocked { HasOtherStock seat.old.me seat.new.me }
     ensures shelved { IsShelved (Some shelf.new) seat.new.me.0 }
+    ensures none_lost { rows_on (Some shelf.new) ≡ rows_on (Some shelf.old) }
+    ensures free { shelf.old.free.len ≤ shelf.new.free.len }
 {
     for place in 0..live.places {
         if !note_mark(live, seat, shelf, place) {
@@ -74,6 +80,8 @@ fn note_mark(live: &Live, seat: &mut Seat<u8, View>, shelf: &mut Shelf, place: u
     ensures same { HasSameNumber seat.old seat.new }
     ensures restocked { HasOtherStock seat.old.me seat.new.me }
     ensures shelved { IsShelved (Some shelf.new) seat.new.me.0 }
+    ensures none_lost { rows_on (Some shelf.new) ≡ rows_on (Some shelf.old) }
+    ensures free { shelf.old.free.len ≤ shelf.new.free.len }
     ensures noted { IsTrue result → length shelf.new.before.items ≡ place + 1 }
 {
     if shelf.before.len() == shelf.before.capacity() {
@@ -93,6 +101,8 @@ fn check_places(live: &Live, seat: &mut Seat<u8, View>, shelf: &mut Shelf)
     ensures same { HasSameNumber seat.old seat.new }
     ensures restocked { HasOtherStock seat.old.me seat.new.me }
     ensures shelved { IsShelved (Some shelf.new) seat.new.me.0 }
+    ensures none_lost { rows_on (Some shelf.new) ≡ rows_on (Some shelf.old) }
+    ensures free { shelf.old.free.len ≤ shelf.new.free.len }
 {
     for _ in 0..live.places {
         if !find_past(live, seat, shelf) {
@@ -108,6 +118,8 @@ fn find_past(live: &Live, seat: &mut Seat<u8, View>, shelf: &mut Shelf) -> bool
     ensures same { HasSameNumber seat.old seat.new }
     ensures restocked { HasOtherStock seat.old.me seat.new.me }
     ensures shelved { IsShelved (Some shelf.new) seat.new.me.0 }
+    ensures none_lost { rows_on (Some shelf.new) ≡ rows_on (Some shelf.old) }
+    ensures free { shelf.old.free.len ≤ shelf.new.free.len }
 {
     let place = shelf.passed;
     if place >= live.places || place as usize >= shelf.before.len() {
@@ -129,6 +141,8 @@ fn take_waiting(live: &Live, seat: &mut Seat<u8, View>, shelf: &mut Shelf)
     ensures same { HasSameNumber seat.old seat.new }
     ensures restocked { HasOtherStock seat.old.me seat.new.me }
     ensures shelved { IsShelved (Some shelf.new) seat.new.me.0 }
+    ensures none_lost { rows_on (Some shelf.new) ≡ rows_on (Some shelf.old) }
+    ensures free { shelf.old.free.len ≤ shelf.new.free.len }
 {
     if shelf.free.append(&mut shelf.waiting).is_ok() {
         collect(live, seat);
@@ -148,6 +162,8 @@ pub(crate) fn free_rows(live: &Live, seat: &mut Seat<u8, View>, rows: &mut Span,
     ensures shelved { IsShelved (Some shelf.new) seat.new.me.0 }
     ensures none_lost { length_of rows.new + rows_on (Some shelf.new)
         ≡ length_of rows.old + rows_on (Some shelf.old) }
+    ensures at_hand { length_of rows.new + shelf.new.free.len
+        ≡ length_of rows.old + shelf.old.free.len }
 {
     for _ in 0..rows.len() {
         if !free_last(live, seat, rows, shelf) {
@@ -169,6 +185,8 @@ fn free_last(live: &Live, seat: &mut Seat<u8, View>, rows: &mut Span, shelf: &mu
     ensures shelved { IsShelved (Some shelf.new) seat.new.me.0 }
     ensures none_lost { length_of rows.new + rows_on (Some shelf.new)
         ≡ length_of rows.old + rows_on (Some shelf.old) }
+    ensures at_hand { length_of rows.new + shelf.new.free.len
+        ≡ length_of rows.old + shelf.old.free.len }
 {
     if rows.next == rows.stop || shelf.free.len() == shelf.free.capacity() {
         return false;

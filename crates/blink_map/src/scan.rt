@@ -30,11 +30,7 @@ impl Map {
         ensures others { drop result.filled into.new ≡ drop result.filled into.old }
         ensures same { IsSameBesideSeen session.old session.new }
     {
-        let Session {
-            member,
-            claim: _,
-            place: _,
-        } = session;
+        let Session { member } = session;
         member.scan(&self.live, lo, hi, into)
     }
 }

@@ -1,48 +1,158 @@
 //! Joining a map, and leaving it.
-ghost use Rattle.std.specs.Prelude.{◌≡◌, IfErr, IfOk};
+ghost use Rattle.std.specs.Prelude.{◌≡◌, ◌<◌, Option, [], ◌∷◌, Some, All, IfErr, IfOk, IsTrue, replicate};
+ghost use Rattle.blink_map.specs.declared.map.Session.{Session};
+ghost use Rattle.blink_live.specs.Views.{plan_of};
+ghost use Rattle.blink_map.specs.Joining.{map_at};
 ghost use Rattle.blink_map.specs.Sessions.{IsSessionOf};
 
 use crate::error::MapError;
 use crate::map::{Map, Session};
-use crate::places::LeavePlace;
+use crate::places::{Belongs, Enter, GiveSlot, Home, Places, RuleOfPlaces, TakeSession, TakeSpace};
+use crate::rest::Visitor;
+use atomic_table::{Seat, Table};
+use std::alloc::{AllocError, Global};
 use std::marker::Brand;
+use std::snapshot::Snapshot;
 
-impl Map {
-    /// Takes a free place, and returns the session of it. Any thread joins at any time. The call takes no memory and waits for
-    /// nobody.
+// The word of a place that has space for a session, and of one at which a session rests.
+const SPACE: u64 = 0;
+
+const RESTS: u64 = 1;
+
+// The word of a place while somebody is at its slot.
+const AT_SLOT: u64 = 2;
+
+impl Places {
+    /// Makes the places of a map, at which no session rests yet. The call refuses if memory was refused.
+    pub fn new(alloc: Global, map: &Map) -> Result<Places, AllocError>
+        ensures { IfOk result (λ places. map_at places ≡ map.now) }
+    {
+        let home = Home {
+            map: Snapshot::of(map),
+        };
+        let count = map.live.places;
+        let words = zeros(alloc, count)?;
+        let (table, _first) = Table::<Option<Session>, Visitor, Home, RuleOfPlaces, Global>::vacant(
+            alloc,
+            &words,
+            count as usize,
+            &home,
+        )?;
+        Ok(Places { table })
+    }
+
+    /// Takes a session that rests, and returns it. It adds no change at the session's place. Any thread joins at any time. The call
+    /// takes no memory and waits for nobody.
     ///
-    /// The call refuses with `NoPlace`, if it found each place taken.
+    /// The call refuses with `NoPlace`, if it found no session at any place.
     pub fn join(&self) -> Result<Session, MapError>
-        ensures joined { IfOk result (IsSessionOf self.now) }
+        ensures joined { IfOk result (IsSessionOf (map_at self.now)) }
         ensures refused { IfErr result (λ refusal. refusal ≡ MapError.NoPlace) }
     {
-        let mut claim = self.enter();
-        for place in 0..self.places.slot_count() {
-            if self.take::<Brand>(&mut claim, place) {
-                let Some(member) = self.places.shared.exchange(&mut claim, place, None) else {
+        let mut seat = self.enter();
+        for place in 0..self.table.slot_count() {
+            if self.take_session::<Brand>(&mut seat, place) {
+                let Some(session) = self.table.shared.exchange(&mut seat, place, None) else {
                     unreachable!()
                 };
-                return Ok(Session {
-                    member,
-                    claim,
-                    place,
-                });
+                self.table.shared.store::<GiveSlot>(&mut seat, place, SPACE);
+                return Ok(session);
             }
         }
         Err(MapError::NoPlace)
     }
 
-    /// Gives the session's place back, with the rows and page numbers that it has left. The call takes no memory and waits for
-    /// nobody.
+    /// Lets a session rest at its place, with the rows and page numbers that it has left, for any thread to take. The call takes no
+    /// memory and waits for nobody.
     pub fn leave(&self, session: Session)
-        requires its_own { IsSessionOf self.now session }
+        requires its_own { IsSessionOf (map_at self.now) session }
     {
-        let Session {
-            member,
-            mut claim,
-            place,
-        } = session;
-        self.places.shared.exchange(&mut claim, place, Some(member));
-        self.places.shared.store::<LeavePlace>(&mut claim, place, 0);
+        // Called for the proof: a place is a `usize`.
+        let _count = self.table.slot_count();
+        let place = session.member.place as usize;
+        let mut seat = self.enter();
+        // The slot is empty, since a map has one session for each place.
+        if self.take_space(&mut seat, place) {
+            self.table.shared.exchange(&mut seat, place, Some(session));
+            self.table.shared.store::<GiveSlot>(&mut seat, place, RESTS);
+        }
     }
+
+    /// Lets all these sessions rest at their places. The vector is empty then, and keeps its memory.
+    pub fn leave_all(&self, sessions: &mut Vec<Session>)
+        requires its_own { All (IsSessionOf (map_at self.now)) sessions.old.items }
+        ensures none { sessions.new.items ≡ [] }
+    {
+        while let Some(session) = sessions.pop() {
+            self.leave(session);
+        }
+    }
+
+    /// Takes the sessions that rest, and adds them to the vector, as many as it has memory for.
+    pub fn join_all(&self, sessions: &mut Vec<Session>)
+        requires its_own { All (IsSessionOf (map_at self.now)) sessions.old.items }
+        ensures its_own { All (IsSessionOf (map_at self.now)) sessions.new.items }
+    {
+        while sessions.len() < sessions.capacity() {
+            let Ok(session) = self.join() else {
+                return;
+            };
+            sessions.push_reserved(session);
+        }
+    }
+
+    // A seat of the places that has no slot.
+    fn enter(&self) -> Seat<Option<Session>, Visitor>
+        ensures table { result.table_id ≡ self.now.table.shared.table_id }
+        ensures none { result.me.1 ≡ [] }
+    {
+        let (_, seat) = self.table.shared.load_new_seat::<Enter>(0);
+        seat
+    }
+
+    // Tries to take the session that rests at the place, and returns whether the seat has it now.
+    fn take_session<B: Belongs>(
+        &self,
+        seat: &mut Seat<Option<Session>, Visitor>,
+        place: usize,
+    ) -> bool
+        requires table { seat.old.table_id ≡ self.now.table.shared.table_id }
+        requires none { seat.old.me.1 ≡ [] }
+        requires in_range { place < self.now.table.shared.table_id.slots }
+        requires picked { (B.table ≡ (map_at self.now).live.table.shared.table_id)
+            × (B.plan ≡ plan_of (map_at self.now).live.table.shared.key) }
+        ensures table { seat.new.table_id ≡ self.now.table.shared.table_id }
+        ensures got { IsTrue result → (session : Session) × IsSessionOf (map_at self.now) session
+            × (seat.new.me.1 ≡ (place, Some session) ∷ []) }
+        ensures lost { ¬ IsTrue result → seat.new.me.1 ≡ [] }
+        ensures in_range { place < self.now.table.shared.table_id.slots }
+    {
+        self.table
+            .shared
+            .compare_exchange::<TakeSession<B>>(seat, place, RESTS, AT_SLOT)
+            == RESTS
+    }
+
+    // Tries to take the slot of the place for a session, and returns whether the seat has it now.
+    fn take_space(&self, seat: &mut Seat<Option<Session>, Visitor>, place: usize) -> bool
+        requires table { seat.old.table_id ≡ self.now.table.shared.table_id }
+        requires none { seat.old.me.1 ≡ [] }
+        requires in_range { place < self.now.table.shared.table_id.slots }
+        ensures table { seat.new.table_id ≡ self.now.table.shared.table_id }
+        ensures got { IsTrue result
+            → (left : Option Session) × (seat.new.me.1 ≡ (place, left) ∷ []) }
+        ensures in_range { place < self.now.table.shared.table_id.slots }
+    {
+        self.table
+            .shared
+            .compare_exchange::<TakeSpace>(seat, place, SPACE, AT_SLOT)
+            == SPACE
+    }
+}
+
+// So many words of places with space.
+fn zeros(alloc: Global, count: u64) -> Result<Vec<u64>, AllocError>
+    ensures { IfOk result (λ words. words.items ≡ replicate count 0) }
+{
+    vec![in alloc; SPACE; count as usize]
 }

@@ -35,11 +35,7 @@ impl Map {
             IsSnapshot (opening_of self.now) (seen_by session.new) lo hi entries.items)) }
         ensures same { IsSameBesideSeen session.old session.new }
     {
-        let Session {
-            member,
-            claim: _,
-            place: _,
-        } = session;
+        let Session { member } = session;
         member.snapshot(alloc, &self.live, lo, hi, tries)
     }
 }

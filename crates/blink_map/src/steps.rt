@@ -4,17 +4,28 @@ ghost use Rattle.std.specs.Prelude.{◌≡◌, ◌⊎◌, ◌+◌, ◌<◌, ◌�
 ghost use Rattle.blink_live.specs.AtomicSteps.{LooksUp};
 ghost use Rattle.blink_map.specs.Common.{IsHost};
 ghost use Rattle.blink_live.specs.GivingBack.{CanGiveBack, gives_back};
-ghost use Rattle.blink_live.specs.Accounts.{HasSeenItsOwn};
+ghost use Rattle.blink_live.specs.Accounts.{KnowsAuthors};
 ghost use Rattle.blink_live.specs.ComingBack.{ChecksPlace, begins_to_wait, frees_last, gets_waiting, sees_mark, with_stock};
-ghost use Rattle.blink_live.specs.Seats.{HasSameNumber, IsPassSeat};
-ghost use Rattle.blink_live.specs.Views.{is_busy};
+ghost use Rattle.blink_live.specs.Seats.{HasSameNumber, IsIdleIn, IsPassSeat, IsSameSeat};
+ghost use Rattle.blink_live.specs.Views.{hears, is_busy, note_of, plan_of};
+ghost use Rattle.blink_live.specs.declared.view.Role.TheVariants.{Spent};
 
 use crate::common::PLACE_WORDS;
-use atomic_table::Seat;
+use atomic_table::{Play, Seat};
 use blink_live::{
-    BeginWait, CheckPlace, Collect, FreeRow, GiveBack, Live, LookUp, MarkPlace, SeePlace, View,
-    word_count,
+    BeginWait, CheckPlace, Collect, FreeRow, GiveBack, Hear, Live, LookUp, MarkPlace, Note,
+    Planned, SeePlace, View, word_count,
 };
+
+/// The compare-and-exchange in the pool's second word of a page number for a later one: the numbers between follow those that the
+/// seat has, and it has both.
+pub(crate) struct JoinPages;
+
+impl Play<u8, View> for JoinPages {
+    ghost use Rattle.blink_map.specs.Drawing.{joins_pages};
+
+    ghost then = { joins_pages };
+}
 
 /// Stores the mark of a session's seat into the word of its place: 0 if it is idle. It isn't 0 while the seat has an operation
 /// under way. The call also shows that the seat has seen all changes of its own.
@@ -24,7 +35,7 @@ pub(crate) fn mark_place(live: &Live, seat: &mut Seat<u8, View>, place: u64, bus
     requires idle { (seat.old.me.0.operation ≡ None) ⊎ (1 ≤ busy) }
     ensures same { HasSameNumber seat.old seat.new }
     ensures marked { seat.new.me ≡ (is_busy seat.old.me.0 busy, seat.old.me.1) }
-    ensures saw_own { HasSeenItsOwn seat.old.me.0 }
+    ensures authors { KnowsAuthors seat.old.me.0 }
 {
     // Called for the proof: a place in the table is a `usize`.
     let _count = live.table.word_count();
@@ -51,6 +62,28 @@ pub(crate) fn host_looks_up(live: &Live, seat: &mut Seat<u8, View>)
     ensures up { LooksUp seat.old.me seat.new.me }
 {
     live.table.shared.load::<LookUp>(seat, 0);
+}
+
+/// A session's seat splits off a note of what it has seen: a seat of its own, of no other use. The session's seat stays as it is.
+pub(crate) fn split_note(live: &Live, seat: &mut Seat<u8, View>) -> Seat<u8, View>
+    requires same_table { seat.old.table_id ≡ live.now.table.shared.table_id }
+    ensures same { IsSameSeat seat.old seat.new }
+    ensures table { result.table_id ≡ seat.old.table_id }
+    ensures note { result.me ≡ (note_of seat.old.me.0, []) }
+{
+    live.table.shared.split_seat::<Note>(seat)
+}
+
+/// A seat takes a note, and is told what is in it.
+pub(crate) fn hear<B: Planned>(live: &Live, seat: &mut Seat<u8, View>, note: Seat<u8, View>)
+    requires tables { (seat.old.table_id ≡ live.now.table.shared.table_id)
+        × (note.table_id ≡ live.now.table.shared.table_id) }
+    requires picked { B.plan ≡ plan_of live.now.table.shared.key }
+    requires note { IsIdleIn Spent note.me }
+    ensures same { HasSameNumber seat.old seat.new }
+    ensures heard { seat.new.me ≡ (hears seat.old.me.0 note.me.0, seat.old.me.1) }
+{
+    live.table.shared.join_seat::<Hear<B>>(seat, note);
 }
 
 /// The rows that a session has taken out begin to wait. None of its rows waits before.

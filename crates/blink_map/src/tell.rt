@@ -23,16 +23,8 @@ impl Map {
         ensures to { IsSameBesideSeen to.old to.new }
         ensures from { IsSameSession from.old from.new }
     {
-        let Session {
-            member: teller,
-            claim: _,
-            place: _,
-        } = from;
-        let Session {
-            member,
-            claim: _,
-            place: _,
-        } = to;
+        let Session { member: teller } = from;
+        let Session { member } = to;
         teller.tell(&self.live, member);
     }
 }

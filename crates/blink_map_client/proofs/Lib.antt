@@ -1,3 +1,5 @@
+mod SessionsKnow
 mod EntryIsShown
 mod OneIsFirst
 mod TwoInsert
+mod NobodyElse

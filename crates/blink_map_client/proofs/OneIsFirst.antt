@@ -1,5 +1,5 @@
 -- Of two insertions of an absent key one stands first in the list of changes, and the other finds it.
-use Rattle.std.proofs.Common.{◌≡◌, ◌≢◌, ◌⊎◌, ⊎_elim, inl, inr, ℕ, zero, suc, ◌+◌, ◌<◌, Bool, Option, Some, None, List, [], ◌∷◌, ◌++◌, length, refl, sym, ap, ◌∙◌, subst, length-append, eq-eqb, ne_eqb, arith}
+use Rattle.std.proofs.Common.{◌≡◌, ◌≢◌, ◌⊎◌, ⊎_elim, inl, inr, ℕ, zero, suc, ◌<◌, Bool, Option, Some, None, List, [], ◌∷◌, ◌++◌, length, refl, sym, ap, ◌∙◌, length-append, eq-eqb, ne_eqb, arith}
 use Rattle.std.specs.Prelude.{All, if◌then◌else◌, slice_index_or}
 use mathlib.Core.List.{IsPrefix}
 use Rattle.blink_batch.specs.declared.Answer.{Answer}
@@ -7,9 +7,9 @@ use Rattle.blink_batch.specs.declared.Answer.TheVariants.{Exists, Inserted}
 use Rattle.blink_batch.specs.declared.Op.TheVariants.{Insert}
 use Rattle.blink_batch.specs.{answer_at}
 use Rattle.blink_live.specs.declared.view.Change.{Change}
-use Rattle.blink_live.specs.Changes.{after, changes_made, put}
+use Rattle.blink_live.specs.Changes.{after, changes_made}
 use Rattle.blink_live.specs.Accounts.{made_at}
-use Rattle.blink_live.proofs.Offered.{AreBy, made_here, made_elsewhere}
+use Rattle.blink_live.proofs.Offered.{AreBy, made_here}
 use Rattle.blink_map.specs.{change_to}
 use Rattle.blink_map_client.specs.Racing.{OneIsInserted}
 

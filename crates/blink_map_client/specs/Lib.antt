@@ -1,9 +1,15 @@
 -- What a caller of `blink_map_client` reads, in this order; then the files themselves.
 
--- what was shown
-pub use Rattle.blink_map_client.specs.Shown.{IsShown}
+-- a map that one session alone changes, or nobody
+pub use Rattle.blink_map_client.specs.Alone.{HaveSameEntries, kept_or, state_alone}
+-- what was shown, and seen
+pub use Rattle.blink_map_client.specs.Shown.{IsShown, WasSeen}
 -- two insertions of one key
 pub use Rattle.blink_map_client.specs.Racing.{OneIsInserted}
+-- a map whose sessions all come to its close
+pub use Rattle.blink_map_client.specs.Whole.{AreOnlyTheirs}
 -- ---- the files
+pub mod Alone
 pub mod Shown
 pub mod Racing
+pub mod Whole

@@ -132,7 +132,12 @@ pub(crate) fn in_two_threads<R: Threads + Abort + Wait + Sync>(
     works: (Work, Work),
     told: &Told,
 ) -> Map {
-    let Two { map, one, other } = two;
+    let Two {
+        map,
+        places: _places,
+        one,
+        other,
+    } = two;
     assert!(rt;
         run_two(rt, alloc, &map, one, other, works, told),
         "a thread couldn't be started"

@@ -39,8 +39,8 @@ fn a_map_with_few_rows_takes_many_changes(rt: HostRuntime) {
     play(&rt, rt.alloc(), &MANY_CHANGES);
 }
 
-// The first insertion draws the 44 rows that it may need, and an eighth of the pool's page numbers. It writes one row, and takes the leaf's
-// first row out.
+// Of two sessions the first insertion draws the 44 rows that it may need, and a quarter of the pool's page numbers. It writes one row, and
+// takes the leaf's first row out.
 const ONE_CHANGE: Story = Story {
     room: (200, 88),
     scenes: &[&[
@@ -48,7 +48,7 @@ const ONE_CHANGE: Story = Story {
         See(Has(
             One,
             Stock {
-                pages: 25,
+                pages: 50,
                 unwritten: 43,
                 free: 0,
                 taken_out: 1,
@@ -64,24 +64,25 @@ fn a_session_tells_what_it_has(rt: HostRuntime) {
     play(&rt, rt.alloc(), &ONE_CHANGE);
 }
 
-// Of 200 rows each of two sessions has 50 at most. The first insertion draws 44. The fifth splits the leaf, which makes two pages more
-// and keeps two rows. So the sixth draws the 8 rows that the session may still have, and the 42 that it has left stay its own.
-const SIX_INSERTIONS: Story = Story {
-    room: (200, 200),
+// Of 184 rows each of two sessions has 46 at most, and draws them with its first insertion. The fifth splits the leaf, whose lesser half
+// keeps three entries: that makes two pages more and keeps two rows. The eighth splits the upper half. So the ninth draws the 3 rows that
+// the session may still have, and the 43 that it has left stay its own.
+const NINE_INSERTIONS: Story = Story {
+    room: (200, 184),
     scenes: &[&[
-        InsertEach(1, 6, 1),
-        See(PoolRows(156)),
-        See(Rows(42)),
-        Call(One, Op::Insert(6, 6), Ok(Answer::Inserted)),
-        See(PoolRows(148)),
-        See(Rows(50)),
+        InsertEach(1, 9, 1),
+        See(PoolRows(138)),
+        See(Rows(43)),
+        Call(One, Op::Insert(9, 9), Ok(Answer::Inserted)),
+        See(PoolRows(135)),
+        See(Rows(46)),
     ]],
     end: End::StaysOpen,
 };
 
 #[test]
 fn a_draw_loses_no_row(rt: HostRuntime) {
-    play(&rt, rt.alloc(), &SIX_INSERTIONS);
+    play(&rt, rt.alloc(), &NINE_INSERTIONS);
 }
 
 // A page has 4 entries. The fifth insertion splits the leaf, which makes two pages more and keeps two rows. So fewer than the 44 rows
@@ -116,6 +117,7 @@ const LAST_PAGE_NUMBER: Story = Story {
         Call(One, Op::Replace(5, 50), Ok(Answer::Replaced(5))),
         Call(One, Op::Delete(4), Ok(Answer::Removed(4))),
         Call(One, Op::Insert(4, 40), Err(Full)),
+        Call(One, Op::Insert(3, 30), Ok(Answer::Exists(3))),
     ]],
     end: End::Closes(&[
         (1, Some(1)),

@@ -14,7 +14,12 @@ impl Two {
     // The first session looks up these keys by one call, which gives these answers.
     pub(crate) fn find_all(&mut self, rt: &impl Abort, keys: &[u64], expected: &[Option<u64>]) {
         assert!(rt; keys.len() <= MOST, "too many keys");
-        let Two { map, one, other: _ } = self;
+        let Two {
+            map,
+            places: _,
+            one,
+            other: _,
+        } = self;
         let mut answers = [None; MOST];
         let answers = &mut answers[..keys.len()];
         map.find_all(one, keys, answers);

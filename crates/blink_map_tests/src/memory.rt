@@ -1,4 +1,5 @@
 //! Memory that is refused when a map opens and closes. `rt try --test --fail-alloc N` refuses the Nth request; without it none is.
+use crate::shared::close;
 use blink_index::Index;
 use blink_map::{Map, MapError, Room};
 use std::alloc::Global;
@@ -12,8 +13,8 @@ const ROOM: Room = Room {
 
 // Opens a map over the index, and closes it.
 fn open_and_close(alloc: Global, index: &Index) -> Result<Index, MapError> {
-    let map = Map::open(alloc, index, ROOM)?;
-    map.close(alloc, Vec::new(alloc))
+    let (map, _sessions) = Map::open(alloc, index, ROOM)?;
+    close(alloc, map)
 }
 
 // After a refusal the same calls succeed: one request alone is refused.

@@ -16,13 +16,13 @@ impl Two {
     }
 }
 
-// 300 rows would be used up after 300 changes, were each written once. The session has drawn as few as an insertion may need, since
-// the rows that it writes over come back in time.
+// 300 rows would be used up after 300 changes, were each written once. The session has drawn the 75 rows that it may have, and no
+// more, since the rows that it writes over come back in time.
 #[test]
 fn many_changes_take_few_rows(rt: HostRuntime) {
     let mut two = Two::open(&rt, rt.alloc(), (100, 300));
     for pointer in 0..TURNS {
         two.insert_and_delete(&rt, 7, pointer);
     }
-    two.see(&rt, PoolRows(256));
+    two.see(&rt, PoolRows(225));
 }

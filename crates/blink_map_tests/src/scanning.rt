@@ -37,7 +37,12 @@ impl Two {
 
     fn scan(&mut self, rt: &impl Abort, case: &Scan) {
         assert!(rt; case.places <= 20, "too many places");
-        let Two { map, one, other: _ } = self;
+        let Two {
+            map,
+            places: _,
+            one,
+            other: _,
+        } = self;
         let mut into = [BEFORE; 20];
         let (lo, hi) = case.range;
         let scanned = map.scan(one, lo, hi, &mut into[..case.places]);

@@ -1,10 +1,11 @@
 //! A map with two sessions, whose calls have no condition: what is so of them is in the type.
-ghost use Rattle.blink_map.specs.{IsSessionOf};
+ghost use Rattle.std.specs.Prelude.{◌≡◌};
+ghost use Rattle.blink_map.specs.{IsSessionOf, map_at};
 
 use crate::same::{given, same_for};
 use blink_batch::{Answer, Op};
 use blink_index::Index;
-use blink_map::{Full, Map, MapError, Room, Session};
+use blink_map::{Full, Map, MapError, Places, Room, Session};
 use std::alloc::Global;
 use std::process::Abort;
 use std::sync::Wait;
@@ -13,8 +14,10 @@ use std::sync::Wait;
 #[derive(Drop)]
 pub(crate) struct Two {
     pub(crate) map: Map,
+    pub(crate) places: Places,
     pub(crate) one: Session,
     pub(crate) other: Session,
+    ghost its_places: { map_at places ≡ map },
     ghost ones: { IsSessionOf map one },
     ghost others: { IsSessionOf map other },
 }
@@ -39,10 +42,17 @@ impl Two {
             rows,
             sessions: 2,
         };
-        let map = Map::open(alloc, index, room).expect(rt, "no map");
-        let one = map.join().expect(rt, "no place");
-        let other = map.join().expect(rt, "no second place");
-        Two { map, one, other }
+        let (map, mut sessions) = Map::open(alloc, index, room).expect(rt, "no map");
+        let places = Places::new(alloc, &map).expect(rt, "no places");
+        places.leave_all(&mut sessions);
+        let one = places.join().expect(rt, "no place");
+        let other = places.join().expect(rt, "no second place");
+        Two {
+            map,
+            places,
+            one,
+            other,
+        }
     }
 
     // The session's operation gives this.
@@ -53,7 +63,12 @@ impl Two {
         op: Op,
         expected: Result<Answer, Full>,
     ) {
-        let Two { map, one, other } = self;
+        let Two {
+            map,
+            places: _,
+            one,
+            other,
+        } = self;
         match who {
             Who::One => call(rt, map, one, op, expected),
             Who::Other => call(rt, map, other, op, expected),
@@ -78,9 +93,15 @@ impl Two {
 
     // The first session and the second change places.
     pub(crate) fn turn(self) -> Two {
-        let Two { map, one, other } = self;
+        let Two {
+            map,
+            places,
+            one,
+            other,
+        } = self;
         Two {
             map,
+            places,
             one: other,
             other: one,
         }
@@ -88,25 +109,49 @@ impl Two {
 
     // The first session tells the second.
     pub(crate) fn tell(&mut self) {
-        let Two { map, one, other } = self;
+        let Two {
+            map,
+            places: _,
+            one,
+            other,
+        } = self;
         map.tell(one, other);
     }
 
     // The first session leaves, and another takes its place.
     pub(crate) fn leave_and_join(self, rt: &impl Abort) -> Two {
-        let Two { map, one, other } = self;
-        map.leave(one);
-        let one = map.join().expect(rt, "no place again");
-        Two { map, one, other }
+        let Two {
+            map,
+            places,
+            one,
+            other,
+        } = self;
+        places.leave(one);
+        let one = places.join().expect(rt, "no place again");
+        Two {
+            map,
+            places,
+            one,
+            other,
+        }
     }
 
     pub(crate) fn close(self, alloc: Global) -> Result<Index, MapError> {
         let Two {
             map,
+            places: _places,
             one: _one,
             other: _other,
         } = self;
-        map.close(alloc, Vec::new(alloc))
+        close(alloc, map)
+    }
+}
+
+// Closes the map without its sessions.
+pub(crate) fn close(alloc: Global, map: Map) -> Result<Index, MapError> {
+    match map.close(alloc, Vec::new(alloc), Vec::new(alloc)) {
+        Ok(index) => Ok(index),
+        Err(unclosed) => Err(unclosed.refusal()),
     }
 }
 

@@ -24,7 +24,7 @@ pub(crate) enum Sight {
 impl Two {
     pub(crate) fn see(&self, rt: &impl Abort, sight: Sight) {
         match sight {
-            Sight::NoThirdPlace => same(rt, &self.map.join().err(), &Some(MapError::NoPlace)),
+            Sight::NoThirdPlace => same(rt, &self.places.join().err(), &Some(MapError::NoPlace)),
             Sight::Stock(who, stock) => same(rt, &self.map.stock(self.session(who)), &stock),
             Sight::Rows(rows) => same(rt, &rows_of(self.map.stock(&self.one)), &rows),
             Sight::LacksRoom(who, op) => {

@@ -28,7 +28,12 @@ impl Two {
     }
 
     fn snapshot(&mut self, rt: &impl Abort, alloc: Global, case: &Taken) {
-        let Two { map, one, other: _ } = self;
+        let Two {
+            map,
+            places: _,
+            one,
+            other: _,
+        } = self;
         let (lo, hi) = case.range;
         let found = given(rt, map.snapshot(alloc, one, lo, hi, 1));
         let entries = found.expect(rt, "no snapshot");

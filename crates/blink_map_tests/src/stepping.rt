@@ -4,7 +4,7 @@ ghost use Rattle.blink_map.specs.{IsPendingOf, IsSessionOf};
 
 use crate::same::{same, same_for};
 use crate::shared::Who::{One, Other};
-use crate::shared::{Two, Who, call};
+use crate::shared::{Two, Who, call, close};
 use crate::story::Act::{AtOnce, Call, InSteps, InsertEach, Interrupt};
 use crate::story::{End, Story, play};
 use blink_batch::{Answer, Op};
@@ -191,30 +191,60 @@ impl Two {
         op: Op,
         expected: Result<Answer, Full>,
     ) -> Two {
-        let Two { map, one, other } = self;
+        let Two {
+            map,
+            places,
+            one,
+            other,
+        } = self;
         match who {
             One => {
                 let one = run_in_steps(rt, &map, one, op, expected);
-                Two { map, one, other }
+                Two {
+                    map,
+                    places,
+                    one,
+                    other,
+                }
             }
             Other => {
                 let other = run_in_steps(rt, &map, other, op, expected);
-                Two { map, one, other }
+                Two {
+                    map,
+                    places,
+                    one,
+                    other,
+                }
             }
         }
     }
 
     // The session's operation ends at the first try.
     pub(crate) fn call_at_once(self, rt: &impl Abort, who: Who, op: Op, answer: Answer) -> Two {
-        let Two { map, one, other } = self;
+        let Two {
+            map,
+            places,
+            one,
+            other,
+        } = self;
         match who {
             One => {
                 let one = run_at_once(rt, &map, one, op, answer);
-                Two { map, one, other }
+                Two {
+                    map,
+                    places,
+                    one,
+                    other,
+                }
             }
             Other => {
                 let other = run_at_once(rt, &map, other, op, answer);
-                Two { map, one, other }
+                Two {
+                    map,
+                    places,
+                    one,
+                    other,
+                }
             }
         }
     }
@@ -229,13 +259,19 @@ impl Two {
     ) -> Two {
         let Two {
             map,
+            places,
             one,
             mut other,
         } = self;
         let begun = begun(rt, &map, one, op);
         apply_all(rt, &map, &mut other, meanwhile);
         let one = end_with(rt, &map, begun, expected);
-        Two { map, one, other }
+        Two {
+            map,
+            places,
+            one,
+            other,
+        }
     }
 
     // The first session begins the operation, and is dropped with it. The second does its own, and the map is closed.
@@ -248,12 +284,13 @@ impl Two {
     ) -> Result<Index, MapError> {
         let Two {
             map,
+            places: _places,
             one,
             mut other,
         } = self;
         let _lost = begun(rt, &map, one, op);
         apply_all(rt, &map, &mut other, meanwhile);
-        map.close(alloc, Vec::new(alloc))
+        close(alloc, map)
     }
 
     // The first session begins the operation. While that rests, the second writes each of its rows many times. Then the operation
@@ -261,6 +298,7 @@ impl Two {
     fn rest_meanwhile<R: Wait + Abort>(self, rt: &R, op: Op, expected: Answer) {
         let Two {
             map,
+            places: _places,
             one,
             mut other,
         } = self;
@@ -273,6 +311,7 @@ impl Two {
     fn lose_meanwhile<R: Wait + Abort>(self, rt: &R, op: Op) {
         let Two {
             map,
+            places: _places,
             one,
             mut other,
         } = self;

@@ -3,7 +3,7 @@ ghost use Rattle.blink_map.specs.{IsSessionOf};
 
 use crate::beside::{Told, Work, in_two_threads};
 use crate::same::{given, same};
-use crate::shared::{Two, apply};
+use crate::shared::{Two, apply, close};
 use crate::stepping::apply_in_steps;
 use blink_batch::{Answer, Op};
 use blink_index::Index;
@@ -77,7 +77,7 @@ fn each_entry_is_inserted_once_more_than_removed(rt: HostRuntime) {
     let told = Told::nothing();
     let works = (Work::ChangeDrawn(7), Work::ChangeDrawn(11));
     let map = in_two_threads(&rt, alloc, two, works, &told);
-    let index = given(&rt, map.close(alloc, Vec::new(alloc)));
+    let index = given(&rt, close(alloc, map));
     balance(&rt, &told.counts, &index);
 }
 

@@ -8,6 +8,7 @@ pub mod Overlays
 pub mod RunsInParts
 pub mod PassesCross
 pub mod KeysOfPasses
+pub mod MapsCross
 pub mod SessionsCross
 pub mod SessionsGoOn
 pub mod SnapshotsAreGiven

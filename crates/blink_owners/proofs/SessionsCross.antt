@@ -3,16 +3,16 @@ use denote.Param.Send.{IsSend, enum_send, recorded_send, sendable, struct_send}
 use denote.Struct.Declared as struct
 use denote.Enum.Declared as enum
 use Rattle.std.proofs.Crossing as heap
-use Rattle.blink_map.specs.contracts.map.Map as Map
-use Rattle.blink_map.proofs.map.Map.TheSendSync as map
 use Rattle.blink_map.proofs.map.Session.TheSendSync as session
 use Rattle.blink_map.proofs.PendingsAreSent.{pending_send as pending}
 use Rattle.blink_owners.specs.contracts.session_owner.HeldSession as Held
 use Rattle.blink_owners.specs.contracts.session_owner.SessionOwner as SessionOwner
+use Rattle.blink_owners.specs.contracts.shared_map.SharedMap as SharedMap
+use Rattle.blink_owners.proofs.shared_map.SharedMap.TheSendSync as shared
 
 held : IsSend (Held.the_field).row
 held = enum_send (enum.shape Held.the_type) ((session.the_field_send, tt), ((pending, tt), ((pending, (search sendable, (search sendable, tt))), (tt, tt))))
 
 pub owner_send : IsSend SessionOwner.the_row
 owner_send = recorded_send (SessionOwner.the_field).row _ _ (SessionOwner.the_type).to_one
-    (struct_send (struct.shape SessionOwner.the_type) (heap.Arc-send Map.the_row map.the_send map.the_sync, (search sendable, (held, tt))))
+    (struct_send (struct.shape SessionOwner.the_type) (heap.Arc-send SharedMap.the_row shared.the_send shared.the_sync, (search sendable, (held, tt))))

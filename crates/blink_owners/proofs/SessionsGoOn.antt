@@ -1,17 +1,22 @@
 -- A session whose operation goes on: what a call makes of it, where the handle was empty within the call.
-use Rattle.std.proofs.Common.{◌≡◌, ℕ, Result, Ok, Err, IfErr, OnErr, OnOk, ap, ◌∙◌, subst}
+use Rattle.std.proofs.Common.{◌≡◌, ◌≢◌, ℕ, refl, Result, Ok, Err, IfErr, OnErr, OnOk, ap, ◌∙◌, subst}
 use Rattle.std.specs.Arc.{arc_value}
+use Rattle.std.specs.declared.alloc.Global.{Global}
+use Rattle.std.specs.declared.sync.Arc.{Arc}
 use Rattle.blink_batch.specs.declared.Op.{Op}
+use Rattle.blink_batch.specs.declared.Op.TheVariants.{Delete, DeleteExact, Exchange, Find, Insert, Replace}
 use Rattle.blink_map.specs.declared.map.Map.{Map}
 use Rattle.blink_map.specs.declared.map.Session.{Session}
 use Rattle.blink_map.specs.declared.map.Pending.{Pending}
-use Rattle.blink_map.specs.{GoesOn, HasTried, IsAnswered, IsPendingOf, IsPut}
-use Rattle.blink_map.proofs.PutsAreChanges.{tried_twice}
+use Rattle.blink_live.proofs.Offered.{prefix_of_prefix}
+use Rattle.blink_map.specs.{GoesOn, HasTried, IsAnswered, IsPendingOf, IsPut, seen_by}
+use Rattle.blink_map.proofs.PutsAreChanges.{absent_then, tried_twice}
 use Rattle.blink_owners.specs.declared.raw.RawAnswer.{RawAnswer}
 use Rattle.blink_owners.specs.declared.map_refusal.MapRefusal.{MapRefusal}
 use Rattle.blink_owners.specs.declared.map_refusal.MapRefusal.TheVariants as refused
 use Rattle.blink_owners.specs.declared.session_owner.SessionOwner.{SessionOwner}
-use Rattle.blink_owners.specs.Sessions.{HasAnswered, HasPut, IsNotEnded, IsNotPut, IsOfSameMap, LacksRoomFor, LacksRoomToPut, StaysBusy, in_map}
+use Rattle.blink_owners.specs.declared.shared_map.SharedMap.{SharedMap}
+use Rattle.blink_owners.specs.Sessions.{HasAnswered, HasPut, IsNotEnded, IsNotPut, IsOfSameMap, LacksKeyOf, LacksRoomFor, LacksRoomToPut, StaysBusy, in_map}
 
 -- ---- by the outcome
 
@@ -32,7 +37,7 @@ on_err (Err refusal) then holds why = then refusal holds why
 
 module _ (old gone new : SessionOwner) (same : IsOfSameMap old gone) where
   pub one_map : in_map gone ≡ in_map old
-  one_map = ap arc_value same.same_map
+  one_map = ap (λ (shared : Arc SharedMap Global). (arc_value shared).map) same.same_map
 
   pub same_through : IsOfSameMap gone new → IsOfSameMap old new
   same_through then = record { same_map = then.same_map ∙ same.same_map; same_number = then.same_number ∙ same.same_number }
@@ -72,7 +77,10 @@ module _ (old gone new : SessionOwner) (same : IsOfSameMap old gone) where
     same = same_through lacks.same;
     op = lacks.op;
     of_put = lacks.of_put;
+    last = lacks.last;
+    lacks = lacks.lacks;
     shortage = lacks.shortage;
+    absent = subst (λ (map : Map). LacksKeyOf map lacks.op before lacks.now) one_map lacks.absent;
     tried = lacks.tried;
   }
 
@@ -91,6 +99,18 @@ module _ (old gone new : SessionOwner) (same : IsOfSameMap old gone) where
   not_put_through key pointer before refused.Missing is = is
   not_put_through key pointer before refused.Foreign is = is
   not_put_through key pointer before refused.Idle is = is
+  not_put_through key pointer before refused.Closed is = is
+
+  pub lacks_for_through : (op : Op) (before : Session) (refusal : MapRefusal) → LacksRoomFor op before gone new refusal → LacksRoomFor op before old new refusal
+  lacks_for_through op before refusal lacks = record {
+    now = lacks.now;
+    is = lacks.is;
+    same = same_through lacks.same;
+    lacks = lacks.lacks;
+    shortage = lacks.shortage;
+    absent = subst (λ (map : Map). LacksKeyOf map op before lacks.now) one_map lacks.absent;
+    unchanged = lacks.unchanged;
+  }
 
 -- ---- a session that lacks room
 
@@ -102,6 +122,7 @@ not_ended_for_room op before old new (refused.Map refusal) lacks = lacks.shortag
 not_ended_for_room op before old new refused.Missing lacks = lacks.shortage
 not_ended_for_room op before old new refused.Foreign lacks = lacks.shortage
 not_ended_for_room op before old new refused.Idle lacks = lacks.shortage
+not_ended_for_room op before old new refused.Closed lacks = lacks.shortage
 
 pub not_put_for_room : (key pointer : ℕ) (before : Session) (old new : SessionOwner) (refusal : MapRefusal) → LacksRoomToPut key pointer before old new refusal
     → IsNotPut key pointer before old new refusal
@@ -112,6 +133,34 @@ not_put_for_room key pointer before old new (refused.Map refusal) lacks = lacks.
 not_put_for_room key pointer before old new refused.Missing lacks = lacks.shortage
 not_put_for_room key pointer before old new refused.Foreign lacks = lacks.shortage
 not_put_for_room key pointer before old new refused.Idle lacks = lacks.shortage
+not_put_for_room key pointer before old new refused.Closed lacks = lacks.shortage
+
+-- a key that was absent was so since an earlier time
+pub absent_before : (map : Map) (op : Op) (first before now : Session) → HasTried first before → LacksKeyOf map op before now → LacksKeyOf map op first now
+absent_before map (Insert key pointer) first before now tried absent = absent_then first before now tried map key absent
+absent_before map (Find key) first before now tried absent = tt
+absent_before map (Delete key) first before now tried absent = tt
+absent_before map (Replace key pointer) first before now tried absent = tt
+absent_before map (Exchange key expected pointer) first before now tried absent = tt
+absent_before map (DeleteExact key expected) first before now tried absent = tt
+
+-- and one that has been absent up to a time was so up to a later one
+pub absent_later : (map : Map) (op : Op) (first before now : Session) → HasTried before now → LacksKeyOf map op first before → LacksKeyOf map op first now
+absent_later map (Insert key pointer) first before now tried absent = record { before = absent.before; saw = absent.saw; absent = absent.absent; goes_on = prefix_of_prefix absent.before (seen_by before) (seen_by now) absent.goes_on tried.saw }
+absent_later map (Find key) first before now tried absent = tt
+absent_later map (Delete key) first before now tried absent = tt
+absent_later map (Replace key pointer) first before now tried absent = tt
+absent_later map (Exchange key expected pointer) first before now tried absent = tt
+absent_later map (DeleteExact key expected) first before now tried absent = tt
+
+-- an operation that doesn't insert
+pub no_insertion : (map : Map) (op : Op) (before now : Session) → ((key pointer : ℕ) → op ≢ Insert key pointer) → LacksKeyOf map op before now
+no_insertion map (Insert key pointer) before now other = absurd (other key pointer refl)
+no_insertion map (Find key) before now other = tt
+no_insertion map (Delete key) before now other = tt
+no_insertion map (Replace key pointer) before now other = tt
+no_insertion map (Exchange key expected pointer) before now other = tt
+no_insertion map (DeleteExact key expected) before now other = tt
 
 lacks_before : (key pointer : ℕ) (first before : Session) (old new : SessionOwner) (refusal : MapRefusal) → HasTried first before
     → LacksRoomToPut key pointer before old new refusal → LacksRoomToPut key pointer first old new refusal
@@ -121,7 +170,10 @@ lacks_before key pointer first before old new refusal tried lacks = record {
   same = lacks.same;
   op = lacks.op;
   of_put = lacks.of_put;
+  last = lacks.last;
+  lacks = lacks.lacks;
   shortage = lacks.shortage;
+  absent = absent_before (in_map old) lacks.op first before lacks.now tried lacks.absent;
   tried = tried_twice first before lacks.now tried lacks.tried;
 }
 
@@ -142,3 +194,4 @@ not_put_before key pointer first before old new (refused.Map refusal) tried is =
 not_put_before key pointer first before old new refused.Missing tried is = is
 not_put_before key pointer first before old new refused.Foreign tried is = is
 not_put_before key pointer first before old new refused.Idle tried is = is
+not_put_before key pointer first before old new refused.Closed tried is = is

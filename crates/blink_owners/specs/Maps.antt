@@ -1,27 +1,40 @@
 -- A map behind a handle: what the calls make of it, and why they are refused.
-use Rattle.std.specs.Prelude.{◌≡◌, ◌⊎◌, ◌<◌, ◌≤◌, ℕ}
+use Rattle.std.specs.Prelude.{◌≡◌, ◌⊎◌, ◌<◌, ◌≤◌, ℕ, List, [], All, ⊤}
 use Rattle.std.specs.Arc.{arc_value}
 use Rattle.blink_map.specs.declared.error.MapError.{MapError}
 use Rattle.blink_map.specs.declared.error.MapError.TheVariants as map
 use Rattle.blink_map.specs.declared.map.Map.{Map}
 use Rattle.blink_map.specs.declared.map.Room.{Room}
 use Rattle.blink_map.specs.declared.map.Session.{Session}
-use Rattle.blink_map.specs.{IsOpenedWith, IsSessionOf, IsTooLarge}
+use Rattle.blink_map.specs.{IsClosedWith, IsOpenedWith, IsSessionOf, IsTooLarge}
+use Rattle.blink_batch.specs.declared.Entry.{Entry}
 use Rattle.blink_store.specs.{PlainStore}
 use Rattle.blink_owners.specs.declared.map_owner.MapOwner.{MapOwner}
 use Rattle.blink_owners.specs.declared.map_refusal.MapRefusal.{MapRefusal}
 use Rattle.blink_owners.specs.declared.map_refusal.MapRefusal.TheVariants as refused
+use Rattle.blink_owners.specs.declared.map_state.MapState.{MapState}
+use Rattle.blink_owners.specs.declared.map_state.MapState.TheVariants.{Open, Unsettled, Closed}
 use Rattle.blink_owners.specs.declared.session_owner.HeldSession.TheVariants.{Free}
 use Rattle.blink_owners.specs.declared.session_owner.SessionOwner.{SessionOwner}
 use Rattle.blink_owners.specs.Sessions.{in_map}
 
 -- the map
 abbrev pub map_in : MapOwner → Map
-map_in owner = arc_value owner.shared
+map_in owner = owner.map.value
 
 -- the fan of its tree
 abbrev pub fan_in : MapOwner → ℕ
 fan_in owner = (map_in owner).live.fan
+
+-- what is held is this map: it is open, or couldn't be settled with these sessions; or nothing is left of it
+abbrev pub IsStateOf : Map → MapState → Type 0
+IsStateOf map (Open shared) = (arc_value shared).map ≡ map
+IsStateOf map (Unsettled unsettled) = (unsettled.map ≡ map) × All (IsSessionOf map) unsettled.sessions.items × (unsettled.receipts.items ≡ [])
+IsStateOf map Closed = ⊤
+
+-- a handle that a call has filled holds what is of its map
+abbrev pub IsOwnMap : MapOwner → Type 0
+IsOwnMap owner = IsStateOf (map_in owner) owner.state
 
 -- ---- opening
 
@@ -48,6 +61,9 @@ pub record IsOwnerOfSame (owner other : MapOwner) : Type 0 where
   pub one_map : map_in other ≡ map_in owner
   pub one_number : other.number ≡ owner.number
 
+abbrev pub IsShareFault : MapRefusal → Type 0
+IsShareFault refusal = (refusal ≡ refused.Map map.OutOfMemory) ⊎ (refusal ≡ refused.Closed)
+
 -- ---- joining
 
 -- the new handle has a session of the map
@@ -63,6 +79,11 @@ IsJoinFault refusal = (refusal ≡ map.OutOfMemory) ⊎ (refusal ≡ map.NoPlace
 
 -- ---- closing
 
+-- the entries are the map's opening ones after one list of changes, which goes on from all that some sessions of the map had seen,
+-- and has exactly the changes that were made at their places
+abbrev pub IsClosedMap : Map → List Entry → Type 0
+IsClosedMap map entries = (sessions : List Session) × IsClosedWith map sessions [] entries
+
 abbrev pub IsCloseFault : MapRefusal → Type 0
 IsCloseFault refusal =
-    (refusal ≡ refused.Map map.OutOfMemory) ⊎ (refusal ≡ refused.Map map.UnderWay) ⊎ (refusal ≡ refused.Missing)
+    (refusal ≡ refused.Map map.OutOfMemory) ⊎ (refusal ≡ refused.Map map.UnderWay) ⊎ (refusal ≡ refused.Missing) ⊎ (refusal ≡ refused.Closed)

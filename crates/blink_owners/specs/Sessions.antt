@@ -12,7 +12,7 @@ use Rattle.blink_map.specs.declared.error.MapError.TheVariants.{OutOfMemory}
 use Rattle.blink_map.specs.declared.map.Map.{Map}
 use Rattle.blink_map.specs.declared.map.Session.{Session}
 use Rattle.blink_map.specs.declared.map.Pending.{Pending}
-use Rattle.blink_map.specs.{GoesOn, HasBegun, HasTried, IsAnswered, IsPendingOf, IsPut, IsSameBesideRoom, IsSameBesideSeen, IsSameSession, IsSessionOf, LacksRoom, LacksRoomInAll, op_of, opening_of, seen_by, session_of, stock_of}
+use Rattle.blink_map.specs.{GoesOn, HasBegun, HasTried, IsAnswered, IsPendingOf, IsPut, IsSameBesideSeen, IsSameSession, IsSessionOf, LacksRoom, LacksRoomInAll, op_of, opening_of, seen_by, session_of, stock_of, WasAbsent}
 use Rattle.blink_owners.specs.declared.raw.RawAnswer.{RawAnswer}
 use Rattle.blink_owners.specs.declared.raw.RawScanned.{RawScanned}
 use Rattle.blink_owners.specs.declared.raw.RawStock.{RawStock}
@@ -28,7 +28,7 @@ use Rattle.blink_owners.specs.Reports.{HasReported, TellsTaken}
 
 -- the map
 abbrev pub in_map : SessionOwner → Map
-in_map owner = arc_value owner.shared
+in_map owner = (arc_value owner.shared).map
 
 -- the operation is one of a put: it inserts, or replaces
 abbrev pub IsOfPut : ℕ → ℕ → Op → Type 0
@@ -157,14 +157,20 @@ IsShortage op session refused.Full = LacksRoomInAll op session
 IsShortage op session refused.RowsBusy = ¬ LacksRoomInAll op session
 IsShortage op session refusal = ⊥
 
--- the session lacked room, and is as it was beside
+-- where the operation is an insertion, its key was absent
+abbrev pub LacksKeyOf : Map → Op → Session → Session → Type 0
+LacksKeyOf map (Insert key pointer) before now = WasAbsent map key before now
+LacksKeyOf map op before now = ⊤
+
+-- the session lacked room, and has made no change
 pub record LacksRoomFor (op : Op) (before : Session) (old new : SessionOwner) (refusal : MapRefusal) : Type 0 where
   pub now : Session
   pub is : new.held ≡ Free now
   pub same : IsOfSameMap old new
   pub lacks : LacksRoom op before now
   pub shortage : IsShortage op now refusal
-  pub unchanged : IsSameBesideRoom before now
+  pub absent : LacksKeyOf (in_map old) op before now
+  pub unchanged : HasTried before now
 
 -- why the operation of a free session hasn't ended
 abbrev pub IsNotEnded : Op → Session → SessionOwner → SessionOwner → MapRefusal → Type 0
@@ -210,14 +216,18 @@ pub record IsPuttingOn (key pointer : ℕ) (before : Session) (old new : Session
   pub of_put : IsOfPut key pointer (op_of pending)
   pub tried : HasTried before (session_of pending)
 
--- the session lacked room for an operation of the put, and has made no change
+-- the session lacked room for an operation of the put, before which it was `last`, and has made no change. Where that operation is an
+-- insertion, the key was absent
 pub record LacksRoomToPut (key pointer : ℕ) (before : Session) (old new : SessionOwner) (refusal : MapRefusal) : Type 0 where
   pub now : Session
   pub is : new.held ≡ Free now
   pub same : IsOfSameMap old new
   pub op : Op
   pub of_put : IsOfPut key pointer op
+  pub last : Session
+  pub lacks : LacksRoom op last now
   pub shortage : IsShortage op now refusal
+  pub absent : LacksKeyOf (in_map old) op before now
   pub tried : HasTried before now
 
 -- why a put hasn't ended

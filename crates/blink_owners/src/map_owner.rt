@@ -1,29 +1,36 @@
-//! What the box of a map's handle holds: an owner of the map.
-ghost use Rattle.std.specs.Prelude.{◌≡◌, ◌↔◌, IfErr, IfOk, IsErrOf, [], length};
+//! What the box of a map's handle holds: an owner of the map, or what has become of it.
+ghost use Rattle.std.specs.Prelude.{◌≡◌, ◌↔◌, [], All, IfErr, IfOk, IsErrOf, length};
+ghost use Rattle.std.specs.Arc.{arc_value};
 ghost use Rattle.blink_index.specs.{map_of};
 ghost use Rattle.blink_live.specs.{IsNumberedInOrder};
-ghost use Rattle.blink_map.specs.{IsClosedWith};
-ghost use Rattle.blink_owners.specs.Maps.{HasBadSessions, IsCloseFault, IsJoinFault, IsNewMap, IsOpenFault, IsOwnerOfSame, IsTooLargeMap, Joins, fan_in, map_in};
+ghost use Rattle.blink_map.specs.{IsSessionOf};
+ghost use Rattle.blink_owners.specs.Maps.{HasBadSessions, IsCloseFault, IsClosedMap, IsJoinFault, IsNewMap, IsOpenFault, IsOwnMap, IsOwnerOfSame, IsShareFault, IsTooLargeMap, Joins, fan_in, map_in};
 ghost use Rattle.blink_owners.specs.Sessions.{IsOwnSession, in_map};
 
 use crate::map_refusal::MapRefusal;
+use crate::map_state::MapState;
 use crate::session_owner::{HeldSession, SessionOwner};
+use crate::shared_map::SharedMap;
 use blink_index::Index;
-use blink_map::{Map, MapError, Room};
+use blink_map::{Map, MapError, Receipt, Room, Session, Unclosed, Unsettled};
 use std::alloc::{AllocError, Global};
+use std::mem;
+use std::snapshot::Snapshot;
 use std::sync::Arc;
 
 /// An owner of a map, with the right to join it and to close it.
 #[derive(Drop)]
 pub struct MapOwner {
-    /// The map.
-    pub shared: Arc<Map>,
-    /// The number that the caller gave the map.
+    /// The map, or what has become of it.
+    pub state: MapState,
+    /// The map as it was opened.
+    pub map: Snapshot<Map>,
+    /// Its number, by which its sessions are told from those of other maps.
     pub number: u64,
 }
 
 impl MapOwner {
-    /// Opens a map over the index, in a box.
+    /// Opens a map over the index, in a box. Its sessions rest.
     pub fn open(
         alloc: Global,
         index: &Index,
@@ -31,12 +38,13 @@ impl MapOwner {
         number: u64,
     ) -> Result<Box<MapOwner>, MapError>
         ensures opened { IfOk result (λ map. IsNewMap index.now room number map.value) }
+        ensures its_own { IfOk result (λ map. IsOwnMap map.value) }
         ensures sessions { IsErrOf result MapError.Sessions ↔ HasBadSessions room }
         ensures too_large { IsErrOf result MapError.TooLarge ↔ IsTooLargeMap (length index.now.pages) room }
         ensures refused { IfErr result IsOpenFault }
     {
         match Map::open(alloc, index, room) {
-            Ok(map) => match MapOwner::boxed(alloc, map, number) {
+            Ok((map, sessions)) => match MapOwner::boxed(alloc, map, sessions, number) {
                 Ok(owner) => Ok(owner),
                 Err(_) => Err(MapError::OutOfMemory),
             },
@@ -47,44 +55,74 @@ impl MapOwner {
     }
 
     // A map in a box.
-    fn boxed(alloc: Global, map: Map, number: u64) -> Result<Box<MapOwner>, AllocError>
+    fn boxed(
+        alloc: Global,
+        map: Map,
+        sessions: Vec<Session>,
+        number: u64,
+    ) -> Result<Box<MapOwner>, AllocError>
+        requires its_own { All (IsSessionOf map) sessions.items }
         ensures map { IfOk result (λ owner. map_in owner.value ≡ map) }
+        ensures its_own { IfOk result (λ owner. IsOwnMap owner.value) }
         ensures number { IfOk result (λ owner. owner.value.number ≡ number) }
     {
-        let Ok(shared) = Arc::new(alloc, map) else {
+        let opened = Snapshot::of(&map);
+        let shared = SharedMap::new(alloc, map, sessions)?;
+        let Ok(shared) = Arc::new(alloc, shared) else {
             return Err(AllocError);
         };
-        match Box::new(alloc, MapOwner { shared, number }) {
+        let owner = MapOwner {
+            state: MapState::Open(shared),
+            map: opened,
+            number,
+        };
+        match Box::new(alloc, owner) {
             Ok(owner) => Ok(owner),
             Err(_) => Err(AllocError),
         }
     }
 
-    /// One more owner of the map, in a box.
-    pub fn share(&self, alloc: Global) -> Result<Box<MapOwner>, AllocError>
-        ensures { IfOk result (λ other. IsOwnerOfSame self.now other.value) }
+    /// One more owner of the map, in a box. The call is refused with `Closed`, if a close of the map has begun; then with
+    /// `OutOfMemory`, if memory was refused.
+    pub fn share(&self, alloc: Global) -> Result<Box<MapOwner>, MapRefusal>
+        requires its_own { IsOwnMap self.now }
+        ensures shared { IfOk result (λ other. IsOwnerOfSame self.now other.value) }
+        ensures its_own { IfOk result (λ other. IsOwnMap other.value) }
+        ensures refused { IfErr result IsShareFault }
     {
-        let shared = Arc::try_clone(&self.shared)?;
+        let MapState::Open(shared) = &self.state else {
+            return Err(MapRefusal::Closed);
+        };
+        let map = Snapshot::of(&shared.map);
+        let Ok(shared) = Arc::try_clone(shared) else {
+            return Err(MapRefusal::Map(MapError::OutOfMemory));
+        };
         let owner = MapOwner {
-            shared,
+            state: MapState::Open(shared),
+            map,
             number: self.number,
         };
         match Box::new(alloc, owner) {
             Ok(other) => Ok(other),
-            Err(_) => Err(AllocError),
+            Err(_) => Err(MapRefusal::Map(MapError::OutOfMemory)),
         }
     }
 
-    /// Joins the map, with the session in a box. The box is there before the session, so no place is lost.
+    /// Joins the map, with the session in a box. The box is there before the session, so no place is lost. No session rests where a
+    /// close of the map has begun.
     pub fn join(&self, alloc: Global) -> Result<Box<SessionOwner>, MapError>
+        requires its_own { IsOwnMap self.now }
         ensures joined { IfOk result (λ session. Joins self.now session.value) }
         ensures its_own { IfOk result (λ session. IsOwnSession session.value) }
         ensures refused { IfErr result IsJoinFault }
     {
-        let Ok(mut owner) = self.empty_owner(alloc) else {
+        let MapState::Open(shared) = &self.state else {
+            return Err(MapError::NoPlace);
+        };
+        let Ok(mut owner) = empty_owner(alloc, shared, self.number) else {
             return Err(MapError::OutOfMemory);
         };
-        match self.shared.join() {
+        match shared.places.join() {
             Ok(session) => {
                 owner.held = HeldSession::Free(session);
                 Ok(owner)
@@ -93,41 +131,108 @@ impl MapOwner {
         }
     }
 
-    // A box for a session, with one more owner of the map.
-    fn empty_owner(&self, alloc: Global) -> Result<Box<SessionOwner>, AllocError>
-        ensures map { IfOk result (λ session. in_map session.value ≡ map_in self.now) }
-        ensures number { IfOk result (λ session. session.value.number ≡ self.now.number) }
-    {
-        let shared = Arc::try_clone(&self.shared)?;
-        let owner = SessionOwner {
-            shared,
-            number: self.number,
-            held: HeldSession::Gone,
-        };
-        match Box::new(alloc, owner) {
-            Ok(session) => Ok(session),
-            Err(_) => Err(AllocError),
+    /// What the map's pool has left: rows, and page numbers.
+    pub fn room(&self) -> (u64, u64) {
+        match &self.state {
+            MapState::Open(shared) => shared.map.room(),
+            MapState::Unsettled(unsettled) => unsettled.map.room(),
+            MapState::Closed => (0, 0),
         }
     }
 
-    /// Closes the map, and returns the index of its tree, in a box. The map is given up either way.
-    pub fn close(self, alloc: Global) -> Result<Box<Index>, MapRefusal>
-        ensures entries { IfOk result
-            (λ index. IsClosedWith (map_in self) [] (map_of index.value)) }
-        ensures fan { IfOk result (λ index. index.value.fan ≡ fan_in self) }
+    /// Closes the map, and returns the index of its tree, in a box.
+    ///
+    /// The call is refused with `Closed`, if nothing is left of the map; with `Missing`, if another handle of the map or the handle of a
+    /// session isn't freed; with `UnderWay`, if an operation is under way in a session that was lost; and with `OutOfMemory`, if memory
+    /// was refused. After `Missing` and `UnderWay` the map stays, and the call may be made again.
+    pub fn close(&mut self, alloc: Global) -> Result<Box<Index>, MapRefusal>
+        requires its_own { IsOwnMap self.old }
+        ensures its_own { IsOwnMap self.new }
+        ensures same { IsOwnerOfSame self.old self.new }
+        ensures entries { IfOk result (λ index. IsClosedMap (map_in self.old) (map_of index.value)) }
+        ensures fan { IfOk result (λ index. index.value.fan ≡ fan_in self.old) }
         ensures numbered { IfOk result (λ index. IsNumberedInOrder index.value) }
         ensures refused { IfErr result IsCloseFault }
     {
-        let MapOwner { shared, number: _ } = self;
-        let Some(map) = Arc::into_inner(shared) else {
-            return Err(MapRefusal::Missing);
-        };
-        match map.close(alloc, Vec::new(alloc)) {
+        match mem::replace(&mut self.state, MapState::Closed) {
+            MapState::Open(shared) => {
+                let Ok(sessions) = Vec::with_capacity(alloc, shared.count()) else {
+                    self.state = MapState::Open(shared);
+                    return Err(MapRefusal::Map(MapError::OutOfMemory));
+                };
+                match Arc::try_unwrap(shared) {
+                    Ok(shared) => {
+                        let (map, sessions) = shared.gather(sessions);
+                        self.end(alloc, map, sessions, Vec::new(alloc))
+                    }
+                    Err(shared) => {
+                        self.state = MapState::Open(shared);
+                        Err(MapRefusal::Missing)
+                    }
+                }
+            }
+            MapState::Unsettled(unsettled) => {
+                let Unsettled {
+                    map,
+                    sessions,
+                    receipts,
+                } = unsettled;
+                self.end(alloc, map, sessions, receipts)
+            }
+            MapState::Closed => Err(MapRefusal::Closed),
+        }
+    }
+
+    // Closes the map with these sessions.
+    fn end(
+        &mut self,
+        alloc: Global,
+        map: Map,
+        sessions: Vec<Session>,
+        receipts: Vec<Receipt>,
+    ) -> Result<Box<Index>, MapRefusal>
+        requires its_map { map ≡ map_in self.old }
+        requires its_own { All (IsSessionOf map) sessions.items }
+        requires none { receipts.items ≡ [] }
+        ensures its_own { IsOwnMap self.new }
+        ensures same { IsOwnerOfSame self.old self.new }
+        ensures entries { IfOk result (λ index. IsClosedMap map (map_of index.value)) }
+        ensures fan { IfOk result (λ index. index.value.fan ≡ fan_in self.old) }
+        ensures numbered { IfOk result (λ index. IsNumberedInOrder index.value) }
+        ensures refused { IfErr result IsCloseFault }
+    {
+        self.state = MapState::Closed;
+        match map.close(alloc, sessions, receipts) {
             Ok(index) => match Box::new(alloc, index) {
                 Ok(index) => Ok(index),
                 Err(_) => Err(MapRefusal::Map(MapError::OutOfMemory)),
             },
-            Err(refusal) => Err(MapRefusal::Map(refusal)),
+            Err(Unclosed::UnderWay(unsettled)) => {
+                self.state = MapState::Unsettled(unsettled);
+                Err(MapRefusal::Map(MapError::UnderWay))
+            }
+            Err(Unclosed::Settled(_settled)) => Err(MapRefusal::Map(MapError::OutOfMemory)),
         }
+    }
+}
+
+// A box for a session, with one more owner of the map.
+fn empty_owner(
+    alloc: Global,
+    shared: &Arc<SharedMap>,
+    number: u64,
+) -> Result<Box<SessionOwner>, AllocError>
+    ensures map { IfOk result (λ session. in_map session.value ≡ (arc_value shared.now).map) }
+    ensures number { IfOk result (λ session. session.value.number ≡ number) }
+{
+    let shared = Arc::try_clone(shared)?;
+    let owner = SessionOwner {
+        shared,
+        number,
+        held: HeldSession::Gone,
+    };
+    match Box::new(alloc, owner) {
+        Ok(session) => Ok(session),
+        Err(_) => Err(AllocError),
     }
 }

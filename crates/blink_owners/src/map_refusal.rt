@@ -3,7 +3,7 @@ ghost use Rattle.std.specs.Prelude.{◌≡◌};
 ghost use Rattle.blink_owners.specs.Codes.{code_of_outcome};
 ghost use Rattle.blink_owners.specs.MapCodes.{code_of};
 
-use crate::refusal::DONE;
+use crate::refusal::{Code, DONE};
 use blink_map::MapError;
 
 /// Why a call on a map or a session is refused.
@@ -23,27 +23,30 @@ pub enum MapRefusal {
     UnderWay,
     /// The session has no operation under way.
     Idle,
+    /// A close of the map has begun.
+    Closed,
 }
 
 impl MapRefusal {
     /// The refusal's code: that of the call which refuses so, or one of this crate's own.
-    pub fn code(&self) -> u8
+    pub fn code(&self) -> Code
         ensures { result ≡ code_of self.now }
     {
         match self {
-            MapRefusal::Map(refusal) => refusal.code(),
+            MapRefusal::Map(refusal) => u32::from(refusal.code()),
             MapRefusal::Full => 105,
             MapRefusal::RowsBusy => 107,
             MapRefusal::Missing => 106,
             MapRefusal::Foreign => 63,
             MapRefusal::UnderWay => 90,
             MapRefusal::Idle => 91,
+            MapRefusal::Closed => 108,
         }
     }
 }
 
 /// The code that an export returns.
-pub fn code_of(outcome: &Result<(), MapRefusal>) -> u8
+pub fn code_of(outcome: &Result<(), MapRefusal>) -> Code
     ensures { result ≡ code_of_outcome code_of outcome.now }
 {
     match outcome {

@@ -25,7 +25,7 @@ pub enum Held {
 pub struct PassOwner {
     /// The table.
     pub live: Arc<Live>,
-    /// The number that the caller gave the table.
+    /// The table's number, as it was when the pass was dealt.
     pub number: u64,
     /// The pass, or what became of it.
     pub held: Held,

@@ -8,7 +8,7 @@ ghost use Rattle.blink_owners.specs.Filled.{overlaid, put_if_fits};
 ghost use Rattle.blink_owners.specs.Found.{found_answer, pointer_or};
 
 use crate::raw::{RawAnswer, RawEntry};
-use crate::refusal::{DONE, Refusal};
+use crate::refusal::{Code, DONE, Refusal};
 use blink_batch::Entry;
 use blink_index::{Index, Scan};
 use std::alloc::Global;
@@ -24,7 +24,7 @@ pub fn find(index: &Index, key: u64, pointer: &mut u64) -> bool
 }
 
 /// Looks keys up, and gives the answer of each at its place.
-pub fn find_many(index: &Index, keys: &[u64], answers: &mut [RawAnswer]) -> u8
+pub fn find_many(index: &Index, keys: &[u64], answers: &mut [RawAnswer]) -> Code
     ensures found { result ≡ 0 → answers.new ≡ map (found_answer (map_of index.now)) keys.now }
     ensures wrong_length { result ≡ code_of Refusal.WrongLength ↔ length answers.old ≢ length keys.now }
     ensures refused { result ≢ 0 → result ≡ code_of Refusal.WrongLength }
@@ -141,7 +141,7 @@ pub fn fan(index: &Index) -> u8
 }
 
 /// Gives the tree as text, if all of it fits, and stores how many bytes it has.
-pub fn dump(alloc: Global, index: &Index, text: &mut [u8], bytes: &mut usize) -> u8
+pub fn dump(alloc: Global, index: &Index, text: &mut [u8], bytes: &mut usize) -> Code
     ensures bytes { result ≡ 0 → bytes.new ≡ length (text_of_store index.now) }
     ensures text { result ≡ 0 → text.new ≡ put_if_fits (text_of_store index.now) text.old }
     ensures refused { result ≢ 0 → result ≡ code_of Refusal.OutOfMemory }

@@ -6,8 +6,11 @@ use blink_batch::{BatchError, CutError, RecordError};
 use blink_index::IndexError;
 use blink_steps::StepError;
 
+/// What an export returns: 0, or the code of a refusal. It is as wide as C's `int`.
+pub type Code = u32;
+
 /// The code of a call that isn't refused.
-pub const DONE: u8 = 0;
+pub const DONE: Code = 0;
 
 /// Why a call on an index is refused.
 #[derive(Clone, Copy, Debug, PartialEq, Eq)]
@@ -30,23 +33,23 @@ pub enum Refusal {
 
 impl Refusal {
     /// The refusal's code: that of the call which refuses so, or one of this crate's own.
-    pub fn code(&self) -> u8
+    pub fn code(&self) -> Code
         ensures { result ≡ code_of self.now }
     {
         match self {
-            Refusal::TooMany => BatchError::TooMany.code(),
-            Refusal::WrongLength => CutError::WrongLength.code(),
-            Refusal::UnknownOperation => RecordError::UnknownOperation.code(),
-            Refusal::TooLarge => StepError::TooLarge.code(),
-            Refusal::BadFan => IndexError::BadFan.code(),
-            Refusal::OutOfMemory => IndexError::OutOfMemory.code(),
+            Refusal::TooMany => u32::from(BatchError::TooMany.code()),
+            Refusal::WrongLength => u32::from(CutError::WrongLength.code()),
+            Refusal::UnknownOperation => u32::from(RecordError::UnknownOperation.code()),
+            Refusal::TooLarge => u32::from(StepError::TooLarge.code()),
+            Refusal::BadFan => u32::from(IndexError::BadFan.code()),
+            Refusal::OutOfMemory => u32::from(IndexError::OutOfMemory.code()),
             Refusal::Shared => 43,
         }
     }
 }
 
 /// The code that an export returns.
-pub fn code_of(outcome: &Result<(), Refusal>) -> u8
+pub fn code_of(outcome: &Result<(), Refusal>) -> Code
     ensures { result ≡ code_of_outcome code_of outcome.now }
 {
     match outcome {

@@ -1,14 +1,16 @@
 //! What the box of a session's handle holds: an owner of the map, and the session or its operation.
-ghost use Rattle.std.specs.Prelude.{◌≡◌, ◌≢◌, IfErr, IfOk, OnErr, OnOk};
+ghost use Rattle.std.specs.Prelude.{◌≡◌, ◌≢◌, IfErr, IfOk, IfSome, OnErr, OnOk};
 ghost use Rattle.blink_batch.specs.{FitsWords};
 ghost use Rattle.blink_machine.specs.{IsUpdate};
-ghost use Rattle.blink_map.specs.{IsPendingOf, IsSessionOf, op_of, session_of};
-ghost use Rattle.blink_owners.specs.Sessions.{Answers, EndsFrom, Finds, HasAnswered, HasPut, IsAdvanceRefusal, IsChangeRefusal, IsFree, IsNotFree, IsNotPut, IsOfPut, IsOwnSession, IsPutRefusal, IsShortage, IsTakeRefusal, IsTellRefusal, Puts, Scans, StaysBusy, Takes, TellsOn, TellsStock, in_map};
+ghost use Rattle.blink_map.specs.{HasTried, IsAnswered, IsPendingOf, IsSameBesideRoom, IsSessionOf, LacksRoom, op_of, session_of, WasAbsent};
+ghost use Rattle.blink_map.specs.declared.map.Session.{Session};
+ghost use Rattle.blink_owners.specs.Sessions.{Answers, EndsFrom, Finds, HasAnswered, HasPut, IsAdvanceRefusal, IsChangeRefusal, IsFree, IsNotFree, IsNotPut, IsOfPut, IsOwnSession, IsPutRefusal, IsShortage, IsTakeRefusal, IsTellRefusal, LacksKeyOf, LacksRoomFor, Puts, Scans, StaysBusy, Takes, TellsOn, TellsStock, in_map};
 
 use crate::map_refusal::MapRefusal;
 use crate::raw::{RawAnswer, RawScanned, RawStock, RawTaken};
+use crate::shared_map::SharedMap;
 use blink_batch::{Answer, Entry, Op};
-use blink_map::{Map, MapError, Pending, Session};
+use blink_map::{Map, MapError, Pending, Session, Stopped};
 use std::alloc::Global;
 use std::mem;
 use std::sync::Arc;
@@ -26,9 +28,9 @@ pub enum HeldSession {
 /// A session with an owner of its map, so that its thread needs nothing else.
 #[derive(Drop)]
 pub struct SessionOwner {
-    /// The map.
-    pub shared: Arc<Map>,
-    /// The number that the caller gave the map.
+    /// The map, with the places of its sessions.
+    pub shared: Arc<SharedMap>,
+    /// The map's number, as it was when the session joined.
     pub number: u64,
     /// The session, or its operation.
     pub held: HeldSession,
@@ -46,7 +48,7 @@ impl SessionOwner {
         let HeldSession::Free(session) = &mut self.held else {
             return Err(MapRefusal::UnderWay);
         };
-        let shown = self.shared.find(session, key);
+        let shown = self.shared.map.find(session, key);
         *answer = RawAnswer::shown(shown);
         Ok(())
     }
@@ -70,7 +72,7 @@ impl SessionOwner {
         let HeldSession::Free(session) = &mut self.held else {
             return Err(MapRefusal::UnderWay);
         };
-        let came = self.shared.scan(session, lo, hi, entries);
+        let came = self.shared.map.scan(session, lo, hi, entries);
         *scanned = RawScanned::of(came);
         Ok(())
     }
@@ -96,7 +98,7 @@ impl SessionOwner {
             return Err(MapRefusal::UnderWay);
         };
         let (lo, hi) = range;
-        match self.shared.snapshot(alloc, session, lo, hi, tries) {
+        match self.shared.map.snapshot(alloc, session, lo, hi, tries) {
             Ok(found) => {
                 *taken = RawTaken::of(&found, entries);
                 Ok(())
@@ -125,7 +127,7 @@ impl SessionOwner {
         let HeldSession::Free(session) = &mut to.held else {
             return Err(MapRefusal::UnderWay);
         };
-        self.shared.tell(from, session);
+        self.shared.map.tell(from, session);
         Ok(())
     }
 
@@ -138,11 +140,12 @@ impl SessionOwner {
         let HeldSession::Free(session) = &self.held else {
             return Err(MapRefusal::UnderWay);
         };
-        *stock = RawStock::of(self.shared.stock(session));
+        *stock = RawStock::of(self.shared.map.stock(session));
         Ok(())
     }
 
-    /// Begins an operation that changes the map, and takes its steps.
+    /// Begins an operation that changes the map, and takes its steps. An insertion that the session has no room for is answered
+    /// all the same, if its key is there.
     pub fn change(&mut self, op: Op, tries: u32, answer: &mut RawAnswer) -> Result<(), MapRefusal>
         requires its_own { IsOwnSession self.old }
         requires updates { IsUpdate op }
@@ -153,17 +156,22 @@ impl SessionOwner {
         ensures unchanged { OnErr result (answer.new ≡ answer.old) }
     {
         let session = self.take_free()?;
-        match self.shared.begin(session, op) {
-            Ok(pending) => self.go_on(pending, tries, answer),
-            Err((session, _full)) => {
-                let refusal = shortage(&session, op);
+        match self.shared.map.start(session, op, tries) {
+            Ok((session, given)) => {
                 self.held = HeldSession::Free(session);
-                Err(refusal)
+                *answer = RawAnswer::of(given);
+                Ok(())
             }
+            Err(Stopped::Waits(pending)) => {
+                self.held = HeldSession::Busy(pending);
+                Err(MapRefusal::UnderWay)
+            }
+            Err(Stopped::Full(session)) => self.refuse(session, op, answer),
         }
     }
 
-    /// Begins to put an entry, and takes the steps of the insertion.
+    /// Puts an entry, or begins to: it replaces, and where the key is absent it inserts. Each of the two ends at once where it meets no
+    /// other session.
     pub fn put(
         &mut self,
         key: u64,
@@ -178,14 +186,7 @@ impl SessionOwner {
         ensures unchanged { OnErr result (answer.new ≡ answer.old) }
     {
         let session = self.take_free()?;
-        match self.shared.begin(session, Op::Insert(key, pointer)) {
-            Ok(pending) => self.put_on(pending, key, pointer, tries, answer),
-            Err((session, _full)) => {
-                let refusal = shortage(&session, Op::Insert(key, pointer));
-                self.held = HeldSession::Free(session);
-                Err(refusal)
-            }
-        }
+        self.put_from(session, key, pointer, tries, answer)
     }
 
     /// Takes the next steps of the operation or the put that is under way.
@@ -208,6 +209,64 @@ impl SessionOwner {
         }
     }
 
+    /// Frees the owner. A free session rests at its place again. An operation under way takes so many tries to its end before; if it
+    /// still waits then, its place is lost, and the map can't be closed.
+    pub fn free(self, tries: u32)
+        requires its_own { IsOwnSession self }
+    {
+        let SessionOwner {
+            shared,
+            number: _,
+            held,
+        } = self;
+        match held {
+            HeldSession::Free(session) => shared.places.leave(session),
+            HeldSession::Busy(pending) => {
+                if let Some(session) = end(&shared.map, pending, tries) {
+                    shared.places.leave(session);
+                }
+            }
+            HeldSession::Putting(pending, _key, _pointer) => {
+                if let Some(session) = end(&shared.map, pending, tries) {
+                    shared.places.leave(session);
+                }
+            }
+            HeldSession::Gone => {}
+        }
+    }
+
+    // Gives the session back, which lacks room for the operation. An insertion is answered, if its key is there.
+    fn refuse(&mut self, session: Session, op: Op, answer: &mut RawAnswer) -> Result<(), MapRefusal>
+        requires its_own { IsSessionOf (in_map self.old) session }
+        ensures its_own { IsOwnSession self.new }
+        ensures answered { OnOk result ((before : Session) → IsSameBesideRoom before session
+            → HasAnswered op before self.old self.new answer.new) }
+        ensures refused { IfErr result (λ refusal. (before : Session) → LacksRoom op before session
+            → IsSameBesideRoom before session → LacksRoomFor op before self.old self.new refusal) }
+        ensures unchanged { OnErr result (answer.new ≡ answer.old) }
+    {
+        let mut session = session;
+        match op {
+            Op::Insert(key, _pointer) => match self.shared.map.find(&mut session, key) {
+                Some(there) => {
+                    self.held = HeldSession::Free(session);
+                    *answer = RawAnswer::of(Answer::Exists(there));
+                    Ok(())
+                }
+                None => {
+                    let refusal = shortage(&session, op);
+                    self.held = HeldSession::Free(session);
+                    Err(refusal)
+                }
+            },
+            _ => {
+                let lack = shortage(&session, op);
+                self.held = HeldSession::Free(session);
+                Err(lack)
+            }
+        }
+    }
+
     // Takes the next steps of an operation.
     fn go_on(
         &mut self,
@@ -223,7 +282,7 @@ impl SessionOwner {
         ensures refused { IfErr result (λ refusal. refusal ≡ MapRefusal.UnderWay) }
         ensures unchanged { OnErr result (answer.new ≡ answer.old) }
     {
-        match self.shared.advance(pending, tries) {
+        match self.shared.map.advance(pending, tries) {
             Ok((session, given)) => {
                 self.held = HeldSession::Free(session);
                 *answer = RawAnswer::of(given);
@@ -236,8 +295,100 @@ impl SessionOwner {
         }
     }
 
-    // Takes the next steps of a put. Where its insertion finds the key there, or its replacement finds it gone, the other of the two
-    // begins.
+    // Puts an entry: it replaces, and where the key is absent it inserts.
+    fn put_from(
+        &mut self,
+        session: Session,
+        key: u64,
+        pointer: u64,
+        tries: u32,
+        answer: &mut RawAnswer,
+    ) -> Result<(), MapRefusal>
+        requires its_own { IsSessionOf (in_map self.old) session }
+        ensures its_own { IsOwnSession self.new }
+        ensures ended { OnOk result (HasPut key pointer session self.old self.new answer.new) }
+        ensures refused { IfErr result (IsNotPut key pointer session self.old self.new) }
+        ensures unchanged { OnErr result (answer.new ≡ answer.old) }
+    {
+        let replace = Op::Replace(key, pointer);
+        let (session, given) = self.start_by(session, key, pointer, replace, tries)?;
+        match given {
+            Answer::Replaced(_) => {
+                self.held = HeldSession::Free(session);
+                *answer = RawAnswer::of(given);
+                Ok(())
+            }
+            _ => self.put_new(session, key, pointer, tries, answer),
+        }
+    }
+
+    // Inserts the entry of a put whose key was absent. Where another session has inserted the key since, a replacement begins.
+    fn put_new(
+        &mut self,
+        session: Session,
+        key: u64,
+        pointer: u64,
+        tries: u32,
+        answer: &mut RawAnswer,
+    ) -> Result<(), MapRefusal>
+        requires its_own { IsSessionOf (in_map self.old) session }
+        ensures its_own { IsOwnSession self.new }
+        ensures ended { OnOk result ((first : Session) → HasTried first session
+            → HasPut key pointer first self.old self.new answer.new) }
+        ensures refused { IfErr result (λ refusal. (first : Session) → HasTried first session
+            → WasAbsent (in_map self.old) key first session
+            → IsNotPut key pointer first self.old self.new refusal) }
+        ensures unchanged { OnErr result (answer.new ≡ answer.old) }
+    {
+        let insert = Op::Insert(key, pointer);
+        let (session, given) = self.start_by(session, key, pointer, insert, tries)?;
+        match given {
+            Answer::Inserted => {
+                self.held = HeldSession::Free(session);
+                *answer = RawAnswer::of(given);
+                Ok(())
+            }
+            _ => Err(self.put_over(session, key, pointer)),
+        }
+    }
+
+    // Starts the insertion or the replacement of a put. Where it has ended, its session and its answer come back, and nothing is held.
+    fn start_by(
+        &mut self,
+        session: Session,
+        key: u64,
+        pointer: u64,
+        op: Op,
+        tries: u32,
+    ) -> Result<(Session, Answer), MapRefusal>
+        requires its_own { IsSessionOf (in_map self.old) session }
+        requires of_put { IsOfPut key pointer op }
+        requires updates { IsUpdate op }
+        requires fits { FitsWords op }
+        ensures ended { IfOk result
+            (λ ended. IsAnswered (in_map self.old) op session ended.0 ended.1) }
+        ensures unchanged { OnOk result (self.new ≡ self.old) }
+        ensures its_own { OnErr result (IsOwnSession self.new) }
+        ensures refused { IfErr result (λ refusal. (first : Session) → HasTried first session
+            → LacksKeyOf (in_map self.old) op first session
+            → IsNotPut key pointer first self.old self.new refusal) }
+    {
+        match self.shared.map.start(session, op, tries) {
+            Ok(ended) => Ok(ended),
+            Err(Stopped::Waits(pending)) => {
+                self.held = HeldSession::Putting(pending, key, pointer);
+                Err(MapRefusal::UnderWay)
+            }
+            Err(Stopped::Full(session)) => {
+                let refusal = shortage(&session, op);
+                self.held = HeldSession::Free(session);
+                Err(refusal)
+            }
+        }
+    }
+
+    // Takes the next steps of a put. Where its replacement finds the key absent, it inserts; where its insertion finds the key there, a
+    // replacement begins.
     fn put_on(
         &mut self,
         pending: Pending,
@@ -255,20 +406,15 @@ impl SessionOwner {
             (IsNotPut key pointer (session_of pending) self.old self.new) }
         ensures unchanged { OnErr result (answer.new ≡ answer.old) }
     {
-        match self.shared.advance(pending, tries) {
+        match self.shared.map.advance(pending, tries) {
             Ok((session, given)) => match given {
                 Answer::Inserted | Answer::Replaced(_) => {
                     self.held = HeldSession::Free(session);
                     *answer = RawAnswer::of(given);
                     Ok(())
                 }
-                Answer::Exists(_) => Err(self.put_by(
-                    session,
-                    key,
-                    pointer,
-                    Op::Replace(key, pointer),
-                )),
-                _ => Err(self.put_by(session, key, pointer, Op::Insert(key, pointer))),
+                Answer::Exists(_) => Err(self.put_over(session, key, pointer)),
+                _ => self.put_new(session, key, pointer, tries, answer),
             },
             Err(pending) => {
                 self.held = HeldSession::Putting(pending, key, pointer);
@@ -277,21 +423,21 @@ impl SessionOwner {
         }
     }
 
-    // Begins the insertion or the replacement of a put.
-    fn put_by(&mut self, session: Session, key: u64, pointer: u64, op: Op) -> MapRefusal
+    // Begins the replacement of a put that has found the key there.
+    fn put_over(&mut self, session: Session, key: u64, pointer: u64) -> MapRefusal
         requires its_own { IsSessionOf (in_map self.old) session }
-        requires of_put { IsOfPut key pointer op }
-        requires fits { FitsWords op }
         ensures its_own { IsOwnSession self.new }
-        ensures refused { IsNotPut key pointer session self.old self.new result }
+        ensures refused { (first : Session) → HasTried first session
+            → IsNotPut key pointer first self.old self.new result }
     {
-        match self.shared.begin(session, op) {
+        let replace = Op::Replace(key, pointer);
+        match self.shared.map.begin(session, replace) {
             Ok(pending) => {
                 self.held = HeldSession::Putting(pending, key, pointer);
                 MapRefusal::UnderWay
             }
             Err((session, _full)) => {
-                let refusal = shortage(&session, op);
+                let refusal = shortage(&session, replace);
                 self.held = HeldSession::Free(session);
                 refusal
             }
@@ -325,5 +471,16 @@ fn shortage(session: &Session, op: Op) -> MapRefusal
         MapRefusal::Full
     } else {
         MapRefusal::RowsBusy
+    }
+}
+
+// Takes an operation to its end by so many tries, and returns its session.
+fn end(map: &Map, pending: Pending, tries: u32) -> Option<Session>
+    requires its_own { IsPendingOf map.now pending }
+    ensures { IfSome result (IsSessionOf map.now) }
+{
+    match map.advance(pending, tries) {
+        Ok((session, _answer)) => Some(session),
+        Err(_pending) => None,
     }
 }

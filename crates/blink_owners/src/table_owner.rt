@@ -19,7 +19,7 @@ use std::sync::Arc;
 pub struct TableOwner {
     /// The table.
     pub live: Arc<Live>,
-    /// The number that the caller gave the table.
+    /// Its number, by which its passes are told from those of other tables.
     pub number: u64,
     /// Its keeper.
     pub keeper: Keeper,

@@ -3,7 +3,7 @@ ghost use Rattle.std.specs.Prelude.{◌≡◌};
 ghost use Rattle.blink_owners.specs.Codes.{code_of_outcome};
 ghost use Rattle.blink_owners.specs.TableCodes.{code_of};
 
-use crate::refusal::DONE;
+use crate::refusal::{Code, DONE};
 use blink_live::{HandError, LiveError, PassError};
 
 /// Why a call on a table or a pass is refused.
@@ -27,13 +27,13 @@ pub enum TableRefusal {
 
 impl TableRefusal {
     /// The refusal's code: that of the call which refuses so, or one of this crate's own.
-    pub fn code(&self) -> u8
+    pub fn code(&self) -> Code
         ensures { result ≡ code_of self.now }
     {
         match self {
-            TableRefusal::Live(refusal) => refusal.code(),
-            TableRefusal::Pass(refusal) => refusal.code(),
-            TableRefusal::Hand(refusal) => refusal.code(),
+            TableRefusal::Live(refusal) => u32::from(refusal.code()),
+            TableRefusal::Pass(refusal) => u32::from(refusal.code()),
+            TableRefusal::Hand(refusal) => u32::from(refusal.code()),
             TableRefusal::Foreign => 63,
             TableRefusal::UnderWay => 90,
             TableRefusal::Idle => 91,
@@ -43,7 +43,7 @@ impl TableRefusal {
 }
 
 /// The code that an export returns.
-pub fn code_of(outcome: &Result<(), TableRefusal>) -> u8
+pub fn code_of(outcome: &Result<(), TableRefusal>) -> Code
     ensures { result ≡ code_of_outcome code_of outcome.now }
 {
     match outcome {

@@ -1,5 +1,6 @@
 //! Why a call is refused.
 
+use crate::sys::Code;
 use std::fmt;
 
 /// Why a call is refused. A refused call changes nothing but where its documentation says so.
@@ -33,22 +34,24 @@ pub enum Error {
     BadSessions,
     /// Each place for a session is taken.
     NoPlace,
-    /// An operation of a session was dropped before it had ended.
+    /// An operation of a session was dropped before it had ended, and couldn't be ended.
     LostUnderWay,
     /// The session has too few rows or page numbers in all for the change, and the map's pool too.
     Full,
     /// The session has enough rows and page numbers in all for the change, but some rows are on their way back. The same change may be
     /// let through later.
     RowsBusy,
+    /// The map is gone, since memory was refused when it was closed.
+    Closed,
 }
 
 impl Error {
     // Codes that the types of this crate exclude don't come here.
-    pub(crate) fn of(code: u8) -> Error {
+    pub(crate) fn of(code: Code) -> Error {
         match code {
             32 | 57 | 101 => Error::TooLarge,
             40 => Error::BadFan,
-            41 | 50 | 53 | 59 | 100 => Error::OutOfMemory,
+            41 => Error::OutOfMemory,
             52 => Error::NoAllowance,
             54 => Error::NotYours,
             55 => Error::Spent,
@@ -59,11 +62,12 @@ impl Error {
             104 => Error::LostUnderWay,
             105 => Error::Full,
             107 => Error::RowsBusy,
+            108 => Error::Closed,
             _ => unreachable!("libblink returned code {code}"),
         }
     }
 
-    pub(crate) fn check(code: u8) -> Result<(), Error> {
+    pub(crate) fn check(code: Code) -> Result<(), Error> {
         match code {
             0 => Ok(()),
             code => Err(Error::of(code)),
@@ -90,6 +94,7 @@ impl fmt::Display for Error {
             Error::LostUnderWay => f.write_str("an operation was dropped before it had ended"),
             Error::Full => f.write_str("full"),
             Error::RowsBusy => f.write_str("rows are on their way back"),
+            Error::Closed => f.write_str("the map is closed"),
         }
     }
 }

@@ -1,7 +1,8 @@
 //! The index.
 
+use crate::memory::{resize, with_room};
 use crate::read::{OfIndex, Read};
-use crate::sys::{self, Handle, RawAnswer};
+use crate::sys::{self, Code, Handle, RawAnswer};
 use crate::{Answer, Entry, Error, Op, Reader, Scan};
 use std::ops::RangeBounds;
 
@@ -125,7 +126,7 @@ impl Index {
     }
 
     // The index that a call gives.
-    pub(crate) fn filled(call: impl FnOnce(*mut Handle) -> u8) -> Result<Index, Error> {
+    pub(crate) fn filled(call: impl FnOnce(*mut Handle) -> Code) -> Result<Index, Error> {
         let mut handle = Handle::EMPTY;
         Error::check(call(&mut handle))?;
         Ok(Index::of(handle))
@@ -211,7 +212,7 @@ impl Index {
     }
 
     /// Carries operations out in place, one after another, up to the first that is refused. The operations before it stay carried
-    /// out, and their answers are there.
+    /// out, and their answers are there. Where memory for the answers is refused, none is carried out.
     ///
     /// ```
     /// use blink::{Answer, Index, Op};
@@ -223,25 +224,35 @@ impl Index {
     /// # Ok::<(), blink::Error>(())
     /// ```
     pub fn apply(&mut self, operations: &[Op]) -> Applied {
-        let raw: Vec<_> = operations.iter().map(|op| op.raw()).collect();
-        let mut given = vec![RawAnswer::NONE; raw.len()];
-        let mut carried_out = 0;
-        // SAFETY: as in `insert`; both arrays have that many elements.
-        let code = unsafe {
-            sys::blink_index_apply(
-                self.read.handle(),
-                raw.as_ptr(),
-                raw.len(),
-                given.as_mut_ptr(),
-                given.len(),
-                &mut carried_out,
-            )
+        let mut answers = match with_room(operations.len()) {
+            Ok(answers) => answers,
+            Err(error) => return Applied { answers: Vec::new(), error: Some(error) },
         };
-        given.truncate(carried_out);
-        Applied {
-            answers: given.into_iter().map(Answer::of).collect(),
-            error: Error::check(code).err(),
+        for part in operations.chunks(Index::PART) {
+            if let Err(error) = self.apply_part(part, &mut answers) {
+                return Applied { answers, error: Some(error) };
+            }
         }
+        Applied { answers, error: None }
+    }
+
+    // How many operations are carried out by a call of the library: their numbers and answers stand on the stack.
+    const PART: usize = 128;
+
+    // Carries out at most `PART` operations, and adds the answers of those that aren't refused. The list has room for them.
+    fn apply_part(&mut self, operations: &[Op], answers: &mut Vec<Answer>) -> Result<(), Error> {
+        let mut raw = [Op::Find(0).raw(); Index::PART];
+        let mut given = [RawAnswer::NONE; Index::PART];
+        for (place, op) in raw.iter_mut().zip(operations) {
+            *place = op.raw();
+        }
+        let (count, mut carried_out) = (operations.len(), 0);
+        // SAFETY: as in `insert`; both arrays have so many elements, and more.
+        let code = unsafe {
+            sys::blink_index_apply(self.read.handle(), raw.as_ptr(), count, given.as_mut_ptr(), count, &mut carried_out)
+        };
+        answers.extend(given[..carried_out].iter().copied().map(Answer::of));
+        Error::check(code)
     }
 
     /// Packs the entries into as few pages as any tree of these entries has, in place: each leaf but the last is full then, so that an
@@ -266,17 +277,20 @@ impl Index {
     }
 
     /// Runs operations one after another, and returns their answers. Each 8,192 of them run on a copy of the index, which then
-    /// takes its place; so run many at once. After an error the operations before that part have run.
+    /// takes its place; so run many at once. After an error the operations before that part have run, and where memory for the
+    /// answers is refused none has.
     pub fn run(&mut self, operations: &[Op]) -> Result<Vec<Answer>, Error> {
-        let mut answers = Vec::with_capacity(operations.len());
+        let most = operations.len().min(sys::BATCH_LIMIT);
+        let (mut answers, mut raw, mut given) = (with_room(operations.len())?, with_room(most)?, Vec::new());
+        resize(&mut given, most, RawAnswer::NONE)?;
         for part in operations.chunks(sys::BATCH_LIMIT) {
-            let raw: Vec<_> = part.iter().map(|op| op.raw()).collect();
-            let mut given = vec![RawAnswer::NONE; raw.len()];
-            // SAFETY: the handle is full and borrowed for writing; both arrays have that many elements.
+            raw.clear();
+            raw.extend(part.iter().map(|op| op.raw()));
+            // SAFETY: the handle is full and borrowed for writing; both arrays have so many elements.
             Error::check(unsafe {
-                sys::blink_index_run(self.read.handle(), raw.as_ptr(), raw.len(), given.as_mut_ptr(), given.len())
+                sys::blink_index_run(self.read.handle(), raw.as_ptr(), raw.len(), given.as_mut_ptr(), raw.len())
             })?;
-            answers.extend(given.into_iter().map(Answer::of));
+            answers.extend(given[..raw.len()].iter().copied().map(Answer::of));
         }
         Ok(answers)
     }
@@ -286,7 +300,8 @@ impl Index {
         self.read.find(key)
     }
 
-    /// Returns the record pointer of each key.
+    /// Returns the record pointer of each key. Where memory for them is refused the process ends, as by any `Vec`;
+    /// [`Index::find`] takes none.
     ///
     /// ```
     /// # use blink::{Entry, Index};

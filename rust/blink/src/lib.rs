@@ -2,7 +2,8 @@
 //!
 //! What happens behind these types is proved: `libblink` is built from Rattle code, whose every function is proved to meet its
 //! contract (crates/blink_c of the repository has those of the calls). This crate is a thin layer of Rust over it, which isn't
-//! proved but keeps by its types what `include/blink.h` asks of a caller. It needs `libblink.a`, which `./libblink` builds.
+//! proved but keeps by its types what `include/blink.h` asks of a caller. A program needs `libblink.a`,
+//! which `./libblink` builds in the repository's `out`; `BLINK_LIB_DIR` names another folder.
 //!
 //! ```
 //! use blink::{Index, Map, Room};
@@ -24,13 +25,20 @@
 //! - [`Map`] shares the entries of an index among threads. Any of them changes any key, each by a [`Session`].
 //! - [`Table`] shares them too, and each key has an owner: a [`Pass`] has keys of its own, inserts, deletes and replaces these, and
 //!   looks at all.
+//! - [`Guards`] tell when an object may be freed whose pointer was taken out of a map.
 //! - [`Pending`] is an operation of a pass that has begun and waits for nobody; [`Unfinished`] is one of a session.
+//!
+//! What a thread wrote before it stored a pointer, by a pass or a session, is seen by whoever gets this pointer from another one, by a
+//! find, a glance, a scan, a snapshot or a change (tested). So a pointer may be the address of a record, which isn't changed from then on
+//! but by what orders memory itself.
 #![warn(missing_docs)]
 
 mod collection;
 mod error;
+mod guards;
 mod index;
 mod map;
+mod memory;
 mod operation;
 mod range;
 mod read;
@@ -39,8 +47,9 @@ mod sys;
 mod table;
 
 pub use error::Error;
+pub use guards::{Guard, Guards, Held, Noted};
 pub use index::{Applied, Index};
-pub use map::{Begun, Left, Map, Room, Session, Stock, Unfinished};
+pub use map::{Begun, Left, Map, Room, Session, Stock, Unclosed, Unfinished};
 pub use operation::{Answer, Entry, Op};
 pub use range::Range;
 pub use read::Scan;

@@ -1,13 +1,12 @@
 //! The map and its sessions.
 
 use crate::range::{snapshot, Range};
-use crate::sys::{self, Handle, RawAnswer};
+use crate::sys::{self, Code, Handle, RawAnswer};
 use crate::table::TRIES;
 use crate::{Answer, Error, Index, Op};
 use std::fmt;
 use std::marker::PhantomData;
 use std::ops::RangeBounds;
-use std::sync::atomic::{AtomicU64, Ordering};
 use std::sync::{Mutex, MutexGuard, PoisonError};
 use std::thread;
 
@@ -93,11 +92,8 @@ unsafe impl Send for Map {}
 // SAFETY: a thread uses the handle under the lock alone, which hands it from one to the next.
 unsafe impl Sync for Map {}
 
-// The number of the next map, by which sessions of two maps are told apart. 64 bits don't run out.
-static NEXT: AtomicU64 = AtomicU64::new(0);
-
 impl Map {
-    /// Opens a map over the entries of an index, which stays as it is.
+    /// Opens a map over the entries of an index, which stays as it is. While it opens, it takes twice the memory that it has then.
     ///
     /// It is refused with [`Error::BadSessions`] for no session or more than 256; then with [`Error::TooLarge`], if the index's pages
     /// and those of the room are above 1,048,575.
@@ -112,12 +108,14 @@ impl Map {
     /// # Ok::<(), Error>(())
     /// ```
     pub fn open(index: &Index, room: Room) -> Result<Map, Error> {
-        let number = NEXT.fetch_add(1, Ordering::Relaxed);
-        let mut handle = Handle::EMPTY;
-        // SAFETY: the index's handle is full, and this thread alone uses it; no other map has this number.
+        let Room { pages, rows, sessions } = room;
+        let (mut handle, mut place) = (Handle::EMPTY, 0);
+        // SAFETY: the index's handle is full, and this thread alone uses it.
         Error::check(unsafe {
-            sys::blink_map_open(index.handle(), room.pages, room.rows, room.sessions, number, &mut handle)
+            sys::blink_map_open_unnamed(index.handle(), pages, rows, sessions, &mut handle, &mut place)
         })?;
+        // SAFETY: the handle is full, and no other map has this place while this one or a session of it lives.
+        unsafe { sys::blink_map_name(&mut handle, place) };
         Ok(Map {
             handle: Mutex::new(handle),
         })
@@ -138,7 +136,7 @@ impl Map {
     pub fn session(&self) -> Result<Session<'_>, Error> {
         let mut handle = Handle::EMPTY;
         // SAFETY: the map's handle is full, and locked; `handle` is empty.
-        Error::check(unsafe { sys::blink_map_join(&mut *self.lock(), &mut handle) })?;
+        Error::check(unsafe { sys::blink_map_join_alone(&mut *self.lock(), &mut handle) })?;
         Ok(Session {
             handle,
             map: PhantomData,
@@ -150,19 +148,20 @@ impl Map {
     pub fn room(&self) -> Left {
         let mut left = Left { pages: 0, rows: 0 };
         // SAFETY: the map's handle is full, and locked.
-        unsafe { sys::blink_map_room(&mut *self.lock(), &mut left.rows, &mut left.pages) };
+        unsafe { sys::blink_map_room_alone(&mut *self.lock(), &mut left.rows, &mut left.pages) };
         left
     }
 
-    /// Closes the map. The index that it returns has the entries that the map was opened with, after all changes. The map is given up
-    /// also where the call is refused: with [`Error::Missing`], if a session was leaked, as by [`std::mem::forget`]; with
-    /// [`Error::LostUnderWay`], if an [`Unfinished`] was dropped.
-    pub fn close(self) -> Result<Index, Error> {
-        let handle = self.lock().take();
-        Index::filled(|out| {
-            // SAFETY: the handle was full, and is taken out, so it is given up once; `out` is empty.
-            unsafe { sys::blink_map_close(handle, out) }
-        })
+    /// Closes the map. The index that it returns has the entries that the map was opened with, after all changes. It is refused with
+    /// [`Error::Missing`], if a session was leaked, as by [`std::mem::forget`]; with [`Error::LostUnderWay`], if an [`Unfinished`] was
+    /// dropped that couldn't be ended; and with [`Error::OutOfMemory`]. The first two give the map back with all its entries, though no
+    /// session joins any more after the second. After the third the map may be gone.
+    pub fn close(self) -> Result<Index, Unclosed> {
+        let index = Index::filled(|out| {
+            // SAFETY: the handle is full, and locked; `out` is empty.
+            unsafe { sys::blink_map_close(&mut *self.lock(), out) }
+        });
+        index.map_err(|error| Unclosed { error, map: self })
     }
 
     // Nothing panics while it has the handle.
@@ -186,6 +185,29 @@ impl fmt::Debug for Map {
         f.debug_struct("Map").finish_non_exhaustive()
     }
 }
+
+/// A map that couldn't be closed, and why.
+#[derive(Debug)]
+pub struct Unclosed {
+    /// Why it couldn't be closed.
+    pub error: Error,
+    /// The map, unless memory was refused.
+    pub map: Map,
+}
+
+impl From<Unclosed> for Error {
+    fn from(unclosed: Unclosed) -> Error {
+        unclosed.error
+    }
+}
+
+impl fmt::Display for Unclosed {
+    fn fmt(&self, f: &mut fmt::Formatter<'_>) -> fmt::Result {
+        self.error.fmt(f)
+    }
+}
+
+impl std::error::Error for Unclosed {}
 
 /// The right of one thread to read and change a map. A session that is dropped leaves the map, and its place can be taken again.
 ///
@@ -259,8 +281,8 @@ impl<'map> Session<'map> {
     /// Maps a key to a pointer, unless the key is there: [`Answer::Inserted`] or [`Answer::Exists`].
     ///
     /// It is refused with [`Error::Full`], as [`Session::remove`], [`Session::replace`] and [`Session::put`] are, if the session has
-    /// too little room in all and the map's pool too. Then the map is as it was. The call waits where the session has the room once its
-    /// rows have come back.
+    /// too little room in all and the map's pool too; an insertion only if its key is absent. Then the map is as it was. The call waits
+    /// where the session has the room once its rows have come back.
     pub fn insert(&mut self, key: u64, pointer: u64) -> Result<Answer, Error> {
         // SAFETY: as in `get`.
         self.ended(|handle, answer| unsafe { sys::blink_session_insert(handle, key, pointer, TRIES, answer) })
@@ -365,7 +387,8 @@ impl<'map> Session<'map> {
         }
     }
 
-    /// Maps a key to a pointer, whether the key is there or not, and returns the pointer that was there.
+    /// Maps a key to a pointer, whether the key is there or not, and returns the pointer that was there. A key that is there needs one
+    /// row, which comes back, so such a call is never refused for want of page numbers.
     ///
     /// ```
     /// use blink::{Index, Map, Room};
@@ -408,8 +431,8 @@ impl<'map> Session<'map> {
     /// let map = Map::open(&Index::new(16)?, Room { pages: 200, rows: 400, sessions: 1 })?;
     /// let mut session = map.session()?;
     /// session.insert(5, 50)?;
-    /// // it has drawn an eighth of the pool, and has replaced the leaf's row by another
-    /// assert_eq!(session.stock(), Stock { pages: 25, unwritten: 49, free: 0, taken_out: 1, waiting: 0 });
+    /// // it has drawn half of the pool, and has replaced the leaf's row by another
+    /// assert_eq!(session.stock(), Stock { pages: 100, unwritten: 199, free: 0, taken_out: 1, waiting: 0 });
     /// # Ok::<(), blink::Error>(())
     /// ```
     pub fn stock(&mut self) -> Stock {
@@ -436,6 +459,7 @@ impl<'map> Session<'map> {
     ///     match begun {
     ///         Begun::Ended(session, answer) => break (session, answer),
     ///         Begun::Resting(unfinished) => begun = unfinished.advance(10), // something else may be done first
+    ///         Begun::Refused(_, error) => return Err(error), // of a put alone
     ///     }
     /// };
     /// assert_eq!(answer, Answer::Inserted);
@@ -486,8 +510,35 @@ impl<'map> Session<'map> {
         self.begins(code, answer)
     }
 
+    /// Begins to put an entry, as [`Session::begin`] begins an operation: its answer is [`Answer::Inserted`], or [`Answer::Replaced`] with
+    /// the pointer that was there. Also one that has begun may be refused, as [`Begun::Refused`]; then nothing has changed.
+    ///
+    /// ```
+    /// use blink::{Answer, Begun, Index, Map, Room};
+    ///
+    /// let map = Map::open(&Index::new(16)?, Room { pages: 22, rows: 100, sessions: 1 })?;
+    /// let mut session = map.session()?;
+    /// session.insert(5, 50)?;
+    /// let mut begun = session.begin_put(5, 51, 10).map_err(|(_, error)| error)?;
+    /// let answer = loop {
+    ///     match begun {
+    ///         Begun::Ended(_, answer) => break answer,
+    ///         Begun::Refused(_, error) => return Err(error),
+    ///         Begun::Resting(unfinished) => begun = unfinished.advance(10),
+    ///     }
+    /// };
+    /// assert_eq!(answer, Answer::Replaced(50));
+    /// # Ok::<(), blink::Error>(())
+    /// ```
+    pub fn begin_put(mut self, key: u64, pointer: u64, tries: u32) -> Result<Begun<'map>, (Session<'map>, Error)> {
+        let mut answer = RawAnswer::NONE;
+        // SAFETY: the handle is full and this call's own.
+        let code = unsafe { sys::blink_session_put(&mut self.handle, key, pointer, tries, &mut answer) };
+        self.begins(code, answer)
+    }
+
     // What has become of an operation that was to begin.
-    fn begins(self, code: u8, answer: RawAnswer) -> Result<Begun<'map>, (Session<'map>, Error)> {
+    fn begins(self, code: Code, answer: RawAnswer) -> Result<Begun<'map>, (Session<'map>, Error)> {
         match code {
             0 | sys::PENDING => Ok(self.begun(code, answer)),
             code => Err((self, Error::of(code))),
@@ -495,16 +546,16 @@ impl<'map> Session<'map> {
     }
 
     // What has become of an operation, by the code and the answer of its last call.
-    fn begun(self, code: u8, answer: RawAnswer) -> Begun<'map> {
-        if code == sys::PENDING {
-            Begun::Resting(Unfinished { session: self })
-        } else {
-            Begun::Ended(self, Answer::of(answer))
+    fn begun(self, code: Code, answer: RawAnswer) -> Begun<'map> {
+        match code {
+            0 => Begun::Ended(self, Answer::of(answer)),
+            sys::PENDING => Begun::Resting(Unfinished { session: self }),
+            code => Begun::Refused(self, Error::of(code)),
         }
     }
 
     // Begins an operation, and takes its steps to the end. It begins again where the session's rows were on their way back.
-    fn ended(&mut self, mut begin: impl FnMut(*mut Handle, *mut RawAnswer) -> u8) -> Result<Answer, Error> {
+    fn ended(&mut self, mut begin: impl FnMut(*mut Handle, *mut RawAnswer) -> Code) -> Result<Answer, Error> {
         let mut answer = RawAnswer::NONE;
         let mut code = begin(&mut self.handle, &mut answer);
         loop {
@@ -534,18 +585,21 @@ impl fmt::Debug for Session<'_> {
     }
 }
 
-/// What has become of an operation of a session: it has ended, or it rests.
+/// What has become of an operation of a session: it has ended, or it rests; or it was a put, and is refused.
 #[derive(Debug)]
 pub enum Begun<'map> {
     /// It has ended. The session is free again.
     Ended(Session<'map>, Answer),
     /// It rests, since another session has the page that it wants.
     Resting(Unfinished<'map>),
+    /// A put that had begun is refused: [`Error::Full`] or [`Error::RowsBusy`]. It has changed nothing, and the session is free again.
+    Refused(Session<'map>, Error),
 }
 
 /// An operation of a session that has begun and not ended. The session can do nothing else meanwhile. No other session waits for it.
 ///
-/// Dropping it gives the session up, and then [`Map::close`] is refused with [`Error::LostUnderWay`].
+/// Dropping it takes the operation to its end, if that doesn't wait long for other sessions; of a put the half that is under way, so a put
+/// of an absent key may be left undone. Else the session's place is lost, and [`Map::close`] is refused with [`Error::LostUnderWay`].
 #[derive(Debug)]
 pub struct Unfinished<'map> {
     session: Session<'map>,
@@ -555,7 +609,7 @@ impl<'map> Unfinished<'map> {
     /// Takes the next steps, as [`Session::begin`] does the first ones. It waits for nobody.
     pub fn advance(mut self, tries: u32) -> Begun<'map> {
         let mut answer = RawAnswer::NONE;
-        // SAFETY: the handle is full and this call's own; an operation is under way, so nothing is refused.
+        // SAFETY: the handle is full and this call's own; an operation is under way, so nothing is refused but a put.
         let code = unsafe { sys::blink_session_advance(&mut self.session.handle, tries, &mut answer) };
         self.session.begun(code, answer)
     }

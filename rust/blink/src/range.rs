@@ -1,5 +1,6 @@
 //! Ranges of keys, and their entries while others change them.
 
+use crate::memory::{resize, with_room};
 use crate::sys::{Handle, RawScanned, RawTaken, ScanCall, SnapshotCall};
 use crate::{Entry, Error};
 use std::fmt;
@@ -43,14 +44,15 @@ impl Parts {
         Parts { first: [Parts::NO_ENTRY; Parts::FIRST], later: Vec::new(), part: 0, next: 0, stop: 0 }
     }
 
-    /// The places for another part: a short range pays for few, and a long one makes few calls.
+    /// The places for another part: a short range pays for few, and a long one makes few calls. Where memory for more is refused, the
+    /// part is as short as the first.
     pub(crate) fn places(&mut self) -> &mut [Entry] {
-        if self.part == 0 {
+        let part = Parts::MAX.min(2 * self.part);
+        if self.part == 0 || resize(&mut self.later, part, Parts::NO_ENTRY).is_err() {
             self.part = Parts::FIRST;
             return &mut self.first;
         }
-        self.part = Parts::MAX.min(2 * self.part);
-        self.later.resize(self.part, Parts::NO_ENTRY);
+        self.part = part;
         &mut self.later
     }
 
@@ -83,7 +85,8 @@ pub(crate) fn snapshot(handle: &mut Handle, call: SnapshotCall, range: &impl Ran
     let Some((lo, hi)) = first_and_last(range) else {
         return Ok(Some(Vec::new()));
     };
-    let mut entries = vec![Entry { key: 0, pointer: 0 }; 64];
+    let mut entries = Vec::new();
+    resize(&mut entries, 64, Parts::NO_ENTRY)?;
     loop {
         let mut taken = RawTaken { taken: 0, there: 0 };
         // SAFETY: the handle is full and borrowed for writing; the array has that many elements.
@@ -96,11 +99,12 @@ pub(crate) fn snapshot(handle: &mut Handle, call: SnapshotCall, range: &impl Ran
         }
         let there = taken.there as usize;
         if there <= entries.len() {
-            entries.truncate(there);
-            return Ok(Some(entries.into_iter().map(<(u64, u64)>::from).collect()));
+            let mut pairs = with_room(there)?;
+            pairs.extend(entries[..there].iter().copied().map(<(u64, u64)>::from));
+            return Ok(Some(pairs));
         }
         // Too few places. The next snapshot has some more, since entries may be added meanwhile.
-        entries.resize(there + there / 8, Entry { key: 0, pointer: 0 });
+        resize(&mut entries, there + there / 8, Parts::NO_ENTRY)?;
     }
 }
 
@@ -108,7 +112,7 @@ pub(crate) fn snapshot(handle: &mut Handle, call: SnapshotCall, range: &impl Ran
 ///
 /// It reads the tree's leaves from the left, each at one time: what it says of a key is what the changes up to some time leave of
 /// it, and of a greater key those up to that time or a later one. It takes the entries out in parts: 16 first, which takes no memory,
-/// then twice as many each time, up to 256. A part is read when it is asked for.
+/// then twice as many each time, up to 256, as long as memory for them is given. A part is read when it is asked for.
 pub struct Range<'a> {
     handle: &'a mut Handle,
     scan: ScanCall,

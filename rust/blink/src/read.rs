@@ -1,7 +1,8 @@
 //! Reading an index: what an index and a reader do alike.
 
+use crate::memory::resize;
 use crate::range::{first_and_last, Parts};
-use crate::sys::{self, Handle, RawAnswer};
+use crate::sys::{self, Code, Handle, RawAnswer};
 use crate::{Answer, Entry, Error};
 use std::cell::UnsafeCell;
 use std::fmt;
@@ -11,7 +12,7 @@ use std::ops::RangeBounds;
 /// The calls that read an index by a handle, and the call that frees the handle.
 pub(crate) struct Calls {
     find: unsafe extern "C" fn(*mut Handle, u64, *mut u64) -> bool,
-    find_many: unsafe extern "C" fn(*mut Handle, *const u64, usize, *mut RawAnswer, usize) -> u8,
+    find_many: unsafe extern "C" fn(*mut Handle, *const u64, usize, *mut RawAnswer, usize) -> Code,
     scan: PartCall,
     page: PartCall,
     first: unsafe extern "C" fn(*mut Handle, *mut Entry) -> bool,
@@ -20,7 +21,7 @@ pub(crate) struct Calls {
     len: unsafe extern "C" fn(*mut Handle) -> usize,
     pages: unsafe extern "C" fn(*mut Handle) -> u32,
     fan: unsafe extern "C" fn(*mut Handle) -> u8,
-    dump: unsafe extern "C" fn(*mut Handle, *mut u8, usize, *mut usize) -> u8,
+    dump: unsafe extern "C" fn(*mut Handle, *mut u8, usize, *mut usize) -> Code,
     free: unsafe extern "C" fn(Handle),
 }
 
@@ -151,7 +152,7 @@ impl<K: Kind> Read<K> {
             if bytes <= text.len() {
                 return Ok(String::from_utf8(text).expect("a dump is ASCII"));
             }
-            text.resize(bytes, 0);
+            resize(&mut text, bytes, 0)?;
         }
     }
 }
@@ -173,7 +174,7 @@ fn found(call: impl FnOnce(*mut Entry) -> bool) -> Option<Entry> {
 }
 
 /// The entries of an index whose keys are in a range, in ascending order. It takes them out of the index in parts: 16 first, which
-/// takes no memory, then twice as many each time, up to 256.
+/// takes no memory, then twice as many each time, up to 256, as long as memory for them is given.
 #[derive(Clone)]
 pub struct Scan<'a> {
     // It is full, and of the kind that the call takes.

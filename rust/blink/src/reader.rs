@@ -1,7 +1,7 @@
 //! Readers of an index.
 
 use crate::read::{OfReader, Read};
-use crate::sys::{self, Handle};
+use crate::sys::{self, Code, Handle};
 use crate::{Entry, Error, Index, Scan};
 use std::ops::RangeBounds;
 
@@ -88,7 +88,7 @@ impl Reader {
     }
 
     // The reader that a call gives.
-    pub(crate) fn filled(call: impl FnOnce(*mut Handle) -> u8) -> Result<Reader, Error> {
+    pub(crate) fn filled(call: impl FnOnce(*mut Handle) -> Code) -> Result<Reader, Error> {
         let mut handle = Handle::EMPTY;
         Error::check(call(&mut handle))?;
         Ok(Reader { read: Read::of(handle) })
@@ -99,7 +99,7 @@ impl Reader {
         self.read.find(key)
     }
 
-    /// Returns the record pointer of each key.
+    /// Returns the record pointer of each key. Where memory for them is refused the process ends, as by any `Vec`.
     pub fn find_many(&self, keys: &[u64]) -> Vec<Option<u64>> {
         self.read.find_many(keys)
     }

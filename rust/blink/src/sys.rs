@@ -1,7 +1,11 @@
 //! The exports of `libblink`, as `include/blink.h` declares them.
 
 use std::ffi::c_void;
+use std::os::raw::c_int;
 use std::ptr;
+
+/// What an export returns: 0, or the code of a refusal.
+pub(crate) type Code = c_int;
 
 /// A handle: a pointer alone. It is not `Copy`, since a handle is freed once.
 #[repr(C)]
@@ -59,39 +63,39 @@ pub(crate) struct RawTaken {
 }
 
 /// A snapshot by a pass or a session.
-pub(crate) type SnapshotCall = unsafe extern "C" fn(*mut Handle, u64, u64, u32, *mut crate::Entry, usize, *mut RawTaken) -> u8;
+pub(crate) type SnapshotCall = unsafe extern "C" fn(*mut Handle, u64, u64, u32, *mut crate::Entry, usize, *mut RawTaken) -> Code;
 
 /// A scan by a pass or a session.
 pub(crate) type ScanCall =
-    unsafe extern "C" fn(*mut Handle, u64, u64, *mut crate::Entry, usize, *mut RawScanned) -> u8;
+    unsafe extern "C" fn(*mut Handle, u64, u64, *mut crate::Entry, usize, *mut RawScanned) -> Code;
 
 /// The code of entries whose keys don't ascend.
-pub(crate) const NOT_ASCENDING: u8 = 42;
+pub(crate) const NOT_ASCENDING: Code = 42;
 
 /// The code of an index that has another reader.
-pub(crate) const SHARED: u8 = 43;
+pub(crate) const SHARED: Code = 43;
 
 pub(crate) const BATCH_LIMIT: usize = 8192;
 
 /// The code of a change for which the session has room once its rows have come back.
-pub(crate) const ROWS_BUSY: u8 = 107;
+pub(crate) const ROWS_BUSY: Code = 107;
 
 /// The code of an operation that is under way.
-pub(crate) const PENDING: u8 = 90;
+pub(crate) const PENDING: Code = 90;
 
 extern "C" {
-    pub(crate) fn blink_index_new(fan: u8, out: *mut Handle) -> u8;
-    pub(crate) fn blink_index_from_entries(fan: u8, entries: *const crate::Entry, count: usize, out: *mut Handle) -> u8;
+    pub(crate) fn blink_index_new(fan: u8, out: *mut Handle) -> Code;
+    pub(crate) fn blink_index_from_entries(fan: u8, entries: *const crate::Entry, count: usize, out: *mut Handle) -> Code;
     pub(crate) fn blink_index_from_sorted(
         fan: u8,
         entries: *const crate::Entry,
         count: usize,
         out: *mut Handle,
         bad_place: *mut usize,
-    ) -> u8;
-    pub(crate) fn blink_index_compact(index: *mut Handle) -> u8;
-    pub(crate) fn blink_index_copy(index: *mut Handle, out: *mut Handle) -> u8;
-    pub(crate) fn blink_index_insert(index: *mut Handle, key: u64, pointer: u64, answer: *mut RawAnswer) -> u8;
+    ) -> Code;
+    pub(crate) fn blink_index_compact(index: *mut Handle) -> Code;
+    pub(crate) fn blink_index_copy(index: *mut Handle, out: *mut Handle) -> Code;
+    pub(crate) fn blink_index_insert(index: *mut Handle, key: u64, pointer: u64, answer: *mut RawAnswer) -> Code;
     pub(crate) fn blink_index_delete(index: *mut Handle, key: u64, answer: *mut RawAnswer);
     pub(crate) fn blink_index_replace(index: *mut Handle, key: u64, pointer: u64, answer: *mut RawAnswer);
     pub(crate) fn blink_index_exchange(
@@ -112,14 +116,14 @@ extern "C" {
         answers: *mut RawAnswer,
         places: usize,
         carried_out: *mut usize,
-    ) -> u8;
+    ) -> Code;
     pub(crate) fn blink_index_run(
         index: *mut Handle,
         operations: *const RawOperation,
         count: usize,
         answers: *mut RawAnswer,
         places: usize,
-    ) -> u8;
+    ) -> Code;
     pub(crate) fn blink_index_find(index: *mut Handle, key: u64, pointer: *mut u64) -> bool;
     pub(crate) fn blink_index_find_many(
         index: *mut Handle,
@@ -127,7 +131,7 @@ extern "C" {
         count: usize,
         answers: *mut RawAnswer,
         places: usize,
-    ) -> u8;
+    ) -> Code;
     pub(crate) fn blink_index_page(
         index: *mut Handle,
         lo: u64,
@@ -147,12 +151,12 @@ extern "C" {
     pub(crate) fn blink_index_len(index: *mut Handle) -> usize;
     pub(crate) fn blink_index_pages(index: *mut Handle) -> u32;
     pub(crate) fn blink_index_fan(index: *mut Handle) -> u8;
-    pub(crate) fn blink_index_dump(index: *mut Handle, text: *mut u8, places: usize, bytes: *mut usize) -> u8;
+    pub(crate) fn blink_index_dump(index: *mut Handle, text: *mut u8, places: usize, bytes: *mut usize) -> Code;
     pub(crate) fn blink_index_free(index: Handle);
 
-    pub(crate) fn blink_index_share(index: *mut Handle, out: *mut Handle) -> u8;
-    pub(crate) fn blink_reader_join(reader: *mut Handle, out: *mut Handle) -> u8;
-    pub(crate) fn blink_reader_unshare(reader: *mut Handle, out: *mut Handle) -> u8;
+    pub(crate) fn blink_index_share(index: *mut Handle, out: *mut Handle) -> Code;
+    pub(crate) fn blink_reader_join(reader: *mut Handle, out: *mut Handle) -> Code;
+    pub(crate) fn blink_reader_unshare(reader: *mut Handle, out: *mut Handle) -> Code;
     pub(crate) fn blink_reader_find(reader: *mut Handle, key: u64, pointer: *mut u64) -> bool;
     pub(crate) fn blink_reader_find_many(
         reader: *mut Handle,
@@ -160,7 +164,7 @@ extern "C" {
         count: usize,
         answers: *mut RawAnswer,
         places: usize,
-    ) -> u8;
+    ) -> Code;
     pub(crate) fn blink_reader_scan(
         reader: *mut Handle,
         lo: u64,
@@ -183,10 +187,17 @@ extern "C" {
     pub(crate) fn blink_reader_len(reader: *mut Handle) -> usize;
     pub(crate) fn blink_reader_pages(reader: *mut Handle) -> u32;
     pub(crate) fn blink_reader_fan(reader: *mut Handle) -> u8;
-    pub(crate) fn blink_reader_dump(reader: *mut Handle, text: *mut u8, places: usize, bytes: *mut usize) -> u8;
+    pub(crate) fn blink_reader_dump(reader: *mut Handle, text: *mut u8, places: usize, bytes: *mut usize) -> Code;
     pub(crate) fn blink_reader_free(reader: Handle);
 
-    pub(crate) fn blink_table_open(index: *mut Handle, inserts: u32, deletes: u32, number: u64, out: *mut Handle) -> u8;
+    pub(crate) fn blink_table_open_unnamed(
+        index: *mut Handle,
+        inserts: u32,
+        deletes: u32,
+        out: *mut Handle,
+        place: *mut u64,
+    ) -> Code;
+    pub(crate) fn blink_table_name(table: *mut Handle, number: u64);
     pub(crate) fn blink_table_deal(
         table: *mut Handle,
         keys: *const u64,
@@ -195,13 +206,13 @@ extern "C" {
         deletes: u32,
         out: *mut Handle,
         taken: *mut u64,
-    ) -> u8;
-    pub(crate) fn blink_table_return(table: *mut Handle, pass: *mut Handle) -> u8;
-    pub(crate) fn blink_table_close(table: Handle, out: *mut Handle) -> u8;
+    ) -> Code;
+    pub(crate) fn blink_table_return(table: *mut Handle, pass: *mut Handle) -> Code;
+    pub(crate) fn blink_table_close(table: Handle, out: *mut Handle) -> Code;
     pub(crate) fn blink_table_free(table: Handle);
 
-    pub(crate) fn blink_pass_find(pass: *mut Handle, key: u64, answer: *mut RawAnswer) -> u8;
-    pub(crate) fn blink_pass_glance(pass: *mut Handle, key: u64, answer: *mut RawAnswer) -> u8;
+    pub(crate) fn blink_pass_find(pass: *mut Handle, key: u64, answer: *mut RawAnswer) -> Code;
+    pub(crate) fn blink_pass_glance(pass: *mut Handle, key: u64, answer: *mut RawAnswer) -> Code;
     pub(crate) fn blink_pass_scan(
         pass: *mut Handle,
         lo: u64,
@@ -209,7 +220,7 @@ extern "C" {
         entries: *mut crate::Entry,
         places: usize,
         scanned: *mut RawScanned,
-    ) -> u8;
+    ) -> Code;
     pub(crate) fn blink_pass_snapshot(
         pass: *mut Handle,
         lo: u64,
@@ -218,37 +229,38 @@ extern "C" {
         entries: *mut crate::Entry,
         places: usize,
         taken: *mut RawTaken,
-    ) -> u8;
-    pub(crate) fn blink_pass_tell(from: *mut Handle, to: *mut Handle) -> u8;
+    ) -> Code;
+    pub(crate) fn blink_pass_tell(from: *mut Handle, to: *mut Handle) -> Code;
     pub(crate) fn blink_pass_hand(
         from: *mut Handle,
         to: *mut Handle,
         keys: *const u64,
         count: usize,
         bad_key: *mut u64,
-    ) -> u8;
-    pub(crate) fn blink_pass_begin_insert(pass: *mut Handle, key: u64, pointer: u64) -> u8;
-    pub(crate) fn blink_pass_begin_delete(pass: *mut Handle, key: u64) -> u8;
-    pub(crate) fn blink_pass_begin_replace(pass: *mut Handle, key: u64, pointer: u64) -> u8;
-    pub(crate) fn blink_pass_begin_exchange(pass: *mut Handle, key: u64, expected: u64, pointer: u64) -> u8;
-    pub(crate) fn blink_pass_begin_delete_exact(pass: *mut Handle, key: u64, expected: u64) -> u8;
-    pub(crate) fn blink_pass_advance(pass: *mut Handle, tries: u32, answer: *mut RawAnswer) -> u8;
+    ) -> Code;
+    pub(crate) fn blink_pass_begin_insert(pass: *mut Handle, key: u64, pointer: u64) -> Code;
+    pub(crate) fn blink_pass_begin_delete(pass: *mut Handle, key: u64) -> Code;
+    pub(crate) fn blink_pass_begin_replace(pass: *mut Handle, key: u64, pointer: u64) -> Code;
+    pub(crate) fn blink_pass_begin_exchange(pass: *mut Handle, key: u64, expected: u64, pointer: u64) -> Code;
+    pub(crate) fn blink_pass_begin_delete_exact(pass: *mut Handle, key: u64, expected: u64) -> Code;
+    pub(crate) fn blink_pass_advance(pass: *mut Handle, tries: u32, answer: *mut RawAnswer) -> Code;
     pub(crate) fn blink_pass_free(pass: Handle);
 
-    pub(crate) fn blink_map_open(
+    pub(crate) fn blink_map_open_unnamed(
         index: *mut Handle,
         pages: u32,
         rows: u32,
         sessions: u32,
-        number: u64,
         out: *mut Handle,
-    ) -> u8;
-    pub(crate) fn blink_map_join(map: *mut Handle, out: *mut Handle) -> u8;
-    pub(crate) fn blink_map_room(map: *mut Handle, rows: *mut u64, pages: *mut u64);
-    pub(crate) fn blink_map_close(map: Handle, out: *mut Handle) -> u8;
+        place: *mut u64,
+    ) -> Code;
+    pub(crate) fn blink_map_name(map: *mut Handle, number: u64);
+    pub(crate) fn blink_map_join_alone(map: *mut Handle, out: *mut Handle) -> Code;
+    pub(crate) fn blink_map_room_alone(map: *mut Handle, rows: *mut u64, pages: *mut u64);
+    pub(crate) fn blink_map_close(map: *mut Handle, out: *mut Handle) -> Code;
     pub(crate) fn blink_map_free(map: Handle);
 
-    pub(crate) fn blink_session_find(session: *mut Handle, key: u64, answer: *mut RawAnswer) -> u8;
+    pub(crate) fn blink_session_find(session: *mut Handle, key: u64, answer: *mut RawAnswer) -> Code;
     pub(crate) fn blink_session_scan(
         session: *mut Handle,
         lo: u64,
@@ -256,7 +268,7 @@ extern "C" {
         entries: *mut crate::Entry,
         places: usize,
         scanned: *mut RawScanned,
-    ) -> u8;
+    ) -> Code;
     pub(crate) fn blink_session_snapshot(
         session: *mut Handle,
         lo: u64,
@@ -265,22 +277,22 @@ extern "C" {
         entries: *mut crate::Entry,
         places: usize,
         taken: *mut RawTaken,
-    ) -> u8;
+    ) -> Code;
     pub(crate) fn blink_session_insert(
         session: *mut Handle,
         key: u64,
         pointer: u64,
         tries: u32,
         answer: *mut RawAnswer,
-    ) -> u8;
-    pub(crate) fn blink_session_delete(session: *mut Handle, key: u64, tries: u32, answer: *mut RawAnswer) -> u8;
+    ) -> Code;
+    pub(crate) fn blink_session_delete(session: *mut Handle, key: u64, tries: u32, answer: *mut RawAnswer) -> Code;
     pub(crate) fn blink_session_replace(
         session: *mut Handle,
         key: u64,
         pointer: u64,
         tries: u32,
         answer: *mut RawAnswer,
-    ) -> u8;
+    ) -> Code;
     pub(crate) fn blink_session_exchange(
         session: *mut Handle,
         key: u64,
@@ -288,23 +300,23 @@ extern "C" {
         pointer: u64,
         tries: u32,
         answer: *mut RawAnswer,
-    ) -> u8;
+    ) -> Code;
     pub(crate) fn blink_session_delete_exact(
         session: *mut Handle,
         key: u64,
         expected: u64,
         tries: u32,
         answer: *mut RawAnswer,
-    ) -> u8;
+    ) -> Code;
     pub(crate) fn blink_session_put(
         session: *mut Handle,
         key: u64,
         pointer: u64,
         tries: u32,
         answer: *mut RawAnswer,
-    ) -> u8;
-    pub(crate) fn blink_session_advance(session: *mut Handle, tries: u32, answer: *mut RawAnswer) -> u8;
-    pub(crate) fn blink_session_tell(from: *mut Handle, to: *mut Handle) -> u8;
-    pub(crate) fn blink_session_stock(session: *mut Handle, stock: *mut crate::Stock) -> u8;
+    ) -> Code;
+    pub(crate) fn blink_session_advance(session: *mut Handle, tries: u32, answer: *mut RawAnswer) -> Code;
+    pub(crate) fn blink_session_tell(from: *mut Handle, to: *mut Handle) -> Code;
+    pub(crate) fn blink_session_stock(session: *mut Handle, stock: *mut crate::Stock) -> Code;
     pub(crate) fn blink_session_free(session: Handle);
 }

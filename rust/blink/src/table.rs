@@ -1,12 +1,11 @@
 //! The table and its passes.
 
 use crate::range::{snapshot, Range};
-use crate::sys::{self, Handle, RawAnswer};
+use crate::sys::{self, Code, Handle, RawAnswer};
 use crate::{Answer, Error, Index};
 use std::cell::UnsafeCell;
 use std::fmt;
 use std::ops::RangeBounds;
-use std::sync::atomic::{AtomicU64, Ordering};
 use std::thread;
 
 /// The entries of an index, which threads change together without a global lock, each by a [`Pass`].
@@ -40,17 +39,15 @@ pub struct Table {
 // SAFETY: `TableHandle` of crates/blink_c is proved to be `Send`.
 unsafe impl Send for Table {}
 
-// The number of the next table, by which passes of two tables are told apart. 64 bits don't run out.
-static NEXT: AtomicU64 = AtomicU64::new(0);
-
 impl Table {
     /// Opens a table over the entries of an index, which stays as it is. The table has room for so many insertions and deletions;
     /// a replacement or an exchange uses a deletion. It takes about 25 KB for each insertion.
     pub fn open(index: &Index, inserts: u32, deletes: u32) -> Result<Table, Error> {
-        let number = NEXT.fetch_add(1, Ordering::Relaxed);
-        let mut handle = Handle::EMPTY;
-        // SAFETY: the index's handle is full, and this thread alone uses it; no other table has this number.
-        Error::check(unsafe { sys::blink_table_open(index.handle(), inserts, deletes, number, &mut handle) })?;
+        let (mut handle, mut place) = (Handle::EMPTY, 0);
+        // SAFETY: the index's handle is full, and this thread alone uses it.
+        Error::check(unsafe { sys::blink_table_open_unnamed(index.handle(), inserts, deletes, &mut handle, &mut place) })?;
+        // SAFETY: the handle is full, and no other table has this place while this one or a pass of it lives.
+        unsafe { sys::blink_table_name(&mut handle, place) };
         Ok(Table { handle })
     }
 
@@ -343,7 +340,7 @@ impl Pass {
     }
 
     // Begins an operation, and takes its steps to the end.
-    fn ended(&mut self, begin: impl FnOnce(*mut Handle) -> u8) -> Result<Answer, Error> {
+    fn ended(&mut self, begin: impl FnOnce(*mut Handle) -> Code) -> Result<Answer, Error> {
         let handle = self.handle.get_mut();
         Error::check(begin(handle))?;
         let mut answer = RawAnswer::NONE;
@@ -403,7 +400,7 @@ impl Pass {
         self.begun(|handle| unsafe { sys::blink_pass_begin_delete_exact(handle, key, expected) })
     }
 
-    fn begun(mut self, begin: impl FnOnce(*mut Handle) -> u8) -> Result<Pending, (Pass, Error)> {
+    fn begun(mut self, begin: impl FnOnce(*mut Handle) -> Code) -> Result<Pending, (Pass, Error)> {
         match begin(self.handle.get_mut()) {
             0 => Ok(Pending { pass: self }),
             code => Err((self, Error::of(code))),

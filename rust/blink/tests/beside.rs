@@ -40,6 +40,7 @@ fn end(mut resting: Unfinished) -> Answer {
     loop {
         match resting.advance(1) {
             Begun::Ended(_, answer) => return answer,
+            Begun::Refused(_, error) => panic!("no put: {error}"),
             Begun::Resting(unfinished) => resting = unfinished,
         }
     }
@@ -64,6 +65,7 @@ fn begins_after(instructions: u32, other: &Other) -> Option<bool> {
     assert_eq!(inserted, Ok(Answer::Inserted));
     let (rested, answer) = match begun?.unwrap() {
         Begun::Ended(_, answer) => (false, answer),
+        Begun::Refused(_, error) => panic!("no put: {error}"),
         Begun::Resting(unfinished) => (true, end(unfinished)),
     };
     assert_eq!(answer, other.answer, "{:?} after {instructions} instructions", other.op);

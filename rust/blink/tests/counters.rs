@@ -112,6 +112,7 @@ fn ended(mut begun: Begun<'_>) -> (Session<'_>, Answer) {
         match begun {
             Begun::Ended(session, answer) => return (session, answer),
             Begun::Resting(unfinished) => begun = unfinished.advance(10),
+            Begun::Refused(_, error) => panic!("no put: {error}"),
         }
     }
 }

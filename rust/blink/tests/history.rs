@@ -135,6 +135,7 @@ fn by_steps<'map>(session: Session<'map>, op: Op, random: &mut u64) -> (Session<
     loop {
         match begun {
             Begun::Ended(session, answer) => return (session, answer, rests),
+            Begun::Refused(_, error) => panic!("no put: {error}"),
             Begun::Resting(unfinished) => {
                 rests += 1;
                 match next_random(random) % 4 {

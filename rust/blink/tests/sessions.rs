@@ -169,7 +169,9 @@ fn fills_and_loses_nothing(pages: u32, rows: u32) -> (u64, Left) {
     let count = fill(&mut sessions);
     for session in &mut sessions {
         assert_eq!(session.insert(count, 0), Err(Error::Full));
-        assert_eq!(session.put(0, 0), Err(Error::Full));
+        assert_eq!(session.put(count, 0), Err(Error::Full));
+        // a key that is there needs no room for an insertion
+        assert_eq!((session.insert(0, 0), session.put(0, 7)), (Ok(Answer::Exists(7)), Ok(Some(7))));
         assert_eq!((session.get(0), session.get(count)), (Some(7), None));
     }
     let left = map.room();
@@ -183,6 +185,32 @@ fn fills_and_loses_nothing(pages: u32, rows: u32) -> (u64, Left) {
 fn a_map_without_page_numbers_is_full() {
     let (count, left) = fills_and_loses_nothing(3_000, 100_000);
     assert!(count > 1_000 && left.pages < 22 && left.rows >= 44, "{count} {left:?}");
+}
+
+// Each draw keeps what the session had left, so that fewer are left than the 22 that an insertion may need.
+#[test]
+fn one_session_uses_nearly_all_page_numbers() {
+    for pages in [200, 1_000, 20_000] {
+        let map = map_over(&Index::new(16).unwrap(), pages, 2 * pages + 1_000, 1);
+        let mut session = map.session().unwrap();
+        let refused = (0..16 * u64::from(pages)).find(|&key| session.insert(key, key).is_err());
+        let left = map.room().pages + session.stock().pages;
+        assert!(refused.is_some() && left < 22, "{left} of {pages}");
+    }
+}
+
+// The first insertion has all rows, and the fifth splits the leaf: no insertion has room any more. A row comes back for each put.
+#[test]
+fn a_full_map_takes_puts_of_keys_that_are_there() {
+    let map = map_over(&Index::new(4).unwrap(), 200, 44, 1);
+    let mut session = map.session().unwrap();
+    for key in 1..6 {
+        assert_eq!(session.insert(key, 0), Ok(Answer::Inserted));
+    }
+    for pointer in 0..1_000 {
+        assert_eq!(session.put(5, pointer + 1), Ok(Some(pointer)));
+    }
+    assert_eq!((session.insert(5, 50), session.put(6, 60)), (Ok(Answer::Exists(1_000)), Err(Error::Full)));
 }
 
 #[test]
@@ -228,36 +256,36 @@ fn stock(pages: u64, unwritten: u64, free: u64, taken_out: u64) -> Stock {
     Stock { pages, unwritten, free, taken_out, waiting: 0 }
 }
 
-// A leaf has 4 entries. The first insertion draws an eighth of the pool, 25 page numbers and 50 rows, and each writes one row,
+// A leaf has 4 entries. Of two sessions the first insertion draws a quarter of the pool, 50 page numbers and 50 rows, and each writes one row,
 // which replaces the one before. The fifth splits the leaf: it writes the new leaf, the old one, the new root and the prime block,
 // and the rows of the second and the fourth replace others.
 #[test]
 fn a_session_tells_what_its_insertions_use() {
-    let map = map_over(&Index::new(4).unwrap(), 200, 400, 2);
+    let map = map_over(&Index::new(4).unwrap(), 200, 200, 2);
     let (mut session, mut other) = (map.session().unwrap(), map.session().unwrap());
     assert_eq!(session.stock(), stock(0, 0, 0, 0));
     for key in 1..5 {
         assert_eq!(session.insert(key, key), Ok(Answer::Inserted));
-        assert_eq!(session.stock(), stock(25, 50 - key, 0, key));
+        assert_eq!(session.stock(), stock(50, 50 - key, 0, key));
     }
     assert_eq!(session.insert(5, 5), Ok(Answer::Inserted));
-    assert_eq!(session.stock(), stock(23, 42, 0, 6));
+    assert_eq!(session.stock(), stock(48, 42, 0, 6));
     // what changes nothing uses nothing
     assert_eq!((session.remove(6), session.replace(6, 0)), (Ok(Answer::Absent), Ok(Answer::Absent)));
-    assert_eq!(session.stock(), stock(23, 42, 0, 6));
+    assert_eq!(session.stock(), stock(48, 42, 0, 6));
     // an insertion has to have 44 rows when it begins, so the rows that were replaced come back before; it changes nothing either
     assert_eq!(session.insert(5, 6), Ok(Answer::Exists(5)));
-    assert_eq!((session.stock(), other.stock()), (stock(23, 42, 6, 0), stock(0, 0, 0, 0)));
-    assert_eq!(map.room(), Left { pages: 175, rows: 350 });
+    assert_eq!((session.stock(), other.stock()), (stock(48, 42, 6, 0), stock(0, 0, 0, 0)));
+    assert_eq!(map.room(), Left { pages: 150, rows: 150 });
 }
 
-// The first replacement draws an eighth of the pool, 100 rows. Rows that were replaced begin to wait 64 at a time, and as no
+// Of one session the first replacement draws half of the pool, 100 rows. Rows that were replaced begin to wait 64 at a time, and as no
 // other call is in progress they are free at once; free rows are written first. A session that joins later has what the last one at
 // its place left.
 #[test]
 fn a_session_tells_which_rows_have_come_back() {
     let index = Index::from_entries(4, &[(1, 0)].map(Entry::from)).unwrap();
-    let map = map_over(&index, 0, 800, 1);
+    let map = map_over(&index, 0, 200, 1);
     let mut session = map.session().unwrap();
     for turn in 0..200 {
         assert_eq!(session.replace(1, turn + 1), Ok(Answer::Replaced(turn)));
@@ -268,7 +296,7 @@ fn a_session_tells_which_rows_have_come_back() {
         assert_eq!(session.stock(), expected, "{turn}");
     }
     // 200 are three times 64 and 8
-    assert_eq!((session.stock(), map.room()), (stock(0, 36, 56, 8), Left { pages: 0, rows: 700 }));
+    assert_eq!((session.stock(), map.room()), (stock(0, 36, 56, 8), Left { pages: 0, rows: 100 }));
     drop(session);
     assert_eq!(map.session().unwrap().stock(), stock(0, 36, 56, 8));
 }
@@ -325,21 +353,25 @@ fn drops_one_that_rests(map: &Map, most: u64) -> bool {
                 session = free;
                 thread::yield_now();
             }
-            Err((_, error)) => panic!("{error}"),
+            Ok(Begun::Refused(_, error)) | Err((_, error)) => panic!("{error}"),
         }
     }
     false
 }
 
 #[test]
-fn a_map_with_a_dropped_operation_does_not_close() {
+fn a_map_with_a_dropped_operation_closes() {
     let index = Index::from_entries(4, &[(1, 10)].map(Entry::from)).unwrap();
     let map = map_over(&index, 0, 400_000, 4);
     let dropped = thread::scope(|scope| {
         let workers = [(); 4].map(|()| scope.spawn(|| drops_one_that_rests(&map, 90_000)));
         workers.map(|worker| worker.join().unwrap()).contains(&true)
     });
-    assert_eq!(map.close().err(), dropped.then_some(Error::LostUnderWay));
+    // the key has a pointer that a thread stored, or began to store
+    match map.close() {
+        Ok(closed) => assert!(closed.len() == 1 && closed.find(1).is_some_and(|pointer| pointer < 90_000)),
+        Err(unclosed) => assert!(dropped && unclosed.error == Error::LostUnderWay),
+    }
 }
 
 #[test]
@@ -407,7 +439,9 @@ fn rooms_that_are_refused() {
 fn a_leaked_session_is_missing() {
     let map = map_over(&Index::new(4).unwrap(), 0, 0, 1);
     std::mem::forget(map.session().unwrap());
-    assert_eq!(map.close().unwrap_err(), Error::Missing);
+    let unclosed = map.close().unwrap_err();
+    assert_eq!(unclosed.error, Error::Missing);
+    assert_eq!(unclosed.map.close().map(|index| index.len()).map_err(Error::from), Err(Error::Missing));
 }
 
 #[test]
@@ -423,4 +457,17 @@ fn a_session_moves_to_another_thread() {
     assert_eq!(session.get(1), Some(10));
     drop(session);
     assert_eq!(map.close().unwrap().len(), 1);
+}
+
+// Each of 256 sessions inserts a key, while the tree has few pages, and stays. None takes the part of those that come later.
+#[test]
+fn each_of_256_sessions_finds_its_part_of_the_room() {
+    let room = Room { pages: 20_000, rows: 40_000, sessions: 256 };
+    let map = Map::open(&Index::new(16).unwrap(), room).unwrap();
+    let mut sessions: Vec<Session> = (0..256).map(|_| map.session().unwrap()).collect();
+    for (key, session) in (0..).zip(&mut sessions) {
+        assert_eq!(session.insert(key, 10 * key), Ok(Answer::Inserted), "{key}");
+    }
+    drop(sessions);
+    assert_eq!(map.close().unwrap().len(), 256);
 }

@@ -95,7 +95,9 @@ fn a_snapshot_has_the_entries_of_its_range() {
     assert_eq!(session.snapshot(.., 1).unwrap().unwrap(), (0..1_000).map(|key| (key * 3, key)).collect::<Vec<_>>());
     assert_eq!(session.snapshot(4..=9, 1).unwrap(), Some(vec![(6, 2), (9, 3)]));
     assert_eq!(session.snapshot(7..9, 1).unwrap(), Some(vec![]));
-    assert_eq!(session.snapshot(9..7, 1).unwrap(), Some(vec![]));
+    #[allow(clippy::reversed_empty_ranges)]
+    let empty = 9..7;
+    assert_eq!(session.snapshot(empty, 1).unwrap(), Some(vec![]));
     assert_eq!(session.snapshot(2_998..=u64::MAX, 1).unwrap(), Some(vec![]));
     assert_eq!(session.snapshot(.., 0).unwrap(), None);
 }

@@ -50,7 +50,7 @@ impl<'map> Writer<'map> {
                 self.session = Some(session);
                 false
             }
-            Ok(Begun::Resting(_)) => panic!("nobody has the page"),
+            Ok(begun) => panic!("nobody has the page: {begun:?}"),
         }
     }
 
@@ -86,9 +86,9 @@ fn stops_after(instructions: u32) -> Option<bool> {
     assert!(replaced == QUOTA || replaced == 3 * ROWS, "{replaced} changes after {instructions} instructions");
     let found = found.unwrap();
     assert!(found == FIRST || found == FIRST + u64::from(replaced), "{found} after {instructions} instructions");
-    // A session draws an eighth of what the pool has, of 100 rows 12, and the late one 11 of the other 88. The writer draws again only
-    // while its rows don't come back, up to its quota; then the late one draws 7 of 56.
-    assert_eq!(map.room(), Left { pages: 0, rows: if replaced == QUOTA { 49 } else { 77 } });
+    // Of three sessions one draws a sixth of what the pool has, of 100 rows 16, and the late one 14 of the other 84. The writer draws
+    // again only while its rows don't come back, up to its quota of 44; then the late one draws 9 of 56.
+    assert_eq!(map.room(), Left { pages: 0, rows: if replaced == QUOTA { 47 } else { 70 } });
     // The reader has gone on, so no row is held back any more.
     assert_eq!(writer.replaces_at_most(5 * ROWS), 5 * ROWS);
     assert_eq!(reader.get(1), Some(writer.pointer));
@@ -108,6 +108,77 @@ fn a_reader_that_is_stopped_anywhere_reads_rows_that_are_not_written() {
     let held = come_back.iter().filter(|back| !**back).count();
     // The call reads the prime block, the leaf's row, and the entry between the marks.
     assert!(held > 20, "{held}");
+}
+
+// ---- a change that is stopped at each of its instructions
+
+#[test]
+fn a_change_that_is_stopped_anywhere_is_made_or_not() {
+    let map = map_of_four(2);
+    let mut writer = Writer::new(&map);
+    let mut reader = map.session().unwrap();
+    let (mut instructions, mut shown) = (0u32, Vec::with_capacity(2));
+    let replaced = by_instruction(
+        || writer.replaces(),
+        || {
+            instructions += 1;
+            let found = reader.get(1);
+            if shown.last() != Some(&found) {
+                shown.push(found);
+            }
+            assert_eq!(reader.get(2), Some(20));
+            true
+        },
+    );
+    assert!(replaced && instructions > 100, "{instructions}");
+    // The change is seen at once, and stays.
+    assert_eq!(shown, [Some(FIRST), Some(FIRST + 1)]);
+    drop((writer, reader));
+    assert!(map.close().unwrap().scan(..).eq([(1, FIRST + 1), (2, 20), (3, 30), (4, 40)].map(Entry::from)));
+}
+
+// Goes on with a change until it has ended.
+fn end(mut begun: Begun) -> Answer {
+    loop {
+        match begun {
+            Begun::Ended(_, answer) => return answer,
+            Begun::Refused(_, error) => panic!("no put: {error}"),
+            Begun::Resting(unfinished) => begun = unfinished.advance(1),
+        }
+    }
+}
+
+// Begins a change of the same leaf after so many instructions of a replacement, and returns whether it had to wait; none, if the
+// replacement has fewer.
+fn another_waits_after(instructions: u32) -> Option<bool> {
+    let map = map_of_four(2);
+    let mut writer = Writer::new(&map);
+    let mut free = Some(map.session().unwrap());
+    let (mut passed, mut begun) = (0, None);
+    let replaced = by_instruction(
+        || writer.replaces(),
+        || {
+            if passed == instructions {
+                begun = free.take().map(|session| session.begin(Op::Replace(2, 21), 1));
+            }
+            passed += 1;
+            begun.is_none()
+        },
+    );
+    assert!(replaced);
+    let begun = begun?.unwrap();
+    let waited = matches!(begun, Begun::Resting(_));
+    assert_eq!(end(begun), Answer::Replaced(20), "after {instructions} instructions");
+    drop((writer, free));
+    assert!(map.close().unwrap().scan(..).eq([(1, FIRST + 1), (2, 21), (3, 30), (4, 40)].map(Entry::from)));
+    Some(waited)
+}
+
+#[test]
+fn another_change_waits_only_while_a_stopped_one_has_the_leaf() {
+    let waits: Vec<bool> = (0..100_000).step_by(7).map_while(another_waits_after).collect();
+    let turns = waits.windows(2).filter(|pair| pair[0] != pair[1]).count();
+    assert_eq!((waits.first(), waits.last(), turns), (Some(&false), Some(&false), 2));
 }
 
 // ---- a reader in a thread of its own that is stopped by a signal

@@ -9,6 +9,7 @@ use Rattle.blink_machine.specs.TreeState.{TreeState}
 use Rattle.blink_live.specs.declared.view.Plan.{Plan}
 use Rattle.blink_live.specs.declared.view.Role.TheVariants.{Keeper, Pass}
 use Rattle.blink_live.specs.declared.view.View.{View}
+use Rattle.blink_live.specs.Accounts.{HaveAuthors}
 use Rattle.blink_live.specs.AtomicSteps.{marks_place}
 use Rattle.blink_live.specs.Rule.{HasPlace, PageWordIs, IsInRole, Knows, IsTableAt, IsTable}
 use Rattle.blink_live.specs.Views.{IsCommon, SeatState, is_busy}
@@ -16,7 +17,7 @@ use Rattle.blink_live.specs.Words.{place_word, row_start, word_count}
 use Rattle.blink_live.proofs.table.PoolStays.{pool_stays}
 use Rattle.blink_live.proofs.reuse.ReuseStaysSafe.{hand_stays, holds_nothing, reuse_stays}
 use Rattle.blink_live.proofs.table.LooksStay.{nothing_noted}
-use Rattle.blink_live.proofs.table.AccountsStay.{accounts_stay}
+use Rattle.blink_live.proofs.table.AccountsStay.{accounts_stay, authors_of_prefix}
 use Rattle.blink_live.proofs.table.OthersKnowTheSame.{LeavesOthers, RowStays, page_word_still}
 use Rattle.blink_live.proofs.table.StoresKeepTable.{call_kept, prime_still, store_keeps}
 
@@ -108,6 +109,12 @@ module _ (plan : Plan) (s : State ℕ View) (tree_state : TreeState) (h : IsTabl
   } refl refl (λ is_common. accounts_stay plan h.owners.place h.log s.views id v w at (h.accounted is_common) refl ((h.accounted is_common).saw_own id v at))
       (λ is_common. reuse_stays plan h.owners.row s.words s.views id v w at (h.reuse is_common) h.owners.row words (λ row is. is) (λ seat r later is apart. is) (λ n few. before n (omega (arith, few))) refl (hand_stays h.owners.row id v w refl refl) (λ row content is. absurd (holds_nothing w refl refl row content is))) knows
 
+-- each change that a seat has seen was made at one of the places
+authors_seen : (plan : Plan) (s : State ℕ View) (tree_state : TreeState) (h : IsTableAt plan s tree_state) (id : ℕ) (v : View) → get_elem? s.views id ≡ some v → IsCommon plan → HaveAuthors v.plan.places v.seen
+authors_seen plan s tree_state h id v at common =
+    let known = h.views id v at in
+    subst (λ (p : Plan). HaveAuthors p.places v.seen) (sym known.same_plan) (authors_of_prefix plan.places v.seen h.log known.saw (h.accounted common).authors)
+
 pub place_is_marked : (plan : Plan) (slots id x : ℕ) (me : SeatState) → me.0.role ≡ Pass → IsCommon plan → 1 ≤ plan.counts.numbers → (me.0.operation ≡ None) ⊎ (1 ≤ x)
     → Allows (IsTable plan) slots id me (place_word plan.counts me.0.place) (λ n. x) (λ n. marks_place (step slots (place_word plan.counts me.0.place) x 0 none) me x)
 place_is_marked plan slots id x me role common some_number idle s table homes at small = (
@@ -115,5 +122,5 @@ place_is_marked plan slots id x me role common some_number idle s table homes at
   keeps,
   tt,
   mark_keeps plan s table.0 table.1 id x me.0 at role common some_number (λ m goes. ⊎_elim (λ (none : me.0.operation ≡ None). absurd (cc)) (λ (some_x : 1 ≤ x). some_x) idle),
-  record { is = refl; saw_own = (table.1.accounted common).saw_own id me.0 at role },
+  record { is = refl; authors = ((table.1.accounted common).saw_own id me.0 at role, authors_seen plan s table.0 table.1 id me.0 at common) },
 )

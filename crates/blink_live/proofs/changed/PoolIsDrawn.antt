@@ -2,6 +2,8 @@
 use Rattle.std.proofs.Common.{◌≡◌, ◌≢◌, ℕ, zero, suc, ◌+◌, ◌*◌, ◌<◌, ◌≤◌, Option, Some, None, List, set, refl, sym, ap, ◌∙◌, subst, inl, inr, ⊎_elim, ◌⊎◌, get_or-set_same, get_or-set_other, eqb, arith}
 use Rattle.std.specs.Prelude.{slice_index}
 use mathlib.Core.Option.{some, none}
+use mathlib.Core.Logic.{dite}
+use native.Mathlib.Decide.{dec_le}
 use lib.ListN.{get_elem?}
 use lib.Seq.{set-get_or}
 use prog.Atomic.{either}
@@ -12,7 +14,7 @@ use Rattle.blink_rows.specs.declared.span.Span.{Span}
 use Rattle.blink_live.specs.declared.view.Plan.{Plan}
 use Rattle.blink_live.specs.declared.view.Role.TheVariants.{Keeper, Pass}
 use Rattle.blink_live.specs.declared.view.View.{View}
-use Rattle.blink_live.specs.AtomicSteps.{draws_pages, draws_rows}
+use Rattle.blink_live.specs.AtomicSteps.{Draws, draws_pages, draws_rows}
 use Rattle.blink_live.specs.Reuse.{IsAtHand, IsReuseSafe}
 use Rattle.blink_live.specs.Accounts.{AreAccounts}
 use Rattle.blink_live.specs.Rule.{latch_word, HasNumbers, HasRows, Owners, PageWordIs, IsInRole, Knows, IsTableAt, IsTable}
@@ -192,35 +194,38 @@ module _ (plan : Plan) (s : State ℕ View) (tree_state : TreeState) (h : IsTabl
       named = λ n row least few unowned is. (sym (before 2 (omega arith) (omega arith) n (omega (arith, few))) ∙ is, refl);
     }
 
-    pages_knows : Knows plan page_owners (words 2 (omega arith) (omega arith)) tree_state h.log id (has_pages v (span old new))
-    pages_knows = record {
-      same_plan = known.same_plan;
-      operation = known.operation;
-      bounded = known.bounded;
-      reads = seat_reads_still plan s tree_state tree_state h id kept.0 (words 2 (omega arith) (omega arith)) page_owners h.log pages_leave v known.reads;
-      rows = record { in_range = known.rows.in_range; own = known.rows.own };
-      numbers = record {
-        in_range = (pool_pages.in_range.0, end);
-        own = λ number low high. ranged_in old new (suc id) h.owners.page number low high;
-        free = λ number low high. pool_pages.free number low (omega (arith, high, end));
-      };
-      for_call = nothing_for_call plan page_owners (words 2 (omega arith) (omega arith)) tree_state (suc id) v.rows.next old known.rows.in_range.0 pool_pages.in_range.0 some_number;
-      share = λ key has. let own = known.share key has in record { own = own.own; kept = own.kept; changes = own.changes };
-      saw = known.saw;
-      heard = known.heard;
-      in_role = subst (IsInRole plan page_owners h.log id (has_pages v (span old new))) (sym role) kept;
-      placed = λ is_common is. let p = known.placed is_common is in record { in_range = p.in_range; own = p.own; word = other_place 2 (omega arith) (omega arith) v.place ∙ p.word; busy = p.busy };
-      nothing = λ is_common dealt back is. absurd (let e : Pass ≡ Keeper dealt back = sym role ∙ is in cc);
-      places_left = λ dealt back is. absurd (let e : Pass ≡ Keeper dealt back = sym role ∙ is in cc);
-    }
-
     no_call_rows : (seat : ℕ) (u : View) (pages : Span) (row : ℕ) → IsAtHand (has_pages u pages) row → IsAtHand u row ⊎ (h.owners.row row ≢ suc seat)
     no_call_rows seat u pages row hand = ⊎_elim (λ (t : (u.rows.next ≤ row) × (row < u.rows.stop)). inl (inl t)) (λ (t : (1 ≤ row) × (row < 1)). absurd (omega (arith, t))) hand
 
-    pages_drawn : IsTable plan record { words = words 2 (omega arith) (omega arith); homes = s.homes; views = set s.views id (has_pages v (span old new)) }
-    pages_drawn = draw_keeps 2 (omega arith) (omega arith) page_owners (has_pages v (span old new)) pages_leave refl refl refl (accounts_stay plan h.owners.place h.log s.views id v (has_pages v (span old new)) at (h.accounted common) refl ((h.accounted common).saw_own id v at))
-        (reuse_stays plan h.owners.row s.words s.views id v (has_pages v (span old new)) at (h.reuse common) page_owners.row (words 2 (omega arith) (omega arith)) (λ row is. is) (λ seat r later is apart. is)
-        (λ n few. before 2 (omega arith) (omega arith) n (omega (arith, few))) refl (no_call_rows id v (span old new)) (same_reads plan h.owners.row s.words s.views id v (has_pages v (span old new)) at (h.reuse common) refl refl refl refl refl)) pages_knows
+    -- the seat has these numbers then: those from the pool on, and before them those that it had
+    module _ (low : ℕ) (least : 1 ≤ low) (has : (number : ℕ) → low ≤ number → number < old → (h.owners.page number ≡ suc id) × (tree_state.pages number ≡ None)) where
+      pages_knows : Knows plan page_owners (words 2 (omega arith) (omega arith)) tree_state h.log id (has_pages v (span low new))
+      pages_knows = record {
+        same_plan = known.same_plan;
+        operation = known.operation;
+        bounded = known.bounded;
+        reads = seat_reads_still plan s tree_state tree_state h id kept.0 (words 2 (omega arith) (omega arith)) page_owners h.log pages_leave v known.reads;
+        rows = record { in_range = known.rows.in_range; own = known.rows.own };
+        numbers = record {
+          in_range = (least, end);
+          own = λ number from high. dite (dec_le old number) (λ drawn. ranged_in old new (suc id) h.owners.page number drawn high)
+              (λ had. let its = has number from (omega (arith, had)) in let later = kept.0 in page_else number (λ e. let one : suc id ≡ suc 0 = sym its.0 ∙ e in omega (arith, one, later)) ∙ its.0);
+          free = λ number from high. dite (dec_le old number) (λ drawn. pool_pages.free number drawn (omega (arith, high, end))) (λ had. (has number from (omega (arith, had))).1);
+        };
+        for_call = nothing_for_call plan page_owners (words 2 (omega arith) (omega arith)) tree_state (suc id) v.rows.next low known.rows.in_range.0 least some_number;
+        share = λ key has. let own = known.share key has in record { own = own.own; kept = own.kept; changes = own.changes };
+        saw = known.saw;
+        heard = known.heard;
+        in_role = subst (IsInRole plan page_owners h.log id (has_pages v (span low new))) (sym role) kept;
+        placed = λ is_common is. let p = known.placed is_common is in record { in_range = p.in_range; own = p.own; word = other_place 2 (omega arith) (omega arith) v.place ∙ p.word; busy = p.busy };
+        nothing = λ is_common dealt back is. absurd (let e : Pass ≡ Keeper dealt back = sym role ∙ is in cc);
+        places_left = λ dealt back is. absurd (let e : Pass ≡ Keeper dealt back = sym role ∙ is in cc);
+      }
+
+      pages_drawn : IsTable plan record { words = words 2 (omega arith) (omega arith); homes = s.homes; views = set s.views id (has_pages v (span low new)) }
+      pages_drawn = draw_keeps 2 (omega arith) (omega arith) page_owners (has_pages v (span low new)) pages_leave refl refl refl (accounts_stay plan h.owners.place h.log s.views id v (has_pages v (span low new)) at (h.accounted common) refl ((h.accounted common).saw_own id v at))
+          (reuse_stays plan h.owners.row s.words s.views id v (has_pages v (span low new)) at (h.reuse common) page_owners.row (words 2 (omega arith) (omega arith)) (λ row is. is) (λ seat r later is apart. is)
+          (λ n few. before 2 (omega arith) (omega arith) n (omega (arith, few))) refl (no_call_rows id v (span low new)) (same_reads plan h.owners.row s.words s.views id v (has_pages v (span low new)) at (h.reuse common) refl refl refl refl refl)) pages_knows
 
 -- ---- the steps
 
@@ -253,7 +258,30 @@ pages_are_drawn plan slots id old new me role common some_number further end s t
       has_pages me.0 (span old new),
       keeps,
       tt,
-      pages_drawn plan s table.0 table.1 id old new me.0 at role common some_number further hit end,
+      pages_drawn plan s table.0 table.1 id old new me.0 at role common some_number further hit end old (subst (λ (n : ℕ). 1 ≤ n) hit (table.1.pool common).pages.in_range.0) (λ number from below. absurd (omega (arith, from, below))),
+      record { got = λ is. refl; lost = λ other. absurd (other hit) },
+    ))
+    (λ miss. (
+      me.0,
+      keeps,
+      tt,
+      subst (λ (t : List ℕ × List View). IsTable plan record { words = t.0; homes = s.homes; views = t.1 }) (λ i. (sym (set-get_or s.words (pool_page plan.counts) 0) i, sym (set_again s.views id me.0 at) i)) table,
+      record { got = λ is. absurd (miss is); lost = λ other. refl },
+    ))
+
+-- the numbers drawn follow those that the seat has
+pub pages_are_joined : (plan : Plan) (slots id old new : ℕ) (me : SeatState) → me.0.role ≡ Pass → IsCommon plan → 1 ≤ plan.counts.numbers → old ≤ new → new ≤ plan.counts.numbers → me.0.pages.stop ≡ old
+    → Allows (IsTable plan) slots id me (pool_page plan.counts) (λ n. either (eqb n old) new n) (Draws (has_pages me.0 (span me.0.pages.next new)) old me)
+pages_are_joined plan slots id old new me role common some_number further end follows s table homes at small =
+    let found : ℕ = slice_index s.words (pool_page plan.counts) in
+    let known : Knows plan table.1.owners s.words table.0 table.1.log id me.0 = table.1.views id me.0 at in
+    exchanged found old new (λ (k : ℕ). (w : View) × (a : Act ℕ) × Valid s.homes me.1 a × IsTable plan (stepped s (pool_page plan.counts) k id me.1 w a) × Draws (has_pages me.0 (span me.0.pages.next new)) old me found (w, carried_after me.1 a))
+    (λ hit. (
+      has_pages me.0 (span me.0.pages.next new),
+      keeps,
+      tt,
+      pages_drawn plan s table.0 table.1 id old new me.0 at role common some_number further hit end me.0.pages.next known.numbers.in_range.0
+          (λ number from below. (known.numbers.own number from (omega (arith, below, follows)), known.numbers.free number from (omega (arith, below, follows)))),
       record { got = λ is. refl; lost = λ other. absurd (other hit) },
     ))
     (λ miss. (

@@ -1,4 +1,4 @@
--- The words of a common table whose places are all idle keep a tree at rest, whose entries are those of all changes.
+-- The words of a common table whose places are all idle keep a tree at rest.
 use Rattle.std.proofs.Common.{◌≡◌, ℕ, ◌<◌, ◌≤◌, Option, Some, None, List, length, sym, ◌∙◌, subst, ⊎_elim, refl, arith}
 use Rattle.std.specs.Prelude.{Contains, slice_index}
 use mathlib.Core.Option.{some}
@@ -28,17 +28,6 @@ use Rattle.blink_live.proofs.closed.TableAtTheEnd.{keeps_tree}
 abbrev pub AreIdle : Plan → List ℕ → Type 0
 AreIdle plan words = (place : ℕ) → place < plan.places → slice_index words (place_word plan.counts place) ≡ 0
 
--- what a common table at the end says
-pub record IsAtEndOfAll (plan : Plan) (words : List ℕ) (v : View) : Type 0 where
-  pub now : List Entry
-  pub tree : KeepsTree plan.counts words plan.fan now
-  pub final : List Change
-  pub saw : IsPrefix v.seen final
-  pub authors : HaveAuthors plan.places final
-  pub accounts : (account : Account) → Contains (accounts_of v) account → made_at account.place final ≡ account.changes
-  pub apart : AreApart (accounts_of v)
-  pub kept : (key : ℕ) → pointer_of now key ≡ after (pointer_of plan.opening) final key
-
 module _ (plan : Plan) (s : State ℕ View) (tree_state : TreeState) (h : IsTableAt plan s tree_state) (common : IsCommon plan) (idle : AreIdle plan s.words) where
   no_operation : (seat : ℕ) (v : View) → Knows plan h.owners s.words tree_state h.log seat v → (role : Role) → v.role ≡ role → IsInRole plan h.owners h.log seat v role → v.operation ≡ None
   no_operation seat v known (Keeper dealt back) is in_role = in_role.1
@@ -62,20 +51,6 @@ module _ (plan : Plan) (s : State ℕ View) (tree_state : TreeState) (h : IsTabl
       known.operation ∙ no_operation worker t.0 known t.0.role refl known.in_role)
       (seat_there s.views worker)
 
-  ends : (id : ℕ) (v : View) → get_elem? s.views id ≡ some v → IsAtEndOfAll plan s.words v
-  ends id v at = record {
-    now = h.now;
-    tree = keeps_tree plan s tree_state h nobody_at_work;
-    final = h.log;
-    saw = (h.views id v at).saw;
-    authors = (h.accounted common).authors;
-    accounts = λ account has. ((h.accounted common).accounts id v at account has).all;
-    apart = (h.accounted common).apart id v at;
-    kept = h.kept;
-  }
-
-pub at_end_of_all : (plan : Plan) (id : ℕ) (v : View) (words slots : List ℕ) → IsCommon plan → AreIdle plan words → Final (Seen (IsTable plan) id v) words slots → IsAtEndOfAll plan words v
-at_end_of_all plan id v words slots common idle final =
-    let s : State ℕ View = final.0 in
-    let still : AreIdle plan s.words = subst (AreIdle plan) (sym final.2) idle in
-    subst (λ (ws : List ℕ). IsAtEndOfAll plan ws v) final.2 (ends plan s final.1.0.0 final.1.0.1 common still id v final.1.1)
+  -- so they keep a tree at rest
+  pub rests_at_end : KeepsTree plan.counts s.words plan.fan h.now
+  rests_at_end = keeps_tree plan s tree_state h nobody_at_work

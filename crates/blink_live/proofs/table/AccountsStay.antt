@@ -1,7 +1,7 @@
 -- Steps that change no account keep all of them right; a step that makes changes adds them to its own seat's account.
-use Rattle.std.proofs.Common.{◌≡◌, ◌≢◌, ⊎_elim, ℕ, suc, ◌<◌, Bool, List, [], ◌∷◌, ◌++◌, set, length, refl, sym, ap, ◌∙◌, subst, append_assoc, eq-eqb, ne_eqb, arith}
+use Rattle.std.proofs.Common.{◌≡◌, ◌≢◌, ⊎_elim, ℕ, suc, ◌<◌, Bool, List, [], ◌∷◌, ◌++◌, set, get_or, length, length-append, refl, sym, ap, ◌∙◌, subst, append_assoc, eq-eqb, ne_eqb, arith}
 use Rattle.std.specs.Prelude.{All, Contains, ◌==◌, if◌then◌else◌}
-use Rattle.std.proofs.lemmas.List.{append_cancel_left}
+use Rattle.std.proofs.lemmas.List.{append_cancel_left, get_or_append_left}
 use mathlib.Core.List.{IsPrefix, append-nil}
 use Rattle.std.proofs.lemmas.List.Elements.{filter-append, All-append}
 use mathlib.Core.Option.{some}
@@ -12,7 +12,7 @@ use Rattle.blink_live.specs.declared.view.Plan.{Plan}
 use Rattle.blink_live.specs.declared.view.Role.{Role}
 use Rattle.blink_live.specs.declared.view.Role.TheVariants.{Pass, Spent}
 use Rattle.blink_live.specs.declared.view.View.{View}
-use Rattle.blink_live.specs.Accounts.{AreApart, HasSeenItsOwn, IsAccount, AreAccounts, account_of, accounts_in, accounts_of, made_at}
+use Rattle.blink_live.specs.Accounts.{AreApart, HasSeenItsOwn, HaveAuthors, IsAccount, AreAccounts, account_of, accounts_in, accounts_of, made_at}
 use Rattle.blink_live.proofs.dealt.FirstOrOneOfRest.{contains_case}
 use Rattle.blink_live.proofs.table.PassesOut.{at_end}
 use Rattle.blink_live.proofs.table.SeatsThatStay.{views_stay}
@@ -55,6 +55,13 @@ made_between place xs ys zs made one two first last =
     sym (append_assoc (made_at place xs) a.0 b.0) ∙ (ap (λ (l : List Change). l ++ b.0) a.1 ∙ (b.1 ∙ (last ∙ (sym first ∙ sym (append-nil (made_at place xs)))))) in
     let none : a.0 ≡ [] = nothing_more a.0 b.0 (append_cancel_left (made_at place xs) (a.0 ++ b.0) [] all) in
     sym a.1 ∙ (ap (λ (l : List Change). made_at place xs ++ l) none ∙ (append-nil (made_at place xs) ∙ first))
+
+-- the changes of a prefix were made at the places at which all were
+pub authors_of_prefix : (places : ℕ) (seen log : List Change) → IsPrefix seen log → HaveAuthors places log → HaveAuthors places seen
+authors_of_prefix places seen log is authors k d inside =
+    let long = length-append seen is.0 in
+    let whole : length (seen ++ is.0) ≡ length log = ap (λ (l : List Change). length l) is.1 in
+    subst (λ (c : Change). c.author < places) (ap (λ (l : List Change). get_or l k d) (sym is.1) ∙ get_or_append_left seen is.0 d k inside) (authors k d (omega (arith, inside, long, whole)))
 
 -- the only account of a list of one
 pub only_account : (first account : Account) → Contains (first ∷ []) account → first ≡ account

@@ -8,8 +8,8 @@ use Rattle.blink_map.specs.{change_to, opening_of, place_of, seen_by}
 use Rattle.blink_map_client.proofs.EntryIsShown.{goes_on_with, insertion_made, still_there}
 use Rattle.blink_map_client.proofs.insert_and_show.Goals as goal
 
-pub returns : goal.returns
-returns g c =
+pub returns-clause-shown : goal.returns-clause-shown
+returns-clause-shown g c =
     let author = place_of c.args.one.now in
     let key = c.args.key in
     let pointer = c.args.pointer in
@@ -19,12 +19,9 @@ returns g c =
     let made = insertion_made author key pointer (after opening before key) (sym c.in-Ok-Inserted.field-0-is ∙ is.answers) in
     let own : IsPrefix (before ++ change_to author key pointer ∷ []) (seen_by c.insert.new.session) = subst (λ (l : List Change). IsPrefix (before ++ l) (seen_by c.insert.new.session)) made is.goes_on in
     let told : IsPrefix (seen_by c.insert.new.session) (seen_by c.find.new.session) = prefix_of_prefix (seen_by c.insert.new.session) (seen_by c.tell.new.to) (seen_by c.find.new.session) c.tell.ensures.told c.find.ensures.same.saw in
-    let later = goes_on_with (before ++ change_to author key pointer ∷ []) (seen_by c.insert.new.session) (seen_by c.find.new.session) own told in
-    record {
-      shown = (
-        before,
-        later.0,
-        later.1,
-        λ none. c.find.ensures.state ∙ (ap (λ (l : List Change). after opening l key) later.1 ∙ still_there opening author key pointer before later.0 none),
-      );
-    }
+    let later = goes_on_with (before ++ change_to author key pointer ∷ []) (seen_by c.insert.new.session) (seen_by c.find.new.session) own told in (
+      before,
+      later.0,
+      later.1,
+      λ none. c.find.ensures.state ∙ (ap (λ (l : List Change). after opening l key) later.1 ∙ still_there opening author key pointer before later.0 none),
+    )

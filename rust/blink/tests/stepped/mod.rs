@@ -52,7 +52,7 @@ thread_local! {
 }
 
 extern "C" fn trapped(_signal: c_int, _info: *mut c_void, context: *mut c_void) {
-    let between = BETWEEN.get();
+    let between = BETWEEN.with(Cell::get);
     if between.is_null() {
         return;
     }
@@ -75,13 +75,13 @@ pub fn by_instruction<T>(call: impl FnOnce() -> T, mut act: impl FnMut() -> bool
     static HANDLED: Once = Once::new();
     HANDLED.call_once(|| handle(SIGTRAP, trapped));
     let mut between = Between { act: &mut act, panic: None };
-    BETWEEN.set(ptr::from_mut(&mut between).cast());
-    // SAFETY: the trap flag changes no other register, and the handler leaves all as they are.
-    unsafe { asm!("pushfq", "or qword ptr [rsp], {flag}", "popfq", flag = const TRAP_FLAG) }
+    BETWEEN.with(|it| it.set(ptr::addr_of_mut!(between).cast()));
+    // SAFETY: the trap flag changes no other register, and the handler leaves all as they are. 0x100 is TRAP_FLAG.
+    unsafe { asm!("pushfq", "or qword ptr [rsp], 0x100", "popfq") }
     let given = call();
     // SAFETY: as before.
-    unsafe { asm!("pushfq", "and qword ptr [rsp], {kept}", "popfq", kept = const !(TRAP_FLAG as i32)) }
-    BETWEEN.set(ptr::null_mut());
+    unsafe { asm!("pushfq", "and qword ptr [rsp], -0x101", "popfq") }
+    BETWEEN.with(|it| it.set(ptr::null_mut()));
     if let Some(panic) = between.panic {
         resume_unwind(panic);
     }

@@ -7,6 +7,6 @@ use Rattle.blink_map.proofs.change.to_end.Given as goal
 abbrev pub invariant-loop : goal.invariant-loop
 invariant-loop g l = record {
   turns : (goal.iterator-loop g).can_next l.iterator' × (goal.iterator-loop g).is_finite l.iterator';
-  set_out : (op : Op) (old : Member) → HasSetOut l.live op old l.fn.seat l.fn.machine l.fn.room → HasSetOut l.live op old l.seat l.machine l.room;
+  set_out : (op : Op) (old : Member) → HasSetOut l.live op old l.fn.seat l.resting l.fn.room → HasSetOut l.live op old l.seat l.machine l.room;
   waits : IsWaiting l.machine;
 }

@@ -1,5 +1,5 @@
-use Rattle.std.proofs.Common.{◌≡◌, Some}
-use Rattle.blink_live.specs.Shelves.{HasOtherStock, IsShelved}
+use Rattle.std.proofs.Common.{◌≡◌, ◌≤◌, Some}
+use Rattle.blink_live.specs.Shelves.{HasOtherStock, IsShelved, rows_on}
 use Rattle.blink_map.proofs.recycle.check_places.Given as goal
 
 abbrev pub invariant-loop : goal.invariant-loop
@@ -7,4 +7,6 @@ invariant-loop l = record {
   same : (l.seat.table_id ≡ l.initial.seat.table_id) × (l.seat.id ≡ l.initial.seat.id);
   restocked : HasOtherStock l.initial.seat.me l.seat.me;
   shelved : IsShelved (Some l.shelf) l.seat.me.0;
+  none_lost : rows_on (Some l.shelf) ≡ rows_on (Some l.initial.shelf);
+  free : l.initial.shelf.free.len ≤ l.shelf.free.len;
 }

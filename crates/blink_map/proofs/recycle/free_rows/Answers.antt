@@ -9,4 +9,5 @@ loop-init c = record {
   in_order = c.requires.in_order;
   shelved = c.requires.shelved;
   none_lost = refl;
+  at_hand = refl;
 }

@@ -11,4 +11,5 @@ invariant-loop l = record {
   in_order : l.rows.next ≤ l.rows.stop;
   shelved : IsShelved (Some l.shelf) l.seat.me.0;
   none_lost : length_of l.rows + rows_on (Some l.shelf) ≡ length_of l.initial.rows + rows_on (Some l.initial.shelf);
+  at_hand : length_of l.rows + l.shelf.free.len ≡ length_of l.initial.rows + l.initial.shelf.free.len;
 }

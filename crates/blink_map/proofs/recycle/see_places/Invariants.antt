@@ -1,5 +1,5 @@
-use Rattle.std.proofs.Common.{◌≡◌, Some, length}
-use Rattle.blink_live.specs.Shelves.{HasOtherStock, IsShelved}
+use Rattle.std.proofs.Common.{◌≡◌, ◌≤◌, Some, length}
+use Rattle.blink_live.specs.Shelves.{HasOtherStock, IsShelved, rows_on}
 use Rattle.blink_map.proofs.recycle.see_places.Given as goal
 
 abbrev pub invariant-loop-place : goal.invariant-loop-place
@@ -8,4 +8,6 @@ invariant-loop-place l = record {
   restocked : HasOtherStock l.initial.seat.me l.seat.me;
   shelved : IsShelved (Some l.shelf) l.seat.me.0;
   next : l.place ≡ length l.shelf.before.items;
+  none_lost : rows_on (Some l.shelf) ≡ rows_on (Some l.initial.shelf);
+  free : l.initial.shelf.free.len ≤ l.shelf.free.len;
 }

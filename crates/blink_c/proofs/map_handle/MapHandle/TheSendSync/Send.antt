@@ -7,7 +7,7 @@ use denote.Param.Send.{IsSend, AllSend, Quiet, owning_send, struct_send, sendabl
 use Rattle.std.proofs.Crossing as heap
 use Rattle.std.proofs.alloc.Global.TheSendSync as global
 use Rattle.blink_owners.specs.contracts.map_owner.MapOwner as Owner
-use Rattle.blink_owners.proofs.map_owner.MapOwner.TheSendSync.{the_send as owner}
+use Rattle.blink_owners.proofs.Offered.{map_owner_send as owner}
 use Rattle.blink_c.specs.contracts.map_handle.MapHandle.{the_row, the_type}
 
 -- nothing that it leaves behind is tied to a thread

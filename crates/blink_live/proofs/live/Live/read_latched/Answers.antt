@@ -1,21 +1,10 @@
-use Rattle.std.proofs.Common.{◌≡◌, ℕ, ◌<◌, ap, sym, subst, arith}
+use Rattle.std.proofs.Common.{◌≡◌, ℕ, ap, sym, subst}
 use Rattle.blink_page.specs.{PlainPage}
-use Rattle.blink_rows.specs.{PlainCounts}
 use Rattle.blink_machine.specs.{IsReadable, PlainMachine, SeesPage}
 use Rattle.blink_live.specs.AtomicSteps.{LoadsPage}
 use Rattle.blink_live.specs.Seats.{ReadsPage}
 use Rattle.blink_live.specs.Views.{SeatState}
-use Rattle.blink_live.proofs.found.ReadsPage.{reads_page_word}
 use Rattle.blink_live.proofs.live.Live.read_latched.Goals as goal
-
-pub load-row-requires : goal.load-row-requires
-load-row-requires c =
-    let in_range = c.requires.in_range in (
-      c.requires.seat.same_table,
-      omega (arith, c.args.self.now.width, in_range),
-      reads_page_word _ _ _ _ _ c.args.machine.now c.requires.seat.role c.requires.at c.requires.fits c.requires.needs in_range.0
-          (subst (λ (counts : PlainCounts). c.args.number < counts.numbers) c.args.self.now.counts_are in_range.1) c.requires.announced,
-    )
 
 -- the page that the row's words tell is the one that the page word's load told
 reads_it : {m machine : PlainMachine} {number row : ℕ} {me then : SeatState} → (loads : LoadsPage m number me row machine then) → ReadsPage then row loads.page
@@ -26,26 +15,26 @@ readable {m} loads same = subst (IsReadable m) (sym same) loads.readable
 
 pub saw_own_page-requires-clause-level : goal.saw_own_page-requires-clause-level
 saw_own_page-requires-clause-level c =
-    let loads = (c.load-row.ensures.2 c.args.machine.now c.requires.at c.requires.needs).1 in
+    let loads = (c.load_latched-row.ensures.read c.args.machine.now c.requires.at c.requires.needs).1 in
     (readable loads (c.page_in_row-page.ensures.page loads.page (reads_it loads))).has_level
 
 pub saw_own_page-requires-clause-below : goal.saw_own_page-requires-clause-below
 saw_own_page-requires-clause-below c =
-    let loads = (c.load-row.ensures.2 c.args.machine.now c.requires.at c.requires.needs).1 in
+    let loads = (c.load_latched-row.ensures.read c.args.machine.now c.requires.at c.requires.needs).1 in
     (readable loads (c.page_in_row-page.ensures.page loads.page (reads_it loads))).floor_below
 
 pub saw_own_page-requires-clause-at_most_fan : goal.saw_own_page-requires-clause-at_most_fan
 saw_own_page-requires-clause-at_most_fan c =
-    let loads = (c.load-row.ensures.2 c.args.machine.now c.requires.at c.requires.needs).1 in
+    let loads = (c.load_latched-row.ensures.read c.args.machine.now c.requires.at c.requires.needs).1 in
     (readable loads (c.page_in_row-page.ensures.page loads.page (reads_it loads))).at_most_fan
 
 pub returns-clause-read : goal.returns-clause-read
 returns-clause-read c =
     let m : PlainMachine = c.args.machine.now in
     let me : SeatState = c.args.seat.now.me in
-    let row = c.load-row.result in
+    let row = c.load_latched-row.result in
     let after : PlainMachine = c.saw_own_page.new.self in
-    let loads = c.load-row.ensures.2 m c.requires.at c.requires.needs in
+    let loads = c.load_latched-row.ensures.read m c.requires.at c.requires.needs in
     let page_is = sym (c.page_in_row-page.ensures.page loads.1.page (reads_it loads.1)) in
     let sees : SeesPage m c.args.number loads.1.page after = subst (λ (page : PlainPage). SeesPage m c.args.number page after) (sym page_is) (c.saw_own_page.ensures c.args.number c.requires.needs) in
     let same : after ≡ loads.0 = loads.1.only after sees in

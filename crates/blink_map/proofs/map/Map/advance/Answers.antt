@@ -78,7 +78,7 @@ returns-in-Some-clause-answered c =
     let then = c.take_steps.ensures.under_way (op_of pending) work.set_out.first (resumed c.resume-machine.ensures work.set_out.under_way) in
     let changed = c.end-member.ensures (op_of pending) its_own.drawn c.in-Some.answer its (steps_on work.set_out then) (record { rows = work.beside.rows; pages = work.beside.pages; place = work.beside.place }) c.in-Some.ensures.ended.1 in
     let last = changed_then live (op_of pending) its_own.drawn c.end-member.result c.recycle.new.self c.in-Some.answer changed c.recycle.ensures.drawn c.recycle.ensures.rows c.recycle.ensures.pages in
-    answered c.args.self.now (op_of pending) (session_of pending) _ its_own.drawn c.in-Some.answer its_own.has_drawn last its_own.same_places
+    answered c.args.self.now (op_of pending) (session_of pending) _ its_own.drawn c.in-Some.answer its_own.has_drawn last
 
 pub returns-in-None-clause-goes_on : goal.returns-in-None-clause-goes_on
 returns-in-None-clause-goes_on c =
@@ -89,7 +89,7 @@ returns-in-None-clause-goes_on c =
     let work = c.wake.ensures.at_work (op_of pending) its_own.drawn its its_own.at_rest in
     let then = c.take_steps.ensures.under_way (op_of pending) work.set_out.first (resumed c.resume-machine.ensures work.set_out.under_way) in
     let rests = c.rest.ensures.at_rest (op_of pending) its_own.drawn its (rested c.rest-now.ensures (steps_on work.set_out then) (record { rows = work.beside.rows; pages = work.beside.pages; place = work.beside.place })) in
-    has_begun c.args.self.now (op_of pending) (session_of pending) its_own.drawn _ its_own.its_own refl its_own.has_drawn rests its_own.same_places (subst IsWaiting (sym (c.rest.ensures.machine ∙ c.rest-now.ensures)) c.in-None.ensures.waits)
+    has_begun c.args.self.now (op_of pending) (session_of pending) its_own.drawn _ its_own.its_own refl its_own.has_drawn rests (subst IsWaiting (sym (c.rest.ensures.machine ∙ c.rest-now.ensures)) c.in-None.ensures.waits)
 
 pub returns-in-None-clause-waits : goal.returns-in-None-clause-waits
 returns-in-None-clause-waits c = subst IsWaiting (sym (c.rest.ensures.machine ∙ c.rest-now.ensures)) c.in-None.ensures.waits

@@ -16,3 +16,7 @@ returns-in-Some-try_put-clause-full g c =
 pub returns-in-Some-try_put-clause-in_all : goal.returns-in-Some-try_put-clause-in_all
 returns-in-Some-try_put-clause-in_all g c =
     (tried_from_first c.args.self.now c.args.key c.args.pointer c.args.session.now c.loop.session c.try_put.new.session c.in-Some-try_put.was c.loop.invariant.tried c.in-Some-try_put.ensures).3
+
+pub returns-in-Some-try_put-clause-refused : goal.returns-in-Some-try_put-clause-refused
+returns-in-Some-try_put-clause-refused g c =
+    (tried_from_first c.args.self.now c.args.key c.args.pointer c.args.session.now c.loop.session c.try_put.new.session c.in-Some-try_put.was c.loop.invariant.tried c.in-Some-try_put.ensures).4

@@ -5,5 +5,5 @@ use Rattle.blink_map.proofs.member.Member.catch_up.Given as goal
 abbrev pub invariant-loop : goal.invariant-loop
 invariant-loop l = record {
   its_own : IsMemberOf l.live l.self;
-  drawn : HasDrawn l.fn.self l.self;
+  drawn : HasDrawn 0 0 l.fn.self l.self;
 }

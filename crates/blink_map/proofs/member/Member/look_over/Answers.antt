@@ -3,7 +3,7 @@ use Rattle.blink_live.specs.declared.view.Change.{Change}
 use Rattle.blink_live.specs.declared.view.Plan.{Plan}
 use Rattle.blink_live.specs.declared.view.Share.{Share}
 use Rattle.blink_live.specs.Handles.{opening_of}
-use Rattle.blink_live.specs.Accounts.{HasSeenItsOwn}
+use Rattle.blink_live.specs.Accounts.{KnowsAuthors}
 use Rattle.blink_live.specs.Views.{SeatState}
 use Rattle.blink_live.proofs.Offered.{shelved_so}
 use Rattle.blink_map.specs.Sessions.{AnswersAsSeen}
@@ -46,7 +46,7 @@ invariant_of-self c =
       none_told = ap (λ (x : SeatState). x.0.told) now ∙ (found.same_told ∙ (ap (λ (x : SeatState). x.0.told) marked ∙ old.none_told));
       idle = ap (λ (x : SeatState). x.0.operation) now ∙ found.idle.idle;
       rests = ap (λ (x : SeatState). x.0.busy) now;
-      saw_own = subst HasSeenItsOwn (sym (ap (λ (x : SeatState). x.0) now)) c.mark_place-2.ensures.saw_own;
+      authors = subst KnowsAuthors (sym (ap (λ (x : SeatState). x.0) now)) c.mark_place-2.ensures.authors;
       no_slot = ap (λ (x : SeatState). x.1) now ∙ (found.same_slots ∙ (ap (λ (x : SeatState). x.1) marked ∙ old.no_slot));
       shelved = shelved_so old.shelf old.seat.me.0 c.mark_place-2.new.seat.me.0 plan (ap (λ (x : SeatState). x.0.stock) now ∙ (found.same_stock ∙ ap (λ (x : SeatState). x.0.stock) marked)) old.shelved;
     }
@@ -61,4 +61,4 @@ returns-clause-answers c =
 
 pub returns-clause-looked : goal.returns-clause-looked
 returns-clause-looked c =
-    has_looked c.args.self.now c.next_mark.result c.mark_place.new.seat.me c.search_all.new.seat.me c.mark_place.ensures.marked c.search_all.ensures.searched _ c.mark_place-2.ensures.marked (c.mark_place-2.ensures.same.0 ∙ (c.search_all.ensures.same_table.0 ∙ c.mark_place.ensures.same.0)) refl refl
+    has_looked c.args.self.now c.next_mark.result c.mark_place.new.seat.me c.search_all.new.seat.me c.mark_place.ensures.marked c.search_all.ensures.searched _ c.mark_place-2.ensures.marked (c.mark_place-2.ensures.same.0 ∙ (c.search_all.ensures.same_table.0 ∙ c.mark_place.ensures.same.0)) refl refl refl

@@ -32,7 +32,7 @@ invariant_of-result c =
       none_told = again.none_told;
       idle = again.idle;
       rests = ap (λ (x : SeatState). x.0.busy) c.come_back.ensures.idle;
-      saw_own = c.come_back.ensures.saw_own;
+      authors = c.come_back.ensures.authors;
       no_slot = again.no_slot;
       shelved = again.shelved;
     }

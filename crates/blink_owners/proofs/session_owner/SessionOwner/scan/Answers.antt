@@ -1,6 +1,7 @@
-use Rattle.std.proofs.Common.{refl, subst, take}
+use Rattle.std.proofs.Common.{refl, subst, take, ap}
 use Rattle.blink_live.specs.{IsReport, stop_of}
 use Rattle.blink_map.specs.declared.map.Map.{Map}
+use Rattle.blink_owners.specs.declared.shared_map.SharedMap.{SharedMap}
 use Rattle.blink_map.specs.{opening_of, seen_by}
 use Rattle.blink_owners.proofs.session_owner.SessionOwner.scan.Goals as goal
 
@@ -13,7 +14,7 @@ returns-clause-scanned c =
       reported = record {
         scanned = c.scan-came.result;
         told = c.of.ensures;
-        report = subst (λ (map : Map). IsReport (opening_of map) (seen_by c.in-Free.session) (seen_by c.scan-came.new.session) c.args.lo (stop_of c.args.hi c.scan-came.result.next) (take c.scan-came.result.filled c.scan-came.new.into)) c.deref.ensures scan.report;
+        report = subst (λ (map : Map). IsReport (opening_of map) (seen_by c.in-Free.session) (seen_by c.scan-came.new.session) c.args.lo (stop_of c.args.hi c.scan-came.result.next) (take c.scan-came.result.filled c.scan-came.new.into)) (ap (λ (s : SharedMap). s.map) c.deref.ensures) scan.report;
         stopped = scan.stopped;
         filled = scan.filled;
         others = scan.others;

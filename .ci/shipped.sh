@@ -1,0 +1,103 @@
+#!/bin/sh
+# Looks at out/libblink.a and out/libblink.so as who ships or links them does: their names, SONAME, needs and version; a program linked by
+# blink.pc, with the archive, with `--static`, and with the shared library, from out/ and after an install, and whether each starts; two
+# libraries in one program; and what an install, a refused one, and `make uninstall` leave. It says nothing where all is well, and names
+# what it left out: without pkg-config the programs by blink.pc, without readelf the shared library's head.
+set -eu
+top=$(cd "$(dirname "$0")/.." && pwd)
+cc=${CC:-cc}
+work=$(mktemp -d)
+trap 'rm -rf "$work"' EXIT
+cd "$work"
+
+wrong() {
+    echo "$0: $*" >&2
+    exit 1
+}
+# Runs a command, which has to end well. What it writes is shown only where it doesn't.
+quietly() {
+    if ! "$@" >told 2>&1; then
+        cat told >&2
+        wrong "failed: $*"
+    fi
+}
+is() {
+    [ "$2" = "$3" ] || wrong "$1: '$2' in place of '$3'"
+}
+
+# Names: only those of the header, and one version everywhere.
+quietly sh "$top/crates/blink_c/link/compare.sh" "$top/out/libblink.a" "$top/out/libblink.so"
+version=$(sed -n 's/^#define BLINK_VERSION "\(.*\)"$/\1/p' "$top/include/blink.h")
+is "rust/blink's version" "$(sed -n 's/^version = "\(.*\)"$/\1/p' "$top/rust/blink/Cargo.toml")" "$version"
+is libblink.so.0 "$(readlink "$top/out/libblink.so.0")" "libblink.so.$version"
+is libblink.so "$(readlink "$top/out/libblink.so")" libblink.so.0
+if command -v readelf >/dev/null 2>&1; then
+    readelf -dW "$top/out/libblink.so" >dynamic
+    is SONAME "$(sed -n 's/.*(SONAME).*\[\(.*\)\]/\1/p' dynamic)" libblink.so.0
+    is NEEDED "$(sed -n 's/.*(NEEDED).*\[\(.*\)\]/\1/p' dynamic)" libc.so.6
+    ! grep -E 'RPATH|RUNPATH|TEXTREL' dynamic >&2 || wrong "a path or a text relocation in libblink.so"
+    is "the stack's flags" "$(readelf -lW "$top/out/libblink.so" | awk '$1 == "GNU_STACK" { print $7 }')" RW
+else
+    echo "$0: no readelf, so libblink.so's head wasn't looked at" >&2
+fi
+
+# An install below a relative folder; with DESTDIR; one that is refused; and none.
+listing() {
+    (cd "$1" && find . | LC_ALL=C sort)
+}
+mkdir prefix refused folder
+quietly sh "$top/include/install.sh" "" prefix/blink
+quietly sh "$top/include/install.sh" "$work/staged" /opt/blink
+is "the staged install" "$(listing staged/opt/blink)" "$(listing prefix/blink)"
+is "the staged prefix" "$(grep '^prefix=' staged/opt/blink/lib/pkgconfig/blink.pc)" prefix=/opt/blink
+listing prefix/blink >before
+touch refused/lib
+mkdir -p folder/lib/pkgconfig/blink.pc
+for it in refused folder; do
+    listing "$it" >there
+    if sh "$top/include/install.sh" "" "$it" >told 2>&1; then
+        wrong "an install into a folder that can't be written isn't refused: $it"
+    fi
+    is "what a refused install leaves" "$(listing "$it")" "$(cat there)"
+done
+quietly sh "$top/include/install.sh" "" prefix/blink
+is "a second install" "$(listing prefix/blink)" "$(cat before)"
+
+# A program that starts: it tells the version that it runs with.
+cat >program.c <<'C'
+#include <blink.h>
+#include <stdio.h>
+/* names that the library has, and keeps to itself */
+void *rattle_alloc(void) { return NULL; }
+int main(void) {
+    blink_index index = {NULL};
+    if (blink_index_new(32, &index) != BLINK_DONE) return 1;
+    blink_index_free(index);
+    return rattle_alloc() || puts(blink_version()) < 0;
+}
+C
+starts() {
+    what=$1
+    shift
+    quietly "$cc" program.c "$@" -o program
+    is "$what" "$(./program 2>&1)" "$version"
+}
+if command -v pkg-config >/dev/null 2>&1; then
+    for it in "$top/out" "$work/prefix/blink/lib/pkgconfig"; do
+        export PKG_CONFIG_PATH="$it"
+        is "the version of $it" "$(pkg-config --modversion blink)" "$version"
+        # shellcheck disable=SC2046
+        starts "by $it" $(pkg-config --cflags --libs blink)
+        # shellcheck disable=SC2046
+        starts "by $it, static" -static $(pkg-config --static --cflags --libs blink)
+        lib=$(pkg-config --variable=libdir blink)
+        # shellcheck disable=SC2046
+        LD_LIBRARY_PATH=$lib starts "by $it, shared" $(pkg-config --cflags blink) -L"$lib" -lblink
+        ! LD_LIBRARY_PATH='' ./program >told 2>&1 || wrong "the shared library wasn't what the program took"
+    done
+else
+    echo "$0: no pkg-config, so no program was linked by blink.pc" >&2
+fi
+
+quietly sh "$top/include/install.sh" --uninstall "" prefix/blink
+is "what an uninstall leaves" "$(listing prefix/blink)" .

@@ -1,0 +1,176 @@
+-- What an operation makes of its leaf, where it knows the key's place there.
+use Rattle.std.proofs.Common.{◌≡◌, ◌≢◌, ℕ, suc, ◌+◌, ◌<◌, ◌≤◌, Option, Some, None, List, ◌∷◌, ◌++◌, length, take, drop, refl, sym, ap, ◌∙◌, subst, arith}
+use Rattle.std.specs.Prelude.{IsSome}
+use Rattle.std.proofs.lemmas.List.{set_split}
+use Rattle.blink_batch.specs.{answer_at, key_of}
+use Rattle.blink_batch.specs.declared.Op.{Op}
+use Rattle.blink_batch.specs.declared.Op.TheVariants.{Delete, Insert, Replace}
+use Rattle.blink_page.specs.{IsFan, IsLawfulPage, PlainPage, entries_with, least_above, place_of, removed, replaced, value_at, with_entries}
+use Rattle.blink_page.specs.declared.limits.TheConstants.{MAX_FAN}
+use Rattle.blink_page.proofs.Offered.{entries_with-leaf}
+use Rattle.blink_page.proofs.ChangedEntries.{length-added, length-removed, length-replaced}
+use Rattle.blink_page.proofs.WhereSearchesEnd.{added-place, place_at_most, place_found, removed-place, replaced-place}
+use Rattle.blink_machine.specs.declared.machine.Job.{Job}
+use Rattle.blink_machine.specs.declared.machine.Job.TheVariants.{Leaf}
+use Rattle.blink_machine.specs.declared.machine.Next.TheVariants.{Finish}
+use Rattle.blink_machine.specs.declared.machine.State.TheVariants.{Change, Leave, SplitNew}
+use Rattle.blink_machine.specs.{Expects, PlainMachine, SeesUnderLatch, key_of_job, target}
+use Rattle.blink_machine.specs.Machine.{entry_of, value_of_job}
+use Rattle.blink_machine.specs.Table.{Brings, IsChange, IsFullFor, Removes, Swaps}
+use Rattle.blink_live.specs.declared.descent.Edit.TheVariants.{Answers, Full, Write}
+use Rattle.blink_live.specs.declared.descent.Spot.{Spot}
+use Rattle.blink_live.specs.Straight.{IsEditOf, IsSplice, IsSpot, splice_of}
+
+-- ---- the entries at a key's place
+
+module _ (key : ℕ) (page : PlainPage) (spot : Spot) (lawful : IsLawfulPage MAX_FAN page) (at : IsSpot key page spot) where
+  -- with the key's entry taken out
+  pub splices_removed : IsSome (value_at key page.entries) → IsSplice spot.place (splice_of 1 None) page (with_entries page (removed key page.entries))
+  splices_removed found =
+      let inside = place_found key (least_above page.floor) page.entries (page.high + 1) lawful.keys_rise found in
+      let place = at.place in
+      let next : suc (place_of key page.entries) ≡ spot.place + 1 = omega (arith, place) in
+      let shorter = length-removed key page.entries found in
+      let few = lawful.at_most_fan in
+      record {
+        inside = omega (arith, inside, place);
+        is = ap (with_entries page) (removed-place key (least_above page.floor) page.entries (page.high + 1) lawful.keys_rise found
+            ∙ (λ i. take (sym place i) page.entries ++ drop (next i) page.entries));
+        fits = omega (arith, shorter, few);
+      }
+
+  -- with another pointer
+  pub splices_replaced : (pointer : ℕ) → IsSome (value_at key page.entries) → IsSplice spot.place (splice_of 1 (Some (key, pointer))) page (with_entries page (replaced (key, pointer) page.entries))
+  splices_replaced pointer found =
+      let inside = place_found key (least_above page.floor) page.entries (page.high + 1) lawful.keys_rise found in
+      let place = at.place in
+      let next : suc (place_of key page.entries) ≡ spot.place + 1 = omega (arith, place) in
+      let as_long = length-replaced key pointer page.entries in
+      let few = lawful.at_most_fan in
+      record {
+        inside = omega (arith, inside, place);
+        is = ap (with_entries page) (replaced-place key pointer (least_above page.floor) page.entries (page.high + 1) lawful.keys_rise found
+            ∙ set_split page.entries (place_of key page.entries) (key, pointer) inside
+            ∙ (λ i. take (sym place i) page.entries ++ (key, pointer) ∷ drop (next i) page.entries));
+        fits = omega (arith, as_long, few);
+      }
+
+  -- with one entry more
+  pub splices_added : (fan pointer : ℕ) → length page.entries < fan → fan ≤ MAX_FAN → page.level ≡ 0 → IsSplice spot.place (splice_of 0 (Some (key, pointer))) page (with_entries page (entries_with page (key, pointer)))
+  splices_added fan pointer room small leaf =
+      let inside = place_at_most key page.entries in
+      let place = at.place in
+      let next : place_of key page.entries ≡ spot.place + 0 = omega (arith, place) in
+      let longer = length-added key pointer page.entries in
+      let its_leaf = entries_with-leaf page (key, pointer) leaf in
+      let long = ap (λ (es : List (ℕ × ℕ)). length es) its_leaf in
+      record {
+        inside = omega (arith, inside, place);
+        is = ap (with_entries page) (its_leaf
+            ∙ added-place key pointer page.entries
+            ∙ (λ i. take (sym place i) page.entries ++ (key, pointer) ∷ drop (next i) page.entries));
+        fits = omega (arith, longer, long, room, small);
+      }
+
+-- ---- each operation
+
+-- the key of an operation on its leaf
+its_target : (m : PlainMachine) (op : Op) → m.op ≡ op → m.job ≡ Leaf → key_of op ≡ target m
+its_target m op same_op leaf = sym ((λ i. key_of_job (same_op i) (leaf i)))
+
+pub removes : (op : Op) (fan key kept : ℕ) (spot : Spot) → key_of op ≡ key → Removes op key kept → spot.kept ≡ Some kept → IsEditOf op fan spot (Write spot (splice_of 1 None))
+removes op fan key kept spot its_key how found m number page same_op same_fan leaf readable level lawful at =
+    let at_key : IsSpot key page spot = subst (λ (k : ℕ). IsSpot k page spot) its_key at in
+    let there : value_at key page.entries ≡ Some kept = sym at_key.kept ∙ found in
+    let next : PlainPage = with_entries page (removed key page.entries) in
+    let after : PlainMachine = record m { state = Change number next spot.kept } in
+    let below : target m ≤ page.high = subst (λ (k : ℕ). k ≤ page.high) (its_target m op same_op leaf) at.below in
+    let change : IsChange m page next spot.kept = IsChange.loses key kept leaf (subst (λ (o : Op). Removes o key kept) (sym same_op) how) there found refl in
+    (after, (refl, (next, splices_removed key page spot lawful at_key (subst IsSome (sym there) refl), refl)), SeesUnderLatch.is_to_change next spot.kept below change refl)
+
+pub swaps : (op : Op) (fan key new kept : ℕ) (spot : Spot) → key_of op ≡ key → Swaps op key new kept → spot.kept ≡ Some kept → IsEditOf op fan spot (Write spot (splice_of 1 (Some (key, new))))
+swaps op fan key new kept spot its_key how found m number page same_op same_fan leaf readable level lawful at =
+    let at_key : IsSpot key page spot = subst (λ (k : ℕ). IsSpot k page spot) its_key at in
+    let there : value_at key page.entries ≡ Some kept = sym at_key.kept ∙ found in
+    let next : PlainPage = with_entries page (replaced (key, new) page.entries) in
+    let after : PlainMachine = record m { state = Change number next spot.kept } in
+    let below : target m ≤ page.high = subst (λ (k : ℕ). k ≤ page.high) (its_target m op same_op leaf) at.below in
+    let change : IsChange m page next spot.kept = IsChange.swaps key new kept leaf (subst (λ (o : Op). Swaps o key new kept) (sym same_op) how) there found refl in
+    (after, (refl, (next, splices_replaced key page spot lawful at_key new (subst IsSome (sym there) refl), refl)), SeesUnderLatch.is_to_change next spot.kept below change refl)
+
+-- ---- an insertion
+
+its_entry : (m : PlainMachine) (key pointer : ℕ) → m.op ≡ Insert key pointer → m.job ≡ Leaf → entry_of m ≡ (key, pointer)
+its_entry m key pointer same_op leaf = λ i. (key_of_job (same_op i) (leaf i), value_of_job (same_op i) (leaf i))
+
+it_brings : (m : PlainMachine) (key pointer : ℕ) → m.op ≡ Insert key pointer → m.job ≡ Leaf → Brings m.op m.job
+it_brings m key pointer same_op leaf = subst (λ (x : Op × Job). Brings x.0 x.1) (λ i. (sym same_op i, sym leaf i)) tt
+
+pub adds : (fan key pointer : ℕ) (spot : Spot) → IsFan fan → spot.kept ≡ None → spot.count < fan → IsEditOf (Insert key pointer) fan spot (Write spot (splice_of 0 (Some (key, pointer))))
+adds fan key pointer spot is_fan none room m number page same_op same_fan leaf readable level lawful at =
+    let count = at.count in
+    let fans = is_fan.1 in
+    let fewer : length page.entries < fan = omega (arith, count, room) in
+    let next : PlainPage = with_entries page (entries_with page (key, pointer)) in
+    let after : PlainMachine = record m { state = Change number next spot.kept } in
+    let target_is : key ≡ target m = its_target m (Insert key pointer) same_op leaf in
+    let below : target m ≤ page.high = subst (λ (k : ℕ). k ≤ page.high) target_is at.below in
+    let absent : value_at (target m) page.entries ≡ None = subst (λ (k : ℕ). value_at k page.entries ≡ None) target_is (sym at.kept ∙ none) in
+    let change : IsChange m page next spot.kept = IsChange.gains (it_brings m key pointer same_op leaf) absent (omega (arith, fewer, same_fan)) none
+    (ap (λ (e : ℕ × ℕ). with_entries page (entries_with page e)) (sym (its_entry m key pointer same_op leaf))) in
+    (after, (refl, (next, splices_added key page spot lawful at fan pointer fewer (omega (arith, fans)) level, refl)), SeesUnderLatch.is_to_change next spot.kept below change refl)
+
+pub splits : (fan key pointer : ℕ) (spot : Spot) → spot.kept ≡ None → fan ≤ spot.count → IsEditOf (Insert key pointer) fan spot (Full spot.row)
+splits fan key pointer spot none no_room m number page same_op same_fan leaf readable level lawful at =
+    let count = at.count in
+    let most = readable.at_most_fan in
+    let after : PlainMachine = record m { state = SplitNew number page } in
+    let target_is : key ≡ target m = its_target m (Insert key pointer) same_op leaf in
+    let below : target m ≤ page.high = subst (λ (k : ℕ). k ≤ page.high) target_is at.below in
+    let absent : value_at (target m) page.entries ≡ None = subst (λ (k : ℕ). value_at k page.entries ≡ None) target_is (sym at.kept ∙ none) in
+    let full : IsFullFor m page = record { brings = it_brings m key pointer same_op leaf; absent = absent; full = omega (arith, count, most, no_room, same_fan) } in
+    (after, (refl, refl), SeesUnderLatch.is_to_split below full refl)
+
+pub finds_key : (fan key pointer kept : ℕ) (spot : Spot) → spot.kept ≡ Some kept → IsEditOf (Insert key pointer) fan spot (Answers spot.kept)
+finds_key fan key pointer kept spot found m number page same_op same_fan leaf readable level lawful at =
+    let after : PlainMachine = record m { state = Leave number Finish; answer = Some (answer_at m.op spot.kept) } in
+    let below : target m ≤ page.high = subst (λ (k : ℕ). k ≤ page.high) (its_target m (Insert key pointer) same_op leaf) at.below in (
+      after,
+      refl,
+      SeesUnderLatch.insertion_finds_key key pointer kept below leaf same_op (sym at.kept ∙ found)
+          (λ i. record m { state = Leave number Finish; answer = Some (answer_at (same_op i) (found i)) }),
+    )
+
+-- ---- no change
+
+pub deletes_none : (fan key : ℕ) (spot : Spot) → spot.kept ≡ None → IsEditOf (Delete key) fan spot (Answers None)
+deletes_none fan key spot none m number page same_op same_fan leaf readable level lawful at =
+    let after : PlainMachine = record m { state = Leave number Finish; answer = Some (answer_at m.op None) } in
+    let below : target m ≤ page.high = subst (λ (k : ℕ). k ≤ page.high) (its_target m (Delete key) same_op leaf) at.below in (
+      after,
+      refl,
+      SeesUnderLatch.deletion_finds_none key below leaf same_op (sym at.kept ∙ none)
+          (λ i. record m { state = Leave number Finish; answer = Some (answer_at (same_op i) None) }),
+    )
+
+pub replaces_none : (fan key pointer : ℕ) (spot : Spot) → spot.kept ≡ None → IsEditOf (Replace key pointer) fan spot (Answers None)
+replaces_none fan key pointer spot none m number page same_op same_fan leaf readable level lawful at =
+    let after : PlainMachine = record m { state = Leave number Finish; answer = Some (answer_at m.op None) } in
+    let below : target m ≤ page.high = subst (λ (k : ℕ). k ≤ page.high) (its_target m (Replace key pointer) same_op leaf) at.below in (
+      after,
+      refl,
+      SeesUnderLatch.replacement_finds_none key pointer below leaf same_op (sym at.kept ∙ none)
+          (λ i. record m { state = Leave number Finish; answer = Some (answer_at (same_op i) None) }),
+    )
+
+pub finds_other : (op : Op) (fan key expected : ℕ) (kept : Option ℕ) (spot : Spot) → key_of op ≡ key → Expects op key expected → spot.kept ≡ kept → kept ≢ Some expected → IsEditOf op fan spot (Answers kept)
+finds_other op fan key expected kept spot its_key how is differs m number page same_op same_fan leaf readable level lawful at =
+    let at_key : IsSpot key page spot = subst (λ (k : ℕ). IsSpot k page spot) its_key at in
+    let value : kept ≡ value_at key page.entries = sym is ∙ at_key.kept in
+    let after : PlainMachine = record m { state = Leave number Finish; answer = Some (answer_at m.op kept) } in
+    let below : target m ≤ page.high = subst (λ (k : ℕ). k ≤ page.high) (its_target m op same_op leaf) at.below in (
+      after,
+      refl,
+      SeesUnderLatch.finds_other_pointer key expected below leaf (subst (λ (o : Op). Expects o key expected) (sym same_op) how) (λ same. differs (value ∙ same))
+          (λ i. record m { state = Leave number Finish; answer = Some (answer_at m.op (value i)) }),
+    )

@@ -1,0 +1,71 @@
+//! What an operation on the straight path has in place of its machine.
+ghost use Rattle.std.specs.Prelude.{◌+◌, ◌<◌, length};
+ghost use Rattle.blink_page.specs.declared.limits.TheConstants.{LEVELS};
+
+use arrayvec::ArrayVec;
+use blink_batch::Answer;
+use blink_machine::Resting;
+use blink_page::LEVELS;
+
+/// Where a descent of an operation that changes the tree has ended: the leaf, and the pages that it read last on the levels
+/// above, the top level first.
+#[derive(Drop)]
+pub(crate) struct Descent {
+    pub leaf: u32,
+    pub above: ArrayVec<u32, LEVELS>,
+    ghost few: { length above.items + 1 < LEVELS },
+}
+
+/// The place of the operation's key in a leaf.
+#[derive(Clone, Copy)]
+pub(crate) struct Spot {
+    /// The leaf's row.
+    pub row: u64,
+    /// The number of the leaf's entries.
+    pub count: usize,
+    /// The number of entries before the first whose key is at least the operation's.
+    pub place: usize,
+    /// The pointer that the leaf has for the key.
+    pub kept: Option<u64>,
+}
+
+/// A change of a leaf's entries at one place.
+#[derive(Clone, Copy)]
+pub(crate) struct Splice {
+    /// The number of entries that go from there: 0 or 1.
+    pub gone: usize,
+    /// The entry that comes there.
+    pub entry: Option<(u64, u64)>,
+}
+
+/// What an operation makes of a leaf that it has latched.
+pub(crate) enum Edit {
+    /// The key is to the right, in this page or behind it.
+    Right(u32),
+    /// The leaf stays as it is: it has this pointer for the key, or none.
+    Answers(Option<u64>),
+    /// The leaf, whose row this is, has to be split.
+    Full(u64),
+    /// The entries change.
+    Write(Spot, Splice),
+}
+
+/// Where a try to change a leaf has ended.
+pub(crate) enum Turned {
+    /// The operation has ended with this answer.
+    Ended(Answer),
+    /// The operation wants the next page now.
+    Moved,
+    /// Another seat has the latch.
+    Waits,
+    /// The operation holds the latch of a leaf that it has to split, and this is the leaf's row.
+    Full(u64),
+}
+
+/// What has become of an operation that changes the tree.
+pub enum Changed {
+    /// It has ended with this answer.
+    Ended(Answer),
+    /// It has to wait, and rests.
+    Rests(Resting),
+}

@@ -1,0 +1,474 @@
+//! The straight path of an operation that changes the tree. It goes down to its leaf, latches it, and changes it, as an operation
+//! with a machine does, and takes the same steps. But no value of its machine is made: the machine is in the seat's view, for the
+//! proofs. Only where the leaf is full, or the operation has to wait, a machine is made, and the operation goes on with that.
+ghost use Rattle.std.specs.Prelude.{◌≡◌, ◌≢◌, ◌↔◌, ℕ, ◌+◌, ◌<◌, ◌≤◌, None, Some, IfErr, IfOk, IfSome, IfNone, IsTrue, length};
+ghost use Rattle.atomic_table.specs.declared.Seat.{Seat};
+ghost use Rattle.blink_batch.specs.{FitsWords, answer_at, key_of};
+ghost use Rattle.blink_batch.specs.declared.Op.{Op};
+ghost use Rattle.blink_batch.specs.declared.Op.TheVariants.{Insert};
+ghost use Rattle.blink_page.specs.{IsFan, IsLawfulPage, PlainPage, least_above, place_of};
+ghost use Rattle.blink_page.specs.declared.limits.TheConstants.{MAX_FAN};
+ghost use Rattle.blink_rows.specs.declared.limits.TheConstants.{ROW_WORDS};
+ghost use Rattle.blink_machine.specs.declared.machine.Job.TheVariants.{Leaf};
+ghost use Rattle.blink_machine.specs.declared.machine.Next.TheVariants.{Finish, MoveRight};
+ghost use Rattle.blink_machine.specs.declared.machine.State.{State};
+ghost use Rattle.blink_machine.specs.declared.machine.State.TheVariants.{Ended, Held, Leave};
+ghost use Rattle.blink_machine.specs.{IsReadable, IsUpdate, PlainMachine, SeesUnderLatch};
+ghost use Rattle.blink_live.specs.declared.descent.Changed.{Changed};
+ghost use Rattle.blink_live.specs.declared.descent.Edit.TheVariants.{Write};
+ghost use Rattle.blink_live.specs.declared.view.View.{View};
+ghost use Rattle.blink_live.specs.Pendings.{IsWaiting};
+ghost use Rattle.blink_live.specs.Seats.{HasRead, HasSameNumber, IsAtLeaf, IsPassSeat, IsSameSeat, ReadsPage};
+ghost use Rattle.blink_live.specs.Shelves.{IsShelved};
+ghost use Rattle.blink_live.specs.Straight.{HasCome, HasMet, HasTurned, IsEditOf, IsSpot, IsToSplit, IsToWrite, holding, leaving, page_at, splice_of, wanting};
+ghost use Rattle.blink_live.specs.Updating.{HasRowsFor, IsUnderWay, room_in};
+ghost use Rattle.blink_live.specs.Views.{CanBegin, MayChange, for_call, known_of};
+ghost use Rattle.blink_live.specs.Words.{AreNumbersIn, AreRowsIn, IsRowNumber, row_start, word_count};
+
+use crate::descent::{Changed, Descent, Edit, Splice, Spot, Turned};
+use crate::live::Live;
+use crate::read::{kept_under, link_of};
+use crate::room::Room;
+use crate::view::View;
+use arrayvec::ArrayVec;
+use atomic_table::Seat;
+use blink_batch::{Answer, Op};
+use blink_machine::Machine;
+use blink_page::Way;
+use blink_rows::layout::{COUNT, ENTRY_WORDS, HIGH_KEY, RIGHT_LINK};
+use blink_rows::{HEAD_WORDS, ROW_WORDS};
+use std::hint;
+
+impl Live {
+    /// Runs a new operation that changes the tree until it has ended, or has to wait. It waits for nobody, and takes as many steps
+    /// in vain as `tries` says, at least one, before it gives up and rests. Where it rests it holds no latch.
+    pub fn change_by(
+        &self,
+        seat: &mut Seat<u8, View>,
+        room: &mut Room,
+        op: Op,
+        tries: u32,
+    ) -> Changed
+        requires seat { IsPassSeat self.now seat.old.table_id seat.old.me }
+        requires idle { seat.old.me.0.operation ≡ None }
+        requires fits { FitsWords op }
+        requires updates { IsUpdate op }
+        requires can_begin { CanBegin seat.old.me.0 op }
+        requires room { room.old ≡ room_in op seat.old.me.0 room.old.shelf }
+        requires shelved { IsShelved room.old.shelf seat.old.me.0 }
+        requires enough { HasRowsFor op seat.old.me.0.rows room.old.shelf }
+        requires may { MayChange seat.old.me.0 (key_of op) }
+        ensures came { HasCome self.now op seat.old seat.new room.new result }
+    {
+        let mut descent = self.set_off(seat, room, op);
+        let mut left = tries;
+        // The range ends for the proof alone, which knows no bound of an operation's steps.
+        for _ in 0..u64::MAX {
+            match self.change_leaf(seat, room, op, &mut descent) {
+                Turned::Ended(answer) => return Changed::Ended(answer),
+                Turned::Moved => {}
+                Turned::Full(row) => return self.split_leaf(seat, room, op, &descent, row, left),
+                Turned::Waits => {
+                    left = left.saturating_sub(1);
+                    if left == 0 {
+                        return self.rest_at(op, &descent);
+                    }
+                    hint::spin_loop();
+                }
+            }
+        }
+        self.rest_at(op, &descent)
+    }
+
+    // Takes a new operation to the leaf of its key.
+    fn set_off(&self, seat: &mut Seat<u8, View>, room: &Room, op: Op) -> Descent
+        requires seat { IsPassSeat self.now seat.old.table_id seat.old.me }
+        requires idle { seat.old.me.0.operation ≡ None }
+        requires fits { FitsWords op }
+        requires updates { IsUpdate op }
+        requires can_begin { CanBegin seat.old.me.0 op }
+        requires room { room.now ≡ room_in op seat.old.me.0 room.now.shelf }
+        requires shelved { IsShelved room.now.shelf seat.old.me.0 }
+        requires enough { HasRowsFor op seat.old.me.0.rows room.now.shelf }
+        requires may { MayChange seat.old.me.0 (key_of op) }
+        ensures { IsUnderWay self.now op seat.old seat.new (wanting self.now.fan op result) room.now }
+    {
+        self.fetch_row(room.first_row());
+        self.come_to_change(seat, op)
+    }
+
+    // Brings a new operation that changes the tree to the leaf of its key. What a machine would remember is in the result.
+    fn come_to_change(&self, seat: &mut Seat<u8, View>, op: Op) -> Descent
+        requires seat { IsPassSeat self.now seat.old.table_id seat.old.me }
+        requires idle { seat.old.me.0.operation ≡ None }
+        requires fits { FitsWords op }
+        requires updates { IsUpdate op }
+        requires can_begin { CanBegin seat.old.me.0 op }
+        ensures same_table { HasSameNumber seat.old seat.new }
+        ensures rows { AreRowsIn self.now.counts seat.old.me.0.rows }
+        ensures pages { AreNumbersIn self.now.counts seat.old.me.0.pages }
+        ensures read { HasRead op (for_call seat.old.me.0 op, seat.old.me.1) seat.new.me
+            (wanting self.now.fan op result) }
+        ensures at_leaf { IsAtLeaf op (known_of seat.new.me.0 (key_of op))
+            (wanting self.now.fan op result) }
+    {
+        let (mut number, mut level) = self.root(seat, op);
+        let mut above = ArrayVec::new();
+        loop {
+            match self.read_page(seat, op.key(), number, level, 0) {
+                (Way::Right(next), ..) => number = next,
+                (Way::Down(child), ..) => {
+                    above.push(number);
+                    number = child;
+                    level -= 1;
+                }
+                (Way::Here, ..) => {
+                    return Descent {
+                        leaf: number,
+                        above,
+                    };
+                }
+            }
+        }
+    }
+
+    // Takes an operation that wants its leaf's latch through its change of the leaf. Where the leaf is full, the operation still
+    // holds its latch afterwards.
+    fn change_leaf(
+        &self,
+        seat: &mut Seat<u8, View>,
+        room: &mut Room,
+        op: Op,
+        descent: &mut Descent,
+    ) -> Turned
+        requires wants { (first : Seat ℕ View)
+            × IsUnderWay self.now op first seat.old (wanting self.now.fan op descent.old) room.old }
+        ensures { (first : Seat ℕ View)
+            → IsUnderWay self.now op first seat.old (wanting self.now.fan op descent.old) room.old
+            → HasTurned self.now op descent.new first seat.new room.new result }
+    {
+        if !self.latch_leaf(seat, room, op, descent) {
+            return Turned::Waits;
+        }
+        match self.read_leaf(seat, room, op, descent) {
+            Edit::Right(next) => {
+                self.free_latch(seat, descent.leaf);
+                descent.leaf = next;
+                Turned::Moved
+            }
+            Edit::Answers(kept) => {
+                self.free_latch(seat, descent.leaf);
+                Turned::Ended(op.answer(kept))
+            }
+            Edit::Full(row) => Turned::Full(row),
+            Edit::Write(spot, splice) => {
+                self.put_leaf(seat, room, op, descent, &spot, &splice);
+                self.free_latch(seat, descent.leaf);
+                Turned::Ended(op.answer(spot.kept))
+            }
+        }
+    }
+
+    // Tries to latch the leaf, and returns whether the operation has the latch.
+    fn latch_leaf(&self, seat: &mut Seat<u8, View>, room: &Room, _op: Op, descent: &Descent) -> bool
+        requires wants { (first : Seat ℕ View)
+            × IsUnderWay self.now _op first seat.old (wanting self.now.fan _op descent.now) room.now }
+        ensures got { IsTrue result → (first : Seat ℕ View)
+            → IsUnderWay self.now _op first seat.old (wanting self.now.fan _op descent.now) room.now
+            → IsUnderWay self.now _op first seat.new (holding self.now.fan _op descent.now) room.now }
+        ensures lost { ¬ IsTrue result → (first : Seat ℕ View)
+            → IsUnderWay self.now _op first seat.old (wanting self.now.fan _op descent.now) room.now
+            → IsUnderWay self.now _op first seat.new (wanting self.now.fan _op descent.now) room.now }
+    {
+        self.take_latch(seat, descent.leaf, room.latch_number)
+    }
+
+    // Reads the leaf that the operation has latched, and returns what the operation makes of it.
+    fn read_leaf(&self, seat: &mut Seat<u8, View>, _room: &Room, op: Op, descent: &Descent) -> Edit
+        requires holds { (first : Seat ℕ View)
+            × IsUnderWay self.now op first seat.old (holding self.now.fan op descent.now) _room.now }
+        ensures { (first : Seat ℕ View)
+            → IsUnderWay self.now op first seat.old (holding self.now.fan op descent.now) _room.now
+            → HasMet self.now op descent.now first seat.new _room.now result }
+    {
+        let row = self.load_latched(seat, descent.leaf);
+        match self.spot_in(seat, row, op.key()) {
+            Ok(spot) => edit_of(op, self.fan, spot),
+            Err(right) => Edit::Right(right),
+        }
+    }
+
+    // The place of the key in the page whose row the seat reads; or the page to the right, if the key is above the high key.
+    fn spot_in(&self, seat: &mut Seat<u8, View>, row: u64, key: u64) -> Result<Spot, u32>
+        requires seat { IsPassSeat self.now seat.old.table_id seat.old.me }
+        requires row { IsRowNumber self.now.counts row }
+        requires page { (page : PlainPage) × ReadsPage seat.old.me row page }
+        ensures same { IsSameSeat seat.old seat.new }
+        ensures right { IfErr result (λ right. (page : PlainPage) → ReadsPage seat.old.me row page
+            → (page.high < key) × (page.right ≡ Some right)) }
+        ensures row { IfOk result (λ spot. spot.row ≡ row) }
+        ensures spot { IfOk result (λ spot. (page : PlainPage) → ReadsPage seat.old.me row page
+            → IsSpot key page spot) }
+    {
+        let start = self.row_place(row);
+        let count = self.load_word(seat, start, COUNT) as usize;
+        let place = self.place_in(seat, start, count, key);
+        if place < count {
+            let at = HEAD_WORDS + ENTRY_WORDS * place;
+            let found = self.load_word(seat, start, at);
+            let value = self.load_word(seat, start, at + 1);
+            return Ok(Spot {
+                row,
+                count,
+                place,
+                kept: kept_under(key, found, value),
+            });
+        }
+        if key > self.load_word(seat, start, HIGH_KEY) {
+            let right = self.load_word(seat, start, RIGHT_LINK);
+            return Err(right as u32);
+        }
+        Ok(Spot {
+            row,
+            count,
+            place,
+            kept: None,
+        })
+    }
+
+    // The number of entries before the first whose key is at least `key`, in the page whose row the seat reads.
+    fn place_in(&self, seat: &mut Seat<u8, View>, start: usize, count: usize, key: u64) -> usize
+        requires seat { IsPassSeat self.now seat.old.table_id seat.old.me }
+        requires inside { start + ROW_WORDS ≤ word_count self.now.counts }
+        requires page { (row : ℕ) × (page : PlainPage) × (start ≡ row_start self.now.counts row)
+            × ReadsPage seat.old.me row page × (count ≡ length page.entries) }
+        ensures same { IsSameSeat seat.old seat.new }
+        ensures place { (row : ℕ) (page : PlainPage) → start ≡ row_start self.now.counts row
+            → ReadsPage seat.old.me row page
+            → count ≡ length page.entries
+            → result ≡ place_of key page.entries }
+    {
+        for place in 0..count {
+            let found = self.load_word(seat, start, HEAD_WORDS + ENTRY_WORDS * place);
+            if key <= found {
+                return place;
+            }
+        }
+        count
+    }
+
+    // Writes the next version of the leaf, and puts the row of the version before on the shelf. The version stands in a free row of
+    // the shelf, or else in the first row of the room.
+    fn put_leaf(
+        &self,
+        seat: &mut Seat<u8, View>,
+        room: &mut Room,
+        op: Op,
+        descent: &Descent,
+        spot: &Spot,
+        splice: &Splice,
+    )
+        requires writes { (first : Seat ℕ View)
+            × IsToWrite self.now op descent.now first seat.old room.old spot.now splice.now }
+        ensures { (first : Seat ℕ View)
+            → IsToWrite self.now op descent.now first seat.old room.old spot.now splice.now
+            → IsUnderWay self.now op first seat.new (leaving self.now.fan op descent.now spot.now.kept)
+            room.new }
+    {
+        // Read for the proof: the room's numbers are words.
+        let _stop = room.rows.stop;
+        let _key = op.key();
+        if let Some(row) = self.lend(seat, room) {
+            let out = self.write_leaf(seat, descent.leaf, row, spot, splice);
+            self.put_rows_back(seat);
+            Self::keep_out(seat, room, out);
+            return;
+        }
+        let out = self.write_leaf(seat, descent.leaf, room.rows.next, spot, splice);
+        room.rows.next += 1;
+        Self::keep_out(seat, room, out);
+    }
+
+    // Splits the leaf whose latch the operation holds, and goes on as an operation with a machine does.
+    #[cold]
+    #[inline(never)]
+    fn split_leaf(
+        &self,
+        seat: &mut Seat<u8, View>,
+        room: &mut Room,
+        op: Op,
+        descent: &Descent,
+        row: u64,
+        tries: u32,
+    ) -> Changed
+        requires splits { (first : Seat ℕ View)
+            × IsToSplit self.now op descent.now first seat.old room.old row }
+        ensures { (first : Seat ℕ View)
+            → IsToSplit self.now op descent.now first seat.old room.old row
+            → HasCome self.now op first seat.new room.new result }
+    {
+        let mut machine = self.machine_at(op, descent);
+        machine.done(0);
+        machine.saw_own_page(self.page_in_row(seat, row));
+        match self.go_on(seat, &mut machine, room, tries) {
+            Some(answer) => Changed::Ended(answer),
+            None => Changed::Rests(machine.rest()),
+        }
+    }
+
+    // Takes the steps of an operation that holds a latch, and those that follow.
+    fn go_on(
+        &self,
+        seat: &mut Seat<u8, View>,
+        machine: &mut Machine,
+        room: &mut Room,
+        tries: u32,
+    ) -> Option<Answer>
+        requires under_way { (op : Op) × (first : Seat ℕ View)
+            × IsUnderWay self.now op first seat.old machine.old room.old }
+        ensures under_way { (op : Op) (first : Seat ℕ View)
+            → IsUnderWay self.now op first seat.old machine.old room.old
+            → IsUnderWay self.now op first seat.new machine.new room.new }
+        ensures ended { IfSome result
+            (λ answer. (machine.new.state ≡ Ended) × (machine.new.answer ≡ Some answer)) }
+        ensures waits { IfNone result (IsWaiting machine.new) }
+    {
+        self.leave(seat, machine, room);
+        if machine.ended() {
+            return machine.answer();
+        }
+        self.take_steps(seat, machine, room, tries)
+    }
+
+    // The operation rests: it wants its leaf's latch.
+    fn rest_at(&self, op: Op, descent: &Descent) -> Changed
+        requires fits { FitsWords op }
+        requires updates { IsUpdate op }
+        ensures { result ≡ Changed.Rests (wanting self.now.fan op descent.now) }
+    {
+        Changed::Rests(self.machine_at(op, descent).rest())
+    }
+
+    // The machine of an operation that wants its leaf's latch.
+    #[cold]
+    #[inline(never)]
+    fn machine_at(&self, op: Op, descent: &Descent) -> Machine
+        requires fits { FitsWords op }
+        requires updates { IsUpdate op }
+        ensures { result ≡ wanting self.now.fan op descent.now }
+    {
+        let mut machine = Machine::new(op, self.fan);
+        let levels = descent.above.len();
+        machine.saw_top(levels as u8, descent.page_at(0));
+        for place in 0..levels {
+            machine.saw_way(Way::Down(descent.page_at(place + 1)), None);
+        }
+        machine.saw_way(Way::Here, None);
+        machine
+    }
+}
+
+impl Descent {
+    // The page of this place on the way down: the leaf is the last.
+    fn page_at(&self, place: usize) -> u32
+        requires { place ≤ length self.now.above.items }
+        ensures { result ≡ page_at self.now place }
+    {
+        match self.above.get(place) {
+            Some(page) => *page,
+            None => self.leaf,
+        }
+    }
+}
+
+// What an operation that changes the tree makes of its leaf, where the key's place there is this.
+fn edit_of(op: Op, fan: u8, spot: Spot) -> Edit
+    requires updates { IsUpdate op }
+    requires fan { IsFan fan }
+    ensures { IsEditOf op fan spot result }
+{
+    match op {
+        Op::Insert(key, pointer) => insertion_of(fan, spot, key, pointer),
+        Op::Delete(_) => {
+            if spot.kept.is_none() {
+                return Edit::Answers(None);
+            }
+            removal(spot)
+        }
+        Op::Replace(key, pointer) => {
+            if spot.kept.is_none() {
+                return Edit::Answers(None);
+            }
+            exchange(spot, key, pointer)
+        }
+        Op::Exchange(key, expected, pointer) => {
+            if !has(&spot, expected) {
+                return Edit::Answers(spot.kept);
+            }
+            exchange(spot, key, pointer)
+        }
+        Op::DeleteExact(_, expected) => {
+            if !has(&spot, expected) {
+                return Edit::Answers(spot.kept);
+            }
+            removal(spot)
+        }
+        Op::Find(_) => unreachable!(),
+    }
+}
+
+// Whether the key has the expected pointer.
+fn has(spot: &Spot, expected: u64) -> bool
+    ensures { IsTrue result ↔ spot.now.kept ≡ Some expected }
+{
+    match spot.kept {
+        Some(kept) => kept == expected,
+        None => false,
+    }
+}
+
+// The same of an insertion.
+fn insertion_of(fan: u8, spot: Spot, key: u64, pointer: u64) -> Edit
+    requires { IsFan fan }
+    ensures { IsEditOf (Insert key pointer) fan spot result }
+{
+    if spot.kept.is_some() {
+        return Edit::Answers(spot.kept);
+    }
+    if spot.count >= usize::from(fan) {
+        return Edit::Full(spot.row);
+    }
+    Edit::Write(
+        spot,
+        Splice {
+            gone: 0,
+            entry: Some((key, pointer)),
+        },
+    )
+}
+
+// The entry goes.
+fn removal(spot: Spot) -> Edit
+    ensures { result ≡ Write spot (splice_of 1 None) }
+{
+    Edit::Write(
+        spot,
+        Splice {
+            gone: 1,
+            entry: None,
+        },
+    )
+}
+
+// The entry gets another pointer.
+fn exchange(spot: Spot, key: u64, pointer: u64) -> Edit
+    ensures { result ≡ Write spot (splice_of 1 (Some (key, pointer))) }
+{
+    Edit::Write(
+        spot,
+        Splice {
+            gone: 1,
+            entry: Some((key, pointer)),
+        },
+    )
+}

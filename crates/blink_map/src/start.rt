@@ -1,0 +1,103 @@
+//! An operation that changes a map, in one go: where it meets nobody, it ends at once, and its session never becomes a `Pending`.
+ghost use Rattle.std.specs.Prelude.{◌≡◌, IfErr, IfOk};
+ghost use Rattle.blink_batch.specs.{FitsWords};
+ghost use Rattle.blink_batch.specs.declared.Op.{Op};
+ghost use Rattle.blink_machine.specs.{IsUpdate};
+ghost use Rattle.blink_live.specs.Pendings.{IsWaiting};
+ghost use Rattle.blink_map.specs.Changing.{HasChanged, IsAtRest};
+ghost use Rattle.blink_map.specs.Places.{IsMemberOf};
+ghost use Rattle.blink_map.specs.Sessions.{HasRoom, IsAnswered, IsSessionOf};
+ghost use Rattle.blink_map.specs.Starting.{HasStopped};
+
+use crate::change::{BATCH_ROWS, come_back, room_of};
+use crate::map::{Map, Pending, Session, Stopped};
+use crate::member::{Member, REST, UnderWay, next_mark};
+use crate::steps::mark_place;
+use blink_batch::{Answer, Op};
+use blink_live::{Changed, Live};
+use blink_rows::Span;
+use std::snapshot::Snapshot;
+
+impl Map {
+    /// Runs an insertion, a deletion, a replacement or an exchange: what `begin` and a first `advance` do. Where no other session
+    /// has a latch that the operation wants, nothing of it is made to rest and goes on again.
+    ///
+    /// It stops where `begin` refuses, and gives the session back; and where `advance` gives the operation back, after `tries`
+    /// steps in vain, at least one. The call takes no memory, waits for nobody, and returns.
+    pub fn start(&self, session: Session, op: Op, tries: u32) -> Result<(Session, Answer), Stopped>
+        requires its_own { IsSessionOf self.now session }
+        requires updates { IsUpdate op }
+        requires fits { FitsWords op }
+        ensures answered { IfOk result (λ ended. IsAnswered self.now op session ended.0 ended.1) }
+        ensures stopped { IfErr result (HasStopped self.now op session) }
+    {
+        let begun = Snapshot::of(&session);
+        let Session { mut member } = session;
+        if !member.draw(&self.live, op) {
+            return Err(Stopped::Full(Session { member }));
+        }
+        match member.start(&self.live, op, tries) {
+            Ok((mut member, answer)) => {
+                member.recycle(&self.live, BATCH_ROWS);
+                Ok((Session { member }, answer))
+            }
+            Err(now) => Err(Stopped::Waits(Pending { now, begun })),
+        }
+    }
+}
+
+impl Member {
+    // Runs an operation that changes the tree, or lets it rest where it has to wait.
+    fn start(self, live: &Live, op: Op, tries: u32) -> Result<(Member, Answer), UnderWay>
+        requires its_own { IsMemberOf live.now self }
+        requires updates { IsUpdate op }
+        requires fits { FitsWords op }
+        requires room { HasRoom op self }
+        ensures changed { IfOk result (λ ended. HasChanged live.now op self ended.0 ended.1) }
+        ensures at_rest { IfErr result (IsAtRest live.now op self) }
+        ensures waits { IfErr result (λ rests. IsWaiting rests.machine) }
+    {
+        let Member {
+            mut seat,
+            rows,
+            pages,
+            place,
+            shelf,
+            mut mark,
+        } = self;
+        mark_place(live, &mut seat, place, next_mark(&mut mark));
+        let mut room = room_of(op, &rows, &pages, shelf);
+        match live.change_by(&mut seat, &mut room, op, tries) {
+            Changed::Ended(answer) => {
+                come_back(live, &mut seat, place);
+                let member = Member {
+                    seat,
+                    rows: Span {
+                        next: room.rows.next,
+                        stop: rows.stop,
+                    },
+                    pages: Span {
+                        next: room.pages.next,
+                        stop: pages.stop,
+                    },
+                    place,
+                    shelf: room.shelf,
+                    mark,
+                };
+                Ok((member, answer))
+            }
+            Changed::Rests(resting) => {
+                mark_place(live, &mut seat, place, REST);
+                Err(UnderWay {
+                    seat,
+                    rows,
+                    pages,
+                    place,
+                    machine: resting,
+                    room,
+                    mark,
+                })
+            }
+        }
+    }
+}

@@ -1,0 +1,149 @@
+// Uses each type of blink.hpp: an index, readers in two threads, a map that eight threads change, and a table. Run: all_calls
+#include <blink.hpp>
+#include <cstdio>
+#include <cstdlib>
+
+#define CHECK(holds) ((holds) ? (void)0 : fail(#holds, __LINE__))
+
+static void fail(const char *what, int line) {
+    std::fprintf(stderr, "all_calls.cpp:%d: not so: %s\n", line, what);
+    std::exit(1);
+}
+
+// Whether the call throws this code.
+template <class Call> static bool refused(int code, Call call) {
+    try {
+        call();
+    } catch (const blink::Error &error) {
+        return error.code() == code;
+    }
+    return false;
+}
+
+static bool is(const blink::Answer &answer, std::uint64_t kind, std::uint64_t pointer) {
+    return answer.kind == kind && answer.pointer == pointer;
+}
+
+static void uses_an_index() {
+    blink::Index index(4);
+    CHECK(index.size() == 0 && index.pages() == 1 && index.fan() == 4 && !index.first() && !index.last());
+    CHECK(is(index.insert(5, 50), BLINK_INSERTED, 0) && is(index.insert(5, 51), BLINK_EXISTS, 50));
+    CHECK(is(index.replace(5, 52), BLINK_REPLACED, 50) && is(index.exchange(5, 50, 53), BLINK_EXISTS, 52));
+    CHECK(is(index.exchange(5, 52, 53), BLINK_REPLACED, 52) && is(index.remove_exact(5, 52), BLINK_EXISTS, 53));
+    CHECK(index.find(5) == 53u && !index.find(6) && is(index.remove(6), BLINK_ABSENT, 0));
+    for (std::uint64_t key = 1000; key < 2000; key++) index.insert(key, key);
+    CHECK(index.size() == 1001 && index.scan(1500, 1999).size() == 500 && index.scan(1, 4).empty());
+    CHECK(index.page(1990, 100).size() == 10 && index.page(0, 2)[1].key == 1000 && index.page(0, 0).empty());
+    CHECK(index.first()->key == 5 && index.last()->pointer == 1999 && index.next(5)->key == 1000 && !index.next(1999));
+    auto answers = index.find_many({5, 6});
+    CHECK(is(answers[0], BLINK_FOUND, 53) && is(answers[1], BLINK_ABSENT, 0) && index.find_many({}).empty());
+    blink::Index copy = index.copy();
+    CHECK(is(index.remove_exact(5, 53), BLINK_REMOVED, 53) && copy.find(5) == 53u);
+    std::uint32_t before = copy.pages();
+    copy.compact();
+    CHECK(copy.pages() < before && copy.size() == 1001);
+    answers = copy.run({{BLINK_FIND, 5, 0}, {BLINK_DELETE, 5, 0}});
+    CHECK(is(answers[0], BLINK_FOUND, 53) && is(answers[1], BLINK_REMOVED, 53) && !copy.find(5));
+    auto [some, code] = copy.apply({{BLINK_INSERT, 1, 10}, {9, 2, 20}});
+    CHECK(some.size() == 1 && is(some[0], BLINK_INSERTED, 0) && code == BLINK_UNKNOWN_OPERATION);
+    CHECK(refused(BLINK_BAD_FAN, [] { blink::Index(33); }));
+    CHECK(refused(BLINK_NOT_ASCENDING, [] { blink::Index::from_sorted(4, {{2, 0}, {1, 0}}); }));
+    CHECK(blink::Index::from_entries(4, {{2, 20}, {1, 10}, {2, 21}}).find(2) == 20u);
+    CHECK(blink::Index::from_entries(4, {{2, 20}}).dump() == "0 1 - 18446744073709551615 - 2:20\n");
+    copy = std::move(index); // what copy had is freed with index
+    CHECK(copy.size() == 1000);
+}
+
+static void shares_an_index() {
+    blink::Reader reader = blink::Index::from_sorted(32, {{1, 10}, {2, 20}}).share();
+    std::vector<std::thread> threads;
+    for (int i = 0; i < 2; i++)
+        threads.emplace_back([own = reader.join()]() mutable { CHECK(own.find(2) == 20u && own.size() == 2); });
+    for (auto &thread : threads) thread.join();
+    threads.clear();
+    {
+        blink::Reader other = reader.join();
+        CHECK(refused(BLINK_SHARED, [&] { reader.unshare(); }) && reader.find(1) == 10u);
+    }
+    blink::Index index = reader.unshare();
+    CHECK(is(index.insert(3, 30), BLINK_INSERTED, 0));
+}
+
+// Eight threads add to the same hundred keys, each three hundred times a key: no addition is lost.
+static void shares_a_map() {
+    enum { THREADS = 8, KEYS = 100, TURNS = 300 };
+    blink::Index index(16);
+    blink::Map map(index, {5000, 20000, THREADS});
+    std::vector<std::thread> threads;
+    for (int i = 0; i < THREADS; i++)
+        threads.emplace_back([session = map.join()]() mutable {
+            for (std::uint64_t turn = 0; turn < TURNS * KEYS; turn++) {
+                std::uint64_t key = turn % KEYS;
+                for (auto there = session.find(key);;) {
+                    blink::Answer answer = there ? session.exchange(key, *there, *there + 1) : session.insert(key, 1);
+                    if (answer.kind == BLINK_REPLACED || answer.kind == BLINK_INSERTED) break;
+                    there = answer.pointer;
+                }
+            }
+        });
+    for (auto &thread : threads) thread.join();
+    threads.clear();
+    blink::Session one = map.join(), other = map.join();
+    CHECK(one.put(5, 7) == THREADS * TURNS && !one.put(KEYS, 8) && is(one.replace(KEYS, 9), BLINK_REPLACED, 8));
+    one.tell(other);
+    CHECK(other.find(5) == 7u && is(other.remove_exact(KEYS, 8), BLINK_EXISTS, 9) && is(other.remove(KEYS), BLINK_REMOVED, 9));
+    CHECK(other.scan(0, 1000).size() == KEYS && other.scan(6, 6)[0].pointer == THREADS * TURNS && other.scan(200, 300).empty());
+    for (std::uint64_t key = 1000; key < 2000; key++) CHECK(one.insert(key, key).kind == BLINK_INSERTED);
+    CHECK(other.snapshot(0, 5000, 10)->size() == KEYS + 1000 && !other.snapshot(0, 1, 0) && other.scan(0, 5000).size() == KEYS + 1000);
+    CHECK(one.stock().pages > 0 && map.room().rows > 0);
+    {
+        blink::Map same = map.share();
+        blink::Session third = same.join();
+        CHECK(third.find(6) == THREADS * TURNS);
+        CHECK(refused(BLINK_NO_PLACE, [&] {
+            std::vector<blink::Session> more;
+            for (int i = 0; i < THREADS; i++) more.push_back(same.join());
+        }));
+    }
+    { blink::Session gone = std::move(one), gone_too = std::move(other); }
+    blink::Index closed = map.close();
+    CHECK(closed.size() == KEYS + 1000 && closed.find(5) == 7u && index.size() == 0);
+    for (std::uint64_t key = 6; key < KEYS; key++) CHECK(closed.find(key) == THREADS * TURNS);
+}
+
+static void shares_a_table() {
+    blink::Index index(16);
+    blink::Table table(index, 2000, 10);
+    std::vector<blink::Key> keys[2];
+    for (blink::Key key = 0; key < 2000; key++) keys[key % 2].push_back(key);
+    blink::Pass passes[2] = {table.deal(keys[0], 1000, 5), table.deal(keys[1], 1000, 5)};
+    std::vector<std::thread> threads;
+    for (int i = 0; i < 2; i++)
+        threads.emplace_back([&keys, &passes, i] {
+            for (blink::Key key : keys[i]) CHECK(is(passes[i].insert(key, key * 10), BLINK_INSERTED, 0));
+        });
+    for (auto &thread : threads) thread.join();
+    blink::Pass &even = passes[0], &odd = passes[1];
+    CHECK(refused(BLINK_NOT_YOURS, [&] { even.find(1); }) && refused(BLINK_SPENT, [&] { even.insert(2, 0); }));
+    odd.tell(even);
+    CHECK(even.find(2) == 20u && even.glance(3) == 30u && even.scan(0, 5000).size() == 2000 && even.snapshot(1, 2, 1)->size() == 2);
+    CHECK(is(even.replace(2, 21), BLINK_REPLACED, 20) && is(even.exchange(2, 20, 22), BLINK_EXISTS, 21));
+    CHECK(is(even.remove_exact(2, 21), BLINK_REMOVED, 21) && is(even.remove(4), BLINK_REMOVED, 40) && !even.find(4));
+    CHECK(refused(BLINK_HAND_NOT_YOURS, [&] { even.hand(odd, {6, 7}); }));
+    even.hand(odd, {6});
+    CHECK(is(odd.replace(6, 61), BLINK_REPLACED, 60) && even.glance(6));
+    CHECK(refused(BLINK_TAKEN, [&] { table.deal({8}, 0, 0); }));
+    CHECK(refused(BLINK_FOREIGN, [&] { blink::Table(index, 1, 1).give_back(even); }));
+    table.give_back(even);
+    table.give_back(odd);
+    blink::Index closed = table.close();
+    CHECK(closed.size() == 1998 && closed.find(6) == 61u);
+}
+
+int main() {
+    uses_an_index();
+    shares_an_index();
+    shares_a_map();
+    shares_a_table();
+    std::puts("all calls are as expected");
+}

@@ -1,0 +1,201 @@
+"""Uses each type of python/blink.py: an index, readers, a map that eight threads change, and a table. It also compares what the module
+declares with include/blink.h, which is read from there or from the folder that is named. Run: all_calls.py [FOLDER]"""
+
+import ctypes
+import pathlib
+import re
+import sys
+import threading
+
+top = pathlib.Path(__file__).resolve().parent.parent.parent
+sys.path.insert(0, str(top / "python"))
+import blink  # noqa: E402
+from blink import ABSENT, EXISTS, FOUND, INSERTED, REMOVED, REPLACED  # noqa: E402
+
+MOST = 2**64 - 1
+
+
+def refuses(kind, call, *values):
+    """The error of this kind that the call has to raise."""
+    try:
+        call(*values)
+    except kind as error:
+        return error
+    raise AssertionError(f"{call} is not refused")
+
+
+def compares_with_the_header(folder):
+    text = re.sub(r"/\*.*?\*/", "", (folder / "blink.h").read_text(), flags=re.S)
+    numbers = {name: int(value) for name, value in re.findall(r"^    BLINK_(\w+) = (\d+)", text, re.M)}
+    assert {name: numbers.get(name) for name in blink.CODES} == blink.CODES
+    names = "FIND INSERT DELETE REPLACE ABSENT FOUND INSERTED EXISTS REMOVED REPLACED".split()
+    assert all(getattr(blink, name) == numbers[name] for name in names)
+    assert set(numbers) == set(blink.CODES) | set(names)
+    prototypes = {
+        name: (result.strip(), [re.sub(r"\bconst |\w+$", "", it.strip()).replace(" ", "") for it in parameters.split(",")])
+        for result, name, parameters in re.findall(r"^((?:const )?\w+ \*?)(blink_\w+)\(([^)]*)\);", text, re.M)
+    }
+    c_names = {"c_ubyte": "uint8_t", "c_uint": "uint32_t", "c_ulong": "uint64_t", "c_bool": "bool", "c_int": "int", "_Handle": "handle"}
+
+    def said(parameter):
+        pointed = getattr(parameter, "_type_", None) if hasattr(parameter, "contents") else None
+        name = (pointed or parameter).__name__
+        return c_names.get(name, name) + ("*" if pointed else "")
+
+    for name, result, *parameters in blink._declared():
+        if name == "blink_version":
+            continue
+        there, wanted = prototypes[name]
+        wanted = [re.sub(r"^blink_(index|reader|table|pass|map|session)\b", "handle", it).replace("size_t", "uint64_t") for it in wanted]
+        assert [said(it) for it in parameters] == wanted, name
+        assert ("void" if result is None else said(result)) == there.replace("size_t", "uint64_t"), name
+    version = re.search(r'^#define BLINK_VERSION "(.*)"$', text, re.M)[1]
+    assert blink.version() == version, (blink.version(), version)
+    assert ctypes.sizeof(ctypes.c_size_t) == 8
+
+
+def uses_an_index():
+    index = blink.Index(4)
+    assert (len(index), index.pages(), index.fan(), index.first(), index.last()) == (0, 1, 4, None, None)
+    assert index.insert(5, 50) == (INSERTED, 0) and index.insert(5, 51) == (EXISTS, 50)
+    assert index.replace(5, 52) == (REPLACED, 50) and index.exchange(5, 50, 53) == (EXISTS, 52)
+    assert index.exchange(5, 52, 53) == (REPLACED, 52) and index.remove_exact(5, 52) == (EXISTS, 53)
+    assert index.find(5) == 53 and 6 not in index and index.remove(6) == (ABSENT, 0)
+    for key in range(1000, 2000):
+        index.insert(key, MOST - key)
+    assert len(index) == 1001 and index.scan(1998, MOST) == [(1998, MOST - 1998), (1999, MOST - 1999)] and index.scan(6, 7) == []
+    assert len(index.page(0, 100)) == 100 and index.page(1999, MOST) == [(1999, MOST - 1999)] and index.page(0, 0) == []
+    assert index.first() == (5, 53) and index.last()[0] == 1999 and index.next(5)[0] == 1000 and index.next(1999) is None
+    assert index.find_many([5, 6]) == [(FOUND, 53), (ABSENT, 0)] and index.find_many([]) == []
+    copy = index.copy()
+    pages = copy.pages()
+    copy.compact()
+    assert copy.pages() < pages and len(copy) == 1001
+    assert copy.run([(blink.FIND, 5, 0), (blink.DELETE, 5, 0)]) == [(FOUND, 53), (REMOVED, 53)] and 5 not in copy and 5 in index
+    assert refuses(blink.Error, index.run, [(9, 1, 1)]).name == "UNKNOWN_OPERATION"
+    assert refuses(blink.Error, blink.Index, 33).code == 40
+    assert refuses(blink.Error, blink.Index.from_sorted, [(1, 0), (3, 0), (2, 0)]).place == 2
+    assert blink.Index(4, [(2, 20), (1, 10), (2, 21)]).scan(0, 9) == [(1, 10), (2, 20)]
+    assert blink.Index(entries=[(2, 20)]).dump() == f"0 1 - {MOST} - 2:20\n"
+    # what has no place in 64 bits isn't cut off
+    for bad in -1, MOST + 1:
+        refuses(OverflowError, index.insert, bad, 0)
+        refuses(OverflowError, index.find, bad)
+    refuses(AttributeError, index.find, "5")
+    refuses(OverflowError, blink.Index, 260)
+    index.free()
+    index.free()
+    refuses(ValueError, index.find, 5)
+    refuses(ValueError, blink.Map, index, 10, 10, 1)
+
+
+def shares_an_index():
+    reader = blink.Index.from_sorted([(key, key * 10) for key in range(1000)]).share()
+
+    def reads(own):
+        with own:
+            for key in range(1000):
+                assert own.find(key) == key * 10
+
+    in_threads(reads, [reader.join() for _ in range(2)])
+    other = reader.join()
+    assert refuses(blink.Error, reader.unshare).name == "SHARED" and len(reader) == 1000
+    refuses(TypeError, blink.Map, reader, 10, 10, 1)
+    other.free()
+    index = reader.unshare()
+    refuses(ValueError, reader.find, 5)
+    assert index.insert(1000, 1) == (INSERTED, 0)
+
+
+def in_threads(call, values):
+    failed = []
+
+    def run(value):
+        try:
+            call(value)
+        except BaseException as error:  # noqa: BLE001
+            failed.append(error)
+            raise
+
+    threads = [threading.Thread(target=run, args=(value,)) for value in values]
+    for thread in threads:
+        thread.start()
+    for thread in threads:
+        thread.join()
+    assert not failed
+
+
+def shares_a_map():
+    """Eight threads add to the same ten keys, each a hundred times a key: no addition is lost."""
+    index = blink.Index(16)
+    shared = blink.Map(index, pages=5000, rows=20000, sessions=8)
+
+    def adds(session):
+        with session:
+            for turn in range(1000):
+                key, done = turn % 10, False
+                there = session.find(key)
+                while not done:
+                    answer = session.insert(key, 1) if there is None else session.exchange(key, there, there + 1)
+                    done, there = answer.kind in (INSERTED, REPLACED), answer.pointer
+
+    in_threads(adds, [shared.join() for _ in range(8)])
+    one, other = shared.join(), shared.join()
+    assert one.scan(0, MOST) == [(key, 800) for key in range(10)]
+    assert one.put(5, 7) == 800 and one.put(10, 8) is None and one.replace(10, 9) == (REPLACED, 8)
+    one.tell(other)
+    assert other.find(5) == 7 and other.remove_exact(10, 8) == (EXISTS, 9) and other.remove(10) == (REMOVED, 9)
+    refuses(TypeError, one.tell, one)
+    for key in range(1000, 2000):
+        one.insert(key, key)
+    assert len(other.snapshot(0, MOST)) == 1010 and other.snapshot(0, 1, tries=0) is None and len(other.scan(1500, 1999)) == 500
+    assert one.stock().pages > 0 and shared.room()[1] > 0
+    more = [shared.join() for _ in range(6)]
+    assert refuses(blink.Error, shared.join).name == "NO_PLACE"
+    for session in more + [one, other]:
+        session.free()
+    refuses(ValueError, one.find, 5)
+    closed = shared.close()
+    refuses(ValueError, shared.join)
+    assert len(closed) == 1010 and closed.find(5) == 7 and len(index) == 0
+    left = blink.Map(index, pages=5000, rows=20000, sessions=1)
+    session = left.join()
+    assert refuses(blink.Error, left.close).name == "SESSION_MISSING" and session.find(5) is None
+
+
+def shares_a_table():
+    index = blink.Index()
+    table = blink.Table(index, 200, 10)
+    passes = [table.deal(range(start, 200, 2), 100, 5) for start in range(2)]
+
+    def inserts(start):
+        for key in range(start, 200, 2):
+            assert passes[start].insert(key, key * 10) == (INSERTED, 0)
+
+    in_threads(inserts, range(2))
+    even, odd = passes
+    assert refuses(blink.Error, even.find, 1).name == "NOT_YOURS" and refuses(blink.Error, even.insert, 2, 0).name == "SPENT"
+    odd.tell(even)
+    assert even.find(2) == 20 and even.glance(3) == 30 and len(even.scan(0, MOST)) == 200 and len(even.snapshot(1, 2)) == 2
+    assert even.replace(2, 21) == (REPLACED, 20) and even.exchange(2, 20, 22) == (EXISTS, 21)
+    assert even.remove_exact(2, 21) == (REMOVED, 21) and even.remove(4) == (REMOVED, 40) and even.find(4) is None
+    assert refuses(blink.Error, even.hand, odd, [6, 7]).key == 7
+    even.hand(odd, [6])
+    assert odd.replace(6, 61) == (REPLACED, 60)
+    assert refuses(blink.Error, table.deal, [8], 0, 0).key == 8
+    assert refuses(blink.Error, blink.Table(index, 1, 1).give_back, even).name == "FOREIGN"
+    refuses(TypeError, table.give_back, index)
+    refuses(TypeError, even.tell, index)
+    table.give_back(even)
+    refuses(ValueError, table.give_back, even)
+    table.give_back(odd)
+    closed = table.close()
+    assert len(closed) == 198 and closed.find(6) == 61
+
+
+compares_with_the_header(pathlib.Path(sys.argv[1]) if len(sys.argv) > 1 else top / "include")
+uses_an_index()
+shares_an_index()
+shares_a_map()
+shares_a_table()
+print("all calls are as expected")

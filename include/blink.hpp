@@ -1,0 +1,478 @@
+// blink.hpp: blink.h for C++17. Each type has a handle, which it frees, and can be moved and not copied. What a call says of its results, and
+// what it takes from its caller, blink.h says of the function that has the call's name.
+//
+// A refusal is thrown as blink::Error, with its code. A change at a map or a table ends before its call does: where another thread has the page
+// it yields, and where the session's rows are on their way back it begins again. One thread at a time uses an object, also to read, so no call
+// is const. An object that was moved from can be destroyed and assigned to, and nothing else; one that has closed or shared what it had is such
+// an object too.
+#ifndef BLINK_HPP
+#define BLINK_HPP
+
+#include "blink.h"
+#include <cstddef>
+#include <cstdint>
+#include <optional>
+#include <stdexcept>
+#include <string>
+#include <thread>
+#include <utility>
+#include <vector>
+
+namespace blink {
+
+using Entry = blink_entry;
+using Operation = blink_operation;
+using Answer = blink_answer;
+using Stock = blink_stock;
+using Key = std::uint64_t;
+using Pointer = std::uint64_t;
+
+// Why a call was refused: one of the codes of blink.h.
+class Error : public std::runtime_error {
+public:
+    explicit Error(int code) : std::runtime_error(blink_message(code)), code_(code) {}
+    int code() const noexcept { return code_; }
+
+private:
+    int code_;
+};
+
+namespace detail {
+
+// How many steps in vain an operation takes before its thread yields.
+constexpr std::uint32_t tries = 100;
+
+inline void check(int code) {
+    if (code != BLINK_DONE) throw Error(code);
+}
+
+// An array's place, which isn't NULL.
+template <class T> T *place_of(std::vector<T> &array) {
+    static T none;
+    return array.empty() ? &none : array.data();
+}
+template <class T> const T *place_of(const std::vector<T> &array) { return place_of(const_cast<std::vector<T> &>(array)); }
+
+// A handle, which is freed once.
+template <class H, void (*Free)(H)> class Handle {
+public:
+    Handle() = default;
+    Handle(Handle &&other) noexcept : it_(std::exchange(other.it_, H{nullptr})) {}
+    Handle &operator=(Handle &&other) noexcept {
+        std::swap(it_, other.it_);
+        return *this;
+    }
+    ~Handle() {
+        if (it_.at) Free(it_);
+    }
+    H *operator&() noexcept { return &it_; }
+    H take() noexcept { return std::exchange(it_, H{nullptr}); }
+
+private:
+    H it_{nullptr};
+};
+
+inline std::optional<Pointer> pointer_of(const Answer &answer) {
+    if (answer.kind == BLINK_ABSENT || answer.kind == BLINK_INSERTED) return std::nullopt;
+    return answer.pointer;
+}
+
+// All entries of a range, part by part.
+template <class H, class Scan> std::vector<Entry> scanned(H *handle, Scan scan, Key lo, Key hi) {
+    std::vector<Entry> entries, part(256);
+    for (blink_scanned end{0, 1, lo}; end.more;) {
+        check(scan(handle, end.next, hi, part.data(), part.size(), &end));
+        entries.insert(entries.end(), part.begin(), part.begin() + static_cast<std::ptrdiff_t>(end.filled));
+    }
+    return entries;
+}
+
+// All entries of a range at one time, or none where each try was in vain.
+template <class H, class Snapshot>
+std::optional<std::vector<Entry>> snapshot(H *handle, Snapshot snapshot, Key lo, Key hi, std::uint32_t tries) {
+    std::vector<Entry> entries(256);
+    for (;;) {
+        blink_taken taken{0, 0};
+        check(snapshot(handle, lo, hi, tries, place_of(entries), entries.size(), &taken));
+        if (!taken.taken) return std::nullopt;
+        bool fits = taken.there <= entries.size();
+        entries.resize(taken.there);
+        if (fits) return entries;
+    }
+}
+
+// The calls of an index and of a reader that read.
+template <class H> struct Calls;
+template <> struct Calls<blink_index> {
+    static constexpr auto find = blink_index_find;
+    static constexpr auto find_many = blink_index_find_many;
+    static constexpr auto scan = blink_index_scan;
+    static constexpr auto page = blink_index_page;
+    static constexpr auto first = blink_index_first;
+    static constexpr auto last = blink_index_last;
+    static constexpr auto next = blink_index_next;
+    static constexpr auto len = blink_index_len;
+    static constexpr auto pages = blink_index_pages;
+    static constexpr auto fan = blink_index_fan;
+    static constexpr auto dump = blink_index_dump;
+    static constexpr auto free = blink_index_free;
+};
+template <> struct Calls<blink_reader> {
+    static constexpr auto find = blink_reader_find;
+    static constexpr auto find_many = blink_reader_find_many;
+    static constexpr auto scan = blink_reader_scan;
+    static constexpr auto page = blink_reader_page;
+    static constexpr auto first = blink_reader_first;
+    static constexpr auto last = blink_reader_last;
+    static constexpr auto next = blink_reader_next;
+    static constexpr auto len = blink_reader_len;
+    static constexpr auto pages = blink_reader_pages;
+    static constexpr auto fan = blink_reader_fan;
+    static constexpr auto dump = blink_reader_dump;
+    static constexpr auto free = blink_reader_free;
+};
+
+// What an index and a reader read.
+template <class H> class Reads {
+public:
+    std::optional<Pointer> find(Key key) {
+        Pointer pointer = 0;
+        if (!Calls<H>::find(&handle_, key, &pointer)) return std::nullopt;
+        return pointer;
+    }
+    std::vector<Answer> find_many(const std::vector<Key> &keys) {
+        std::vector<Answer> answers(keys.size());
+        check(Calls<H>::find_many(&handle_, place_of(keys), keys.size(), place_of(answers), answers.size()));
+        return answers;
+    }
+    // The entries with keys from lo to hi, both included.
+    std::vector<Entry> scan(Key lo, Key hi) {
+        std::vector<Entry> entries(256);
+        std::size_t fitted = 0, there = Calls<H>::scan(&handle_, lo, hi, entries.data(), entries.size(), &fitted);
+        entries.resize(there);
+        if (fitted < there) Calls<H>::scan(&handle_, lo, hi, entries.data(), entries.size(), &fitted);
+        return entries;
+    }
+    // The first n entries with keys from lo on, or all of these if they are fewer.
+    std::vector<Entry> page(Key lo, std::uint64_t n) {
+        std::vector<Entry> entries;
+        std::size_t fitted = 0;
+        entries.resize(Calls<H>::page(&handle_, lo, n, place_of(entries), 0, &fitted));
+        Calls<H>::page(&handle_, lo, n, place_of(entries), entries.size(), &fitted);
+        return entries;
+    }
+    std::optional<Entry> first() {
+        Entry entry{0, 0};
+        return Calls<H>::first(&handle_, &entry) ? std::optional(entry) : std::nullopt;
+    }
+    std::optional<Entry> last() {
+        Entry entry{0, 0};
+        return Calls<H>::last(&handle_, &entry) ? std::optional(entry) : std::nullopt;
+    }
+    // The entry with the least key above this one.
+    std::optional<Entry> next(Key key) {
+        Entry entry{0, 0};
+        return Calls<H>::next(&handle_, key, &entry) ? std::optional(entry) : std::nullopt;
+    }
+    std::size_t size() { return Calls<H>::len(&handle_); }
+    std::uint32_t pages() { return Calls<H>::pages(&handle_); }
+    unsigned fan() { return Calls<H>::fan(&handle_); }
+    std::string dump() {
+        std::vector<std::uint8_t> text;
+        std::size_t bytes = 0;
+        check(Calls<H>::dump(&handle_, place_of(text), 0, &bytes));
+        text.resize(bytes);
+        check(Calls<H>::dump(&handle_, place_of(text), text.size(), &bytes));
+        return std::string(text.begin(), text.end());
+    }
+    H *handle() noexcept { return &handle_; }
+
+protected:
+    Handle<H, Calls<H>::free> handle_;
+};
+
+} // namespace detail
+
+class Reader;
+
+// A map from keys to record pointers, for one thread at a time.
+class Index : public detail::Reads<blink_index> {
+public:
+    explicit Index(std::uint8_t fan = 32) { detail::check(blink_index_new(fan, &handle_)); }
+    // Of entries in any order; of two with one key the first stays.
+    static Index from_entries(std::uint8_t fan, const std::vector<Entry> &entries) {
+        Index index{Empty()};
+        detail::check(blink_index_from_entries(fan, detail::place_of(entries), entries.size(), &index.handle_));
+        return index;
+    }
+    // Of entries whose keys strictly ascend. Error BLINK_NOT_ASCENDING says no place; blink_index_from_sorted does.
+    static Index from_sorted(std::uint8_t fan, const std::vector<Entry> &entries) {
+        Index index{Empty()};
+        std::size_t bad_place = 0;
+        detail::check(blink_index_from_sorted(fan, detail::place_of(entries), entries.size(), &index.handle_, &bad_place));
+        return index;
+    }
+    Index copy() {
+        Index index{Empty()};
+        detail::check(blink_index_copy(&handle_, &index.handle_));
+        return index;
+    }
+    Answer insert(Key key, Pointer pointer) {
+        Answer answer{0, 0};
+        detail::check(blink_index_insert(&handle_, key, pointer, &answer));
+        return answer;
+    }
+    Answer remove(Key key) {
+        Answer answer{0, 0};
+        blink_index_delete(&handle_, key, &answer);
+        return answer;
+    }
+    Answer replace(Key key, Pointer pointer) {
+        Answer answer{0, 0};
+        blink_index_replace(&handle_, key, pointer, &answer);
+        return answer;
+    }
+    Answer exchange(Key key, Pointer expected, Pointer pointer) {
+        Answer answer{0, 0};
+        blink_index_exchange(&handle_, key, expected, pointer, &answer);
+        return answer;
+    }
+    Answer remove_exact(Key key, Pointer expected) {
+        Answer answer{0, 0};
+        blink_index_delete_exact(&handle_, key, expected, &answer);
+        return answer;
+    }
+    // Runs operations on a copy, which then takes the index's place: all of them, or none.
+    std::vector<Answer> run(const std::vector<Operation> &operations) {
+        std::vector<Answer> answers(operations.size());
+        detail::check(blink_index_run(&handle_, detail::place_of(operations), operations.size(), detail::place_of(answers), answers.size()));
+        return answers;
+    }
+    // Carries operations out in place, up to the first that is refused: the answers of those carried out, and that one's code.
+    std::pair<std::vector<Answer>, int> apply(const std::vector<Operation> &operations) {
+        std::vector<Answer> answers(operations.size());
+        std::size_t done = 0;
+        int code = blink_index_apply(&handle_, detail::place_of(operations), operations.size(), detail::place_of(answers), answers.size(), &done);
+        answers.resize(done);
+        return {std::move(answers), code};
+    }
+    void compact() { detail::check(blink_index_compact(&handle_)); }
+    // Makes it one that is only read. If that is refused it is as it was.
+    Reader share();
+
+private:
+    friend class Reader;
+    friend class Table;
+    friend class Map;
+    struct Empty {};
+    explicit Index(Empty) {}
+};
+
+// Reads an index that other threads read at the same time, each by a reader of its own.
+class Reader : public detail::Reads<blink_reader> {
+public:
+    Reader join() {
+        Reader reader;
+        detail::check(blink_reader_join(&handle_, &reader.handle_));
+        return reader;
+    }
+    // Gives the index back. Error BLINK_SHARED leaves the reader as it was.
+    Index unshare() {
+        Index index{Index::Empty()};
+        detail::check(blink_reader_unshare(&handle_, &index.handle_));
+        return index;
+    }
+
+private:
+    friend class Index;
+    Reader() = default;
+};
+
+inline Reader Index::share() {
+    Reader reader;
+    detail::check(blink_index_share(&handle_, &reader.handle_));
+    return reader;
+}
+
+// The right of one thread to read and change a map.
+class Session {
+public:
+    std::optional<Pointer> find(Key key) {
+        Answer answer{0, 0};
+        detail::check(blink_session_find(&handle_, key, &answer));
+        return detail::pointer_of(answer);
+    }
+    Answer insert(Key key, Pointer pointer) {
+        return ended([=](auto *it, Answer *answer) { return blink_session_insert(it, key, pointer, detail::tries, answer); });
+    }
+    Answer remove(Key key) {
+        return ended([=](auto *it, Answer *answer) { return blink_session_delete(it, key, detail::tries, answer); });
+    }
+    Answer replace(Key key, Pointer pointer) {
+        return ended([=](auto *it, Answer *answer) { return blink_session_replace(it, key, pointer, detail::tries, answer); });
+    }
+    Answer exchange(Key key, Pointer expected, Pointer pointer) {
+        return ended([=](auto *it, Answer *answer) { return blink_session_exchange(it, key, expected, pointer, detail::tries, answer); });
+    }
+    Answer remove_exact(Key key, Pointer expected) {
+        return ended([=](auto *it, Answer *answer) { return blink_session_delete_exact(it, key, expected, detail::tries, answer); });
+    }
+    // Maps the key to the pointer, and returns the one that was there.
+    std::optional<Pointer> put(Key key, Pointer pointer) {
+        return detail::pointer_of(ended([=](auto *it, Answer *answer) { return blink_session_put(it, key, pointer, detail::tries, answer); }));
+    }
+    std::vector<Entry> scan(Key lo, Key hi) {
+        return detail::scanned(&handle_, [](auto... all) { return blink_session_scan(all...); }, lo, hi);
+    }
+    std::optional<std::vector<Entry>> snapshot(Key lo, Key hi, std::uint32_t tries) {
+        return detail::snapshot(&handle_, [](auto... all) { return blink_session_snapshot(all...); }, lo, hi, tries);
+    }
+    // Tells the other session what this one has seen.
+    void tell(Session &other) { detail::check(blink_session_tell(&handle_, &other.handle_)); }
+    Stock stock() {
+        Stock stock{0, 0, 0, 0, 0};
+        detail::check(blink_session_stock(&handle_, &stock));
+        return stock;
+    }
+    blink_session *handle() noexcept { return &handle_; }
+
+private:
+    friend class Map;
+    Session() = default;
+    template <class Begin> Answer ended(Begin begin) {
+        Answer answer{0, 0};
+        for (int code = begin(&handle_, &answer);;) {
+            if (code == BLINK_PENDING) code = blink_session_advance(&handle_, detail::tries, &answer);
+            else if (code == BLINK_ROWS_BUSY) code = begin(&handle_, &answer);
+            else return detail::check(code), answer;
+            if (code == BLINK_PENDING || code == BLINK_ROWS_BUSY) std::this_thread::yield();
+        }
+    }
+    detail::Handle<blink_session, blink_session_free> handle_;
+};
+
+// What a map has beside its entries, for changes and sessions to come; and what its pool has left of it.
+struct Room {
+    std::uint32_t pages, rows, sessions;
+};
+struct Left {
+    std::uint64_t pages, rows;
+};
+
+// The entries of an index, which threads change together at any key, each by a session.
+class Map {
+public:
+    Map(Index &index, Room room) {
+        detail::check(blink_map_open(&index.handle_, room.pages, room.rows, room.sessions, &handle_));
+    }
+    // One more object of the same map, for another thread to join by.
+    Map share() {
+        Map map;
+        detail::check(blink_map_share(&handle_, &map.handle_));
+        return map;
+    }
+    Session join() {
+        Session session;
+        detail::check(blink_map_join(&handle_, &session.handle_));
+        return session;
+    }
+    Left room() {
+        Left left{0, 0};
+        blink_map_room(&handle_, &left.rows, &left.pages);
+        return left;
+    }
+    // Gives the index of all entries, once each session and each other object of the map is destroyed. A refused close loses nothing, and may
+    // be called again.
+    Index close() {
+        Index index{Index::Empty()};
+        detail::check(blink_map_close(&handle_, &index.handle_));
+        return index;
+    }
+    blink_map *handle() noexcept { return &handle_; }
+
+private:
+    Map() = default;
+    detail::Handle<blink_map, blink_map_free> handle_;
+};
+
+// The right of one thread to change keys of its own in a table, and to look at all keys.
+class Pass {
+public:
+    std::optional<Pointer> find(Key key) {
+        Answer answer{0, 0};
+        detail::check(blink_pass_find(&handle_, key, &answer));
+        return detail::pointer_of(answer);
+    }
+    std::optional<Pointer> glance(Key key) {
+        Answer answer{0, 0};
+        detail::check(blink_pass_glance(&handle_, key, &answer));
+        return detail::pointer_of(answer);
+    }
+    Answer insert(Key key, Pointer pointer) { return ended(blink_pass_begin_insert(&handle_, key, pointer)); }
+    Answer remove(Key key) { return ended(blink_pass_begin_delete(&handle_, key)); }
+    Answer replace(Key key, Pointer pointer) { return ended(blink_pass_begin_replace(&handle_, key, pointer)); }
+    Answer exchange(Key key, Pointer expected, Pointer pointer) {
+        return ended(blink_pass_begin_exchange(&handle_, key, expected, pointer));
+    }
+    Answer remove_exact(Key key, Pointer expected) { return ended(blink_pass_begin_delete_exact(&handle_, key, expected)); }
+    std::vector<Entry> scan(Key lo, Key hi) {
+        return detail::scanned(&handle_, [](auto... all) { return blink_pass_scan(all...); }, lo, hi);
+    }
+    std::optional<std::vector<Entry>> snapshot(Key lo, Key hi, std::uint32_t tries) {
+        return detail::snapshot(&handle_, [](auto... all) { return blink_pass_snapshot(all...); }, lo, hi, tries);
+    }
+    // Tells the other pass what this one has seen.
+    void tell(Pass &other) { detail::check(blink_pass_tell(&handle_, &other.handle_)); }
+    // Hands keys to the other pass. Error BLINK_HAND_NOT_YOURS says no key; blink_pass_hand does.
+    void hand(Pass &other, const std::vector<Key> &keys) {
+        Key bad_key = 0;
+        detail::check(blink_pass_hand(&handle_, &other.handle_, detail::place_of(keys), keys.size(), &bad_key));
+    }
+    blink_pass *handle() noexcept { return &handle_; }
+
+private:
+    friend class Table;
+    Pass() = default;
+    Answer ended(int code) {
+        detail::check(code);
+        Answer answer{0, 0};
+        while ((code = blink_pass_advance(&handle_, detail::tries, &answer)) == BLINK_PENDING) std::this_thread::yield();
+        detail::check(code);
+        return answer;
+    }
+    detail::Handle<blink_pass, blink_pass_free> handle_;
+};
+
+// The entries of an index, which threads change together, each the keys of its pass.
+class Table {
+public:
+    Table(Index &index, std::uint32_t inserts, std::uint32_t deletes) {
+        detail::check(blink_table_open(&index.handle_, inserts, deletes, &handle_));
+    }
+    // Error BLINK_TAKEN says no key; blink_table_deal does.
+    Pass deal(const std::vector<Key> &keys, std::uint32_t inserts, std::uint32_t deletes) {
+        Pass pass;
+        Key taken = 0;
+        detail::check(blink_table_deal(&handle_, detail::place_of(keys), keys.size(), inserts, deletes, &pass.handle_, &taken));
+        return pass;
+    }
+    // Takes a pass back, which then is empty. Error BLINK_FOREIGN leaves it as it was.
+    void give_back(Pass &pass) {
+        detail::check(blink_table_return(&handle_, &pass.handle_));
+        blink_pass_free(pass.handle_.take());
+    }
+    // Gives the index of all entries, once each pass is given back. The table is given up either way.
+    Index close() {
+        Index index{Index::Empty()};
+        detail::check(blink_table_close(handle_.take(), &index.handle_));
+        return index;
+    }
+    blink_table *handle() noexcept { return &handle_; }
+
+private:
+    detail::Handle<blink_table, blink_table_free> handle_;
+};
+
+} // namespace blink
+
+#endif

@@ -1,0 +1,110 @@
+/*
+ * blink_tsan.h: what ThreadSanitizer has to be told of blink.h, which includes this where that sanitizer is on.
+ *
+ * The library isn't compiled with the sanitizer. So it doesn't see that who gets a pointer from a table or a map comes after who stored
+ * it. The functions below tell it: they release a place of the pointer before the call that stores it, and acquire that place after a call
+ * that gives it. There are 1,024 such places, by the pointer's bits; so in rare cases a race between two other records stays unseen. A call
+ * by a pointer to a function is not told.
+ */
+#ifndef BLINK_TSAN_H
+#define BLINK_TSAN_H
+
+#include "blink.h"
+
+#ifdef __cplusplus
+extern "C" {
+#endif
+
+void __tsan_acquire(void *place);
+void __tsan_release(void *place);
+
+/* One array in a program, however many of its files include this. */
+__attribute__((weak)) char blink_tsan_places[1024];
+
+typedef __typeof__(blink_index_compact((blink_index *)0)) blink_tsan_code;
+
+static inline char *blink_tsan_place(uint64_t pointer) { return &blink_tsan_places[pointer * 0x9E3779B97F4A7C15u >> 54]; }
+
+static inline blink_tsan_code blink_tsan_answered(blink_tsan_code code, const blink_answer *answer) {
+    if (code == BLINK_DONE) __tsan_acquire(blink_tsan_place(answer->pointer));
+    return code;
+}
+
+static inline void blink_tsan_read(const blink_entry *entries, uint64_t count) {
+    for (uint64_t i = 0; i < count; i++) __tsan_acquire(blink_tsan_place(entries[i].pointer));
+}
+
+/* A call that stores a pointer; one that stores it and answers; and one that answers. */
+#define BLINK_TSAN_BEGINS(name, parameters, arguments)                                                                                     \
+    static inline blink_tsan_code blink_tsan_##name parameters {                                                                           \
+        __tsan_release(blink_tsan_place(pointer));                                                                                         \
+        return blink_##name arguments;                                                                                                     \
+    }
+#define BLINK_TSAN_STORES(name, parameters, arguments)                                                                                     \
+    static inline blink_tsan_code blink_tsan_##name parameters {                                                                           \
+        __tsan_release(blink_tsan_place(pointer));                                                                                         \
+        return blink_tsan_answered(blink_##name arguments, answer);                                                                        \
+    }
+#define BLINK_TSAN_ANSWERS(name, parameters, arguments)                                                                                    \
+    static inline blink_tsan_code blink_tsan_##name parameters { return blink_tsan_answered(blink_##name arguments, answer); }
+#define BLINK_TSAN_RANGES(kind)                                                                                                            \
+    static inline blink_tsan_code blink_tsan_##kind##_scan(blink_##kind *it, uint64_t lo, uint64_t hi, blink_entry *entries,               \
+                                                           size_t places, blink_scanned *scanned) {                                        \
+        blink_tsan_code code = blink_##kind##_scan(it, lo, hi, entries, places, scanned);                                                  \
+        if (code == BLINK_DONE) blink_tsan_read(entries, scanned->filled);                                                                 \
+        return code;                                                                                                                       \
+    }                                                                                                                                      \
+    static inline blink_tsan_code blink_tsan_##kind##_snapshot(blink_##kind *it, uint64_t lo, uint64_t hi, uint32_t tries,                 \
+                                                               blink_entry *entries, size_t places, blink_taken *taken) {                  \
+        blink_tsan_code code = blink_##kind##_snapshot(it, lo, hi, tries, entries, places, taken);                                         \
+        if (code == BLINK_DONE) blink_tsan_read(entries, taken->there < places ? taken->there : places);                                   \
+        return code;                                                                                                                       \
+    }
+
+BLINK_TSAN_BEGINS(pass_begin_insert, (blink_pass *it, uint64_t key, uint64_t pointer), (it, key, pointer))
+BLINK_TSAN_BEGINS(pass_begin_replace, (blink_pass *it, uint64_t key, uint64_t pointer), (it, key, pointer))
+BLINK_TSAN_BEGINS(pass_begin_exchange, (blink_pass *it, uint64_t key, uint64_t expected, uint64_t pointer), (it, key, expected, pointer))
+BLINK_TSAN_ANSWERS(pass_advance, (blink_pass *it, uint32_t tries, blink_answer *answer), (it, tries, answer))
+BLINK_TSAN_ANSWERS(pass_find, (blink_pass *it, uint64_t key, blink_answer *answer), (it, key, answer))
+BLINK_TSAN_ANSWERS(pass_glance, (blink_pass *it, uint64_t key, blink_answer *answer), (it, key, answer))
+BLINK_TSAN_RANGES(pass)
+BLINK_TSAN_STORES(session_insert, (blink_session *it, uint64_t key, uint64_t pointer, uint32_t tries, blink_answer *answer),
+                  (it, key, pointer, tries, answer))
+BLINK_TSAN_STORES(session_replace, (blink_session *it, uint64_t key, uint64_t pointer, uint32_t tries, blink_answer *answer),
+                  (it, key, pointer, tries, answer))
+BLINK_TSAN_STORES(session_put, (blink_session *it, uint64_t key, uint64_t pointer, uint32_t tries, blink_answer *answer),
+                  (it, key, pointer, tries, answer))
+BLINK_TSAN_STORES(session_exchange,
+                  (blink_session *it, uint64_t key, uint64_t expected, uint64_t pointer, uint32_t tries, blink_answer *answer),
+                  (it, key, expected, pointer, tries, answer))
+BLINK_TSAN_ANSWERS(session_delete, (blink_session *it, uint64_t key, uint32_t tries, blink_answer *answer), (it, key, tries, answer))
+BLINK_TSAN_ANSWERS(session_delete_exact, (blink_session *it, uint64_t key, uint64_t expected, uint32_t tries, blink_answer *answer),
+                   (it, key, expected, tries, answer))
+BLINK_TSAN_ANSWERS(session_advance, (blink_session *it, uint32_t tries, blink_answer *answer), (it, tries, answer))
+BLINK_TSAN_ANSWERS(session_find, (blink_session *it, uint64_t key, blink_answer *answer), (it, key, answer))
+BLINK_TSAN_RANGES(session)
+
+#define blink_pass_begin_insert(...) blink_tsan_pass_begin_insert(__VA_ARGS__)
+#define blink_pass_begin_replace(...) blink_tsan_pass_begin_replace(__VA_ARGS__)
+#define blink_pass_begin_exchange(...) blink_tsan_pass_begin_exchange(__VA_ARGS__)
+#define blink_pass_advance(...) blink_tsan_pass_advance(__VA_ARGS__)
+#define blink_pass_find(...) blink_tsan_pass_find(__VA_ARGS__)
+#define blink_pass_glance(...) blink_tsan_pass_glance(__VA_ARGS__)
+#define blink_pass_scan(...) blink_tsan_pass_scan(__VA_ARGS__)
+#define blink_pass_snapshot(...) blink_tsan_pass_snapshot(__VA_ARGS__)
+#define blink_session_insert(...) blink_tsan_session_insert(__VA_ARGS__)
+#define blink_session_replace(...) blink_tsan_session_replace(__VA_ARGS__)
+#define blink_session_put(...) blink_tsan_session_put(__VA_ARGS__)
+#define blink_session_exchange(...) blink_tsan_session_exchange(__VA_ARGS__)
+#define blink_session_delete(...) blink_tsan_session_delete(__VA_ARGS__)
+#define blink_session_delete_exact(...) blink_tsan_session_delete_exact(__VA_ARGS__)
+#define blink_session_advance(...) blink_tsan_session_advance(__VA_ARGS__)
+#define blink_session_find(...) blink_tsan_session_find(__VA_ARGS__)
+#define blink_session_scan(...) blink_tsan_session_scan(__VA_ARGS__)
+#define blink_session_snapshot(...) blink_tsan_session_snapshot(__VA_ARGS__)
+
+#ifdef __cplusplus
+}
+#endif
+
+#endif

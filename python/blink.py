@@ -1,0 +1,606 @@
+"""blink.h for Python, by ctypes: an index, readers, a map and a table, whose keys and pointers are integers from 0 to 2**64 - 1.
+
+This file is the whole module; copy it beside your program, or name its folder by PYTHONPATH. It loads libblink.so.0, which ./libblink
+builds: from the folder that the environment names as BLINK_LIB_DIR, from `out` of the repository that the file stands in, or from where
+the system looks.
+
+What a call does, blink.h says of the function that has the call's name. A refusal raises Error. A change at a map or a table ends before
+its call does. An object has a lock, so that threads which use it at once wait for each other; so give each thread a session or a pass.
+An object that is closed raises ValueError.
+
+    index = blink.Index(entries=[(7, 70)])
+    map = blink.Map(index, pages=5_000, rows=20_000, sessions=2)
+    with map.join() as session:
+        session.put(8, 80)
+    index = map.close()
+    assert index.scan(0, 9) == [(7, 70), (8, 80)]
+"""
+
+import ctypes
+import itertools
+import os
+import pathlib
+import threading
+import time
+from collections import namedtuple
+
+# What a call returns that may be refused, as blink.h declares it.
+CODE = ctypes.c_int
+
+FIND, INSERT, DELETE, REPLACE = range(4)
+ABSENT, FOUND, INSERTED, EXISTS, REMOVED, REPLACED = range(6)
+
+#: The codes of blink.h, by their names without BLINK_.
+CODES = {
+    "DONE": 0, "TOO_MANY": 1, "WRONG_LENGTH": 3, "UNKNOWN_OPERATION": 11, "INDEX_TOO_LARGE": 32, "BAD_FAN": 40,
+    "NO_MEMORY": 41, "NOT_ASCENDING": 42, "SHARED": 43, "TAKEN": 51, "NO_ALLOWANCE": 52, "NOT_YOURS": 54, "SPENT": 55,
+    "MISSING": 56, "TABLE_TOO_LARGE": 57, "HAND_NOT_YOURS": 58, "FOREIGN": 63, "PENDING": 90, "IDLE": 91, "RETURNED": 92,
+    "MAP_TOO_LARGE": 101, "BAD_SESSIONS": 102, "NO_PLACE": 103, "LOST_UNDER_WAY": 104, "FULL": 105,
+    "SESSION_MISSING": 106, "ROWS_BUSY": 107, "MAP_CLOSED": 108,
+}
+_NAMES = {number: name for name, number in CODES.items()}
+
+#: What a call found or did: one of ABSENT to REPLACED, and the pointer, or 0 where the answer tells none.
+Answer = namedtuple("Answer", "kind pointer")
+#: What a session has of its map's page numbers and rows.
+Stock = namedtuple("Stock", "pages unwritten free taken_out waiting")
+
+# How many steps in vain an operation takes before its thread yields.
+_TRIES = 100
+
+
+class Error(Exception):
+    """A refusal: `code` is its number, and `name` the number's name in blink.h without BLINK_."""
+
+    def __init__(self, code):
+        self.code = code
+        self.name = _NAMES.get(code, "?")
+        super().__init__(f"libblink refused a call: {self.name} ({code})")
+
+
+def _struct(name, *fields):
+    return type(name, (ctypes.Structure,), {"_fields_": [(field, ctypes.c_uint64) for field in fields]})
+
+
+_Entry = _struct("blink_entry", "key", "pointer")
+_Operation = _struct("blink_operation", "kind", "key", "pointer")
+_Answer = _struct("blink_answer", "kind", "pointer")
+_Scanned = _struct("blink_scanned", "filled", "more", "next")
+_Taken = _struct("blink_taken", "taken", "there")
+_Stock = _struct("blink_stock", *Stock._fields)
+
+
+class _Handle(ctypes.Structure):
+    _fields_ = [("at", ctypes.c_void_p)]
+
+
+def _declared():
+    """Each function with its result and its parameters."""
+    u8, u32, u64, size, truth, handle = (
+        ctypes.c_uint8, ctypes.c_uint32, ctypes.c_uint64, ctypes.c_size_t, ctypes.c_bool, ctypes.POINTER(_Handle))
+    answer, entry, keys, sizes = map(ctypes.POINTER, (_Answer, _Entry, u64, size))
+    operations, scanned, taken, stock = map(ctypes.POINTER, (_Operation, _Scanned, _Taken, _Stock))
+    text = ctypes.POINTER(u8)
+    yield "blink_version", ctypes.c_char_p
+    for it in "index", "reader":
+        yield f"blink_{it}_find", truth, handle, u64, keys
+        yield f"blink_{it}_find_many", CODE, handle, keys, size, answer, size
+        yield f"blink_{it}_scan", size, handle, u64, u64, entry, size, sizes
+        yield f"blink_{it}_page", size, handle, u64, u64, entry, size, sizes
+        yield f"blink_{it}_first", truth, handle, entry
+        yield f"blink_{it}_last", truth, handle, entry
+        yield f"blink_{it}_next", truth, handle, u64, entry
+        yield f"blink_{it}_len", size, handle
+        yield f"blink_{it}_pages", u32, handle
+        yield f"blink_{it}_fan", u8, handle
+        yield f"blink_{it}_dump", CODE, handle, text, size, sizes
+    yield "blink_index_new", CODE, u8, handle
+    yield "blink_index_from_entries", CODE, u8, entry, size, handle
+    yield "blink_index_from_sorted", CODE, u8, entry, size, handle, sizes
+    yield "blink_index_copy", CODE, handle, handle
+    yield "blink_index_run", CODE, handle, operations, size, answer, size
+    yield "blink_index_insert", CODE, handle, u64, u64, answer
+    yield "blink_index_delete", None, handle, u64, answer
+    yield "blink_index_replace", None, handle, u64, u64, answer
+    yield "blink_index_exchange", None, handle, u64, u64, u64, answer
+    yield "blink_index_delete_exact", None, handle, u64, u64, answer
+    yield "blink_index_compact", CODE, handle
+    yield "blink_index_share", CODE, handle, handle
+    yield "blink_reader_join", CODE, handle, handle
+    yield "blink_reader_unshare", CODE, handle, handle
+    yield "blink_map_open_unnamed", CODE, handle, u32, u32, u32, handle, keys
+    yield "blink_map_name", None, handle, u64
+    yield "blink_map_join_alone", CODE, handle, handle
+    yield "blink_map_room_alone", None, handle, keys, keys
+    yield "blink_table_open_unnamed", CODE, handle, u32, u32, handle, keys
+    yield "blink_table_name", None, handle, u64
+    yield "blink_table_deal", CODE, handle, keys, size, u32, u32, handle, keys
+    yield "blink_table_return", CODE, handle, handle
+    yield "blink_map_close", CODE, handle, handle
+    yield "blink_table_close", CODE, _Handle, handle
+    for it in "session", "pass":
+        yield f"blink_{it}_find", CODE, handle, u64, answer
+        yield f"blink_{it}_scan", CODE, handle, u64, u64, entry, size, scanned
+        yield f"blink_{it}_snapshot", CODE, handle, u64, u64, u32, entry, size, taken
+        yield f"blink_{it}_tell", CODE, handle, handle
+        yield f"blink_{it}_advance", CODE, handle, u32, answer
+    for it in "insert", "replace", "delete_exact", "put":
+        yield f"blink_session_{it}", CODE, handle, u64, u64, u32, answer
+    yield "blink_session_delete", CODE, handle, u64, u32, answer
+    yield "blink_session_exchange", CODE, handle, u64, u64, u64, u32, answer
+    yield "blink_session_stock", CODE, handle, stock
+    yield "blink_pass_glance", CODE, handle, u64, answer
+    yield "blink_pass_hand", CODE, handle, handle, keys, size, keys
+    for it in "insert", "replace", "delete_exact":
+        yield f"blink_pass_begin_{it}", CODE, handle, u64, u64
+    yield "blink_pass_begin_delete", CODE, handle, u64
+    yield "blink_pass_begin_exchange", CODE, handle, u64, u64, u64
+    for it in "index", "reader", "map", "session", "table", "pass":
+        yield f"blink_{it}_free", None, _Handle
+
+
+def _load():
+    folders = [os.environ.get("BLINK_LIB_DIR"), pathlib.Path(__file__).resolve().parent.parent / "out"]
+    files = [os.path.join(folder, "libblink.so.0") for folder in folders if folder]
+    library = ctypes.CDLL(next((file for file in files if os.path.exists(file)), "libblink.so.0"))
+    for name, result, *parameters in _declared():
+        function = getattr(library, name)
+        function.restype, function.argtypes = result, parameters
+    return library
+
+
+_library = _load()
+
+
+def version():
+    """The version of the library."""
+    return _library.blink_version().decode()
+
+
+def _check(code):
+    if code != CODES["DONE"]:
+        raise Error(code)
+
+
+def _number(value, bits=64):
+    """The number itself, since ctypes would cut off what has no place."""
+    value = value.__index__()
+    if not 0 <= value < 1 << bits:
+        raise OverflowError(f"{value} is not from 0 to 2**{bits} - 1")
+    return value
+
+
+def _numbers_of(values):
+    values = [_number(value) for value in values]
+    return (ctypes.c_uint64 * len(values))(*values), len(values)
+
+
+def _entries_of(entries):
+    entries = [(_number(key), _number(pointer)) for key, pointer in entries]
+    return (_Entry * len(entries))(*entries), len(entries)
+
+
+def _pairs(entries, count):
+    return [(entry.key, entry.pointer) for entry in itertools.islice(entries, count)]
+
+
+class _Owner:
+    """What has a handle. `_kind` is the word of its functions."""
+
+    _kind = None
+    _free = None
+
+    def __init_subclass__(cls):
+        if cls._kind:
+            cls._free = getattr(_library, f"blink_{cls._kind}_free")
+
+    def __init__(self):
+        self._handle = _Handle()
+        self._lock = threading.RLock()
+
+    def _call(self, name, *values):
+        """Calls a function of the handle, which has to be full, while no other thread does."""
+        with self._lock:
+            self._is_open()
+            return getattr(_library, f"blink_{self._kind}_{name}")(self._handle, *values)
+
+    def _is_open(self):
+        if not self._handle.at:
+            raise ValueError(f"this {type(self).__name__} is closed")
+
+    def _take(self):
+        with self._lock:
+            self._is_open()
+            handle, self._handle = self._handle, _Handle()
+            return handle
+
+    def free(self):
+        """Frees it; a second time does nothing."""
+        with self._lock:
+            handle, self._handle = self._handle, _Handle()
+        if handle.at:
+            type(self)._free(handle)
+
+    def __del__(self):
+        if hasattr(self, "_lock"):
+            self.free()
+
+    def __enter__(self):
+        return self
+
+    def __exit__(self, *_):
+        self.free()
+
+    @classmethod
+    def _filled(cls, fill):
+        """An object whose handle `fill` fills."""
+        it = cls.__new__(cls)
+        _Owner.__init__(it)
+        _check(fill(it._handle))
+        return it
+
+
+class _Reads(_Owner):
+    def find(self, key):
+        """The pointer of the key, or None."""
+        pointer = ctypes.c_uint64()
+        return pointer.value if self._call("find", _number(key), pointer) else None
+
+    def find_many(self, keys):
+        """The answer of each key, FOUND or ABSENT."""
+        keys, count = _numbers_of(keys)
+        answers = (_Answer * count)()
+        _check(self._call("find_many", keys, count, answers, count))
+        return [Answer(it.kind, it.pointer) for it in answers]
+
+    def scan(self, lo, hi):
+        """The entries with keys from lo to hi, both included, as pairs."""
+        return self._part("scan", _number(lo), _number(hi))
+
+    def page(self, lo, n):
+        """The first n entries with keys from lo on, or all of these if they are fewer."""
+        return self._part("page", _number(lo), _number(n))
+
+    def _part(self, name, lo, hi):
+        fitted = ctypes.c_size_t()
+        with self._lock:
+            there = self._call(name, lo, hi, (_Entry * 0)(), 0, fitted)
+            entries = (_Entry * there)()
+            self._call(name, lo, hi, entries, there, fitted)
+        return _pairs(entries, fitted.value)
+
+    def _entry(self, name, *values):
+        entry = _Entry()
+        return (entry.key, entry.pointer) if self._call(name, *values, entry) else None
+
+    def first(self):
+        """The entry with the least key, or None."""
+        return self._entry("first")
+
+    def last(self):
+        """The entry with the greatest key, or None."""
+        return self._entry("last")
+
+    def next(self, key):
+        """The entry with the least key above this one, or None."""
+        return self._entry("next", _number(key))
+
+    def __len__(self):
+        return self._call("len")
+
+    def __contains__(self, key):
+        return self.find(key) is not None
+
+    def pages(self):
+        return self._call("pages")
+
+    def fan(self):
+        return self._call("fan")
+
+    def dump(self):
+        """The tree as text."""
+        size = ctypes.c_size_t()
+        with self._lock:
+            _check(self._call("dump", (ctypes.c_uint8 * 0)(), 0, size))
+            text = (ctypes.c_uint8 * size.value)()
+            _check(self._call("dump", text, size.value, size))
+        return bytes(text).decode()
+
+
+class Index(_Reads):
+    """A map from keys to record pointers. Entries are pairs, in any order; of two with one key the first stays."""
+
+    _kind = "index"
+
+    def __init__(self, fan=32, entries=()):
+        super().__init__()
+        entries, count = _entries_of(entries)
+        _check(_library.blink_index_from_entries(_number(fan, 8), entries, count, self._handle))
+
+    @classmethod
+    def from_sorted(cls, entries, fan=32):
+        """Of entries whose keys strictly ascend, in as few pages as these need. Error NOT_ASCENDING has the first bad place as `place`."""
+        entries, count = _entries_of(entries)
+        place = ctypes.c_size_t()
+        try:
+            return cls._filled(lambda out: _library.blink_index_from_sorted(_number(fan, 8), entries, count, out, place))
+        except Error as error:
+            if error.name == "NOT_ASCENDING":
+                error.place = place.value
+            raise
+
+    def copy(self):
+        return Index._filled(lambda out: self._call("copy", out))
+
+    def _changes(self, name, *values):
+        answer = _Answer()
+        _check(self._call(name, *map(_number, values), answer) or 0)
+        return Answer(answer.kind, answer.pointer)
+
+    def insert(self, key, pointer):
+        return self._changes("insert", key, pointer)
+
+    def remove(self, key):
+        return self._changes("delete", key)
+
+    def replace(self, key, pointer):
+        return self._changes("replace", key, pointer)
+
+    def exchange(self, key, expected, pointer):
+        return self._changes("exchange", key, expected, pointer)
+
+    def remove_exact(self, key, expected):
+        return self._changes("delete_exact", key, expected)
+
+    def run(self, operations):
+        """Runs operations, triples of a kind, a key and a pointer, on a copy, which then takes the index's place: all, or none."""
+        operations = [tuple(map(_number, it)) for it in operations]
+        count = len(operations)
+        answers = (_Answer * count)()
+        _check(self._call("run", (_Operation * count)(*operations), count, answers, count))
+        return [Answer(it.kind, it.pointer) for it in answers]
+
+    def compact(self):
+        """Packs the entries into as few pages as they need."""
+        _check(self._call("compact"))
+
+    def share(self):
+        """Gives a reader; this object is closed then."""
+        return Reader._filled(lambda out: self._call("share", out))
+
+
+class Reader(_Reads):
+    """Reads an index that other threads read at the same time, each by a reader of its own, which `join` gives."""
+
+    _kind = "reader"
+
+    def __init__(self):
+        raise TypeError("Index.share and Reader.join give readers")
+
+    def join(self):
+        return Reader._filled(lambda out: self._call("join", out))
+
+    def unshare(self):
+        """Gives the index back; this object is closed then. Error SHARED, if another reader has the index, leaves it as it was."""
+        return Index._filled(lambda out: self._call("unshare", out))
+
+
+class _Ranges(_Owner):
+    """What sessions and passes have in common. Callers hold the lock throughout, so that nothing comes between two steps."""
+
+    def _found(self, name, key):
+        answer = _Answer()
+        _check(self._call(name, _number(key), answer))
+        return answer.pointer if answer.kind == FOUND else None
+
+    def find(self, key):
+        """The pointer of the key, or None."""
+        return self._found("find", key)
+
+    def scan(self, lo, hi):
+        """The entries with keys from lo to hi, both included, as pairs, while others change them."""
+        found, part, end = [], (_Entry * 256)(), _Scanned(0, 1, _number(lo))
+        hi = _number(hi)
+        with self._lock:
+            while end.more:
+                _check(self._call("scan", end.next, hi, part, len(part), end))
+                found += _pairs(part, end.filled)
+        return found
+
+    def snapshot(self, lo, hi, tries=100):
+        """The same as they all were at one time; None where others changed the range at each try."""
+        places, lo, hi, tries = 256, _number(lo), _number(hi), _number(tries, 32)
+        while True:
+            entries, taken = (_Entry * places)(), _Taken()
+            _check(self._call("snapshot", lo, hi, tries, entries, places, taken))
+            if not taken.taken:
+                return None
+            if taken.there <= places:
+                return _pairs(entries, taken.there)
+            places = taken.there
+
+    def tell(self, other):
+        """Tells the other one what this one has seen."""
+        if type(other) is not type(self) or other is self:
+            raise TypeError(f"another {type(self).__name__} is told")
+        # Of two locks the one with the lower address comes first, wherever two tell each other at once.
+        first, second = sorted((self, other), key=id)
+        with first._lock, second._lock:
+            other._is_open()
+            _check(self._call("tell", other._handle))
+
+    def _ends(self, begin, code):
+        """Goes on until the operation has ended. `begin` begins it again where rows are on their way back."""
+        answer = _Answer()
+        with self._lock:
+            while True:
+                code = begin(answer) if code is None else self._call("advance", _TRIES, answer)
+                if code == CODES["PENDING"]:
+                    time.sleep(0)
+                elif code == CODES["ROWS_BUSY"]:
+                    code = None
+                    time.sleep(0)
+                else:
+                    _check(code)
+                    return Answer(answer.kind, answer.pointer)
+
+
+class Session(_Ranges):
+    """The right to read and change a map, for a thread. `Map.join` gives it; its place is free again once it is freed."""
+
+    _kind = "session"
+
+    def __init__(self):
+        raise TypeError("Map.join gives sessions")
+
+    def _changes(self, name, *values):
+        values = [_number(value) for value in values]
+        return self._ends(lambda answer: self._call(name, *values, _TRIES, answer), None)
+
+    def insert(self, key, pointer):
+        return self._changes("insert", key, pointer)
+
+    def remove(self, key):
+        return self._changes("delete", key)
+
+    def replace(self, key, pointer):
+        return self._changes("replace", key, pointer)
+
+    def exchange(self, key, expected, pointer):
+        return self._changes("exchange", key, expected, pointer)
+
+    def remove_exact(self, key, expected):
+        return self._changes("delete_exact", key, expected)
+
+    def put(self, key, pointer):
+        """Maps the key to the pointer, and returns the pointer that was there, or None."""
+        answer = self._changes("put", key, pointer)
+        return answer.pointer if answer.kind == REPLACED else None
+
+    def stock(self):
+        stock = _Stock()
+        _check(self._call("stock", stock))
+        return Stock(*(getattr(stock, field) for field in Stock._fields))
+
+
+class Map(_Owner):
+    """The entries of an index, which threads change together, each by a session. Room is given by pages, rows and sessions."""
+
+    _kind = "map"
+
+    def __init__(self, index, pages, rows, sessions):
+        super().__init__()
+        room = [_number(it, 32) for it in (pages, rows, sessions)]
+        _opens(index, "blink_map", *room, self._handle)
+
+    def join(self):
+        return Session._filled(lambda out: self._call("join_alone", out))
+
+    def room(self):
+        """What the pool has left: page numbers, and rows."""
+        rows, pages = ctypes.c_uint64(), ctypes.c_uint64()
+        self._call("room_alone", rows, pages)
+        return pages.value, rows.value
+
+    def close(self):
+        """Gives the index of all entries, once each session is freed. A refused close loses nothing, and may be called again."""
+        index = Index._filled(lambda out: self._call("close", out))
+        self.free()
+        return index
+
+
+class Pass(_Ranges):
+    """The right to change some keys of a table, and to look at all, for a thread. `Table.deal` gives it."""
+
+    _kind = "pass"
+
+    def __init__(self):
+        raise TypeError("Table.deal gives passes")
+
+    def glance(self, key):
+        """The pointer of any key, or None, after the changes that the pass has seen."""
+        return self._found("glance", key)
+
+    def _changes(self, name, *values):
+        with self._lock:
+            code = self._call(f"begin_{name}", *map(_number, values))
+            _check(code)
+            return self._ends(None, code)
+
+    def insert(self, key, pointer):
+        return self._changes("insert", key, pointer)
+
+    def remove(self, key):
+        return self._changes("delete", key)
+
+    def replace(self, key, pointer):
+        return self._changes("replace", key, pointer)
+
+    def exchange(self, key, expected, pointer):
+        return self._changes("exchange", key, expected, pointer)
+
+    def remove_exact(self, key, expected):
+        return self._changes("delete_exact", key, expected)
+
+    def hand(self, other, keys):
+        """Hands keys to the other pass. Error HAND_NOT_YOURS has the first bad key as `key`."""
+        if type(other) is not Pass or other is self:
+            raise TypeError("keys are handed to another Pass")
+        keys, count = _numbers_of(keys)
+        bad = ctypes.c_uint64()
+        first, second = sorted((self, other), key=id)
+        try:
+            with first._lock, second._lock:
+                other._is_open()
+                _check(self._call("hand", other._handle, keys, count, bad))
+        except Error as error:
+            if error.name == "HAND_NOT_YOURS":
+                error.key = bad.value
+            raise
+
+
+class Table(_Owner):
+    """The entries of an index, which threads change together, each the keys of its pass."""
+
+    _kind = "table"
+
+    def __init__(self, index, inserts, deletes):
+        super().__init__()
+        _opens(index, "blink_table", _number(inserts, 32), _number(deletes, 32), self._handle)
+
+    def deal(self, keys, inserts, deletes):
+        """Gives a pass with these keys, and room for so many changes. Error TAKEN has the first bad key as `key`."""
+        keys, count = _numbers_of(keys)
+        inserts, deletes, bad = _number(inserts, 32), _number(deletes, 32), ctypes.c_uint64()
+        try:
+            return Pass._filled(lambda out: self._call("deal", keys, count, inserts, deletes, out, bad))
+        except Error as error:
+            if error.name == "TAKEN":
+                error.key = bad.value
+            raise
+
+    def give_back(self, one):
+        """Takes a pass back, which is closed then. Error FOREIGN leaves it as it was."""
+        if type(one) is not Pass:
+            raise TypeError("a Pass is given back")
+        with one._lock:
+            one._is_open()
+            _check(self._call("return", one._handle))
+            one.free()
+
+    def close(self):
+        """Gives the index of all entries, once each pass is given back. The table is given up either way."""
+        handle = self._take()
+        return Index._filled(lambda out: _library.blink_table_close(handle, out))
+
+
+def _opens(index, kind, *values):
+    """Opens a map or a table, and names it by its place in memory, where no other lies while it lives."""
+    *_room, out = values
+    place = ctypes.c_uint64()
+    if type(index) is not Index:
+        raise TypeError("it is opened over an Index")
+    with index._lock:
+        index._is_open()
+        _check(getattr(_library, f"{kind}_open_unnamed")(index._handle, *values, place))
+    getattr(_library, f"{kind}_name")(out, place)
