@@ -10,6 +10,7 @@
 //! beside small           runs a little of every workload, to see that the answers are right, and prints nothing
 //! beside planted         the same with one wrong sum, which it has to find
 //! beside turns           measures finds, changes and scans by turns: of sessions beside those of passes, and scans beside a BTreeMap's
+//! beside changes         times each kind of call once, for bench/changes.sh, which compares two libraries
 //! beside life            measures the life of a map: joining, opening, and what an insertion uses up
 //! beside soak FAN CHANGES
 //!                        changes a map by eight threads so many times, looks everything up, and tells time and memory
@@ -114,6 +115,10 @@ fn main() -> Result<(), Box<dyn Error>> {
         }
         ["turns"] => {
             turns::turns();
+            Ok(())
+        }
+        ["changes"] => {
+            turns::changes();
             Ok(())
         }
         ["soak", fan, changes] => Ok(soak::soak(fan.parse()?, changes.parse()?)?),

@@ -1,6 +1,6 @@
-//! A plot of nanoseconds an operation by threads, as SVG: two panels with one line a side.
+//! A plot of nanoseconds an operation by threads, as SVG: panels with one line a side.
 
-use crate::plan::{FIND, MIXED_80};
+use crate::plan::{FIND, MIXED_80, REPLACE};
 use crate::report::{Report, Spread};
 use std::fmt::Write;
 
@@ -99,7 +99,7 @@ fn steps() -> Vec<f64> {
 
 fn frame(text: &mut String, title: &str, scale: &Scale) {
     _ = writeln!(text, r##"<text x="{LEFT}" y="28" font-size="15" font-weight="bold">{title}</text>"##);
-    let unit = format!("nanoseconds an operation, all threads together; {ENTRIES} entries; less is better");
+    let unit = format!("nanoseconds an operation of all threads, log scales; {ENTRIES} entries; less is better");
     _ = writeln!(text, r##"<text x="{LEFT}" y="47" font-size="11" fill="#555">{unit}</text>"##);
     for step in steps().into_iter().filter(|step| *step >= scale.least && *step <= scale.greatest) {
         let y = scale.y(step);
@@ -153,21 +153,26 @@ fn panel(text: &mut String, title: &str, curves: &[Curve]) {
         let (from, to, below) = (RIGHT + 5.0, RIGHT + 16.0, place + 4.0);
         _ = writeln!(text, r##"<line x1="{from}" y1="{end:.1}" x2="{to}" y2="{place:.1}" stroke="{colour}"/>"##);
         let (name, x) = (label(curve.name), RIGHT + 19.0);
-        let weight = if curve.name.starts_with("table") { "bold" } else { "normal" };
+        let is_ours = curve.name.starts_with("map") || curve.name.starts_with("table");
+        let weight = if is_ours { "bold" } else { "normal" };
         _ = writeln!(text, r##"<text x="{x}" y="{below:.1}" fill="{colour}" font-weight="{weight}">{name}</text>"##);
     }
 }
 
-/// The plot of finds, and of 80 finds, 10 insertions and 10 deletions, on 40,000 entries.
+// The panels: what the map wins, and what it loses.
+const PANELS: [(&str, &str); 3] =
+    [("A find", FIND), ("Of a hundred, 80 finds, 10 insertions and 10 deletions", MIXED_80), ("A replacement", REPLACE)];
+
+/// The plot of finds, of 80 finds, 10 insertions and 10 deletions, and of replacements, on 40,000 entries.
 pub fn svg(report: &Report) -> String {
     let mut text = String::new();
-    let width = 2.0 * WIDTH;
+    let width = PANELS.len() as f64 * WIDTH;
     _ = writeln!(
         text,
         r##"<svg xmlns="http://www.w3.org/2000/svg" viewBox="0 0 {width} {HEIGHT}" width="{width}" height="{HEIGHT}" font-family="Helvetica, Arial, sans-serif" font-size="12">"##
     );
     _ = writeln!(text, r##"<rect width="{width}" height="{HEIGHT}" fill="#ffffff"/>"##);
-    for (place, (title, workload)) in [("A find", FIND), ("Of a hundred, 80 finds, 10 insertions and 10 deletions", MIXED_80)].iter().enumerate() {
+    for (place, (title, workload)) in PANELS.iter().enumerate() {
         _ = writeln!(text, r##"<g transform="translate({:.0} 0)">"##, place as f64 * WIDTH);
         panel(&mut text, title, &curves(report, workload));
         text.push_str("</g>\n");

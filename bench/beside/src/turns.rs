@@ -177,3 +177,62 @@ pub fn turns() {
     marks(&index, &keys);
     scanning(&index, &keys);
 }
+
+// A hundred calls in ten: eight finds of a key that is there, an insertion of one that isn't, and its deletion.
+fn mixed(session: &mut Session, keys: &[u64], thread: u64, count: usize) {
+    let mut random = Random(thread + 7);
+    for _ in 0..count / 10 {
+        for _ in 0..8 {
+            assert!(session.get(keys[random.below(keys.len())]).is_some());
+        }
+        // the keys that are there have 63 bits
+        let absent = random.word() | 1 << 63;
+        session.insert(absent, absent).expect("room");
+        session.remove(absent).expect("room");
+    }
+}
+
+/// Times, once each, what a map's sessions do. Two libraries are compared by two programs, which `bench/changes.sh` runs by turns.
+pub fn changes() {
+    let keys = Keys::random(40_000, 0).present;
+    let mut index = Index::new(32).expect("an index");
+    keys.iter().for_each(|&key| _ = index.insert(key, !key).expect("memory"));
+    for threads in [1, THREADS] {
+        let sessions_of = |map| sessions(map, threads);
+        let room = |pages| Room { pages, rows: 2 * pages + 4_096 * threads as u32, sessions: threads as u32 };
+        let own = |thread: u64| keys.iter().skip(thread as usize).step_by(threads).copied();
+        let map = Map::open(&index, room(20_000)).expect("a map");
+        let find = timed(sessions_of(&map), CALLS, |mut session, thread| {
+            let mut random = Random(thread);
+            (0..CALLS / threads).for_each(|_| assert!(session.get(keys[random.below(keys.len())]).is_some()));
+        });
+        println!("a find, {threads} threads\t{find:.1}");
+        // each key five times
+        let replacement = timed(sessions_of(&map), 5 * keys.len(), |mut session, thread| {
+            (0..5).for_each(|turn| own(thread).for_each(|key| _ = session.replace(key, key ^ turn).expect("rows")));
+        });
+        println!("a replacement, {threads} threads\t{replacement:.1}");
+        let mix = timed(sessions_of(&map), CALLS, |mut session, thread| mixed(&mut session, &keys, thread, CALLS / threads));
+        println!("80 finds, 10 insertions, 10 deletions, {threads} threads\t{mix:.1}");
+        let mut sorted = keys.clone();
+        sorted.sort_unstable();
+        let scan = timed(sessions_of(&map), SCANS * LENGTH, |mut session, thread| {
+            scans(&sorted, thread, SCANS / threads, |from| sum(session.range(from..)));
+        });
+        println!("a scan of 1,000 entries, an entry, {threads} threads\t{scan:.2}");
+        let empty = Map::open(&Index::new(32).expect("an index"), room(20_000)).expect("a map");
+        let insertion = timed(sessions_of(&empty), keys.len(), |mut session, thread| {
+            own(thread).for_each(|key| _ = session.insert(key, !key).expect("room"));
+        });
+        println!("an insertion into an empty map, {threads} threads\t{insertion:.1}");
+    }
+    let mut batch = Index::new(32).expect("an index");
+    let start = Instant::now();
+    keys.iter().for_each(|&key| _ = batch.insert(key, !key).expect("memory"));
+    println!("an insertion into an index\t{:.1}", start.elapsed().as_nanos() as f64 / keys.len() as f64);
+    let mut table = Table::open(&index, 0, keys.len() as u32).expect("a table");
+    let mut pass = table.deal(&keys, 0, keys.len() as u32).expect("a pass");
+    let start = Instant::now();
+    keys.iter().for_each(|&key| _ = pass.replace(key, key).expect("rows"));
+    println!("a replacement by a pass\t{:.1}", start.elapsed().as_nanos() as f64 / keys.len() as f64);
+}
