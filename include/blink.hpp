@@ -381,8 +381,8 @@ public:
         blink_map_room(&handle_, &left.rows, &left.pages);
         return left;
     }
-    // Gives the index of all entries, once each session and each other object of the map is destroyed. A refused close loses nothing, and may
-    // be called again.
+    // Gives the index of all entries, once each session and each other object of the map is destroyed. A refused close may be called
+    // again, and has lost nothing; but after one that is refused for memory the map may be gone.
     Index close() {
         Index index{Index::Empty()};
         detail::check(blink_map_close(&handle_, &index.handle_));

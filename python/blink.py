@@ -240,6 +240,25 @@ class _Owner:
         return it
 
 
+class _Updates:
+    """The changes of an index, a session and a pass, each by its `_changes`."""
+
+    def insert(self, key, pointer):
+        return self._changes("insert", key, pointer)
+
+    def remove(self, key):
+        return self._changes("delete", key)
+
+    def replace(self, key, pointer):
+        return self._changes("replace", key, pointer)
+
+    def exchange(self, key, expected, pointer):
+        return self._changes("exchange", key, expected, pointer)
+
+    def remove_exact(self, key, expected):
+        return self._changes("delete_exact", key, expected)
+
+
 class _Reads(_Owner):
     def find(self, key):
         """The pointer of the key, or None."""
@@ -307,7 +326,7 @@ class _Reads(_Owner):
         return bytes(text).decode()
 
 
-class Index(_Reads):
+class Index(_Reads, _Updates):
     """A map from keys to record pointers. Entries are pairs, in any order; of two with one key the first stays."""
 
     _kind = "index"
@@ -336,21 +355,6 @@ class Index(_Reads):
         answer = _Answer()
         _check(self._call(name, *map(_number, values), answer) or 0)
         return Answer(answer.kind, answer.pointer)
-
-    def insert(self, key, pointer):
-        return self._changes("insert", key, pointer)
-
-    def remove(self, key):
-        return self._changes("delete", key)
-
-    def replace(self, key, pointer):
-        return self._changes("replace", key, pointer)
-
-    def exchange(self, key, expected, pointer):
-        return self._changes("exchange", key, expected, pointer)
-
-    def remove_exact(self, key, expected):
-        return self._changes("delete_exact", key, expected)
 
     def run(self, operations):
         """Runs operations, triples of a kind, a key and a pointer, on a copy, which then takes the index's place: all, or none."""
@@ -445,7 +449,7 @@ class _Ranges(_Owner):
                     return Answer(answer.kind, answer.pointer)
 
 
-class Session(_Ranges):
+class Session(_Ranges, _Updates):
     """The right to read and change a map, for a thread. `Map.join` gives it; its place is free again once it is freed."""
 
     _kind = "session"
@@ -456,21 +460,6 @@ class Session(_Ranges):
     def _changes(self, name, *values):
         values = [_number(value) for value in values]
         return self._ends(lambda answer: self._call(name, *values, _TRIES, answer), None)
-
-    def insert(self, key, pointer):
-        return self._changes("insert", key, pointer)
-
-    def remove(self, key):
-        return self._changes("delete", key)
-
-    def replace(self, key, pointer):
-        return self._changes("replace", key, pointer)
-
-    def exchange(self, key, expected, pointer):
-        return self._changes("exchange", key, expected, pointer)
-
-    def remove_exact(self, key, expected):
-        return self._changes("delete_exact", key, expected)
 
     def put(self, key, pointer):
         """Maps the key to the pointer, and returns the pointer that was there, or None."""
@@ -503,13 +492,14 @@ class Map(_Owner):
         return pages.value, rows.value
 
     def close(self):
-        """Gives the index of all entries, once each session is freed. A refused close loses nothing, and may be called again."""
+        """Gives the index of all entries, once each session is freed. A refused close may be called again, and has lost
+        nothing; but after one that is refused for memory the map may be gone."""
         index = Index._filled(lambda out: self._call("close", out))
         self.free()
         return index
 
 
-class Pass(_Ranges):
+class Pass(_Ranges, _Updates):
     """The right to change some keys of a table, and to look at all, for a thread. `Table.deal` gives it."""
 
     _kind = "pass"
@@ -526,21 +516,6 @@ class Pass(_Ranges):
             code = self._call(f"begin_{name}", *map(_number, values))
             _check(code)
             return self._ends(None, code)
-
-    def insert(self, key, pointer):
-        return self._changes("insert", key, pointer)
-
-    def remove(self, key):
-        return self._changes("delete", key)
-
-    def replace(self, key, pointer):
-        return self._changes("replace", key, pointer)
-
-    def exchange(self, key, expected, pointer):
-        return self._changes("exchange", key, expected, pointer)
-
-    def remove_exact(self, key, expected):
-        return self._changes("delete_exact", key, expected)
 
     def hand(self, other, keys):
         """Hands keys to the other pass. Error HAND_NOT_YOURS has the first bad key as `key`."""
