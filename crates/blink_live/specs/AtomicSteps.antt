@@ -164,7 +164,7 @@ looks_around st me row then = LooksAround me then
 
 pub record LoadsWord (word : ℕ) (me : SeatState) (found : ℕ) (then : SeatState) : Type 0 where
   pub same : then ≡ me
-  pub is_its : (row i : ℕ) (content : List ℕ) → me.0.reads ≡ Some (row, content) → i < ROW_WORDS → word ≡ row_start me.0.plan.counts row + i → found ≡ slice_index content i
+  pub is_its : (row i : ℕ) (content : List ℕ) → me.0.reads ≡ Some (row, content) → i < ROW_WORDS → i < length content → word ≡ row_start me.0.plan.counts row + i → found ≡ slice_index content i
 
 abbrev pub loads_word : Step ℕ → SeatState → ℕ → SeatState → Type 0
 loads_word st = LoadsWord st.word

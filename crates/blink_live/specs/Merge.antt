@@ -10,7 +10,7 @@ use Rattle.blink_live.specs.declared.live.Live.{Live}
 use Rattle.blink_live.specs.declared.live.Pass.{Pass}
 use Rattle.blink_live.specs.declared.view.Share.{Share}
 use Rattle.blink_live.specs.Handles.{known_entries, keys_of, share_of, taken_of}
-use Rattle.blink_live.specs.Words.{IsRowNumber, RowIs, KeepsPages}
+use Rattle.blink_live.specs.Words.{IsRowNumber, RowBegins, KeepsPages}
 
 -- ---- the merge
 
@@ -30,7 +30,7 @@ shares_of passes = map (λ (pass : Pass). pass.seat.me.0.share) passes
 -- page word 0 names a row of this prime block
 pub record KeepsPrime (counts : PlainCounts) (words leftmost : List ℕ) : Type 0 where
   pub row_in_range : IsRowNumber counts (slice_index words 0)
-  pub row_is : RowIs counts words (slice_index words 0) (prime_words leftmost)
+  pub row_begins : RowBegins counts words (slice_index words 0) (prime_words leftmost)
   pub lawful : IsLawfulPrime leftmost
 
 -- the words hold a tree at rest with these entries

@@ -25,7 +25,7 @@ use Rattle.blink_live.specs.Accounts.{AreAccounts}
 use Rattle.blink_live.specs.Looks.{HasLooked}
 use Rattle.blink_live.specs.Reuse.{IsReuseSafe}
 use Rattle.blink_live.specs.Views.{IsCommon, IsOwned, latch_number_by, span}
-use Rattle.blink_live.specs.Words.{word_count, place_word, pool_page, pool_row, IsRowNumber, RowBegins, RowIs}
+use Rattle.blink_live.specs.Words.{word_count, place_word, pool_page, pool_row, IsRowNumber, RowBegins}
 
 -- ---- owners: 0 for nobody, and else a seat's number plus 1
 
@@ -47,10 +47,10 @@ IsPublished plan owners row = IsRowNumber plan.counts row × (owners.row row ≡
 
 -- ---- page words and latch words
 
--- the page word is 0 if the page doesn't exist; else it names a published row, which holds the page
+-- the page word is 0 if the page doesn't exist; else it names a published row, which begins with the page's words
 abbrev pub PageWordIs : Plan → Owners → List ℕ → ℕ → Option PlainPage → Type 0
 PageWordIs plan owners words word None = word ≡ 0
-PageWordIs plan owners words word (Some page) = IsPublished plan owners word × RowIs plan.counts words word (page_words page)
+PageWordIs plan owners words word (Some page) = IsPublished plan owners word × RowBegins plan.counts words word (page_words page)
 
 -- 0, or the latch number of the seat that holds the latch
 abbrev pub latch_word : Owners → Option ℕ → ℕ
@@ -59,10 +59,10 @@ latch_word owners (Some seat) = owners.latch_number seat
 
 -- ---- what a seat knows
 
--- the row that the seat reads is published, and has these words
+-- the row that the seat reads is published, and begins with these words
 abbrev pub ReadsRow : Plan → Owners → List ℕ → Option (ℕ × List ℕ) → Type 0
 ReadsRow plan owners words None = ⊤
-ReadsRow plan owners words (Some (row, content)) = IsPublished plan owners row × RowIs plan.counts words row content
+ReadsRow plan owners words (Some (row, content)) = IsPublished plan owners row × RowBegins plan.counts words row content
 
 -- and so are the rows that it has noted
 abbrev pub Reads : Plan → Owners → List ℕ → TreeState → View → Type 0
@@ -186,7 +186,7 @@ pub record IsTableAt (plan : Plan) (s : State ℕ View) (tree_state : TreeState)
   -- the words
   pub bounded : AreBounded plan.counts
   pub width : length s.words ≡ word_count plan.counts + 8 * plan.places
-  pub prime : IsPublished plan owners (slice_index s.words 0) × RowIs plan.counts s.words (slice_index s.words 0) (prime_words tree_state.prime)
+  pub prime : IsPublished plan owners (slice_index s.words 0) × RowBegins plan.counts s.words (slice_index s.words 0) (prime_words tree_state.prime)
   pub pages : (number : ℕ) → 1 ≤ number → number < plan.counts.numbers → PageWordIs plan owners s.words (slice_index s.words number) (tree_state.pages number)
   pub no_other_page : (number : ℕ) → plan.counts.numbers ≤ number → tree_state.pages number ≡ None
   pub latches : (number : ℕ) → number < plan.counts.numbers → slice_index s.words (plan.counts.numbers + number) ≡ latch_word owners (tree_state.holder number)

@@ -44,6 +44,11 @@ RowIs counts words row content = (i : ℕ) → i < ROW_WORDS → slice_index wor
 abbrev pub RowBegins : PlainCounts → List ℕ → ℕ → List ℕ → Type 0
 RowBegins counts words row content = (i : ℕ) → i < ROW_WORDS → i < length content → slice_index words (row_start counts row + i) ≡ slice_index content i
 
+-- these words begin with those
+pub record BeginWith (words content : List ℕ) : Type 0 where
+  pub all : length content ≤ length words
+  pub filled : (i : ℕ) → i < length content → slice_index words i ≡ slice_index content i
+
 -- the words before `from`, and those from `to` on, are as they were
 abbrev pub IsSameOutside : ℕ → ℕ → List ℕ → List ℕ → Type 0
 IsSameOutside from to old new = (n : ℕ) → (n < from) ⊎ (to ≤ n) → slice_index new n ≡ slice_index old n
@@ -52,7 +57,7 @@ IsSameOutside from to old new = (n : ℕ) → (n < from) ⊎ (to ≤ n) → slic
 pub record KeepsPage (counts : PlainCounts) (words : List ℕ) (number : ℕ) (page : PlainPage) : Type 0 where
   pub number_in_range : (1 ≤ number) × (number < counts.numbers)
   pub row_in_range : IsRowNumber counts (slice_index words number)
-  pub row_is : RowIs counts words (slice_index words number) (page_words page)
+  pub row_begins : RowBegins counts words (slice_index words number) (page_words page)
 
 -- the words hold each of these pages
 abbrev pub KeepsPages : PlainCounts → List ℕ → Pages → Type 0

@@ -24,7 +24,8 @@ use atomic_table::{Closed, Seat};
 use blink_index::Index;
 use blink_page::{MAX_PAGE, Page, Prime};
 use blink_rest::Rest;
-use blink_rows::{Counts, ROW_WORDS, row_page, row_prime};
+use blink_rows::layout::{COUNT, ENTRY_WORDS};
+use blink_rows::{Counts, HEAD_WORDS, ROW_WORDS, row_page, row_prime};
 use blink_store::{Store, StoreError};
 use std::alloc::{AllocError, Global};
 use std::marker::Brand;
@@ -139,7 +140,9 @@ fn prime_at(closed: &Closed<u8, Global>, counts: &Counts) -> Prime
         → result ≡ leftmost }
 {
     let row = closed.word(0);
-    let words = row_words(closed, counts.row_start(row) as usize);
+    let start = counts.row_start(row) as usize;
+    let levels = closed.word(start + COUNT) as usize;
+    let words = row_words(closed, start, HEAD_WORDS + levels);
     let Some(prime) = row_prime(&words) else {
         unreachable!()
     };
@@ -261,7 +264,9 @@ fn page_at(closed: &Closed<u8, Global>, counts: &Counts, number: u32) -> Page
     ensures { IsPageAt counts.now (slots_items closed.now.words) number result }
 {
     let row = closed.word(number as usize);
-    let words = row_words(closed, counts.row_start(row) as usize);
+    let start = counts.row_start(row) as usize;
+    let count = closed.word(start + COUNT) as usize;
+    let words = row_words(closed, start, HEAD_WORDS + ENTRY_WORDS * count);
     match row_page(&words) {
         Some(page) => {
             // Read for the proof: a page is lawful.
@@ -272,16 +277,18 @@ fn page_at(closed: &Closed<u8, Global>, counts: &Counts, number: u32) -> Page
     }
 }
 
-// The words of the row that begins at `start`.
-fn row_words(closed: &Closed<u8, Global>, start: usize) -> [u64; ROW_WORDS]
+// The first `count` words of the row that begins at `start`. What stands behind them in the row is of no page, and 0 here.
+fn row_words(closed: &Closed<u8, Global>, start: usize, count: usize) -> [u64; ROW_WORDS]
     requires full { IsFull closed.now.words }
     requires inside { start + ROW_WORDS ≤ slots_len closed.now.words }
+    requires fits { count ≤ ROW_WORDS }
     ensures width { length result ≡ ROW_WORDS }
-    ensures words { (i : ℕ) → i < ROW_WORDS
+    ensures words { (i : ℕ) → i < count
         → slice_index result i ≡ slice_index (slots_items closed.now.words) (start + i) }
+    ensures rest { (i : ℕ) → count ≤ i → slice_index result i ≡ 0 }
 {
     let mut words = [0; ROW_WORDS];
-    for i in 0..ROW_WORDS {
+    for i in 0..count {
         words[i] = closed.word(start + i);
     }
     words

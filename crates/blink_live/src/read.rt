@@ -213,6 +213,7 @@ impl Live {
         ensures same { IsSameSeat seat.old seat.new }
         ensures word { (row : ℕ) (content : List ℕ) → start ≡ row_start self.now.counts row
             → seat.old.me.0.reads ≡ Some (row, content)
+            → place < length content
             → result ≡ slice_index content place }
     {
         // Called for the proof: a place in the table is a `usize`.
@@ -298,6 +299,7 @@ impl Live {
             → seat.old.me.0.reads ≡ Some (row, content)
             → (n : ℕ) → from ≤ n
             → n < to
+            → n < length content
             → slice_index words.new n ≡ slice_index content n }
         ensures others { IsSameOutside from to words.old words.new }
     {

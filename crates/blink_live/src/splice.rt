@@ -4,7 +4,7 @@ ghost use Rattle.std.specs.Prelude.{◌≡◌, ◌≢◌, ℕ, ◌+◌, ◌-◌,
 ghost use Rattle.atomic_table.specs.declared.Seat.{Seat};
 ghost use Rattle.blink_page.specs.{PlainPage};
 ghost use Rattle.blink_page.specs.declared.limits.TheConstants.{MAX_FAN};
-ghost use Rattle.blink_rows.specs.{page_words, IsPageRow};
+ghost use Rattle.blink_rows.specs.{page_words};
 ghost use Rattle.blink_rows.specs.declared.limits.TheConstants.{ROW_WORDS, HEAD_WORDS};
 ghost use Rattle.blink_machine.specs.declared.machine.State.TheVariants.{Change};
 ghost use Rattle.blink_machine.specs.{PlainMachine, NeedsWrite, page_out};
@@ -58,7 +58,7 @@ impl Live {
             → IsStaging self.now row spot.now.row 0 page next seat.old seat.old
             → IsSplice spot.now.place splice.now page next
             → spot.now.count ≡ length page.entries
-            → IsStaging self.now row spot.now.row ROW_WORDS page next seat.old seat.new }
+            → IsStaging self.now row spot.now.row (length (page_words next)) page next seat.old seat.new }
     {
         let count = count_after(spot.count, splice);
         let at = HEAD_WORDS + ENTRY_WORDS * spot.place;
@@ -75,7 +75,6 @@ impl Live {
             stop,
             at + ENTRY_WORDS * splice.gone,
         );
-        self.stage_zeros(seat, row, stop);
     }
 
     // Stores the words of the entry that comes, if one comes, and returns where the words behind it begin.
@@ -110,34 +109,20 @@ impl Live {
     )
         requires staging { (first : Seat ℕ View) × (page : PlainPage) × (next : PlainPage)
             × IsStaging self.now row read from page next first seat.old
-            × AreFrom from to source page next }
+            × AreFrom from to source page next
+            × (source + to ≤ length (page_words page) + from) }
         requires read { IsRowNumber self.now.counts read }
         requires places { (from ≤ to) × (to ≤ ROW_WORDS) × (source + to ≤ ROW_WORDS + from) }
         ensures staged { (first : Seat ℕ View) (page next : PlainPage)
             → IsStaging self.now row read from page next first seat.old
             → AreFrom from to source page next
+            → source + to ≤ length (page_words page) + from
             → IsStaging self.now row read to page next first seat.new }
     {
         let start = self.row_place(read);
         for place in from..to {
             let word = self.load_word(seat, start, source + (place - from));
             self.stage_next(seat, row, place, word);
-        }
-    }
-
-    // Stores 0 behind the words of a page.
-    fn stage_zeros(&self, seat: &mut Seat<u8, View>, row: u64, from: usize)
-        requires staging { (first : Seat ℕ View) × (read : ℕ) × (page : PlainPage) × (next : PlainPage)
-            × IsStaging self.now row read from page next first seat.old
-            × (length (page_words next) ≤ from) }
-        requires inside { from ≤ ROW_WORDS }
-        ensures staged { (first : Seat ℕ View) (read : ℕ) (page next : PlainPage)
-            → IsStaging self.now row read from page next first seat.old
-            → length (page_words next) ≤ from
-            → IsStaging self.now row read ROW_WORDS page next first seat.new }
-    {
-        for place in from..ROW_WORDS {
-            self.stage_next(seat, row, place, 0);
         }
     }
 

@@ -8,7 +8,7 @@ ghost use Rattle.atomic_table.specs.declared.Seat.{Seat};
 ghost use Rattle.blink_batch.specs.{FitsWords, key_of};
 ghost use Rattle.blink_batch.specs.declared.Op.{Op};
 ghost use Rattle.blink_page.specs.{IsPageNumber};
-ghost use Rattle.blink_rows.specs.{page_words, prime_words, IsRowOf};
+ghost use Rattle.blink_rows.specs.{page_words, prime_words};
 ghost use Rattle.blink_rows.specs.declared.limits.TheConstants.{ROW_WORDS};
 ghost use Rattle.blink_machine.specs.declared.machine.State.TheVariants.{Ended};
 ghost use Rattle.blink_machine.specs.{IsUpdate, PlainMachine, fresh, done, PrimeOut, page_out, NeedsNew, NeedsPrimeWrite, NeedsWrite, NeedsLatch, NeedsUnlatch, latch, latch_of, unlatch};
@@ -21,7 +21,7 @@ ghost use Rattle.blink_live.specs.Updating.{CanWrite, HasEnded, HasRowsFor, IsUn
 ghost use Rattle.blink_live.specs.Views.{CanBegin, MayChange, is_staged, knows_word, latch_number_by, no_words, stage_word};
 ghost use Rattle.blink_live.specs.Pendings.{IsWaiting};
 ghost use Rattle.blink_live.specs.AtomicSteps.{PublishesNew, PublishesPage, PublishesPrime, GoesOn};
-ghost use Rattle.blink_live.specs.Words.{IsRowNumber};
+ghost use Rattle.blink_live.specs.Words.{BeginWith, IsRowNumber};
 
 use crate::descent::Changed;
 use crate::live::Live;
@@ -31,7 +31,8 @@ use crate::view::View;
 use atomic_table::Seat;
 use blink_batch::{Answer, Op};
 use blink_machine::{Machine, Need, Resting, State};
-use blink_rows::{ROW_WORDS, page_row, prime_row};
+use blink_rows::layout::ENTRY_WORDS;
+use blink_rows::{HEAD_WORDS, ROW_WORDS, page_row, prime_row};
 use std::sync::Wait;
 use std::{hint, thread};
 
@@ -315,8 +316,10 @@ impl Live {
         ensures machine { machine.new ≡ done machine.old 0 }
         ensures published { PublishesPage number result machine.old seat.old.me seat.new.me }
     {
-        let words = page_row(machine.page_in_place(number));
-        self.stage_row(seat, row, &words);
+        let page = machine.page_in_place(number);
+        let words = page_row(page);
+        let count = HEAD_WORDS + ENTRY_WORDS * page.items.len();
+        self.stage_row(seat, row, &words[..count]);
         self.publish(seat, machine, number, row)
     }
 
@@ -332,7 +335,8 @@ impl Live {
     {
         let page = machine.page_out(number);
         let words = page_row(&page);
-        self.stage_row(seat, row, &words);
+        let count = HEAD_WORDS + ENTRY_WORDS * page.items.len();
+        self.stage_row(seat, row, &words[..count]);
         self.publish_new(seat, machine, number, row);
     }
 
@@ -346,16 +350,18 @@ impl Live {
     {
         let prime = machine.prime_out();
         let words = prime_row(&prime);
-        self.stage_row(seat, row, &words);
+        let count = HEAD_WORDS + prime.leftmost.len();
+        self.stage_row(seat, row, &words[..count]);
         self.publish_prime(seat, machine, row)
     }
 
-    // Makes the words of an unpublished row these, in ascending order. It loads each word, and stores those that differ, since
-    // the row may have been another page's before.
-    fn stage_row(&self, seat: &mut Seat<u8, View>, row: u64, words: &[u64; ROW_WORDS])
+    // Makes the first words of an unpublished row these, in ascending order. It loads each word, and stores those that differ,
+    // since the row may have been another page's before. What stands behind them stays.
+    fn stage_row(&self, seat: &mut Seat<u8, View>, row: u64, words: &[u64])
         requires seat { IsPassSeat self.now seat.old.table_id seat.old.me }
         requires row { IsFirst row seat.old.me.0.call.rows × IsRowNumber self.now.counts row }
         requires blank { seat.old.me.0.call.staged ≡ no_words }
+        requires fits { length words.now ≤ ROW_WORDS }
         ensures same { HasSameNumber seat.old seat.new }
         ensures staged { seat.new.me ≡ (is_staged seat.old.me.0 words.now, seat.old.me.1) }
     {
@@ -503,7 +509,7 @@ impl Live {
         requires needs { NeedsWrite machine.old number }
         requires in_range { (1 ≤ number) × (number < self.now.counts.numbers) }
         requires row { IsFirst row seat.old.me.0.call.rows }
-        requires staged { IsRowOf seat.old.me.0.call.staged (page_words (page_out machine.old 0)) }
+        requires staged { BeginWith seat.old.me.0.call.staged (page_words (page_out machine.old 0)) }
         requires may { MayChange seat.old.me.0 (key_of machine.old.op) }
         ensures same { HasSameNumber seat.old seat.new }
         ensures machine { machine.new ≡ done machine.old 0 }
@@ -519,7 +525,7 @@ impl Live {
         requires seat { IsPassSeat self.now seat.old.table_id seat.old.me }
         requires at { (m : PlainMachine) × (seat.old.me.0.operation ≡ Some m) × FitsWords m.op
             × NeedsWrite m number × MayChange seat.old.me.0 (key_of m.op)
-            × IsRowOf seat.old.me.0.call.staged (page_words (page_out m 0)) }
+            × BeginWith seat.old.me.0.call.staged (page_words (page_out m 0)) }
         requires in_range { (1 ≤ number) × (number < self.now.counts.numbers) }
         requires row { IsFirst row seat.old.me.0.call.rows }
         ensures same { HasSameNumber seat.old seat.new }
@@ -542,7 +548,7 @@ impl Live {
         requires number { IsFirst number seat.old.me.0.call.pages }
         requires in_range { IsPageNumber number × (number < self.now.counts.numbers) }
         requires row { IsFirst row seat.old.me.0.call.rows }
-        requires staged { IsRowOf seat.old.me.0.call.staged (page_words (page_out machine.old number)) }
+        requires staged { BeginWith seat.old.me.0.call.staged (page_words (page_out machine.old number)) }
         requires may { MayChange seat.old.me.0 (key_of machine.old.op) }
         ensures same { HasSameNumber seat.old seat.new }
         ensures machine { machine.new ≡ done machine.old number }
@@ -562,7 +568,7 @@ impl Live {
         requires needs { NeedsPrimeWrite machine.old }
         requires row { IsFirst row seat.old.me.0.call.rows }
         requires staged { (prime : List ℕ) × PrimeOut machine.old prime
-            × IsRowOf seat.old.me.0.call.staged (prime_words prime) }
+            × BeginWith seat.old.me.0.call.staged (prime_words prime) }
         requires may { MayChange seat.old.me.0 (key_of machine.old.op) }
         ensures same { HasSameNumber seat.old seat.new }
         ensures machine { machine.new ≡ done machine.old 0 }

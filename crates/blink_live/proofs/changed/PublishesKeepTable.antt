@@ -8,7 +8,7 @@ use Rattle.atomic_table.specs.Table.{State, step, keeps, Allows}
 use Rattle.blink_batch.proofs.Offered.{IsAscending-map_after}
 use Rattle.blink_batch.specs.{FitsWords, answer_at, key_of, map_after, pointer_of}
 use Rattle.blink_page.specs.{PlainPage}
-use Rattle.blink_rows.specs.{page_words, prime_words, IsRowOf}
+use Rattle.blink_rows.specs.{page_words, prime_words}
 use Rattle.blink_rows.specs.declared.span.Span.{Span}
 use Rattle.blink_machine.specs.declared.machine.State.TheVariants.{Ended}
 use Rattle.blink_machine.specs.declared.step.Kind.{Kind}
@@ -29,6 +29,7 @@ use Rattle.blink_live.specs.Looks.{IsLeafInChain}
 use Rattle.blink_live.specs.Reuse.{IsAtHand, IsReuseSafe, IsWithin}
 use Rattle.blink_live.specs.Rule.{IsOwnKey, IsShare, HasNumbers, Knows, IsTableAt, IsTable, PageWordIs}
 use Rattle.blink_live.specs.Views.{IsCommon, IsOwned, MayChange, SeatState, KnowsItsOwn, adds, span, changed_by, publishes, takes_out}
+use Rattle.blink_live.specs.Words.{BeginWith}
 use Rattle.blink_live.proofs.changed.ChangesAreTheMaps.{all_by_author, states_of-append, none_of_other, other_stays, map_is_changed}
 use Rattle.blink_live.proofs.changed.RowsArePublished.{gives_row, IsStepOfTree, ChangesOwn, publish_keeps}
 use Rattle.blink_live.proofs.found.OperationBegins.{goes_on_as}
@@ -62,7 +63,7 @@ pub record BecomesPublished (plan : Plan) (s : State ℕ View) (id number : ℕ)
 module _ (plan : Plan) (s : State ℕ View) (tree_state then : TreeState) (h : IsTableAt plan s tree_state) (id number : ℕ) (kind : Kind) (pages : Span) (stock : Stock) (me : SeatState) (m after_it : PlainMachine) (content : List ℕ)
     (at : get_elem? s.views id ≡ some me.0) (role : me.0.role ≡ Pass) (under : (k : PlainMachine) × (me.0.operation ≡ Some k)) (its : IsItsOperation tree_state id m) (fits : FitsWords m.op) (stepped : Steps tree_state id m (Moved kind) after_it then)
     (tree : IsStepOfTree plan s tree_state then h id number (descent_bound then.pages after_it) me.0 after_it content pages stock at role)
-    (in_range : number < plan.counts.numbers) (room : me.0.call.rows.next < me.0.call.rows.stop) (is_row : IsRowOf me.0.call.staged content) (may : MayChange me.0 (key_of m.op))
+    (in_range : number < plan.counts.numbers) (room : me.0.call.rows.next < me.0.call.rows.stop) (is_row : BeginWith me.0.call.staged content) (may : MayChange me.0 (key_of m.op))
     (reuse : (w : View) → w.reads ≡ me.0.reads → w.role ≡ me.0.role → w.busy ≡ me.0.busy → w.place ≡ me.0.place → w.look.leaves ≡ me.0.look.leaves → w.stock ≡ stock → w.rows ≡ me.0.rows → w.call.rows ≡ span (suc me.0.call.rows.next) me.0.call.rows.stop → IsCommon plan → IsReuseSafe plan (gives_row h.owners me.0.call.rows.next).row (set s.words number me.0.call.rows.next) (set s.views id w)) where
   known : Knows plan h.owners s.words tree_state h.log id me.0
   known = h.views id me.0 at
@@ -272,7 +273,7 @@ rows_after whose seat v w rows call row hand =
 
 -- in a page's place
 page_becomes_published : (plan : Plan) (s : State ℕ View) (table : IsTable plan s) (id number : ℕ) (me : SeatState) (m : PlainMachine) → get_elem? s.views id ≡ some me.0 → me.0.role ≡ Pass → me.0.operation ≡ Some m → FitsWords m.op
-    → NeedsWrite m number → 1 ≤ number → number < plan.counts.numbers → me.0.call.rows.next < me.0.call.rows.stop → IsRowOf me.0.call.staged (page_words (page_out m 0)) → MayChange me.0 (key_of m.op)
+    → NeedsWrite m number → 1 ≤ number → number < plan.counts.numbers → me.0.call.rows.next < me.0.call.rows.stop → BeginWith me.0.call.staged (page_words (page_out m 0)) → MayChange me.0 (key_of m.op)
     → BecomesPublished plan s id number (write_page number) me.0.call.pages (takes_out (slice_index s.words number) me.0.stock) me m (done m 0)
 page_becomes_published plan s table id number me m at role at_m fits needs some_number in_range room is_row may =
     let tree_state : TreeState = table.0 in
@@ -303,7 +304,7 @@ page_becomes_published plan s table id number me m at role at_m fits needs some_
     (subst (PageWordIs plan h.owners s.words (slice_index s.words number)) well.there (h.pages number some_number in_range)).0 stock)
 
 pub page_is_published : (plan : Plan) (slots id number : ℕ) (me : SeatState) (m : PlainMachine) → me.0.role ≡ Pass → me.0.operation ≡ Some m → FitsWords m.op → NeedsWrite m number
-    → 1 ≤ number → number < plan.counts.numbers → me.0.call.rows.next < me.0.call.rows.stop → IsRowOf me.0.call.staged (page_words (page_out m 0)) → MayChange me.0 (key_of m.op)
+    → 1 ≤ number → number < plan.counts.numbers → me.0.call.rows.next < me.0.call.rows.stop → BeginWith me.0.call.staged (page_words (page_out m 0)) → MayChange me.0 (key_of m.op)
     → Allows (IsTable plan) slots id me number (λ n. me.0.call.rows.next) (λ n. publishes_page (step slots number me.0.call.rows.next 0 none) me n)
 page_is_published plan slots id number me m role at_m fits needs some_number in_range room is_row may s table homes at small =
     let to = page_becomes_published plan s table id number me m at role at_m fits needs some_number in_range room is_row may in
@@ -321,7 +322,7 @@ page_is_published plan slots id number me m role at_m fits needs some_number in_
 -- ---- a new page
 
 new_becomes_published : (plan : Plan) (s : State ℕ View) (table : IsTable plan s) (id : ℕ) (me : SeatState) (m : PlainMachine) → get_elem? s.views id ≡ some me.0 → me.0.role ≡ Pass → me.0.operation ≡ Some m → FitsWords m.op → NeedsNew m
-    → me.0.call.pages.next < me.0.call.pages.stop → me.0.call.rows.next < me.0.call.rows.stop → IsRowOf me.0.call.staged (page_words (page_out m me.0.call.pages.next)) → MayChange me.0 (key_of m.op)
+    → me.0.call.pages.next < me.0.call.pages.stop → me.0.call.rows.next < me.0.call.rows.stop → BeginWith me.0.call.staged (page_words (page_out m me.0.call.pages.next)) → MayChange me.0 (key_of m.op)
     → BecomesPublished plan s id me.0.call.pages.next (write_page me.0.call.pages.next) (span (suc me.0.call.pages.next) me.0.call.pages.stop) me.0.stock me m (done m me.0.call.pages.next)
 new_becomes_published plan s table id me m at role at_m fits needs number_left room is_row may =
     let tree_state : TreeState = table.0 in
@@ -358,7 +359,7 @@ new_becomes_published plan s table id me m at role at_m fits needs number_left r
     (λ w reads its_role busy place look stock rows call common. new_page_is_safe plan s tree_state h id number me.0.call.rows.next me.0 w at (h.reuse common) in_range (known.for_call.first_own room).1 reads its_role busy place look (inr (omega arith, room)) (rows_after h.owners.row id me.0 w rows call) stock)
 
 pub new_is_published : (plan : Plan) (slots id : ℕ) (me : SeatState) (m : PlainMachine) → me.0.role ≡ Pass → me.0.operation ≡ Some m → FitsWords m.op → NeedsNew m
-    → me.0.call.pages.next < me.0.call.pages.stop → me.0.call.rows.next < me.0.call.rows.stop → IsRowOf me.0.call.staged (page_words (page_out m me.0.call.pages.next)) → MayChange me.0 (key_of m.op)
+    → me.0.call.pages.next < me.0.call.pages.stop → me.0.call.rows.next < me.0.call.rows.stop → BeginWith me.0.call.staged (page_words (page_out m me.0.call.pages.next)) → MayChange me.0 (key_of m.op)
     → Allows (IsTable plan) slots id me me.0.call.pages.next (λ n. me.0.call.rows.next) (λ n. publishes_new (step slots me.0.call.pages.next me.0.call.rows.next 0 none) me n)
 new_is_published plan slots id me m role at_m fits needs number_left room is_row may s table homes at small =
     let to = new_becomes_published plan s table id me m at role at_m fits needs number_left room is_row may in
@@ -380,7 +381,7 @@ abbrev grown : TreeState → List ℕ → ℕ → Option PlainMachine → TreeSt
 grown tree_state prime worker operation = record tree_state { prime = prime; machines = put tree_state.machines worker operation }
 
 prime_becomes_published : (plan : Plan) (s : State ℕ View) (table : IsTable plan s) (id : ℕ) (me : SeatState) (m : PlainMachine) (prime : List ℕ) → get_elem? s.views id ≡ some me.0 → me.0.role ≡ Pass → me.0.operation ≡ Some m → FitsWords m.op
-    → NeedsPrimeWrite m → PrimeOut m prime → 1 ≤ plan.counts.numbers → me.0.call.rows.next < me.0.call.rows.stop → IsRowOf me.0.call.staged (prime_words prime) → MayChange me.0 (key_of m.op)
+    → NeedsPrimeWrite m → PrimeOut m prime → 1 ≤ plan.counts.numbers → me.0.call.rows.next < me.0.call.rows.stop → BeginWith me.0.call.staged (prime_words prime) → MayChange me.0 (key_of m.op)
     → BecomesPublished plan s id 0 write_prime me.0.call.pages (takes_out (slice_index s.words 0) me.0.stock) me m (done m 0)
 prime_becomes_published plan s table id me m prime at role at_m fits needs out some_number room is_row may =
     let tree_state : TreeState = table.0 in
@@ -418,7 +419,7 @@ prime_becomes_published plan s table id me m prime at role at_m fits needs out s
     (λ w reads its_role busy place look stock rows call common. page_is_safe plan s tree_state h id 0 me.0.call.rows.next me.0 w at (h.reuse common) (omega (arith, some_number)) (known.for_call.first_own room).1 reads its_role busy place look (inr (omega arith, room)) (rows_after h.owners.row id me.0 w rows call) h.prime.0 stock)
 
 pub prime_is_published : (plan : Plan) (slots id : ℕ) (me : SeatState) (m : PlainMachine) (prime : List ℕ) → me.0.role ≡ Pass → me.0.operation ≡ Some m → FitsWords m.op → NeedsPrimeWrite m → PrimeOut m prime
-    → 1 ≤ plan.counts.numbers → me.0.call.rows.next < me.0.call.rows.stop → IsRowOf me.0.call.staged (prime_words prime) → MayChange me.0 (key_of m.op)
+    → 1 ≤ plan.counts.numbers → me.0.call.rows.next < me.0.call.rows.stop → BeginWith me.0.call.staged (prime_words prime) → MayChange me.0 (key_of m.op)
     → Allows (IsTable plan) slots id me 0 (λ n. me.0.call.rows.next) (λ n. publishes_prime (step slots 0 me.0.call.rows.next 0 none) me n)
 prime_is_published plan slots id me m prime role at_m fits needs out some_number room is_row may s table homes at small =
     let to = prime_becomes_published plan s table id me m prime at role at_m fits needs out some_number room is_row may in

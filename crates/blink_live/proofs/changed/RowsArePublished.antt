@@ -11,7 +11,7 @@ use Rattle.blink_batch.specs.declared.Entry.{Entry}
 use Rattle.blink_batch.specs.{pointer_of}
 use Rattle.blink_page.specs.{IsPageNumber, PlainPage}
 use Rattle.blink_rest.specs.{Pages}
-use Rattle.blink_rows.specs.{page_words, prime_words, IsRowOf}
+use Rattle.blink_rows.specs.{page_words, prime_words}
 use Rattle.blink_rows.specs.declared.span.Span.{Span}
 use Rattle.blink_machine.specs.declared.machine.State.{State as MachineState}
 use Rattle.blink_machine.specs.declared.machine.State.TheVariants.{Going}
@@ -31,7 +31,7 @@ use Rattle.blink_live.specs.Reuse.{IsReuseSafe}
 use Rattle.blink_live.specs.Looks.{IsLeafInChain}
 use Rattle.blink_live.specs.Rule.{Owners, IsPublished, PageWordIs, latch_word, HasRows, HasNumbers, IsShare, IsInRole, IsBoundedWay, Knows, IsTableAt, IsTable}
 use Rattle.blink_live.specs.Views.{IsCommon, IsOwned, span, publishes}
-use Rattle.blink_live.specs.Words.{place_word, word_count, RowIs}
+use Rattle.blink_live.specs.Words.{place_word, word_count, BeginWith, RowBegins}
 use Rattle.blink_live.proofs.changed.ChangesAreTheMaps.{after-append, states_of-append}
 use Rattle.blink_live.proofs.table.PoolStays.{pool_stays}
 use Rattle.blink_live.proofs.table.MapsWithOneChange.{put_here, put_else}
@@ -74,7 +74,7 @@ module _ (plan : Plan) (s : State ℕ View) (tree_state then : TreeState) (h : I
     pub no_other_page : (n : ℕ) → plan.counts.numbers ≤ n → then.pages n ≡ None
     pub in_chain : (n : ℕ) → IsLeafInChain tree_state.fan tree_state.prime tree_state.pages n → IsLeafInChain then.fan then.prime then.pages n
 
-  module _ (under : (m : PlainMachine) × (v.operation ≡ Some m)) (step : IsStepOfTree) (in_range : number < plan.counts.numbers) (room : v.call.rows.next < v.call.rows.stop) (is_row : IsRowOf v.call.staged content) (made : List Change) (now : List Entry) (share : Share) where
+  module _ (under : (m : PlainMachine) × (v.operation ≡ Some m)) (step : IsStepOfTree) (in_range : number < plan.counts.numbers) (room : v.call.rows.next < v.call.rows.stop) (is_row : BeginWith v.call.staged content) (made : List Change) (now : List Entry) (share : Share) where
     abbrev pub words : List ℕ
     words = set s.words number v.call.rows.next
 
@@ -191,11 +191,11 @@ module _ (plan : Plan) (s : State ℕ View) (tree_state then : TreeState) (h : I
           }
 
       -- the row is published, and has the words
-      is_published : IsPublished plan new v.call.rows.next × RowIs plan.counts words v.call.rows.next content
+      is_published : IsPublished plan new v.call.rows.next × RowBegins plan.counts words v.call.rows.next content
       is_published =
           let high = known.for_call.others.in_range.1 in (
             ((row_number, omega (arith, high, room)), put_here h.owners.row v.call.rows.next 0),
-            λ i inside. stays v.call.rows.next i inside ∙ (known.for_call.staged room i inside (let wide = is_row.width in omega (arith, wide, inside)) ∙ is_row.filled i inside),
+            λ i inside few. stays v.call.rows.next i inside ∙ (known.for_call.staged room i inside (let all = is_row.all in omega (arith, all, few)) ∙ is_row.filled i few),
           )
 
       word_here : slice_index words number ≡ v.call.rows.next
@@ -208,15 +208,15 @@ module _ (plan : Plan) (s : State ℕ View) (tree_state then : TreeState) (h : I
       names_row : (n : ℕ) → 1 ≤ n → n ≡ number → PageWordIs plan new words (slice_index words n) (then.pages n)
       names_row n least same =
           let here = step.page_here (omega (arith, least, same)) in
-          let published : IsPublished plan new v.call.rows.next × RowIs plan.counts words v.call.rows.next (page_words here.0) = subst (λ (c : List ℕ). IsPublished plan new v.call.rows.next × RowIs plan.counts words v.call.rows.next c) here.2 is_published in
+          let published : IsPublished plan new v.call.rows.next × RowBegins plan.counts words v.call.rows.next (page_words here.0) = subst (λ (c : List ℕ). IsPublished plan new v.call.rows.next × RowBegins plan.counts words v.call.rows.next c) here.2 is_published in
           let word : slice_index words n ≡ v.call.rows.next = ap (slice_index words) same ∙ word_here in
           let is_page : then.pages n ≡ Some here.0 = ap then.pages same ∙ here.1 in
           subst (λ (t : ℕ × Option PlainPage). PageWordIs plan new words t.0 t.1) (λ i. (sym word i, sym is_page i)) published
 
-      prime_now : (n : ℕ) → number ≡ n → IsPublished plan new (slice_index words 0) × RowIs plan.counts words (slice_index words 0) (prime_words then.prime)
+      prime_now : (n : ℕ) → number ≡ n → IsPublished plan new (slice_index words 0) × RowBegins plan.counts words (slice_index words 0) (prime_words then.prime)
       prime_now zero is =
           let word : slice_index words 0 ≡ v.call.rows.next = ap (slice_index words) (sym is) ∙ word_here in
-          subst (λ (t : ℕ × List ℕ). IsPublished plan new t.0 × RowIs plan.counts words t.0 t.1) (λ i. (sym word i, step.prime_here is i)) is_published
+          subst (λ (t : ℕ × List ℕ). IsPublished plan new t.0 × RowBegins plan.counts words t.0 t.1) (λ i. (sym word i, step.prime_here is i)) is_published
       prime_now (suc n) is = prime_still plan s tree_state then h id kept.0 words new log leaves (word_else 0 (λ e. omega (arith, e, is))) (step.other_prime (omega (arith, is)))
 
       same_latch_word : (holder : Option ℕ) → latch_word h.owners holder ≡ latch_word new holder

@@ -5,8 +5,7 @@ use Rattle.std.specs.Prelude.{slice_index}
 use Rattle.blink_page.specs.{PlainPage, with_entries}
 use Rattle.blink_rows.proofs.EntriesAsWords.{flat-append, length-flat}
 use Rattle.blink_rows.proofs.Offered.{length-page_words}
-use Rattle.blink_rows.specs.{IsPageRow, flat, page_words}
-use Rattle.blink_rows.specs.declared.limits.TheConstants.{ROW_WORDS}
+use Rattle.blink_rows.specs.{flat, page_words}
 use Rattle.atomic_table.specs.declared.Seat.{Seat}
 use Rattle.blink_live.specs.declared.descent.Splice.{Splice}
 use Rattle.blink_live.specs.declared.live.Live.{Live}
@@ -17,7 +16,7 @@ use Rattle.blink_machine.specs.{PlainMachine, done}
 use Rattle.blink_live.specs.AtomicSteps.{Decided, PublishesPage, deciding, other}
 use Rattle.blink_live.specs.Straight.{AreFrom, IsSplice, IsStaging, as_list}
 use Rattle.blink_live.specs.Views.{SeatState, knows_word, is_staged}
-use Rattle.blink_live.specs.Words.{IsRowNumber}
+use Rattle.blink_live.specs.Words.{BeginWith, IsRowNumber}
 use Rattle.blink_live.specs.Seats.{HasSameNumber, IsFirst, IsPassSeat, IsSameSeat, ReadsPage}
 
 -- ---- entries as words
@@ -137,12 +136,19 @@ module _ {place : ℕ} {splice : Splice} {page next : PlainPage} (is : IsSplice 
       let after = count_after in
       omega (arith, is_count, inside, after)
 
-  pub ends_there : (count : ℕ) → count ≡ length page.entries - splice.gone + length (as_list splice.entry) → length (page_words next) ≤ 6 + 2 * count
+  pub ends_there : (count : ℕ) → count ≡ length page.entries - splice.gone + length (as_list splice.entry) → 6 + 2 * count ≡ length (page_words next)
   ends_there count is_count =
       let inside = is.inside in
       let after = count_after in
       let long = length-page_words next in
       omega (arith, is_count, inside, after, long)
+
+  -- what is copied stands in the page
+  pub before_fits : 6 + (6 + 2 * place) ≤ length (page_words page) + 6
+  before_fits = let inside = is.inside in omega (arith, inside, length-page_words page)
+
+  pub behind_fits : (to source count : ℕ) → to ≡ 6 + (2 * place + 2 * length (as_list splice.entry)) → source ≡ 6 + 2 * (place + splice.gone) → count ≡ length page.entries - splice.gone + length (as_list splice.entry) → source + (6 + 2 * count) ≤ length (page_words page) + to
+  behind_fits to source count is_to is_source is_count = let inside = is.inside in omega (arith, is_to, is_source, is_count, inside, length-page_words page)
 
 -- ---- a row is stored word by word
 
@@ -176,8 +182,8 @@ staged_more {live} {row} {read} {count} {page} {next} {first} {its} is then word
     }
 
 -- all of them make the row
-pub staged_row : {live : Live} {row read : ℕ} {page next : PlainPage} {first its : Seat ℕ View} → IsStaging live row read ROW_WORDS page next first its → IsPageRow next its.me.0.call.staged
-staged_row is = record { width = is.so_many; filled = is.words }
+pub staged_row : {live : Live} {row read : ℕ} {page next : PlainPage} {first its : Seat ℕ View} → IsStaging live row read (length (page_words next)) page next first its → BeginWith its.me.0.call.staged (page_words next)
+staged_row is = let many = is.so_many in record { all = omega (arith, many); filled = is.words }
 
 -- no word is stored yet
 pub nothing_staged : (live : Live) (row read : ℕ) (page next : PlainPage) (its : Seat ℕ View) → IsPassSeat live its.table_id its.me → IsFirst row its.me.0.call.rows × IsRowNumber live.counts row → ReadsPage its.me read page → its.me.0.call.staged ≡ [] → IsStaging live row read 0 page next its its

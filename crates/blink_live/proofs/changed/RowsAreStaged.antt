@@ -1,9 +1,13 @@
 -- A row is staged word by word: once a word has been loaded, and stored if it differs, the call knows one word more.
-use Rattle.std.proofs.Common.{◌≡◌, ℕ, zero, suc, ◌+◌, ◌<◌, List, [], ◌∷◌, ◌++◌, length, get_or, set, refl, sym, ap, ◌∙◌, arith}
+use Rattle.std.proofs.Common.{◌≡◌, ℕ, zero, suc, ◌+◌, ◌<◌, ◌≤◌, List, [], ◌∷◌, ◌++◌, length, get_or, set, take, refl, sym, ap, ◌∙◌, arith}
+use Rattle.std.proofs.lemmas.List.{get_or-take, length-take-le}
 use Rattle.atomic_table.specs.Seated.{TableId}
+use Rattle.blink_rows.specs.{IsRowOf}
+use Rattle.blink_rows.specs.declared.limits.TheConstants.{ROW_WORDS}
 use Rattle.blink_live.specs.declared.live.Live.{Live}
 use Rattle.blink_live.specs.Seats.{IsPassSeat}
 use Rattle.blink_live.specs.Views.{SeatState, knows_word, stage_word, is_staged}
+use Rattle.blink_live.specs.Words.{BeginWith}
 
 -- the first n of these words
 abbrev pub first_words : List ℕ → ℕ → List ℕ
@@ -66,3 +70,11 @@ one_more_staged me now loaded then words n found inside before load is =
 -- it is a pass's as before
 pub still_pass : (live : Live) (table : TableId) (me : SeatState) (words : List ℕ) → IsPassSeat live table me → IsPassSeat live table (seat_staged me words)
 still_pass live table me words seat = record { same_table = seat.same_table; same_plan = seat.same_plan; role = seat.role }
+
+-- the first words of a row are those of what it holds
+pub words_of_row : (row content : List ℕ) (count : ℕ) → IsRowOf row content → count ≡ length content → count ≤ ROW_WORDS → BeginWith (take count row) content
+words_of_row row content count is ends fits =
+    let long = length-take-le count row (omega (arith, is.width, fits)) in record {
+      all = omega (arith, long, ends);
+      filled = λ i few. get_or-take count row i 0 (omega (arith, few, ends)) ∙ is.filled i (omega (arith, few, ends, fits));
+    }

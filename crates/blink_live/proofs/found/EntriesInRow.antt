@@ -5,6 +5,7 @@ use Rattle.std.specs.Prelude.{slice_index}
 use Rattle.blink_page.specs.{PlainPage, IsRising, place_of}
 use Rattle.blink_rows.specs.{flat, page_words}
 use Rattle.blink_rows.specs.declared.limits.TheConstants.{HEAD_WORDS}
+use Rattle.blink_rows.proofs.Offered.{length-page_words}
 
 flat_key : (entries : List (ℕ × ℕ)) (j : ℕ) → get_or (flat entries) (2 * j) 0 ≡ (get_or entries j (0, 0)).0
 flat_key [] j = refl
@@ -26,6 +27,13 @@ pub value_word : (page : PlainPage) (j at : ℕ) → at ≡ HEAD_WORDS + 2 * j +
 value_word page j at is =
     let sum : HEAD_WORDS + 2 * j + 1 ≡ HEAD_WORDS + (2 * j + 1) = omega arith in
     ap (slice_index (page_words page)) (is ∙ sum) ∙ (behind_head page (2 * j + 1) ∙ flat_value page.entries j)
+
+-- where they stand
+pub key_inside : (page : PlainPage) (j : ℕ) → j < length page.entries → HEAD_WORDS + 2 * j < length (page_words page)
+key_inside page j inside = omega (arith, inside, length-page_words page)
+
+pub value_inside : (page : PlainPage) (j : ℕ) → j < length page.entries → HEAD_WORDS + 2 * j + 1 < length (page_words page)
+value_inside page j inside = omega (arith, inside, length-page_words page)
 
 -- a search goes on behind an entry of a lesser key
 pub goes_on_behind : (key : ℕ) (entries : List (ℕ × ℕ)) (j : ℕ) → j ≤ place_of key entries → j < length entries → (get_or entries j (0, 0)).0 < key → suc j ≤ place_of key entries

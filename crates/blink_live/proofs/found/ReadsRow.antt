@@ -22,8 +22,8 @@ reads_row_word plan slots id word me s table homes at small =
       subst (λ (x : List ℕ × List View). IsTable plan record { words = x.0; homes = s.homes; views = x.1 }) (λ i. (sym (set-get_or s.words word 0) i, sym (set_again s.views id me.0 at) i)) table,
       record {
         same = refl;
-        is_its = λ row i content reads inside is.
+        is_its = λ row i content reads inside few is.
             let its : ReadsRow plan h.owners s.words (Some (row, content)) = subst (ReadsRow plan h.owners s.words) reads known.reads.0 in
-            ap (slice_index s.words) (is ∙ ap (λ (p : Plan). row_start p.counts row + i) known.same_plan) ∙ its.1 i inside;
+            ap (slice_index s.words) (is ∙ ap (λ (p : Plan). row_start p.counts row + i) known.same_plan) ∙ its.1 i inside few;
       },
     )

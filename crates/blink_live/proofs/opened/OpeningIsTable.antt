@@ -25,7 +25,7 @@ use Rattle.blink_live.specs.Reuse.{AgreesWith, AreNamedOnce, HasStock}
 use Rattle.blink_live.specs.Accounts.{AreApart, HasSeenItsOwn, IsAccount, accounts_of}
 use Rattle.blink_live.specs.Rule.{HasNumbers, HasPool, HasRows, Owners, IsPublished, PageWordIs, Knows, IsTable}
 use Rattle.blink_live.specs.Views.{IsCommon, first_span, first_view, no_stock, span}
-use Rattle.blink_live.specs.Words.{RowIs}
+use Rattle.blink_live.specs.Words.{RowBegins}
 use Rattle.blink_live.proofs.table.LooksStay.{nothing_noted}
 use Rattle.blink_live.proofs.table.CallsOfSeats.{nothing_for_call}
 use Rattle.blink_live.proofs.reuse.ReuseStaysSafe.{agrees_with_none, empty_stock}
@@ -115,7 +115,7 @@ module _ (store : PlainStore) (counts : PlainCounts) (places : ℕ) (words : Lis
             let named : slice_index words number ≡ number + 1 = laid.page_words_named number (omega arith) in
             let free = owner_before (length store.pages + 2) (number + 1) (omega arith) in
             subst (λ (t : ℕ × Option PlainPage). PageWordIs plan owners words t.0 t.1) (λ i. (sym named i, sym found.1 i))
-            (((omega arith, omega arith), free), laid.page_rows number found.0 found.1)
+            (((omega arith, omega arith), free), λ i inside few. laid.page_rows number found.0 found.1 i inside)
         | inr more ↦ subst (PageWordIs plan owners words (slice_index words number)) (sym (no_page_past store number (omega arith))) (laid.no_more number (omega arith) (omega arith))
       ]
 
@@ -208,8 +208,8 @@ module _ (store : PlainStore) (counts : PlainCounts) (places : ℕ) (words : Lis
           prime_numbers = lawful.prime_numbers;
           bounded = bounded;
           width = laid.width;
-          prime = subst (λ (row : ℕ). IsPublished plan owners row × RowIs counts words row (prime_words store.prime)) (sym named)
-              (((omega arith, omega arith), owner_before (length store.pages + 2) 1 (omega arith)), laid.prime_row);
+          prime = subst (λ (row : ℕ). IsPublished plan owners row × RowBegins counts words row (prime_words store.prime)) (sym named)
+              (((omega arith, omega arith), owner_before (length store.pages + 2) 1 (omega arith)), λ i inside few. laid.prime_row i inside);
           pages = page_words_are;
           no_other_page = λ number late. no_page_past store number (omega arith);
           no_other_latch = λ number late. refl;

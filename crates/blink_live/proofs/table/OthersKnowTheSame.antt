@@ -23,15 +23,12 @@ use Rattle.blink_live.specs.Changes.{after, states_of}
 use Rattle.blink_live.specs.Looks.{IsLeafInChain}
 use Rattle.blink_live.specs.Rule.{HasNothing, HasPool, Owners, IsPublished, PageWordIs, Reads, ReadsRow, HasRows, HasNumbers, HasForCall, IsShare, IsInRole, Knows, IsTableAt}
 use Rattle.blink_live.specs.Views.{IsCommon, IsOwned, span}
-use Rattle.blink_live.specs.Words.{place_word, row_start, RowBegins, RowIs}
+use Rattle.blink_live.specs.Words.{place_word, row_start, RowBegins}
 use Rattle.blink_live.proofs.table.LooksStay.{looks_stay}
 
 -- the words of a row stay
 abbrev pub RowStays : Plan → List ℕ → List ℕ → ℕ → Type 0
 RowStays plan old new row = (i : ℕ) → i < ROW_WORDS → slice_index new (row_start plan.counts row + i) ≡ slice_index old (row_start plan.counts row + i)
-
-pub row_is_still : (plan : Plan) (old new : List ℕ) (row : ℕ) (content : List ℕ) → RowStays plan old new row → RowIs plan.counts old row content → RowIs plan.counts new row content
-row_is_still plan old new row content stays is i inside = stays i inside ∙ is i inside
 
 pub row_begins_still : (plan : Plan) (old new : List ℕ) (row : ℕ) (content : List ℕ) → RowStays plan old new row → RowBegins plan.counts old row content → RowBegins plan.counts new row content
 row_begins_still plan old new row content stays is i inside few = stays i inside ∙ is i inside few
@@ -62,11 +59,11 @@ module _ (plan : Plan) (s : State ℕ View) (tree_state then : TreeState) (h : I
 
   pub page_word_still : (word : ℕ) (page : Option PlainPage) → PageWordIs plan h.owners s.words word page → PageWordIs plan new words word page
   page_word_still word None is = is
-  page_word_still word (Some page) is = let t = still_published word is.0 in (t.0, row_is_still plan s.words words word (page_words page) t.1 is.1)
+  page_word_still word (Some page) is = let t = still_published word is.0 in (t.0, row_begins_still plan s.words words word (page_words page) t.1 is.1)
 
   pub reads_still : (reads : Option (ℕ × List ℕ)) → ReadsRow plan h.owners s.words reads → ReadsRow plan new words reads
   reads_still None is = tt
-  reads_still (Some (row, content)) is = let t = still_published row is.0 in (t.0, row_is_still plan s.words words row content t.1 is.1)
+  reads_still (Some (row, content)) is = let t = still_published row is.0 in (t.0, row_begins_still plan s.words words row content t.1 is.1)
 
   pub seat_reads_still : (v : View) → Reads plan h.owners s.words tree_state v → Reads plan new words then v
   seat_reads_still v is = (

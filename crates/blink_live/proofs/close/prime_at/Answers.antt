@@ -1,15 +1,47 @@
-use Rattle.std.proofs.Common.{sym}
+use Rattle.std.proofs.Common.{◌≡◌, ℕ, ◌+◌, ◌<◌, ◌≤◌, List, length, get_or, sym, ap, ◌∙◌, arith}
+use Rattle.std.proofs.Math.ListN.{get_elem?}
+use mathlib.Core.Option.{some}
 use Rattle.std.specs.Mem.Slots.{slots_items}
-use Rattle.blink_rows.specs.{prime_words, IsPrimeRow}
+use Rattle.blink_rows.specs.{PlainCounts, prime_words, IsPrimeRow}
+use Rattle.blink_rows.specs.declared.limits.TheConstants.{ROW_WORDS}
 use Rattle.blink_rows.proofs.Offered.{row_has_one_prime}
-use Rattle.blink_live.proofs.gathered.RowIsOfKeptPage.{word_there, row_of_content}
+use Rattle.blink_live.specs.Merge.{KeepsPrime}
+use Rattle.blink_live.specs.Words.{row_start}
+use Rattle.blink_live.proofs.gathered.RowIsOfKeptPage.{count_of_kept, word_there, row_of_content}
 use Rattle.blink_live.proofs.close.prime_at.Goals as goal
+
+-- the row tells how many levels the prime block names
+levels_there : (counts : PlainCounts) (words leftmost : List ℕ) (row start levels : ℕ) → KeepsPrime counts words leftmost → get_elem? words 0 ≡ some row → start ≡ row_start counts row → get_elem? words (start + 5) ≡ some levels → levels ≡ length leftmost
+levels_there counts words leftmost row start levels kept found is told =
+    let here : start ≡ row_start counts (get_or words 0 0) = is ∙ ap (row_start counts) (sym (word_there words 0 row found)) in
+    sym (word_there words (start + 5) levels told) ∙ count_of_kept counts words (prime_words leftmost) 0 start here (omega arith) kept.row_begins
+
+pub overflow_add-levels : goal.overflow_add-levels
+overflow_add-levels c =
+    let kept = c.requires.kept in
+    let count = levels_there c.args.counts.now (slots_items c.args.closed.now.words) kept.0 c.word-row.result c.row_start-start.result c.word-levels.result kept.1 c.word-row.ensures c.row_start-start.ensures c.word-levels.ensures in
+    omega (arith, count, kept.1.lawful.at_most_levels)
+
+pub row_words-words-requires-clause-fits : goal.row_words-words-requires-clause-fits
+row_words-words-requires-clause-fits c =
+    let kept = c.requires.kept in
+    let count = levels_there c.args.counts.now (slots_items c.args.closed.now.words) kept.0 c.word-row.result c.row_start-start.result c.word-levels.result kept.1 c.word-row.ensures c.row_start-start.ensures c.word-levels.ensures in
+    omega (arith, count, kept.1.lawful.at_most_levels)
+
+module _ (counts : PlainCounts) (words row_words leftmost : List ℕ) (row start levels : ℕ) (kept : KeepsPrime counts words leftmost) (found : get_elem? words 0 ≡ some row) (is : start ≡ row_start counts row) (told : get_elem? words (start + 5) ≡ some levels)
+    (width : length row_words ≡ ROW_WORDS) (same : (i : ℕ) → i < 6 + levels → get_or row_words i 0 ≡ get_or words (start + i) 0) (rest : (i : ℕ) → 6 + levels ≤ i → get_or row_words i 0 ≡ 0) where
+  prime_there : IsPrimeRow leftmost row_words
+  prime_there =
+      let here : start ≡ row_start counts (get_or words 0 0) = is ∙ ap (row_start counts) (sym (word_there words 0 row found)) in
+      let count = levels_there counts words leftmost row start levels kept found is told in
+      row_of_content counts words row_words 0 start (6 + levels) width here same rest (prime_words leftmost) (omega (arith, count)) kept.row_begins
+
+pub unreachable-requires : goal.unreachable-requires
+unreachable-requires c =
+    let kept = c.requires.kept in
+    c.in_default.ensures.none kept.0 kept.1.lawful (prime_there c.args.counts.now (slots_items c.args.closed.now.words) c.row_words-words.result kept.0 c.word-row.result c.row_start-start.result c.word-levels.result kept.1 c.word-row.ensures c.row_start-start.ensures c.word-levels.ensures c.row_words-words.ensures.width c.row_words-words.ensures.words c.row_words-words.ensures.rest)
 
 pub returns : goal.returns
 returns c leftmost kept =
-    let words = slots_items c.args.closed.now.words in
-    let word = word_there words 0 c.word-row.result c.word-row.ensures in
-    let its : IsPrimeRow leftmost c.row_words-words.result =
-    row_of_content c.args.counts.now words c.row_words-words.result 0 c.word-row.result c.row_start.result c.row_words-words.ensures.width word c.row_start.ensures c.row_words-words.ensures.words
-    (prime_words leftmost) kept.row_is in
+    let its = prime_there c.args.counts.now (slots_items c.args.closed.now.words) c.row_words-words.result leftmost c.word-row.result c.row_start-start.result c.word-levels.result kept c.word-row.ensures c.row_start-start.ensures c.word-levels.ensures c.row_words-words.ensures.width c.row_words-words.ensures.words c.row_words-words.ensures.rest in
     sym (row_has_one_prime leftmost c.in-Some.prime c.row_words-words.result kept.lawful.at_most_levels its c.in-Some.ensures.prime)

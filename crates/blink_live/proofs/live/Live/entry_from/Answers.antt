@@ -6,7 +6,7 @@ use Rattle.blink_rows.specs.{page_words}
 use Rattle.blink_live.specs.Seats.{ReadsPage}
 use Rattle.blink_live.specs.Views.{SeatState}
 use Rattle.blink_live.proofs.found.FindsOfSeveral.{same_seat}
-use Rattle.blink_live.proofs.found.EntriesInRow.{key_word, value_word, goes_on_behind, ends_at}
+use Rattle.blink_live.proofs.found.EntriesInRow.{ends_at, goes_on_behind, key_inside, key_word, value_inside, value_word}
 use Rattle.blink_live.proofs.live.Live.entry_from.Goals as goal
 
 none_past : (entries : List (ℕ × ℕ)) (n : ℕ) → length entries ≤ n → slice_get entries n ≡ None
@@ -38,7 +38,7 @@ first_place-first-requires-clause-page c =
     let page = c.requires.page.1 in
     let begins = c.requires.page.2 in
     let reads : ReadsPage c.args.seat.now.me row page = c.requires.page.3 in
-    (row, page, begins, subst (λ (x : SeatState). ReadsPage x row page) (sym c.load_word-count.ensures.same.2) reads, c.load_word-count.ensures.word row (page_words page) begins reads.reads)
+    (row, page, begins, subst (λ (x : SeatState). ReadsPage x row page) (sym c.load_word-count.ensures.same.2) reads, c.load_word-count.ensures.word row (page_words page) begins reads.reads (omega arith))
 
 pub loop-place-init : goal.loop-place-init
 loop-place-init c = record {
@@ -46,7 +46,7 @@ loop-place-init c = record {
   before = λ row page begins reads.
       let counted : ReadsPage c.load_word-count.new.seat.me row page = subst (λ (x : SeatState). ReadsPage x row page) c.first_place-first.ensures.same.2 reads in
       let first : ReadsPage c.args.seat.now.me row page = subst (λ (x : SeatState). ReadsPage x row page) c.load_word-count.ensures.same.2 counted in
-      let many : c.load_word-count.result ≡ length page.entries = c.load_word-count.ensures.word row (page_words page) begins first.reads in
+      let many : c.load_word-count.result ≡ length page.entries = c.load_word-count.ensures.word row (page_words page) begins first.reads (omega arith) in
       (many, c.first_place-first.ensures.place row page begins counted many);
 }
 
@@ -57,7 +57,7 @@ loop-place-preserved c =
       same = (load.same.0 ∙ same.0, load.same.1 ∙ same.1, load.same.2 ∙ same.2);
       before = λ row page begins reads.
           let before = c.loop-place.invariant.before row page begins reads in
-          let its = load.word row (page_words page) begins (ap (λ (x : SeatState). x.0.reads) same.2 ∙ reads.reads) in
+          let its = load.word row (page_words page) begins (ap (λ (x : SeatState). x.0.reads) same.2 ∙ reads.reads) (key_inside page c.loop-place.place (omega (arith, before.0, c.loop-place-test.true))) in
           let key : c.load_word-found.result ≡ (get_or page.entries c.loop-place.place (0, 0)).0 = its ∙ key_word page c.loop-place.place _ refl in
           let further = goes_on_behind c.args.key page.entries c.loop-place.place before.1 (omega (arith, before.0, c.loop-place-test.true)) (omega (arith, key, c.if-key-found.false)) in
           (before.0, omega (arith, further));
@@ -69,11 +69,11 @@ returns-then-key-found-clause-entry c row page begins reads =
     let first : ReadsPage c.first_place-first.new.seat.me row page = subst (λ (x : SeatState). ReadsPage x row page) (sym (c.first_place-first.ensures.same.2 ∙ c.load_word-count.ensures.same.2)) reads in
     let before = c.loop-place.invariant.before row page begins first in
     let place = c.loop-place.place in
-    let at_loop = ap (λ (x : SeatState). x.0.reads) same.2 ∙ first.reads in
-    let key : c.load_word-found.result ≡ (get_or page.entries place (0, 0)).0 = c.load_word-found.ensures.word row (page_words page) begins at_loop ∙ key_word page place _ refl in
-    let at_found = ap (λ (x : SeatState). x.0.reads) c.load_word-found.ensures.same.2 ∙ at_loop in
-    let value : c.load_word.result ≡ (get_or page.entries place (0, 0)).1 = c.load_word.ensures.word row (page_words page) begins at_found ∙ value_word page place _ refl in
     let inside : place < length page.entries = omega (arith, before.0, c.loop-place-test.true) in
+    let at_loop = ap (λ (x : SeatState). x.0.reads) same.2 ∙ first.reads in
+    let key : c.load_word-found.result ≡ (get_or page.entries place (0, 0)).0 = c.load_word-found.ensures.word row (page_words page) begins at_loop (key_inside page place inside) ∙ key_word page place _ refl in
+    let at_found = ap (λ (x : SeatState). x.0.reads) c.load_word-found.ensures.same.2 ∙ at_loop in
+    let value : c.load_word.result ≡ (get_or page.entries place (0, 0)).1 = c.load_word.ensures.word row (page_words page) begins at_found (value_inside page place inside) ∙ value_word page place _ refl in
     let end : place_of c.args.key page.entries ≡ place = ends_at c.args.key page.entries place before.1 inside (omega (arith, key, c.if-key-found.true)) in
     sym (ap (slice_get page.entries) end ∙ (slice_get-get_or page.entries place (0, 0) inside ∙ (λ i. let e : ℕ × ℕ = (sym key i, sym value i) in Some e)))
 

@@ -1,4 +1,4 @@
-use Rattle.std.proofs.Common.{ap, ◌∙◌, sym, subst}
+use Rattle.std.proofs.Common.{ap, ◌∙◌, sym, subst, arith}
 use Rattle.blink_rows.specs.{PlainCounts, page_words}
 use Rattle.blink_live.specs.Finding.{HasSearched}
 use Rattle.blink_live.specs.Seats.{ReadsLeaf}
@@ -20,7 +20,7 @@ pub link_of-right-requires : goal.link_of-right-requires
 link_of-right-requires c =
     let along = c.go_along-row.ensures.along in
     let reads = reads_along c.go_along-row.result c.args.seat.now.me c.go_along-row.new.seat.me along in
-    (along.page, along.lawful, c.load_word.ensures.word c.go_along-row.result (page_words along.page) c.row_place-start.ensures.start (ap (λ (x : SeatState). x.0.reads) c.has_key.ensures.same ∙ reads.reads))
+    (along.page, along.lawful, c.load_word.ensures.word c.go_along-row.result (page_words along.page) c.row_place-start.ensures.start (ap (λ (x : SeatState). x.0.reads) c.has_key.ensures.same ∙ reads.reads) (omega arith))
 
 pub returns-clause-searched : goal.returns-clause-searched
 returns-clause-searched c =
@@ -37,6 +37,6 @@ pub returns-clause-right : goal.returns-clause-right
 returns-clause-right c =
     let along = c.go_along-row.ensures.along in
     let reads = reads_along c.go_along-row.result c.args.seat.now.me c.go_along-row.new.seat.me along in
-    let word = c.load_word.ensures.word c.go_along-row.result (page_words along.page) c.row_place-start.ensures.start (ap (λ (x : SeatState). x.0.reads) c.has_key.ensures.same ∙ reads.reads) in
+    let word = c.load_word.ensures.word c.go_along-row.result (page_words along.page) c.row_place-start.ensures.start (ap (λ (x : SeatState). x.0.reads) c.has_key.ensures.same ∙ reads.reads) (omega arith) in
     right_along c.args.self.now.counts c.go_along-row.result c.args.seat.now.me c.go_along-row.new.seat.me c.load_word.new.seat.me c.link_of-right.result along (plan_counts c.args.self.now c.args.seat.now.table_id c.args.seat.now.me c.requires.seat)
     (c.load_word.ensures.same.2 ∙ c.has_key.ensures.same) (c.link_of-right.ensures along.page along.lawful word)

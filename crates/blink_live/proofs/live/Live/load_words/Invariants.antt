@@ -7,6 +7,6 @@ abbrev pub invariant-loop-n : goal.invariant-loop-n
 invariant-loop-n l = record {
   seat : (l.seat.table_id ≡ l.initial.seat.table_id) × (l.seat.id ≡ l.initial.seat.id) × (l.seat.me ≡ l.initial.seat.me);
   width : length l.words ≡ ROW_WORDS;
-  loaded : (row : ℕ) (content : List ℕ) → l.start ≡ row_start l.self.counts row → l.initial.seat.me.0.reads ≡ Some (row, content) → (n : ℕ) → l.from ≤ n → n < l.n → slice_index l.words n ≡ slice_index content n;
+  loaded : (row : ℕ) (content : List ℕ) → l.start ≡ row_start l.self.counts row → l.initial.seat.me.0.reads ≡ Some (row, content) → (n : ℕ) → l.from ≤ n → n < l.n → n < length content → slice_index l.words n ≡ slice_index content n;
   others : IsSameOutside l.from l.n l.initial.words l.words;
 }

@@ -10,6 +10,6 @@ returns-clause-more c = subst (λ (x : SeatState). NotesMore c.args.seat.now.me.
 pub returns-clause-high : goal.returns-clause-high
 returns-clause-high c =
     let at = c.come_to_noted-row.ensures.leaf in
-    let high : c.load_word-high.result ≡ at.leaf.high = c.load_word-high.ensures.word c.come_to_noted-row.result.1 (page_words at.leaf) c.row_place-start.ensures.start at.reads.reads in
+    let high : c.load_word-high.result ≡ at.leaf.high = c.load_word-high.ensures.word c.come_to_noted-row.result.1 (page_words at.leaf) c.row_place-start.ensures.start at.reads.reads (omega arith) in
     let reaches : c.args.key ≤ at.leaf.high = at.reaches in
     omega (arith, high, reaches)

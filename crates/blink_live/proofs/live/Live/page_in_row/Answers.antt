@@ -4,7 +4,7 @@ use Rattle.blink_page.specs.{PlainPage, IsLawfulPage}
 use Rattle.blink_page.specs.declared.limits.TheConstants.{MAX_FAN}
 use Rattle.blink_rows.specs.{page_words}
 use Rattle.blink_live.specs.Views.{SeatState}
-use Rattle.blink_live.proofs.found.EntriesInRow.{key_word, value_word}
+use Rattle.blink_live.proofs.found.EntriesInRow.{key_inside, key_word, value_inside, value_word}
 use Rattle.blink_live.proofs.live.Live.page_in_row.Goals as goal
 
 pub loop-place-init : goal.loop-place-init
@@ -29,12 +29,12 @@ loop-place-init c =
           let r_3 = ap f at_3.2 ∙ r_2 in
           let r_4 = ap f at_4.2 ∙ r_3 in
           let r_5 = ap f at_5.2 ∙ r_4 in (
-            c.load_word-level.ensures.word c.args.row words start reads.reads,
-            c.load_word-has_floor.ensures.word c.args.row words start r_1,
-            c.load_word-floor.ensures.word c.args.row words start r_2,
-            c.load_word-high.ensures.word c.args.row words start r_3,
-            c.load_word-right.ensures.word c.args.row words start r_4,
-            c.load_word-count.ensures.word c.args.row words start r_5,
+            c.load_word-level.ensures.word c.args.row words start reads.reads (omega arith),
+            c.load_word-has_floor.ensures.word c.args.row words start r_1 (omega arith),
+            c.load_word-floor.ensures.word c.args.row words start r_2 (omega arith),
+            c.load_word-high.ensures.word c.args.row words start r_3 (omega arith),
+            c.load_word-right.ensures.word c.args.row words start r_4 (omega arith),
+            c.load_word-count.ensures.word c.args.row words start r_5 (omega arith),
           );
       read = λ page reads. c.new-items.ensures;
     }
@@ -53,9 +53,9 @@ loop-place-preserved c =
           let place = c.loop-place.place in
           let count : c.load_word-count.result ≡ length page.entries = (c.loop-place.invariant.head page reads).5 in
           let here = ap f same.2 ∙ reads.reads in
-          let key : c.load_word-key.result ≡ (get_or page.entries place (0, 0)).0 = c.load_word-key.ensures.word c.args.row words start here ∙ key_word page place _ refl in
-          let value : c.load_word.result ≡ (get_or page.entries place (0, 0)).1 = c.load_word.ensures.word c.args.row words start (ap f at_key.2 ∙ here) ∙ value_word page place _ refl in
           let inside : place < length page.entries = omega (arith, count, c.loop-place-test.true) in
+          let key : c.load_word-key.result ≡ (get_or page.entries place (0, 0)).0 = c.load_word-key.ensures.word c.args.row words start here (key_inside page place inside) ∙ key_word page place _ refl in
+          let value : c.load_word.result ≡ (get_or page.entries place (0, 0)).1 = c.load_word.ensures.word c.args.row words start (ap f at_key.2 ∙ here) (value_inside page place inside) ∙ value_word page place _ refl in
           c.push.ensures.items
           ∙ ap (λ (items : List (ℕ × ℕ)). items ++ (c.load_word-key.result, c.load_word.result) ∷ []) (c.loop-place.invariant.read page reads)
           ∙ (λ i. let e : ℕ × ℕ = (key i, value i) in take place page.entries ++ e ∷ [])

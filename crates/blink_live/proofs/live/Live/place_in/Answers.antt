@@ -3,7 +3,7 @@ use Rattle.blink_page.proofs.Offered.{place_at_most}
 use Rattle.blink_rows.specs.{page_words}
 use Rattle.blink_live.specs.Views.{SeatState}
 use Rattle.blink_live.proofs.found.FindsOfSeveral.{same_seat}
-use Rattle.blink_live.proofs.found.EntriesInRow.{ends_at, goes_on_behind, key_word}
+use Rattle.blink_live.proofs.found.EntriesInRow.{ends_at, goes_on_behind, key_inside, key_word}
 use Rattle.blink_live.proofs.live.Live.place_in.Goals as goal
 
 pub load_word-found-requires-clause-seat : goal.load_word-found-requires-clause-seat
@@ -16,7 +16,7 @@ loop-place-preserved c =
       same = (load.same.0 ∙ same.0, load.same.1 ∙ same.1, load.same.2 ∙ same.2);
       before = λ row page begins reads many.
           let before = c.loop-place.invariant.before row page begins reads many in
-          let its = load.word row (page_words page) begins (ap (λ (x : SeatState). x.0.reads) same.2 ∙ reads.reads) in
+          let its = load.word row (page_words page) begins (ap (λ (x : SeatState). x.0.reads) same.2 ∙ reads.reads) (key_inside page c.loop-place.place (omega (arith, many, c.loop-place-test.true))) in
           let key : c.load_word-found.result ≡ (get_or page.entries c.loop-place.place (0, 0)).0 = its ∙ key_word page c.loop-place.place _ refl in
           let further = goes_on_behind c.args.key page.entries c.loop-place.place before (omega (arith, many, c.loop-place-test.true)) (omega (arith, key, c.if-key-found.false)) in
           omega (arith, further);
@@ -27,9 +27,9 @@ returns-then-key-found-clause-place c row page begins reads many =
     let same = c.loop-place.invariant.same in
     let before = c.loop-place.invariant.before row page begins reads many in
     let place = c.loop-place.place in
-    let at_loop = ap (λ (x : SeatState). x.0.reads) same.2 ∙ reads.reads in
-    let key : c.load_word-found.result ≡ (get_or page.entries place (0, 0)).0 = c.load_word-found.ensures.word row (page_words page) begins at_loop ∙ key_word page place _ refl in
     let inside : place < length page.entries = omega (arith, many, c.loop-place-test.true) in
+    let at_loop = ap (λ (x : SeatState). x.0.reads) same.2 ∙ reads.reads in
+    let key : c.load_word-found.result ≡ (get_or page.entries place (0, 0)).0 = c.load_word-found.ensures.word row (page_words page) begins at_loop (key_inside page place inside) ∙ key_word page place _ refl in
     sym (ends_at c.args.key page.entries place before inside (omega (arith, key, c.if-key-found.true)))
 
 pub returns-clause-place : goal.returns-clause-place

@@ -12,7 +12,7 @@ loop-place-init c = record {
 
 pub load_own-found-requires-clause-next : goal.load_own-found-requires-clause-next
 load_own-found-requires-clause-next c =
-    first_length c.args.words.now c.loop-place.place (omega (arith, c.loop-place-test.true, c.told-words)) ∙ sym (ap (λ (x : SeatState). length x.0.call.staged) c.loop-place.invariant.stored)
+    first_length c.args.words.now c.loop-place.place (omega (arith, c.loop-place-test.true)) ∙ sym (ap (λ (x : SeatState). length x.0.call.staged) c.loop-place.invariant.stored)
 
 pub loop-place-preserved : goal.loop-place-preserved
 loop-place-preserved c =
@@ -21,7 +21,7 @@ loop-place-preserved c =
     let place = c.loop-place.place in
     let before = c.loop-place.invariant in
     let loaded = c.load_own-found.ensures in
-    let inside : place < length words = omega (arith, c.loop-place-test.true, c.told-words) in
+    let inside : place < length words = omega (arith, c.loop-place-test.true) in
     elim c.if-found-word.branch [
       | then-found-word w ↦
           let stored = w.store_word.ensures in record {
@@ -38,5 +38,5 @@ loop-place-preserved c =
 pub returns-clause-staged : goal.returns-clause-staged
 returns-clause-staged c =
     let words = c.args.words.now in
-    let all : c.loop-place.place ≡ length words = omega (arith, c.loop-place-test.false, c.loop-place.auto, c.told-words) in
+    let all : c.loop-place.place ≡ length words = omega (arith, c.loop-place-test.false, c.loop-place.auto) in
     c.loop-place.invariant.stored ∙ ap (seat_staged c.args.seat.now.me) (ap (first_words words) all ∙ all_words words)

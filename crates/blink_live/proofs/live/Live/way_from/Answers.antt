@@ -42,8 +42,8 @@ its_link : (c : goal.After-load_word-right) (page : PlainPage) → ReadsPage c.a
 its_link c page reads =
     let start = c.row_place-start.ensures.start in
     let first = ap (λ (x : SeatState). x.0.reads) c.entry_from.ensures.same.2 ∙ reads.reads in
-    let high : c.load_word.result ≡ page.high = c.load_word.ensures.word c.args.row (page_words page) start first in
-    let word : c.load_word-right.result ≡ unwrap_or page.right 0 = c.load_word-right.ensures.word c.args.row (page_words page) start (ap (λ (x : SeatState). x.0.reads) c.load_word.ensures.same.2 ∙ first) in
+    let high : c.load_word.result ≡ page.high = c.load_word.ensures.word c.args.row (page_words page) start first (omega arith) in
+    let word : c.load_word-right.result ≡ unwrap_or page.right 0 = c.load_word-right.ensures.word c.args.row (page_words page) start (ap (λ (x : SeatState). x.0.reads) c.load_word.ensures.same.2 ∙ first) (omega arith) in
     has_link page c.args.key c.load_word-right.result reads.lawful (let fits = c.ranges.key.fits in omega (arith, fits)) (let above = c.if-key-load_word.true in omega (arith, high, above)) word
 
 pub overflow_cast-result-then-key-load_word : goal.overflow_cast-result-then-key-load_word
@@ -51,13 +51,13 @@ overflow_cast-result-then-key-load_word c = let has = (its_link c c.requires.pag
 
 pub returns-then-key-load_word-clause-way : goal.returns-then-key-load_word-clause-way
 returns-then-key-load_word-clause-way c page reads level =
-    let high : c.load_word.result ≡ page.high = c.load_word.ensures.word c.args.row (page_words page) c.row_place-start.ensures.start (ap (λ (x : SeatState). x.0.reads) c.entry_from.ensures.same.2 ∙ reads.reads) in
+    let high : c.load_word.result ≡ page.high = c.load_word.ensures.word c.args.row (page_words page) c.row_place-start.ensures.start (ap (λ (x : SeatState). x.0.reads) c.entry_from.ensures.same.2 ∙ reads.reads) (omega arith) in
     let above = c.if-key-load_word.true in
     leads_right page c.args.key c.load_word-right.result (omega (arith, high, above)) (its_link c page reads)
 
 pub returns-clause-way : goal.returns-clause-way
 returns-clause-way c page reads level =
-    let high : c.load_word.result ≡ page.high = c.load_word.ensures.word c.args.row (page_words page) c.row_place-start.ensures.start (ap (λ (x : SeatState). x.0.reads) c.entry_from.ensures.same.2 ∙ reads.reads) in
+    let high : c.load_word.result ≡ page.high = c.load_word.ensures.word c.args.row (page_words page) c.row_place-start.ensures.start (ap (λ (x : SeatState). x.0.reads) c.entry_from.ensures.same.2 ∙ reads.reads) (omega arith) in
     let test = c.if-key-load_word.false in
     let not_right : c.args.key ≤ page.high = omega (arith, high, test) in
     let entry : None ≡ slice_get page.entries (place_of c.args.key page.entries) = sym c.in_default.is ∙ c.entry_from.ensures.entry c.args.row page c.row_place-start.ensures.start reads in
