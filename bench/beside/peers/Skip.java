@@ -11,7 +11,9 @@ import java.util.concurrent.ConcurrentSkipListMap;
 import java.util.concurrent.atomic.AtomicInteger;
 
 final class Skip {
-    static final int FIND = 0, INSERT = 1, DELETE = 2, REPLACE = 3, SCAN = 4;
+    static final int FIND = 0, INSERT = 1, DELETE = 2, REPLACE = 3, SCAN = 4, LOOK = 5;
+    // So that a scan whose entries nobody adds isn't left out.
+    static volatile long looked;
     static final long MANY = 2, ABSENT = 1, INSERTED = 2, SAME = -1;
     static final int WARM_UPS = 2;
 
@@ -73,6 +75,8 @@ final class Skip {
                 case INSERT -> sum += map.putIfAbsent(key, pointer) == null ? INSERTED : ABSENT;
                 case DELETE -> sum += found(map.remove(key));
                 case REPLACE -> sum += found(map.replace(key, pointer));
+                // What it finds is nobody's to know, since others insert meanwhile.
+                case LOOK -> looked += scan(map, key, pointer);
                 default -> sum += scan(map, key, pointer);
             }
         }

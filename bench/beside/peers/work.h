@@ -16,7 +16,7 @@
 #include <vector>
 
 typedef uint64_t u64;
-enum Kind { FIND, INSERT, DELETE, REPLACE, SCAN };
+enum Kind { FIND, INSERT, DELETE, REPLACE, SCAN, LOOK };
 enum Mode { OWN, ANY, MANY, SCANS };
 const u64 ABSENT = 1, INSERTED = 2, SAME = ~u64(0);
 
@@ -52,6 +52,12 @@ template <class Peer> u64 one(Peer& peer, const Step& step) {
     case INSERT: return peer.insert(step.key, step.pointer) ? INSERTED : ABSENT;
     case DELETE: return peer.erase(step.key, pointer) ? pointer : ABSENT;
     case REPLACE: return peer.replace(step.key, step.pointer, pointer) ? pointer : ABSENT;
+    case LOOK: {
+      // What it finds is nobody's to know, since others insert meanwhile.
+      volatile u64 found = peer.scan(step.key, step.pointer);
+      (void)found;
+      return 0;
+    }
     default: return peer.scan(step.key, step.pointer);
   }
 }
@@ -117,10 +123,10 @@ template <class Peer> int drive(const char* path) {
     // Where a change is left out, the contents are others.
     bool whole = true;
     for (size_t i = 0; i < phases.size(); i++) {
-      bool erases = has(phases[i], DELETE);
-      if ((erases && !Peer::CAN_ERASE) || phases[i].mode == MANY || (has(phases[i], SCAN) && !Peer::CAN_SCAN)) {
+      bool erases = has(phases[i], DELETE), inserts = has(phases[i], INSERT);
+      if ((erases && !Peer::CAN_ERASE) || phases[i].mode == MANY || ((has(phases[i], SCAN) || has(phases[i], LOOK)) && !Peer::CAN_SCAN)) {
         printf("left %llu %zu\n", (unsigned long long)number, i);
-        whole &= !erases;
+        whole &= !erases && !inserts;
         continue;
       }
       auto told = timed(*peer, phases[i]);

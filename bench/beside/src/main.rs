@@ -12,6 +12,7 @@
 //! beside turns           measures finds, changes and scans by turns: of sessions beside those of passes, and scans beside a BTreeMap's
 //! beside changes         times each kind of call once, for bench/changes.sh, which compares two libraries
 //! beside life            measures the life of a map: joining, opening, and what an insertion uses up
+//! beside tails           measures how long single changes take: the median, and the slowest of a thousand and of ten thousand
 //! beside soak FAN CHANGES
 //!                        changes a map by eight threads so many times, looks everything up, and tells time and memory
 //! beside side NAME FILE  what a process of its own does: runs the cases of a file by this side
@@ -26,8 +27,10 @@ mod plot;
 mod report;
 mod rounds;
 mod script;
+mod shards;
 mod side;
 mod soak;
+mod tails;
 mod turns;
 mod workload;
 
@@ -36,6 +39,7 @@ use ours::{ByIndex, ByMap, ByTable};
 use plan::Scale;
 use report::Report;
 use rounds::{measure, room};
+use shards::Shards;
 use std::error::Error;
 use std::path::Path;
 use std::sync::{Mutex, RwLock};
@@ -55,6 +59,7 @@ fn side(name: &str, file: &Path) -> Result<(), Box<dyn Error>> {
         "BTreeMap" => side::work::<Map>(file)?,
         "Mutex" => side::work::<Mutex<Map>>(file)?,
         "RwLock" => side::work::<RwLock<Map>>(file)?,
+        "shards" => side::work::<Shards>(file)?,
         _ => return Err(format!("no side has this name: {name}").into()),
     }
     Ok(())
@@ -119,6 +124,10 @@ fn main() -> Result<(), Box<dyn Error>> {
         }
         ["changes"] => {
             turns::changes();
+            Ok(())
+        }
+        ["tails"] => {
+            tails::tails();
             Ok(())
         }
         ["soak", fan, changes] => Ok(soak::soak(fan.parse()?, changes.parse()?)?),

@@ -8,7 +8,7 @@ use std::sync::{Mutex, RwLock};
 
 pub type Map = BTreeMap<u64, u64>;
 
-fn insert(map: &mut Map, key: u64, pointer: u64) -> bool {
+pub fn insert(map: &mut Map, key: u64, pointer: u64) -> bool {
     match map.entry(key) {
         Entry::Vacant(place) => {
             place.insert(pointer);
@@ -18,7 +18,7 @@ fn insert(map: &mut Map, key: u64, pointer: u64) -> bool {
     }
 }
 
-fn replace(map: &mut Map, key: u64, pointer: u64) -> Option<u64> {
+pub fn replace(map: &mut Map, key: u64, pointer: u64) -> Option<u64> {
     map.get_mut(&key).map(|place| std::mem::replace(place, pointer))
 }
 
@@ -26,7 +26,7 @@ fn scan(map: &Map, from: u64, count: usize) -> u64 {
     map.range(from..).take(count).fold(0, |sum, (key, pointer)| sum.wrapping_add(key ^ pointer))
 }
 
-fn filled(case: &Case) -> Map {
+pub fn filled(case: &Case) -> Map {
     let mut map = Map::new();
     for &(key, pointer) in case.entries.iter() {
         map.insert(key, pointer);
@@ -34,7 +34,7 @@ fn filled(case: &Case) -> Map {
     map
 }
 
-fn contents(map: &Map, keys: &[u64]) -> Vec<Option<u64>> {
+pub fn contents(map: &Map, keys: &[u64]) -> Vec<Option<u64>> {
     keys.iter().map(|key| map.get(key).copied()).collect()
 }
 

@@ -1,6 +1,6 @@
 //! Which workloads are measured: the cases of each group, and the row of a table that each figure stands in.
 
-use crate::workload::{Case, Expected, Keys, Mix, Mode, Model};
+use crate::workload::{Case, Expected, Keys, Mix, Mode, Model, Ycsb};
 
 /// What one run measures of a case.
 #[derive(Clone, Copy)]
@@ -48,12 +48,19 @@ pub const NEAR: &str = "80 + 10 + 10, keys side by side";
 pub const AMONG: &str = "95 replacements, 5 scans of 100 entries, all threads on all keys";
 pub const LEAF: &str = "50 finds, 50 replacements, all in one leaf";
 pub const LONG: &str = "A million changes: 96 replacements, 2 insertions, 2 deletions";
+pub const YCSB_A: &str = "YCSB A: 50 finds, 50 replacements";
+pub const YCSB_B: &str = "YCSB B: 95 finds, 5 replacements";
+pub const YCSB_C: &str = "YCSB C: finds";
+pub const YCSB_D: &str = "YCSB D: 95 finds of the latest, 5 insertions";
+pub const YCSB_E: &str = "YCSB E: 95 scans of up to 100 entries, 5 insertions";
+pub const YCSB_F: &str = "YCSB F: 50 finds, 50 times a replacement and a find";
 pub const OPEN: &str = "Opening it for 12,000 insertions and as many deletions, ms";
 pub const CLOSE: &str = "Closing it, ms";
 
 /// The tables in the order in which they are told.
-pub const WORKLOADS: [&str; 18] = [
-    FIND, GLANCE, MANY, SCAN_10, SCAN_1000, SCAN_ALL, LOAD, MIXED_80, MIXED_90, MIXED_50, ALL, AMONG, REPLACE, NEAR, LEAF, LONG, OPEN, CLOSE,
+pub const WORKLOADS: [&str; 24] = [
+    FIND, GLANCE, MANY, SCAN_10, SCAN_1000, SCAN_ALL, LOAD, MIXED_80, MIXED_90, MIXED_50, ALL, AMONG, REPLACE, NEAR, LEAF, LONG, YCSB_A, YCSB_B,
+    YCSB_C, YCSB_D, YCSB_E, YCSB_F, OPEN, CLOSE,
 ];
 
 const THREADS: [usize; 4] = [1, 2, 4, 8];
@@ -214,10 +221,34 @@ fn long(group: &mut Group, scale: Scale) {
     group.add_mixes(&base, "40,000", LONG, Mix::changes(0, 2, 2), scale.of(1_000_000), &[1, 4]);
 }
 
+// A million records, loaded by threads, and then the workloads of YCSB, one after another. Who they are is drawn by Zipf's law.
+fn ycsb(group: &mut Group, scale: Scale) {
+    let keys = Keys::random(scale.of(1_000_000), scale.of(100_000));
+    let base = Model::new(&keys);
+    let replaces = |replaces| Ycsb { replaces, ..Ycsb::default() };
+    let inserts = Ycsb { inserts: 5, ..Ycsb::default() };
+    for threads in [1, 4] {
+        let mut model = Model::empty(&keys);
+        let load = model.load(threads);
+        group.add(model, "1,000,000", &[(LOAD, Figure::Phase(load))]);
+        let mut model = base.again();
+        let rows = [
+            (YCSB_A, replaces(50), 200_000),
+            (YCSB_B, replaces(5), 400_000),
+            (YCSB_C, Ycsb::default(), 400_000),
+            (YCSB_D, Ycsb { latest: true, ..inserts }, 400_000),
+            (YCSB_E, Ycsb { scans: true, ..inserts }, 40_000),
+            (YCSB_F, Ycsb { reads_first: true, ..replaces(50) }, 200_000),
+        ];
+        let rows = rows.map(|(workload, kind, count)| (workload, Figure::Phase(model.ycsb(kind, threads, scale.of(count)))));
+        group.add(model, "1,000,000", &rows);
+    }
+}
+
 /// All groups.
 pub fn groups(scale: Scale) -> Vec<Group> {
-    let mut groups = ["random", "million", "ascending", "meeting"].map(Group::new);
-    let [few, many, sorted, others] = &mut groups;
+    let mut groups = ["random", "million", "ascending", "meeting", "ycsb"].map(Group::new);
+    let [few, many, sorted, others, drawn] = &mut groups;
     random(few, 10_000, "10,000", &[1, 4], scale);
     random(few, 40_000, "40,000", &THREADS, scale);
     million(many, scale);
@@ -226,6 +257,7 @@ pub fn groups(scale: Scale) -> Vec<Group> {
     ascending(sorted, 1_000_000, "1,000,000 ascending", scale);
     meeting(others, scale);
     long(others, scale);
+    ycsb(drawn, scale);
     groups.into()
 }
 

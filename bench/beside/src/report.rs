@@ -56,7 +56,7 @@ impl Line {
     // The time of the best fan to that of the best peer, in the order of `RATIOS`: of the map and of the table to what threads may
     // change together, and of the index to a map that one thread has.
     fn ratios(&self, sides: &[String]) -> [Option<f64>; 3] {
-        let shared = ["Mutex", "RwLock", "TBB", "JDK", "libcds"];
+        let shared = ["Mutex", "RwLock", "shards", "TBB", "JDK", "libcds"];
         let ratio = |ours: &[&str], theirs: &[&str]| Some(self.best(sides, ours)? / self.best(sides, theirs)?);
         [ratio(&MAPS, &shared), ratio(&TABLES, &shared), ratio(&INDEXES, &["BTreeMap"])]
     }

@@ -27,7 +27,7 @@ pub struct Measured {
 }
 
 /// The sides of this program.
-pub const OWN: [&str; 8] = ["map 32", "table 32", "table 16", "index 32", "index 16", "BTreeMap", "Mutex", "RwLock"];
+pub const OWN: [&str; 9] = ["map 32", "table 32", "table 16", "index 32", "index 16", "BTreeMap", "Mutex", "RwLock", "shards"];
 
 /// The folder for what is built and written: bench/ in out/ at the top of the repository.
 pub fn room() -> PathBuf {

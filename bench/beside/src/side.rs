@@ -1,6 +1,7 @@
 //! What a side is, and how a process of its own runs the cases of a file with it.
 
-use crate::workload::{self, with_content, Case, Mode, Phase, Step, ABSENT, DELETE, FIND, INSERT, INSERTED, REPLACE, SCAN};
+use crate::workload::{self, with_content, Case, Mode, Phase, Step, ABSENT, DELETE, FIND, INSERT, INSERTED, LOOK, REPLACE, SCAN};
+use std::hint::black_box;
 use std::io;
 use std::path::Path;
 use std::sync::atomic::{AtomicUsize, Ordering};
@@ -66,6 +67,10 @@ fn one(handle: &mut impl Handle, step: &Step) -> u64 {
         DELETE => handle.delete(step.key).unwrap_or(ABSENT),
         REPLACE => handle.replace(step.key, step.pointer).unwrap_or(ABSENT),
         SCAN => handle.scan(step.key, step.pointer as usize),
+        LOOK => {
+            black_box(handle.scan(step.key, step.pointer as usize));
+            0
+        }
         kind => unreachable!("a step of kind {kind}"),
     }
 }

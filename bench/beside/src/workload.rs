@@ -14,6 +14,9 @@ pub const REPLACE: u64 = 3;
 /// The entries from `key` on, `pointer` of them at most.
 pub const SCAN: u64 = 4;
 
+/// The same beside insertions by other threads, so that nobody knows what it finds. It adds nothing to the sum of answers.
+pub const LOOK: u64 = 5;
+
 /// What stands for a key that isn't there, in a sum of answers or of contents.
 pub const ABSENT: u64 = 1;
 /// What an insertion of a new key adds to the sum of answers.
@@ -54,7 +57,7 @@ impl Phase {
 
     /// Whether a step of it changes the map.
     pub fn changes(&self) -> bool {
-        self.threads.iter().flatten().any(|step| step.kind != FIND && step.kind != SCAN)
+        self.threads.iter().flatten().any(|step| ![FIND, SCAN, LOOK].contains(&step.kind))
     }
 }
 
@@ -101,6 +104,49 @@ pub struct Mix {
     pub finds: u64,
     pub inserts: u64,
     pub deletes: u64,
+}
+
+/// A workload of YCSB (Cooper et al. 2010), without C, which only finds: how many of a hundred operations insert, and how many replace. The
+/// others find, or scan from 1 to 100 entries.
+#[derive(Clone, Copy, Default)]
+pub struct Ycsb {
+    pub inserts: u64,
+    pub replaces: u64,
+    /// Whether a replacement reads its key too, as workload F does.
+    pub reads_first: bool,
+    /// Whether the keys that were inserted last are looked for most, as by workload D.
+    pub latest: bool,
+    pub scans: bool,
+}
+
+/// Draws places by Zipf's law with exponent 0.99, the first most often (Gray et al. 1994).
+struct Zipf {
+    count: f64,
+    alpha: f64,
+    zeta: f64,
+    eta: f64,
+}
+
+impl Zipf {
+    fn new(count: usize) -> Zipf {
+        const THETA: f64 = 0.99;
+        let zeta = |count: usize| (1..=count).map(|rank| (rank as f64).powf(-THETA)).sum::<f64>();
+        let (all, two) = (zeta(count), zeta(2));
+        let of_all = count as f64;
+        Zipf { count: of_all, alpha: 1.0 / (1.0 - THETA), zeta: all, eta: (1.0 - (2.0 / of_all).powf(1.0 - THETA)) / (1.0 - two / all) }
+    }
+
+    fn rank(&self, random: &mut Random) -> usize {
+        let drawn = (random.word() >> 11) as f64 / (1u64 << 53) as f64;
+        let place = drawn * self.zeta;
+        if place < 1.0 {
+            return 0;
+        }
+        if place < 1.0 + 0.5f64.powf(0.99) {
+            return 1;
+        }
+        ((self.count * (self.eta * drawn - self.eta + 1.0).powf(self.alpha)) as usize).min(self.count as usize - 1)
+    }
 }
 
 /// The keys that a workload has.
@@ -306,6 +352,50 @@ impl Model {
             })
             .collect();
         self.push(Mode::Any, lanes, sum)
+    }
+
+    /// Operations of a workload of YCSB, by all threads on all keys. A replacement stores the pointer that the key has. A thread inserts
+    /// keys of its own, and looks for none that another one inserts.
+    pub fn ycsb(&mut self, kind: Ycsb, threads: usize, count: usize) -> usize {
+        let zipf = Zipf::new(self.entries.len());
+        let mut sum = 0u64;
+        let mut lanes = vec![Vec::new(); threads];
+        for lane in &mut lanes {
+            let mut own = Vec::new();
+            for _ in 0..count / threads {
+                sum = sum.wrapping_add(self.ycsb_step(kind, &zipf, &mut own, lane));
+            }
+        }
+        self.push(Mode::Any, lanes, sum)
+    }
+
+    // Draws the next operation of a thread, and returns what its answers add to the sum.
+    fn ycsb_step(&mut self, kind: Ycsb, zipf: &Zipf, own: &mut Vec<(u64, u64)>, lane: &mut Vec<Step>) -> u64 {
+        let dice = self.random.below(100) as u64;
+        if dice < kind.inserts {
+            let key = self.absent.pop().expect("a key that isn't there");
+            let pointer = !key >> 1;
+            self.map.insert(key, pointer);
+            own.push((key, pointer));
+            lane.push(Step { kind: INSERT, key, pointer });
+            return INSERTED;
+        }
+        let rank = zipf.rank(&mut self.random);
+        // By workload D a thread likes best what it inserted last.
+        let latest = if kind.latest { own.len() } else { 0 };
+        let (key, pointer) = if rank < latest { own[latest - 1 - rank] } else { self.entries[rank - latest] };
+        if kind.scans {
+            lane.push(Step { kind: LOOK, key, pointer: 1 + self.random.below(100) as u64 });
+            return 0;
+        }
+        let replaces = dice < kind.inserts + kind.replaces;
+        let (find, replace) = (Step { kind: FIND, key, pointer: 0 }, Step { kind: REPLACE, key, pointer });
+        match (replaces, kind.reads_first) {
+            (true, true) => lane.extend([find, replace]),
+            (true, false) => lane.push(replace),
+            (false, _) => lane.push(find),
+        }
+        if replaces && kind.reads_first { pointer.wrapping_mul(2) } else { pointer }
     }
 
     /// Operations of a mix, each thread on keys of its own. A find, a deletion and a replacement are of a key that is there, and an
