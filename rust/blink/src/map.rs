@@ -3,10 +3,10 @@
 use crate::range::{snapshot, Range};
 use crate::sys::{self, Code, Handle, RawAnswer};
 use crate::table::TRIES;
-use crate::{Answer, Error, Index, Op};
+use crate::{Answer, Entry, Error, Index, Op};
 use std::fmt;
 use std::marker::PhantomData;
-use std::ops::RangeBounds;
+use std::ops::{Bound, RangeBounds};
 use std::sync::{Mutex, MutexGuard, PoisonError};
 use std::thread;
 
@@ -14,8 +14,9 @@ use std::thread;
 #[derive(Clone, Copy, Debug, PartialEq, Eq, Hash)]
 pub struct Room {
     /// Page numbers. A split of a page takes one. An insertion has to have 22 when it begins, and uses none mostly. A session with
-    /// fewer draws others from the pool, 22 to 512, and loses those that it had left. So splits by one session take 18,688 of 20,000
-    /// numbers, but 559 of 1,000, and 11 of 200 (measured): have some thousands.
+    /// fewer draws others from the pool, up to 512, and keeps those that it had left where the pool's next ones follow them, as they do while
+    /// nobody else draws; else it loses them, up to 21 at a draw. So splits by one session take 19,979 of 20,000 numbers, 979 of 1,000, and
+    /// 179 of 200 (measured); where several draw by turns from a small pool, much less: have some thousands.
     pub pages: u32,
     /// Rows, of 560 bytes. Each write of a page takes one. An insertion has to have 44 when it begins, and writes one page mostly;
     /// a deletion, a replacement or an exchange has to have one. The row that a write replaces comes back to its session, once
@@ -239,6 +240,99 @@ impl<'map> Session<'map> {
         // No operation is under way between two calls; nothing else is refused.
         assert_eq!(code, 0);
         Answer::of(answer).pointer()
+    }
+
+    /// Whether a key is there, as [`Session::get`] looks it up.
+    pub fn contains(&mut self, key: u64) -> bool {
+        self.get(key).is_some()
+    }
+
+    /// Returns the entry of the least key, while other sessions change the map: what a scan reports first. Emptied leaves stay in the tree,
+    /// and the call walks those before the entry.
+    ///
+    /// ```
+    /// use blink::{Entry, Index, Map, Room};
+    ///
+    /// let index = Index::from_entries(8, &[(1, 10), (3, 30)].map(Entry::from))?;
+    /// let map = Map::open(&index, Room { pages: 22, rows: 44, sessions: 1 })?;
+    /// let mut session = map.session()?;
+    /// assert_eq!(session.first(), Some(Entry { key: 1, pointer: 10 }));
+    /// assert_eq!(session.next(1), Some(Entry { key: 3, pointer: 30 }));
+    /// assert_eq!(session.next(3), None);
+    /// assert_eq!(session.count(..3), 1);
+    /// # Ok::<(), blink::Error>(())
+    /// ```
+    pub fn first(&mut self) -> Option<Entry> {
+        self.range(..).next()
+    }
+
+    /// Returns the entry of the least key above this one, in the same way.
+    pub fn next(&mut self, key: u64) -> Option<Entry> {
+        self.range((Bound::Excluded(key), Bound::Unbounded)).next()
+    }
+
+    /// Counts the entries whose keys are in the range, by a scan of them: [`Range`] says what it sees of a key that changes meanwhile.
+    pub fn count(&mut self, range: impl RangeBounds<u64>) -> usize {
+        self.range(range).count()
+    }
+
+    /// Takes the entry of the least key away, and returns it; none, if a scan found none. Of two sessions that take entries at once, each
+    /// gets its own. A lesser key that another session inserts meanwhile may be passed over.
+    ///
+    /// It is refused as [`Session::remove`] is, and takes nothing away then.
+    ///
+    /// ```
+    /// use blink::{Entry, Index, Map, Room};
+    ///
+    /// let index = Index::from_entries(8, &[(1, 10), (3, 30)].map(Entry::from))?;
+    /// let map = Map::open(&index, Room { pages: 22, rows: 44, sessions: 1 })?;
+    /// let mut session = map.session()?;
+    /// assert_eq!(session.pop_first()?, Some(Entry { key: 1, pointer: 10 }));
+    /// assert_eq!(session.pop_first()?, Some(Entry { key: 3, pointer: 30 }));
+    /// assert_eq!(session.pop_first()?, None);
+    /// # Ok::<(), blink::Error>(())
+    /// ```
+    pub fn pop_first(&mut self) -> Result<Option<Entry>, Error> {
+        while let Some(entry) = self.first() {
+            if self.compare_remove(entry.key, entry.pointer)?.is_ok() {
+                return Ok(Some(entry));
+            }
+        }
+        Ok(None)
+    }
+
+    /// Takes away each entry that a scan of the range reports and `keeps` doesn't want, in ascending order, and returns how many it took.
+    /// One that another session changes between the report and the removal stays.
+    ///
+    /// It is refused as [`Session::remove`] is. What it has taken away by then stays away.
+    ///
+    /// ```
+    /// use blink::{Entry, Index, Map, Room};
+    ///
+    /// let index = Index::from_entries(8, &[(1, 10), (2, 20), (3, 30)].map(Entry::from))?;
+    /// let map = Map::open(&index, Room { pages: 22, rows: 44, sessions: 1 })?;
+    /// let mut session = map.session()?;
+    /// assert_eq!(session.retain(.., |entry| entry.key % 2 == 1)?, 1);
+    /// assert_eq!(session.range(..).map(|entry| entry.key).collect::<Vec<_>>(), [1, 3]);
+    /// # Ok::<(), blink::Error>(())
+    /// ```
+    pub fn retain(&mut self, range: impl RangeBounds<u64>, mut keeps: impl FnMut(Entry) -> bool) -> Result<usize, Error> {
+        let end = range.end_bound().cloned();
+        let (mut taken, mut from) = (0, range.start_bound().cloned());
+        loop {
+            // The scan borrows the session, so some entries are reported before the first of them is taken away.
+            let mut part = [Entry { key: 0, pointer: 0 }; 64];
+            let reported = part.iter_mut().zip(self.range((from, end))).map(|(place, entry)| *place = entry).count();
+            for &entry in &part[..reported] {
+                if !keeps(entry) && self.compare_remove(entry.key, entry.pointer)?.is_ok() {
+                    taken += 1;
+                }
+                from = Bound::Excluded(entry.key);
+            }
+            if reported < part.len() {
+                return Ok(taken);
+            }
+        }
     }
 
     /// Returns the entries whose keys are in the range, in ascending order, while other sessions change the map. A key that is there
