@@ -3,3 +3,7 @@ mod EntryIsShown
 mod OneIsFirst
 mod TwoInsert
 mod NobodyElse
+mod RaisesAdd
+mod SessionsRaise
+mod TriesToRaise
+mod TwoRaise

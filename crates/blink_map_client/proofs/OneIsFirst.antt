@@ -12,6 +12,7 @@ use Rattle.blink_live.specs.Accounts.{made_at}
 use Rattle.blink_live.proofs.Offered.{AreBy, made_here}
 use Rattle.blink_map.specs.{change_to}
 use Rattle.blink_map_client.specs.Racing.{OneIsInserted}
+use Rattle.blink_map_client.proofs.SessionsKnow.{no_length}
 
 -- each change of the list is by one of two authors
 abbrev pub AreByTwo : ℕ → ℕ → List Change → Type 0
@@ -27,10 +28,6 @@ pub record Inserts (start : ℕ → Option ℕ) (author key pointer : ℕ) (chan
 -- what the head of a list is
 head_of : (x y : Change) (xs ys : List Change) → x ∷ xs ≡ y ∷ ys → (x ≡ y) × (xs ≡ ys)
 head_of x y xs ys same = (cc, cc)
-
-no_length : (xs : List Change) → length xs ≡ 0 → xs ≡ []
-no_length [] none = refl
-no_length (x ∷ xs) none = absurd (omega (arith, none))
 
 module _ (start : ℕ → Option ℕ) (one other key one_pointer other_pointer : ℕ) (differ : one ≢ other) (absent : start key ≡ None) where
   -- where a change of its own stands first, an insertion has made it

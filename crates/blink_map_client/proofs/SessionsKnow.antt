@@ -69,7 +69,7 @@ only_one items (first ∷ before) session is one =
 
 -- ---- an insertion by the only session
 
-no_length : (xs : List Change) → length xs ≡ 0 → xs ≡ []
+pub no_length : (xs : List Change) → length xs ≡ 0 → xs ≡ []
 no_length [] none = refl
 no_length (x ∷ xs) none = absurd (omega (arith, none))
 

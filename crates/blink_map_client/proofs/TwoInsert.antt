@@ -46,7 +46,7 @@ module _ (opening : ℕ → Option ℕ) (seen final later : List Change) (is_fin
       }
 
   -- with two places each change is by one of the two
-  by_two : (one other : ℕ) → one ≢ other → one < 2 → other < 2 → HaveAuthors 2 final → AreByTwo one other later
+  pub by_two : (one other : ℕ) → one ≢ other → one < 2 → other < 2 → HaveAuthors 2 final → AreByTwo one other later
   by_two one other differ one_in other_in authors k d inside =
       let change : Change = get_or later k d in
       let among : Contains final change = subst (λ (l : List Change). Contains l change) is_final (Contains-append_right seen later change (Contains-get_or later k d inside)) in

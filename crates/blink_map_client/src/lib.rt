@@ -1,6 +1,7 @@
 //! What callers of a map know from its contracts alone.
 #![tactic(auto)]
 
+mod counter;
 #[cfg(test)]
 mod tests;
 
@@ -17,6 +18,7 @@ ghost use Rattle.blink_map_client.specs.Whole.{AreOnlyTheirs};
 use blink_batch::Answer;
 use blink_index::Index;
 use blink_map::{Full, Map, MapError, Room, Session, Unclosed};
+pub use counter::{Counted, NotRaised, raise, raise_by_two, raise_times};
 use std::alloc::Global;
 use std::sync::Wait;
 

@@ -3,8 +3,8 @@ ghost use Rattle.std.specs.Prelude.{◌≡◌, ◌≢◌};
 ghost use Rattle.blink_map.specs.{IsSessionOf, place_of, places_of};
 
 use crate::{
-    NotInserted, close_with_all, insert_and_find, insert_and_show, insert_by_two, open_and_close,
-    open_and_find,
+    Counted, NotInserted, NotRaised, close_with_all, insert_and_find, insert_and_show,
+    insert_by_two, open_and_close, open_and_find, raise, raise_by_two, raise_times,
 };
 use blink_batch::Answer;
 use blink_index::Index;
@@ -110,4 +110,41 @@ fn two_insertions_of_a_present_key_are_none(rt: HostRuntime) {
     let (map, mut one, mut other) = two_of(&rt, rt.alloc(), &five(&rt, rt.alloc()));
     let there = insert_by_two(&rt, &map, &mut one, &mut other, 5, (51, 52));
     assert_eq!(rt; there, Err(NotInserted::Exists(50)));
+}
+
+#[test]
+fn no_raise_of_two_sessions_is_lost(rt: HostRuntime) {
+    let (map, mut one, mut other) = two_of(&rt, rt.alloc(), &five(&rt, rt.alloc()));
+    let counted = raise_by_two(&rt, &map, &mut one, &mut other, 5, (300, 400));
+    let all = Counted {
+        first: 50,
+        by_one: 300,
+        by_other: 400,
+        last: 750,
+    };
+    assert_eq!(rt; counted, Some(all));
+    assert_eq!(rt;
+        (map.find(&mut one, 5), map.find(&mut other, 5)),
+        (Some(750), Some(750))
+    );
+}
+
+#[test]
+fn two_sessions_raise_no_absent_key(rt: HostRuntime) {
+    let (map, mut one, mut other) = two_of(&rt, rt.alloc(), &five(&rt, rt.alloc()));
+    let counted = raise_by_two(&rt, &map, &mut one, &mut other, 6, (3, 4));
+    assert_eq!(rt; counted, None);
+    assert_eq!(rt; map.find(&mut one, 6), None);
+}
+
+#[test]
+fn a_counter_ends_at_the_greatest_number(rt: HostRuntime) {
+    let (map, mut session) = one_of(&rt, rt.alloc(), &five(&rt, rt.alloc()));
+    assert_eq!(rt; raise(&rt, &map, &mut session, 5), Ok(51));
+    let replaced = map.replace(&rt, &mut session, 5, u64::MAX - 2);
+    assert_eq!(rt; replaced, Ok(Answer::Replaced(51)));
+    assert_eq!(rt; raise_times(&rt, &map, &mut session, 5, 4), 2);
+    assert_eq!(rt; map.find(&mut session, 5), Some(u64::MAX));
+    assert_eq!(rt; raise(&rt, &map, &mut session, 5), Err(NotRaised::Greatest));
+    assert_eq!(rt; raise(&rt, &map, &mut session, 6), Err(NotRaised::Absent));
 }
