@@ -115,17 +115,17 @@ fn two_insertions_of_a_present_key_are_none(rt: HostRuntime) {
 #[test]
 fn no_raise_of_two_sessions_is_lost(rt: HostRuntime) {
     let (map, mut one, mut other) = two_of(&rt, rt.alloc(), &five(&rt, rt.alloc()));
-    let counted = raise_by_two(&rt, &map, &mut one, &mut other, 5, (300, 400));
+    let counted = raise_by_two(&rt, &map, &mut one, &mut other, 5, (30_000, 40_000));
     let all = Counted {
         first: 50,
-        by_one: 300,
-        by_other: 400,
-        last: 750,
+        by_one: 30_000,
+        by_other: 40_000,
+        last: 70_050,
     };
     assert_eq!(rt; counted, Some(all));
     assert_eq!(rt;
         (map.find(&mut one, 5), map.find(&mut other, 5)),
-        (Some(750), Some(750))
+        (Some(70_050), Some(70_050))
     );
 }
 
