@@ -5,6 +5,7 @@
 mod stepped;
 
 use blink::{Answer, Begun, Entry, Error, Index, Left, Map, Op, Room, Session};
+use std::cell::Cell;
 use std::ffi::{c_int, c_void};
 use std::sync::atomic::{AtomicBool, AtomicU64, Ordering::SeqCst};
 use std::thread;
@@ -108,6 +109,49 @@ fn a_reader_that_is_stopped_anywhere_reads_rows_that_are_not_written() {
     let held = come_back.iter().filter(|back| !**back).count();
     // The call reads the prime block, the leaf's row, and the entry between the marks.
     assert!(held > 20, "{held}");
+}
+
+// ---- a reader that makes one call after another
+
+// So many calls the reader makes.
+const CALLS: usize = 100;
+
+// The reader is stopped in the midst of each of its calls, so a writer never finds it between two of them. The rows that were taken out
+// in one call still come back in the next: the reader's mark is another one then, and tells that the call before has ended.
+#[test]
+fn rows_come_back_though_the_reader_is_always_inside_a_call() {
+    let map = map_of_four(2);
+    let mut writer = Writer::new(&map);
+    let mut reader = map.session().unwrap();
+    let passed = Cell::new(0u32);
+    let pass = || {
+        passed.set(passed.get() + 1);
+        true
+    };
+    by_instruction(|| reader.get(1), pass);
+    let midst = passed.get() / 2;
+    let mut replaced = Vec::with_capacity(CALLS);
+    let in_each_call = || {
+        for _ in 0..CALLS {
+            passed.set(0);
+            reader.get(1);
+        }
+    };
+    by_instruction(in_each_call, || {
+        pass();
+        if passed.get() == midst {
+            replaced.push(writer.replaces_at_most(3 * ROWS));
+        }
+        true
+    });
+    // At the first stop each of the writer's rows is written once, and none comes back: so the reader is inside its call there.
+    assert_eq!((replaced.len(), replaced[0]), (CALLS, QUOTA));
+    // In each later call the rows of the call before come back, and no others: at most as many as the writer has.
+    assert!(replaced.iter().all(|count| (1..=QUOTA).contains(count)), "{replaced:?}");
+    let last = FIRST + replaced.iter().map(|count| u64::from(*count)).sum::<u64>();
+    assert_eq!(reader.get(1), Some(last));
+    drop((writer, reader));
+    assert!(map.close().unwrap().scan(..).eq([(1, last), (2, 20), (3, 30), (4, 40)].map(Entry::from)));
 }
 
 // ---- a change that is stopped at each of its instructions
