@@ -40,6 +40,7 @@ mod index;
 mod map;
 mod memory;
 mod operation;
+mod ordered;
 mod range;
 mod read;
 mod reader;

@@ -1,4 +1,4 @@
-//! What a session has of an ordered map beside scans: beside a plain map, and by several threads.
+//! What a session and an index have of an ordered map beside scans: beside a plain map, and by several threads.
 
 use blink::{Entry, Index, Map, Room};
 use std::collections::BTreeMap;
@@ -67,4 +67,54 @@ fn threads_that_take_the_first_entry_take_each_once() {
     taken.sort_unstable();
     assert_eq!(taken, entries);
     assert!(map.close().unwrap().is_empty());
+}
+
+// An operation at an index and at a plain map, which answer alike.
+fn at_both(index: &mut Index, plain: &mut BTreeMap<u64, u64>, kind: u64, key: u64, other: u64) {
+    match kind {
+        0..=3 => assert_eq!(index.put(key, other).unwrap(), plain.insert(key, other)),
+        4 => {
+            let next = |pointer: Option<u64>| pointer.map(|pointer| pointer + 1).filter(|pointer| pointer % 3 > 0);
+            let before = plain.get(&key).copied();
+            match next(before) {
+                Some(pointer) => _ = plain.insert(key, pointer),
+                None => _ = plain.remove(&key),
+            }
+            assert_eq!(index.update(key, next).unwrap(), before);
+        }
+        5 => assert_eq!(index.pop_first(), plain.pop_first().map(|(key, pointer)| Entry { key, pointer })),
+        6 => assert_eq!(index.pop_last(), plain.pop_last().map(|(key, pointer)| Entry { key, pointer })),
+        _ => {
+            let before = plain.len();
+            plain.retain(|at, _| !(key..=other).contains(at) || at % 3 == 0);
+            assert_eq!(index.retain(key..=other, |entry| entry.key % 3 == 0), before - plain.len());
+        }
+    }
+    assert_eq!(index.contains(key), plain.contains_key(&key));
+}
+
+#[test]
+fn an_index_answers_as_a_plain_map() {
+    for fan in [4, 32] {
+        let (mut index, mut plain, mut state) = (Index::new(fan).unwrap(), BTreeMap::new(), 2);
+        for round in 0..20_000 {
+            let (kind, key) = (next_random(&mut state) % 8, next_random(&mut state) % 500);
+            at_both(&mut index, &mut plain, kind, key, key + next_random(&mut state) % 40);
+            if round % 500 == 499 {
+                let (mut upper, mut plain_upper) = (index.split_off(key).unwrap(), plain.split_off(&key));
+                assert!(upper.scan(..).eq(plain_upper.iter().map(entry)));
+                // The other one's pointers win.
+                (0..20).for_each(|near| _ = (upper.put(key / 2 + near, round).unwrap(), plain_upper.insert(key / 2 + near, round)));
+                index.append(&mut upper).unwrap();
+                plain.append(&mut plain_upper);
+                assert!(upper.is_empty());
+            }
+            if round % 5_000 == 4_999 {
+                index.clear().unwrap();
+                plain.clear();
+                assert_eq!((index.len(), index.pages()), (0, 1));
+            }
+        }
+        assert!(index.scan(..).eq(plain.iter().map(entry)));
+    }
 }
