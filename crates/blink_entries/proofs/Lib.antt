@@ -4,6 +4,8 @@ pub mod EntriesOfMaps
 pub mod WayDown
 pub mod StretchOfScan
 pub mod WhereLinksLead
+pub mod StretchBefore
+pub mod LeavesBefore
 pub mod LevelsAsLines
 pub mod packed
 pub mod Offered

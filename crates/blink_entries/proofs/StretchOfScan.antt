@@ -40,13 +40,13 @@ from_within lo greatest from ((k, v) ∷ rest) rising =
 
 module _ (lo hi : ℕ) where
   -- no entry is within that is below
-  below_none : (from : ℕ) (xs : List (ℕ × ℕ)) (to : ℕ) → IsRising from xs to → to ≤ lo → filter (is_within lo hi) (entries_from xs) ≡ []
+  pub below_none : (from : ℕ) (xs : List (ℕ × ℕ)) (to : ℕ) → IsRising from xs to → to ≤ lo → filter (is_within lo hi) (entries_from xs) ≡ []
   below_none from [] to rising below = refl
   below_none from ((k, v) ∷ rest) to rising below =
       grind (arith, nat_tests, rising.0, from_at_most_to (k + 1) rest to rising.1, below_none (k + 1) rest to rising.1 below)
 
   -- nor one that is above
-  above_none : (from : ℕ) (xs : List (ℕ × ℕ)) (to : ℕ) → IsRising from xs to → hi < from → filter (is_within lo hi) (entries_from xs) ≡ []
+  pub above_none : (from : ℕ) (xs : List (ℕ × ℕ)) (to : ℕ) → IsRising from xs to → hi < from → filter (is_within lo hi) (entries_from xs) ≡ []
   above_none from [] to rising above = refl
   above_none from ((k, v) ∷ rest) to rising above =
       let least = rising.0 in
@@ -54,7 +54,7 @@ module _ (lo hi : ℕ) where
       grind (arith, nat_tests)
 
   -- of rising entries from lo on those within are those up to hi
-  within_to : (from : ℕ) (xs : List (ℕ × ℕ)) (to : ℕ) → IsRising from xs to → lo ≤ from → filter (is_within lo hi) (entries_from xs) ≡ entries_to hi xs
+  pub within_to : (from : ℕ) (xs : List (ℕ × ℕ)) (to : ℕ) → IsRising from xs to → lo ≤ from → filter (is_within lo hi) (entries_from xs) ≡ entries_to hi xs
   within_to from [] to rising least = refl
   within_to from ((k, v) ∷ rest) to rising least =
       let first = rising.0 in
@@ -63,14 +63,14 @@ module _ (lo hi : ℕ) where
       grind (arith, nat_tests)
 
   -- those before lo's place are not within
-  within_place : (xs : List (ℕ × ℕ)) → filter (is_within lo hi) (entries_from xs) ≡ filter (is_within lo hi) (entries_from (drop (place_of lo xs) xs))
+  pub within_place : (xs : List (ℕ × ℕ)) → filter (is_within lo hi) (entries_from xs) ≡ filter (is_within lo hi) (entries_from (drop (place_of lo xs) xs))
   within_place [] = refl
   within_place ((k, v) ∷ rest) =
       let later : filter (is_within lo hi) (entries_from rest) ≡ filter (is_within lo hi) (entries_from (drop (place_of lo rest) rest)) = within_place rest in
       grind (arith, nat_tests)
 
   -- those from lo's place on rise from lo
-  place_rising : (from : ℕ) (xs : List (ℕ × ℕ)) (to : ℕ) → IsRising from xs to → lo ≤ to → IsRising lo (drop (place_of lo xs) xs) to
+  pub place_rising : (from : ℕ) (xs : List (ℕ × ℕ)) (to : ℕ) → IsRising from xs to → lo ≤ to → IsRising lo (drop (place_of lo xs) xs) to
   place_rising from [] to rising below = below
   place_rising from ((k, v) ∷ rest) to rising below =
       let later : IsRising lo (drop (place_of lo rest) rest) to = place_rising (k + 1) rest to rising.1 below in

@@ -75,6 +75,7 @@ module _ (store : PlainStore) where
     pub record StandsAt (entries : List (ℕ × ℕ)) : Type 0 where
       pub prefix : List (ℕ × ℕ)
       pub low : ℕ
+      pub least : low ≡ least_above leaf.floor
       pub after : List Cell
       pub joined : entries ≡ prefix ++ (leaf.entries ++ entries_along after)
       pub below : IsRising 0 prefix low
@@ -85,7 +86,7 @@ module _ (store : PlainStore) where
       pub rest : cells_of store leaf.right ≡ after
 
     -- the key's leaf stands among them
-    stands_at : (entries : List (ℕ × ℕ)) → AreEntries store.fan store.prime (page_of store) entries → StandsAt entries
+    pub stands_at : (entries : List (ℕ × ℕ)) → AreEntries store.fan store.prime (page_of store) entries → StandsAt entries
     stands_at entries are =
         let pages = page_of store in
         let it = chain_spans store.fan 0 are.leftmost pages are.leaves are.chain lo in_range in
@@ -124,6 +125,7 @@ module _ (store : PlainStore) where
         record {
           prefix = entries_along parts.0;
           low = least_above c.page.floor;
+          least = ap (λ (p : PlainPage). least_above p.floor) contents;
           after = parts.1;
           joined = are.joined ∙ ap entries_along parts.2 ∙ split ∙ same_leaf;
           below = subst (λ (low : ℕ). IsRising 0 (entries_along parts.0) low) (sym least) (line_rising store.fan 0 None (Some are.leftmost) parts.0 _ _ first);

@@ -18,6 +18,8 @@ pub mod Leaf
 pub mod Packed
 pub mod Packing
 pub mod Scan
+pub mod Back
 pub mod Dump
 pub mod Laws
 pub mod ScanView
+pub mod BackView

@@ -2,11 +2,13 @@
 //! is made of these calls; they stand apart, so that they are proved beside the machine of one operation.
 #![tactic(auto)]
 
+mod back;
 mod down;
 mod dump;
 mod pack;
 mod scan;
 
+pub use back::ScanBack;
 pub use down::{leaf_for, leaf_number};
 pub use dump::{OrDash, push_entries, tree_text};
 pub use pack::{add_entry, first_leaf, pages_needed, tree_over};

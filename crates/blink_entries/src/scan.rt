@@ -84,8 +84,8 @@ impl<'a> Iterator for Scan<'a> {
     }
 }
 
-// How many entries may come after the next.
-fn one_fewer(most: Option<u64>) -> Option<u64>
+/// How many entries may come after the next.
+pub(crate) fn one_fewer(most: Option<u64>) -> Option<u64>
     ensures { result ≡ one_fewer most }
 {
     match most {
@@ -94,8 +94,8 @@ fn one_fewer(most: Option<u64>) -> Option<u64>
     }
 }
 
-// The entries from the first whose key is at least `lo`.
-fn not_below(entries: &[(u64, u64)], lo: u64) -> &[(u64, u64)]
+/// The entries from the first whose key is at least `lo`.
+pub(crate) fn not_below(entries: &[(u64, u64)], lo: u64) -> &[(u64, u64)]
     ensures { result.now ≡ drop (place_of lo entries.now) entries.now }
 {
     for (i, &(key, _)) in entries.iter().enumerate() {

@@ -1,5 +1,5 @@
 -- One operation that a single worker carries out on a store: the step that it needs, and what the step makes of the store.
-use Rattle.std.specs.Prelude.{◌≡◌, ℕ, ◌+◌, ◌-◌, ◌<◌, List, [], ◌∷◌, ◌++◌, Some, length, slice_set, ⊤}
+use Rattle.std.specs.Prelude.{◌≡◌, ℕ, ◌+◌, ◌-◌, ◌<◌, [], ◌∷◌, ◌++◌, Some, length, slice_set, ⊤}
 use Rattle.blink_page.specs.{IsPageNumber, PlainPage}
 use Rattle.blink_page.specs.declared.limits.TheConstants.{LEVELS}
 use Rattle.blink_store.specs.{PlainStore, page_of}

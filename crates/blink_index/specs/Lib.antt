@@ -6,8 +6,8 @@ pub use Rattle.blink_entries.specs.Index.{map_of}
 pub use Rattle.blink_entries.specs.Scan.{BringsInOrder, is_from, is_within}
 -- the text of a tree at rest: a line for each page, the top level first, and each level from the left
 pub use Rattle.blink_entries.specs.Dump.{entry_text, text_of_store, words_of}
--- the entries at the ends of a plain map, and those above a key
-pub use Rattle.blink_index.specs.Ends.{first_of, is_above, last_of}
+-- the entries at the ends of a plain map, and those on one side of a key
+pub use Rattle.blink_index.specs.Ends.{first_of, is_above, is_below, is_up_to, last_of}
 -- what one operation makes of a tree at rest, in place
 pub use Rattle.blink_index.specs.Edit.{HasPagesFor, IsEditRefusal, SplitsLeaf, StopsEdits}
 -- why an index can't be made of entries

@@ -1,5 +1,5 @@
 //! A tree at rest, as a map to be read.
-ghost use Rattle.std.specs.Prelude.{◌≡◌, ℕ, ◌↔◌, List, [], filter, length, string_bytes, IfOk, IsErrOf, IsOkUnless, take};
+ghost use Rattle.std.specs.Prelude.{◌≡◌, ℕ, ◌↔◌, List, [], filter, length, reverse, string_bytes, IfOk, IsErrOf, IsOkUnless, take};
 ghost use Rattle.blink_operation.specs.{pointer_of};
 ghost use Rattle.blink_page.specs.{value_at, IsBadFan, IsPageNumber};
 ghost use Rattle.blink_rest.specs.{AreEntries, IsStoreAtRest, IsMapOf};
@@ -7,6 +7,7 @@ ghost use Rattle.blink_store.specs.{page_of, new_store};
 ghost use Rattle.blink_entries.specs.Dump.{text_of_store};
 ghost use Rattle.blink_entries.specs.Index.{map_of};
 ghost use Rattle.blink_entries.specs.Scan.{is_from, is_within, BringsInOrder};
+ghost use Rattle.blink_index.specs.Ends.{is_up_to};
 
 mod change;
 mod compact;
@@ -14,7 +15,7 @@ mod ends;
 mod sorted;
 
 use crate::error::IndexError;
-use blink_entries::{Scan, leaf_for, tree_text};
+use blink_entries::{Scan, ScanBack, leaf_for, tree_text};
 use blink_operation::Entry;
 use blink_page::{MAX_FAN, MIN_FAN};
 use blink_rest::Rest;
@@ -133,6 +134,27 @@ impl Index {
         ensures runs { BringsInOrder }
     {
         Scan::new(self.store(), lo, u64::MAX, Some(n))
+    }
+
+    /// Returns the entries whose keys are from `lo` to `hi`, both included, in descending order; none if `lo > hi`. The call takes
+    /// no memory. As entries are asked for, the scan goes down to each leaf of the range, which reads one page for each level.
+    pub fn scan_back(&self, lo: u64, hi: u64) -> ScanBack<'_>
+        ensures entries { result ≡ reverse (filter (is_within lo hi) (map_of self.now)) }
+        ensures map { IsMapOf self.now (map_of self.now) }
+        ensures runs { BringsInOrder }
+    {
+        ScanBack::new(self.store(), lo, hi, None)
+    }
+
+    /// Returns the last `n` entries whose keys are at most `hi`, in descending order, or all of these if they are fewer. The call
+    /// takes no memory. As entries are asked for, the scan goes down to each leaf, as `scan_back` does, and to none after the
+    /// `n`th entry.
+    pub fn page_back(&self, hi: u64, n: u64) -> ScanBack<'_>
+        ensures entries { result ≡ take n (reverse (filter (is_up_to hi) (map_of self.now))) }
+        ensures map { IsMapOf self.now (map_of self.now) }
+        ensures runs { BringsInOrder }
+    {
+        ScanBack::new(self.store(), 0, hi, Some(n))
     }
 
     /// Returns all entries, in ascending order: the plain map of the tree.

@@ -11,6 +11,6 @@ mod error;
 mod index;
 pub mod laws;
 
-pub use blink_entries::{OrDash, Scan, push_entries};
+pub use blink_entries::{OrDash, Scan, ScanBack, push_entries};
 pub use error::{EditError, IndexError, SortedError};
 pub use index::{Applied, Index};

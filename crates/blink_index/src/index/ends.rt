@@ -1,10 +1,10 @@
-//! The first and the last entry of an index, and the next above a key.
+//! The first and the last entry of an index, and the next above and below a key.
 ghost use Rattle.std.specs.Prelude.{◌≡◌, filter};
-ghost use Rattle.blink_index.specs.Ends.{first_of, is_above, last_of};
+ghost use Rattle.blink_index.specs.Ends.{first_of, is_above, is_below, is_up_to, last_of};
 ghost use Rattle.blink_entries.specs.Index.{map_of};
+ghost use Rattle.blink_entries.specs.Scan.{is_from};
 
 use super::Index;
-use blink_entries::leaf_for;
 use blink_operation::Entry;
 
 impl Index {
@@ -29,22 +29,38 @@ impl Index {
         self.page(key + 1, 1).next()
     }
 
+    /// Returns the entry with the least key from this one on, or `None` if every key is below it. The call takes no memory. It
+    /// reads pages as `next` does.
+    pub fn at_least(&self, key: u64) -> Option<Entry>
+        ensures { result ≡ first_of (filter (is_from key) (map_of self.now)) }
+    {
+        self.page(key, 1).next()
+    }
+
     /// Returns the entry with the greatest key, or `None` if the index has no entry. The call takes no memory. It reads one page
     /// for each level, and as many again for each empty leaf that stands to the right of that entry.
     pub fn last(&self) -> Option<Entry>
         ensures { result ≡ last_of (map_of self.now) }
     {
-        let store = self.store();
-        let mut most = u64::MAX;
-        'leaves: loop {
-            let leaf = leaf_for(store, most);
-            if let Some(&(key, pointer)) = leaf.items.last() {
-                return Some(Entry { key, pointer });
-            }
-            match leaf.floor {
-                Some(floor) => most = floor,
-                None => return None,
-            }
+        self.scan_back(0, u64::MAX).next()
+    }
+
+    /// Returns the entry with the greatest key below this one, or `None` if no key is below it. The call takes no memory. It reads
+    /// one page for each level, and as many again for each leaf without such an entry that stands between the entry and the key.
+    pub fn prev(&self, key: u64) -> Option<Entry>
+        ensures { result ≡ last_of (filter (is_below key) (map_of self.now)) }
+    {
+        if key == 0 {
+            return None;
         }
+        self.at_most(key - 1)
+    }
+
+    /// Returns the entry with the greatest key up to this one, or `None` if every key is above it. The call takes no memory. It
+    /// reads pages as `prev` does.
+    pub fn at_most(&self, key: u64) -> Option<Entry>
+        ensures { result ≡ last_of (filter (is_up_to key) (map_of self.now)) }
+    {
+        self.page_back(key, 1).next()
     }
 }
