@@ -500,10 +500,10 @@ static inline void blink_map_room(blink_map *map, uint64_t *rows, uint64_t *page
 }
 
 /* Closes the map, and gives the index of its tree: the entries that it was opened with, after all changes of the list. The handle stays,
- * and is still to be freed. Refused: BLINK_MAP_CLOSED, if the map is closed; BLINK_SESSION_MISSING; BLINK_LOST_UNDER_WAY;
- * BLINK_NO_MEMORY. After BLINK_SESSION_MISSING and BLINK_LOST_UNDER_WAY the map stays, with all its entries, and the call may be made
- * again, though no session joins any more after the latter. After BLINK_NO_MEMORY the map may be gone. Tested: it is
- * BLINK_SESSION_MISSING if the handle of a session, or another handle of the map, isn't freed, and in no other case. */
+ * and is still to be freed. Refused: BLINK_MAP_CLOSED, exactly if the map is closed; BLINK_SESSION_MISSING; BLINK_LOST_UNDER_WAY;
+ * BLINK_NO_MEMORY. But for BLINK_MAP_CLOSED the map stays, with all its entries, and the call may be made again; no session joins any
+ * more after BLINK_LOST_UNDER_WAY, and none may after BLINK_NO_MEMORY. Tested: it is BLINK_SESSION_MISSING if the handle of a session,
+ * or another handle of the map, isn't freed, and in no other case. */
 int blink_map_close(blink_map *map, blink_index *out);
 
 /* Frees the handle. The handles of sessions, and others of the map, may still be used, and are still to be freed. */
@@ -568,9 +568,9 @@ int blink_session_tell(blink_session *from, blink_session *to);
  * nothing. Refused: BLINK_PENDING; then `stock` stays as it was. */
 int blink_session_stock(blink_session *session, blink_stock *stock);
 
-/* Frees the handle. Tested: a session leaves its map by it, and its place can be taken again. An operation under way goes on to its end
- * before; of a put the half that is under way, so a put of an absent key may be left undone. If it still waits for other sessions after
- * 1,000 tries, its place is lost, and blink_map_close is refused with BLINK_LOST_UNDER_WAY. */
+/* Frees the handle. Tested: a session leaves its map by it, and its place can be taken again. An operation or a put under way goes on to
+ * its end before; only a put may be left undone, where the session has no room for its other half. If it still waits for other sessions
+ * after 1,000 tries, its place is lost, and blink_map_close is refused with BLINK_LOST_UNDER_WAY. */
 void blink_session_free(blink_session session);
 
 /* Tells ThreadSanitizer, where it is on, what "Threads" says of pointers: of the calls above, and so of the functions below. */

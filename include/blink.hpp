@@ -382,7 +382,7 @@ public:
         return left;
     }
     // Gives the index of all entries, once each session and each other object of the map is destroyed. A refused close may be called
-    // again, and has lost nothing; but after one that is refused for memory the map may be gone.
+    // again, and has lost nothing.
     Index close() {
         Index index{Index::Empty()};
         detail::check(blink_map_close(&handle_, &index.handle_));

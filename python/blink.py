@@ -493,7 +493,7 @@ class Map(_Owner):
 
     def close(self):
         """Gives the index of all entries, once each session is freed. A refused close may be called again, and has lost
-        nothing; but after one that is refused for memory the map may be gone."""
+        nothing."""
         index = Index._filled(lambda out: self._call("close", out))
         self.free()
         return index

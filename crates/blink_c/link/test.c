@@ -690,19 +690,21 @@ static void refuses_under_way(void) {
     CHECK(blink_session_finish(&one, &answer) == BLINK_DONE && is(answer, BLINK_INSERTED, 0));
     CHECK(is(changes(&other, BLINK_FIND, 8, NONE), BLINK_FOUND, 81));
     CHECK(blink_session_finish(&one, &answer) == BLINK_IDLE);
-    // a session that is freed under way: the half of the put that is under way goes on to its end, and its place can be taken again. Which
-    // half it is is open: after a replacement that found the key absent nothing was put
+    // a session that is freed under way: the put is made, whichever half of it is under way, and its place can be taken again
+    for (uint64_t turn = 0; turn < 20; turn++) {
+        leaves_a_put_under_way(&one, &other, 7, 70 + turn);
+        blink_session_free(one);
+        one.at = NULL;
+        CHECK(blink_map_join(&map, &one) == BLINK_DONE && is(changes(&one, BLINK_FIND, 7, NONE), BLINK_FOUND, 70 + turn));
+        CHECK(is(changes(&other, BLINK_DELETE, 7, NONE), BLINK_REMOVED, 70 + turn));
+    }
+    // the same where another session has inserted the key meanwhile, so that the put's insertion gives way to a replacement
     leaves_a_put_under_way(&one, &other, 7, 70);
-    blink_session_free(one);
-    one.at = NULL;
-    CHECK(blink_map_join(&map, &one) == BLINK_DONE);
-    blink_answer seven = changes(&one, BLINK_FIND, 7, NONE);
-    bool was_put = seven.kind == BLINK_FOUND;
-    CHECK(was_put ? seven.pointer == 70 : seven.kind == BLINK_ABSENT);
+    CHECK(is(changes(&other, BLINK_INSERT, 7, 75), BLINK_INSERTED, 0));
     blink_session_free(one), blink_session_free(other);
     uint64_t pointer;
     CHECK(blink_map_close(&map, &closed) == BLINK_DONE);
-    CHECK(blink_index_find(&closed, 7, &pointer) == was_put && (!was_put || pointer == 70));
+    CHECK(blink_index_find(&closed, 7, &pointer) && pointer == 70);
     CHECK(blink_index_find(&closed, 8, &pointer) && pointer == 81);
     blink_index_free(closed);
     blink_map_free(map);
@@ -930,13 +932,20 @@ static bool uses_a_map(blink_index *index) {
     CHECK(is(changes(&session, BLINK_INSERT, 7, 70), BLINK_INSERTED, 0));
     blink_session_free(session);
     code = blink_map_close(&map, &closed);
-    CHECK(code == BLINK_DONE || code == BLINK_NO_MEMORY);
-    if (code == BLINK_DONE) {
-        CHECK(blink_index_find(&closed, 7, &answer.pointer) && answer.pointer == 70 && blink_index_len(&closed) == blink_index_len(index) + 1);
-        blink_index_free(closed);
+    bool refused = code == BLINK_NO_MEMORY;
+    if (refused) {
+        // the map stays, and closes with all entries once there is memory
+        CHECK(closed.at == NULL);
+        refused_at = -1;
+        code = blink_map_close(&map, &closed);
     }
+    CHECK(code == BLINK_DONE);
+    CHECK(blink_index_find(&closed, 7, &answer.pointer) && answer.pointer == 70 && blink_index_len(&closed) == blink_index_len(index) + 1);
+    blink_index_free(closed);
+    closed.at = NULL;
+    CHECK(blink_map_close(&map, &closed) == BLINK_MAP_CLOSED && closed.at == NULL);
     blink_map_free(map);
-    return shared && code == BLINK_DONE;
+    return shared && !refused;
 }
 
 // One use of all that takes memory at readers: whether none was refused. A refusal leaves the index, or the reader, as it was.

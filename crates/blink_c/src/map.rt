@@ -2,7 +2,7 @@
 ghost use Rattle.std.specs.Prelude.{◌≡◌, ◌≢◌, ◌↔◌, ◌⊎◌, None, IfSome, IsSome, length};
 ghost use Rattle.blink_index.specs.{map_of};
 ghost use Rattle.blink_live.specs.{IsNumberedInOrder};
-ghost use Rattle.blink_owners.specs.Maps.{HasBadSessions, IsClosedMap, IsNewMap, IsOwnMap, IsOwnerOfSame, IsTooLargeMap, Joins, fan_in, map_in};
+ghost use Rattle.blink_owners.specs.Maps.{CanClose, HasBadSessions, IsClosedMap, IsNewMap, IsOwnMap, IsOwnerOfSame, IsTooLargeMap, Joins, fan_in, map_in};
 ghost use Rattle.blink_owners.specs.Sessions.{IsOwnSession};
 
 use crate::index_handle::IndexHandle;
@@ -128,7 +128,8 @@ pub extern "C" fn blink_map_room_alone(map: &mut MapHandle, rows: &mut u64, page
 }
 
 /// Closes the map, and gives the index of its tree. The handle stays, and is still to be freed. The call is refused with `Missing` if
-/// the handle of a session, or another one of the map, isn't freed. After that the call may be made again.
+/// the handle of a session, or another one of the map, isn't freed; and with `Closed` exactly if the map was closed before. After every
+/// other refusal the map stays, with all its entries, and the call may be made again.
 #[unsafe(no_mangle)]
 pub extern "C" fn blink_map_close(alloc: Global, map: &mut MapHandle, out: &mut IndexSlot) -> Code
     requires its_own { IsOwnMap map.old.value }
@@ -141,6 +142,8 @@ pub extern "C" fn blink_map_close(alloc: Global, map: &mut MapHandle, out: &mut 
     ensures numbered { IfSome out.new.value IsNumberedInOrder }
     ensures refused { result ≢ 0
         → (result ≡ 41) ⊎ (result ≡ 104) ⊎ (result ≡ 106) ⊎ (result ≡ 108) }
+    ensures closed_before { result ≡ 108 ↔ ¬ CanClose map.old.value.state }
+    ensures stays { result ≢ 0 → CanClose map.old.value.state → CanClose map.new.value.state }
     ensures unchanged { result ≢ 0 → out.new.value ≡ None }
 {
     match map.get().close(alloc) {

@@ -264,8 +264,8 @@ pub extern "C" fn blink_session_stock(session: &mut SessionHandle, stock: &mut R
 // How often an operation that is freed tries to go on.
 const TRIES: u32 = 1000;
 
-/// Frees the handle. A free session rests at its place again, which can be taken. An operation under way is driven to its end before.
-/// If it still waits after 1,000 tries, its place is lost.
+/// Frees the handle. A free session rests at its place again, which can be taken. An operation or a put under way is driven to its end
+/// before; a put whose other half lacks room is not made. If it still waits after 1,000 tries, its place is lost.
 #[unsafe(no_mangle)]
 pub extern "C" fn blink_session_free(session: SessionHandle)
     requires its_own { IsOwnSession session.value }

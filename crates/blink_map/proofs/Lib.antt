@@ -7,6 +7,7 @@ mod OperationsRest
 mod OperationsStart
 mod PendingsGoOn
 pub mod PendingsAreSent
+pub mod SettledMapsAreSent
 mod LooksOver
 mod AllSettled
 mod MembersDealt

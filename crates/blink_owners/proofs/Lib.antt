@@ -9,8 +9,10 @@ pub mod RunsInParts
 pub mod PassesCross
 pub mod KeysOfPasses
 pub mod MapsCross
+pub mod MapsStay
 pub mod SessionsCross
 pub mod SessionsGoOn
+pub mod WaitsGoOn
 pub mod SnapshotsAreGiven
 pub mod AnswersOfPuts
 pub mod DealFaults

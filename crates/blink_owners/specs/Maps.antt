@@ -6,13 +6,15 @@ use Rattle.blink_map.specs.declared.error.MapError.TheVariants as map
 use Rattle.blink_map.specs.declared.map.Map.{Map}
 use Rattle.blink_map.specs.declared.map.Room.{Room}
 use Rattle.blink_map.specs.declared.map.Session.{Session}
-use Rattle.blink_map.specs.{IsClosedWith, IsOpenedWith, IsSessionOf, IsTooLarge}
+use Rattle.blink_map.specs.declared.settled.Settled.{Settled}
+use Rattle.blink_map.specs.{IsClosedWith, IsOpenedWith, IsSessionOf, IsSettledWith, IsTooLarge}
 use Rattle.blink_batch.specs.declared.Entry.{Entry}
 use Rattle.blink_store.specs.{PlainStore}
 use Rattle.blink_owners.specs.declared.map_owner.MapOwner.{MapOwner}
 use Rattle.blink_owners.specs.declared.map_refusal.MapRefusal.{MapRefusal}
 use Rattle.blink_owners.specs.declared.map_refusal.MapRefusal.TheVariants as refused
 use Rattle.blink_owners.specs.declared.map_state.MapState.{MapState}
+use Rattle.blink_owners.specs.declared.map_state.MapState.TheVariants as state
 use Rattle.blink_owners.specs.declared.map_state.MapState.TheVariants.{Open, Unsettled, Closed}
 use Rattle.blink_owners.specs.declared.session_owner.HeldSession.TheVariants.{Free}
 use Rattle.blink_owners.specs.declared.session_owner.SessionOwner.{SessionOwner}
@@ -26,11 +28,21 @@ map_in owner = owner.map.value
 abbrev pub fan_in : MapOwner → ℕ
 fan_in owner = (map_in owner).live.fan
 
--- what is held is this map: it is open, or couldn't be settled with these sessions; or nothing is left of it
+-- the map is settled with some of its sessions
+abbrev pub IsSettledOf : Map → Settled → Type 0
+IsSettledOf map settled = (sessions : List Session) × IsSettledWith map sessions [] settled
+
+-- what is held is this map: it is open, or couldn't be settled with these sessions, or is settled; or nothing is left of it
 abbrev pub IsStateOf : Map → MapState → Type 0
 IsStateOf map (Open shared) = (arc_value shared).map ≡ map
 IsStateOf map (Unsettled unsettled) = (unsettled.map ≡ map) × All (IsSessionOf map) unsettled.sessions.items × (unsettled.receipts.items ≡ [])
+IsStateOf map (state.Settled settled) = IsSettledOf map settled
 IsStateOf map Closed = ⊤
+
+-- the map is there
+abbrev pub CanClose : MapState → Type 0
+CanClose Closed = ⊥
+CanClose held = ⊤
 
 -- a handle that a call has filled holds what is of its map
 abbrev pub IsOwnMap : MapOwner → Type 0
@@ -83,6 +95,10 @@ IsJoinFault refusal = (refusal ≡ map.OutOfMemory) ⊎ (refusal ≡ map.NoPlace
 -- and has exactly the changes that were made at their places
 abbrev pub IsClosedMap : Map → List Entry → Type 0
 IsClosedMap map entries = (sessions : List Session) × IsClosedWith map sessions [] entries
+
+-- why a map that nobody else shares isn't closed
+abbrev pub IsEndFault : MapRefusal → Type 0
+IsEndFault refusal = (refusal ≡ refused.Map map.OutOfMemory) ⊎ (refusal ≡ refused.Map map.UnderWay)
 
 abbrev pub IsCloseFault : MapRefusal → Type 0
 IsCloseFault refusal =

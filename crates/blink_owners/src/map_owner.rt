@@ -1,10 +1,12 @@
 //! What the box of a map's handle holds: an owner of the map, or what has become of it.
-ghost use Rattle.std.specs.Prelude.{◌≡◌, ◌↔◌, [], All, IfErr, IfOk, IsErrOf, length};
+ghost use Rattle.std.specs.Prelude.{◌≡◌, ◌⊎◌, ◌↔◌, List, [], All, IfErr, IfOk, IsErrOf, OnErr, length};
 ghost use Rattle.std.specs.Arc.{arc_value};
+ghost use Rattle.blink_batch.specs.declared.Entry.{Entry};
 ghost use Rattle.blink_index.specs.{map_of};
 ghost use Rattle.blink_live.specs.{IsNumberedInOrder};
-ghost use Rattle.blink_map.specs.{IsSessionOf};
-ghost use Rattle.blink_owners.specs.Maps.{HasBadSessions, IsCloseFault, IsClosedMap, IsJoinFault, IsNewMap, IsOpenFault, IsOwnMap, IsOwnerOfSame, IsShareFault, IsTooLargeMap, Joins, fan_in, map_in};
+ghost use Rattle.blink_live.specs.declared.view.Change.{Change};
+ghost use Rattle.blink_map.specs.{AreEntriesAfter, IsAfter, IsSessionOf};
+ghost use Rattle.blink_owners.specs.Maps.{CanClose, HasBadSessions, IsCloseFault, IsClosedMap, IsEndFault, IsJoinFault, IsNewMap, IsOpenFault, IsOwnMap, IsOwnerOfSame, IsSettledOf, IsShareFault, IsTooLargeMap, Joins, fan_in, map_in};
 ghost use Rattle.blink_owners.specs.Sessions.{IsOwnSession, in_map};
 
 use crate::map_refusal::MapRefusal;
@@ -12,7 +14,7 @@ use crate::map_state::MapState;
 use crate::session_owner::{HeldSession, SessionOwner};
 use crate::shared_map::SharedMap;
 use blink_index::Index;
-use blink_map::{Map, MapError, Receipt, Room, Session, Unclosed, Unsettled};
+use blink_map::{Map, MapError, Receipt, Room, Session, Settled, Unsettled};
 use std::alloc::{AllocError, Global};
 use std::mem;
 use std::snapshot::Snapshot;
@@ -136,15 +138,15 @@ impl MapOwner {
         match &self.state {
             MapState::Open(shared) => shared.map.room(),
             MapState::Unsettled(unsettled) => unsettled.map.room(),
-            MapState::Closed => (0, 0),
+            MapState::Settled(_) | MapState::Closed => (0, 0),
         }
     }
 
     /// Closes the map, and returns the index of its tree, in a box.
     ///
-    /// The call is refused with `Closed`, if nothing is left of the map; with `Missing`, if another handle of the map or the handle of a
+    /// The call is refused with `Closed`, if the map was closed before; with `Missing`, if another handle of the map or the handle of a
     /// session isn't freed; with `UnderWay`, if an operation is under way in a session that was lost; and with `OutOfMemory`, if memory
-    /// was refused. After `Missing` and `UnderWay` the map stays, and the call may be made again.
+    /// was refused. But for `Closed` the map stays, with all its entries, and the call may be made again.
     pub fn close(&mut self, alloc: Global) -> Result<Box<Index>, MapRefusal>
         requires its_own { IsOwnMap self.old }
         ensures its_own { IsOwnMap self.new }
@@ -152,7 +154,9 @@ impl MapOwner {
         ensures entries { IfOk result (λ index. IsClosedMap (map_in self.old) (map_of index.value)) }
         ensures fan { IfOk result (λ index. index.value.fan ≡ fan_in self.old) }
         ensures numbered { IfOk result (λ index. IsNumberedInOrder index.value) }
+        ensures closed { IsErrOf result MapRefusal.Closed ↔ ¬ CanClose self.old.state }
         ensures refused { IfErr result IsCloseFault }
+        ensures stays { OnErr result (CanClose self.old.state → CanClose self.new.state) }
     {
         match mem::replace(&mut self.state, MapState::Closed) {
             MapState::Open(shared) => {
@@ -179,11 +183,12 @@ impl MapOwner {
                 } = unsettled;
                 self.end(alloc, map, sessions, receipts)
             }
+            MapState::Settled(settled) => self.give(alloc, settled),
             MapState::Closed => Err(MapRefusal::Closed),
         }
     }
 
-    // Closes the map with these sessions.
+    // Settles the map with these sessions, and then closes it.
     fn end(
         &mut self,
         alloc: Global,
@@ -196,23 +201,60 @@ impl MapOwner {
         requires none { receipts.items ≡ [] }
         ensures its_own { IsOwnMap self.new }
         ensures same { IsOwnerOfSame self.old self.new }
-        ensures entries { IfOk result (λ index. IsClosedMap map (map_of index.value)) }
+        ensures entries { IfOk result (λ index. IsClosedMap (map_in self.old) (map_of index.value)) }
         ensures fan { IfOk result (λ index. index.value.fan ≡ fan_in self.old) }
         ensures numbered { IfOk result (λ index. IsNumberedInOrder index.value) }
-        ensures refused { IfErr result IsCloseFault }
+        ensures refused { IfErr result IsEndFault }
+        ensures stays { OnErr result (CanClose self.new.state) }
     {
-        self.state = MapState::Closed;
-        match map.close(alloc, sessions, receipts) {
-            Ok(index) => match Box::new(alloc, index) {
-                Ok(index) => Ok(index),
-                Err(_) => Err(MapRefusal::Map(MapError::OutOfMemory)),
-            },
-            Err(Unclosed::UnderWay(unsettled)) => {
+        match map.settle(sessions, receipts) {
+            Ok(settled) => self.give(alloc, settled),
+            Err(unsettled) => {
                 self.state = MapState::Unsettled(unsettled);
                 Err(MapRefusal::Map(MapError::UnderWay))
             }
-            Err(Unclosed::Settled(_settled)) => Err(MapRefusal::Map(MapError::OutOfMemory)),
         }
+    }
+
+    // Gives the index of the settled map, in a box. Where memory is refused, the settled map stays.
+    fn give(&mut self, alloc: Global, settled: Settled) -> Result<Box<Index>, MapRefusal>
+        requires its_own { IsSettledOf (map_in self.old) settled }
+        ensures its_own { IsOwnMap self.new }
+        ensures same { IsOwnerOfSame self.old self.new }
+        ensures entries { IfOk result (λ index. IsClosedMap (map_in self.old) (map_of index.value)) }
+        ensures fan { IfOk result (λ index. index.value.fan ≡ fan_in self.old) }
+        ensures numbered { IfOk result (λ index. IsNumberedInOrder index.value) }
+        ensures refused { IfErr result IsEndFault }
+        ensures stays { OnErr result (CanClose self.new.state) }
+    {
+        match boxed_index(alloc, &settled) {
+            Ok(index) => {
+                self.state = MapState::Closed;
+                Ok(index)
+            }
+            Err(refusal) => {
+                self.state = MapState::Settled(settled);
+                Err(MapRefusal::Map(refusal))
+            }
+        }
+    }
+}
+
+// The index of a settled map, in a box.
+fn boxed_index(alloc: Global, settled: &Settled) -> Result<Box<Index>, MapError>
+    requires its_list { (opening : List Entry) × (changes : List Change)
+        × IsAfter opening changes settled.now }
+    ensures fan { IfOk result (λ index. index.value.fan ≡ settled.now.fan) }
+    ensures entries { IfOk result (λ index. (opening : List Entry) (changes : List Change)
+        → IsAfter opening changes settled.now → AreEntriesAfter opening changes (map_of index.value)) }
+    ensures numbered { IfOk result (λ index. IsNumberedInOrder index.value) }
+    ensures refused { IfErr result
+        (λ refusal. (refusal ≡ MapError.UnderWay) ⊎ (refusal ≡ MapError.OutOfMemory)) }
+{
+    let index = settled.index(alloc)?;
+    match Box::new(alloc, index) {
+        Ok(index) => Ok(index),
+        Err(_) => Err(MapError::OutOfMemory),
     }
 }
 

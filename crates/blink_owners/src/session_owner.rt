@@ -1,5 +1,5 @@
 //! What the box of a session's handle holds: an owner of the map, and the session or its operation.
-ghost use Rattle.std.specs.Prelude.{◌≡◌, ◌≢◌, IfErr, IfOk, IfSome, OnErr, OnOk};
+ghost use Rattle.std.specs.Prelude.{◌≡◌, ◌≢◌, IfErr, IfOk, OnErr, OnOk};
 ghost use Rattle.blink_batch.specs.{FitsWords};
 ghost use Rattle.blink_machine.specs.{IsUpdate};
 ghost use Rattle.blink_map.specs.{HasTried, IsAnswered, IsPendingOf, IsSameBesideRoom, IsSessionOf, LacksRoom, op_of, session_of, WasAbsent};
@@ -10,7 +10,7 @@ use crate::map_refusal::MapRefusal;
 use crate::raw::{RawAnswer, RawScanned, RawStock, RawTaken};
 use crate::shared_map::SharedMap;
 use blink_batch::{Answer, Entry, Op};
-use blink_map::{Map, MapError, Pending, Session, Stopped};
+use blink_map::{MapError, Pending, Session, Stopped};
 use std::alloc::Global;
 use std::mem;
 use std::sync::Arc;
@@ -209,29 +209,40 @@ impl SessionOwner {
         }
     }
 
-    /// Frees the owner. A free session rests at its place again. An operation under way takes so many tries to its end before; if it
-    /// still waits then, its place is lost, and the map can't be closed.
+    /// Drives the operation or the put that is under way towards its end: as `advance` with one try, and so many times more as long as
+    /// it goes on. Of a put it drives both halves.
+    pub fn finish(&mut self, tries: u32, answer: &mut RawAnswer) -> Result<(), MapRefusal>
+        requires its_own { IsOwnSession self.old }
+        ensures its_own { IsOwnSession self.new }
+        ensures ended { OnOk result (EndsFrom self.old.held self.old self.new answer.new) }
+        ensures refused { IfErr result (IsAdvanceRefusal self.old.held self.old self.new) }
+        ensures unchanged { OnErr result (answer.new ≡ answer.old) }
+    {
+        for _ in 0..tries {
+            match self.advance(1, answer) {
+                Err(MapRefusal::UnderWay) => {}
+                outcome => return outcome,
+            }
+        }
+        self.advance(1, answer)
+    }
+
+    /// Frees the owner. A free session rests at its place again. An operation or a put under way goes on before, as by `finish`: it is
+    /// made, or a put comes to a half that lacks room, and then nothing is put. If it still waits then, its place is lost, and the map
+    /// can't be closed.
     pub fn free(self, tries: u32)
         requires its_own { IsOwnSession self }
     {
+        let mut owner = self;
+        let mut answer = RawAnswer::shown(None);
+        let _outcome = owner.finish(tries, &mut answer);
         let SessionOwner {
             shared,
             number: _,
             held,
-        } = self;
-        match held {
-            HeldSession::Free(session) => shared.places.leave(session),
-            HeldSession::Busy(pending) => {
-                if let Some(session) = end(&shared.map, pending, tries) {
-                    shared.places.leave(session);
-                }
-            }
-            HeldSession::Putting(pending, _key, _pointer) => {
-                if let Some(session) = end(&shared.map, pending, tries) {
-                    shared.places.leave(session);
-                }
-            }
-            HeldSession::Gone => {}
+        } = owner;
+        if let HeldSession::Free(session) = held {
+            shared.places.leave(session);
         }
     }
 
@@ -471,16 +482,5 @@ fn shortage(session: &Session, op: Op) -> MapRefusal
         MapRefusal::Full
     } else {
         MapRefusal::RowsBusy
-    }
-}
-
-// Takes an operation to its end by so many tries, and returns its session.
-fn end(map: &Map, pending: Pending, tries: u32) -> Option<Session>
-    requires its_own { IsPendingOf map.now pending }
-    ensures { IfSome result (IsSessionOf map.now) }
-{
-    match map.advance(pending, tries) {
-        Ok((session, _answer)) => Some(session),
-        Err(_pending) => None,
     }
 }

@@ -41,7 +41,7 @@ pub enum Error {
     /// The session has enough rows and page numbers in all for the change, but some rows are on their way back. The same change may be
     /// let through later.
     RowsBusy,
-    /// The map is gone, since memory was refused when it was closed.
+    /// The map was closed before. [`Map::close`](crate::Map::close) takes the map, so this crate's calls never return it.
     Closed,
 }
 

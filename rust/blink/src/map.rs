@@ -155,8 +155,8 @@ impl Map {
 
     /// Closes the map. The index that it returns has the entries that the map was opened with, after all changes. It is refused with
     /// [`Error::Missing`], if a session was leaked, as by [`std::mem::forget`]; with [`Error::LostUnderWay`], if an [`Unfinished`] was
-    /// dropped that couldn't be ended; and with [`Error::OutOfMemory`]. The first two give the map back with all its entries, though no
-    /// session joins any more after the second. After the third the map may be gone.
+    /// dropped that couldn't be ended; and with [`Error::OutOfMemory`]. Each gives the map back with all its entries, and it can be closed
+    /// again; no session joins any more after the second, and none may after the third.
     pub fn close(self) -> Result<Index, Unclosed> {
         let index = Index::filled(|out| {
             // SAFETY: the handle is full, and locked; `out` is empty.
@@ -192,7 +192,7 @@ impl fmt::Debug for Map {
 pub struct Unclosed {
     /// Why it couldn't be closed.
     pub error: Error,
-    /// The map, unless memory was refused.
+    /// The map, which can be closed again.
     pub map: Map,
 }
 
@@ -692,8 +692,8 @@ pub enum Begun<'map> {
 
 /// An operation of a session that has begun and not ended. The session can do nothing else meanwhile. No other session waits for it.
 ///
-/// Dropping it takes the operation to its end, if that doesn't wait long for other sessions; of a put the half that is under way, so a put
-/// of an absent key may be left undone. Else the session's place is lost, and [`Map::close`] is refused with [`Error::LostUnderWay`].
+/// Dropping it takes the operation to its end, if that doesn't wait long for other sessions. Only a put may be left undone, where the
+/// session has no room for its other half. Else the session's place is lost, and [`Map::close`] is refused with [`Error::LostUnderWay`].
 #[derive(Debug)]
 pub struct Unfinished<'map> {
     session: Session<'map>,
