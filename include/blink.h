@@ -8,8 +8,9 @@
  *
  * Handles. blink_index, blink_reader, blink_table, blink_pass, blink_map and blink_session are handles. A handle begins as {NULL},
  * and is then empty. A function with a parameter `out` takes the place of an empty handle, and fills it if it returns BLINK_DONE. All
- * other functions take a full one. A handle is freed once: by its free function, or, of a table or a map, by its close function.
- * blink_index_share and blink_reader_unshare, if they return BLINK_DONE, leave the handle empty that they take, and then it isn't freed.
+ * other functions take a full one. A handle is freed once: by its free function, or, of a table, by its close function. A close of a map
+ * leaves the handle, which blink_map_free frees. blink_index_share and blink_reader_unshare, if they return BLINK_DONE, leave the handle
+ * empty that they take, and then it isn't freed.
  *
  * Misuse. A call out of order is refused, and its comment says by which code: while an operation is under way (BLINK_PENDING) or none is
  * (BLINK_IDLE), by a pass that was given back (BLINK_RETURNED), by one of another table or a session of another map (BLINK_FOREIGN), and a
@@ -35,7 +36,9 @@
  * Arrays. A pointer and the number of its elements follow one another. The pointer isn't NULL, also where that number is 0, and
  * no two arrays or results of one call overlap.
  *
- * Memory comes from malloc, realloc and free. A call that is refused for want of it leaves what was there as it was.
+ * Memory comes from malloc, realloc and free. A call that is refused for want of it leaves what was there as it was, except that
+ * blink_table_close gives the table up, blink_index_apply has carried out the operations before, and a pass or a session may have seen
+ * more after its snapshot.
  */
 #ifndef BLINK_H
 #define BLINK_H
@@ -128,12 +131,12 @@ enum {
     BLINK_RETURNED = 92,           /* the pass was given back to its table */
     BLINK_MAP_TOO_LARGE = 101,     /* the index's pages and the page numbers of the room are above 1,048,575 */
     BLINK_BAD_SESSIONS = 102,      /* there are to be no sessions, or more than 256 */
-    BLINK_NO_PLACE = 103,          /* each place for a session was taken */
+    BLINK_NO_PLACE = 103,          /* each place for a session was taken, or the map is closed */
     BLINK_LOST_UNDER_WAY = 104,    /* a session's handle was freed with an operation under way, which couldn't be ended */
     BLINK_FULL = 105,              /* the session has too few rows or page numbers in all, and the map's pool too */
     BLINK_SESSION_MISSING = 106,   /* the handle of a session, or another handle of the map, isn't freed */
-    BLINK_MAP_CLOSED = 108,        /* the map is closed, or a close of it has begun */
-    BLINK_ROWS_BUSY = 107          /* the session has enough rows and page numbers in all, but some rows are on their way back */
+    BLINK_ROWS_BUSY = 107,         /* the session has enough rows and page numbers in all, but some rows are on their way back */
+    BLINK_MAP_CLOSED = 108         /* the map is closed, or a close of it has begun */
 };
 
 /* The greatest number of operations that run at once. */
@@ -356,8 +359,8 @@ int blink_table_close(blink_table table, blink_index *out);
 /* Frees the table, without an index. The handles of its passes may still be used, and are still to be freed. */
 void blink_table_free(blink_table table);
 
-/* Looks a key of the pass up: BLINK_FOUND or BLINK_ABSENT. Refused: BLINK_NOT_YOURS, for every key that isn't the pass's;
- * BLINK_PENDING; BLINK_RETURNED. */
+/* Looks a key of the pass up: BLINK_FOUND or BLINK_ABSENT. Refused, looked for in this order: BLINK_PENDING or BLINK_RETURNED;
+ * BLINK_NOT_YOURS, for every key that isn't the pass's. */
 int blink_pass_find(blink_pass *pass, uint64_t key, blink_answer *answer);
 
 /* Looks any key up: BLINK_FOUND or BLINK_ABSENT, after the changes that the pass has seen by the end of the call. A pass never
@@ -394,15 +397,16 @@ int blink_pass_tell(blink_pass *from, blink_pass *to);
 int blink_pass_hand(blink_pass *from, blink_pass *to, const uint64_t *keys, size_t count, uint64_t *bad_key);
 
 /* Begin an insertion, a deletion, a replacement or an exchange of a key of the pass; the last answers as blink_index_exchange does.
- * It goes on by blink_pass_advance, and until it has ended the pass can do nothing else. Each uses one insertion, or one deletion, of the pass, whatever it answers. Refused:
- * BLINK_NOT_YOURS, for every key that isn't the pass's; then BLINK_SPENT; BLINK_PENDING; BLINK_RETURNED. */
+ * It goes on by blink_pass_advance, and until it has ended the pass can do nothing else. Each uses one insertion, or one deletion, of
+ * the pass, whatever it answers. Refused, looked for in this order: BLINK_PENDING or BLINK_RETURNED; BLINK_NOT_YOURS, for every key
+ * that isn't the pass's; BLINK_SPENT. */
 int blink_pass_begin_insert(blink_pass *pass, uint64_t key, uint64_t pointer);
 int blink_pass_begin_delete(blink_pass *pass, uint64_t key);
 int blink_pass_begin_replace(blink_pass *pass, uint64_t key, uint64_t pointer);
 int blink_pass_begin_exchange(blink_pass *pass, uint64_t key, uint64_t expected, uint64_t pointer);
 
 /* Begins a deletion of a key of the pass, if its pointer is `expected`, as blink_pass_begin_delete begins one of any pointer. It
- * answers as blink_index_delete_exact does, and uses one deletion. */
+ * answers as blink_index_delete_exact does, uses one deletion, and is refused as that one is. */
 int blink_pass_begin_delete_exact(blink_pass *pass, uint64_t key, uint64_t expected);
 
 /* Takes the next steps of the operation under way. It returns BLINK_DONE and the answer once the operation has ended, and
@@ -420,20 +424,19 @@ void blink_pass_free(blink_pass pass);
  * ranges. There is one list of changes of all keys. Each call answers as on the entries after a part of the list, which goes on from
  * all that the session had seen; a change of its own follows there at once, and then the session has seen both. A session never un-
  * sees a change that it has seen. Tested: a call sees every change of a call that ended before it began. In the end every handle of
- * a session is freed, and the map is closed to an index.
+ * a session is freed, the map is closed to an index, and blink_map_free frees its handle.
  *
  * Only blink_map_open, blink_map_share, blink_map_join, blink_map_close and blink_session_snapshot take memory. Of one map's calls the
  * first four and blink_map_room use a handle of the map; those of sessions don't.
  */
 
 /* Opens a map over the index, which stays as it is, with places for 1 to 256 sessions. While it opens, it takes twice the memory that the
- * map has then. A split of a page takes one of `pages` page
- * numbers, and every write of a page one of `rows` rows. An insertion writes one page mostly, and has to have 22 numbers and 44 rows when
- * it begins; a deletion, a replacement or an exchange has to have one row. Sessions draw both from the map's pool, at most 512 numbers and
- * 1,024 rows at once; what one draws no other gets, before its place is taken again. One that has fewer than 22 numbers draws others, and
- * keeps those where the pool's next ones follow them, as they do while nobody else draws; else it loses them. So splits by one session take
- * 19,979 of 20,000 numbers, 979 of 1,000, and 179 of 200 (measured); where several draw by turns from a small pool, much less: have some
- * thousands.
+ * map has then. A split of a page takes one of `pages` page numbers, and every write of a page one of `rows` rows. An insertion writes one
+ * page mostly, and has to have 22 numbers and 44 rows when it begins; a deletion, a replacement or an exchange has to have one row.
+ * Sessions draw both from the map's pool, at most 512 numbers and 1,024 rows at once; what one draws no other gets, before its place is
+ * taken again. One that has fewer than 22 numbers draws others, and keeps those where the pool's next ones follow them, as they do while
+ * nobody else draws; else it loses them. So splits by one session take 19,979 of 20,000 numbers, 979 of 1,000, and 179 of 200 (measured);
+ * where several draw by turns from a small pool, much less: have some thousands.
  * Half of the rows are the sessions', in equal parts, of 44 at least and 4,096 at most; a new page keeps one of the others. Tested: a row
  * that a write replaces comes back to its session, once each call that was in progress has ended. So two rows for each page number, and a
  * few hundred for each session, are enough for all changes as long as the page numbers last. While a thread is held up inside a call no
@@ -460,11 +463,11 @@ static inline int blink_map_open(blink_index *index, uint32_t pages, uint32_t ro
 static inline int blink_map_share(blink_map *map, blink_map *out);
 
 /* Gives a session. It takes memory for the handle alone. Refused: BLINK_NO_PLACE; BLINK_NO_MEMORY. Tested: it is BLINK_NO_PLACE
- * only if each place was taken. */
+ * if the map is closed; otherwise only if each place was taken, or after a close that was refused with BLINK_LOST_UNDER_WAY. */
 static inline int blink_map_join(blink_map *map, blink_session *out);
 
 /* Stores how many rows and page numbers the map's pool has left, for a look: sessions may draw at any time. Tested: it stores what
- * there is. */
+ * there is, and 0 twice if the map is closed. */
 static inline void blink_map_room(blink_map *map, uint64_t *rows, uint64_t *pages);
 
 /* The same three, where no other call uses the handle `map` at the same time. */
@@ -703,7 +706,7 @@ static inline int blink_pass_delete_exact_wait(blink_pass *pass, uint64_t key, u
  * call that ended before it began.
  */
 
-/* A guard, on a line of the cache for itself. */
+/* A guard, as large as a line of the cache (64 bytes), so that the turns of two guards never stand on one line. */
 typedef struct { uint64_t turn, apart[7]; } blink_guard;
 
 /* Holds the guard, which is free. */
