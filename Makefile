@@ -19,7 +19,7 @@ test:
 	./libblink --test
 	cargo test --quiet --manifest-path rust/blink/Cargo.toml
 
-# The headers, both libraries and blink.pc into PREFIX, below DESTDIR where that is set: all of them, or nothing.
+# The headers, both libraries, blink.pc and blink.py into PREFIX, below DESTDIR where that is set: all of them, or nothing.
 install: lib
 	sh include/install.sh "$(DESTDIR)" "$(PREFIX)"
 

@@ -1,8 +1,9 @@
 #!/bin/sh
 # Looks at out/libblink.a and out/libblink.so as who ships or links them does: their names, SONAME, needs and version; a program linked by
 # blink.pc, with the archive, with `--static`, and with the shared library, from out/ and after an install, and whether each starts; two
-# libraries in one program; and what an install, a refused one, and `make uninstall` leave. It says nothing where all is well, and names
-# what it left out: without pkg-config the programs by blink.pc, without readelf the shared library's head.
+# libraries in one program; which library blink.py takes; and what an install, a refused one, and `make uninstall` leave. It says nothing
+# where all is well, and names what it left out: without pkg-config the programs by blink.pc, without readelf the shared library's head,
+# without Python blink.py.
 set -eu
 top=$(cd "$(dirname "$0")/.." && pwd)
 cc=${CC:-cc}
@@ -99,5 +100,26 @@ else
     echo "$0: no pkg-config, so no program was linked by blink.pc" >&2
 fi
 
+# An installed blink.py takes the library beside it, or that of the folder which BLINK_LIB_DIR names, and no other.
+loads() {
+    PYTHONPATH=$work/prefix/blink/share/blink PYTHONDONTWRITEBYTECODE=1 python3 -c 'import blink; print(blink._library._name)' 2>&1
+}
+if command -v python3 >/dev/null 2>&1; then
+    is "blink.py's library" "$(unset BLINK_LIB_DIR; loads)" "$(cd prefix/blink/lib && pwd -P)/libblink.so.0"
+    is "the library that is named" "$(BLINK_LIB_DIR=$top/out loads)" "$top/out/libblink.so.0"
+    if BLINK_LIB_DIR=$work/none loads >told || ! grep -q "^ImportError: .*BLINK_LIB_DIR names the folder $work/none " told; then
+        cat told >&2
+        wrong "blink.py doesn't say that there is no library in the folder that is named"
+    fi
+else
+    echo "$0: no Python, so no blink.py was started" >&2
+fi
+
+# An uninstall leaves what others put there, and no empty folder.
+touch prefix/blink/share/other
 quietly sh "$top/include/install.sh" --uninstall "" prefix/blink
-is "what an uninstall leaves" "$(listing prefix/blink)" .
+is "what an uninstall leaves of others" "$(listing prefix/blink)" "$(printf '.\n./share\n./share/other')"
+quietly sh "$top/include/install.sh" "" prefix/blink
+rm prefix/blink/share/other
+quietly sh "$top/include/install.sh" --uninstall "" prefix/blink
+is "what an uninstall leaves" "$(listing prefix)" .

@@ -1,12 +1,17 @@
-// blink.hpp: blink.h for C++17. Each type has a handle, which it frees, and can be moved and not copied. What a call says of its results, and
-// what it takes from its caller, blink.h says of the function that has the call's name.
+// blink.hpp: blink.h for C++17 and later. Each type has a handle, which it frees, and can be moved and not copied. What a call says of its
+// results, and what it takes from its caller, blink.h says of the function that has the call's name. Four have another name there: remove is
+// delete, remove_exact is delete_exact, size is len, and give_back is blink_table_return.
 //
 // A refusal is thrown as blink::Error, with its code. A change at a map or a table ends before its call does: where another thread has the page
-// it yields, and where the session's rows are on their way back it begins again. One thread at a time uses an object, also to read, so no call
-// is const. An object that was moved from can be destroyed and assigned to, and nothing else; one that has closed or shared what it had is such
-// an object too.
+// it yields, and where the session's rows are on their way back it begins again. One call at a time uses an object, also to read, so no call
+// is const; but several threads at once may call join, share and room of one Map, which wait for each other. An object that was moved from can
+// be destroyed and assigned to, and nothing else; one that has closed or shared what it had is such an object too.
 #ifndef BLINK_HPP
 #define BLINK_HPP
+
+#if __cplusplus < 201703L
+#error "blink.hpp needs C++17 or later"
+#endif
 
 #include "blink.h"
 #include <cstddef>

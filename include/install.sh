@@ -1,10 +1,10 @@
 #!/bin/sh
 # Installs what ./libblink has built in a folder: the headers into include; the archive, and the shared library with its two links, into lib;
-# and blink.pc into lib/pkgconfig. Each file is copied beside its place first, and all take their places in the end. So where one can't be
-# written, none is changed, and no new folder is left.
+# blink.pc into lib/pkgconfig; and python/blink.py into share/blink. Each file is copied beside its place first, and all take their places in
+# the end. So where one can't be written, none is changed, and no new folder is left.
 #
 #     install.sh DESTDIR PREFIX              PREFIX is where programs find them, and DESTDIR, which may be empty, stands before it
-#     install.sh --uninstall DESTDIR PREFIX  takes these files away, and their folders where nothing else is in them
+#     install.sh --uninstall DESTDIR PREFIX  takes these files away, and their folders and PREFIX where nothing else is in them
 set -eu
 top=$(cd "$(dirname "$0")/.." && pwd)
 uninstall=
@@ -26,8 +26,9 @@ if [ -n "$uninstall" ]; then
     for it in libblink.a "$shared" "$soname" libblink.so pkgconfig/blink.pc; do
         rm -f "$root/lib/$it"
     done
-    for it in lib/pkgconfig lib include; do
-        rmdir "$root/$it" 2>/dev/null || true
+    rm -f "$root/share/blink/blink.py"
+    for it in /lib/pkgconfig /lib /include /share/blink /share ''; do
+        rmdir "$root$it" 2>/dev/null || true
     done
     exit 0
 fi
@@ -72,7 +73,7 @@ link() {
     ln -sfn "$1" "$root/$2.new"
 }
 
-for it in include lib lib/pkgconfig; do
+for it in include lib lib/pkgconfig share/blink; do
     folder "$root/$it"
 done
 for it in $headers; do
@@ -84,6 +85,7 @@ link "$shared" "lib/$soname"
 link "$soname" lib/libblink.so
 sh "$top/include/pc.sh" "$prefix" lib >"$work/pc"
 place "$work/pc" lib/pkgconfig/blink.pc 644
+place "$top/python/blink.py" share/blink/blink.py 644
 for it in $placed; do
     mv -fT "$root/$it.new" "$root/$it"
 done

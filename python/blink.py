@@ -1,12 +1,13 @@
 """blink.h for Python, by ctypes: an index, readers, a map and a table, whose keys and pointers are integers from 0 to 2**64 - 1.
 
 This file is the whole module; copy it beside your program, or name its folder by PYTHONPATH. It loads libblink.so.0, which ./libblink
-builds: from the folder that the environment names as BLINK_LIB_DIR, from `out` of the repository that the file stands in, or from where
-the system looks.
+builds: from the folder that the environment names as BLINK_LIB_DIR, and from no other; or, where that isn't set, from `out` of the
+repository that the file stands in, from `lib` of the prefix that it is installed in, or from where the system looks.
 
-What a call does, blink.h says of the function that has the call's name. A refusal raises Error. A change at a map or a table ends before
-its call does. An object has a lock, so that threads which use it at once wait for each other; so give each thread a session or a pass.
-An object that is closed raises ValueError.
+What a call does, blink.h says of the function that has the call's name. Three have another name there: `remove` is delete, `remove_exact`
+is delete_exact, and `give_back` is blink_table_return. A refusal raises Error. A change at a map or a table ends before its call does. An
+object has a lock, so that threads which use it at once wait for each other; so give each thread a session or a pass. An object that is
+closed raises ValueError.
 
     index = blink.Index(entries=[(7, 70)])
     map = blink.Map(index, pages=5_000, rows=20_000, sessions=2)
@@ -139,10 +140,23 @@ def _declared():
         yield f"blink_{it}_free", None, _Handle
 
 
+def _file():
+    """What to load, where BLINK_LIB_DIR isn't set."""
+    folder = pathlib.Path(__file__).resolve().parent
+    files = [folder.parent / "out" / "libblink.so.0"]
+    if folder.parts[-2:] == ("share", "blink"):
+        files.append(folder.parent.parent / "lib" / "libblink.so.0")
+    return next((str(file) for file in files if file.exists()), "libblink.so.0")
+
+
 def _load():
-    folders = [os.environ.get("BLINK_LIB_DIR"), pathlib.Path(__file__).resolve().parent.parent / "out"]
-    files = [os.path.join(folder, "libblink.so.0") for folder in folders if folder]
-    library = ctypes.CDLL(next((file for file in files if os.path.exists(file)), "libblink.so.0"))
+    named = os.environ.get("BLINK_LIB_DIR")
+    try:
+        library = ctypes.CDLL(os.path.join(named, "libblink.so.0") if named else _file())
+    except OSError as error:
+        hint = (f"BLINK_LIB_DIR names the folder {named}" if named else
+                "run ./libblink in the repository, or name the library's folder by BLINK_LIB_DIR")
+        raise ImportError(f"libblink.so.0 can't be loaded: {hint} ({error})") from None
     for name, result, *parameters in _declared():
         function = getattr(library, name)
         function.restype, function.argtypes = result, parameters
