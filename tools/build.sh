@@ -18,6 +18,10 @@ if [ "$1" = --after-ci ]; then
 fi
 crate=$1
 name=$2
+if ! command -v rt >/dev/null; then
+    echo "$name: to build it the toolchain's program \`rt\` has to be in PATH" >&2
+    exit 1
+fi
 kit=$(cd "$(dirname "$(rt doc)")" && pwd)
 version=$(rt version)
 processors=$(nproc)
