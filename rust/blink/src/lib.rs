@@ -3,7 +3,8 @@
 //! What happens behind these types is proved: `libblink` is built from Rattle code, whose every function is proved to meet its
 //! contract (crates/blink_c of the repository has those of the calls). This crate is a thin layer of Rust over it, which isn't
 //! proved but keeps by its types what `include/blink.h` asks of a caller. A program needs `libblink.a`,
-//! which `./libblink` builds in the repository's `out`; `BLINK_LIB_DIR` names another folder.
+//! which `./libblink` builds in the repository's `out`. `BLINK_LIB_DIR` names another folder, by an absolute path; so `cargo package` needs
+//! it, which builds a copy of the crate elsewhere.
 //!
 //! ```
 //! use blink::{Index, Map, Room};
