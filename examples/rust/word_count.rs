@@ -1,8 +1,8 @@
 //! Counts the words of a file by four threads at one table. Run: cargo run --release -- FILE
 
 use blink::{Answer, Error, Index, Pass, Table};
-use std::collections::HashMap;
-use std::hash::{DefaultHasher, Hash, Hasher};
+use std::collections::hash_map::{DefaultHasher, HashMap};
+use std::hash::{Hash, Hasher};
 use std::{env, fs, thread};
 
 const THREADS: u64 = 4;
