@@ -252,6 +252,10 @@ size_t blink_index_scan(blink_index *index, uint64_t lo, uint64_t hi, blink_entr
 /* The same for the first `n` entries with keys from `lo` on, or all of these if they are fewer. It returns at most `n`. */
 size_t blink_index_page(blink_index *index, uint64_t lo, uint64_t n, blink_entry *entries, size_t places, size_t *fitted);
 
+/* The same two for the entries from the greatest key down: those from `hi` to `lo`, and the last `n` with keys up to `hi`. */
+size_t blink_index_scan_back(blink_index *index, uint64_t lo, uint64_t hi, blink_entry *entries, size_t places, size_t *fitted);
+size_t blink_index_page_back(blink_index *index, uint64_t hi, uint64_t n, blink_entry *entries, size_t places, size_t *fitted);
+
 /* Gives the entry with the least key: true; or false, if there is no entry, and `entry` stays as it was. */
 bool blink_index_first(blink_index *index, blink_entry *entry);
 
@@ -260,6 +264,15 @@ bool blink_index_last(blink_index *index, blink_entry *entry);
 
 /* The same for the entry with the least key above this one. */
 bool blink_index_next(blink_index *index, uint64_t key, blink_entry *entry);
+
+/* The same for the entry with the greatest key below this one. */
+bool blink_index_prev(blink_index *index, uint64_t key, blink_entry *entry);
+
+/* The same for the entry with the least key from this one on. */
+bool blink_index_at_least(blink_index *index, uint64_t key, blink_entry *entry);
+
+/* The same for the entry with the greatest key up to this one. */
+bool blink_index_at_most(blink_index *index, uint64_t key, blink_entry *entry);
 
 /* The number of entries. It walks all leaves. */
 size_t blink_index_len(blink_index *index);
@@ -303,9 +316,14 @@ bool blink_reader_find(blink_reader *reader, uint64_t key, uint64_t *pointer);
 int blink_reader_find_many(blink_reader *reader, const uint64_t *keys, size_t count, blink_answer *answers, size_t places);
 size_t blink_reader_scan(blink_reader *reader, uint64_t lo, uint64_t hi, blink_entry *entries, size_t places, size_t *fitted);
 size_t blink_reader_page(blink_reader *reader, uint64_t lo, uint64_t n, blink_entry *entries, size_t places, size_t *fitted);
+size_t blink_reader_scan_back(blink_reader *reader, uint64_t lo, uint64_t hi, blink_entry *entries, size_t places, size_t *fitted);
+size_t blink_reader_page_back(blink_reader *reader, uint64_t hi, uint64_t n, blink_entry *entries, size_t places, size_t *fitted);
 bool blink_reader_first(blink_reader *reader, blink_entry *entry);
 bool blink_reader_last(blink_reader *reader, blink_entry *entry);
 bool blink_reader_next(blink_reader *reader, uint64_t key, blink_entry *entry);
+bool blink_reader_prev(blink_reader *reader, uint64_t key, blink_entry *entry);
+bool blink_reader_at_least(blink_reader *reader, uint64_t key, blink_entry *entry);
+bool blink_reader_at_most(blink_reader *reader, uint64_t key, blink_entry *entry);
 size_t blink_reader_len(blink_reader *reader);
 uint32_t blink_reader_pages(blink_reader *reader);
 uint8_t blink_reader_fan(blink_reader *reader);

@@ -113,9 +113,14 @@ template <> struct Calls<blink_index> {
     static constexpr auto find_many = blink_index_find_many;
     static constexpr auto scan = blink_index_scan;
     static constexpr auto page = blink_index_page;
+    static constexpr auto scan_back = blink_index_scan_back;
+    static constexpr auto page_back = blink_index_page_back;
     static constexpr auto first = blink_index_first;
     static constexpr auto last = blink_index_last;
     static constexpr auto next = blink_index_next;
+    static constexpr auto prev = blink_index_prev;
+    static constexpr auto at_least = blink_index_at_least;
+    static constexpr auto at_most = blink_index_at_most;
     static constexpr auto len = blink_index_len;
     static constexpr auto pages = blink_index_pages;
     static constexpr auto fan = blink_index_fan;
@@ -127,9 +132,14 @@ template <> struct Calls<blink_reader> {
     static constexpr auto find_many = blink_reader_find_many;
     static constexpr auto scan = blink_reader_scan;
     static constexpr auto page = blink_reader_page;
+    static constexpr auto scan_back = blink_reader_scan_back;
+    static constexpr auto page_back = blink_reader_page_back;
     static constexpr auto first = blink_reader_first;
     static constexpr auto last = blink_reader_last;
     static constexpr auto next = blink_reader_next;
+    static constexpr auto prev = blink_reader_prev;
+    static constexpr auto at_least = blink_reader_at_least;
+    static constexpr auto at_most = blink_reader_at_most;
     static constexpr auto len = blink_reader_len;
     static constexpr auto pages = blink_reader_pages;
     static constexpr auto fan = blink_reader_fan;
@@ -151,21 +161,13 @@ public:
         return answers;
     }
     // The entries with keys from lo to hi, both included.
-    std::vector<Entry> scan(Key lo, Key hi) {
-        std::vector<Entry> entries(256);
-        std::size_t fitted = 0, there = Calls<H>::scan(&handle_, lo, hi, entries.data(), entries.size(), &fitted);
-        entries.resize(there);
-        if (fitted < there) Calls<H>::scan(&handle_, lo, hi, entries.data(), entries.size(), &fitted);
-        return entries;
-    }
+    std::vector<Entry> scan(Key lo, Key hi) { return range(Calls<H>::scan, lo, hi); }
+    // The same from hi down to lo.
+    std::vector<Entry> scan_back(Key lo, Key hi) { return range(Calls<H>::scan_back, lo, hi); }
     // The first n entries with keys from lo on, or all of these if they are fewer.
-    std::vector<Entry> page(Key lo, std::uint64_t n) {
-        std::vector<Entry> entries;
-        std::size_t fitted = 0;
-        entries.resize(Calls<H>::page(&handle_, lo, n, place_of(entries), 0, &fitted));
-        Calls<H>::page(&handle_, lo, n, place_of(entries), entries.size(), &fitted);
-        return entries;
-    }
+    std::vector<Entry> page(Key lo, std::uint64_t n) { return some(Calls<H>::page, lo, n); }
+    // The last n entries with keys up to hi, the greatest first, or all of these if they are fewer.
+    std::vector<Entry> page_back(Key hi, std::uint64_t n) { return some(Calls<H>::page_back, hi, n); }
     std::optional<Entry> first() {
         Entry entry{0, 0};
         return Calls<H>::first(&handle_, &entry) ? std::optional(entry) : std::nullopt;
@@ -175,10 +177,13 @@ public:
         return Calls<H>::last(&handle_, &entry) ? std::optional(entry) : std::nullopt;
     }
     // The entry with the least key above this one.
-    std::optional<Entry> next(Key key) {
-        Entry entry{0, 0};
-        return Calls<H>::next(&handle_, key, &entry) ? std::optional(entry) : std::nullopt;
-    }
+    std::optional<Entry> next(Key key) { return near(Calls<H>::next, key); }
+    // The entry with the greatest key below this one.
+    std::optional<Entry> prev(Key key) { return near(Calls<H>::prev, key); }
+    // The entry with the least key from this one on.
+    std::optional<Entry> at_least(Key key) { return near(Calls<H>::at_least, key); }
+    // The entry with the greatest key up to this one.
+    std::optional<Entry> at_most(Key key) { return near(Calls<H>::at_most, key); }
     std::size_t size() { return Calls<H>::len(&handle_); }
     std::uint32_t pages() { return Calls<H>::pages(&handle_); }
     unsigned fan() { return Calls<H>::fan(&handle_); }
@@ -194,6 +199,27 @@ public:
 
 protected:
     Handle<H, Calls<H>::free> handle_;
+
+private:
+    using Part = std::size_t (*)(H *, std::uint64_t, std::uint64_t, Entry *, std::size_t, std::size_t *);
+    std::vector<Entry> range(Part call, Key lo, Key hi) {
+        std::vector<Entry> entries(256);
+        std::size_t fitted = 0, there = call(&handle_, lo, hi, entries.data(), entries.size(), &fitted);
+        entries.resize(there);
+        if (fitted < there) call(&handle_, lo, hi, entries.data(), entries.size(), &fitted);
+        return entries;
+    }
+    std::vector<Entry> some(Part call, Key from, std::uint64_t n) {
+        std::vector<Entry> entries;
+        std::size_t fitted = 0;
+        entries.resize(call(&handle_, from, n, place_of(entries), 0, &fitted));
+        call(&handle_, from, n, place_of(entries), entries.size(), &fitted);
+        return entries;
+    }
+    std::optional<Entry> near(bool (*call)(H *, std::uint64_t, Entry *), Key key) {
+        Entry entry{0, 0};
+        return call(&handle_, key, &entry) ? std::optional(entry) : std::nullopt;
+    }
 };
 
 } // namespace detail

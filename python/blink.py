@@ -88,9 +88,14 @@ def _declared():
         yield f"blink_{it}_find_many", CODE, handle, keys, size, answer, size
         yield f"blink_{it}_scan", size, handle, u64, u64, entry, size, sizes
         yield f"blink_{it}_page", size, handle, u64, u64, entry, size, sizes
+        yield f"blink_{it}_scan_back", size, handle, u64, u64, entry, size, sizes
+        yield f"blink_{it}_page_back", size, handle, u64, u64, entry, size, sizes
         yield f"blink_{it}_first", truth, handle, entry
         yield f"blink_{it}_last", truth, handle, entry
         yield f"blink_{it}_next", truth, handle, u64, entry
+        yield f"blink_{it}_prev", truth, handle, u64, entry
+        yield f"blink_{it}_at_least", truth, handle, u64, entry
+        yield f"blink_{it}_at_most", truth, handle, u64, entry
         yield f"blink_{it}_len", size, handle
         yield f"blink_{it}_pages", u32, handle
         yield f"blink_{it}_fan", u8, handle
@@ -294,6 +299,14 @@ class _Reads(_Owner):
         """The first n entries with keys from lo on, or all of these if they are fewer."""
         return self._part("page", _number(lo), _number(n))
 
+    def scan_back(self, lo, hi):
+        """The entries with keys from hi down to lo, both included, as pairs."""
+        return self._part("scan_back", _number(lo), _number(hi))
+
+    def page_back(self, hi, n):
+        """The last n entries with keys up to hi, the greatest first, or all of these if they are fewer."""
+        return self._part("page_back", _number(hi), _number(n))
+
     def _part(self, name, lo, hi):
         fitted = ctypes.c_size_t()
         with self._lock:
@@ -317,6 +330,18 @@ class _Reads(_Owner):
     def next(self, key):
         """The entry with the least key above this one, or None."""
         return self._entry("next", _number(key))
+
+    def prev(self, key):
+        """The entry with the greatest key below this one, or None."""
+        return self._entry("prev", _number(key))
+
+    def at_least(self, key):
+        """The entry with the least key from this one on, or None."""
+        return self._entry("at_least", _number(key))
+
+    def at_most(self, key):
+        """The entry with the greatest key up to this one, or None."""
+        return self._entry("at_most", _number(key))
 
     def __len__(self):
         return self._call("len")

@@ -34,6 +34,8 @@ static void uses_an_index() {
     for (std::uint64_t key = 1000; key < 2000; key++) index.insert(key, key);
     CHECK(index.size() == 1001 && index.scan(1500, 1999).size() == 500 && index.scan(1, 4).empty());
     CHECK(index.page(1990, 100).size() == 10 && index.page(0, 2)[1].key == 1000 && index.page(0, 0).empty());
+    CHECK(index.scan_back(1, 1001)[2].key == 5 && index.page_back(1999, 2)[1].key == 1998 && index.page_back(4, 9).empty());
+    CHECK(index.prev(1000)->key == 5 && !index.prev(5) && index.at_least(6)->key == 1000 && index.at_most(999)->pointer == 53);
     CHECK(index.first()->key == 5 && index.last()->pointer == 1999 && index.next(5)->key == 1000 && !index.next(1999));
     auto answers = index.find_many({5, 6});
     CHECK(is(answers[0], BLINK_FOUND, 53) && is(answers[1], BLINK_ABSENT, 0) && index.find_many({}).empty());

@@ -129,6 +129,12 @@ static void looks_up(void) {
     CHECK(blink_index_scan(&index, 4, 2, entries, 8, &fitted) == 0 && fitted == 0);
     CHECK(blink_index_page(&index, 3, 2, entries, 8, &fitted) == 2 && fitted == 2 && entries[1].key == 4);
     CHECK(blink_index_page(&index, 3, 9, entries, 1, &fitted) == 3 && fitted == 1 && entries[0].key == 3);
+    memset(entries, 0, sizeof entries);
+    CHECK(blink_index_scan_back(&index, 2, 4, entries, 2, &fitted) == 3 && fitted == 2);
+    CHECK(entries[0].key == 4 && entries[1].key == 3 && entries[1].pointer == 30 && entries[2].key == 0);
+    CHECK(blink_index_scan_back(&index, 4, 2, entries, 8, &fitted) == 0 && fitted == 0);
+    CHECK(blink_index_page_back(&index, 3, 2, entries, 8, &fitted) == 2 && fitted == 2 && entries[0].key == 3 && entries[1].key == 2);
+    CHECK(blink_index_page_back(&index, 3, 9, entries, 1, &fitted) == 3 && fitted == 1 && entries[0].key == 3);
     blink_index_free(index);
 }
 
@@ -165,6 +171,12 @@ static void changes_in_place(void) {
     CHECK(blink_index_last(&index, &entry) && entry.key == 6 && entry.pointer == 62);
     CHECK(blink_index_next(&index, 3, &entry) && entry.key == 4 && entry.pointer == 40);
     CHECK(!blink_index_next(&index, 6, &entry) && entry.key == 4);
+    CHECK(blink_index_prev(&index, 4, &entry) && entry.key == 3 && entry.pointer == 30);
+    CHECK(!blink_index_prev(&index, 2, &entry) && entry.key == 3);
+    CHECK(blink_index_at_least(&index, 4, &entry) && entry.key == 4);
+    CHECK(!blink_index_at_least(&index, 7, &entry) && entry.key == 4);
+    CHECK(blink_index_at_most(&index, UINT64_MAX, &entry) && entry.key == 6 && entry.pointer == 62);
+    CHECK(!blink_index_at_most(&index, 1, &entry) && entry.key == 6);
     // the third operation is of no kind, so two are carried out
     blink_operation all[] = {{BLINK_INSERT, 7, 70}, {BLINK_FIND, 7, 0}, {4, 0, 0}, {BLINK_DELETE, 7, 0}};
     blink_answer given[4] = {{9, 9}, {9, 9}, {9, 9}, {9, 9}};
@@ -852,6 +864,10 @@ static void *reads_all(void *at) {
     CHECK(blink_reader_last(reader, &entry) && entry.key == 3 * READ && blink_reader_len(reader) == READ);
     CHECK(blink_reader_scan(reader, 10, 20, range, 2, &fitted) == 3 && fitted == 2 && range[0].key == 12 && range[1].pointer == 150);
     CHECK(blink_reader_page(reader, 10, 100, range, 100, &fitted) == 100 && fitted == 100 && range[99].key == 309);
+    CHECK(blink_reader_scan_back(reader, 10, 20, range, 2, &fitted) == 3 && fitted == 2 && range[0].key == 18 && range[1].pointer == 150);
+    CHECK(blink_reader_page_back(reader, 310, 100, range, 100, &fitted) == 100 && fitted == 100 && range[0].key == 309 && range[99].key == 12);
+    CHECK(blink_reader_prev(reader, 12, &entry) && entry.key == 9 && blink_reader_at_most(reader, 14, &entry) && entry.key == 12);
+    CHECK(blink_reader_at_least(reader, 13, &entry) && entry.key == 15 && !blink_reader_prev(reader, 3, &entry) && entry.key == 15);
     blink_reader_free(*reader);
     return NULL;
 }

@@ -1,7 +1,8 @@
-//! The exports that change an index in place by one operation, that pack it, and that give the entries at its ends.
+//! The exports that change an index in place by one operation, that pack it, and that give the entries at its ends and on each side of a
+//! key.
 ghost use Rattle.std.specs.Prelude.{◌≡◌, ◌≢◌, ◌↔◌, ◌≤◌, IsSome, IsTrue, IfSome, filter, length};
 ghost use Rattle.blink_batch.specs.declared.Op.TheVariants.{Delete, DeleteExact, Exchange, Insert, Replace};
-ghost use Rattle.blink_index.specs.{IsInOrder, NeedsPages, first_of, is_above, last_of, map_of};
+ghost use Rattle.blink_index.specs.{IsInOrder, NeedsPages, first_of, is_above, is_below, is_from, is_up_to, last_of, map_of};
 ghost use Rattle.blink_page.specs.{ExceedsPageLimit};
 ghost use Rattle.blink_owners.specs.Codes.{code_of};
 ghost use Rattle.blink_owners.specs.Edits.{HasEdited, TellsEditFault, entry_or};
@@ -140,4 +141,48 @@ pub extern "C" fn blink_index_next(index: &mut IndexHandle, key: u64, entry: &mu
     ensures same { index.new.value ≡ index.old.value }
 {
     give_entry(index.get().next(key), entry)
+}
+
+/// Gives the entry with the least key from this one on, if there is one, or leaves `entry` as it was.
+#[unsafe(no_mangle)]
+pub extern "C" fn blink_index_at_least(
+    index: &mut IndexHandle,
+    key: u64,
+    entry: &mut RawEntry,
+) -> bool
+    ensures found { IsTrue result
+        ↔ IsSome (first_of (filter (is_from key) (map_of index.old.value))) }
+    ensures entry { entry.new
+        ≡ entry_or (first_of (filter (is_from key) (map_of index.old.value))) entry.old }
+    ensures same { index.new.value ≡ index.old.value }
+{
+    give_entry(index.get().at_least(key), entry)
+}
+
+/// Gives the entry with the greatest key below this one, if there is one, or leaves `entry` as it was.
+#[unsafe(no_mangle)]
+pub extern "C" fn blink_index_prev(index: &mut IndexHandle, key: u64, entry: &mut RawEntry) -> bool
+    ensures found { IsTrue result
+        ↔ IsSome (last_of (filter (is_below key) (map_of index.old.value))) }
+    ensures entry { entry.new
+        ≡ entry_or (last_of (filter (is_below key) (map_of index.old.value))) entry.old }
+    ensures same { index.new.value ≡ index.old.value }
+{
+    give_entry(index.get().prev(key), entry)
+}
+
+/// Gives the entry with the greatest key up to this one, if there is one, or leaves `entry` as it was.
+#[unsafe(no_mangle)]
+pub extern "C" fn blink_index_at_most(
+    index: &mut IndexHandle,
+    key: u64,
+    entry: &mut RawEntry,
+) -> bool
+    ensures found { IsTrue result
+        ↔ IsSome (last_of (filter (is_up_to key) (map_of index.old.value))) }
+    ensures entry { entry.new
+        ≡ entry_or (last_of (filter (is_up_to key) (map_of index.old.value))) entry.old }
+    ensures same { index.new.value ≡ index.old.value }
+{
+    give_entry(index.get().at_most(key), entry)
 }

@@ -1,7 +1,7 @@
 //! The exports that make an index one that is only read, by several threads at the same time, and those of its readers.
-ghost use Rattle.std.specs.Prelude.{◌≡◌, ◌≢◌, ◌↔◌, None, Some, IsSome, IsTrue, filter, length, map, min, take};
+ghost use Rattle.std.specs.Prelude.{◌≡◌, ◌≢◌, ◌↔◌, None, Some, IsSome, IsTrue, filter, length, map, min, reverse, take};
 ghost use Rattle.blink_batch.specs.{pointer_of};
-ghost use Rattle.blink_index.specs.{first_of, is_above, is_from, is_within, last_of, map_of, text_of_store};
+ghost use Rattle.blink_index.specs.{first_of, is_above, is_below, is_from, is_up_to, is_within, last_of, map_of, text_of_store};
 ghost use Rattle.blink_page.specs.{IsPageNumber};
 ghost use Rattle.blink_owners.specs.Codes.{code_of};
 ghost use Rattle.blink_owners.specs.Edits.{entry_or};
@@ -168,6 +168,44 @@ pub extern "C" fn blink_reader_page(
     reads::page(reader.get().index(), lo, n, entries, fitted)
 }
 
+/// Gives the entries whose keys are from `lo` to `hi`, the greatest first, as many as there are places. It returns how many there
+/// are, and stores how many fitted.
+#[unsafe(no_mangle)]
+pub extern "C" fn blink_reader_scan_back(
+    reader: &mut ReaderHandle,
+    lo: u64,
+    hi: u64,
+    entries: &mut [RawEntry],
+    fitted: &mut usize,
+) -> usize
+    ensures there { result ≡ length (filter (is_within lo hi) (map_of (index_in reader.old.value))) }
+    ensures entries { entries.new
+        ≡ overlaid (reverse (filter (is_within lo hi) (map_of (index_in reader.old.value)))) entries.old }
+    ensures fitted { fitted.new ≡ min result (length entries.old) }
+    ensures same { reader.new.value ≡ reader.old.value }
+{
+    reads::scan_back(reader.get().index(), lo, hi, entries, fitted)
+}
+
+/// Gives the last `n` entries whose keys are at most `hi`, the greatest first, or all of these if they are fewer, as many as there
+/// are places. It returns how many there are, at most `n`, and stores how many fitted.
+#[unsafe(no_mangle)]
+pub extern "C" fn blink_reader_page_back(
+    reader: &mut ReaderHandle,
+    hi: u64,
+    n: u64,
+    entries: &mut [RawEntry],
+    fitted: &mut usize,
+) -> usize
+    ensures there { result ≡ min n (length (filter (is_up_to hi) (map_of (index_in reader.old.value)))) }
+    ensures entries { entries.new
+        ≡ overlaid (take n (reverse (filter (is_up_to hi) (map_of (index_in reader.old.value))))) entries.old }
+    ensures fitted { fitted.new ≡ min result (length entries.old) }
+    ensures same { reader.new.value ≡ reader.old.value }
+{
+    reads::page_back(reader.get().index(), hi, n, entries, fitted)
+}
+
 /// Gives the entry with the least key, if there is one, or leaves `entry` as it was.
 #[unsafe(no_mangle)]
 pub extern "C" fn blink_reader_first(reader: &mut ReaderHandle, entry: &mut RawEntry) -> bool
@@ -202,6 +240,54 @@ pub extern "C" fn blink_reader_next(
     ensures same { reader.new.value ≡ reader.old.value }
 {
     reads::give_entry(reader.get().index().next(key), entry)
+}
+
+/// Gives the entry with the least key from this one on, if there is one, or leaves `entry` as it was.
+#[unsafe(no_mangle)]
+pub extern "C" fn blink_reader_at_least(
+    reader: &mut ReaderHandle,
+    key: u64,
+    entry: &mut RawEntry,
+) -> bool
+    ensures found { IsTrue result
+        ↔ IsSome (first_of (filter (is_from key) (map_of (index_in reader.old.value)))) }
+    ensures entry { entry.new
+        ≡ entry_or (first_of (filter (is_from key) (map_of (index_in reader.old.value)))) entry.old }
+    ensures same { reader.new.value ≡ reader.old.value }
+{
+    reads::give_entry(reader.get().index().at_least(key), entry)
+}
+
+/// Gives the entry with the greatest key below this one, if there is one, or leaves `entry` as it was.
+#[unsafe(no_mangle)]
+pub extern "C" fn blink_reader_prev(
+    reader: &mut ReaderHandle,
+    key: u64,
+    entry: &mut RawEntry,
+) -> bool
+    ensures found { IsTrue result
+        ↔ IsSome (last_of (filter (is_below key) (map_of (index_in reader.old.value)))) }
+    ensures entry { entry.new
+        ≡ entry_or (last_of (filter (is_below key) (map_of (index_in reader.old.value)))) entry.old }
+    ensures same { reader.new.value ≡ reader.old.value }
+{
+    reads::give_entry(reader.get().index().prev(key), entry)
+}
+
+/// Gives the entry with the greatest key up to this one, if there is one, or leaves `entry` as it was.
+#[unsafe(no_mangle)]
+pub extern "C" fn blink_reader_at_most(
+    reader: &mut ReaderHandle,
+    key: u64,
+    entry: &mut RawEntry,
+) -> bool
+    ensures found { IsTrue result
+        ↔ IsSome (last_of (filter (is_up_to key) (map_of (index_in reader.old.value)))) }
+    ensures entry { entry.new
+        ≡ entry_or (last_of (filter (is_up_to key) (map_of (index_in reader.old.value)))) entry.old }
+    ensures same { reader.new.value ≡ reader.old.value }
+{
+    reads::give_entry(reader.get().index().at_most(key), entry)
 }
 
 /// Returns the number of entries. It walks all leaves.

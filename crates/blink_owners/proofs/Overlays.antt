@@ -1,9 +1,9 @@
 -- One entry more in the caller's places, or none where there is no place; and what a filter and a prefix leave is no longer.
 use Rattle.std.proofs.Common.{◌≡◌, ℕ, suc, ◌<◌, ◌≤◌, Bool, List, [], ◌∷◌, ◌++◌, length, set, take, refl, ap, sym, ◌∙◌, arith}
-use Rattle.std.specs.Prelude.{filter, slice_set, if◌then◌else◌}
+use Rattle.std.specs.Prelude.{filter, reverse, slice_set, if◌then◌else◌}
 use Rattle.std.proofs.Common.{inl, inr}
 use Rattle.std.proofs.lemmas.Bool.{cases_lt, le-leb}
-use Rattle.std.proofs.lemmas.List.{length-take, take_all}
+use Rattle.std.proofs.lemmas.List.{length-reverse, length-take, take_all}
 use Rattle.std.proofs.lemmas.List.Sums.{count_by-le-length, length-filter}
 use Rattle.blink_batch.specs.declared.Entry.{Entry}
 use Rattle.blink_index.specs.{is_from}
@@ -54,6 +54,11 @@ few_filtered p entries most few =
 pub few_taken : (n : ℕ) (entries : List Entry) (most : ℕ) → length entries < most → length (take n entries) < most
 few_taken n entries most few =
     let counted = length-take n entries in
+    omega (arith, few, counted)
+
+pub few_reversed : (entries : List Entry) (most : ℕ) → length entries < most → length (reverse entries) < most
+few_reversed entries most few =
+    let counted = length-reverse entries in
     omega (arith, few, counted)
 
 -- all keys are at least 0

@@ -1,7 +1,7 @@
 //! Reading an index: what the exports of an index and those of a reader do alike.
-ghost use Rattle.std.specs.Prelude.{◌≡◌, ◌≢◌, ◌↔◌, ◌<◌, ◌≤◌, ◌^◌, IsSome, IsTrue, filter, length, map, min, slice_set, take};
+ghost use Rattle.std.specs.Prelude.{◌≡◌, ◌≢◌, ◌↔◌, ◌<◌, ◌≤◌, ◌^◌, IsSome, IsTrue, filter, length, map, min, reverse, slice_set, take};
 ghost use Rattle.blink_batch.specs.{pointer_of};
-ghost use Rattle.blink_index.specs.{is_from, is_within, map_of, text_of_store};
+ghost use Rattle.blink_index.specs.{is_from, is_up_to, is_within, map_of, text_of_store};
 ghost use Rattle.blink_owners.specs.Codes.{code_of};
 ghost use Rattle.blink_owners.specs.Edits.{entry_or};
 ghost use Rattle.blink_owners.specs.Filled.{overlaid, put_if_fits};
@@ -10,7 +10,7 @@ ghost use Rattle.blink_owners.specs.Found.{found_answer, pointer_or};
 use crate::raw::{RawAnswer, RawEntry};
 use crate::refusal::{Code, DONE, Refusal};
 use blink_batch::Entry;
-use blink_index::{Index, Scan};
+use blink_index::{Index, Scan, ScanBack};
 use std::alloc::Global;
 
 /// Looks a key up. It gives the key's record pointer, or leaves `pointer` as it was.
@@ -94,6 +94,46 @@ pub fn page(index: &Index, lo: u64, n: u64, entries: &mut [RawEntry], fitted: &m
     there
 }
 
+/// Gives the entries whose keys are from `lo` to `hi`, the greatest first, as many as there are places, and returns how many there
+/// are.
+pub fn scan_back(
+    index: &Index,
+    lo: u64,
+    hi: u64,
+    entries: &mut [RawEntry],
+    fitted: &mut usize,
+) -> usize
+    ensures there { result ≡ length (filter (is_within lo hi) (map_of index.now)) }
+    ensures entries { entries.new
+        ≡ overlaid (reverse (filter (is_within lo hi) (map_of index.now))) entries.old }
+    ensures fitted { fitted.new ≡ min result (length entries.old) }
+{
+    few_entries(index);
+    let there = fill_back(index.scan_back(lo, hi), entries);
+    *fitted = there.min(entries.len());
+    there
+}
+
+/// Gives the last `n` entries whose keys are at most `hi`, the greatest first, as many as there are places, and returns how many
+/// there are, at most `n`.
+pub fn page_back(
+    index: &Index,
+    hi: u64,
+    n: u64,
+    entries: &mut [RawEntry],
+    fitted: &mut usize,
+) -> usize
+    ensures there { result ≡ min n (length (filter (is_up_to hi) (map_of index.now))) }
+    ensures entries { entries.new
+        ≡ overlaid (take n (reverse (filter (is_up_to hi) (map_of index.now)))) entries.old }
+    ensures fitted { fitted.new ≡ min result (length entries.old) }
+{
+    few_entries(index);
+    let there = fill_back(index.page_back(hi, n), entries);
+    *fitted = there.min(entries.len());
+    there
+}
+
 /// Counts the entries. It walks all leaves.
 pub fn count(index: &Index) -> usize
     ensures { result ≡ length (map_of index.now) }
@@ -104,6 +144,20 @@ pub fn count(index: &Index) -> usize
 
 // Gives entries, as many as there are places, and returns how many there are.
 fn fill_entries(scan: Scan<'_>, entries: &mut [RawEntry]) -> usize
+    requires { length scan < 2 ^ 63 }
+    ensures there { result ≡ length scan.entry }
+    ensures entries { entries.new ≡ overlaid scan.entry entries.old }
+{
+    let mut there = 0usize;
+    for entry in scan {
+        set_inside(entries, there, RawEntry::of(entry));
+        there += 1;
+    }
+    there
+}
+
+// Gives the entries of a backward scan, as many as there are places, and returns how many there are.
+fn fill_back(scan: ScanBack<'_>, entries: &mut [RawEntry]) -> usize
     requires { length scan < 2 ^ 63 }
     ensures there { result ≡ length scan.entry }
     ensures entries { entries.new ≡ overlaid scan.entry entries.old }

@@ -1,4 +1,5 @@
 //! The index at rest.
+mod backward;
 mod changes;
 mod packing;
 mod schedules;

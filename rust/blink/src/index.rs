@@ -313,13 +313,14 @@ impl Index {
         self.read.find_many(keys)
     }
 
-    /// Returns the entries whose keys are in the range, in ascending order.
+    /// Returns the entries whose keys are in the range, in ascending order; from its end, as by `rev`, in descending order.
     ///
     /// ```
     /// # use blink::{Entry, Index};
     /// let index = Index::from_entries(8, &[(1, 10), (3, 30), (5, 50)].map(Entry::from))?;
     /// assert_eq!(index.scan(2..5).collect::<Vec<_>>(), [Entry { key: 3, pointer: 30 }]);
     /// assert_eq!(index.scan(2..=5).count(), 2);
+    /// assert_eq!(index.scan(2..).rev().next(), Some(Entry { key: 5, pointer: 50 }));
     /// # Ok::<(), blink::Error>(())
     /// ```
     pub fn scan(&self, range: impl RangeBounds<u64>) -> Scan<'_> {
@@ -340,6 +341,9 @@ impl Index {
     /// assert_eq!(index.last(), Some(Entry { key: 5, pointer: 50 }));
     /// assert_eq!(index.next(1), Some(Entry { key: 3, pointer: 30 }));
     /// assert_eq!(index.next(5), None);
+    /// assert_eq!(index.prev(5), Some(Entry { key: 3, pointer: 30 }));
+    /// assert_eq!(index.at_least(4), Some(Entry { key: 5, pointer: 50 }));
+    /// assert_eq!(index.at_most(0), None);
     /// # Ok::<(), blink::Error>(())
     /// ```
     pub fn first(&self) -> Option<Entry> {
@@ -354,6 +358,21 @@ impl Index {
     /// Returns the entry with the least key above this one, if there is one.
     pub fn next(&self, key: u64) -> Option<Entry> {
         self.read.next(key)
+    }
+
+    /// Returns the entry with the greatest key below this one, if there is one.
+    pub fn prev(&self, key: u64) -> Option<Entry> {
+        self.read.prev(key)
+    }
+
+    /// Returns the entry with the least key from this one on, if there is one.
+    pub fn at_least(&self, key: u64) -> Option<Entry> {
+        self.read.at_least(key)
+    }
+
+    /// Returns the entry with the greatest key up to this one, if there is one.
+    pub fn at_most(&self, key: u64) -> Option<Entry> {
+        self.read.at_most(key)
     }
 
     /// Returns the number of entries. It walks all leaves.

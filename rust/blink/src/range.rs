@@ -73,8 +73,22 @@ impl Parts {
         if self.is_empty() {
             return None;
         }
-        let entry = if self.part == Parts::FIRST { self.first.get(self.next) } else { self.later.get(self.next) };
         self.next += 1;
+        self.at(self.next - 1)
+    }
+
+    /// Takes the last entry of the part, if there is one.
+    pub(crate) fn take_last(&mut self) -> Option<Entry> {
+        if self.is_empty() {
+            return None;
+        }
+        self.stop -= 1;
+        self.at(self.stop)
+    }
+
+    #[inline]
+    fn at(&self, place: usize) -> Option<Entry> {
+        let entry = if self.part == Parts::FIRST { self.first.get(place) } else { self.later.get(place) };
         entry.copied()
     }
 }

@@ -15,15 +15,21 @@ pub(crate) struct Calls {
     find_many: unsafe extern "C" fn(*mut Handle, *const u64, usize, *mut RawAnswer, usize) -> Code,
     scan: PartCall,
     page: PartCall,
+    page_back: PartCall,
     first: unsafe extern "C" fn(*mut Handle, *mut Entry) -> bool,
     last: unsafe extern "C" fn(*mut Handle, *mut Entry) -> bool,
-    next: unsafe extern "C" fn(*mut Handle, u64, *mut Entry) -> bool,
+    next: NearCall,
+    prev: NearCall,
+    at_least: NearCall,
+    at_most: NearCall,
     len: unsafe extern "C" fn(*mut Handle) -> usize,
     pages: unsafe extern "C" fn(*mut Handle) -> u32,
     fan: unsafe extern "C" fn(*mut Handle) -> u8,
     dump: unsafe extern "C" fn(*mut Handle, *mut u8, usize, *mut usize) -> Code,
     free: unsafe extern "C" fn(Handle),
 }
+
+type NearCall = unsafe extern "C" fn(*mut Handle, u64, *mut Entry) -> bool;
 
 type PartCall = unsafe extern "C" fn(*mut Handle, u64, u64, *mut Entry, usize, *mut usize) -> usize;
 
@@ -40,9 +46,13 @@ impl Kind for OfIndex {
         find_many: sys::blink_index_find_many,
         scan: sys::blink_index_scan,
         page: sys::blink_index_page,
+        page_back: sys::blink_index_page_back,
         first: sys::blink_index_first,
         last: sys::blink_index_last,
         next: sys::blink_index_next,
+        prev: sys::blink_index_prev,
+        at_least: sys::blink_index_at_least,
+        at_most: sys::blink_index_at_most,
         len: sys::blink_index_len,
         pages: sys::blink_index_pages,
         fan: sys::blink_index_fan,
@@ -59,9 +69,13 @@ impl Kind for OfReader {
         find_many: sys::blink_reader_find_many,
         scan: sys::blink_reader_scan,
         page: sys::blink_reader_page,
+        page_back: sys::blink_reader_page_back,
         first: sys::blink_reader_first,
         last: sys::blink_reader_last,
         next: sys::blink_reader_next,
+        prev: sys::blink_reader_prev,
+        at_least: sys::blink_reader_at_least,
+        at_most: sys::blink_reader_at_most,
         len: sys::blink_reader_len,
         pages: sys::blink_reader_pages,
         fan: sys::blink_reader_fan,
@@ -103,7 +117,14 @@ impl<K: Kind> Read<K> {
     }
 
     pub(crate) fn scan(&self, range: impl RangeBounds<u64>) -> Scan<'_> {
-        Scan { handle: &self.handle, page: K::CALLS.page, range: first_and_last(&range), parts: Parts::new() }
+        Scan {
+            handle: &self.handle,
+            page: K::CALLS.page,
+            page_back: K::CALLS.page_back,
+            range: first_and_last(&range),
+            front: Parts::new(),
+            back: None,
+        }
     }
 
     pub(crate) fn count(&self, lo: u64, hi: u64) -> usize {
@@ -124,8 +145,25 @@ impl<K: Kind> Read<K> {
     }
 
     pub(crate) fn next(&self, key: u64) -> Option<Entry> {
+        self.near(K::CALLS.next, key)
+    }
+
+    pub(crate) fn prev(&self, key: u64) -> Option<Entry> {
+        self.near(K::CALLS.prev, key)
+    }
+
+    pub(crate) fn at_least(&self, key: u64) -> Option<Entry> {
+        self.near(K::CALLS.at_least, key)
+    }
+
+    pub(crate) fn at_most(&self, key: u64) -> Option<Entry> {
+        self.near(K::CALLS.at_most, key)
+    }
+
+    // The entry that a call finds on one side of a key; the call is of this kind.
+    fn near(&self, call: NearCall, key: u64) -> Option<Entry> {
         // SAFETY: as in `find`.
-        found(|entry| unsafe { (K::CALLS.next)(self.handle(), key, entry) })
+        found(|entry| unsafe { call(self.handle(), key, entry) })
     }
 
     pub(crate) fn len(&self) -> usize {
@@ -173,35 +211,60 @@ fn found(call: impl FnOnce(*mut Entry) -> bool) -> Option<Entry> {
     call(&mut entry).then_some(entry)
 }
 
-/// The entries of an index whose keys are in a range, in ascending order. It takes them out of the index in parts: 16 first, which
-/// takes no memory, then twice as many each time, up to 256, as long as memory for them is given.
+/// The entries of an index whose keys are in a range, in ascending order, and from its other end in descending order. From each end it
+/// takes them out of the index in parts: 16 first, which takes no memory, then twice as many each time, up to 256, as long as memory for
+/// them is given.
 #[derive(Clone)]
 pub struct Scan<'a> {
-    // It is full, and of the kind that the call takes.
+    // It is full, and of the kind that the calls take.
     handle: &'a UnsafeCell<Handle>,
     page: PartCall,
-    // The keys that are still to be asked for.
+    page_back: PartCall,
+    // The keys that are still to be asked for, between those of the two parts.
     range: Option<(u64, u64)>,
-    parts: Parts,
+    front: Parts,
+    // It is there once the range has been read from its end.
+    back: Option<Parts>,
 }
 
 impl Scan<'_> {
     // Takes the next entries out of the index.
     fn refill(&mut self) {
         let Some((lo, hi)) = self.range else { return };
-        let places = self.parts.places();
-        let asked = places.len();
-        let mut fitted = 0;
-        // SAFETY: the handle is full, and this thread alone uses it, since a `Scan` isn't `Send`; the array has that many elements.
-        let there = unsafe { (self.page)(self.handle.get(), lo, asked as u64, places.as_mut_ptr(), asked, &mut fitted) };
-        let entries = &places[..there];
+        // SAFETY: the handle is full, and of the call's kind.
+        let (asked, entries) = unsafe { part(self.handle, self.page, lo, &mut self.front) };
         let (within, next) = match entries.last() {
-            Some(last) if last.key <= hi => (there, last.key.checked_add(1)),
+            Some(last) if last.key <= hi => (entries.len(), last.key.checked_add(1)),
             _ => (entries.partition_point(|entry| entry.key <= hi), None),
         };
-        self.range = next.filter(|next| there == asked && *next <= hi).map(|next| (next, hi));
-        self.parts.fill(within);
+        self.range = next.filter(|next| entries.len() == asked && *next <= hi).map(|next| (next, hi));
+        self.front.fill(within);
     }
+
+    // Takes the last entries out of the index, the greatest first.
+    fn refill_back(&mut self) {
+        let Some((lo, hi)) = self.range else { return };
+        let back = self.back.get_or_insert_with(Parts::new);
+        // SAFETY: as in `refill`.
+        let (asked, entries) = unsafe { part(self.handle, self.page_back, hi, back) };
+        let (within, next) = match entries.last() {
+            Some(first) if first.key >= lo => (entries.len(), first.key.checked_sub(1)),
+            _ => (entries.partition_point(|entry| entry.key >= lo), None),
+        };
+        self.range = next.filter(|next| entries.len() == asked && lo <= *next).map(|next| (lo, next));
+        back.fill(within);
+    }
+}
+
+// The entries of another part, from a key on, and how many were asked for. The handle is full, and of the kind that the call takes; this
+// thread alone uses it, since a `Scan` isn't `Send`.
+unsafe fn part<'a>(handle: &UnsafeCell<Handle>, call: PartCall, from: u64, parts: &'a mut Parts) -> (usize, &'a [Entry]) {
+    let places = parts.places();
+    let asked = places.len();
+    let mut fitted = 0;
+    // SAFETY: as the caller says; the array has that many elements.
+    let there = unsafe { call(handle.get(), from, asked as u64, places.as_mut_ptr(), asked, &mut fitted) };
+    (asked, &places[..there])
 }
 
 impl fmt::Debug for Scan<'_> {
@@ -216,10 +279,21 @@ impl Iterator for Scan<'_> {
     // Called once an entry, from another crate.
     #[inline]
     fn next(&mut self) -> Option<Entry> {
-        if self.parts.is_empty() {
+        if self.front.is_empty() {
             self.refill();
         }
-        self.parts.take()
+        // What the range's end has taken out and not given comes after all others.
+        self.front.take().or_else(|| self.back.as_mut()?.take_last())
+    }
+}
+
+impl DoubleEndedIterator for Scan<'_> {
+    #[inline]
+    fn next_back(&mut self) -> Option<Entry> {
+        if self.back.as_ref().map_or(true, Parts::is_empty) {
+            self.refill_back();
+        }
+        self.back.as_mut().and_then(Parts::take).or_else(|| self.front.take_last())
     }
 }
 

@@ -104,7 +104,7 @@ impl Reader {
         self.read.find_many(keys)
     }
 
-    /// Returns the entries whose keys are in the range, in ascending order.
+    /// Returns the entries whose keys are in the range, in ascending order; from its end, as by `rev`, in descending order.
     pub fn scan(&self, range: impl RangeBounds<u64>) -> Scan<'_> {
         self.read.scan(range)
     }
@@ -127,6 +127,21 @@ impl Reader {
     /// Returns the entry with the least key above this one, if there is one.
     pub fn next(&self, key: u64) -> Option<Entry> {
         self.read.next(key)
+    }
+
+    /// Returns the entry with the greatest key below this one, if there is one.
+    pub fn prev(&self, key: u64) -> Option<Entry> {
+        self.read.prev(key)
+    }
+
+    /// Returns the entry with the least key from this one on, if there is one.
+    pub fn at_least(&self, key: u64) -> Option<Entry> {
+        self.read.at_least(key)
+    }
+
+    /// Returns the entry with the greatest key up to this one, if there is one.
+    pub fn at_most(&self, key: u64) -> Option<Entry> {
+        self.read.at_most(key)
     }
 
     /// Returns the number of entries. It walks all leaves.

@@ -109,6 +109,17 @@ extern "C" {
     pub(crate) fn blink_index_first(index: *mut Handle, entry: *mut crate::Entry) -> bool;
     pub(crate) fn blink_index_last(index: *mut Handle, entry: *mut crate::Entry) -> bool;
     pub(crate) fn blink_index_next(index: *mut Handle, key: u64, entry: *mut crate::Entry) -> bool;
+    pub(crate) fn blink_index_prev(index: *mut Handle, key: u64, entry: *mut crate::Entry) -> bool;
+    pub(crate) fn blink_index_at_least(index: *mut Handle, key: u64, entry: *mut crate::Entry) -> bool;
+    pub(crate) fn blink_index_at_most(index: *mut Handle, key: u64, entry: *mut crate::Entry) -> bool;
+    pub(crate) fn blink_index_page_back(
+        index: *mut Handle,
+        hi: u64,
+        n: u64,
+        entries: *mut crate::Entry,
+        places: usize,
+        fitted: *mut usize,
+    ) -> usize;
     pub(crate) fn blink_index_apply(
         index: *mut Handle,
         operations: *const RawOperation,
@@ -184,6 +195,17 @@ extern "C" {
     pub(crate) fn blink_reader_first(reader: *mut Handle, entry: *mut crate::Entry) -> bool;
     pub(crate) fn blink_reader_last(reader: *mut Handle, entry: *mut crate::Entry) -> bool;
     pub(crate) fn blink_reader_next(reader: *mut Handle, key: u64, entry: *mut crate::Entry) -> bool;
+    pub(crate) fn blink_reader_prev(reader: *mut Handle, key: u64, entry: *mut crate::Entry) -> bool;
+    pub(crate) fn blink_reader_at_least(reader: *mut Handle, key: u64, entry: *mut crate::Entry) -> bool;
+    pub(crate) fn blink_reader_at_most(reader: *mut Handle, key: u64, entry: *mut crate::Entry) -> bool;
+    pub(crate) fn blink_reader_page_back(
+        reader: *mut Handle,
+        hi: u64,
+        n: u64,
+        entries: *mut crate::Entry,
+        places: usize,
+        fitted: *mut usize,
+    ) -> usize;
     pub(crate) fn blink_reader_len(reader: *mut Handle) -> usize;
     pub(crate) fn blink_reader_pages(reader: *mut Handle) -> u32;
     pub(crate) fn blink_reader_fan(reader: *mut Handle) -> u8;

@@ -2,7 +2,7 @@
 
 use blink::{Answer, Entry, Index, Op};
 use std::collections::BTreeMap;
-use std::ops::Bound::{Excluded, Unbounded};
+use std::ops::Bound::{Excluded, Included, Unbounded};
 
 // Numbers that look random, the same in each run.
 fn mixed(number: u64) -> u64 {
@@ -56,6 +56,25 @@ fn entry(pair: Option<(&u64, &u64)>) -> Option<Entry> {
     pair.map(|(&key, &pointer)| Entry { key, pointer })
 }
 
+// A range of keys is read from its end, and by turns from both ends.
+fn reads_from_both_ends(index: &Index, map: &BTreeMap<u64, u64>, lo: u64, hi: u64) {
+    let pairs = || map.range((Included(lo), Excluded(hi))).map(|pair| entry(Some(pair)).expect("a pair"));
+    assert!(index.scan(lo..hi).rev().eq(pairs().rev()), "{lo} {hi}");
+    let (mut scan, mut expected) = (index.scan(lo..hi), pairs());
+    for turn in 0.. {
+        // so that now one end is ahead and now the other, by more than a part
+        let (given, next) = match mixed(lo + turn / 40) % 2 {
+            0 => (scan.next(), expected.next()),
+            _ => (scan.next_back(), expected.next_back()),
+        };
+        assert_eq!(given, next, "{lo} {hi}, at turn {turn}");
+        if next.is_none() {
+            break;
+        }
+    }
+    assert_eq!((scan.next(), scan.next_back()), (None, None));
+}
+
 fn goes_as_a_map(fan: u8, operations: u64, keys: u64) {
     let mut index = Index::new(fan).expect("there is memory");
     let mut map = BTreeMap::new();
@@ -67,9 +86,14 @@ fn goes_as_a_map(fan: u8, operations: u64, keys: u64) {
             assert_eq!(index.next(key), entry(map.range((Excluded(key), Unbounded)).next()));
             assert_eq!(index.first(), entry(map.first_key_value()));
             assert_eq!(index.last(), entry(map.last_key_value()));
+            assert_eq!(index.prev(key), entry(map.range(..key).next_back()));
+            assert_eq!(index.at_least(key), entry(map.range(key..).next()));
+            assert_eq!(index.at_most(key), entry(map.range(..=key).next_back()));
+            reads_from_both_ends(&index, &map, key, key + keys / 8);
         }
     }
     assert!(index.scan(..).eq(map.iter().map(|pair| entry(Some(pair)).expect("a pair"))));
+    assert!(index.scan(..).rev().eq(map.iter().rev().map(|pair| entry(Some(pair)).expect("a pair"))));
 }
 
 #[test]
@@ -104,11 +128,16 @@ fn a_scan_gives_each_entry_once_wherever_its_parts_end() {
             let entries: Vec<Entry> = (0..count).map(entry_of).collect();
             let index = Index::from_sorted(16, &entries).unwrap();
             assert!(index.scan(..).eq((0..count).map(entry_of)), "{count}");
+            assert!(index.scan(..).rev().eq((0..count).rev().map(entry_of)), "{count}");
             // the same entries where more follow, by the key of the last one and by one between it and the next
             let longer: Vec<Entry> = (0..count + 300).map(entry_of).collect();
             let index = Index::from_sorted(16, &longer).unwrap();
             assert!(index.scan(..2 * count).eq((0..count).map(entry_of)), "{count}");
             assert!(index.scan(..=2 * count + 1).eq((0..=count).map(entry_of)), "{count}");
+            // and from the other end, where others stand before them
+            let behind = || (300..count + 300).rev().map(entry_of);
+            assert!(index.scan(600..).rev().eq(behind()), "{count}");
+            assert!(index.scan(601..).rev().eq(behind()), "{count}");
             // a copy that is made on the way goes on by itself
             let mut scan = index.scan(1..);
             let begun: Vec<Entry> = scan.by_ref().take(count as usize / 2).collect();
@@ -126,5 +155,15 @@ fn a_scan_ends_at_the_greatest_key_where_a_part_ends() {
         let index = Index::from_sorted(8, &(0..count).map(entry_of).collect::<Vec<_>>()).unwrap();
         assert!(index.scan(..).eq((0..count).map(entry_of)), "{count}");
         assert_eq!(index.scan(u64::MAX..).collect::<Vec<_>>(), [entry_of(count - 1)]);
+    }
+}
+
+#[test]
+fn a_scan_from_its_end_ends_at_key_0_where_a_part_ends() {
+    for count in [16u64, 48] {
+        let entry_of = |key: u64| Entry { key, pointer: 2 * key };
+        let index = Index::from_sorted(8, &(0..count).map(entry_of).collect::<Vec<_>>()).unwrap();
+        assert!(index.scan(..).rev().eq((0..count).rev().map(entry_of)), "{count}");
+        assert_eq!(index.scan(..=0).rev().collect::<Vec<_>>(), [entry_of(0)]);
     }
 }

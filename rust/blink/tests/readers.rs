@@ -34,10 +34,15 @@ fn reads_as_a_map(reader: &Reader, map: &BTreeMap<u64, u64>, thread: u64) {
     }
     for key in (thread..=last + 1).step_by(11) {
         assert_eq!(reader.next(key), entry(map.range((Excluded(key), Unbounded)).next()), "{key}");
+        assert_eq!(reader.prev(key), entry(map.range(..key).next_back()), "{key}");
+        assert_eq!(reader.at_least(key), entry(map.range(key..).next()), "{key}");
+        assert_eq!(reader.at_most(key), entry(map.range(..=key).next_back()), "{key}");
     }
     for (lo, length) in (0..100).map(|turn| ((turn * 7919 + thread * 101) % last, turn * turn)) {
         let range = lo..lo + length;
         assert!(reader.scan(range.clone()).eq(map.range(range).map(|pair| entry(Some(pair)).expect("a pair"))), "{lo} {length}");
+        let range = lo..lo + length;
+        assert!(reader.scan(range.clone()).rev().eq(map.range(range).rev().map(|pair| entry(Some(pair)).expect("a pair"))), "{lo} {length}");
         assert_eq!(reader.count(lo, lo + length), map.range(lo..=lo + length).count(), "{lo} {length}");
     }
     let keys: Vec<u64> = (thread..last).step_by(7).collect();

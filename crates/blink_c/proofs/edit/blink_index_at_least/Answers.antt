@@ -1,0 +1,11 @@
+use Rattle.std.proofs.Common.{◌↔◌, ◌∙◌, Option, IsSome, IsTrue, ap, subst}
+use Rattle.std.specs.Prelude.{filter}
+use Rattle.blink_batch.specs.declared.Entry.{Entry}
+use Rattle.blink_index.specs.{first_of, is_from, map_of}
+use Rattle.blink_store.specs.{PlainStore}
+use Rattle.blink_c.proofs.edit.blink_index_at_least.Goals as goal
+
+pub returns-clause-found : goal.returns-clause-found
+returns-clause-found c =
+    let kept = c.at_least.ensures ∙ ap (λ (store : PlainStore). first_of (filter (is_from c.args.key) (map_of store))) c.get.ensures.value in
+    subst (λ (there : Option Entry). IsTrue c.give_entry.result ↔ IsSome there) kept c.give_entry.ensures.found
