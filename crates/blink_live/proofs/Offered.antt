@@ -49,4 +49,5 @@ pub use Rattle.blink_live.proofs.told.LooksUpKeepTable.{host_looks_up_prime}
 pub use Rattle.blink_live.proofs.closed.AccountsComeBack.{taking_account_keeps_table}
 pub use Rattle.blink_live.proofs.closed.CommonTableAtTheEnd.{AreIdle, rests_at_end}
 pub use Rattle.blink_live.proofs.closed.EntriesOfStore.{map_is}
+pub use Rattle.blink_live.proofs.closed.LeavesAtTheEnd.{leaves_at_end}
 pub use Rattle.blink_live.proofs.gathered.RowIsOfKeptPage.{word_there}

@@ -1,6 +1,7 @@
 pub mod TakingBackKeepsTable
 pub mod AllBack
 pub mod TableAtTheEnd
+pub mod LeavesAtTheEnd
 pub mod SharesComeBack
 pub mod EntriesOfMerge
 pub mod CommonTableAtTheEnd

@@ -7,3 +7,4 @@ pub mod PagesAreAdded
 pub mod KeptLevelsFit
 pub mod LevelsAreAdded
 pub mod StoreIsTheTree
+pub mod LeavesAreRead

@@ -66,5 +66,6 @@ pub mod Laid
 pub mod Laying
 pub mod Gathered
 pub mod ToCome
+pub mod Leaves
 pub mod Renumbered
 pub mod GivingBack

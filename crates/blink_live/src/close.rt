@@ -132,7 +132,7 @@ pub fn tree_at_end(
 }
 
 // The prime block that the words hold.
-fn prime_at(closed: &Closed<u8, Global>, counts: &Counts) -> Prime
+pub(crate) fn prime_at(closed: &Closed<u8, Global>, counts: &Counts) -> Prime
     requires full { IsFull closed.now.words }
     requires width { word_count counts.now ≤ slots_len closed.now.words }
     requires kept { (leftmost : List ℕ) × KeepsPrime counts.now (slots_items closed.now.words) leftmost }
@@ -257,7 +257,7 @@ fn add(store: &mut Store, page: Page) -> Result<(), AllocError>
 }
 
 // The page that the words hold under `number`.
-fn page_at(closed: &Closed<u8, Global>, counts: &Counts, number: u32) -> Page
+pub(crate) fn page_at(closed: &Closed<u8, Global>, counts: &Counts, number: u32) -> Page
     requires full { IsFull closed.now.words }
     requires width { word_count counts.now ≤ slots_len closed.now.words }
     requires kept { HasPageAt counts.now (slots_items closed.now.words) number }

@@ -10,6 +10,7 @@ mod error;
 mod find_all;
 mod hand;
 mod keys;
+mod leaves;
 mod live;
 mod open;
 mod operations;
@@ -35,6 +36,7 @@ pub use scan::{Scanned, reports_tell};
 pub use close::tree_at_end;
 pub use descent::Changed;
 pub use find_all::Trail;
+pub use leaves::entries_at_end;
 pub use open::{lay_tree, word_count};
 pub use room::Room;
 pub use rule::{

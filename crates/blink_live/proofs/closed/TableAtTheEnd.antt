@@ -18,7 +18,7 @@ use Rattle.blink_live.specs.declared.view.Role.TheVariants.{Keeper}
 use Rattle.blink_live.specs.declared.view.Share.{Share}
 use Rattle.blink_live.specs.declared.view.View.{View}
 use Rattle.blink_live.specs.Changes.{after}
-use Rattle.blink_live.specs.Merge.{KeepsTree}
+use Rattle.blink_live.specs.Merge.{KeepsPrime, KeepsTree}
 use Rattle.blink_live.specs.Rule.{PageWordIs, IsInRole, IsTableAt, IsTable}
 use Rattle.blink_live.specs.Views.{IsOwned}
 use Rattle.blink_live.specs.Words.{KeepsPage}
@@ -32,8 +32,8 @@ pub record IsAtEnd (plan : Plan) (words : List ℕ) (v : View) : Type 0 where
   pub shares : (share : Share) (key : ℕ) → Contains v.back share → Contains share.keys key → pointer_of now key ≡ pointer_of share.entries key
   pub others : (key : ℕ) → ¬ Contains v.taken key → pointer_of now key ≡ after (pointer_of plan.opening) v.seen key
 
-module _ (plan : Plan) (s : State ℕ View) (tree_state : TreeState) (h : IsTableAt plan s tree_state) (idle : (worker : ℕ) → tree_state.machines worker ≡ None) where
-  kept_page : (number : ℕ) (page : PlainPage) → tree_state.pages number ≡ Some page → KeepsPage plan.counts s.words number page
+module _ (plan : Plan) (s : State ℕ View) (tree_state : TreeState) (h : IsTableAt plan s tree_state) where
+  pub kept_page : (number : ℕ) (page : PlainPage) → tree_state.pages number ≡ Some page → KeepsPage plan.counts s.words number page
   kept_page number page there =
       let some_number : 1 ≤ number = (h.invariant.1.numbers_in_range number page there).0 in
       let in_range : number < plan.counts.numbers = elim (dec_le plan.counts.numbers number) [
@@ -43,17 +43,22 @@ module _ (plan : Plan) (s : State ℕ View) (tree_state : TreeState) (h : IsTabl
       let word : PageWordIs plan h.owners s.words (slice_index s.words number) (Some page) = subst (PageWordIs plan h.owners s.words (slice_index s.words number)) there (h.pages number some_number in_range) in
       record { number_in_range = (some_number, in_range); row_in_range = word.0.0; row_begins = word.1 }
 
+  pub kept_prime : KeepsPrime plan.counts s.words tree_state.prime
+  kept_prime =
+      let order = step_law.invariant_gives_order tree_state h.invariant in record {
+        row_in_range = h.prime.0.0;
+        row_begins = h.prime.1;
+        lawful = record { one_at_least = order.tree.1.tree.chains.some_level; at_most_levels = let few = order.few_levels in omega (arith, few); page_numbers = h.prime_numbers };
+      }
+
+module _ (plan : Plan) (s : State ℕ View) (tree_state : TreeState) (h : IsTableAt plan s tree_state) (idle : (worker : ℕ) → tree_state.machines worker ≡ None) where
   pub keeps_tree : KeepsTree plan.counts s.words plan.fan h.now
   keeps_tree =
-      let order = step_law.invariant_gives_order tree_state h.invariant in record {
+      record {
         prime = tree_state.prime;
         pages = tree_state.pages;
-        prime_kept = record {
-          row_in_range = h.prime.0.0;
-          row_begins = h.prime.1;
-          lawful = record { one_at_least = order.tree.1.tree.chains.some_level; at_most_levels = let few = order.few_levels in omega (arith, few); page_numbers = h.prime_numbers };
-        };
-        pages_kept = kept_page;
+        prime_kept = kept_prime plan s tree_state h;
+        pages_kept = kept_page plan s tree_state h;
         at_rest = subst (λ fan. IsAtRest fan tree_state.prime tree_state.pages) h.same_fan (step_law.all_idle_is_at_rest tree_state h.invariant idle).at_rest;
         ascending = h.is_map.ascending;
         are = subst (λ fan. AreEntries fan tree_state.prime tree_state.pages (pairs_of h.now)) h.same_fan h.is_map.kept;
