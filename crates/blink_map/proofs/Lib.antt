@@ -8,6 +8,7 @@ mod OperationsStart
 mod PendingsGoOn
 pub mod PendingsAreSent
 pub mod SettledMapsAreSent
+mod PackedPagesAreInOrder
 mod LooksOver
 mod AllSettled
 mod MembersDealt

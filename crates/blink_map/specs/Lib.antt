@@ -12,6 +12,7 @@ pub use Rattle.blink_map.specs.Receipts.{IsReceiptFor, IsReceiptOf, made_in, pla
 pub use Rattle.blink_map.specs.Closing.{IsClosedWith, IsListOf, IsSettledWith}
 pub use Rattle.blink_map.specs.Common.{AreEntriesAfter, IsAfter}
 pub use Rattle.blink_map.specs.Unclosed.{IsUnclosed, IsUnsettled}
+pub use Rattle.blink_map.specs.Rebuilding.{AreEntriesOf, IsRebuildFault}
 -- an operation under way: which one it is, and the session before it
 pub use Rattle.blink_map.specs.Pendings.{GoesOn, HasBegun, IsPendingOf, op_of, session_of}
 -- an operation that hasn't ended at once
@@ -32,6 +33,7 @@ pub mod Pendings
 pub mod Telling
 pub mod Closing
 pub mod Unclosed
+pub mod Rebuilding
 pub mod Drawing
 pub mod Opening
 pub mod Putting

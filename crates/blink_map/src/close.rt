@@ -50,11 +50,7 @@ impl Map {
                 receipts,
             });
         }
-        let Map { live, host } = self;
-        let mut host = take_host(host);
-        settle_all(&live, &mut host, sessions);
-        hear_all(&live, &mut host, receipts);
-        Ok(settle_common(live, host))
+        Ok(settle_now(self, sessions, receipts))
     }
 
     /// Settles the map, and returns the index of its tree, with its pages numbered anew: `settle`, and then `Settled::index`. The
@@ -87,12 +83,31 @@ impl Map {
     }
 }
 
+impl Unsettled {
+    /// Settles the map all the same, for good: each operation that is under way in a session has made its change, or it is never made.
+    /// What `Map::settle` says of the list of changes holds of this one too. The call takes no memory, waits for nobody, and isn't
+    /// refused.
+    pub fn end(self) -> Settled
+        requires its_own { All (IsSessionOf self.map) self.sessions.items }
+        requires its_receipts { All (IsReceiptOf self.map) self.receipts.items }
+        ensures { IsSettledWith self.map self.sessions.items self.receipts.items result }
+    {
+        let Unsettled {
+            map,
+            sessions,
+            receipts,
+        } = self;
+        settle_now(map, sessions, receipts)
+    }
+}
+
 impl Settled {
     /// Returns an index of the map's tree, with its pages numbered anew. The settled map stays as it is, and the call may be made
     /// again.
     ///
     /// The call refuses with `OutOfMemory`, if memory was refused. It refuses with `UnderWay`, if an operation is under way in a
-    /// session, which can't be, since `settle` has looked.
+    /// session, so that the tree may lack a posting. That can't be where `Map::settle` has looked; after `Unsettled::end`, `rebuilt`
+    /// serves.
     pub fn index(&self, alloc: Global) -> Result<Index, MapError>
         requires its_list { (opening : List Entry) × (changes : List Change)
             × IsAfter opening changes self.now }
@@ -112,6 +127,19 @@ impl Settled {
             Err(_) => Err(MapError::OutOfMemory),
         }
     }
+}
+
+// Settles the map, whether an operation is under way or not.
+fn settle_now(map: Map, sessions: Vec<Session>, receipts: Vec<Receipt>) -> Settled
+    requires its_own { All (IsSessionOf map) sessions.items }
+    requires its_receipts { All (IsReceiptOf map) receipts.items }
+    ensures { IsSettledWith map sessions.items receipts.items result }
+{
+    let Map { live, host } = map;
+    let mut host = take_host(host);
+    settle_all(&live, &mut host, sessions);
+    hear_all(&live, &mut host, receipts);
+    settle_common(live, host)
 }
 
 // Whether each place is unmarked, for a look: nobody marks one while the map is not shared.

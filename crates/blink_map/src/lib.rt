@@ -14,6 +14,7 @@ mod open;
 mod places;
 mod pool;
 mod put;
+mod rebuilt;
 mod receipt;
 mod recycle;
 mod rest;
