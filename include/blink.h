@@ -132,7 +132,6 @@ enum {
     BLINK_MAP_TOO_LARGE = 101,     /* the index's pages and the page numbers of the room are above 1,048,575 */
     BLINK_BAD_SESSIONS = 102,      /* there are to be no sessions, or more than 256 */
     BLINK_NO_PLACE = 103,          /* each place for a session was taken, or the map is closed */
-    BLINK_LOST_UNDER_WAY = 104,    /* a session's handle was freed with an operation under way, which couldn't be ended */
     BLINK_FULL = 105,              /* the session has too few rows or page numbers in all, and the map's pool too */
     BLINK_SESSION_MISSING = 106,   /* the handle of a session, or another handle of the map, isn't freed */
     BLINK_ROWS_BUSY = 107,         /* the session has enough rows and page numbers in all, but some rows are on their way back */
@@ -171,7 +170,6 @@ static inline const char *blink_message(int code) {
     case BLINK_MAP_TOO_LARGE: return "the map is too large";
     case BLINK_BAD_SESSIONS: return "a map has 1 to 256 sessions";
     case BLINK_NO_PLACE: return "no place for a session";
-    case BLINK_LOST_UNDER_WAY: return "a session was freed with an operation under way";
     case BLINK_FULL: return "the map is full";
     case BLINK_SESSION_MISSING: return "a session or another handle isn't freed";
     case BLINK_ROWS_BUSY: return "rows are on their way back: try again";
@@ -481,7 +479,7 @@ static inline int blink_map_open(blink_index *index, uint32_t pages, uint32_t ro
 static inline int blink_map_share(blink_map *map, blink_map *out);
 
 /* Gives a session. It takes memory for the handle alone. Refused: BLINK_NO_PLACE; BLINK_NO_MEMORY. Tested: it is BLINK_NO_PLACE
- * if the map is closed; otherwise only if each place was taken, or after a close that was refused with BLINK_LOST_UNDER_WAY. */
+ * if the map is closed; otherwise only if each place was taken. */
 static inline int blink_map_join(blink_map *map, blink_session *out);
 
 /* Stores how many rows and page numbers the map's pool has left, for a look: sessions may draw at any time. Tested: it stores what
@@ -521,10 +519,11 @@ static inline void blink_map_room(blink_map *map, uint64_t *rows, uint64_t *page
 }
 
 /* Closes the map, and gives the index of its tree: the entries that it was opened with, after all changes of the list. The handle stays,
- * and is still to be freed. Refused: BLINK_MAP_CLOSED, exactly if the map is closed; BLINK_SESSION_MISSING; BLINK_LOST_UNDER_WAY;
- * BLINK_NO_MEMORY. But for BLINK_MAP_CLOSED the map stays, with all its entries, and the call may be made again; no session joins any
- * more after BLINK_LOST_UNDER_WAY, and none may after BLINK_NO_MEMORY. Tested: it is BLINK_SESSION_MISSING if the handle of a session,
- * or another handle of the map, isn't freed, and in no other case. */
+ * and is still to be freed. An operation that was under way when its session was freed, and couldn't be ended, has made its change or
+ * never makes it. Refused: BLINK_MAP_CLOSED, exactly if the map is closed; BLINK_SESSION_MISSING; BLINK_NO_MEMORY; BLINK_MAP_TOO_LARGE.
+ * But for BLINK_MAP_CLOSED the map stays, with all its entries, and the call may be made again; no session may join any more after
+ * BLINK_NO_MEMORY. Tested: it is BLINK_SESSION_MISSING if the handle of a session, or another handle of the map, isn't freed, and in no
+ * other case. It is BLINK_MAP_TOO_LARGE only where such an operation was lost, and the entries need more pages than there are numbers. */
 int blink_map_close(blink_map *map, blink_index *out);
 
 /* Frees the handle. The handles of sessions, and others of the map, may still be used, and are still to be freed. */
@@ -591,7 +590,7 @@ int blink_session_stock(blink_session *session, blink_stock *stock);
 
 /* Frees the handle. Tested: a session leaves its map by it, and its place can be taken again. An operation or a put under way goes on to
  * its end before; only a put may be left undone, where the session has no room for its other half. If it still waits for other sessions
- * after 1,000 tries, its place is lost, and blink_map_close is refused with BLINK_LOST_UNDER_WAY. */
+ * after 1,000 tries, its place is lost, and nothing else: the operation has made its change or never makes it. */
 void blink_session_free(blink_session session);
 
 /* Tells ThreadSanitizer, where it is on, what "Threads" says of pointers: of the calls above, and so of the functions below. */

@@ -114,7 +114,6 @@ NO_MEMORY ../blink_map/specs/Codes.antt OutOfMemory
 MAP_TOO_LARGE ../blink_map/specs/Codes.antt TooLarge
 BAD_SESSIONS ../blink_map/specs/Codes.antt Sessions
 NO_PLACE ../blink_map/specs/Codes.antt NoPlace
-LOST_UNDER_WAY ../blink_map/specs/Codes.antt UnderWay
 FULL ../blink_owners/specs/MapCodes.antt Full
 SESSION_MISSING ../blink_owners/specs/MapCodes.antt Missing
 MAP_CLOSED ../blink_owners/specs/MapCodes.antt Closed

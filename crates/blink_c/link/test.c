@@ -28,7 +28,7 @@ static void tells_each_code(void) {
                                 BLINK_BAD_FAN, BLINK_NO_MEMORY, BLINK_NOT_ASCENDING, BLINK_SHARED, BLINK_TAKEN, BLINK_NO_ALLOWANCE,
                                 BLINK_NOT_YOURS, BLINK_SPENT, BLINK_MISSING, BLINK_TABLE_TOO_LARGE, BLINK_HAND_NOT_YOURS,
                                 BLINK_FOREIGN, BLINK_PENDING, BLINK_IDLE, BLINK_RETURNED, BLINK_MAP_TOO_LARGE, BLINK_BAD_SESSIONS, BLINK_MAP_CLOSED,
-                                BLINK_NO_PLACE, BLINK_LOST_UNDER_WAY, BLINK_FULL, BLINK_SESSION_MISSING, BLINK_ROWS_BUSY};
+                                BLINK_NO_PLACE, BLINK_FULL, BLINK_SESSION_MISSING, BLINK_ROWS_BUSY};
     const char *unknown = blink_message(-1);
     size_t count = sizeof codes / sizeof codes[0], told = 0;
     for (int code = -1000; code <= 1000; code++) told += strcmp(blink_message(code), unknown) != 0;

@@ -141,7 +141,7 @@ pub extern "C" fn blink_map_close(alloc: Global, map: &mut MapHandle, out: &mut 
     ensures fan { IfSome out.new.value (λ index. index.fan ≡ fan_in map.old.value) }
     ensures numbered { IfSome out.new.value IsNumberedInOrder }
     ensures refused { result ≢ 0
-        → (result ≡ 41) ⊎ (result ≡ 104) ⊎ (result ≡ 106) ⊎ (result ≡ 108) }
+        → (result ≡ 41) ⊎ (result ≡ 101) ⊎ (result ≡ 106) ⊎ (result ≡ 108) }
     ensures closed_before { result ≡ 108 ↔ ¬ CanClose map.old.value.state }
     ensures stays { result ≢ 0 → CanClose map.old.value.state → CanClose map.new.value.state }
     ensures unchanged { result ≢ 0 → out.new.value ≡ None }

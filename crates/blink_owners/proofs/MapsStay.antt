@@ -8,11 +8,11 @@ use Rattle.blink_owners.specs.Maps.{CanClose, IsCloseFault, IsEndFault}
 pub never_closed : {X : Type 0} (result : Result X MapRefusal) (held : MapState) → CanClose held → IfErr result IsEndFault → IsErrOf result refused.Closed ↔ (¬ CanClose held)
 never_closed (Ok given) held can fault = ((λ is. absurd (cc is)), (λ cannot. absurd (cannot can)))
 never_closed (Err refusal) held can (inl memory) = ((λ is. absurd (cc (is, memory))), (λ cannot. absurd (cannot can)))
-never_closed (Err refusal) held can (inr under_way) = ((λ is. absurd (cc (is, under_way))), (λ cannot. absurd (cannot can)))
+never_closed (Err refusal) held can (inr too_large) = ((λ is. absurd (cc (is, too_large))), (λ cannot. absurd (cannot can)))
 
 as_close : (refusal : MapRefusal) → IsEndFault refusal → IsCloseFault refusal
 as_close refusal (inl memory) = inl memory
-as_close refusal (inr under_way) = inr (inl under_way)
+as_close refusal (inr too_large) = inr (inl too_large)
 
 pub close_fault : {X : Type 0} (result : Result X MapRefusal) → IfErr result IsEndFault → IfErr result IsCloseFault
 close_fault (Ok given) fault = tt

@@ -15,7 +15,7 @@ use Rattle.blink_owners.specs.declared.map_refusal.MapRefusal.{MapRefusal}
 use Rattle.blink_owners.specs.declared.map_refusal.MapRefusal.TheVariants as refused
 use Rattle.blink_owners.specs.declared.map_state.MapState.{MapState}
 use Rattle.blink_owners.specs.declared.map_state.MapState.TheVariants as state
-use Rattle.blink_owners.specs.declared.map_state.MapState.TheVariants.{Open, Unsettled, Closed}
+use Rattle.blink_owners.specs.declared.map_state.MapState.TheVariants.{Open, Closed}
 use Rattle.blink_owners.specs.declared.session_owner.HeldSession.TheVariants.{Free}
 use Rattle.blink_owners.specs.declared.session_owner.SessionOwner.{SessionOwner}
 use Rattle.blink_owners.specs.Sessions.{in_map}
@@ -32,10 +32,9 @@ fan_in owner = (map_in owner).live.fan
 abbrev pub IsSettledOf : Map → Settled → Type 0
 IsSettledOf map settled = (sessions : List Session) × IsSettledWith map sessions [] settled
 
--- what is held is this map: it is open, or couldn't be settled with these sessions, or is settled; or nothing is left of it
+-- what is held is this map: it is open, or settled; or nothing is left of it
 abbrev pub IsStateOf : Map → MapState → Type 0
 IsStateOf map (Open shared) = (arc_value shared).map ≡ map
-IsStateOf map (Unsettled unsettled) = (unsettled.map ≡ map) × All (IsSessionOf map) unsettled.sessions.items × (unsettled.receipts.items ≡ [])
 IsStateOf map (state.Settled settled) = IsSettledOf map settled
 IsStateOf map Closed = ⊤
 
@@ -98,8 +97,8 @@ IsClosedMap map entries = (sessions : List Session) × IsClosedWith map sessions
 
 -- why a map that nobody else shares isn't closed
 abbrev pub IsEndFault : MapRefusal → Type 0
-IsEndFault refusal = (refusal ≡ refused.Map map.OutOfMemory) ⊎ (refusal ≡ refused.Map map.UnderWay)
+IsEndFault refusal = (refusal ≡ refused.Map map.OutOfMemory) ⊎ (refusal ≡ refused.Map map.TooLarge)
 
 abbrev pub IsCloseFault : MapRefusal → Type 0
 IsCloseFault refusal =
-    (refusal ≡ refused.Map map.OutOfMemory) ⊎ (refusal ≡ refused.Map map.UnderWay) ⊎ (refusal ≡ refused.Missing) ⊎ (refusal ≡ refused.Closed)
+    (refusal ≡ refused.Map map.OutOfMemory) ⊎ (refusal ≡ refused.Map map.TooLarge) ⊎ (refusal ≡ refused.Missing) ⊎ (refusal ≡ refused.Closed)

@@ -14,7 +14,7 @@ use crate::map_state::MapState;
 use crate::session_owner::{HeldSession, SessionOwner};
 use crate::shared_map::SharedMap;
 use blink_index::Index;
-use blink_map::{Map, MapError, Receipt, Room, Session, Settled, Unsettled};
+use blink_map::{Map, MapError, Room, Session, Settled};
 use std::alloc::{AllocError, Global};
 use std::mem;
 use std::snapshot::Snapshot;
@@ -137,7 +137,6 @@ impl MapOwner {
     pub fn room(&self) -> (u64, u64) {
         match &self.state {
             MapState::Open(shared) => shared.map.room(),
-            MapState::Unsettled(unsettled) => unsettled.map.room(),
             MapState::Settled(_) | MapState::Closed => (0, 0),
         }
     }
@@ -145,8 +144,9 @@ impl MapOwner {
     /// Closes the map, and returns the index of its tree, in a box.
     ///
     /// The call is refused with `Closed`, if the map was closed before; with `Missing`, if another handle of the map or the handle of a
-    /// session isn't freed; with `UnderWay`, if an operation is under way in a session that was lost; and with `OutOfMemory`, if memory
-    /// was refused. But for `Closed` the map stays, with all its entries, and the call may be made again.
+    /// session isn't freed; with `OutOfMemory`, if memory was refused; and with `TooLarge`, if an operation is under way in a session that
+    /// was lost, and the entries need more pages than there are numbers. But for `Closed` the map stays, with all its entries, and the
+    /// call may be made again.
     pub fn close(&mut self, alloc: Global) -> Result<Box<Index>, MapRefusal>
         requires its_own { IsOwnMap self.old }
         ensures its_own { IsOwnMap self.new }
@@ -167,7 +167,7 @@ impl MapOwner {
                 match Arc::try_unwrap(shared) {
                     Ok(shared) => {
                         let (map, sessions) = shared.gather(sessions);
-                        self.end(alloc, map, sessions, Vec::new(alloc))
+                        self.give(alloc, settled_with(alloc, map, sessions))
                     }
                     Err(shared) => {
                         self.state = MapState::Open(shared);
@@ -175,44 +175,8 @@ impl MapOwner {
                     }
                 }
             }
-            MapState::Unsettled(unsettled) => {
-                let Unsettled {
-                    map,
-                    sessions,
-                    receipts,
-                } = unsettled;
-                self.end(alloc, map, sessions, receipts)
-            }
             MapState::Settled(settled) => self.give(alloc, settled),
             MapState::Closed => Err(MapRefusal::Closed),
-        }
-    }
-
-    // Settles the map with these sessions, and then closes it.
-    fn end(
-        &mut self,
-        alloc: Global,
-        map: Map,
-        sessions: Vec<Session>,
-        receipts: Vec<Receipt>,
-    ) -> Result<Box<Index>, MapRefusal>
-        requires its_map { map ≡ map_in self.old }
-        requires its_own { All (IsSessionOf map) sessions.items }
-        requires none { receipts.items ≡ [] }
-        ensures its_own { IsOwnMap self.new }
-        ensures same { IsOwnerOfSame self.old self.new }
-        ensures entries { IfOk result (λ index. IsClosedMap (map_in self.old) (map_of index.value)) }
-        ensures fan { IfOk result (λ index. index.value.fan ≡ fan_in self.old) }
-        ensures numbered { IfOk result (λ index. IsNumberedInOrder index.value) }
-        ensures refused { IfErr result IsEndFault }
-        ensures stays { OnErr result (CanClose self.new.state) }
-    {
-        match map.settle(sessions, receipts) {
-            Ok(settled) => self.give(alloc, settled),
-            Err(unsettled) => {
-                self.state = MapState::Unsettled(unsettled);
-                Err(MapRefusal::Map(MapError::UnderWay))
-            }
         }
     }
 
@@ -240,7 +204,20 @@ impl MapOwner {
     }
 }
 
-// The index of a settled map, in a box.
+// Settles the map with these sessions. An operation that is under way in a session that was lost has made its change, or it is never
+// made.
+fn settled_with(alloc: Global, map: Map, sessions: Vec<Session>) -> Settled
+    requires its_own { All (IsSessionOf map) sessions.items }
+    ensures { IsSettledOf map result }
+{
+    match map.settle(sessions, Vec::new(alloc)) {
+        Ok(settled) => settled,
+        Err(unsettled) => unsettled.end(),
+    }
+}
+
+// The index of a settled map, in a box. Where an operation is under way in a session that was lost, the tree may lack a posting, so the
+// index is made of the entries alone.
 fn boxed_index(alloc: Global, settled: &Settled) -> Result<Box<Index>, MapError>
     requires its_list { (opening : List Entry) × (changes : List Change)
         × IsAfter opening changes settled.now }
@@ -249,12 +226,36 @@ fn boxed_index(alloc: Global, settled: &Settled) -> Result<Box<Index>, MapError>
         → IsAfter opening changes settled.now → AreEntriesAfter opening changes (map_of index.value)) }
     ensures numbered { IfOk result (λ index. IsNumberedInOrder index.value) }
     ensures refused { IfErr result
-        (λ refusal. (refusal ≡ MapError.UnderWay) ⊎ (refusal ≡ MapError.OutOfMemory)) }
+        (λ refusal. (refusal ≡ MapError.OutOfMemory) ⊎ (refusal ≡ MapError.TooLarge)) }
 {
-    let index = settled.index(alloc)?;
-    match Box::new(alloc, index) {
+    match index_of(alloc, settled) {
+        Ok(index) => match Box::new(alloc, index) {
+            Ok(index) => Ok(index),
+            Err(_) => Err(MapError::OutOfMemory),
+        },
+        Err(refusal) => Err(refusal),
+    }
+}
+
+// The index of a settled map.
+fn index_of(alloc: Global, settled: &Settled) -> Result<Index, MapError>
+    requires its_list { (opening : List Entry) × (changes : List Change)
+        × IsAfter opening changes settled.now }
+    ensures fan { IfOk result (λ index. index.fan ≡ settled.now.fan) }
+    ensures entries { IfOk result (λ index. (opening : List Entry) (changes : List Change)
+        → IsAfter opening changes settled.now → AreEntriesAfter opening changes (map_of index)) }
+    ensures numbered { IfOk result IsNumberedInOrder }
+    ensures refused { IfErr result
+        (λ refusal. (refusal ≡ MapError.OutOfMemory) ⊎ (refusal ≡ MapError.TooLarge)) }
+{
+    match settled.index(alloc) {
         Ok(index) => Ok(index),
-        Err(_) => Err(MapError::OutOfMemory),
+        Err(MapError::OutOfMemory) => Err(MapError::OutOfMemory),
+        Err(_) => match settled.rebuilt(alloc) {
+            Ok(index) => Ok(index),
+            Err(MapError::TooLarge) => Err(MapError::TooLarge),
+            Err(_) => Err(MapError::OutOfMemory),
+        },
     }
 }
 

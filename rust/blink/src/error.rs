@@ -34,8 +34,6 @@ pub enum Error {
     BadSessions,
     /// Each place for a session is taken.
     NoPlace,
-    /// An operation of a session was dropped before it had ended, and couldn't be ended.
-    LostUnderWay,
     /// The session has too few rows or page numbers in all for the change, and the map's pool too.
     Full,
     /// The session has enough rows and page numbers in all for the change, but some rows are on their way back. The same change may be
@@ -59,7 +57,6 @@ impl Error {
             63 => Error::Foreign,
             102 => Error::BadSessions,
             103 => Error::NoPlace,
-            104 => Error::LostUnderWay,
             105 => Error::Full,
             107 => Error::RowsBusy,
             108 => Error::Closed,
@@ -91,7 +88,6 @@ impl fmt::Display for Error {
             Error::Foreign => f.write_str("of another table or map"),
             Error::BadSessions => f.write_str("1 to 256 sessions"),
             Error::NoPlace => f.write_str("no place for a session"),
-            Error::LostUnderWay => f.write_str("an operation was dropped before it had ended"),
             Error::Full => f.write_str("full"),
             Error::RowsBusy => f.write_str("rows are on their way back"),
             Error::Closed => f.write_str("the map is closed"),

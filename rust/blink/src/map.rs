@@ -153,10 +153,11 @@ impl Map {
         left
     }
 
-    /// Closes the map. The index that it returns has the entries that the map was opened with, after all changes. It is refused with
-    /// [`Error::Missing`], if a session was leaked, as by [`std::mem::forget`]; with [`Error::LostUnderWay`], if an [`Unfinished`] was
-    /// dropped that couldn't be ended; and with [`Error::OutOfMemory`]. Each gives the map back with all its entries, and it can be closed
-    /// again; no session joins any more after the second, and none may after the third.
+    /// Closes the map. The index that it returns has the entries that the map was opened with, after all changes. An [`Unfinished`] that
+    /// was dropped and couldn't be ended has made its change, or never makes it. It is refused with [`Error::Missing`], if a session was
+    /// leaked, as by [`std::mem::forget`]; with [`Error::OutOfMemory`]; and with [`Error::TooLarge`] only where such an operation was lost,
+    /// and the entries need more pages than there are numbers. Each gives the map back with all its entries, and it can be closed again;
+    /// no session may join any more after the second.
     pub fn close(self) -> Result<Index, Unclosed> {
         let index = Index::filled(|out| {
             // SAFETY: the handle is full, and locked; `out` is empty.
@@ -693,7 +694,8 @@ pub enum Begun<'map> {
 /// An operation of a session that has begun and not ended. The session can do nothing else meanwhile. No other session waits for it.
 ///
 /// Dropping it takes the operation to its end, if that doesn't wait long for other sessions. Only a put may be left undone, where the
-/// session has no room for its other half. Else the session's place is lost, and [`Map::close`] is refused with [`Error::LostUnderWay`].
+/// session has no room for its other half. Else the session's place is lost, and nothing
+/// more: the operation has made its change, or never makes it.
 #[derive(Debug)]
 pub struct Unfinished<'map> {
     session: Session<'map>,

@@ -4,19 +4,13 @@ use Rattle.blink_owners.proofs.MapsStay.{close_fault, never_closed}
 use Rattle.blink_owners.proofs.map_owner.MapOwner.close.Goals as goal
 
 pub returns-in-Ok-try_unwrap-clause-closed : goal.returns-in-Ok-try_unwrap-clause-closed
-returns-in-Ok-try_unwrap-clause-closed c = never_closed c.end.result c.args.self.now.state (subst CanClose c.in-Open.ensures.value tt) c.end.ensures.refused
+returns-in-Ok-try_unwrap-clause-closed c = never_closed c.give.result c.args.self.now.state (subst CanClose c.in-Open.ensures.value tt) c.give.ensures.refused
 
 pub returns-in-Ok-try_unwrap-clause-refused : goal.returns-in-Ok-try_unwrap-clause-refused
-returns-in-Ok-try_unwrap-clause-refused c = close_fault c.end.result c.end.ensures.refused
-
-pub returns-in-Unsettled-clause-closed : goal.returns-in-Unsettled-clause-closed
-returns-in-Unsettled-clause-closed c = never_closed c.end-in-Unsettled.result c.args.self.now.state (subst CanClose c.in-Unsettled.ensures.value tt) c.end-in-Unsettled.ensures.refused
-
-pub returns-in-Unsettled-clause-refused : goal.returns-in-Unsettled-clause-refused
-returns-in-Unsettled-clause-refused c = close_fault c.end-in-Unsettled.result c.end-in-Unsettled.ensures.refused
+returns-in-Ok-try_unwrap-clause-refused c = close_fault c.give.result c.give.ensures.refused
 
 pub returns-in-Settled-clause-closed : goal.returns-in-Settled-clause-closed
-returns-in-Settled-clause-closed c = never_closed c.give.result c.args.self.now.state (subst CanClose c.in-Settled.ensures.value tt) c.give.ensures.refused
+returns-in-Settled-clause-closed c = never_closed c.give-in-Settled.result c.args.self.now.state (subst CanClose c.in-Settled.ensures.value tt) c.give-in-Settled.ensures.refused
 
 pub returns-in-Settled-clause-refused : goal.returns-in-Settled-clause-refused
-returns-in-Settled-clause-refused c = close_fault c.give.result c.give.ensures.refused
+returns-in-Settled-clause-refused c = close_fault c.give-in-Settled.result c.give-in-Settled.ensures.refused
