@@ -85,7 +85,7 @@ typedef struct { uint64_t taken, there; } blink_taken;
  * `pages` are the page numbers that it has drawn and not used, and `unwritten` the rows that it has drawn and not written. `free`
  * rows have come back, and may be written again. `taken_out` rows were replaced by changes of its own, and `waiting` rows wait
  * until no call reads them. */
-typedef struct { uint64_t pages, unwritten, free, taken_out, waiting; } blink_stock;
+typedef struct { uint64_t pages, unwritten, free, taken_out, waiting; } blink_reserve;
 
 /* The kinds of operations. */
 enum {
@@ -124,14 +124,14 @@ enum {
     BLINK_SPENT = 55,              /* the pass has no insertion, or no deletion, left */
     BLINK_MISSING = 56,            /* a pass wasn't given back, or its handle isn't freed */
     BLINK_TABLE_TOO_LARGE = 57,    /* as 32, by the insertions that the table is to have room for */
-    BLINK_HAND_NOT_YOURS = 58,     /* a key isn't one of the pass's that is to hand it over, or stands twice in the list */
+    BLINK_TRANSFER_NOT_YOURS = 58,     /* a key isn't one of the pass's that is to hand it over, or stands twice in the list */
     BLINK_FOREIGN = 63,            /* the pass is of another table, or the session of another map */
     BLINK_PENDING = 90,            /* the pass or the session has an operation under way */
     BLINK_IDLE = 91,               /* the pass or the session has no operation under way */
     BLINK_RETURNED = 92,           /* the pass was given back to its table */
     BLINK_MAP_TOO_LARGE = 101,     /* the index's pages and the page numbers of the room are above 1,048,575 */
     BLINK_BAD_SESSIONS = 102,      /* there are to be no sessions, or more than 256 */
-    BLINK_NO_PLACE = 103,          /* each place for a session was taken, or the map is closed */
+    BLINK_NO_SESSION = 103,          /* each place for a session was taken, or the map is closed */
     BLINK_FULL = 105,              /* the session has too few rows or page numbers in all, and the map's pool too */
     BLINK_SESSION_MISSING = 106,   /* the handle of a session, or another handle of the map, isn't freed */
     BLINK_ROWS_BUSY = 107,         /* the session has enough rows and page numbers in all, but some rows are on their way back */
@@ -162,14 +162,14 @@ static inline const char *blink_message(int code) {
     case BLINK_SPENT: return "the pass has no change left";
     case BLINK_MISSING: return "a pass wasn't given back or freed";
     case BLINK_TABLE_TOO_LARGE: return "the table is too large";
-    case BLINK_HAND_NOT_YOURS: return "a key isn't the pass's that hands it over";
+    case BLINK_TRANSFER_NOT_YOURS: return "a key isn't the pass's that hands it over";
     case BLINK_FOREIGN: return "of another table or map";
     case BLINK_PENDING: return "an operation is under way";
     case BLINK_IDLE: return "no operation is under way";
     case BLINK_RETURNED: return "the pass was given back";
     case BLINK_MAP_TOO_LARGE: return "the map is too large";
     case BLINK_BAD_SESSIONS: return "a map has 1 to 256 sessions";
-    case BLINK_NO_PLACE: return "no place for a session";
+    case BLINK_NO_SESSION: return "no place for a session";
     case BLINK_FULL: return "the map is full";
     case BLINK_SESSION_MISSING: return "a session or another handle isn't freed";
     case BLINK_ROWS_BUSY: return "rows are on their way back: try again";
@@ -407,10 +407,10 @@ int blink_pass_tell(blink_pass *from, blink_pass *to);
 
 /* Hands these keys, in any order, from pass `from` to pass `to`, which can change them then as `from` could; `from` still glances
  * at them. Each pass keeps the changes that it has left, and `to` has then seen all that `from` has seen. The two handles are
- * different. Refused, looked for in this order: as blink_pass_tell; BLINK_HAND_NOT_YOURS, and `bad_key` is the first key of the
- * list that isn't one of `from`'s, or that stands earlier in the list; BLINK_NO_MEMORY. Without BLINK_HAND_NOT_YOURS,
+ * different. Refused, looked for in this order: as blink_pass_tell; BLINK_TRANSFER_NOT_YOURS, and `bad_key` is the first key of the
+ * list that isn't one of `from`'s, or that stands earlier in the list; BLINK_NO_MEMORY. Without BLINK_TRANSFER_NOT_YOURS,
  * `bad_key` stays as it was. A refusal leaves both passes as they were. */
-int blink_pass_hand(blink_pass *from, blink_pass *to, const uint64_t *keys, size_t count, uint64_t *bad_key);
+int blink_pass_transfer(blink_pass *from, blink_pass *to, const uint64_t *keys, size_t count, uint64_t *bad_key);
 
 /* Begin an insertion, a deletion, a replacement or an exchange of a key of the pass; the last answers as blink_index_exchange does.
  * It goes on by blink_pass_advance, and until it has ended the pass can do nothing else. Each uses one insertion, or one deletion, of
@@ -478,7 +478,7 @@ static inline int blink_map_open(blink_index *index, uint32_t pages, uint32_t ro
  * BLINK_NO_MEMORY. */
 static inline int blink_map_share(blink_map *map, blink_map *out);
 
-/* Gives a session. It takes memory for the handle alone. Refused: BLINK_NO_PLACE; BLINK_NO_MEMORY. Tested: it is BLINK_NO_PLACE
+/* Gives a session. It takes memory for the handle alone. Refused: BLINK_NO_SESSION; BLINK_NO_MEMORY. Tested: it is BLINK_NO_SESSION
  * if the map is closed; otherwise only if each place was taken. */
 static inline int blink_map_join(blink_map *map, blink_session *out);
 
@@ -585,8 +585,8 @@ int blink_session_advance(blink_session *session, uint32_t tries, blink_answer *
 int blink_session_tell(blink_session *from, blink_session *to);
 
 /* Tells what the session has of page numbers and rows, for a look; blink_map_room tells what the pool has left. It changes
- * nothing. Refused: BLINK_PENDING; then `stock` stays as it was. */
-int blink_session_stock(blink_session *session, blink_stock *stock);
+ * nothing. Refused: BLINK_PENDING; then `reserve` stays as it was. */
+int blink_session_reserve(blink_session *session, blink_reserve *reserve);
 
 /* Frees the handle. Tested: a session leaves its map by it, and its place can be taken again. An operation or a put under way goes on to
  * its end before; only a put may be left undone, where the session has no room for its other half. If it still waits for other sessions
@@ -627,8 +627,8 @@ static inline bool blink_session_again(blink_session *session, int *code, blink_
 
 /* Whether the session is free: BLINK_DONE, or BLINK_PENDING. */
 static inline int blink_session_is_free(blink_session *session) {
-    blink_stock stock;
-    return blink_session_stock(session, &stock);
+    blink_reserve reserve;
+    return blink_session_reserve(session, &reserve);
 }
 
 static inline int blink_session_insert_wait(blink_session *session, uint64_t key, uint64_t pointer, blink_answer *answer) {

@@ -28,7 +28,7 @@ namespace blink {
 using Entry = blink_entry;
 using Operation = blink_operation;
 using Answer = blink_answer;
-using Stock = blink_stock;
+using Reserve = blink_reserve;
 using Key = std::uint64_t;
 using Pointer = std::uint64_t;
 
@@ -360,10 +360,10 @@ public:
     }
     // Tells the other session what this one has seen.
     void tell(Session &other) { detail::check(blink_session_tell(&handle_, &other.handle_)); }
-    Stock stock() {
-        Stock stock{0, 0, 0, 0, 0};
-        detail::check(blink_session_stock(&handle_, &stock));
-        return stock;
+    Reserve reserve() {
+        Reserve reserve{0, 0, 0, 0, 0};
+        detail::check(blink_session_reserve(&handle_, &reserve));
+        return reserve;
     }
     blink_session *handle() noexcept { return &handle_; }
 
@@ -454,10 +454,10 @@ public:
     }
     // Tells the other pass what this one has seen.
     void tell(Pass &other) { detail::check(blink_pass_tell(&handle_, &other.handle_)); }
-    // Hands keys to the other pass. Error BLINK_HAND_NOT_YOURS says no key; blink_pass_hand does.
-    void hand(Pass &other, const std::vector<Key> &keys) {
+    // Hands keys to the other pass. Error BLINK_TRANSFER_NOT_YOURS says no key; blink_pass_transfer does.
+    void transfer(Pass &other, const std::vector<Key> &keys) {
         Key bad_key = 0;
-        detail::check(blink_pass_hand(&handle_, &other.handle_, detail::place_of(keys), keys.size(), &bad_key));
+        detail::check(blink_pass_transfer(&handle_, &other.handle_, detail::place_of(keys), keys.size(), &bad_key));
     }
     blink_pass *handle() noexcept { return &handle_; }
 

@@ -35,8 +35,8 @@ ABSENT, FOUND, INSERTED, EXISTS, REMOVED, REPLACED = range(6)
 CODES = {
     "DONE": 0, "TOO_MANY": 1, "WRONG_LENGTH": 3, "UNKNOWN_OPERATION": 11, "INDEX_TOO_LARGE": 32, "BAD_FAN": 40,
     "NO_MEMORY": 41, "NOT_ASCENDING": 42, "SHARED": 43, "TAKEN": 51, "NO_ALLOWANCE": 52, "NOT_YOURS": 54, "SPENT": 55,
-    "MISSING": 56, "TABLE_TOO_LARGE": 57, "HAND_NOT_YOURS": 58, "FOREIGN": 63, "PENDING": 90, "IDLE": 91, "RETURNED": 92,
-    "MAP_TOO_LARGE": 101, "BAD_SESSIONS": 102, "NO_PLACE": 103, "FULL": 105,
+    "MISSING": 56, "TABLE_TOO_LARGE": 57, "TRANSFER_NOT_YOURS": 58, "FOREIGN": 63, "PENDING": 90, "IDLE": 91, "RETURNED": 92,
+    "MAP_TOO_LARGE": 101, "BAD_SESSIONS": 102, "NO_SESSION": 103, "FULL": 105,
     "SESSION_MISSING": 106, "ROWS_BUSY": 107, "MAP_CLOSED": 108,
 }
 _NAMES = {number: name for name, number in CODES.items()}
@@ -44,7 +44,7 @@ _NAMES = {number: name for name, number in CODES.items()}
 #: What a call found or did: one of ABSENT to REPLACED, and the pointer, or 0 where the answer tells none.
 Answer = namedtuple("Answer", "kind pointer")
 #: What a session has of its map's page numbers and rows.
-Stock = namedtuple("Stock", "pages unwritten free taken_out waiting")
+Reserve = namedtuple("Reserve", "pages unwritten free taken_out waiting")
 
 # How many steps in vain an operation takes before its thread yields.
 _TRIES = 100
@@ -68,7 +68,7 @@ _Operation = _struct("blink_operation", "kind", "key", "pointer")
 _Answer = _struct("blink_answer", "kind", "pointer")
 _Scanned = _struct("blink_scanned", "filled", "more", "next")
 _Taken = _struct("blink_taken", "taken", "there")
-_Stock = _struct("blink_stock", *Stock._fields)
+_Reserve = _struct("blink_reserve", *Reserve._fields)
 
 
 class _Handle(ctypes.Structure):
@@ -80,7 +80,7 @@ def _declared():
     u8, u32, u64, size, truth, handle = (
         ctypes.c_uint8, ctypes.c_uint32, ctypes.c_uint64, ctypes.c_size_t, ctypes.c_bool, ctypes.POINTER(_Handle))
     answer, entry, keys, sizes = map(ctypes.POINTER, (_Answer, _Entry, u64, size))
-    operations, scanned, taken, stock = map(ctypes.POINTER, (_Operation, _Scanned, _Taken, _Stock))
+    operations, scanned, taken, reserve = map(ctypes.POINTER, (_Operation, _Scanned, _Taken, _Reserve))
     text = ctypes.POINTER(u8)
     yield "blink_version", ctypes.c_char_p
     for it in "index", "reader":
@@ -134,9 +134,9 @@ def _declared():
         yield f"blink_session_{it}", CODE, handle, u64, u64, u32, answer
     yield "blink_session_delete", CODE, handle, u64, u32, answer
     yield "blink_session_exchange", CODE, handle, u64, u64, u64, u32, answer
-    yield "blink_session_stock", CODE, handle, stock
+    yield "blink_session_reserve", CODE, handle, reserve
     yield "blink_pass_glance", CODE, handle, u64, answer
-    yield "blink_pass_hand", CODE, handle, handle, keys, size, keys
+    yield "blink_pass_transfer", CODE, handle, handle, keys, size, keys
     for it in "insert", "replace", "delete_exact":
         yield f"blink_pass_begin_{it}", CODE, handle, u64, u64
     yield "blink_pass_begin_delete", CODE, handle, u64
@@ -505,10 +505,10 @@ class Session(_Ranges, _Updates):
         answer = self._changes("put", key, pointer)
         return answer.pointer if answer.kind == REPLACED else None
 
-    def stock(self):
-        stock = _Stock()
-        _check(self._call("stock", stock))
-        return Stock(*(getattr(stock, field) for field in Stock._fields))
+    def reserve(self):
+        reserve = _Reserve()
+        _check(self._call("reserve", reserve))
+        return Reserve(*(getattr(reserve, field) for field in Reserve._fields))
 
 
 class Map(_Owner):
@@ -556,8 +556,8 @@ class Pass(_Ranges, _Updates):
             _check(code)
             return self._ends(None, code)
 
-    def hand(self, other, keys):
-        """Hands keys to the other pass. Error HAND_NOT_YOURS has the first bad key as `key`."""
+    def transfer(self, other, keys):
+        """Hands keys to the other pass. Error TRANSFER_NOT_YOURS has the first bad key as `key`."""
         if type(other) is not Pass or other is self:
             raise TypeError("keys are handed to another Pass")
         keys, count = _numbers_of(keys)
@@ -566,9 +566,9 @@ class Pass(_Ranges, _Updates):
         try:
             with first._lock, second._lock:
                 other._is_open()
-                _check(self._call("hand", other._handle, keys, count, bad))
+                _check(self._call("transfer", other._handle, keys, count, bad))
         except Error as error:
-            if error.name == "HAND_NOT_YOURS":
+            if error.name == "TRANSFER_NOT_YOURS":
                 error.key = bad.value
             raise
 

@@ -97,12 +97,12 @@ static void shares_a_map() {
     CHECK(other.scan(0, 1000).size() == KEYS && other.scan(6, 6)[0].pointer == THREADS * TURNS && other.scan(200, 300).empty());
     for (std::uint64_t key = 1000; key < 2000; key++) CHECK(one.insert(key, key).kind == BLINK_INSERTED);
     CHECK(other.snapshot(0, 5000, 10)->size() == KEYS + 1000 && !other.snapshot(0, 1, 0) && other.scan(0, 5000).size() == KEYS + 1000);
-    CHECK(one.stock().pages > 0 && map.room().rows > 0);
+    CHECK(one.reserve().pages > 0 && map.room().rows > 0);
     {
         blink::Map same = map.share();
         blink::Session third = same.join();
         CHECK(third.find(6) == THREADS * TURNS);
-        CHECK(refused(BLINK_NO_PLACE, [&] {
+        CHECK(refused(BLINK_NO_SESSION, [&] {
             std::vector<blink::Session> more;
             for (int i = 0; i < THREADS; i++) more.push_back(same.join());
         }));
@@ -131,8 +131,8 @@ static void shares_a_table() {
     CHECK(even.find(2) == 20u && even.glance(3) == 30u && even.scan(0, 5000).size() == 2000 && even.snapshot(1, 2, 1)->size() == 2);
     CHECK(is(even.replace(2, 21), BLINK_REPLACED, 20) && is(even.exchange(2, 20, 22), BLINK_EXISTS, 21));
     CHECK(is(even.remove_exact(2, 21), BLINK_REMOVED, 21) && is(even.remove(4), BLINK_REMOVED, 40) && !even.find(4));
-    CHECK(refused(BLINK_HAND_NOT_YOURS, [&] { even.hand(odd, {6, 7}); }));
-    even.hand(odd, {6});
+    CHECK(refused(BLINK_TRANSFER_NOT_YOURS, [&] { even.transfer(odd, {6, 7}); }));
+    even.transfer(odd, {6});
     CHECK(is(odd.replace(6, 61), BLINK_REPLACED, 60) && even.glance(6));
     CHECK(refused(BLINK_TAKEN, [&] { table.deal({8}, 0, 0); }));
     CHECK(refused(BLINK_FOREIGN, [&] { blink::Table(index, 1, 1).give_back(even); }));

@@ -152,9 +152,9 @@ def shares_a_map():
     for key in range(1000, 2000):
         one.insert(key, key)
     assert len(other.snapshot(0, MOST)) == 1010 and other.snapshot(0, 1, tries=0) is None and len(other.scan(1500, 1999)) == 500
-    assert one.stock().pages > 0 and shared.room()[1] > 0
+    assert one.reserve().pages > 0 and shared.room()[1] > 0
     more = [shared.join() for _ in range(6)]
-    assert refuses(blink.Error, shared.join).name == "NO_PLACE"
+    assert refuses(blink.Error, shared.join).name == "NO_SESSION"
     for session in more + [one, other]:
         session.free()
     refuses(ValueError, one.find, 5)
@@ -183,7 +183,7 @@ def shares_a_table():
     assert even.replace(2, 21) == (REPLACED, 20) and even.exchange(2, 20, 22) == (EXISTS, 21)
     assert even.remove_exact(2, 21) == (REMOVED, 21) and even.remove(4) == (REMOVED, 40) and even.find(4) is None
     assert refuses(blink.Error, even.hand, odd, [6, 7]).key == 7
-    even.hand(odd, [6])
+    even.transfer(odd, [6])
     assert odd.replace(6, 61) == (REPLACED, 60)
     assert refuses(blink.Error, table.deal, [8], 0, 0).key == 8
     assert refuses(blink.Error, blink.Table(index, 1, 1).give_back, even).name == "FOREIGN"

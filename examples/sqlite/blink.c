@@ -74,7 +74,7 @@ static sqlite3_int64 value_of(uint64_t key) { return (sqlite3_int64)(key ^ (uint
 
 static int status_of(int code) {
     if (code == BLINK_DONE) return SQLITE_OK;
-    return code == BLINK_INDEX_TOO_LARGE || code == BLINK_FULL || code == BLINK_NO_PLACE ? SQLITE_FULL : SQLITE_NOMEM;
+    return code == BLINK_INDEX_TOO_LARGE || code == BLINK_FULL || code == BLINK_NO_SESSION ? SQLITE_FULL : SQLITE_NOMEM;
 }
 
 // ---- An index or a session. ----

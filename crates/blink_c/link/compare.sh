@@ -31,7 +31,7 @@ sed 's/|/ | /g' "$work/exports" | awk -F ' [|] ' '
     BEGIN {
         c["Code"] = "int"; c["u8"] = "uint8_t"; c["u32"] = "uint32_t"; c["u64"] = "uint64_t"; c["usize"] = "size_t"; c["bool"] = "bool"
         c["()"] = "void"; c["RawEntry"] = c["Entry"] = "blink_entry"; c["RawOperation"] = "blink_operation"; c["RawAnswer"] = "blink_answer"
-        c["RawScanned"] = "blink_scanned"; c["RawTaken"] = "blink_taken"; c["RawStock"] = "blink_stock"
+        c["RawScanned"] = "blink_scanned"; c["RawTaken"] = "blink_taken"; c["RawStock"] = "blink_reserve"
         c["IndexHandle"] = c["IndexSlot"] = "blink_index"; c["TableHandle"] = c["TableSlot"] = "blink_table"
         c["PassHandle"] = c["PassSlot"] = "blink_pass"; c["MapHandle"] = c["MapSlot"] = "blink_map"
         c["Place"] = "uint64_t"
@@ -104,7 +104,7 @@ NOT_YOURS ../blink_live/specs/Codes.antt NotYours
 SPENT ../blink_live/specs/Codes.antt Spent
 MISSING ../blink_live/specs/Codes.antt Missing
 TABLE_TOO_LARGE ../blink_live/specs/Codes.antt TooLarge
-HAND_NOT_YOURS ../blink_live/specs/Codes.antt KeyNotYours
+TRANSFER_NOT_YOURS ../blink_live/specs/Codes.antt KeyNotYours
 NO_MEMORY ../blink_live/specs/Codes.antt NoMemory
 FOREIGN ../blink_owners/specs/TableCodes.antt Foreign
 PENDING ../blink_owners/specs/TableCodes.antt UnderWay
@@ -113,7 +113,7 @@ RETURNED ../blink_owners/specs/TableCodes.antt Returned
 NO_MEMORY ../blink_map/specs/Codes.antt OutOfMemory
 MAP_TOO_LARGE ../blink_map/specs/Codes.antt TooLarge
 BAD_SESSIONS ../blink_map/specs/Codes.antt Sessions
-NO_PLACE ../blink_map/specs/Codes.antt NoPlace
+NO_SESSION ../blink_map/specs/Codes.antt NoPlace
 FULL ../blink_owners/specs/MapCodes.antt Full
 SESSION_MISSING ../blink_owners/specs/MapCodes.antt Missing
 MAP_CLOSED ../blink_owners/specs/MapCodes.antt Closed
@@ -123,7 +123,7 @@ WORDS
     awk '/^pub struct (Raw|Entry)/ { name = $3; on = 1; print "struct " name " {"; next }
         on && /^}/ { on = 0; print "};" }
         on { sub(/^ *pub /, ""); sub(/,$/, ""); split($0, f, ": "); print "uint" substr(f[2], 2) "_t " f[1] ";" }' "$here/../blink_owners/src/raw.rt" "$here/../blink_operation/src/entry.rt"
-    for it in "RawEntry blink_entry key pointer" "Entry blink_entry key pointer" "RawScanned blink_scanned filled more next" "RawTaken blink_taken taken there" "RawStock blink_stock pages unwritten free taken_out waiting" "RawOperation blink_operation kind key pointer" "RawAnswer blink_answer kind pointer"; do
+    for it in "RawEntry blink_entry key pointer" "Entry blink_entry key pointer" "RawScanned blink_scanned filled more next" "RawTaken blink_taken taken there" "RawStock blink_reserve pages unwritten free taken_out waiting" "RawOperation blink_operation kind key pointer" "RawAnswer blink_answer kind pointer"; do
         # shellcheck disable=SC2086
         set -- $it "" "$@"
         raw=$1

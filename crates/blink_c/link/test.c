@@ -26,9 +26,9 @@ void *__wrap_realloc(void *at, size_t size) { return refused_at >= 0 && refused_
 static void tells_each_code(void) {
     static const int codes[] = {BLINK_DONE, BLINK_TOO_MANY, BLINK_WRONG_LENGTH, BLINK_UNKNOWN_OPERATION, BLINK_INDEX_TOO_LARGE,
                                 BLINK_BAD_FAN, BLINK_NO_MEMORY, BLINK_NOT_ASCENDING, BLINK_SHARED, BLINK_TAKEN, BLINK_NO_ALLOWANCE,
-                                BLINK_NOT_YOURS, BLINK_SPENT, BLINK_MISSING, BLINK_TABLE_TOO_LARGE, BLINK_HAND_NOT_YOURS,
+                                BLINK_NOT_YOURS, BLINK_SPENT, BLINK_MISSING, BLINK_TABLE_TOO_LARGE, BLINK_TRANSFER_NOT_YOURS,
                                 BLINK_FOREIGN, BLINK_PENDING, BLINK_IDLE, BLINK_RETURNED, BLINK_MAP_TOO_LARGE, BLINK_BAD_SESSIONS, BLINK_MAP_CLOSED,
-                                BLINK_NO_PLACE, BLINK_FULL, BLINK_SESSION_MISSING, BLINK_ROWS_BUSY};
+                                BLINK_NO_SESSION, BLINK_FULL, BLINK_SESSION_MISSING, BLINK_ROWS_BUSY};
     const char *unknown = blink_message(-1);
     size_t count = sizeof codes / sizeof codes[0], told = 0;
     for (int code = -1000; code <= 1000; code++) told += strcmp(blink_message(code), unknown) != 0;
@@ -324,7 +324,7 @@ static void refuses_at_a_table(void) {
 // Whether two calls with these two passes are refused so, before any key is looked at.
 static bool both_refuse(blink_pass *from, blink_pass *to, int code) {
     uint64_t absent = 9, bad_key = 8;
-    return blink_pass_tell(from, to) == code && blink_pass_hand(from, to, &absent, 1, &bad_key) == code && bad_key == 8;
+    return blink_pass_tell(from, to) == code && blink_pass_transfer(from, to, &absent, 1, &bad_key) == code && bad_key == 8;
 }
 
 static void refuses_in_order(void) {
@@ -366,18 +366,18 @@ static void hands_keys_over(void) {
     CHECK(blink_table_deal(&table, keys, 3, 1, 0, &from, &taken) == BLINK_DONE);
     CHECK(blink_table_deal(&table, third, 1, 0, 1, &to, &taken) == BLINK_DONE);
     CHECK(blink_pass_begin_insert(&from, 6, 60) == BLINK_DONE && ended(&from).kind == BLINK_INSERTED);
-    CHECK(blink_pass_hand(&from, &to, third, 1, &bad_key) == BLINK_HAND_NOT_YOURS && bad_key == 3);
-    CHECK(blink_pass_hand(&from, &to, more, 4, &bad_key) == BLINK_HAND_NOT_YOURS && bad_key == 9);
-    CHECK(blink_pass_hand(&from, &to, twice, 3, &bad_key) == BLINK_HAND_NOT_YOURS && bad_key == 6);
+    CHECK(blink_pass_transfer(&from, &to, third, 1, &bad_key) == BLINK_TRANSFER_NOT_YOURS && bad_key == 3);
+    CHECK(blink_pass_transfer(&from, &to, more, 4, &bad_key) == BLINK_TRANSFER_NOT_YOURS && bad_key == 9);
+    CHECK(blink_pass_transfer(&from, &to, twice, 3, &bad_key) == BLINK_TRANSFER_NOT_YOURS && bad_key == 6);
     CHECK(finds(&from, 6, BLINK_FOUND, 60) && blink_pass_find(&to, 6, &answer) == BLINK_NOT_YOURS);
     bad_key = 8;
-    CHECK(blink_pass_hand(&from, &to, twice, 2, &bad_key) == BLINK_DONE && bad_key == 8);
+    CHECK(blink_pass_transfer(&from, &to, twice, 2, &bad_key) == BLINK_DONE && bad_key == 8);
     CHECK(blink_pass_find(&from, 6, &answer) == BLINK_NOT_YOURS && finds(&from, 2, BLINK_FOUND, 20));
     CHECK(finds(&to, 6, BLINK_FOUND, 60) && finds(&to, 1, BLINK_FOUND, 10) && finds(&to, 3, BLINK_FOUND, 30));
     CHECK(blink_pass_begin_insert(&to, 1, 11) == BLINK_SPENT && blink_pass_begin_delete(&from, 2) == BLINK_SPENT);
     CHECK(blink_pass_begin_delete(&to, 6) == BLINK_DONE && ended(&to).pointer == 60);
     // with no key at all the first still sees what the second has seen
-    CHECK(blink_pass_hand(&to, &from, twice, 0, &bad_key) == BLINK_DONE);
+    CHECK(blink_pass_transfer(&to, &from, twice, 0, &bad_key) == BLINK_DONE);
     CHECK(blink_pass_glance(&from, 6, &answer) == BLINK_DONE && answer.kind == BLINK_ABSENT);
     CHECK(blink_table_return(&table, &from) == BLINK_DONE);
     CHECK(blink_table_deal(&table, keys, 3, 0, 0, &again, &taken) == BLINK_TAKEN && taken == 1);
@@ -478,9 +478,9 @@ static blink_answer removes(blink_session *session, uint64_t key, uint64_t expec
 
 static bool is(blink_answer answer, uint64_t kind, uint64_t pointer) { return answer.kind == kind && answer.pointer == pointer; }
 
-static bool has(blink_session *session, blink_stock expected) {
-    blink_stock it = {9, 9, 9, 9, 9};
-    return blink_session_stock(session, &it) == BLINK_DONE && memcmp(&it, &expected, sizeof it) == 0;
+static bool has(blink_session *session, blink_reserve expected) {
+    blink_reserve it = {9, 9, 9, 9, 9};
+    return blink_session_reserve(session, &it) == BLINK_DONE && memcmp(&it, &expected, sizeof it) == 0;
 }
 
 // Keys 1 to 5 map to 10 to 50. One session changes keys 2, 3, 6 and 7, and tells another; then both leave, and the map is closed.
@@ -494,10 +494,10 @@ static void changes_a_map(void) {
     CHECK(rows == 600 && pages == 300);
     CHECK(blink_map_join(&map, &one) == BLINK_DONE && blink_map_join(&map, &other) == BLINK_DONE);
     CHECK(is(changes(&one, BLINK_FIND, 3, NONE), BLINK_FOUND, 30) && is(changes(&one, BLINK_FIND, 6, NONE), BLINK_ABSENT, 0));
-    CHECK(has(&one, (blink_stock){0, 0, 0, 0, 0}));
+    CHECK(has(&one, (blink_reserve){0, 0, 0, 0, 0}));
     CHECK(is(changes(&one, BLINK_INSERT, 6, 60), BLINK_INSERTED, 0) && is(changes(&one, BLINK_INSERT, 6, 61), BLINK_EXISTS, 60));
     // of two sessions it has drawn a quarter of the pool, 75 numbers and 150 rows, and has replaced one row by another
-    CHECK(has(&one, (blink_stock){75, 149, 0, 1, 0}));
+    CHECK(has(&one, (blink_reserve){75, 149, 0, 1, 0}));
     CHECK(is(changes(&one, BLINK_REPLACE, 6, 62), BLINK_REPLACED, 60) && is(changes(&one, BLINK_REPLACE, 7, 70), BLINK_ABSENT, 0));
     CHECK(is(changes(&one, BLINK_DELETE, 2, NONE), BLINK_REMOVED, 20) && is(changes(&one, BLINK_DELETE, 2, NONE), BLINK_ABSENT, 0));
     CHECK(is(puts_so(&one, 7, 71), BLINK_INSERTED, 0) && is(puts_so(&one, 7, 72), BLINK_REPLACED, 71));
@@ -526,7 +526,7 @@ static void changes_a_map(void) {
     blink_map second = {NULL};
     one.at = NULL;
     CHECK(blink_map_close(&map, &again) == BLINK_MAP_CLOSED && again.at == NULL);
-    CHECK(blink_map_join(&map, &one) == BLINK_NO_PLACE && blink_map_share(&map, &second) == BLINK_MAP_CLOSED && second.at == NULL);
+    CHECK(blink_map_join(&map, &one) == BLINK_NO_SESSION && blink_map_share(&map, &second) == BLINK_MAP_CLOSED && second.at == NULL);
     blink_map_room(&map, &rows, &pages);
     CHECK(rows == 0 && pages == 0);
     blink_map_free(map);
@@ -576,7 +576,7 @@ static void refuses_at_a_map(void) {
     CHECK(blink_map_open(&index, 1048573, 0, 256, &map) == BLINK_MAP_TOO_LARGE && map.at == NULL);
     CHECK(blink_map_open(&index, 22, 46, 2, &map) == BLINK_DONE && blink_map_open(&index, 0, 0, 256, &other) == BLINK_DONE);
     CHECK(blink_map_join(&map, &one) == BLINK_DONE && blink_map_join(&map, &two) == BLINK_DONE);
-    CHECK(blink_map_join(&map, &foreign) == BLINK_NO_PLACE && foreign.at == NULL);
+    CHECK(blink_map_join(&map, &foreign) == BLINK_NO_SESSION && foreign.at == NULL);
     CHECK(blink_map_join(&other, &foreign) == BLINK_DONE);
     CHECK(blink_session_tell(&one, &foreign) == BLINK_FOREIGN && blink_session_tell(&foreign, &one) == BLINK_FOREIGN);
     CHECK(blink_session_advance(&one, 1, &answer) == BLINK_IDLE && answer.kind == 9);
@@ -686,8 +686,8 @@ static void refuses_under_way(void) {
     CHECK(blink_session_delete_wait(&one, 3, &answer) == BLINK_PENDING && blink_session_replace_wait(&one, 3, 34, &answer) == BLINK_PENDING);
     CHECK(blink_session_exchange_wait(&one, 3, 30, 34, &answer) == BLINK_PENDING);
     CHECK(blink_session_delete_exact_wait(&one, 3, 30, &answer) == BLINK_PENDING);
-    blink_stock stock = {9, 9, 9, 9, 9};
-    CHECK(blink_session_stock(&one, &stock) == BLINK_PENDING && stock.pages == 9 && stock.waiting == 9);
+    blink_reserve stock = {9, 9, 9, 9, 9};
+    CHECK(blink_session_reserve(&one, &stock) == BLINK_PENDING && stock.pages == 9 && stock.waiting == 9);
     CHECK(blink_session_tell(&one, &other) == BLINK_PENDING && blink_session_tell(&other, &one) == BLINK_PENDING);
     CHECK(answer.kind == 9 && is(changes(&other, BLINK_FIND, 3, NONE), BLINK_FOUND, 30));
     CHECK(blink_session_advance(&one, 1, &answer) == BLINK_DONE && is(answer, BLINK_INSERTED, 0));
@@ -743,7 +743,7 @@ static void tells_others_apart(void) {
         blink_session_free(other), blink_map_free(map);
         CHECK(blink_table_open(&index, 0, 0, &table) == BLINK_DONE && blink_table_return(&table, &pass) == BLINK_FOREIGN);
         CHECK(blink_table_deal(&table, &key, 1, 0, 0, &more, &taken) == BLINK_DONE && blink_pass_tell(&pass, &more) == BLINK_FOREIGN);
-        CHECK(blink_pass_hand(&more, &pass, &key, 1, &bad_key) == BLINK_FOREIGN && bad_key == 8);
+        CHECK(blink_pass_transfer(&more, &pass, &key, 1, &bad_key) == BLINK_FOREIGN && bad_key == 8);
         blink_pass_free(more), blink_table_free(table);
     }
     blink_session_free(session), blink_pass_free(pass);
@@ -914,7 +914,7 @@ static bool gives_up_its_key(blink_table *table, blink_pass *pass, uint64_t key)
     uint64_t bad_key = 8;
     int code = blink_table_deal(table, &key, 0, 0, 0, &to, &bad_key);
     if (code != BLINK_DONE) return CHECK(code == BLINK_NO_MEMORY), false;
-    code = blink_pass_hand(pass, &to, &key, 1, &bad_key);
+    code = blink_pass_transfer(pass, &to, &key, 1, &bad_key);
     CHECK((code == BLINK_DONE || code == BLINK_NO_MEMORY) && bad_key == 8);
     CHECK(blink_pass_find(pass, key, &answer) == (code == BLINK_DONE ? BLINK_NOT_YOURS : BLINK_DONE));
     CHECK(blink_pass_find(&to, key, &answer) == (code == BLINK_DONE ? BLINK_DONE : BLINK_NOT_YOURS));

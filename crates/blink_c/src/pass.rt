@@ -100,7 +100,7 @@ pub extern "C" fn blink_pass_tell(from: &mut PassHandle, to: &mut PassHandle) ->
 /// Hands these keys from pass `from` to pass `to`, which has then seen all that `from` has seen. It is refused as a tell is, and
 /// then for a key: `bad_key` is the first key of the list that isn't one of `from`'s, or that stands earlier in the list.
 #[unsafe(no_mangle)]
-pub extern "C" fn blink_pass_hand(
+pub extern "C" fn blink_pass_transfer(
     from: &mut PassHandle,
     to: &mut PassHandle,
     keys: &[u64],

@@ -250,7 +250,7 @@ pub extern "C" fn blink_session_tell(from: &mut SessionHandle, to: &mut SessionH
 
 /// Tells what the session has of its map's page numbers and rows.
 #[unsafe(no_mangle)]
-pub extern "C" fn blink_session_stock(session: &mut SessionHandle, stock: &mut RawStock) -> Code
+pub extern "C" fn blink_session_reserve(session: &mut SessionHandle, stock: &mut RawStock) -> Code
     requires its_own { IsOwnSession session.old.value }
     ensures its_own { IsOwnSession session.new.value }
     ensures told { result ≡ 0 → TellsStock session.old.value stock.new }

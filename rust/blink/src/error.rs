@@ -33,7 +33,7 @@ pub enum Error {
     /// A map has 1 to 256 sessions.
     BadSessions,
     /// Each place for a session is taken.
-    NoPlace,
+    NoSession,
     /// The session has too few rows or page numbers in all for the change, and the map's pool too.
     Full,
     /// The session has enough rows and page numbers in all for the change, but some rows are on their way back. The same change may be
@@ -56,7 +56,7 @@ impl Error {
             56 | 106 => Error::Missing,
             63 => Error::Foreign,
             102 => Error::BadSessions,
-            103 => Error::NoPlace,
+            103 => Error::NoSession,
             105 => Error::Full,
             107 => Error::RowsBusy,
             108 => Error::Closed,
@@ -87,7 +87,7 @@ impl fmt::Display for Error {
             Error::Missing => f.write_str("missing pass or session"),
             Error::Foreign => f.write_str("of another table or map"),
             Error::BadSessions => f.write_str("1 to 256 sessions"),
-            Error::NoPlace => f.write_str("no place for a session"),
+            Error::NoSession => f.write_str("no place for a session"),
             Error::Full => f.write_str("full"),
             Error::RowsBusy => f.write_str("rows are on their way back"),
             Error::Closed => f.write_str("the map is closed"),

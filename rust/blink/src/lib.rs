@@ -51,7 +51,7 @@ mod table;
 pub use error::Error;
 pub use guards::{Guard, Guards, Held, Noted};
 pub use index::{Applied, Index};
-pub use map::{Begun, Left, Map, Room, Session, Stock, Unclosed, Unfinished};
+pub use map::{Begun, Left, Map, Room, Session, Reserve, Unclosed, Unfinished};
 pub use operation::{Answer, Entry, Op};
 pub use range::Range;
 pub use read::Scan;

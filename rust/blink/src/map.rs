@@ -42,7 +42,7 @@ pub struct Left {
 /// place has them.
 #[repr(C)]
 #[derive(Clone, Copy, Debug, PartialEq, Eq, Hash)]
-pub struct Stock {
+pub struct Reserve {
     /// Page numbers that it has drawn and not used.
     pub pages: u64,
     /// Rows that it has drawn and not written.
@@ -122,14 +122,14 @@ impl Map {
         })
     }
 
-    /// Joins the map. The session has a place until it is dropped. It is refused with [`Error::NoPlace`], if each place is taken.
+    /// Joins the map. The session has a place until it is dropped. It is refused with [`Error::NoSession`], if each place is taken.
     ///
     /// ```
     /// use blink::{Error, Index, Map, Room};
     ///
     /// let map = Map::open(&Index::new(16)?, Room { pages: 0, rows: 0, sessions: 1 })?;
     /// let session = map.session()?;
-    /// assert_eq!(map.session().unwrap_err(), Error::NoPlace);
+    /// assert_eq!(map.session().unwrap_err(), Error::NoSession);
     /// drop(session);
     /// assert!(map.session().is_ok());
     /// # Ok::<(), Error>(())
@@ -521,22 +521,22 @@ impl<'map> Session<'map> {
     /// Returns what the session has of page numbers and rows, for a look. [`Map::room`] tells what the pool has left.
     ///
     /// ```
-    /// use blink::{Index, Map, Room, Stock};
+    /// use blink::{Index, Map, Room, Reserve};
     ///
     /// let map = Map::open(&Index::new(16)?, Room { pages: 200, rows: 400, sessions: 1 })?;
     /// let mut session = map.session()?;
     /// session.insert(5, 50)?;
     /// // it has drawn half of the pool, and has replaced the leaf's row by another
-    /// assert_eq!(session.stock(), Stock { pages: 100, unwritten: 199, free: 0, taken_out: 1, waiting: 0 });
+    /// assert_eq!(session.reserve(), Reserve { pages: 100, unwritten: 199, free: 0, taken_out: 1, waiting: 0 });
     /// # Ok::<(), blink::Error>(())
     /// ```
-    pub fn stock(&mut self) -> Stock {
-        let mut stock = Stock { pages: 0, unwritten: 0, free: 0, taken_out: 0, waiting: 0 };
+    pub fn reserve(&mut self) -> Reserve {
+        let mut reserve = Reserve { pages: 0, unwritten: 0, free: 0, taken_out: 0, waiting: 0 };
         // SAFETY: the handle is full and borrowed for writing.
-        let code = unsafe { sys::blink_session_stock(&mut self.handle, &mut stock) };
+        let code = unsafe { sys::blink_session_reserve(&mut self.handle, &mut reserve) };
         // No operation is under way between two calls; nothing else is refused.
         assert_eq!(code, 0);
-        stock
+        reserve
     }
 
     /// Begins an operation and takes its first steps, which wait for nobody. Where another session has the page that it wants for

@@ -253,7 +253,7 @@ extern "C" {
         taken: *mut RawTaken,
     ) -> Code;
     pub(crate) fn blink_pass_tell(from: *mut Handle, to: *mut Handle) -> Code;
-    pub(crate) fn blink_pass_hand(
+    pub(crate) fn blink_pass_transfer(
         from: *mut Handle,
         to: *mut Handle,
         keys: *const u64,
@@ -339,6 +339,6 @@ extern "C" {
     ) -> Code;
     pub(crate) fn blink_session_advance(session: *mut Handle, tries: u32, answer: *mut RawAnswer) -> Code;
     pub(crate) fn blink_session_tell(from: *mut Handle, to: *mut Handle) -> Code;
-    pub(crate) fn blink_session_stock(session: *mut Handle, stock: *mut crate::Stock) -> Code;
+    pub(crate) fn blink_session_reserve(session: *mut Handle, reserve: *mut crate::Reserve) -> Code;
     pub(crate) fn blink_session_free(session: Handle);
 }

@@ -260,18 +260,18 @@ impl Pass {
     /// let mut first = table.deal(&[4, 5], 1, 0)?;
     /// let mut second = table.deal(&[6], 0, 1)?;
     /// first.insert(5, 50)?;
-    /// assert_eq!(first.hand(&mut second, &[5, 6]), Err(Error::KeyNotYours(6)));
-    /// first.hand(&mut second, &[5])?;
+    /// assert_eq!(first.transfer(&mut second, &[5, 6]), Err(Error::KeyNotYours(6)));
+    /// first.transfer(&mut second, &[5])?;
     /// assert_eq!(first.find(5), Err(Error::NotYours));
     /// assert_eq!(second.delete(5), Ok(Answer::Removed(50)));
     /// # Ok::<(), Error>(())
     /// ```
-    pub fn hand(&mut self, other: &mut Pass, keys: &[u64]) -> Result<(), Error> {
+    pub fn transfer(&mut self, other: &mut Pass, keys: &[u64]) -> Result<(), Error> {
         let mut bad_key = 0;
         // SAFETY: both handles are full, and borrowed for writing, so they are two; `keys` is a slice.
         let code = unsafe {
             let (from, to) = (self.handle.get_mut(), other.handle.get_mut());
-            sys::blink_pass_hand(from, to, keys.as_ptr(), keys.len(), &mut bad_key)
+            sys::blink_pass_transfer(from, to, keys.as_ptr(), keys.len(), &mut bad_key)
         };
         match code {
             58 => Err(Error::KeyNotYours(bad_key)),

@@ -1,6 +1,6 @@
 //! A map and its sessions: one thread beside a plain map, two threads, refusals, and a map that is full.
 
-use blink::{Answer, Begun, Entry, Error, Index, Left, Map, Op, Room, Session, Stock};
+use blink::{Answer, Begun, Entry, Error, Index, Left, Map, Op, Room, Session, Reserve};
 use std::collections::BTreeMap;
 use std::thread;
 
@@ -194,7 +194,7 @@ fn one_session_uses_nearly_all_page_numbers() {
         let map = map_over(&Index::new(16).unwrap(), pages, 2 * pages + 1_000, 1);
         let mut session = map.session().unwrap();
         let refused = (0..16 * u64::from(pages)).find(|&key| session.insert(key, key).is_err());
-        let left = map.room().pages + session.stock().pages;
+        let left = map.room().pages + session.reserve().pages;
         assert!(refused.is_some() && left < 22, "{left} of {pages}");
     }
 }
@@ -252,8 +252,8 @@ fn a_range_gives_each_entry_once_wherever_its_parts_end() {
 }
 
 // What a session has, where no row waits.
-fn stock(pages: u64, unwritten: u64, free: u64, taken_out: u64) -> Stock {
-    Stock { pages, unwritten, free, taken_out, waiting: 0 }
+fn reserve(pages: u64, unwritten: u64, free: u64, taken_out: u64) -> Reserve {
+    Reserve { pages, unwritten, free, taken_out, waiting: 0 }
 }
 
 // A leaf has 4 entries. Of two sessions the first insertion draws a quarter of the pool, 50 page numbers and 50 rows, and each writes one row,
@@ -263,19 +263,19 @@ fn stock(pages: u64, unwritten: u64, free: u64, taken_out: u64) -> Stock {
 fn a_session_tells_what_its_insertions_use() {
     let map = map_over(&Index::new(4).unwrap(), 200, 200, 2);
     let (mut session, mut other) = (map.session().unwrap(), map.session().unwrap());
-    assert_eq!(session.stock(), stock(0, 0, 0, 0));
+    assert_eq!(session.reserve(), reserve(0, 0, 0, 0));
     for key in 1..5 {
         assert_eq!(session.insert(key, key), Ok(Answer::Inserted));
-        assert_eq!(session.stock(), stock(50, 50 - key, 0, key));
+        assert_eq!(session.reserve(), reserve(50, 50 - key, 0, key));
     }
     assert_eq!(session.insert(5, 5), Ok(Answer::Inserted));
-    assert_eq!(session.stock(), stock(48, 42, 0, 6));
+    assert_eq!(session.reserve(), reserve(48, 42, 0, 6));
     // what changes nothing uses nothing
     assert_eq!((session.remove(6), session.replace(6, 0)), (Ok(Answer::Absent), Ok(Answer::Absent)));
-    assert_eq!(session.stock(), stock(48, 42, 0, 6));
+    assert_eq!(session.reserve(), reserve(48, 42, 0, 6));
     // an insertion has to have 44 rows when it begins, so the rows that were replaced come back before; it changes nothing either
     assert_eq!(session.insert(5, 6), Ok(Answer::Exists(5)));
-    assert_eq!((session.stock(), other.stock()), (stock(48, 42, 6, 0), stock(0, 0, 0, 0)));
+    assert_eq!((session.reserve(), other.reserve()), (reserve(48, 42, 6, 0), reserve(0, 0, 0, 0)));
     assert_eq!(map.room(), Left { pages: 150, rows: 150 });
 }
 
@@ -290,15 +290,15 @@ fn a_session_tells_which_rows_have_come_back() {
     for turn in 0..200 {
         assert_eq!(session.replace(1, turn + 1), Ok(Answer::Replaced(turn)));
         let expected = match turn + 1 {
-            n @ 0..=63 => stock(0, 100 - n, 0, n),
-            n => stock(0, 36, 64 - n % 64, n % 64),
+            n @ 0..=63 => reserve(0, 100 - n, 0, n),
+            n => reserve(0, 36, 64 - n % 64, n % 64),
         };
-        assert_eq!(session.stock(), expected, "{turn}");
+        assert_eq!(session.reserve(), expected, "{turn}");
     }
     // 200 are three times 64 and 8
-    assert_eq!((session.stock(), map.room()), (stock(0, 36, 56, 8), Left { pages: 0, rows: 100 }));
+    assert_eq!((session.reserve(), map.room()), (reserve(0, 36, 56, 8), Left { pages: 0, rows: 100 }));
     drop(session);
-    assert_eq!(map.session().unwrap().stock(), stock(0, 36, 56, 8));
+    assert_eq!(map.session().unwrap().reserve(), reserve(0, 36, 56, 8));
 }
 
 #[test]
@@ -410,7 +410,7 @@ fn a_place_is_taken_again() {
     let map = map_over(&Index::new(4).unwrap(), 22, 44, 2);
     let one = map.session().unwrap();
     let mut other = map.session().unwrap();
-    assert_eq!(map.session().unwrap_err(), Error::NoPlace);
+    assert_eq!(map.session().unwrap_err(), Error::NoSession);
     drop(one);
     let mut again = map.session().unwrap();
     // the session before had drawn nothing, so this one draws what there is
@@ -448,7 +448,7 @@ fn a_session_moves_to_another_thread() {
     thread::scope(|scope| {
         scope.spawn(move || assert_eq!(moved.insert(1, 10), Ok(Answer::Inserted)));
         // meanwhile another thread asks for a place: there is one, or there is none
-        scope.spawn(|| assert!(matches!(map.session(), Ok(_) | Err(Error::NoPlace))));
+        scope.spawn(|| assert!(matches!(map.session(), Ok(_) | Err(Error::NoSession))));
     });
     assert_eq!(session.get(1), Some(10));
     drop(session);

@@ -103,7 +103,7 @@ fn a_pass_of_another_table_is_refused() {
     let mut ones = one.deal(&[1], 0, 0).unwrap();
     let mut others = other.deal(&[1], 0, 0).unwrap();
     assert_eq!(ones.tell(&mut others), Err(Error::Foreign));
-    assert_eq!(ones.hand(&mut others, &[1]), Err(Error::Foreign));
+    assert_eq!(ones.transfer(&mut others, &[1]), Err(Error::Foreign));
     assert_eq!(other.close([ones]).unwrap_err(), Error::Foreign);
     drop(others);
     // its pass is gone with the other table
@@ -117,10 +117,10 @@ fn keys_go_from_pass_to_pass_and_back_to_the_table() {
     let mut one = table.deal(&[3, 1], 0, 1).unwrap();
     let mut other = table.deal(&[2], 0, 1).unwrap();
     assert_eq!(one.replace(1, 11), Ok(Answer::Replaced(10)));
-    assert_eq!(one.hand(&mut other, &[1, 2]), Err(Error::KeyNotYours(2)));
-    assert_eq!(one.hand(&mut other, &[1, 3, 1]), Err(Error::KeyNotYours(1)));
+    assert_eq!(one.transfer(&mut other, &[1, 2]), Err(Error::KeyNotYours(2)));
+    assert_eq!(one.transfer(&mut other, &[1, 3, 1]), Err(Error::KeyNotYours(1)));
     assert_eq!(other.find(1), Err(Error::NotYours));
-    assert_eq!(one.hand(&mut other, &[1]), Ok(()));
+    assert_eq!(one.transfer(&mut other, &[1]), Ok(()));
     assert_eq!((one.find(1), one.glance(1), one.find(3)), (Err(Error::NotYours), Some(11), Ok(Answer::Found(30))));
     let other = thread::spawn(move || {
         let mut other = other;
