@@ -330,7 +330,7 @@ static void fill_up(struct rows *rows, struct cursor *cursor) {
     if (!cursor->last_part) cursor->lo = cursor->part[cursor->filled - 1].key + 1;
 }
 
-// Reads the next part of a descending walk. There is no scan backwards, so this takes all entries of a stretch that ends in `hi`: a narrower
+// Reads the next part of a descending walk. A map has no scan backwards, so this takes all entries of a stretch that ends in `hi`: a narrower
 // one where they are too many, and the next one, and wider, where there are none. The rows keep the width for the next walk.
 static void fill_down(struct rows *rows, struct cursor *cursor) {
     bool more;

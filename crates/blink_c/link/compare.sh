@@ -157,4 +157,5 @@ done
 
 [ ! -s "$work/found" ] && exit 0
 cat "$work/found"
+[ $# -eq 0 ] || echo "Where names are lacking, $* was built of other sources than these: ./libblink builds it again, where rt is."
 exit 1
