@@ -182,7 +182,7 @@ def shares_a_table():
     assert even.find(2) == 20 and even.glance(3) == 30 and len(even.scan(0, MOST)) == 200 and len(even.snapshot(1, 2)) == 2
     assert even.replace(2, 21) == (REPLACED, 20) and even.exchange(2, 20, 22) == (EXISTS, 21)
     assert even.remove_exact(2, 21) == (REMOVED, 21) and even.remove(4) == (REMOVED, 40) and even.find(4) is None
-    assert refuses(blink.Error, even.hand, odd, [6, 7]).key == 7
+    assert refuses(blink.Error, even.transfer, odd, [6, 7]).key == 7
     even.transfer(odd, [6])
     assert odd.replace(6, 61) == (REPLACED, 60)
     assert refuses(blink.Error, table.deal, [8], 0, 0).key == 8
