@@ -41,7 +41,7 @@ sh "$top/.ci/readme.sh"
 sh "$top/.ci/threads.sh"
 ends_well sh "$top/crates/blink_c/link/test.sh" --quick
 ends_well sh "$top/include/install.sh" "" "$work/installed"
-for program in word_count csv_index session_cache object_cache; do
+for program in word_count csv_index session_cache object_cache keys; do
     ends_well "$cc" -std=c11 -O2 -pthread -I "$work/installed/include" "$top/examples/c/$program.c" "$work/installed/lib/libblink.a" \
         -o "$work/$program"
 done
@@ -49,6 +49,7 @@ ends_with '10 words, 5 different, "the" 3 times' "$work/word_count" "$work/text"
 ends_with '5: insert,5,50' "$work/csv_index" "$top/examples/first.csv" 5
 ends_with '200000 requests: each login has ended, or is in the cache' "$work/session_cache"
 ends_well "$work/object_cache"
+ends_with "scores: -3.25 -0 1e-09 0.5 12" "$work/keys"
 
 if command -v "${CXX:-c++}" >/dev/null 2>&1; then
     ends_well "${CXX:-c++}" -std=c++17 -O2 -Wall -Wextra -Werror -pedantic -pthread -I "$work/installed/include" \
@@ -75,3 +76,4 @@ ends_well cargo test --quiet --manifest-path "$top/rust/blink/Cargo.toml"
 ends_with "    1 a" cargo run --quiet --manifest-path "$top/examples/rust/Cargo.toml" -- "$work/text"
 ends_with '200000 requests: each login has ended, or is in the cache' \
     cargo run --quiet --manifest-path "$top/examples/rust/Cargo.toml" --bin session_cache
+ends_with 'Some(2) None' cargo run --quiet --manifest-path "$top/examples/rust/Cargo.toml" --bin keys

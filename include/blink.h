@@ -47,6 +47,7 @@
 #include <stdbool.h>
 #include <stddef.h>
 #include <stdint.h>
+#include <string.h>
 
 #ifdef __cplusplus
 extern "C" {
@@ -176,6 +177,38 @@ static inline const char *blink_message(int code) {
     case BLINK_MAP_CLOSED: return "a close of the map has begun";
     default: return "unknown code";
     }
+}
+
+/* ---- Keys of other types, in the order of their values. ---- */
+
+/* The key of a signed number, and the number of such a key: the least number has key 0, and -1 the key just below that of 0. */
+static inline uint64_t blink_key_of_int64(int64_t value) {
+    return (uint64_t)value ^ (UINT64_C(1) << 63);
+}
+
+static inline int64_t blink_int64_of_key(uint64_t key) {
+    return (int64_t)(key ^ (UINT64_C(1) << 63));
+}
+
+/* The key of a double, and the double of such a key. -0.0 comes just before 0.0, and NaNs are at both ends, by their sign. Of negative
+ * doubles the greater bits are the lesser value. */
+static inline uint64_t blink_key_of_double(double value) {
+    uint64_t bits;
+    memcpy(&bits, &value, sizeof bits);
+    return bits >> 63 ? ~bits : bits | (UINT64_C(1) << 63);
+}
+
+static inline double blink_double_of_key(uint64_t key) {
+    uint64_t bits = key >> 63 ? key ^ (UINT64_C(1) << 63) : ~key;
+    double value;
+    memcpy(&value, &bits, sizeof value);
+    return value;
+}
+
+/* The key of two numbers, in the order of the first and then of the second: of a value and a row's number, say, so that several rows may
+ * have one value. All rows of a value have the keys from blink_key_of_pair(value, 0) to blink_key_of_pair(value, UINT32_MAX). */
+static inline uint64_t blink_key_of_pair(uint32_t first, uint32_t second) {
+    return (uint64_t)first << 32 | second;
 }
 
 /* ---- The index: a map from keys to record pointers. ---- */

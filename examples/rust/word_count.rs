@@ -1,6 +1,6 @@
 //! Counts the words of a file by four threads at one table. Run: cargo run --release -- FILE
 
-use blink::{Answer, Error, Index, Pass, Table};
+use blink::{Error, Index, Pass, Table};
 use std::collections::hash_map::{DefaultHasher, HashMap};
 use std::hash::{Hash, Hasher};
 use std::{env, fs, thread};
@@ -17,10 +17,10 @@ fn hash_of(word: &str) -> u64 {
 // A key is a word's hash, and its pointer the number of times that the word was met.
 fn count_own(pass: &mut Pass, words: &[u64]) -> Result<(), Error> {
     for &word in words {
-        match pass.find(word) {
+        match pass.get(word) {
             Err(Error::NotYours) => continue,
-            Ok(Answer::Found(met)) => pass.replace(word, met + 1)?,
-            Ok(_) => pass.insert(word, 1)?,
+            Ok(Some(met)) => pass.replace(word, met + 1)?,
+            Ok(None) => pass.insert(word, 1)?,
             Err(error) => return Err(error),
         };
     }
@@ -46,7 +46,7 @@ fn main() -> Result<(), Box<dyn std::error::Error>> {
     })?;
 
     let index = table.close(passes)?;
-    let mut counted: Vec<_> = index.scan(..).map(|entry| (entry.pointer, names[&entry.key])).collect();
+    let mut counted: Vec<_> = index.iter().map(|(key, pointer)| (pointer, names[&key])).collect();
     counted.sort_by(|a, b| b.cmp(a));
     println!("{} words, {} different", words.len(), index.len());
     for (count, word) in counted.iter().take(5) {

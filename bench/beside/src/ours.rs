@@ -3,7 +3,7 @@
 use crate::side::{timed, Handle, Side};
 use crate::soak::{memory, Dice};
 use crate::workload::{Case, Mode, Phase, Step, ABSENT, DELETE, INSERT, REPLACE};
-use blink::{Answer, Entry, Index, Map, Pass, Room, Session, Table};
+use blink::{Answer, Error, Index, Map, Pass, Room, Session, Table};
 use std::sync::Arc;
 use std::time::Instant;
 
@@ -23,7 +23,7 @@ pub struct ByIndex<const FAN: u8> {
 
 impl<const FAN: u8> Handle for &mut ByIndex<FAN> {
     fn find(&mut self, key: u64) -> Option<u64> {
-        self.index.find(key)
+        self.index.get(key)
     }
     fn insert(&mut self, key: u64, pointer: u64) -> bool {
         self.index.insert(key, pointer) == Ok(Answer::Inserted)
@@ -35,11 +35,11 @@ impl<const FAN: u8> Handle for &mut ByIndex<FAN> {
         self.index.replace(key, pointer).pointer()
     }
     fn scan(&mut self, from: u64, count: usize) -> u64 {
-        sum_of_entries(self.index.scan(from..).take(count))
+        sum_of_entries(self.index.range(from..).take(count))
     }
     fn find_many(&mut self, keys: &[Step]) -> u64 {
         let keys: Vec<u64> = keys.iter().map(|step| step.key).collect();
-        let found = self.index.find_many(&keys);
+        let found = self.index.get_many(&keys);
         found.into_iter().fold(0, |sum, pointer| sum.wrapping_add(pointer.unwrap_or(ABSENT)))
     }
 }
@@ -55,7 +55,7 @@ impl<const FAN: u8> Side for ByIndex<FAN> {
     }
 
     fn contents(&mut self, keys: &[u64]) -> Vec<Option<u64>> {
-        self.index.find_many(keys)
+        self.index.get_many(keys)
     }
 }
 
@@ -74,13 +74,13 @@ struct Own(Pass);
 
 impl Handle for Own {
     fn find(&mut self, key: u64) -> Option<u64> {
-        self.0.find(key).ok()?.pointer()
+        self.0.get(key).ok()?
     }
     fn insert(&mut self, key: u64, pointer: u64) -> bool {
         self.0.insert(key, pointer) == Ok(Answer::Inserted)
     }
     fn delete(&mut self, key: u64) -> Option<u64> {
-        self.0.delete(key).ok()?.pointer()
+        self.0.remove(key).ok()?.pointer()
     }
     fn replace(&mut self, key: u64, pointer: u64) -> Option<u64> {
         self.0.replace(key, pointer).ok()?.pointer()
@@ -95,12 +95,12 @@ impl Handle for Any {
         self.0.glance(key)
     }
     fn scan(&mut self, from: u64, count: usize) -> u64 {
-        sum_of_entries(self.0.scan(from..).take(count))
+        sum_of_entries(self.0.range(from..).take(count))
     }
 }
 
-fn sum_of_entries(entries: impl Iterator<Item = Entry>) -> u64 {
-    entries.fold(0, |sum, entry| sum.wrapping_add(entry.key ^ entry.pointer))
+fn sum_of_entries(entries: impl Iterator<Item = (u64, u64)>) -> u64 {
+    entries.fold(0, |sum, (key, pointer)| sum.wrapping_add(key ^ pointer))
 }
 
 // How many insertions and deletions steps need; a replacement takes a deletion.
@@ -143,13 +143,17 @@ impl<const FAN: u8> Side for ByTable<FAN> {
         };
         let (inserts, deletes) = allowance(case.phases.iter().flat_map(|phase| &phase.threads).flatten());
         let start = Instant::now();
-        let table = Some(Table::open(&index, inserts, deletes).expect("a table"));
+        // A table deals with its changes beforehand: of a million insertions it would need more page numbers than there are.
+        let table = match Table::open(&index, inserts, deletes) {
+            Err(Error::TooLarge) => None,
+            opened => Some(opened.expect("a table")),
+        };
         let opened = start.elapsed().as_nanos() as u64;
         ByTable { index, entries: case.entries.clone(), table, opened, closed: 0 }
     }
 
     fn run(&mut self, phase: &Phase) -> Option<(u64, u64)> {
-        let table = self.table.as_mut().expect("an open table");
+        let table = self.table.as_mut()?;
         match phase.mode {
             Mode::Own => {
                 let mut passes = Self::passes(table, phase);
@@ -172,9 +176,10 @@ impl<const FAN: u8> Side for ByTable<FAN> {
 
     fn contents(&mut self, keys: &[u64]) -> Vec<Option<u64>> {
         let start = Instant::now();
-        let index = self.table.take().expect("an open table").close([]).expect("an index");
+        let Some(table) = self.table.take() else { return Vec::new() };
+        let index = table.close([]).expect("an index");
         self.closed = start.elapsed().as_nanos() as u64;
-        index.find_many(keys)
+        index.get_many(keys)
     }
 
     fn beside(&self) -> Vec<(&'static str, u64)> {
@@ -245,7 +250,7 @@ impl<const FAN: u8> Side for ByMap<FAN> {
         let start = Instant::now();
         let index = self.map.take().expect("an open map").close().expect("an index");
         self.closed = start.elapsed().as_nanos() as u64;
-        index.find_many(keys)
+        index.get_many(keys)
     }
 
     fn beside(&self) -> Vec<(&'static str, u64)> {

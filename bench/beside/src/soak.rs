@@ -3,7 +3,7 @@
 //! Each thread changes keys of its own, and knows what it left of them. So a wrong answer shows at once, and a lost change at the end. All
 //! threads also look up keys of the others, whose pointers name their thread.
 
-use blink::{Answer, Entry, Error, Index, Map, Room, Session};
+use blink::{Answer, Error, Index, Map, Room, Session};
 use std::fs;
 use std::sync::atomic::{AtomicU64, Ordering};
 use std::thread;
@@ -84,13 +84,13 @@ pub fn memory() -> u64 {
 
 /// Changes a map of this fan so many times, looks everything up, and prints what it took.
 pub fn soak(fan: u8, changes: u64) -> Result<(), Error> {
-    let mut entries: Vec<Entry> = (0..THREADS * KEYS)
+    let mut entries: Vec<(u64, u64)> = (0..THREADS * KEYS)
         .map(|n| (n % THREADS, n / THREADS))
         .filter(|(_, number)| number % 2 == 0)
-        .map(|(thread, number)| Entry { key: key(thread, number), pointer: pointer(thread, number) })
+        .map(|(thread, number)| (key(thread, number), pointer(thread, number)))
         .collect();
-    entries.sort_by_key(|entry| entry.key);
-    let map = Map::open(&Index::from_entries(fan, &entries)?, Room { pages: 200_000, rows: 14_000 * THREADS as u32, sessions: THREADS as u32 })?;
+    entries.sort_by_key(|(key, _)| *key);
+    let map = Map::open(&Index::from_entries(fan, entries.iter().copied())?, Room { pages: 200_000, rows: 14_000 * THREADS as u32, sessions: THREADS as u32 })?;
     let made = AtomicU64::new(0);
     let start = Instant::now();
     let (early, known) = thread::scope(|scope| {
@@ -112,7 +112,7 @@ pub fn soak(fan: u8, changes: u64) -> Result<(), Error> {
     assert_eq!(index.len(), present);
     for (thread, known) in (0..).zip(&known) {
         for (number, pointer) in (0..).zip(known) {
-            assert_eq!(index.find(key(thread, number)), *pointer);
+            assert_eq!(index.get(key(thread, number)), *pointer);
         }
     }
     println!("fan {fan}: {changes} changes in {:.0} s; memory {early} kB after ten thousand, {late} kB at the end; the pool has {left:?}", took.as_secs_f64());

@@ -1,7 +1,7 @@
 //! Calls side by side, by turns, so that what disturbs one disturbs the others: what a session's marks cost, and what scans take.
 
 use crate::workload::{Keys, Random};
-use blink::{Entry, Index, Map, Pass, Room, Session, Table};
+use blink::{Index, Map, Pass, Room, Session, Table};
 use std::collections::BTreeMap;
 use std::sync::atomic::{AtomicBool, Ordering};
 use std::sync::{Barrier, RwLock};
@@ -55,8 +55,8 @@ fn timed<H: Send>(handles: Vec<H>, items: usize, work: impl Fn(H, u64) + Sync) -
 }
 
 // The sum of a scan, so that it can't be left out.
-fn sum(entries: impl Iterator<Item = Entry>) -> u64 {
-    entries.take(LENGTH).fold(0, |sum, entry| sum.wrapping_add(entry.key ^ entry.pointer))
+fn sum(entries: impl Iterator<Item = (u64, u64)>) -> u64 {
+    entries.take(LENGTH).fold(0, |sum, (key, pointer)| sum.wrapping_add(key ^ pointer))
 }
 
 // So many scans of one thread, from a key that is drawn for each.
@@ -67,7 +67,7 @@ fn scans(sorted: &[u64], seed: u64, count: usize, mut scan: impl FnMut(u64) -> u
 }
 
 fn by_tree(tree: &BTreeMap<u64, u64>, from: u64) -> u64 {
-    sum(tree.range(from..).map(|(&key, &pointer)| Entry { key, pointer }))
+    sum(tree.range(from..).map(|(&key, &pointer)| (key, pointer)))
 }
 
 fn sessions<'a>(map: &'a Map, count: usize) -> Vec<Session<'a>> {
@@ -122,8 +122,8 @@ fn scanning(index: &Index, keys: &[u64]) {
         "a scan of 1,000 of 40,000 entries, an entry",
         vec![
             ("session", Box::new(|| alone(&mut |from| sum(session.range(from..))))),
-            ("pass", Box::new(|| alone(&mut |from| sum(pass.scan(from..))))),
-            ("index", Box::new(|| alone(&mut |from| sum(index.scan(from..))))),
+            ("pass", Box::new(|| alone(&mut |from| sum(pass.range(from..))))),
+            ("index", Box::new(|| alone(&mut |from| sum(index.range(from..))))),
             ("BTreeMap", Box::new(|| alone(&mut |from| by_tree(&tree, from)))),
         ],
     );

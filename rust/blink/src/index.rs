@@ -1,9 +1,9 @@
 //! The index.
 
-use crate::memory::{resize, with_room};
+use crate::memory::{collected, resize, with_room};
 use crate::read::{OfIndex, Read};
-use crate::sys::{self, Code, Handle, RawAnswer};
-use crate::{Answer, Entry, Error, Op, Reader, Scan};
+use crate::sys::{self, Code, Handle, RawAnswer, RawEntry};
+use crate::{Answer, Error, Op, Range, Reader};
 use std::ops::RangeBounds;
 
 /// A map from 64-bit keys to 64-bit record pointers, in a proved B-link tree.
@@ -12,10 +12,10 @@ use std::ops::RangeBounds;
 /// use blink::{Answer, Index, Op};
 ///
 /// let mut index = Index::new(16)?;
-/// let answers = index.run(&[Op::Insert(5, 50), Op::Insert(7, 70), Op::Find(5), Op::Delete(6)])?;
+/// let answers = index.run(&[Op::Insert(5, 50), Op::Insert(7, 70), Op::Get(5), Op::Remove(6)])?;
 /// assert_eq!(answers, [Answer::Inserted, Answer::Inserted, Answer::Found(50), Answer::Absent]);
-/// assert_eq!(index.find(7), Some(70));
-/// assert_eq!(index.scan(..).map(|entry| entry.key).collect::<Vec<_>>(), [5, 7]);
+/// assert_eq!(index.get(7), Some(70));
+/// assert_eq!(index.iter().map(|(key, _)| key).collect::<Vec<_>>(), [5, 7]);
 /// # Ok::<(), blink::Error>(())
 /// ```
 ///
@@ -57,19 +57,21 @@ impl Index {
         })
     }
 
-    /// Makes an index of entries in any order. Of two with one key the first stays.
+    /// Makes an index of entries in any order, keys with their pointers. Of two with one key the last stays, as in a `BTreeMap`.
     ///
     /// ```
-    /// use blink::{Entry, Index};
+    /// use blink::Index;
     ///
-    /// let entries = [(3, 30), (1, 10), (3, 99)].map(Entry::from);
-    /// let index = Index::from_entries(8, &entries)?;
-    /// assert_eq!(index.scan(..).collect::<Vec<_>>(), [(1, 10), (3, 30)].map(Entry::from));
+    /// let index = Index::from_entries(8, [(3, 99), (1, 10), (3, 30)])?;
+    /// assert_eq!(index.iter().collect::<Vec<_>>(), [(1, 10), (3, 30)]);
     /// # Ok::<(), blink::Error>(())
     /// ```
-    pub fn from_entries(fan: u8, entries: &[Entry]) -> Result<Index, Error> {
+    pub fn from_entries(fan: u8, entries: impl IntoIterator<Item = (u64, u64)>) -> Result<Index, Error> {
+        let mut entries = collected(entries.into_iter().map(RawEntry::from))?;
+        // The library keeps the first of two with one key.
+        entries.reverse();
         Index::filled(|out| {
-            // SAFETY: `entries` is a slice of numbers, and `out` an empty handle.
+            // SAFETY: `entries` is a list of numbers, and `out` an empty handle.
             unsafe { sys::blink_index_from_entries(fan, entries.as_ptr(), entries.len(), out) }
         })
     }
@@ -78,20 +80,19 @@ impl Index {
     /// is full. The first place whose key isn't above the one before is told by [`Error::NotAscending`].
     ///
     /// ```
-    /// use blink::{Entry, Error, Index};
+    /// use blink::{Error, Index};
     ///
-    /// let mut entries: Vec<Entry> = (1..=10).map(|key| Entry { key, pointer: 10 * key }).collect();
-    /// let index = Index::from_sorted(4, &entries)?;
+    /// let index = Index::from_sorted(4, (1..=10).map(|key| (key, 10 * key)))?;
     /// // three leaves and the root
-    /// assert_eq!((index.len(), index.pages(), index.find(7)), (10, 4, Some(70)));
-    /// entries[6].key = 6;
-    /// assert_eq!(Index::from_sorted(4, &entries).unwrap_err(), Error::NotAscending(6));
+    /// assert_eq!((index.len(), index.pages(), index.get(7)), (10, 4, Some(70)));
+    /// assert_eq!(Index::from_sorted(4, [(1, 10), (2, 20), (2, 21)]).unwrap_err(), Error::NotAscending(2));
     /// # Ok::<(), Error>(())
     /// ```
-    pub fn from_sorted(fan: u8, entries: &[Entry]) -> Result<Index, Error> {
+    pub fn from_sorted(fan: u8, entries: impl IntoIterator<Item = (u64, u64)>) -> Result<Index, Error> {
+        let entries = collected(entries.into_iter().map(RawEntry::from))?;
         let mut bad_place = 0;
         let mut handle = Handle::EMPTY;
-        // SAFETY: `entries` is a slice of numbers, and `handle` an empty handle.
+        // SAFETY: `entries` is a list of numbers, and `handle` an empty handle.
         let code = unsafe {
             sys::blink_index_from_sorted(fan, entries.as_ptr(), entries.len(), &mut handle, &mut bad_place)
         };
@@ -117,7 +118,7 @@ impl Index {
     ///
     /// let index: Index = (0..1000).map(|key| (key, 10 * key)).collect();
     /// let reader: Reader = index.share().map_err(|(_index, error)| error)?;
-    /// assert_eq!(reader.find(7), Some(70));
+    /// assert_eq!(reader.get(7), Some(70));
     /// # Ok::<(), blink::Error>(())
     /// ```
     pub fn share(self) -> Result<Reader, (Index, Error)> {
@@ -175,40 +176,40 @@ impl Index {
         Answer::of(given)
     }
 
-    /// Maps a key to `new` in place, if it maps to `expected`, and returns `expected`. Otherwise it returns what the key maps to, or
-    /// none if it isn't there, and nothing changes. It takes no memory.
+    /// Maps a key to `new` in place, if it maps to `expected`: [`Answer::Replaced`] with `expected`. Else nothing changes:
+    /// [`Answer::Exists`] with what the key maps to, or [`Answer::Absent`]. It takes no memory.
     ///
     /// ```
-    /// # use blink::{Entry, Index};
-    /// let mut index = Index::from_entries(8, &[(1, 10)].map(Entry::from))?;
-    /// assert_eq!(index.compare_exchange(1, 10, 11), Ok(10));
-    /// assert_eq!(index.compare_exchange(1, 10, 12), Err(Some(11)));
-    /// assert_eq!(index.compare_exchange(2, 10, 12), Err(None));
+    /// # use blink::{Answer, Index};
+    /// let mut index = Index::from_entries(8, [(1, 10)])?;
+    /// assert_eq!(index.compare_exchange(1, 10, 11), Answer::Replaced(10));
+    /// assert_eq!(index.compare_exchange(1, 10, 12), Answer::Exists(11));
+    /// assert_eq!(index.compare_exchange(2, 10, 12), Answer::Absent);
     /// # Ok::<(), blink::Error>(())
     /// ```
-    pub fn compare_exchange(&mut self, key: u64, expected: u64, new: u64) -> Result<u64, Option<u64>> {
+    pub fn compare_exchange(&mut self, key: u64, expected: u64, new: u64) -> Answer {
         let mut given = RawAnswer::NONE;
         // SAFETY: as in `insert`.
         unsafe { sys::blink_index_exchange(self.read.handle(), key, expected, new, &mut given) };
-        Answer::of(given).exchanged()
+        Answer::of(given)
     }
 
-    /// Takes a key away in place, if it maps to `expected`, and returns `expected`. Otherwise it returns what the key maps to, or
-    /// none if it isn't there, and nothing changes. It takes no memory.
+    /// Takes a key away in place, if it maps to `expected`: [`Answer::Removed`] with `expected`. Else nothing changes:
+    /// [`Answer::Exists`] with what the key maps to, or [`Answer::Absent`]. It takes no memory.
     ///
     /// ```
-    /// # use blink::{Entry, Index};
-    /// let mut index = Index::from_entries(8, &[(1, 10)].map(Entry::from))?;
-    /// assert_eq!(index.compare_remove(1, 11), Err(Some(10)));
-    /// assert_eq!(index.compare_remove(1, 10), Ok(10));
-    /// assert_eq!(index.compare_remove(1, 10), Err(None));
+    /// # use blink::{Answer, Index};
+    /// let mut index = Index::from_entries(8, [(1, 10)])?;
+    /// assert_eq!(index.compare_remove(1, 11), Answer::Exists(10));
+    /// assert_eq!(index.compare_remove(1, 10), Answer::Removed(10));
+    /// assert_eq!(index.compare_remove(1, 10), Answer::Absent);
     /// # Ok::<(), blink::Error>(())
     /// ```
-    pub fn compare_remove(&mut self, key: u64, expected: u64) -> Result<u64, Option<u64>> {
+    pub fn compare_remove(&mut self, key: u64, expected: u64) -> Answer {
         let mut given = RawAnswer::NONE;
         // SAFETY: as in `insert`.
         unsafe { sys::blink_index_delete_exact(self.read.handle(), key, expected, &mut given) };
-        Answer::of(given).exchanged()
+        Answer::of(given)
     }
 
     /// Carries operations out in place, one after another, up to the first that is refused. The operations before it stay carried
@@ -218,7 +219,7 @@ impl Index {
     /// use blink::{Answer, Index, Op};
     ///
     /// let mut index = Index::new(16)?;
-    /// let applied = index.apply(&[Op::Insert(5, 50), Op::Find(5), Op::Delete(6)]);
+    /// let applied = index.apply(&[Op::Insert(5, 50), Op::Get(5), Op::Remove(6)]);
     /// assert_eq!(applied.answers, [Answer::Inserted, Answer::Found(50), Answer::Absent]);
     /// assert_eq!(applied.error, None);
     /// # Ok::<(), blink::Error>(())
@@ -241,7 +242,7 @@ impl Index {
 
     // Carries out at most `PART` operations, and adds the answers of those that aren't refused. The list has room for them.
     fn apply_part(&mut self, operations: &[Op], answers: &mut Vec<Answer>) -> Result<(), Error> {
-        let mut raw = [Op::Find(0).raw(); Index::PART];
+        let mut raw = [Op::Get(0).raw(); Index::PART];
         let mut given = [RawAnswer::NONE; Index::PART];
         for (place, op) in raw.iter_mut().zip(operations) {
             *place = op.raw();
@@ -259,16 +260,15 @@ impl Index {
     /// insertion splits it. Only memory may be refused, and then the index is as it was.
     ///
     /// ```
-    /// use blink::{Entry, Index};
+    /// use blink::Index;
     ///
-    /// let entries: Vec<Entry> = (1..=10).map(|key| Entry { key, pointer: 10 * key }).collect();
-    /// let mut index = Index::from_sorted(4, &entries)?;
+    /// let mut index = Index::from_sorted(4, (1..=10).map(|key| (key, 10 * key)))?;
     /// for key in 1..=7 {
     ///     index.remove(key);
     /// }
     /// assert_eq!((index.len(), index.pages()), (3, 4));
     /// index.compact()?;
-    /// assert_eq!((index.len(), index.pages(), index.find(8)), (3, 1, Some(80)));
+    /// assert_eq!((index.len(), index.pages(), index.get(8)), (3, 1, Some(80)));
     /// # Ok::<(), blink::Error>(())
     /// ```
     pub fn compact(&mut self) -> Result<(), Error> {
@@ -296,82 +296,88 @@ impl Index {
     }
 
     /// Returns the record pointer of a key.
-    pub fn find(&self, key: u64) -> Option<u64> {
-        self.read.find(key)
+    pub fn get(&self, key: u64) -> Option<u64> {
+        self.read.get(key)
     }
 
     /// Returns the record pointer of each key. Where memory for them is refused the process ends, as by any `Vec`;
-    /// [`Index::find`] takes none.
+    /// [`Index::get`] takes none.
     ///
     /// ```
-    /// # use blink::{Entry, Index};
-    /// let index = Index::from_entries(8, &[(1, 10), (3, 30)].map(Entry::from))?;
-    /// assert_eq!(index.find_many(&[3, 2, 1]), [Some(30), None, Some(10)]);
+    /// # use blink::Index;
+    /// let index = Index::from_entries(8, [(1, 10), (3, 30)])?;
+    /// assert_eq!(index.get_many(&[3, 2, 1]), [Some(30), None, Some(10)]);
     /// # Ok::<(), blink::Error>(())
     /// ```
-    pub fn find_many(&self, keys: &[u64]) -> Vec<Option<u64>> {
-        self.read.find_many(keys)
+    pub fn get_many(&self, keys: &[u64]) -> Vec<Option<u64>> {
+        self.read.get_many(keys)
     }
 
     /// Returns the entries whose keys are in the range, in ascending order; from its end, as by `rev`, in descending order.
+    /// As in a `BTreeMap`, a range whose start is above its end panics.
     ///
     /// ```
-    /// # use blink::{Entry, Index};
-    /// let index = Index::from_entries(8, &[(1, 10), (3, 30), (5, 50)].map(Entry::from))?;
-    /// assert_eq!(index.scan(2..5).collect::<Vec<_>>(), [Entry { key: 3, pointer: 30 }]);
-    /// assert_eq!(index.scan(2..=5).count(), 2);
-    /// assert_eq!(index.scan(2..).rev().next(), Some(Entry { key: 5, pointer: 50 }));
+    /// # use blink::Index;
+    /// let index = Index::from_entries(8, [(1, 10), (3, 30), (5, 50)])?;
+    /// assert_eq!(index.range(2..5).collect::<Vec<_>>(), [(3, 30)]);
+    /// assert_eq!(index.count(2..=5), 2);
+    /// assert_eq!(index.range(2..).next_back(), Some((5, 50)));
     /// # Ok::<(), blink::Error>(())
     /// ```
-    pub fn scan(&self, range: impl RangeBounds<u64>) -> Scan<'_> {
-        self.read.scan(range)
+    pub fn range(&self, range: impl RangeBounds<u64>) -> Range<'_> {
+        self.read.range(range)
     }
 
-    /// Returns the number of entries whose keys are in the range from `lo` to `hi`, both included.
-    pub fn count(&self, lo: u64, hi: u64) -> usize {
-        self.read.count(lo, hi)
+    /// Returns all entries, in ascending order of their keys; from the end, as by `rev`, in descending order.
+    pub fn iter(&self) -> Range<'_> {
+        self.read.range(..)
+    }
+
+    /// Returns the number of entries whose keys are in the range. It walks the range's leaves.
+    pub fn count(&self, range: impl RangeBounds<u64>) -> usize {
+        self.read.count(range)
     }
 
     /// Returns the entry with the least key, if there is one.
     ///
     /// ```
-    /// # use blink::{Entry, Index};
-    /// let index = Index::from_entries(8, &[(1, 10), (3, 30), (5, 50)].map(Entry::from))?;
-    /// assert_eq!(index.first(), Some(Entry { key: 1, pointer: 10 }));
-    /// assert_eq!(index.last(), Some(Entry { key: 5, pointer: 50 }));
-    /// assert_eq!(index.next(1), Some(Entry { key: 3, pointer: 30 }));
+    /// # use blink::Index;
+    /// let index = Index::from_entries(8, [(1, 10), (3, 30), (5, 50)])?;
+    /// assert_eq!(index.first(), Some((1, 10)));
+    /// assert_eq!(index.last(), Some((5, 50)));
+    /// assert_eq!(index.next(1), Some((3, 30)));
     /// assert_eq!(index.next(5), None);
-    /// assert_eq!(index.prev(5), Some(Entry { key: 3, pointer: 30 }));
-    /// assert_eq!(index.at_least(4), Some(Entry { key: 5, pointer: 50 }));
+    /// assert_eq!(index.prev(5), Some((3, 30)));
+    /// assert_eq!(index.at_least(4), Some((5, 50)));
     /// assert_eq!(index.at_most(0), None);
     /// # Ok::<(), blink::Error>(())
     /// ```
-    pub fn first(&self) -> Option<Entry> {
+    pub fn first(&self) -> Option<(u64, u64)> {
         self.read.first()
     }
 
     /// Returns the entry with the greatest key, if there is one.
-    pub fn last(&self) -> Option<Entry> {
+    pub fn last(&self) -> Option<(u64, u64)> {
         self.read.last()
     }
 
     /// Returns the entry with the least key above this one, if there is one.
-    pub fn next(&self, key: u64) -> Option<Entry> {
+    pub fn next(&self, key: u64) -> Option<(u64, u64)> {
         self.read.next(key)
     }
 
     /// Returns the entry with the greatest key below this one, if there is one.
-    pub fn prev(&self, key: u64) -> Option<Entry> {
+    pub fn prev(&self, key: u64) -> Option<(u64, u64)> {
         self.read.prev(key)
     }
 
     /// Returns the entry with the least key from this one on, if there is one.
-    pub fn at_least(&self, key: u64) -> Option<Entry> {
+    pub fn at_least(&self, key: u64) -> Option<(u64, u64)> {
         self.read.at_least(key)
     }
 
     /// Returns the entry with the greatest key up to this one, if there is one.
-    pub fn at_most(&self, key: u64) -> Option<Entry> {
+    pub fn at_most(&self, key: u64) -> Option<(u64, u64)> {
         self.read.at_most(key)
     }
 
@@ -398,8 +404,8 @@ impl Index {
     /// Returns the tree as text, a line a page, the top level first.
     ///
     /// ```
-    /// # use blink::{Entry, Index};
-    /// let index = Index::from_entries(8, &[(1, 10), (3, 30)].map(Entry::from))?;
+    /// # use blink::Index;
+    /// let index = Index::from_entries(8, [(1, 10), (3, 30)])?;
     /// assert_eq!(index.dump()?, "0 1 - 18446744073709551615 - 1:10 3:30\n");
     /// # Ok::<(), blink::Error>(())
     /// ```

@@ -17,7 +17,7 @@
 //!     }
 //! });
 //! let index = map.close()?;
-//! assert_eq!((index.len(), index.find(7).unwrap() / 10), (1000, 7));
+//! assert_eq!((index.len(), index.get(7).unwrap() / 10), (1000, 7));
 //! # Ok::<(), blink::Error>(())
 //! ```
 //!
@@ -27,10 +27,14 @@
 //! - [`Table`] shares them too, and each key has an owner: a [`Pass`] has keys of its own, inserts, deletes and replaces these, and
 //!   looks at all.
 //! - [`Guards`] tell when an object may be freed whose pointer was taken out of a map.
+//! - [`keys`] makes keys of signed numbers, of floats and of pairs, in their order.
 //! - [`Pending`] is an operation of a pass that has begun and waits for nobody; [`Unfinished`] is one of a session.
 //!
+//! A call that takes a range of keys takes each that `BTreeMap::range` takes, and panics where that one does: where the range's start is
+//! above its end, or one key is excluded from both sides.
+//!
 //! What a thread wrote before it stored a pointer, by a pass or a session, is seen by whoever gets this pointer from another one, by a
-//! find, a glance, a scan, a snapshot or a change (tested). So a pointer may be the address of a record, which isn't changed from then on
+//! look-up, a glance, a range, a snapshot or a change (tested). So a pointer may be the address of a record, which isn't changed from then on
 //! but by what orders memory itself.
 #![warn(missing_docs)]
 
@@ -38,6 +42,7 @@ mod collection;
 mod error;
 mod guards;
 mod index;
+pub mod keys;
 mod map;
 mod memory;
 mod operation;
@@ -52,8 +57,8 @@ pub use error::Error;
 pub use guards::{Guard, Guards, Held, Noted};
 pub use index::{Applied, Index};
 pub use map::{Begun, Left, Map, Room, Session, Reserve, Unclosed, Unfinished};
-pub use operation::{Answer, Entry, Op};
-pub use range::Range;
-pub use read::Scan;
+pub use operation::{Answer, Op};
+pub use range::LiveRange;
+pub use read::Range;
 pub use reader::Reader;
 pub use table::{Pass, Pending, Table};

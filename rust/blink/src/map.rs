@@ -1,9 +1,9 @@
 //! The map and its sessions.
 
-use crate::range::{snapshot, Range};
+use crate::range::{snapshot, LiveRange};
 use crate::sys::{self, Code, Handle, RawAnswer};
 use crate::table::TRIES;
-use crate::{Answer, Entry, Error, Index, Op};
+use crate::{Answer, Error, Index, Op};
 use std::fmt;
 use std::marker::PhantomData;
 use std::ops::{Bound, RangeBounds};
@@ -79,7 +79,7 @@ pub struct Reserve {
 /// });
 /// let index = map.close()?;
 /// assert_eq!(index.len(), 1000);
-/// assert_eq!(index.find(7).map(|pointer| pointer / 10), Some(7));
+/// assert_eq!(index.get(7).map(|pointer| pointer / 10), Some(7));
 /// # Ok::<(), blink::Error>(())
 /// ```
 pub struct Map {
@@ -226,9 +226,9 @@ impl<'map> Session<'map> {
     /// Looks a key up, after the changes that the session has seen by the end of the call.
     ///
     /// ```
-    /// use blink::{Entry, Index, Map, Room};
+    /// use blink::{Index, Map, Room};
     ///
-    /// let index = Index::from_entries(8, &[(1, 10), (2, 20)].map(Entry::from))?;
+    /// let index = Index::from_entries(8, [(1, 10), (2, 20)])?;
     /// let map = Map::open(&index, Room { pages: 0, rows: 0, sessions: 1 })?;
     /// let mut session = map.session()?;
     /// assert_eq!((session.get(1), session.get(3)), (Some(10), None));
@@ -252,27 +252,27 @@ impl<'map> Session<'map> {
     /// and the call walks those before the entry.
     ///
     /// ```
-    /// use blink::{Entry, Index, Map, Room};
+    /// use blink::{Index, Map, Room};
     ///
-    /// let index = Index::from_entries(8, &[(1, 10), (3, 30)].map(Entry::from))?;
+    /// let index = Index::from_entries(8, [(1, 10), (3, 30)])?;
     /// let map = Map::open(&index, Room { pages: 22, rows: 44, sessions: 1 })?;
     /// let mut session = map.session()?;
-    /// assert_eq!(session.first(), Some(Entry { key: 1, pointer: 10 }));
-    /// assert_eq!(session.next(1), Some(Entry { key: 3, pointer: 30 }));
+    /// assert_eq!(session.first(), Some((1, 10)));
+    /// assert_eq!(session.next(1), Some((3, 30)));
     /// assert_eq!(session.next(3), None);
     /// assert_eq!(session.count(..3), 1);
     /// # Ok::<(), blink::Error>(())
     /// ```
-    pub fn first(&mut self) -> Option<Entry> {
+    pub fn first(&mut self) -> Option<(u64, u64)> {
         self.range(..).next()
     }
 
     /// Returns the entry of the least key above this one, in the same way.
-    pub fn next(&mut self, key: u64) -> Option<Entry> {
+    pub fn next(&mut self, key: u64) -> Option<(u64, u64)> {
         self.range((Bound::Excluded(key), Bound::Unbounded)).next()
     }
 
-    /// Counts the entries whose keys are in the range, by a scan of them: [`Range`] says what it sees of a key that changes meanwhile.
+    /// Counts the entries whose keys are in the range, by a scan of them: [`LiveRange`] says what it sees of a key that changes meanwhile.
     pub fn count(&mut self, range: impl RangeBounds<u64>) -> usize {
         self.range(range).count()
     }
@@ -283,20 +283,20 @@ impl<'map> Session<'map> {
     /// It is refused as [`Session::remove`] is, and takes nothing away then.
     ///
     /// ```
-    /// use blink::{Entry, Index, Map, Room};
+    /// use blink::{Index, Map, Room};
     ///
-    /// let index = Index::from_entries(8, &[(1, 10), (3, 30)].map(Entry::from))?;
+    /// let index = Index::from_entries(8, [(1, 10), (3, 30)])?;
     /// let map = Map::open(&index, Room { pages: 22, rows: 44, sessions: 1 })?;
     /// let mut session = map.session()?;
-    /// assert_eq!(session.pop_first()?, Some(Entry { key: 1, pointer: 10 }));
-    /// assert_eq!(session.pop_first()?, Some(Entry { key: 3, pointer: 30 }));
+    /// assert_eq!(session.pop_first()?, Some((1, 10)));
+    /// assert_eq!(session.pop_first()?, Some((3, 30)));
     /// assert_eq!(session.pop_first()?, None);
     /// # Ok::<(), blink::Error>(())
     /// ```
-    pub fn pop_first(&mut self) -> Result<Option<Entry>, Error> {
-        while let Some(entry) = self.first() {
-            if self.compare_remove(entry.key, entry.pointer)?.is_ok() {
-                return Ok(Some(entry));
+    pub fn pop_first(&mut self) -> Result<Option<(u64, u64)>, Error> {
+        while let Some((key, pointer)) = self.first() {
+            if self.compare_remove(key, pointer)?.changed() {
+                return Ok(Some((key, pointer)));
             }
         }
         Ok(None)
@@ -308,27 +308,27 @@ impl<'map> Session<'map> {
     /// It is refused as [`Session::remove`] is. What it has taken away by then stays away.
     ///
     /// ```
-    /// use blink::{Entry, Index, Map, Room};
+    /// use blink::{Index, Map, Room};
     ///
-    /// let index = Index::from_entries(8, &[(1, 10), (2, 20), (3, 30)].map(Entry::from))?;
+    /// let index = Index::from_entries(8, [(1, 10), (2, 20), (3, 30)])?;
     /// let map = Map::open(&index, Room { pages: 22, rows: 44, sessions: 1 })?;
     /// let mut session = map.session()?;
-    /// assert_eq!(session.retain(.., |entry| entry.key % 2 == 1)?, 1);
-    /// assert_eq!(session.range(..).map(|entry| entry.key).collect::<Vec<_>>(), [1, 3]);
+    /// assert_eq!(session.retain(.., |key, _| key % 2 == 1)?, 1);
+    /// assert_eq!(session.range(..).map(|(key, _)| key).collect::<Vec<_>>(), [1, 3]);
     /// # Ok::<(), blink::Error>(())
     /// ```
-    pub fn retain(&mut self, range: impl RangeBounds<u64>, mut keeps: impl FnMut(Entry) -> bool) -> Result<usize, Error> {
+    pub fn retain(&mut self, range: impl RangeBounds<u64>, mut keeps: impl FnMut(u64, u64) -> bool) -> Result<usize, Error> {
         let end = range.end_bound().cloned();
         let (mut taken, mut from) = (0, range.start_bound().cloned());
         loop {
             // The scan borrows the session, so some entries are reported before the first of them is taken away.
-            let mut part = [Entry { key: 0, pointer: 0 }; 64];
+            let mut part = [(0, 0); 64];
             let reported = part.iter_mut().zip(self.range((from, end))).map(|(place, entry)| *place = entry).count();
-            for &entry in &part[..reported] {
-                if !keeps(entry) && self.compare_remove(entry.key, entry.pointer)?.is_ok() {
+            for &(key, pointer) in &part[..reported] {
+                if !keeps(key, pointer) && self.compare_remove(key, pointer)?.changed() {
                     taken += 1;
                 }
-                from = Bound::Excluded(entry.key);
+                from = Bound::Excluded(key);
             }
             if reported < part.len() {
                 return Ok(taken);
@@ -337,20 +337,37 @@ impl<'map> Session<'map> {
     }
 
     /// Returns the entries whose keys are in the range, in ascending order, while other sessions change the map. A key that is there
-    /// throughout is among them, and one that isn't there throughout isn't; [`Range`] says more.
+    /// throughout is among them, and one that isn't there throughout isn't; [`LiveRange`] says more. As in a `BTreeMap`, a range whose
+    /// start is above its end panics.
     ///
     /// ```
-    /// use blink::{Entry, Index, Map, Room};
+    /// use blink::{Index, Map, Room};
     ///
-    /// let index = Index::from_entries(8, &[(1, 10), (3, 30), (5, 50)].map(Entry::from))?;
+    /// let index = Index::from_entries(8, [(1, 10), (3, 30), (5, 50)])?;
     /// let map = Map::open(&index, Room { pages: 22, rows: 44, sessions: 1 })?;
     /// let mut session = map.session()?;
     /// session.insert(4, 40)?;
-    /// assert_eq!(session.range(2..5).map(|entry| entry.key).collect::<Vec<_>>(), [3, 4]);
+    /// assert_eq!(session.range(2..5).collect::<Vec<_>>(), [(3, 30), (4, 40)]);
     /// # Ok::<(), blink::Error>(())
     /// ```
-    pub fn range(&mut self, range: impl RangeBounds<u64>) -> Range<'_> {
-        Range::new(&mut self.handle, sys::blink_session_scan, &range)
+    ///
+    /// The range borrows its session. A loop that changes the map has a second session for that, which is a place of the room and its part
+    /// of the rows:
+    ///
+    /// ```
+    /// use blink::{Index, Map, Room};
+    ///
+    /// let index = Index::from_entries(8, [(1, 10), (3, 30), (5, 50)])?;
+    /// let map = Map::open(&index, Room { pages: 200, rows: 400, sessions: 2 })?;
+    /// let (mut reads, mut changes) = (map.session()?, map.session()?);
+    /// for (key, pointer) in reads.range(2..) {
+    ///     changes.replace(key, pointer + 1)?;
+    /// }
+    /// assert_eq!(reads.range(..).collect::<Vec<_>>(), [(1, 10), (3, 31), (5, 51)]);
+    /// # Ok::<(), blink::Error>(())
+    /// ```
+    pub fn range(&mut self, range: impl RangeBounds<u64>) -> LiveRange<'_> {
+        LiveRange::new(&mut self.handle, sys::blink_session_scan, &range)
     }
 
     /// Returns the entries whose keys are in the range, in ascending order, as all of them were at one time; `None`, if some leaf of
@@ -360,9 +377,9 @@ impl<'map> Session<'map> {
     /// It is refused with an error only if memory is.
     ///
     /// ```
-    /// use blink::{Entry, Index, Map, Room};
+    /// use blink::{Index, Map, Room};
     ///
-    /// let index = Index::from_entries(8, &[(1, 10), (3, 30), (5, 50)].map(Entry::from))?;
+    /// let index = Index::from_entries(8, [(1, 10), (3, 30), (5, 50)])?;
     /// let map = Map::open(&index, Room { pages: 22, rows: 44, sessions: 1 })?;
     /// let mut session = map.session()?;
     /// session.insert(4, 40)?;
@@ -395,50 +412,46 @@ impl<'map> Session<'map> {
         self.ended(|handle, answer| unsafe { sys::blink_session_replace(handle, key, pointer, TRIES, answer) })
     }
 
-    /// Maps a key to `new`, if it maps to `expected`, and returns `expected`. Otherwise it returns what the key maps to, or none if it
-    /// isn't there, and the key stays as it was. No other session changes the key between the test and the change. The outer error is
-    /// a refusal, as of [`Session::replace`].
+    /// Maps a key to `new`, if it maps to `expected`: [`Answer::Replaced`] with `expected`. Else the key stays as it was:
+    /// [`Answer::Exists`] with what it maps to, or [`Answer::Absent`]. No other session changes the key between the test and the change.
+    ///
+    /// It is refused as [`Session::replace`] is.
     ///
     /// ```
-    /// use blink::{Entry, Index, Map, Room};
+    /// use blink::{Answer, Index, Map, Room};
     ///
-    /// let index = Index::from_entries(8, &[(1, 10)].map(Entry::from))?;
+    /// let index = Index::from_entries(8, [(1, 10)])?;
     /// let map = Map::open(&index, Room { pages: 22, rows: 44, sessions: 1 })?;
     /// let mut session = map.session()?;
-    /// assert_eq!(session.compare_exchange(1, 10, 11)?, Ok(10));
-    /// assert_eq!(session.compare_exchange(1, 10, 12)?, Err(Some(11)));
-    /// assert_eq!(session.compare_exchange(2, 10, 12)?, Err(None));
+    /// assert_eq!(session.compare_exchange(1, 10, 11)?, Answer::Replaced(10));
+    /// assert_eq!(session.compare_exchange(1, 10, 12)?, Answer::Exists(11));
+    /// assert_eq!(session.compare_exchange(2, 10, 12)?, Answer::Absent);
     /// # Ok::<(), blink::Error>(())
     /// ```
-    pub fn compare_exchange(&mut self, key: u64, expected: u64, new: u64) -> Result<Result<u64, Option<u64>>, Error> {
+    pub fn compare_exchange(&mut self, key: u64, expected: u64, new: u64) -> Result<Answer, Error> {
         // SAFETY: as in `get`.
-        let answer = self.ended(|handle, answer| unsafe {
-            sys::blink_session_exchange(handle, key, expected, new, TRIES, answer)
-        })?;
-        Ok(answer.exchanged())
+        self.ended(|handle, answer| unsafe { sys::blink_session_exchange(handle, key, expected, new, TRIES, answer) })
     }
 
-    /// Takes a key away, if it maps to `expected`, and returns `expected`. Otherwise it returns what the key maps to, or none if
-    /// it isn't there, and the key stays as it was. No other session changes the key between the test and the removal. The outer
-    /// error is a refusal, as of [`Session::remove`].
+    /// Takes a key away, if it maps to `expected`: [`Answer::Removed`] with `expected`. Else the key stays as it was:
+    /// [`Answer::Exists`] with what it maps to, or [`Answer::Absent`]. No other session changes the key between the test and the removal.
+    ///
+    /// It is refused as [`Session::remove`] is.
     ///
     /// ```
-    /// use blink::{Entry, Index, Map, Room};
+    /// use blink::{Answer, Index, Map, Room};
     ///
-    /// let index = Index::from_entries(8, &[(1, 10)].map(Entry::from))?;
+    /// let index = Index::from_entries(8, [(1, 10)])?;
     /// let map = Map::open(&index, Room { pages: 22, rows: 44, sessions: 1 })?;
     /// let mut session = map.session()?;
-    /// assert_eq!(session.compare_remove(1, 11)?, Err(Some(10)));
-    /// assert_eq!(session.compare_remove(1, 10)?, Ok(10));
-    /// assert_eq!(session.compare_remove(1, 10)?, Err(None));
+    /// assert_eq!(session.compare_remove(1, 11)?, Answer::Exists(10));
+    /// assert_eq!(session.compare_remove(1, 10)?, Answer::Removed(10));
+    /// assert_eq!(session.compare_remove(1, 10)?, Answer::Absent);
     /// # Ok::<(), blink::Error>(())
     /// ```
-    pub fn compare_remove(&mut self, key: u64, expected: u64) -> Result<Result<u64, Option<u64>>, Error> {
+    pub fn compare_remove(&mut self, key: u64, expected: u64) -> Result<Answer, Error> {
         // SAFETY: as in `get`.
-        let answer = self.ended(|handle, answer| unsafe {
-            sys::blink_session_delete_exact(handle, key, expected, TRIES, answer)
-        })?;
-        Ok(answer.exchanged())
+        self.ended(|handle, answer| unsafe { sys::blink_session_delete_exact(handle, key, expected, TRIES, answer) })
     }
 
     /// Maps a key to what `next` makes of the pointer that it maps to, or of none, in one step: when the change is made, the key maps
@@ -468,17 +481,14 @@ impl<'map> Session<'map> {
             let tried = match (present, next(present)) {
                 (None, None) => return Ok(None),
                 (Some(seen), Some(new)) if new == seen => return Ok(present),
-                (Some(seen), Some(new)) => self.compare_exchange(key, seen, new)?.map(Some),
-                (Some(seen), None) => self.compare_remove(key, seen)?.map(Some),
-                (None, Some(new)) => match self.insert(key, new)? {
-                    Answer::Inserted => Ok(None),
-                    other => Err(other.pointer()),
-                },
+                (Some(seen), Some(new)) => self.compare_exchange(key, seen, new)?,
+                (Some(seen), None) => self.compare_remove(key, seen)?,
+                (None, Some(new)) => self.insert(key, new)?,
             };
-            match tried {
-                Ok(before) => return Ok(before),
-                Err(other) => present = other,
+            if tried.changed() {
+                return Ok(present);
             }
+            present = tried.pointer();
         }
     }
 
@@ -540,7 +550,7 @@ impl<'map> Session<'map> {
     }
 
     /// Begins an operation and takes its first steps, which wait for nobody. Where another session has the page that it wants for
-    /// `tries` steps, it rests as an [`Unfinished`], and the thread may do something else. A find ends at once.
+    /// `tries` steps, it rests as an [`Unfinished`], and the thread may do something else. A look-up ends at once.
     ///
     /// It is refused with [`Error::Full`] as [`Session::insert`] is, and with [`Error::RowsBusy`] where that waits. A refusal hands the
     /// session back.
@@ -567,9 +577,9 @@ impl<'map> Session<'map> {
         // SAFETY: the handle is full and this call's own.
         let code = unsafe {
             match op {
-                Op::Find(key) => sys::blink_session_find(handle, key, &mut answer),
+                Op::Get(key) => sys::blink_session_find(handle, key, &mut answer),
                 Op::Insert(key, pointer) => sys::blink_session_insert(handle, key, pointer, tries, &mut answer),
-                Op::Delete(key) => sys::blink_session_delete(handle, key, tries, &mut answer),
+                Op::Remove(key) => sys::blink_session_delete(handle, key, tries, &mut answer),
                 Op::Replace(key, pointer) => sys::blink_session_replace(handle, key, pointer, tries, &mut answer),
             }
         };
@@ -578,7 +588,7 @@ impl<'map> Session<'map> {
 
     /// Begins an exchange of an expected pointer, as [`Session::begin`] begins an operation. Its answer is [`Answer::Replaced`] with the
     /// expected pointer, [`Answer::Exists`] with another one, which stays, or [`Answer::Absent`].
-    pub fn begin_exchange(
+    pub fn begin_compare_exchange(
         mut self,
         key: u64,
         expected: u64,
@@ -591,7 +601,7 @@ impl<'map> Session<'map> {
         self.begins(code, answer)
     }
 
-    /// Begins a deletion of an expected pointer, likewise: its answer is [`Answer::Removed`] with the expected pointer,
+    /// Begins a removal of an expected pointer, likewise: its answer is [`Answer::Removed`] with the expected pointer,
     /// [`Answer::Exists`] with another one, which stays, or [`Answer::Absent`].
     pub fn begin_compare_remove(
         mut self,

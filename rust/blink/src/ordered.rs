@@ -1,7 +1,6 @@
 //! What an ordered map has beside the calls of the library: each is made of these.
 
-use crate::memory::with_room;
-use crate::{Answer, Entry, Error, Index};
+use crate::{Answer, Error, Index};
 use std::ops::{Bound, RangeBounds};
 
 impl Index {
@@ -38,7 +37,7 @@ impl Index {
     /// # Ok::<(), blink::Error>(())
     /// ```
     pub fn update(&mut self, key: u64, next: impl FnOnce(Option<u64>) -> Option<u64>) -> Result<Option<u64>, Error> {
-        let present = self.find(key);
+        let present = self.get(key);
         match next(present) {
             Some(pointer) => self.put(key, pointer),
             None => Ok(self.remove(key).pointer()),
@@ -47,7 +46,7 @@ impl Index {
 
     /// Whether a key is there.
     pub fn contains(&self, key: u64) -> bool {
-        self.find(key).is_some()
+        self.get(key).is_some()
     }
 
     /// Takes all entries away, and their memory with them. Memory may be refused for the one page that an empty index has, and then nothing
@@ -61,24 +60,24 @@ impl Index {
     /// walks those before the entry.
     ///
     /// ```
-    /// # use blink::{Entry, Index};
-    /// let mut index = Index::from_entries(8, &[(1, 10), (3, 30), (5, 50)].map(Entry::from))?;
-    /// assert_eq!(index.pop_first(), Some(Entry { key: 1, pointer: 10 }));
-    /// assert_eq!(index.pop_last(), Some(Entry { key: 5, pointer: 50 }));
+    /// # use blink::Index;
+    /// let mut index = Index::from_entries(8, [(1, 10), (3, 30), (5, 50)])?;
+    /// assert_eq!(index.pop_first(), Some((1, 10)));
+    /// assert_eq!(index.pop_last(), Some((5, 50)));
     /// assert_eq!(index.len(), 1);
     /// # Ok::<(), blink::Error>(())
     /// ```
-    pub fn pop_first(&mut self) -> Option<Entry> {
-        let first = self.first()?;
-        self.remove(first.key);
-        Some(first)
+    pub fn pop_first(&mut self) -> Option<(u64, u64)> {
+        let (key, pointer) = self.first()?;
+        self.remove(key);
+        Some((key, pointer))
     }
 
     /// Takes the entry of the greatest key away, in the same way.
-    pub fn pop_last(&mut self) -> Option<Entry> {
-        let last = self.last()?;
-        self.remove(last.key);
-        Some(last)
+    pub fn pop_last(&mut self) -> Option<(u64, u64)> {
+        let (key, pointer) = self.last()?;
+        self.remove(key);
+        Some((key, pointer))
     }
 
     /// Takes away each entry of the range that `keeps` doesn't want, in ascending order, and returns how many it took. It takes no memory.
@@ -86,20 +85,20 @@ impl Index {
     /// ```
     /// # use blink::Index;
     /// let mut index: Index = (0..100).map(|key| (key, key)).collect();
-    /// assert_eq!(index.retain(10.., |entry| entry.key % 2 == 0), 45);
+    /// assert_eq!(index.retain(10.., |key, _| key % 2 == 0), 45);
     /// assert_eq!(index.len(), 55);
     /// ```
-    pub fn retain(&mut self, range: impl RangeBounds<u64>, mut keeps: impl FnMut(Entry) -> bool) -> usize {
+    pub fn retain(&mut self, range: impl RangeBounds<u64>, mut keeps: impl FnMut(u64, u64) -> bool) -> usize {
         let end = range.end_bound().cloned();
         let (mut taken, mut from) = (0, range.start_bound().cloned());
         loop {
             let (part, read) = self.part((from, end));
-            for &entry in &part[..read] {
-                if !keeps(entry) {
-                    self.remove(entry.key);
+            for &(key, pointer) in &part[..read] {
+                if !keeps(key, pointer) {
+                    self.remove(key);
                     taken += 1;
                 }
-                from = Bound::Excluded(entry.key);
+                from = Bound::Excluded(key);
             }
             if read < part.len() {
                 return taken;
@@ -115,14 +114,14 @@ impl Index {
     /// # use blink::Index;
     /// let (mut index, mut other): (Index, Index) = ((0..10).map(|key| (key, 1)).collect(), (5..15).map(|key| (key, 2)).collect());
     /// index.append(&mut other)?;
-    /// assert_eq!((index.len(), index.find(4), index.find(5), other.len()), (15, Some(1), Some(2), 0));
+    /// assert_eq!((index.len(), index.get(4), index.get(5), other.len()), (15, Some(1), Some(2), 0));
     /// # Ok::<(), blink::Error>(())
     /// ```
     pub fn append(&mut self, other: &mut Index) -> Result<(), Error> {
         let mut from = Bound::Unbounded;
         loop {
             let (part, read) = other.part((from, Bound::Unbounded));
-            for &Entry { key, pointer } in &part[..read] {
+            for &(key, pointer) in &part[..read] {
                 self.put(key, pointer)?;
                 other.remove(key);
                 from = Bound::Excluded(key);
@@ -133,11 +132,11 @@ impl Index {
         }
     }
 
-    // The first entries of a range, and how many they are: fewer than there are places only where the range has no others. A scan borrows
+    // The first entries of a range, and how many they are: fewer than there are places only where the range has no others. A range borrows
     // the index, so who changes what it reads takes some entries out before.
-    fn part(&self, range: (Bound<u64>, Bound<u64>)) -> ([Entry; 64], usize) {
-        let mut part = [Entry { key: 0, pointer: 0 }; 64];
-        let read = part.iter_mut().zip(self.scan(range)).map(|(place, entry)| *place = entry).count();
+    fn part(&self, range: (Bound<u64>, Bound<u64>)) -> ([(u64, u64); 64], usize) {
+        let mut part = [(0, 0); 64];
+        let read = part.iter_mut().zip(self.range(range)).map(|(place, entry)| *place = entry).count();
         (part, read)
     }
 
@@ -149,15 +148,13 @@ impl Index {
     /// # use blink::Index;
     /// let mut index: Index = (0..10).map(|key| (key, key)).collect();
     /// let upper = index.split_off(7)?;
-    /// assert_eq!((index.len(), upper.len(), upper.find(7)), (7, 3, Some(7)));
+    /// assert_eq!((index.len(), upper.len(), upper.get(7)), (7, 3, Some(7)));
     /// # Ok::<(), blink::Error>(())
     /// ```
     pub fn split_off(&mut self, key: u64) -> Result<Index, Error> {
-        let mut entries = with_room(self.count(key, u64::MAX))?;
-        entries.extend(self.scan(key..));
-        let upper = Index::from_sorted(self.fan(), &entries)?;
-        for entry in entries {
-            self.remove(entry.key);
+        let upper = Index::from_sorted(self.fan(), self.range(key..))?;
+        for (key, _) in &upper {
+            self.remove(key);
         }
         Ok(upper)
     }

@@ -1,13 +1,22 @@
 //! Ranges of keys, and their entries while others change them.
 
 use crate::memory::{resize, with_room};
-use crate::sys::{Handle, RawScanned, RawTaken, ScanCall, SnapshotCall};
-use crate::{Entry, Error};
+use crate::sys::{Handle, RawEntry, RawScanned, RawTaken, ScanCall, SnapshotCall};
+use crate::Error;
 use std::fmt;
 use std::ops::{Bound, RangeBounds};
 
-// The first and the last key of a range that has one.
+// The first and the last key of a range that has one. As `BTreeMap::range` does, it panics at a range whose start is above its end, and at
+// one that excludes one key from both sides.
+#[track_caller]
 pub(crate) fn first_and_last(range: &impl RangeBounds<u64>) -> Option<(u64, u64)> {
+    match (range.start_bound(), range.end_bound()) {
+        (Bound::Excluded(lo), Bound::Excluded(hi)) if lo == hi => panic!("range start and end are equal and excluded: {lo}"),
+        (Bound::Included(lo) | Bound::Excluded(lo), Bound::Included(hi) | Bound::Excluded(hi)) if lo > hi => {
+            panic!("range start is greater than range end: {lo} > {hi}")
+        }
+        _ => {}
+    }
     let lo = match range.start_bound() {
         Bound::Included(&key) => Some(key),
         Bound::Excluded(&key) => key.checked_add(1),
@@ -25,8 +34,8 @@ pub(crate) fn first_and_last(range: &impl RangeBounds<u64>) -> Option<(u64, u64)
 // to 256. The first part stands in an array, so that a short range asks for no memory.
 #[derive(Clone)]
 pub(crate) struct Parts {
-    first: [Entry; Parts::FIRST],
-    later: Vec<Entry>,
+    first: [RawEntry; Parts::FIRST],
+    later: Vec<RawEntry>,
     // How many entries have been asked for last; 0 before the first part.
     part: usize,
     // Where the entries of the last part stand that are still to be given.
@@ -37,18 +46,17 @@ pub(crate) struct Parts {
 impl Parts {
     const FIRST: usize = 16;
     const MAX: usize = 256;
-    const NO_ENTRY: Entry = Entry { key: 0, pointer: 0 };
 
     #[inline]
     pub(crate) fn new() -> Parts {
-        Parts { first: [Parts::NO_ENTRY; Parts::FIRST], later: Vec::new(), part: 0, next: 0, stop: 0 }
+        Parts { first: [RawEntry::NONE; Parts::FIRST], later: Vec::new(), part: 0, next: 0, stop: 0 }
     }
 
     /// The places for another part: a short range pays for few, and a long one makes few calls. Where memory for more is refused, the
     /// part is as short as the first.
-    pub(crate) fn places(&mut self) -> &mut [Entry] {
+    pub(crate) fn places(&mut self) -> &mut [RawEntry] {
         let part = Parts::MAX.min(2 * self.part);
-        if self.part == 0 || resize(&mut self.later, part, Parts::NO_ENTRY).is_err() {
+        if self.part == 0 || resize(&mut self.later, part, RawEntry::NONE).is_err() {
             self.part = Parts::FIRST;
             return &mut self.first;
         }
@@ -62,6 +70,11 @@ impl Parts {
         self.stop = count;
     }
 
+    /// How many entries are still to be given.
+    pub(crate) fn len(&self) -> usize {
+        self.stop - self.next
+    }
+
     #[inline]
     pub(crate) fn is_empty(&self) -> bool {
         self.next == self.stop
@@ -69,7 +82,7 @@ impl Parts {
 
     /// Takes the next entry, if there is one.
     #[inline]
-    pub(crate) fn take(&mut self) -> Option<Entry> {
+    pub(crate) fn take(&mut self) -> Option<(u64, u64)> {
         if self.is_empty() {
             return None;
         }
@@ -78,7 +91,7 @@ impl Parts {
     }
 
     /// Takes the last entry of the part, if there is one.
-    pub(crate) fn take_last(&mut self) -> Option<Entry> {
+    pub(crate) fn take_last(&mut self) -> Option<(u64, u64)> {
         if self.is_empty() {
             return None;
         }
@@ -87,9 +100,9 @@ impl Parts {
     }
 
     #[inline]
-    fn at(&self, place: usize) -> Option<Entry> {
+    fn at(&self, place: usize) -> Option<(u64, u64)> {
         let entry = if self.part == Parts::FIRST { self.first.get(place) } else { self.later.get(place) };
-        entry.copied()
+        entry.copied().map(<(u64, u64)>::from)
     }
 }
 
@@ -100,7 +113,7 @@ pub(crate) fn snapshot(handle: &mut Handle, call: SnapshotCall, range: &impl Ran
         return Ok(Some(Vec::new()));
     };
     let mut entries = Vec::new();
-    resize(&mut entries, 64, Parts::NO_ENTRY)?;
+    resize(&mut entries, 64, RawEntry::NONE)?;
     loop {
         let mut taken = RawTaken { taken: 0, there: 0 };
         // SAFETY: the handle is full and borrowed for writing; the array has that many elements.
@@ -118,7 +131,7 @@ pub(crate) fn snapshot(handle: &mut Handle, call: SnapshotCall, range: &impl Ran
             return Ok(Some(pairs));
         }
         // Too few places. The next snapshot has some more, since entries may be added meanwhile.
-        resize(&mut entries, there + there / 8, Parts::NO_ENTRY)?;
+        resize(&mut entries, there + there / 8, RawEntry::NONE)?;
     }
 }
 
@@ -127,7 +140,7 @@ pub(crate) fn snapshot(handle: &mut Handle, call: SnapshotCall, range: &impl Ran
 /// It reads the tree's leaves from the left, each at one time: what it says of a key is what the changes up to some time leave of
 /// it, and of a greater key those up to that time or a later one. It takes the entries out in parts: 16 first, which takes no memory,
 /// then twice as many each time, up to 256, as long as memory for them is given. A part is read when it is asked for.
-pub struct Range<'a> {
+pub struct LiveRange<'a> {
     handle: &'a mut Handle,
     scan: ScanCall,
     // The keys that are still to be asked for.
@@ -135,10 +148,10 @@ pub struct Range<'a> {
     parts: Parts,
 }
 
-impl<'a> Range<'a> {
+impl<'a> LiveRange<'a> {
     // The handle is full, and of what the call takes; no operation is under way.
-    pub(crate) fn new(handle: &'a mut Handle, scan: ScanCall, range: &impl RangeBounds<u64>) -> Range<'a> {
-        Range { handle, scan, range: first_and_last(range), parts: Parts::new() }
+    pub(crate) fn new(handle: &'a mut Handle, scan: ScanCall, range: &impl RangeBounds<u64>) -> LiveRange<'a> {
+        LiveRange { handle, scan, range: first_and_last(range), parts: Parts::new() }
     }
 
     fn refill(&mut self) {
@@ -154,23 +167,29 @@ impl<'a> Range<'a> {
     }
 }
 
-impl Iterator for Range<'_> {
-    type Item = Entry;
+impl Iterator for LiveRange<'_> {
+    type Item = (u64, u64);
 
     // Called once an entry, from another crate.
     #[inline]
-    fn next(&mut self) -> Option<Entry> {
+    fn next(&mut self) -> Option<(u64, u64)> {
         if self.parts.is_empty() {
             self.refill();
         }
         self.parts.take()
     }
+
+    // At least what was taken out is still to come, and no more once nothing is left to be asked for.
+    fn size_hint(&self) -> (usize, Option<usize>) {
+        let taken = self.parts.len();
+        (taken, self.range.is_none().then_some(taken))
+    }
 }
 
-impl std::iter::FusedIterator for Range<'_> {}
+impl std::iter::FusedIterator for LiveRange<'_> {}
 
-impl fmt::Debug for Range<'_> {
+impl fmt::Debug for LiveRange<'_> {
     fn fmt(&self, f: &mut fmt::Formatter<'_>) -> fmt::Result {
-        f.debug_struct("Range").field("range", &self.range).finish_non_exhaustive()
+        f.debug_struct("LiveRange").field("range", &self.range).finish_non_exhaustive()
     }
 }

@@ -2,8 +2,8 @@
 
 use crate::memory::resize;
 use crate::range::{first_and_last, Parts};
-use crate::sys::{self, Code, Handle, RawAnswer};
-use crate::{Answer, Entry, Error};
+use crate::sys::{self, Code, Handle, RawAnswer, RawEntry};
+use crate::{Answer, Error};
 use std::cell::UnsafeCell;
 use std::fmt;
 use std::marker::PhantomData;
@@ -16,8 +16,8 @@ pub(crate) struct Calls {
     scan: PartCall,
     page: PartCall,
     page_back: PartCall,
-    first: unsafe extern "C" fn(*mut Handle, *mut Entry) -> bool,
-    last: unsafe extern "C" fn(*mut Handle, *mut Entry) -> bool,
+    first: unsafe extern "C" fn(*mut Handle, *mut RawEntry) -> bool,
+    last: unsafe extern "C" fn(*mut Handle, *mut RawEntry) -> bool,
     next: NearCall,
     prev: NearCall,
     at_least: NearCall,
@@ -29,9 +29,9 @@ pub(crate) struct Calls {
     free: unsafe extern "C" fn(Handle),
 }
 
-type NearCall = unsafe extern "C" fn(*mut Handle, u64, *mut Entry) -> bool;
+type NearCall = unsafe extern "C" fn(*mut Handle, u64, *mut RawEntry) -> bool;
 
-type PartCall = unsafe extern "C" fn(*mut Handle, u64, u64, *mut Entry, usize, *mut usize) -> usize;
+type PartCall = unsafe extern "C" fn(*mut Handle, u64, u64, *mut RawEntry, usize, *mut usize) -> usize;
 
 /// What a handle is of.
 pub(crate) trait Kind {
@@ -101,23 +101,23 @@ impl<K: Kind> Read<K> {
         self.handle.get()
     }
 
-    pub(crate) fn find(&self, key: u64) -> Option<u64> {
+    pub(crate) fn get(&self, key: u64) -> Option<u64> {
         let mut pointer = 0;
         // SAFETY: the handle is full, and this thread alone uses it, since a `Read` isn't `Sync`.
         unsafe { (K::CALLS.find)(self.handle(), key, &mut pointer) }.then_some(pointer)
     }
 
-    pub(crate) fn find_many(&self, keys: &[u64]) -> Vec<Option<u64>> {
+    pub(crate) fn get_many(&self, keys: &[u64]) -> Vec<Option<u64>> {
         let mut given = vec![RawAnswer::NONE; keys.len()];
-        // SAFETY: as in `find`; both arrays have that many elements.
+        // SAFETY: as in `get`; both arrays have that many elements.
         let code = unsafe { (K::CALLS.find_many)(self.handle(), keys.as_ptr(), keys.len(), given.as_mut_ptr(), given.len()) };
         // The arrays are equally long, and nothing else is refused.
         assert_eq!(code, 0);
         given.into_iter().map(|raw| Answer::of(raw).pointer()).collect()
     }
 
-    pub(crate) fn scan(&self, range: impl RangeBounds<u64>) -> Scan<'_> {
-        Scan {
+    pub(crate) fn range(&self, range: impl RangeBounds<u64>) -> Range<'_> {
+        Range {
             handle: &self.handle,
             page: K::CALLS.page,
             page_back: K::CALLS.page_back,
@@ -127,57 +127,58 @@ impl<K: Kind> Read<K> {
         }
     }
 
-    pub(crate) fn count(&self, lo: u64, hi: u64) -> usize {
+    pub(crate) fn count(&self, range: impl RangeBounds<u64>) -> usize {
+        let Some((lo, hi)) = first_and_last(&range) else { return 0 };
         let mut fitted = 0;
         let mut none = [];
-        // SAFETY: as in `find`; the array has no element.
+        // SAFETY: as in `get`; the array has no element.
         unsafe { (K::CALLS.scan)(self.handle(), lo, hi, none.as_mut_ptr(), 0, &mut fitted) }
     }
 
-    pub(crate) fn first(&self) -> Option<Entry> {
-        // SAFETY: as in `find`.
+    pub(crate) fn first(&self) -> Option<(u64, u64)> {
+        // SAFETY: as in `get`.
         found(|entry| unsafe { (K::CALLS.first)(self.handle(), entry) })
     }
 
-    pub(crate) fn last(&self) -> Option<Entry> {
-        // SAFETY: as in `find`.
+    pub(crate) fn last(&self) -> Option<(u64, u64)> {
+        // SAFETY: as in `get`.
         found(|entry| unsafe { (K::CALLS.last)(self.handle(), entry) })
     }
 
-    pub(crate) fn next(&self, key: u64) -> Option<Entry> {
+    pub(crate) fn next(&self, key: u64) -> Option<(u64, u64)> {
         self.near(K::CALLS.next, key)
     }
 
-    pub(crate) fn prev(&self, key: u64) -> Option<Entry> {
+    pub(crate) fn prev(&self, key: u64) -> Option<(u64, u64)> {
         self.near(K::CALLS.prev, key)
     }
 
-    pub(crate) fn at_least(&self, key: u64) -> Option<Entry> {
+    pub(crate) fn at_least(&self, key: u64) -> Option<(u64, u64)> {
         self.near(K::CALLS.at_least, key)
     }
 
-    pub(crate) fn at_most(&self, key: u64) -> Option<Entry> {
+    pub(crate) fn at_most(&self, key: u64) -> Option<(u64, u64)> {
         self.near(K::CALLS.at_most, key)
     }
 
     // The entry that a call finds on one side of a key; the call is of this kind.
-    fn near(&self, call: NearCall, key: u64) -> Option<Entry> {
-        // SAFETY: as in `find`.
+    fn near(&self, call: NearCall, key: u64) -> Option<(u64, u64)> {
+        // SAFETY: as in `get`.
         found(|entry| unsafe { call(self.handle(), key, entry) })
     }
 
     pub(crate) fn len(&self) -> usize {
-        // SAFETY: as in `find`.
+        // SAFETY: as in `get`.
         unsafe { (K::CALLS.len)(self.handle()) }
     }
 
     pub(crate) fn pages(&self) -> u32 {
-        // SAFETY: as in `find`.
+        // SAFETY: as in `get`.
         unsafe { (K::CALLS.pages)(self.handle()) }
     }
 
     pub(crate) fn fan(&self) -> u8 {
-        // SAFETY: as in `find`.
+        // SAFETY: as in `get`.
         unsafe { (K::CALLS.fan)(self.handle()) }
     }
 
@@ -185,7 +186,7 @@ impl<K: Kind> Read<K> {
         let mut text = Vec::new();
         loop {
             let mut bytes = 0;
-            // SAFETY: as in `find`; the array has that many elements.
+            // SAFETY: as in `get`; the array has that many elements.
             Error::check(unsafe { (K::CALLS.dump)(self.handle(), text.as_mut_ptr(), text.len(), &mut bytes) })?;
             if bytes <= text.len() {
                 return Ok(String::from_utf8(text).expect("a dump is ASCII"));
@@ -206,16 +207,16 @@ impl<K: Kind> Drop for Read<K> {
 }
 
 // The entry that a call gives, if it gives one.
-fn found(call: impl FnOnce(*mut Entry) -> bool) -> Option<Entry> {
-    let mut entry = Entry { key: 0, pointer: 0 };
-    call(&mut entry).then_some(entry)
+fn found(call: impl FnOnce(*mut RawEntry) -> bool) -> Option<(u64, u64)> {
+    let mut entry = RawEntry::NONE;
+    call(&mut entry).then(|| entry.into())
 }
 
 /// The entries of an index whose keys are in a range, in ascending order, and from its other end in descending order. From each end it
 /// takes them out of the index in parts: 16 first, which takes no memory, then twice as many each time, up to 256, as long as memory for
 /// them is given.
 #[derive(Clone)]
-pub struct Scan<'a> {
+pub struct Range<'a> {
     // It is full, and of the kind that the calls take.
     handle: &'a UnsafeCell<Handle>,
     page: PartCall,
@@ -227,7 +228,7 @@ pub struct Scan<'a> {
     back: Option<Parts>,
 }
 
-impl Scan<'_> {
+impl Range<'_> {
     // Takes the next entries out of the index.
     fn refill(&mut self) {
         let Some((lo, hi)) = self.range else { return };
@@ -257,8 +258,8 @@ impl Scan<'_> {
 }
 
 // The entries of another part, from a key on, and how many were asked for. The handle is full, and of the kind that the call takes; this
-// thread alone uses it, since a `Scan` isn't `Send`.
-unsafe fn part<'a>(handle: &UnsafeCell<Handle>, call: PartCall, from: u64, parts: &'a mut Parts) -> (usize, &'a [Entry]) {
+// thread alone uses it, since a `Range` isn't `Send`.
+unsafe fn part<'a>(handle: &UnsafeCell<Handle>, call: PartCall, from: u64, parts: &'a mut Parts) -> (usize, &'a [RawEntry]) {
     let places = parts.places();
     let asked = places.len();
     let mut fitted = 0;
@@ -267,29 +268,35 @@ unsafe fn part<'a>(handle: &UnsafeCell<Handle>, call: PartCall, from: u64, parts
     (asked, &places[..there])
 }
 
-impl fmt::Debug for Scan<'_> {
+impl fmt::Debug for Range<'_> {
     fn fmt(&self, f: &mut fmt::Formatter<'_>) -> fmt::Result {
-        f.debug_struct("Scan").field("range", &self.range).finish_non_exhaustive()
+        f.debug_struct("Range").field("range", &self.range).finish_non_exhaustive()
     }
 }
 
-impl Iterator for Scan<'_> {
-    type Item = Entry;
+impl Iterator for Range<'_> {
+    type Item = (u64, u64);
 
     // Called once an entry, from another crate.
     #[inline]
-    fn next(&mut self) -> Option<Entry> {
+    fn next(&mut self) -> Option<(u64, u64)> {
         if self.front.is_empty() {
             self.refill();
         }
         // What the range's end has taken out and not given comes after all others.
         self.front.take().or_else(|| self.back.as_mut()?.take_last())
     }
+
+    // At least what was taken out of the index is still to come, and no more once nothing is left to be asked for.
+    fn size_hint(&self) -> (usize, Option<usize>) {
+        let taken = self.front.len() + self.back.as_ref().map_or(0, Parts::len);
+        (taken, self.range.is_none().then_some(taken))
+    }
 }
 
-impl DoubleEndedIterator for Scan<'_> {
+impl DoubleEndedIterator for Range<'_> {
     #[inline]
-    fn next_back(&mut self) -> Option<Entry> {
+    fn next_back(&mut self) -> Option<(u64, u64)> {
         if self.back.as_ref().map_or(true, Parts::is_empty) {
             self.refill_back();
         }
@@ -297,4 +304,4 @@ impl DoubleEndedIterator for Scan<'_> {
     }
 }
 
-impl std::iter::FusedIterator for Scan<'_> {}
+impl std::iter::FusedIterator for Range<'_> {}

@@ -2,7 +2,7 @@
 
 use crate::read::{OfReader, Read};
 use crate::sys::{self, Code, Handle};
-use crate::{Entry, Error, Index, Scan};
+use crate::{Error, Index, Range};
 use std::ops::RangeBounds;
 
 /// Reads an index that other threads read at the same time. [`Index::share`] gives the first reader of an index, and
@@ -18,8 +18,8 @@ use std::ops::RangeBounds;
 ///     for thread in 0..8 {
 ///         let reader = reader.join().unwrap();
 ///         scope.spawn(move || {
-///             assert_eq!(reader.find(thread), Some(10 * thread));
-///             assert_eq!(reader.scan(..).map(|entry| entry.pointer).sum::<u64>(), 4_995_000);
+///             assert_eq!(reader.get(thread), Some(10 * thread));
+///             assert_eq!(reader.iter().map(|(_, pointer)| pointer).sum::<u64>(), 4_995_000);
 ///         });
 ///     }
 /// });
@@ -66,11 +66,11 @@ impl Reader {
     /// let one = index.share().map_err(|(_index, error)| error)?;
     /// let other = one.join()?;
     /// let one = one.unshare().unwrap_err();
-    /// assert_eq!(one.find(5), Some(50));
+    /// assert_eq!(one.get(5), Some(50));
     /// drop(one);
     /// let mut index = other.unshare().unwrap();
     /// index.replace(5, 51);
-    /// assert_eq!(index.find(5), Some(51));
+    /// assert_eq!(index.get(5), Some(51));
     /// # Ok::<(), blink::Error>(())
     /// ```
     pub fn unshare(self) -> Result<Index, Reader> {
@@ -95,53 +95,64 @@ impl Reader {
     }
 
     /// Returns the record pointer of a key.
-    pub fn find(&self, key: u64) -> Option<u64> {
-        self.read.find(key)
+    pub fn get(&self, key: u64) -> Option<u64> {
+        self.read.get(key)
     }
 
     /// Returns the record pointer of each key. Where memory for them is refused the process ends, as by any `Vec`.
-    pub fn find_many(&self, keys: &[u64]) -> Vec<Option<u64>> {
-        self.read.find_many(keys)
+    pub fn get_many(&self, keys: &[u64]) -> Vec<Option<u64>> {
+        self.read.get_many(keys)
     }
 
     /// Returns the entries whose keys are in the range, in ascending order; from its end, as by `rev`, in descending order.
-    pub fn scan(&self, range: impl RangeBounds<u64>) -> Scan<'_> {
-        self.read.scan(range)
+    /// As in a `BTreeMap`, a range whose start is above its end panics.
+    pub fn range(&self, range: impl RangeBounds<u64>) -> Range<'_> {
+        self.read.range(range)
     }
 
-    /// Returns the number of entries whose keys are in the range from `lo` to `hi`, both included.
-    pub fn count(&self, lo: u64, hi: u64) -> usize {
-        self.read.count(lo, hi)
+    /// Returns all entries, in ascending order of their keys; from the end, as by `rev`, in descending order.
+    pub fn iter(&self) -> Range<'_> {
+        self.read.range(..)
+    }
+
+    /// Returns the number of entries whose keys are in the range. It walks the range's leaves.
+    pub fn count(&self, range: impl RangeBounds<u64>) -> usize {
+        self.read.count(range)
     }
 
     /// Returns the entry with the least key, if there is one.
-    pub fn first(&self) -> Option<Entry> {
+    pub fn first(&self) -> Option<(u64, u64)> {
         self.read.first()
     }
 
     /// Returns the entry with the greatest key, if there is one.
-    pub fn last(&self) -> Option<Entry> {
+    pub fn last(&self) -> Option<(u64, u64)> {
         self.read.last()
     }
 
     /// Returns the entry with the least key above this one, if there is one.
-    pub fn next(&self, key: u64) -> Option<Entry> {
+    pub fn next(&self, key: u64) -> Option<(u64, u64)> {
         self.read.next(key)
     }
 
     /// Returns the entry with the greatest key below this one, if there is one.
-    pub fn prev(&self, key: u64) -> Option<Entry> {
+    pub fn prev(&self, key: u64) -> Option<(u64, u64)> {
         self.read.prev(key)
     }
 
     /// Returns the entry with the least key from this one on, if there is one.
-    pub fn at_least(&self, key: u64) -> Option<Entry> {
+    pub fn at_least(&self, key: u64) -> Option<(u64, u64)> {
         self.read.at_least(key)
     }
 
     /// Returns the entry with the greatest key up to this one, if there is one.
-    pub fn at_most(&self, key: u64) -> Option<Entry> {
+    pub fn at_most(&self, key: u64) -> Option<(u64, u64)> {
         self.read.at_most(key)
+    }
+
+    /// Whether a key is there.
+    pub fn contains(&self, key: u64) -> bool {
+        self.get(key).is_some()
     }
 
     /// Returns the number of entries. It walks all leaves.

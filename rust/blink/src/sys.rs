@@ -29,6 +29,29 @@ impl Handle {
 
 #[repr(C)]
 #[derive(Clone, Copy)]
+pub(crate) struct RawEntry {
+    pub(crate) key: u64,
+    pub(crate) pointer: u64,
+}
+
+impl RawEntry {
+    pub(crate) const NONE: RawEntry = RawEntry { key: 0, pointer: 0 };
+}
+
+impl From<(u64, u64)> for RawEntry {
+    fn from((key, pointer): (u64, u64)) -> RawEntry {
+        RawEntry { key, pointer }
+    }
+}
+
+impl From<RawEntry> for (u64, u64) {
+    fn from(entry: RawEntry) -> (u64, u64) {
+        (entry.key, entry.pointer)
+    }
+}
+
+#[repr(C)]
+#[derive(Clone, Copy)]
 pub(crate) struct RawOperation {
     pub(crate) kind: u64,
     pub(crate) key: u64,
@@ -63,11 +86,11 @@ pub(crate) struct RawTaken {
 }
 
 /// A snapshot by a pass or a session.
-pub(crate) type SnapshotCall = unsafe extern "C" fn(*mut Handle, u64, u64, u32, *mut crate::Entry, usize, *mut RawTaken) -> Code;
+pub(crate) type SnapshotCall = unsafe extern "C" fn(*mut Handle, u64, u64, u32, *mut RawEntry, usize, *mut RawTaken) -> Code;
 
 /// A scan by a pass or a session.
 pub(crate) type ScanCall =
-    unsafe extern "C" fn(*mut Handle, u64, u64, *mut crate::Entry, usize, *mut RawScanned) -> Code;
+    unsafe extern "C" fn(*mut Handle, u64, u64, *mut RawEntry, usize, *mut RawScanned) -> Code;
 
 /// The code of entries whose keys don't ascend.
 pub(crate) const NOT_ASCENDING: Code = 42;
@@ -85,10 +108,10 @@ pub(crate) const PENDING: Code = 90;
 
 extern "C" {
     pub(crate) fn blink_index_new(fan: u8, out: *mut Handle) -> Code;
-    pub(crate) fn blink_index_from_entries(fan: u8, entries: *const crate::Entry, count: usize, out: *mut Handle) -> Code;
+    pub(crate) fn blink_index_from_entries(fan: u8, entries: *const RawEntry, count: usize, out: *mut Handle) -> Code;
     pub(crate) fn blink_index_from_sorted(
         fan: u8,
-        entries: *const crate::Entry,
+        entries: *const RawEntry,
         count: usize,
         out: *mut Handle,
         bad_place: *mut usize,
@@ -106,17 +129,17 @@ extern "C" {
         answer: *mut RawAnswer,
     );
     pub(crate) fn blink_index_delete_exact(index: *mut Handle, key: u64, expected: u64, answer: *mut RawAnswer);
-    pub(crate) fn blink_index_first(index: *mut Handle, entry: *mut crate::Entry) -> bool;
-    pub(crate) fn blink_index_last(index: *mut Handle, entry: *mut crate::Entry) -> bool;
-    pub(crate) fn blink_index_next(index: *mut Handle, key: u64, entry: *mut crate::Entry) -> bool;
-    pub(crate) fn blink_index_prev(index: *mut Handle, key: u64, entry: *mut crate::Entry) -> bool;
-    pub(crate) fn blink_index_at_least(index: *mut Handle, key: u64, entry: *mut crate::Entry) -> bool;
-    pub(crate) fn blink_index_at_most(index: *mut Handle, key: u64, entry: *mut crate::Entry) -> bool;
+    pub(crate) fn blink_index_first(index: *mut Handle, entry: *mut RawEntry) -> bool;
+    pub(crate) fn blink_index_last(index: *mut Handle, entry: *mut RawEntry) -> bool;
+    pub(crate) fn blink_index_next(index: *mut Handle, key: u64, entry: *mut RawEntry) -> bool;
+    pub(crate) fn blink_index_prev(index: *mut Handle, key: u64, entry: *mut RawEntry) -> bool;
+    pub(crate) fn blink_index_at_least(index: *mut Handle, key: u64, entry: *mut RawEntry) -> bool;
+    pub(crate) fn blink_index_at_most(index: *mut Handle, key: u64, entry: *mut RawEntry) -> bool;
     pub(crate) fn blink_index_page_back(
         index: *mut Handle,
         hi: u64,
         n: u64,
-        entries: *mut crate::Entry,
+        entries: *mut RawEntry,
         places: usize,
         fitted: *mut usize,
     ) -> usize;
@@ -147,7 +170,7 @@ extern "C" {
         index: *mut Handle,
         lo: u64,
         n: u64,
-        entries: *mut crate::Entry,
+        entries: *mut RawEntry,
         places: usize,
         fitted: *mut usize,
     ) -> usize;
@@ -155,7 +178,7 @@ extern "C" {
         index: *mut Handle,
         lo: u64,
         hi: u64,
-        entries: *mut crate::Entry,
+        entries: *mut RawEntry,
         places: usize,
         fitted: *mut usize,
     ) -> usize;
@@ -180,7 +203,7 @@ extern "C" {
         reader: *mut Handle,
         lo: u64,
         hi: u64,
-        entries: *mut crate::Entry,
+        entries: *mut RawEntry,
         places: usize,
         fitted: *mut usize,
     ) -> usize;
@@ -188,21 +211,21 @@ extern "C" {
         reader: *mut Handle,
         lo: u64,
         n: u64,
-        entries: *mut crate::Entry,
+        entries: *mut RawEntry,
         places: usize,
         fitted: *mut usize,
     ) -> usize;
-    pub(crate) fn blink_reader_first(reader: *mut Handle, entry: *mut crate::Entry) -> bool;
-    pub(crate) fn blink_reader_last(reader: *mut Handle, entry: *mut crate::Entry) -> bool;
-    pub(crate) fn blink_reader_next(reader: *mut Handle, key: u64, entry: *mut crate::Entry) -> bool;
-    pub(crate) fn blink_reader_prev(reader: *mut Handle, key: u64, entry: *mut crate::Entry) -> bool;
-    pub(crate) fn blink_reader_at_least(reader: *mut Handle, key: u64, entry: *mut crate::Entry) -> bool;
-    pub(crate) fn blink_reader_at_most(reader: *mut Handle, key: u64, entry: *mut crate::Entry) -> bool;
+    pub(crate) fn blink_reader_first(reader: *mut Handle, entry: *mut RawEntry) -> bool;
+    pub(crate) fn blink_reader_last(reader: *mut Handle, entry: *mut RawEntry) -> bool;
+    pub(crate) fn blink_reader_next(reader: *mut Handle, key: u64, entry: *mut RawEntry) -> bool;
+    pub(crate) fn blink_reader_prev(reader: *mut Handle, key: u64, entry: *mut RawEntry) -> bool;
+    pub(crate) fn blink_reader_at_least(reader: *mut Handle, key: u64, entry: *mut RawEntry) -> bool;
+    pub(crate) fn blink_reader_at_most(reader: *mut Handle, key: u64, entry: *mut RawEntry) -> bool;
     pub(crate) fn blink_reader_page_back(
         reader: *mut Handle,
         hi: u64,
         n: u64,
-        entries: *mut crate::Entry,
+        entries: *mut RawEntry,
         places: usize,
         fitted: *mut usize,
     ) -> usize;
@@ -239,7 +262,7 @@ extern "C" {
         pass: *mut Handle,
         lo: u64,
         hi: u64,
-        entries: *mut crate::Entry,
+        entries: *mut RawEntry,
         places: usize,
         scanned: *mut RawScanned,
     ) -> Code;
@@ -248,7 +271,7 @@ extern "C" {
         lo: u64,
         hi: u64,
         tries: u32,
-        entries: *mut crate::Entry,
+        entries: *mut RawEntry,
         places: usize,
         taken: *mut RawTaken,
     ) -> Code;
@@ -287,7 +310,7 @@ extern "C" {
         session: *mut Handle,
         lo: u64,
         hi: u64,
-        entries: *mut crate::Entry,
+        entries: *mut RawEntry,
         places: usize,
         scanned: *mut RawScanned,
     ) -> Code;
@@ -296,7 +319,7 @@ extern "C" {
         lo: u64,
         hi: u64,
         tries: u32,
-        entries: *mut crate::Entry,
+        entries: *mut RawEntry,
         places: usize,
         taken: *mut RawTaken,
     ) -> Code;

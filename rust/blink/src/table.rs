@@ -1,6 +1,6 @@
 //! The table and its passes.
 
-use crate::range::{snapshot, Range};
+use crate::range::{snapshot, LiveRange};
 use crate::sys::{self, Code, Handle, RawAnswer};
 use crate::{Answer, Error, Index};
 use std::cell::UnsafeCell;
@@ -29,7 +29,7 @@ use std::thread;
 /// });
 /// let index = table.close(passes)?;
 /// assert_eq!(index.len(), 2000);
-/// assert_eq!(index.find(7), Some(70));
+/// assert_eq!(index.get(7), Some(70));
 /// # Ok::<(), blink::Error>(())
 /// ```
 pub struct Table {
@@ -151,7 +151,7 @@ impl fmt::Debug for Table {
 /// An operation that changes the tree waits for a page that another pass has just then, and yields its thread meanwhile.
 /// [`Pass::begin_insert`] and its like wait for nobody.
 pub struct Pass {
-    // A find takes the handle by a pointer for writing.
+    // A look-up takes the handle by a pointer for writing.
     handle: UnsafeCell<Handle>,
 }
 
@@ -162,32 +162,33 @@ unsafe impl Send for Pass {}
 pub(crate) const TRIES: u32 = 100;
 
 impl Pass {
-    /// Looks a key of the pass up: [`Answer::Found`] or [`Answer::Absent`], whatever other passes do.
+    /// Looks a key of the pass up, whatever other passes do. A key of another pass is refused with [`Error::NotYours`]:
+    /// [`Pass::glance`] looks at any.
     ///
     /// ```
-    /// use blink::{Answer, Entry, Error, Index, Table};
+    /// use blink::{Error, Index, Table};
     ///
-    /// let index = Index::from_entries(8, &[(1, 10), (2, 20)].map(Entry::from))?;
+    /// let index = Index::from_entries(8, [(1, 10), (2, 20)])?;
     /// let mut table = Table::open(&index, 0, 0)?;
     /// let mut pass = table.deal(&[1, 3], 0, 0)?;
-    /// assert_eq!(pass.find(1), Ok(Answer::Found(10)));
-    /// assert_eq!(pass.find(3), Ok(Answer::Absent));
-    /// assert_eq!(pass.find(2), Err(Error::NotYours));
+    /// assert_eq!(pass.get(1), Ok(Some(10)));
+    /// assert_eq!(pass.get(3), Ok(None));
+    /// assert_eq!(pass.get(2), Err(Error::NotYours));
     /// assert_eq!(pass.glance(2), Some(20));
     /// # Ok::<(), Error>(())
     /// ```
-    pub fn find(&mut self, key: u64) -> Result<Answer, Error> {
+    pub fn get(&mut self, key: u64) -> Result<Option<u64>, Error> {
         let mut answer = RawAnswer::NONE;
         // SAFETY: the handle is full and borrowed for writing.
         Error::check(unsafe { sys::blink_pass_find(self.handle.get_mut(), key, &mut answer) })?;
-        Ok(Answer::of(answer))
+        Ok(Answer::of(answer).pointer())
     }
 
     /// Looks any key up, after the changes that the pass has seen by the end of the call. A pass never un-sees a change that it
     /// has seen, for all keys at once. How much new it sees isn't promised.
     pub fn glance(&mut self, key: u64) -> Option<u64> {
         let mut answer = RawAnswer::NONE;
-        // SAFETY: as in `find`.
+        // SAFETY: as in `get`.
         let code = unsafe { sys::blink_pass_glance(self.handle.get_mut(), key, &mut answer) };
         // The pass has no operation under way, and wasn't given back, by its type; nothing else is refused.
         assert_eq!(code, 0);
@@ -196,32 +197,32 @@ impl Pass {
 
     /// Returns the entries whose keys are in the range, whosever they are, in ascending order, while other passes change the tree. Of
     /// the pass's own keys these are exactly its entries. A key that is there throughout is among them, and one that isn't there
-    /// throughout isn't; [`Range`] says more.
+    /// throughout isn't; [`LiveRange`] says more. As in a `BTreeMap`, a range whose start is above its end panics.
     ///
     /// ```
-    /// use blink::{Entry, Index, Table};
+    /// use blink::{Index, Table};
     ///
-    /// let index = Index::from_entries(8, &[(1, 10), (3, 30), (5, 50)].map(Entry::from))?;
+    /// let index = Index::from_entries(8, [(1, 10), (3, 30), (5, 50)])?;
     /// let mut table = Table::open(&index, 1, 0)?;
     /// let mut pass = table.deal(&[4], 1, 0)?;
     /// pass.insert(4, 40)?;
-    /// assert_eq!(pass.scan(3..).collect::<Vec<_>>(), [(3, 30), (4, 40), (5, 50)].map(Entry::from));
+    /// assert_eq!(pass.range(3..).collect::<Vec<_>>(), [(3, 30), (4, 40), (5, 50)]);
     /// # Ok::<(), blink::Error>(())
     /// ```
-    pub fn scan(&mut self, range: impl RangeBounds<u64>) -> Range<'_> {
-        Range::new(self.handle.get_mut(), sys::blink_pass_scan, &range)
+    pub fn range(&mut self, range: impl RangeBounds<u64>) -> LiveRange<'_> {
+        LiveRange::new(self.handle.get_mut(), sys::blink_pass_scan, &range)
     }
 
     /// Returns the entries whose keys are in the range, whosever they are, in ascending order, as all of them were at one time; `None`, if some leaf of
-    /// the range was changed at each of so many tries. Then try again, or fall back on [`Pass::scan`], which always gives entries, but not
+    /// the range was changed at each of so many tries. Then try again, or fall back on [`Pass::range`], which always gives entries, but not
     /// those of one time. It waits for nobody.
     ///
     /// It is refused with an error only if memory is.
     ///
     /// ```
-    /// use blink::{Entry, Index, Table};
+    /// use blink::{Index, Table};
     ///
-    /// let index = Index::from_entries(8, &[(1, 10), (3, 30), (5, 50)].map(Entry::from))?;
+    /// let index = Index::from_entries(8, [(1, 10), (3, 30), (5, 50)])?;
     /// let mut table = Table::open(&index, 1, 0)?;
     /// let mut pass = table.deal(&[4], 1, 0)?;
     /// pass.insert(4, 40)?;
@@ -262,8 +263,8 @@ impl Pass {
     /// first.insert(5, 50)?;
     /// assert_eq!(first.transfer(&mut second, &[5, 6]), Err(Error::KeyNotYours(6)));
     /// first.transfer(&mut second, &[5])?;
-    /// assert_eq!(first.find(5), Err(Error::NotYours));
-    /// assert_eq!(second.delete(5), Ok(Answer::Removed(50)));
+    /// assert_eq!(first.get(5), Err(Error::NotYours));
+    /// assert_eq!(second.remove(5), Ok(Answer::Removed(50)));
     /// # Ok::<(), Error>(())
     /// ```
     pub fn transfer(&mut self, other: &mut Pass, keys: &[u64]) -> Result<(), Error> {
@@ -281,62 +282,60 @@ impl Pass {
 
     /// Maps a key of the pass to a pointer, unless the key is there: [`Answer::Inserted`] or [`Answer::Exists`].
     pub fn insert(&mut self, key: u64, pointer: u64) -> Result<Answer, Error> {
-        // SAFETY: as in `find`.
+        // SAFETY: as in `get`.
         self.ended(|handle| unsafe { sys::blink_pass_begin_insert(handle, key, pointer) })
     }
 
     /// Takes a key of the pass away, if it is there: [`Answer::Removed`] or [`Answer::Absent`].
-    pub fn delete(&mut self, key: u64) -> Result<Answer, Error> {
-        // SAFETY: as in `find`.
+    pub fn remove(&mut self, key: u64) -> Result<Answer, Error> {
+        // SAFETY: as in `get`.
         self.ended(|handle| unsafe { sys::blink_pass_begin_delete(handle, key) })
     }
 
     /// Maps a key of the pass to a pointer, if the key is there: [`Answer::Replaced`] or [`Answer::Absent`].
     pub fn replace(&mut self, key: u64, pointer: u64) -> Result<Answer, Error> {
-        // SAFETY: as in `find`.
+        // SAFETY: as in `get`.
         self.ended(|handle| unsafe { sys::blink_pass_begin_replace(handle, key, pointer) })
     }
 
-    /// Maps a key of the pass to `new`, if it maps to `expected`, and returns `expected`. Otherwise it returns what the key maps to,
-    /// or none if it isn't there, and the key stays as it was. The outer error is a refusal, as of [`Pass::replace`].
+    /// Maps a key of the pass to `new`, if it maps to `expected`: [`Answer::Replaced`] with `expected`. Else the key stays as it was:
+    /// [`Answer::Exists`] with what it maps to, or [`Answer::Absent`]. It is refused as [`Pass::replace`] is.
     ///
     /// ```
-    /// use blink::{Entry, Error, Index, Table};
+    /// use blink::{Answer, Error, Index, Table};
     ///
-    /// let index = Index::from_entries(8, &[(1, 10)].map(Entry::from))?;
+    /// let index = Index::from_entries(8, [(1, 10)])?;
     /// let mut table = Table::open(&index, 0, 3)?;
     /// let mut pass = table.deal(&[1, 2], 0, 3)?;
-    /// assert_eq!(pass.compare_exchange(1, 10, 11)?, Ok(10));
-    /// assert_eq!(pass.compare_exchange(1, 10, 12)?, Err(Some(11)));
-    /// assert_eq!(pass.compare_exchange(2, 10, 12)?, Err(None));
+    /// assert_eq!(pass.compare_exchange(1, 10, 11)?, Answer::Replaced(10));
+    /// assert_eq!(pass.compare_exchange(1, 10, 12)?, Answer::Exists(11));
+    /// assert_eq!(pass.compare_exchange(2, 10, 12)?, Answer::Absent);
     /// assert_eq!(pass.compare_exchange(1, 11, 12), Err(Error::Spent));
     /// # Ok::<(), Error>(())
     /// ```
-    pub fn compare_exchange(&mut self, key: u64, expected: u64, new: u64) -> Result<Result<u64, Option<u64>>, Error> {
-        // SAFETY: as in `find`.
-        let answer = self.ended(|handle| unsafe { sys::blink_pass_begin_exchange(handle, key, expected, new) })?;
-        Ok(answer.exchanged())
+    pub fn compare_exchange(&mut self, key: u64, expected: u64, new: u64) -> Result<Answer, Error> {
+        // SAFETY: as in `get`.
+        self.ended(|handle| unsafe { sys::blink_pass_begin_exchange(handle, key, expected, new) })
     }
 
-    /// Takes a key of the pass away, if it maps to `expected`, and returns `expected`. Otherwise it returns what the key maps to,
-    /// or none if it isn't there, and the key stays as it was. The outer error is a refusal, as of [`Pass::delete`].
+    /// Takes a key of the pass away, if it maps to `expected`: [`Answer::Removed`] with `expected`. Else the key stays as it was:
+    /// [`Answer::Exists`] with what it maps to, or [`Answer::Absent`]. It is refused as [`Pass::remove`] is.
     ///
     /// ```
-    /// use blink::{Entry, Error, Index, Table};
+    /// use blink::{Answer, Error, Index, Table};
     ///
-    /// let index = Index::from_entries(8, &[(1, 10)].map(Entry::from))?;
+    /// let index = Index::from_entries(8, [(1, 10)])?;
     /// let mut table = Table::open(&index, 0, 3)?;
     /// let mut pass = table.deal(&[1, 2], 0, 3)?;
-    /// assert_eq!(pass.compare_remove(1, 11)?, Err(Some(10)));
-    /// assert_eq!(pass.compare_remove(1, 10)?, Ok(10));
-    /// assert_eq!(pass.compare_remove(1, 10)?, Err(None));
+    /// assert_eq!(pass.compare_remove(1, 11)?, Answer::Exists(10));
+    /// assert_eq!(pass.compare_remove(1, 10)?, Answer::Removed(10));
+    /// assert_eq!(pass.compare_remove(1, 10)?, Answer::Absent);
     /// assert_eq!(pass.compare_remove(2, 20), Err(Error::Spent));
     /// # Ok::<(), Error>(())
     /// ```
-    pub fn compare_remove(&mut self, key: u64, expected: u64) -> Result<Result<u64, Option<u64>>, Error> {
-        // SAFETY: as in `find`.
-        let answer = self.ended(|handle| unsafe { sys::blink_pass_begin_delete_exact(handle, key, expected) })?;
-        Ok(answer.exchanged())
+    pub fn compare_remove(&mut self, key: u64, expected: u64) -> Result<Answer, Error> {
+        // SAFETY: as in `get`.
+        self.ended(|handle| unsafe { sys::blink_pass_begin_delete_exact(handle, key, expected) })
     }
 
     // Begins an operation, and takes its steps to the end.
@@ -344,7 +343,7 @@ impl Pass {
         let handle = self.handle.get_mut();
         Error::check(begin(handle))?;
         let mut answer = RawAnswer::NONE;
-        // SAFETY: as in `find`; an operation is under way.
+        // SAFETY: as in `get`; an operation is under way.
         while unsafe { sys::blink_pass_advance(handle, TRIES, &mut answer) } != 0 {
             thread::yield_now();
         }
@@ -366,37 +365,37 @@ impl Pass {
     ///     }
     /// };
     /// assert_eq!(answer, Answer::Inserted);
-    /// assert_eq!(table.close([pass])?.find(5), Some(50));
+    /// assert_eq!(table.close([pass])?.get(5), Some(50));
     /// # Ok::<(), blink::Error>(())
     /// ```
     pub fn begin_insert(self, key: u64, pointer: u64) -> Result<Pending, (Pass, Error)> {
-        // SAFETY: as in `find`.
+        // SAFETY: as in `get`.
         self.begun(|handle| unsafe { sys::blink_pass_begin_insert(handle, key, pointer) })
     }
 
-    /// Begins a deletion, likewise.
-    pub fn begin_delete(self, key: u64) -> Result<Pending, (Pass, Error)> {
-        // SAFETY: as in `find`.
+    /// Begins a removal, likewise.
+    pub fn begin_remove(self, key: u64) -> Result<Pending, (Pass, Error)> {
+        // SAFETY: as in `get`.
         self.begun(|handle| unsafe { sys::blink_pass_begin_delete(handle, key) })
     }
 
     /// Begins a replacement, likewise.
     pub fn begin_replace(self, key: u64, pointer: u64) -> Result<Pending, (Pass, Error)> {
-        // SAFETY: as in `find`.
+        // SAFETY: as in `get`.
         self.begun(|handle| unsafe { sys::blink_pass_begin_replace(handle, key, pointer) })
     }
 
     /// Begins an exchange of an expected pointer, likewise: its answer is [`Answer::Replaced`] with the expected pointer,
     /// [`Answer::Exists`] with another one, which stays, or [`Answer::Absent`].
-    pub fn begin_exchange(self, key: u64, expected: u64, pointer: u64) -> Result<Pending, (Pass, Error)> {
-        // SAFETY: as in `find`.
+    pub fn begin_compare_exchange(self, key: u64, expected: u64, pointer: u64) -> Result<Pending, (Pass, Error)> {
+        // SAFETY: as in `get`.
         self.begun(|handle| unsafe { sys::blink_pass_begin_exchange(handle, key, expected, pointer) })
     }
 
-    /// Begins a deletion of an expected pointer, likewise: its answer is [`Answer::Removed`] with the expected pointer,
+    /// Begins a removal of an expected pointer, likewise: its answer is [`Answer::Removed`] with the expected pointer,
     /// [`Answer::Exists`] with another one, which stays, or [`Answer::Absent`].
     pub fn begin_compare_remove(self, key: u64, expected: u64) -> Result<Pending, (Pass, Error)> {
-        // SAFETY: as in `find`.
+        // SAFETY: as in `get`.
         self.begun(|handle| unsafe { sys::blink_pass_begin_delete_exact(handle, key, expected) })
     }
 

@@ -5,15 +5,15 @@
 
 mod stepped;
 
-use blink::{Answer, Begun, Entry, Index, Map, Op, Room, Session, Unfinished};
+use blink::{Answer, Begun, Index, Map, Op, Room, Session, Unfinished};
 use stepped::by_instruction;
 
 // Sixteen keys in four full leaves below a full root: the insertion splits a leaf and the root, and makes a root.
-fn entries() -> Vec<Entry> {
-    (1..=16).map(|place| Entry { key: 10 * place, pointer: place }).collect()
+fn entries() -> Vec<(u64, u64)> {
+    (1..=16).map(|place| (10 * place, place)).collect()
 }
 
-const NEW: Entry = Entry { key: 55, pointer: 7 };
+const NEW: (u64, u64) = (55, 7);
 
 // A change of another key, its answer, and what it leaves of the key. It has to rest somewhere, if it wants a page that the
 // insertion latches.
@@ -27,7 +27,7 @@ struct Other {
 
 // Of the leaf that is split, of either half; and of the last leaf, which is nobody's, and whose split is posted to the root.
 const OTHERS: [Other; 6] = [
-    Other { key: 50, op: Op::Delete(50), answer: Answer::Removed(5), left: None, rests: true },
+    Other { key: 50, op: Op::Remove(50), answer: Answer::Removed(5), left: None, rests: true },
     Other { key: 80, op: Op::Replace(80, 9), answer: Answer::Replaced(8), left: Some(9), rests: true },
     Other { key: 54, op: Op::Insert(54, 9), answer: Answer::Inserted, left: Some(9), rests: true },
     Other { key: 75, op: Op::Insert(75, 9), answer: Answer::Inserted, left: Some(9), rests: true },
@@ -48,12 +48,12 @@ fn end(mut resting: Unfinished) -> Answer {
 
 // Begins the change after so many instructions of the insertion, and returns whether it rested; none, if there are fewer.
 fn begins_after(instructions: u32, other: &Other) -> Option<bool> {
-    let map = Map::open(&Index::from_sorted(4, &entries()).unwrap(), Room { pages: 44, rows: 88, sessions: 2 }).unwrap();
+    let map = Map::open(&Index::from_sorted(4, entries()).unwrap(), Room { pages: 44, rows: 88, sessions: 2 }).unwrap();
     let mut writer = map.session().unwrap();
     let mut free: Option<Session> = Some(map.session().unwrap());
     let (mut passed, mut begun) = (0, None);
     let inserted = by_instruction(
-        || writer.insert(NEW.key, NEW.pointer),
+        || writer.insert(NEW.0, NEW.1),
         || {
             if passed == instructions {
                 begun = free.take().map(|session| session.begin(other.op, 1));
@@ -72,10 +72,10 @@ fn begins_after(instructions: u32, other: &Other) -> Option<bool> {
     drop((writer, free));
     let mut expected = entries();
     expected.push(NEW);
-    expected.retain(|entry| entry.key != other.key);
-    expected.extend(other.left.map(|pointer| Entry { key: other.key, pointer }));
-    expected.sort_by_key(|entry| entry.key);
-    assert!(map.close().unwrap().scan(..).eq(expected), "{:?} after {instructions} instructions", other.op);
+    expected.retain(|(key, _)| *key != other.key);
+    expected.extend(other.left.map(|pointer| (other.key, pointer)));
+    expected.sort_by_key(|(key, _)| *key);
+    assert!(map.close().unwrap().iter().eq(expected), "{:?} after {instructions} instructions", other.op);
     Some(rested)
 }
 

@@ -26,7 +26,7 @@ fn raised_by_all(raise: impl Fn(&mut Session<'_>) + Sync) -> Option<u64> {
             scope.spawn(move || (0..TIMES).for_each(|_| raise(&mut session)));
         }
     });
-    map.close().unwrap().find(COUNTER)
+    map.close().unwrap().get(COUNTER)
 }
 
 #[test]
@@ -34,9 +34,9 @@ fn no_exchange_is_lost() {
     let counted = raised_by_all(|session| {
         let mut seen = session.get(COUNTER).unwrap();
         // a refused exchange tells the pointer that another thread has left
-        while let Err(other) = session.compare_exchange(COUNTER, seen, seen + 1).unwrap() {
-            assert!(other.unwrap() > seen);
-            seen = other.unwrap();
+        while let Answer::Exists(other) = session.compare_exchange(COUNTER, seen, seen + 1).unwrap() {
+            assert!(other > seen);
+            seen = other;
         }
     });
     assert_eq!(counted, Some(THREADS * TIMES));
@@ -65,7 +65,7 @@ fn an_update_begins_a_counter() {
         threads.into_iter().map(|thread| usize::from(thread.join().unwrap())).sum()
     });
     assert_eq!(begun, 1);
-    assert_eq!(map.close().unwrap().find(COUNTER), Some(THREADS));
+    assert_eq!(map.close().unwrap().get(COUNTER), Some(THREADS));
 }
 
 #[test]
@@ -85,11 +85,11 @@ fn a_removal_finds_what_it_expects() {
     let map = Map::open(&Index::new(8).unwrap(), ROOM).unwrap();
     let (mut one, mut other) = (map.session().unwrap(), map.session().unwrap());
     assert_eq!(one.insert(COUNTER, 70), Ok(Answer::Inserted));
-    assert_eq!(other.compare_exchange(COUNTER, 70, 71), Ok(Ok(70)));
-    assert_eq!(one.compare_remove(COUNTER, 70), Ok(Err(Some(71))));
+    assert_eq!(other.compare_exchange(COUNTER, 70, 71), Ok(Answer::Replaced(70)));
+    assert_eq!(one.compare_remove(COUNTER, 70), Ok(Answer::Exists(71)));
     assert_eq!(other.get(COUNTER), Some(71));
-    assert_eq!(one.compare_remove(COUNTER, 71), Ok(Ok(71)));
-    assert_eq!(one.compare_remove(COUNTER, 71), Ok(Err(None)));
+    assert_eq!(one.compare_remove(COUNTER, 71), Ok(Answer::Removed(71)));
+    assert_eq!(one.compare_remove(COUNTER, 71), Ok(Answer::Absent));
     assert_eq!(other.get(COUNTER), None);
 }
 
@@ -123,7 +123,7 @@ fn an_exchange_begins_and_rests() {
     let mut session = map.session().unwrap();
     session.insert(COUNTER, 70).unwrap();
     for (expected, answer) in [(71, Answer::Exists(70)), (70, Answer::Replaced(70)), (70, Answer::Exists(72))] {
-        let begun = session.begin_exchange(COUNTER, expected, 72, 10).map_err(|(_, error)| error).unwrap();
+        let begun = session.begin_compare_exchange(COUNTER, expected, 72, 10).map_err(|(_, error)| error).unwrap();
         let (after, given) = ended(begun);
         assert_eq!(given, answer);
         session = after;

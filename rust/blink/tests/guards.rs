@@ -79,7 +79,7 @@ fn no_object_is_read_once_it_was_given_back() {
     });
     assert!(given_back > 1000);
     let index = map.close().unwrap();
-    assert!(index.scan(..).all(|entry| objects.there[entry.pointer as usize].load(Ordering::SeqCst)));
+    assert!(index.iter().all(|(_, pointer)| objects.there[pointer as usize].load(Ordering::SeqCst)));
 }
 
 #[test]

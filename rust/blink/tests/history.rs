@@ -4,7 +4,7 @@
 //! Gong do: a call may come next if no other that is left ended before it began. Every pointer is stored by one call alone, so that a value
 //! read tells which call stored it.
 
-use blink::{Answer, Begun, Entry, Error, Index, Map, Op, Room, Session};
+use blink::{Answer, Begun, Error, Index, Map, Op, Room, Session};
 use std::collections::{BTreeSet, HashMap, HashSet};
 use std::thread;
 use std::time::{Duration, Instant};
@@ -108,10 +108,10 @@ fn told_by(op: Op, answer: Answer) -> (State, State) {
     match (op, answer) {
         (Op::Insert(_, pointer), Answer::Inserted) => (None, Some(pointer)),
         (Op::Insert(..), Answer::Exists(there)) => (Some(there), Some(there)),
-        (Op::Delete(_), Answer::Removed(was)) => (Some(was), None),
+        (Op::Remove(_), Answer::Removed(was)) => (Some(was), None),
         (Op::Replace(_, pointer), Answer::Replaced(was)) => (Some(was), Some(pointer)),
-        (Op::Find(_), Answer::Found(there)) => (Some(there), Some(there)),
-        (Op::Delete(_) | Op::Replace(..) | Op::Find(_), Answer::Absent) => (None, None),
+        (Op::Get(_), Answer::Found(there)) => (Some(there), Some(there)),
+        (Op::Remove(_) | Op::Replace(..) | Op::Get(_), Answer::Absent) => (None, None),
         (op, answer) => panic!("{op:?} answered {answer:?}"),
     }
 }
@@ -153,9 +153,9 @@ fn by_steps<'map>(session: Session<'map>, op: Op, random: &mut u64) -> (Session<
 fn call_once(session: &mut Option<Session>, kind: u64, key: u64, pointer: u64, random: &mut u64) -> (State, State, u64) {
     let op = match kind % 4 {
         0 => Op::Insert(key, pointer),
-        1 => Op::Delete(key),
+        1 => Op::Remove(key),
         2 => Op::Replace(key, pointer),
-        _ => Op::Find(key),
+        _ => Op::Get(key),
     };
     let whole = session.as_mut().unwrap();
     let answer = match op {
@@ -167,9 +167,10 @@ fn call_once(session: &mut Option<Session>, kind: u64, key: u64, pointer: u64, r
             return (saw, left, rests);
         }
         Op::Insert(..) => whole.insert(key, pointer).unwrap(),
-        Op::Delete(_) => whole.remove(key).unwrap(),
+        Op::Remove(_) => whole.remove(key).unwrap(),
         Op::Replace(..) => whole.replace(key, pointer).unwrap(),
-        Op::Find(_) => whole.get(key).map_or(Answer::Absent, Answer::Found),
+        Op::Get(_) => whole.get(key).map_or(Answer::Absent, Answer::Found),
+        other => unreachable!("{other:?}"),
     };
     let (saw, left) = told_by(op, answer);
     (saw, left, 0)
@@ -211,8 +212,8 @@ struct Recorded {
 }
 
 fn recorded(plan: Plan) -> Recorded {
-    let entries: Vec<Entry> = opening(plan).into_iter().map(Entry::from).collect();
-    let index = Index::from_entries(plan.fan, &entries).unwrap();
+    let entries: Vec<(u64, u64)> = opening(plan).into_iter().collect();
+    let index = Index::from_entries(plan.fan, entries.iter().copied()).unwrap();
     let calls = u32::try_from(plan.calls * THREADS).unwrap();
     let room = Room {
         pages: calls / 2 + 20_000,
@@ -244,7 +245,7 @@ fn recorded(plan: Plan) -> Recorded {
 fn with_looks_at(mut history: Vec<Call>, index: &Index, keys: u64) -> Vec<Call> {
     let last = history.iter().map(|call| call.end).max().unwrap_or(0);
     history.extend((0..keys).map(|key| {
-        let found = index.find(key);
+        let found = index.get(key);
         Call { thread: 0, begin: last + 1, end: last + 2, key, saw: found, left: found }
     }));
     history

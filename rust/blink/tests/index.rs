@@ -1,6 +1,6 @@
 //! An index that changes in place, beside a `BTreeMap`.
 
-use blink::{Answer, Entry, Index, Op};
+use blink::{Answer, Index, Op};
 use std::collections::BTreeMap;
 use std::ops::Bound::{Excluded, Included, Unbounded};
 
@@ -17,16 +17,16 @@ fn operation(number: u64, keys: u64) -> Op {
     let key = mixed(drawn) % keys;
     match drawn >> 61 {
         0..=3 => Op::Insert(key, number),
-        4 | 5 => Op::Delete(key),
+        4 | 5 => Op::Remove(key),
         6 => Op::Replace(key, number),
-        _ => Op::Find(key),
+        _ => Op::Get(key),
     }
 }
 
 // What a `BTreeMap` answers.
 fn answer(map: &mut BTreeMap<u64, u64>, op: Op) -> Answer {
     match op {
-        Op::Find(key) => map.get(&key).map_or(Answer::Absent, |&kept| Answer::Found(kept)),
+        Op::Get(key) => map.get(&key).map_or(Answer::Absent, |&kept| Answer::Found(kept)),
         Op::Insert(key, pointer) => match map.get(&key) {
             Some(&kept) => Answer::Exists(kept),
             None => {
@@ -34,33 +34,35 @@ fn answer(map: &mut BTreeMap<u64, u64>, op: Op) -> Answer {
                 Answer::Inserted
             }
         },
-        Op::Delete(key) => map.remove(&key).map_or(Answer::Absent, Answer::Removed),
+        Op::Remove(key) => map.remove(&key).map_or(Answer::Absent, Answer::Removed),
         Op::Replace(key, pointer) => match map.get_mut(&key) {
             Some(kept) => Answer::Replaced(std::mem::replace(kept, pointer)),
             None => Answer::Absent,
         },
+        other => unreachable!("{other:?}"),
     }
 }
 
 // What the index answers.
 fn edit(index: &mut Index, op: Op) -> Answer {
     match op {
-        Op::Find(key) => index.find(key).map_or(Answer::Absent, Answer::Found),
+        Op::Get(key) => index.get(key).map_or(Answer::Absent, Answer::Found),
         Op::Insert(key, pointer) => index.insert(key, pointer).expect("there is memory"),
-        Op::Delete(key) => index.remove(key),
+        Op::Remove(key) => index.remove(key),
         Op::Replace(key, pointer) => index.replace(key, pointer),
+        other => unreachable!("{other:?}"),
     }
 }
 
-fn entry(pair: Option<(&u64, &u64)>) -> Option<Entry> {
-    pair.map(|(&key, &pointer)| Entry { key, pointer })
+fn entry(pair: Option<(&u64, &u64)>) -> Option<(u64, u64)> {
+    pair.map(|(&key, &pointer)| (key, pointer))
 }
 
 // A range of keys is read from its end, and by turns from both ends.
 fn reads_from_both_ends(index: &Index, map: &BTreeMap<u64, u64>, lo: u64, hi: u64) {
     let pairs = || map.range((Included(lo), Excluded(hi))).map(|pair| entry(Some(pair)).expect("a pair"));
-    assert!(index.scan(lo..hi).rev().eq(pairs().rev()), "{lo} {hi}");
-    let (mut scan, mut expected) = (index.scan(lo..hi), pairs());
+    assert!(index.range(lo..hi).rev().eq(pairs().rev()), "{lo} {hi}");
+    let (mut scan, mut expected) = (index.range(lo..hi), pairs());
     for turn in 0.. {
         // so that now one end is ahead and now the other, by more than a part
         let (given, next) = match mixed(lo + turn / 40) % 2 {
@@ -92,8 +94,8 @@ fn goes_as_a_map(fan: u8, operations: u64, keys: u64) {
             reads_from_both_ends(&index, &map, key, key + keys / 8);
         }
     }
-    assert!(index.scan(..).eq(map.iter().map(|pair| entry(Some(pair)).expect("a pair"))));
-    assert!(index.scan(..).rev().eq(map.iter().rev().map(|pair| entry(Some(pair)).expect("a pair"))));
+    assert!(index.iter().eq(map.iter().map(|pair| entry(Some(pair)).expect("a pair"))));
+    assert!(index.iter().rev().eq(map.iter().rev().map(|pair| entry(Some(pair)).expect("a pair"))));
 }
 
 #[test]
@@ -122,25 +124,25 @@ fn operations_in_place_leave_the_pages_of_batches() {
 // A scan takes its entries out in parts of 16, 32, 64, 128 and then 256, so a part ends behind entry 16, 48, 112, 240, 496 and 752.
 #[test]
 fn a_scan_gives_each_entry_once_wherever_its_parts_end() {
-    let entry_of = |place: u64| Entry { key: 2 * place + 1, pointer: 3 * place };
+    let entry_of = |place: u64| (2 * place + 1, 3 * place);
     for end in [0, 16, 48, 112, 240, 496, 752] {
         for count in [end - u64::from(end > 0), end, end + 1] {
-            let entries: Vec<Entry> = (0..count).map(entry_of).collect();
-            let index = Index::from_sorted(16, &entries).unwrap();
-            assert!(index.scan(..).eq((0..count).map(entry_of)), "{count}");
-            assert!(index.scan(..).rev().eq((0..count).rev().map(entry_of)), "{count}");
+            let entries: Vec<(u64, u64)> = (0..count).map(entry_of).collect();
+            let index = Index::from_sorted(16, entries.iter().copied()).unwrap();
+            assert!(index.iter().eq((0..count).map(entry_of)), "{count}");
+            assert!(index.iter().rev().eq((0..count).rev().map(entry_of)), "{count}");
             // the same entries where more follow, by the key of the last one and by one between it and the next
-            let longer: Vec<Entry> = (0..count + 300).map(entry_of).collect();
-            let index = Index::from_sorted(16, &longer).unwrap();
-            assert!(index.scan(..2 * count).eq((0..count).map(entry_of)), "{count}");
-            assert!(index.scan(..=2 * count + 1).eq((0..=count).map(entry_of)), "{count}");
+            let longer: Vec<(u64, u64)> = (0..count + 300).map(entry_of).collect();
+            let index = Index::from_sorted(16, longer.iter().copied()).unwrap();
+            assert!(index.range(..2 * count).eq((0..count).map(entry_of)), "{count}");
+            assert!(index.range(..=2 * count + 1).eq((0..=count).map(entry_of)), "{count}");
             // and from the other end, where others stand before them
             let behind = || (300..count + 300).rev().map(entry_of);
-            assert!(index.scan(600..).rev().eq(behind()), "{count}");
-            assert!(index.scan(601..).rev().eq(behind()), "{count}");
+            assert!(index.range(600..).rev().eq(behind()), "{count}");
+            assert!(index.range(601..).rev().eq(behind()), "{count}");
             // a copy that is made on the way goes on by itself
-            let mut scan = index.scan(1..);
-            let begun: Vec<Entry> = scan.by_ref().take(count as usize / 2).collect();
+            let mut scan = index.range(1..);
+            let begun: Vec<(u64, u64)> = scan.by_ref().take(count as usize / 2).collect();
             assert!(scan.clone().eq((count / 2..count + 300).map(entry_of)), "{count}");
             assert!(begun.into_iter().chain(scan).eq((0..count + 300).map(entry_of)), "{count}");
         }
@@ -151,19 +153,19 @@ fn a_scan_gives_each_entry_once_wherever_its_parts_end() {
 fn a_scan_ends_at_the_greatest_key_where_a_part_ends() {
     // the last of 16 entries, and of 48
     for count in [16u64, 48] {
-        let entry_of = |place: u64| Entry { key: u64::MAX - (count - 1 - place), pointer: place };
-        let index = Index::from_sorted(8, &(0..count).map(entry_of).collect::<Vec<_>>()).unwrap();
-        assert!(index.scan(..).eq((0..count).map(entry_of)), "{count}");
-        assert_eq!(index.scan(u64::MAX..).collect::<Vec<_>>(), [entry_of(count - 1)]);
+        let entry_of = |place: u64| (u64::MAX - (count - 1 - place), place);
+        let index = Index::from_sorted(8, (0..count).map(entry_of)).unwrap();
+        assert!(index.iter().eq((0..count).map(entry_of)), "{count}");
+        assert_eq!(index.range(u64::MAX..).collect::<Vec<_>>(), [entry_of(count - 1)]);
     }
 }
 
 #[test]
 fn a_scan_from_its_end_ends_at_key_0_where_a_part_ends() {
     for count in [16u64, 48] {
-        let entry_of = |key: u64| Entry { key, pointer: 2 * key };
-        let index = Index::from_sorted(8, &(0..count).map(entry_of).collect::<Vec<_>>()).unwrap();
-        assert!(index.scan(..).rev().eq((0..count).rev().map(entry_of)), "{count}");
-        assert_eq!(index.scan(..=0).rev().collect::<Vec<_>>(), [entry_of(0)]);
+        let entry_of = |key: u64| (key, 2 * key);
+        let index = Index::from_sorted(8, (0..count).map(entry_of)).unwrap();
+        assert!(index.iter().rev().eq((0..count).rev().map(entry_of)), "{count}");
+        assert_eq!(index.range(..=0).rev().collect::<Vec<_>>(), [entry_of(0)]);
     }
 }

@@ -4,15 +4,15 @@
 
 mod stepped;
 
-use blink::{Answer, Entry, Index, Map, Op, Room, Session};
+use blink::{Answer, Index, Map, Op, Room, Session};
 use std::collections::BTreeMap;
 use std::fmt::Debug;
 use stepped::by_instruction;
 
 // Twelve keys in three full leaves below a root that has room for one more.
 fn index() -> Index {
-    let entries: Vec<Entry> = (1..=12).map(|place| Entry { key: 10 * place, pointer: place }).collect();
-    let index = Index::from_sorted(4, &entries).unwrap();
+    let entries: Vec<(u64, u64)> = (1..=12).map(|place| (10 * place, place)).collect();
+    let index = Index::from_sorted(4, entries.iter().copied()).unwrap();
     assert_eq!(index.pages(), 4);
     index
 }
@@ -45,22 +45,22 @@ const SPLITS_UP_TO_THE_ROOT: Changes = Changes {
 
 // Its entries go, and the next ones on both sides.
 const AN_EMPTY_LEAF: Changes = Changes {
-    ops: &[Op::Delete(40), Op::Delete(50), Op::Delete(60), Op::Delete(70), Op::Delete(80), Op::Delete(90)],
+    ops: &[Op::Remove(40), Op::Remove(50), Op::Remove(60), Op::Remove(70), Op::Remove(80), Op::Remove(90)],
     turns: 0,
 };
 
 // Entries go, and others come.
 const OTHER_ENTRIES: Changes = Changes {
     ops: &[
-        Op::Delete(60),
+        Op::Remove(60),
         Op::Insert(61, 61),
         Op::Insert(62, 62),
-        Op::Delete(61),
-        Op::Delete(20),
+        Op::Remove(61),
+        Op::Remove(20),
         Op::Insert(25, 25),
         Op::Replace(100, 9),
         Op::Insert(95, 95),
-        Op::Delete(110),
+        Op::Remove(110),
     ],
     turns: 30,
 };
@@ -72,8 +72,8 @@ fn applied(plain: &Plain, ops: &[Op]) -> Plain {
     for &op in ops {
         match op {
             Op::Insert(key, pointer) | Op::Replace(key, pointer) => _ = plain.insert(key, pointer),
-            Op::Delete(key) => _ = plain.remove(&key),
-            Op::Find(_) => {}
+            Op::Remove(key) => _ = plain.remove(&key),
+            _ => {}
         }
     }
     plain
@@ -84,8 +84,8 @@ fn make(changes: &Changes, session: &mut Session) {
         let answer = match op {
             Op::Insert(key, pointer) => session.insert(key, pointer),
             Op::Replace(key, pointer) => session.replace(key, pointer),
-            Op::Delete(key) => session.remove(key),
-            Op::Find(_) => continue,
+            Op::Remove(key) => session.remove(key),
+            _ => continue,
         };
         assert!(!matches!(answer, Err(_) | Ok(Answer::Absent | Answer::Exists(_))), "{op:?}: {answer:?}");
     }
@@ -121,17 +121,17 @@ fn stops<T: Debug>(
             !made
         },
     );
-    let before: Plain = index.scan(..).map(<(u64, u64)>::from).collect();
+    let before: Plain = index.iter().collect();
     let after = applied(&before, changes.ops);
     if !made {
         assert!(fits(&answer, &before, &before));
         return false;
     }
     assert!(fits(&answer, &before, &after), "after {instructions} instructions: {answer:?}");
-    let plain = |(&key, &pointer): (&u64, &u64)| Entry { key, pointer };
+    let plain = |(&key, &pointer): (&u64, &u64)| (key, pointer);
     assert!(reader.range(..).eq(after.iter().map(plain)));
     drop((reader, writer));
-    assert!(map.close().unwrap().scan(..).eq(after.iter().map(plain)));
+    assert!(map.close().unwrap().iter().eq(after.iter().map(plain)));
     true
 }
 
@@ -173,7 +173,7 @@ fn a_scan_that_is_stopped_anywhere_goes_on_where_it_was() {
 }
 
 fn scan_into(session: &mut Session, lo: u64, hi: u64, most: usize) -> Vec<(u64, u64)> {
-    session.range(lo..=hi).take(most).map(<(u64, u64)>::from).collect()
+    session.range(lo..=hi).take(most).collect()
 }
 
 #[test]

@@ -1,6 +1,6 @@
 //! What the crate's calls do where the memory for their own lists is refused: they are refused, or go on with less; the process goes on.
 
-use blink::{Answer, Entry, Error, Index, Map, Op, Room};
+use blink::{Answer, Error, Index, Map, Op, Room};
 use std::alloc::{GlobalAlloc, Layout, System};
 use std::cell::Cell;
 use std::ptr;
@@ -48,14 +48,14 @@ fn with_most<T>(bytes: usize, call: impl FnOnce() -> T) -> T {
 }
 
 fn thousand() -> Index {
-    let entries: Vec<Entry> = (0..1000).map(|key| Entry { key, pointer: 10 * key }).collect();
-    Index::from_sorted(8, &entries).unwrap()
+    let entries: Vec<(u64, u64)> = (0..1000).map(|key| (key, 10 * key)).collect();
+    Index::from_sorted(8, entries.iter().copied()).unwrap()
 }
 
 #[test]
 fn scans_go_on_by_short_parts() {
     let index = thousand();
-    let sum = with_most(300, || index.scan(..).map(|entry| entry.key).sum::<u64>());
+    let sum = with_most(300, || index.iter().map(|(key, _)| key).sum::<u64>());
     assert_eq!(sum, 999 * 1000 / 2);
     let map = Map::open(&index, Room { pages: 0, rows: 0, sessions: 1 }).unwrap();
     let mut session = map.session().unwrap();
@@ -79,7 +79,7 @@ fn a_snapshot_is_refused_and_its_session_goes_on() {
 #[test]
 fn operations_are_refused_before_any_is_carried_out() {
     let mut index = thousand();
-    let operations: Vec<Op> = (0..500).map(Op::Delete).collect();
+    let operations: Vec<Op> = (0..500).map(Op::Remove).collect();
     let applied = with_most(300, || index.apply(&operations));
     assert_eq!((applied.answers.len(), applied.error), (0, Some(Error::OutOfMemory)));
     assert_eq!(with_most(300, || index.run(&operations)), Err(Error::OutOfMemory));

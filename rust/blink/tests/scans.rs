@@ -58,10 +58,10 @@ fn scan_once(session: &mut Session, versions: &Versions, lo: usize, hi: usize) -
     let made = now(&versions.made);
     let entries: Vec<_> = session.range(lo as u64..=hi as u64).collect();
     let begun = now(&versions.begun);
-    assert!(entries.windows(2).all(|two| two[0].key < two[1].key), "{entries:?}");
-    assert!(entries.iter().all(|entry| (lo as u64..=hi as u64).contains(&entry.key)), "{entries:?}");
+    assert!(entries.windows(2).all(|two| two[0].0 < two[1].0), "{entries:?}");
+    assert!(entries.iter().all(|(key, _)| (lo as u64..=hi as u64).contains(key)), "{entries:?}");
     let mut reported = vec![None; KEYS];
-    entries.iter().for_each(|entry| reported[entry.key as usize] = Some(entry.pointer));
+    entries.iter().for_each(|&(key, pointer)| reported[key as usize] = Some(pointer));
     for key in lo..=hi {
         let version = allowed(reported[key], made[key], begun[key]);
         assert!(version.is_some(), "key {key}: {:?}, made {}, begun {}", reported[key], made[key], begun[key]);
@@ -118,7 +118,7 @@ fn compare(fan: u8, reports: u64) {
     let closed = map.close().unwrap();
     for key in 0..KEYS {
         let version = versions.made[key].load(SeqCst);
-        assert_eq!(closed.find(key as u64), (version % 2 == 1).then_some(version), "key {key}");
+        assert_eq!(closed.get(key as u64), (version % 2 == 1).then_some(version), "key {key}");
     }
 }
 

@@ -1,6 +1,6 @@
 //! A map and its sessions: one thread beside a plain map, two threads, refusals, and a map that is full.
 
-use blink::{Answer, Begun, Entry, Error, Index, Left, Map, Op, Room, Session, Reserve};
+use blink::{Answer, Begun, Error, Index, Left, Map, Op, Room, Session, Reserve};
 use std::collections::BTreeMap;
 use std::thread;
 
@@ -38,9 +38,9 @@ fn both(session: &mut Session, plain: &mut BTreeMap<u64, u64>, kind: u64, key: u
 #[test]
 fn one_thread_answers_as_a_plain_map() {
     for fan in [4, 7, 32] {
-        let before: Vec<Entry> = (0..300).step_by(3).map(|key| Entry { key, pointer: key * 2 }).collect();
-        let index = Index::from_entries(fan, &before).unwrap();
-        let mut plain: BTreeMap<u64, u64> = before.iter().map(|entry| (entry.key, entry.pointer)).collect();
+        let before: Vec<(u64, u64)> = (0..300).step_by(3).map(|key| (key, key * 2)).collect();
+        let index = Index::from_entries(fan, before.iter().copied()).unwrap();
+        let mut plain: BTreeMap<u64, u64> = before.iter().copied().collect();
         let map = map_over(&index, 10_000, 40_000, 3);
         // three sessions by turns: each sees all that the others have done, since one call ends before the next begins
         let mut sessions = [map.session().unwrap(), map.session().unwrap(), map.session().unwrap()];
@@ -51,14 +51,14 @@ fn one_thread_answers_as_a_plain_map() {
             both(&mut sessions[which as usize], &mut plain, kind, key, pointer);
             if pointer % 500 == 0 {
                 let range = sessions[which as usize].range(key..key + 100);
-                assert!(range.eq(plain.range(key..key + 100).map(|(&key, &pointer)| Entry { key, pointer })));
+                assert!(range.eq(plain.range(key..key + 100).map(|(&key, &pointer)| (key, pointer))));
             }
         }
         drop(sessions);
         let closed = map.close().unwrap();
-        assert!(closed.scan(..).eq(plain.into_iter().map(Entry::from)));
+        assert!(closed.iter().eq(plain.into_iter()));
         assert_eq!(closed.fan(), fan);
-        assert!(index.scan(..).eq(before));
+        assert!(index.iter().eq(before));
     }
 }
 
@@ -72,7 +72,7 @@ fn the_greatest_keys_and_pointers() {
         assert_eq!(session.put(key, key), Ok(Some(0)));
     }
     drop(session);
-    assert!(map.close().unwrap().scan(..).eq([0, u64::MAX - 1, u64::MAX].map(|key| Entry { key, pointer: key })));
+    assert!(map.close().unwrap().iter().eq([0, u64::MAX - 1, u64::MAX].map(|key| (key, key))));
 }
 
 #[test]
@@ -103,7 +103,7 @@ fn two_threads_change_the_same_keys() {
     });
     let closed = map.close().unwrap();
     for key in 0..KEYS {
-        assert_eq!(one[key as usize] + other[key as usize], i64::from(closed.find(key).is_some()), "key {key}");
+        assert_eq!(one[key as usize] + other[key as usize], i64::from(closed.get(key).is_some()), "key {key}");
     }
 }
 
@@ -112,8 +112,8 @@ fn two_threads_change_the_same_keys() {
 #[test]
 fn eight_threads_read_one_index() {
     const ENTRIES: u64 = 20_000;
-    let entries: Vec<Entry> = (0..ENTRIES).map(|third| Entry { key: 3 * third, pointer: 7 * third }).collect();
-    let index = Index::from_sorted(16, &entries).unwrap();
+    let entries: Vec<(u64, u64)> = (0..ENTRIES).map(|third| (3 * third, 7 * third)).collect();
+    let index = Index::from_sorted(16, entries.iter().copied()).unwrap();
     let map = map_over(&index, 0, 0, 8);
     let read = |session: &mut Session, thread: u64| {
         for step in 0..ENTRIES {
@@ -137,7 +137,7 @@ fn eight_threads_read_one_index() {
             scope.spawn(move || read(&mut session, thread));
         }
         // the index is a tree of its own, which this thread reads meanwhile
-        assert!((0..ENTRIES).all(|third| index.find(3 * third) == Some(7 * third)));
+        assert!((0..ENTRIES).all(|third| index.get(3 * third) == Some(7 * third)));
     });
     assert_eq!(map.close().unwrap().len(), 20_000);
 }
@@ -177,7 +177,7 @@ fn fills_and_loses_nothing(pages: u32, rows: u32) -> (u64, Left) {
     let left = map.room();
     drop(sessions);
     let closed = map.close().unwrap();
-    assert!(closed.scan(..).eq((0..count).map(|key| Entry { key, pointer: key + 7 })));
+    assert!(closed.iter().eq((0..count).map(|key| (key, key + 7))));
     (count, left)
 }
 
@@ -221,7 +221,7 @@ fn a_map_without_rows_is_full() {
 
 #[test]
 fn a_map_with_three_rows_takes_any_number_of_changes_that_need_one() {
-    let index = Index::from_entries(4, &[(1, 10), (2, 20)].map(Entry::from)).unwrap();
+    let index = Index::from_entries(4, [(1, 10), (2, 20)]).unwrap();
     let map = map_over(&index, 0, 3, 1);
     let mut session = map.session().unwrap();
     assert_eq!(session.insert(3, 30), Err(Error::Full));
@@ -232,15 +232,15 @@ fn a_map_with_three_rows_takes_any_number_of_changes_that_need_one() {
     assert_eq!(session.insert(3, 30), Err(Error::Full));
     assert_eq!((session.get(1), session.get(2), map.room()), (Some(1000), None, Left { pages: 0, rows: 2 }));
     drop(session);
-    assert!(map.close().unwrap().scan(..).eq([(1, 1000)].map(Entry::from)));
+    assert!(map.close().unwrap().iter().eq([(1, 1000)]));
 }
 
 // A range takes its entries out in parts of 16, 32, 64, 128 and then 256.
 #[test]
 fn a_range_gives_each_entry_once_wherever_its_parts_end() {
-    let entry_of = |place: u64| Entry { key: 2 * place + 1, pointer: 3 * place };
-    let entries: Vec<Entry> = (0..1000).map(entry_of).collect();
-    let map = map_over(&Index::from_sorted(16, &entries).unwrap(), 0, 0, 1);
+    let entry_of = |place: u64| (2 * place + 1, 3 * place);
+    let entries: Vec<(u64, u64)> = (0..1000).map(entry_of).collect();
+    let map = map_over(&Index::from_sorted(16, entries.iter().copied()).unwrap(), 0, 0, 1);
     let mut session = map.session().unwrap();
     for end in [16, 48, 112, 240, 496, 752] {
         for count in [end - 1, end, end + 1] {
@@ -284,7 +284,7 @@ fn a_session_tells_what_its_insertions_use() {
 // its place left.
 #[test]
 fn a_session_tells_which_rows_have_come_back() {
-    let index = Index::from_entries(4, &[(1, 0)].map(Entry::from)).unwrap();
+    let index = Index::from_entries(4, [(1, 0)]).unwrap();
     let map = map_over(&index, 0, 200, 1);
     let mut session = map.session().unwrap();
     for turn in 0..200 {
@@ -303,14 +303,14 @@ fn a_session_tells_which_rows_have_come_back() {
 
 #[test]
 fn an_operation_that_begins_ends_where_nobody_has_its_page() {
-    let index = Index::from_entries(4, &[(1, 10)].map(Entry::from)).unwrap();
+    let index = Index::from_entries(4, [(1, 10)]).unwrap();
     let map = map_over(&index, 22, 44, 1);
     let cases = [
-        (Op::Find(1), Answer::Found(10)),
+        (Op::Get(1), Answer::Found(10)),
         (Op::Insert(2, 20), Answer::Inserted),
         (Op::Replace(2, 21), Answer::Replaced(20)),
-        (Op::Delete(1), Answer::Removed(10)),
-        (Op::Find(1), Answer::Absent),
+        (Op::Remove(1), Answer::Removed(10)),
+        (Op::Get(1), Answer::Absent),
     ];
     let mut session = map.session().unwrap();
     for (op, expected) in cases {
@@ -324,14 +324,14 @@ fn an_operation_that_begins_ends_where_nobody_has_its_page() {
     }
     // the session has drawn all rows, and another has none
     drop(session);
-    assert!(map.close().unwrap().scan(..).eq([(2, 21)].map(Entry::from)));
+    assert!(map.close().unwrap().iter().eq([(2, 21)]));
     let map = map_over(&index, 22, 44, 2);
     let (mut session, other) = (map.session().unwrap(), map.session().unwrap());
     assert_eq!(session.insert(2, 20), Ok(Answer::Inserted));
     let (other, error) = other.begin(Op::Insert(3, 30), 1).unwrap_err();
     assert_eq!(error, Error::Full);
     drop((session, other));
-    assert!(map.close().unwrap().scan(..).eq([(1, 10), (2, 20)].map(Entry::from)));
+    assert!(map.close().unwrap().iter().eq([(1, 10), (2, 20)]));
 }
 
 // Replaces one key by steps, until an operation rests or that many have ended. One that rests is dropped.
@@ -360,23 +360,23 @@ fn drops_one_that_rests(map: &Map, most: u64) {
 
 #[test]
 fn a_map_with_a_dropped_operation_closes() {
-    let index = Index::from_entries(4, &[(1, 10)].map(Entry::from)).unwrap();
+    let index = Index::from_entries(4, [(1, 10)]).unwrap();
     let map = map_over(&index, 0, 400_000, 4);
     thread::scope(|scope| {
         (0..4).for_each(|_| _ = scope.spawn(|| drops_one_that_rests(&map, 90_000)));
     });
     // the key has a pointer that a thread stored, or began to store
     let closed = map.close().unwrap();
-    assert!(closed.len() == 1 && closed.find(1).is_some_and(|pointer| pointer < 90_000));
+    assert!(closed.len() == 1 && closed.get(1).is_some_and(|pointer| pointer < 90_000));
 }
 
 #[test]
 fn rows_come_back_while_threads_change_a_map() {
     const KEYS: u64 = 1_000;
     const CHANGES: u64 = 400_000;
-    let entries: Vec<Entry> = (0..KEYS).map(|key| Entry { key, pointer: 0 }).collect();
+    let entries: Vec<(u64, u64)> = (0..KEYS).map(|key| (key, 0)).collect();
     // an eighth of the rows that the changes write
-    let map = map_over(&Index::from_entries(32, &entries).unwrap(), 1_000, 200_000, 4);
+    let map = map_over(&Index::from_entries(32, entries.iter().copied()).unwrap(), 1_000, 200_000, 4);
     thread::scope(|scope| {
         for thread in 0..4 {
             let map = &map;
@@ -423,7 +423,7 @@ fn a_place_is_taken_again() {
 
 #[test]
 fn rooms_that_are_refused() {
-    let index = Index::from_entries(4, &[(1, 10)].map(Entry::from)).unwrap();
+    let index = Index::from_entries(4, [(1, 10)]).unwrap();
     let open = |pages, sessions| Map::open(&index, Room { pages, rows: 0, sessions }).map(drop);
     assert_eq!(open(u32::MAX, 0), Err(Error::BadSessions));
     assert_eq!(open(0, 257), Err(Error::BadSessions));

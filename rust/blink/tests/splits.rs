@@ -4,7 +4,7 @@
 
 mod stepped;
 
-use blink::{Answer, Entry, Error, Index, Map, Pass, Room, Session, Table};
+use blink::{Answer, Error, Index, Map, Pass, Room, Session, Table};
 use std::ops::RangeInclusive;
 use stepped::by_instruction;
 
@@ -32,42 +32,42 @@ const TWO_LEVELS: Full = Full { keys: 16, pages: (5, 8) };
 // Sixteen leaves below four pages, and these below a full root: three pages are split, and a root comes.
 const THREE_LEVELS: Full = Full { keys: 64, pages: (21, 25) };
 
-fn entry(key: u64) -> Entry {
-    Entry { key, pointer: key + 7 }
+fn entry(key: u64) -> (u64, u64) {
+    (key, key + 7)
 }
 
 // The entries before an insertion and after it.
 struct Entries {
-    before: Vec<Entry>,
-    after: Vec<Entry>,
+    before: Vec<(u64, u64)>,
+    after: Vec<(u64, u64)>,
     new: u64,
 }
 
 impl Entries {
     fn of(full: &Full, new: u64) -> Entries {
-        let before: Vec<Entry> = (1..=full.keys).map(|place| entry(10 * place)).collect();
+        let before: Vec<(u64, u64)> = (1..=full.keys).map(|place| entry(10 * place)).collect();
         let mut after = before.clone();
         after.push(entry(new));
-        after.sort_by_key(|entry| entry.key);
+        after.sort_by_key(|(key, _)| *key);
         Entries { before, after, new }
     }
 
     fn index(&self, full: &Full) -> Index {
-        let index = Index::from_sorted(FAN, &self.before).unwrap();
+        let index = Index::from_sorted(FAN, self.before.iter().copied()).unwrap();
         assert_eq!(index.pages(), full.pages.0);
         index
     }
 
     // A table or a map closes with the tree's own pages.
     fn are_those_of(&self, closed: &Index, full: &Full) {
-        assert!(closed.scan(..).eq(self.after.iter().copied()));
+        assert!(closed.iter().eq(self.after.iter().copied()));
         assert_eq!(closed.pages(), full.pages.1);
     }
 
     // Whether these, the first `most` of a range, have the new entry; none, if they have it neither before nor after.
-    fn show(&self, range: &RangeInclusive<u64>, most: usize, given: &[Entry]) -> Option<bool> {
-        let part = |all: &[Entry]| {
-            let within = all.iter().filter(|entry| range.contains(&entry.key));
+    fn show(&self, range: &RangeInclusive<u64>, most: usize, given: &[(u64, u64)]) -> Option<bool> {
+        let part = |all: &[(u64, u64)]| {
+            let within = all.iter().filter(|(key, _)| range.contains(key));
             within.take(most).copied().collect::<Vec<_>>()
         };
         let (before, after) = (part(&self.before), part(&self.after));
@@ -78,13 +78,13 @@ impl Entries {
 
 // What sessions and passes read.
 trait Reads {
-    fn scan(&mut self, range: RangeInclusive<u64>, most: usize) -> Vec<Entry>;
+    fn scan(&mut self, range: RangeInclusive<u64>, most: usize) -> Vec<(u64, u64)>;
     fn snapshot(&mut self, range: RangeInclusive<u64>) -> Option<Vec<(u64, u64)>>;
     fn find(&mut self, key: u64) -> Option<u64>;
 }
 
 impl Reads for Session<'_> {
-    fn scan(&mut self, range: RangeInclusive<u64>, most: usize) -> Vec<Entry> {
+    fn scan(&mut self, range: RangeInclusive<u64>, most: usize) -> Vec<(u64, u64)> {
         self.range(range).take(most).collect()
     }
 
@@ -98,8 +98,8 @@ impl Reads for Session<'_> {
 }
 
 impl Reads for Pass {
-    fn scan(&mut self, range: RangeInclusive<u64>, most: usize) -> Vec<Entry> {
-        Pass::scan(self, range).take(most).collect()
+    fn scan(&mut self, range: RangeInclusive<u64>, most: usize) -> Vec<(u64, u64)> {
+        self.range(range).take(most).collect()
     }
 
     fn snapshot(&mut self, range: RangeInclusive<u64>) -> Option<Vec<(u64, u64)>> {
@@ -136,7 +136,7 @@ fn turns_pages(reads: &mut impl Reads, entries: &Entries) -> Option<bool> {
 fn takes_snapshots(reads: &mut impl Reads, entries: &Entries) -> Option<bool> {
     let [all, around] = [0..=u64::MAX, entries.new.saturating_sub(25)..=entries.new + 25].map(|range| {
         let snapshot = reads.snapshot(range.clone()).expect("nothing changes meanwhile");
-        let snapshot: Vec<Entry> = snapshot.into_iter().map(Entry::from).collect();
+        let snapshot: Vec<(u64, u64)> = snapshot.into_iter().collect();
         entries.show(&range, usize::MAX, &snapshot)
     });
     assert_eq!(all, around);
@@ -144,8 +144,8 @@ fn takes_snapshots(reads: &mut impl Reads, entries: &Entries) -> Option<bool> {
 }
 
 fn finds(reads: &mut impl Reads, entries: &Entries) -> Option<bool> {
-    for entry in &entries.before {
-        assert_eq!(reads.find(entry.key), Some(entry.pointer));
+    for &(key, pointer) in &entries.before {
+        assert_eq!(reads.find(key), Some(pointer));
     }
     let found = reads.find(entries.new);
     assert!(found.is_none() || found == Some(entries.new + 7), "{found:?}");

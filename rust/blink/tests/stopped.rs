@@ -4,7 +4,7 @@
 
 mod stepped;
 
-use blink::{Answer, Begun, Entry, Error, Index, Left, Map, Op, Room, Session};
+use blink::{Answer, Begun, Error, Index, Left, Map, Op, Room, Session};
 use std::cell::Cell;
 use std::ffi::{c_int, c_void};
 use std::sync::atomic::{AtomicBool, AtomicU64, Ordering::SeqCst};
@@ -21,7 +21,7 @@ const QUOTA: u32 = 44;
 const FIRST: u64 = 1_000;
 
 fn map_of_four(sessions: u32) -> Map {
-    let index = Index::from_sorted(4, &[(1, FIRST), (2, 20), (3, 30), (4, 40)].map(Entry::from)).unwrap();
+    let index = Index::from_sorted(4, [(1, FIRST), (2, 20), (3, 30), (4, 40)]).unwrap();
     Map::open(&index, Room { pages: 0, rows: ROWS, sessions }).unwrap()
 }
 
@@ -95,7 +95,7 @@ fn stops_after(instructions: u32) -> Option<bool> {
     assert_eq!(reader.get(1), Some(writer.pointer));
     drop((writer, reader, late));
     let last = FIRST + u64::from(replaced + 5 * ROWS);
-    assert!(map.close().unwrap().scan(..).eq([(1, last), (2, 21), (3, 30), (4, 40)].map(Entry::from)));
+    assert!(map.close().unwrap().iter().eq([(1, last), (2, 21), (3, 30), (4, 40)]));
     Some(replaced == 3 * ROWS)
 }
 
@@ -151,7 +151,7 @@ fn rows_come_back_though_the_reader_is_always_inside_a_call() {
     let last = FIRST + replaced.iter().map(|count| u64::from(*count)).sum::<u64>();
     assert_eq!(reader.get(1), Some(last));
     drop((writer, reader));
-    assert!(map.close().unwrap().scan(..).eq([(1, last), (2, 20), (3, 30), (4, 40)].map(Entry::from)));
+    assert!(map.close().unwrap().iter().eq([(1, last), (2, 20), (3, 30), (4, 40)]));
 }
 
 // ---- a change that is stopped at each of its instructions
@@ -178,7 +178,7 @@ fn a_change_that_is_stopped_anywhere_is_made_or_not() {
     // The change is seen at once, and stays.
     assert_eq!(shown, [Some(FIRST), Some(FIRST + 1)]);
     drop((writer, reader));
-    assert!(map.close().unwrap().scan(..).eq([(1, FIRST + 1), (2, 20), (3, 30), (4, 40)].map(Entry::from)));
+    assert!(map.close().unwrap().iter().eq([(1, FIRST + 1), (2, 20), (3, 30), (4, 40)]));
 }
 
 // Goes on with a change until it has ended.
@@ -214,7 +214,7 @@ fn another_waits_after(instructions: u32) -> Option<bool> {
     let waited = matches!(begun, Begun::Resting(_));
     assert_eq!(end(begun), Answer::Replaced(20), "after {instructions} instructions");
     drop((writer, free));
-    assert!(map.close().unwrap().scan(..).eq([(1, FIRST + 1), (2, 21), (3, 30), (4, 40)].map(Entry::from)));
+    assert!(map.close().unwrap().iter().eq([(1, FIRST + 1), (2, 21), (3, 30), (4, 40)]));
     Some(waited)
 }
 
@@ -248,7 +248,7 @@ fn another_is_lost_after(instructions: u32) -> Option<bool> {
     drop((writer, free));
     // The change of key 2 is made, or was lost while it waited for the leaf. All entries are there.
     let pointer = if lost { 20 } else { 21 };
-    assert!(map.close().unwrap().scan(..).eq([(1, FIRST + 1), (2, pointer), (3, 30), (4, 40)].map(Entry::from)));
+    assert!(map.close().unwrap().iter().eq([(1, FIRST + 1), (2, pointer), (3, 30), (4, 40)]));
     Some(lost)
 }
 
@@ -392,5 +392,5 @@ fn a_reader_that_sleeps_in_a_call_holds_rows_back_until_it_wakes() {
     let last = writer.pointer;
     assert!(last >= FIRST + u64::from(STOPS) * 5 * u64::from(ROWS));
     drop(writer);
-    assert!(map.close().unwrap().scan(..).eq([(1, last), (2, 20), (3, 30), (4, 40)].map(Entry::from)));
+    assert!(map.close().unwrap().iter().eq([(1, last), (2, 20), (3, 30), (4, 40)]));
 }

@@ -1,6 +1,6 @@
 //! Eight threads at one table, each with a plain map of its own keys beside its pass.
 
-use blink::{Answer, Entry, Error, Index, Pass, Table};
+use blink::{Answer, Error, Index, Pass, Table};
 use std::collections::BTreeMap;
 use std::thread;
 
@@ -23,14 +23,14 @@ fn work(pass: &mut Pass, own: &[u64], map: &mut BTreeMap<u64, u64>, seed: u64) {
                 map.entry(key).or_insert(round);
             }
             2 => {
-                assert_eq!(pass.delete(key), Ok(expected(Answer::Removed, Answer::Absent)));
+                assert_eq!(pass.remove(key), Ok(expected(Answer::Removed, Answer::Absent)));
                 map.remove(&key);
             }
             3 => {
                 assert_eq!(pass.replace(key, round), Ok(expected(Answer::Replaced, Answer::Absent)));
                 map.entry(key).and_modify(|pointer| *pointer = round);
             }
-            4 => assert_eq!(pass.find(key), Ok(expected(Answer::Found, Answer::Absent))),
+            4 => assert_eq!(pass.get(key), Ok(kept)),
             _ => {
                 // of its own keys a pass sees its own changes; of others' some state
                 assert_eq!(pass.glance(key), kept);
@@ -39,18 +39,18 @@ fn work(pass: &mut Pass, own: &[u64], map: &mut BTreeMap<u64, u64>, seed: u64) {
         }
         if round % 1_000 == 0 {
             // a scan has each key once, and of the pass's own keys exactly the map's entries
-            let seen: Vec<Entry> = pass.scan(..).collect();
-            assert!(seen.windows(2).all(|two| two[0].key < two[1].key));
-            let ours = seen.into_iter().filter(|entry| own.contains(&entry.key));
-            assert!(ours.eq(map.iter().map(|(&key, &pointer)| Entry { key, pointer })));
+            let seen: Vec<(u64, u64)> = pass.range(..).collect();
+            assert!(seen.windows(2).all(|two| two[0].0 < two[1].0));
+            let ours = seen.into_iter().filter(|(key, _)| own.contains(key));
+            assert!(ours.eq(map.iter().map(|(&key, &pointer)| (key, pointer))));
         }
     }
 }
 
 #[test]
 fn eight_threads_share_one_table() {
-    let before: Vec<Entry> = (0..THREADS * KEYS).step_by(3).map(|key| Entry { key, pointer: key * 2 }).collect();
-    let index = Index::from_entries(4, &before).unwrap();
+    let before: Vec<(u64, u64)> = (0..THREADS * KEYS).step_by(3).map(|key| (key, key * 2)).collect();
+    let index = Index::from_entries(4, before.iter().copied()).unwrap();
     let mut table = Table::open(&index, CHANGES * THREADS as u32, CHANGES * THREADS as u32).unwrap();
     let owned: Vec<Vec<u64>> = (0..THREADS).map(|i| (0..KEYS).map(|k| k * THREADS + i).collect()).collect();
     let mut passes: Vec<Pass> = owned.iter().map(|own| table.deal(own, CHANGES, CHANGES).unwrap()).collect();
@@ -76,8 +76,8 @@ fn eight_threads_share_one_table() {
     }
     let closed = table.close(passes).unwrap();
     let expected: BTreeMap<u64, u64> = maps.into_iter().flatten().collect();
-    assert!(closed.scan(..).eq(expected.into_iter().map(Entry::from)));
-    assert!(index.scan(..).eq(before));
+    assert!(closed.iter().eq(expected.into_iter()));
+    assert!(index.iter().eq(before));
 }
 
 #[test]
@@ -87,11 +87,11 @@ fn a_pass_is_spent_or_refused() {
     assert_eq!(pass.insert(3, 0), Err(Error::NotYours));
     assert_eq!(pass.insert(1, 10), Ok(Answer::Inserted));
     assert_eq!(pass.insert(2, 20), Err(Error::Spent));
-    assert_eq!(pass.delete(1), Ok(Answer::Removed(10)));
+    assert_eq!(pass.remove(1), Ok(Answer::Removed(10)));
     assert_eq!(pass.replace(1, 11), Err(Error::Spent));
-    let (mut pass, error) = pass.begin_delete(1).unwrap_err();
+    let (mut pass, error) = pass.begin_remove(1).unwrap_err();
     assert_eq!(error, Error::Spent);
-    assert_eq!(pass.find(1), Ok(Answer::Absent));
+    assert_eq!(pass.get(1), Ok(None));
     assert_eq!(table.deal(&[2], 0, 0).unwrap_err(), Error::Taken(2));
 }
 
@@ -112,19 +112,19 @@ fn a_pass_of_another_table_is_refused() {
 
 #[test]
 fn keys_go_from_pass_to_pass_and_back_to_the_table() {
-    let index = Index::from_entries(4, &[(1, 10), (2, 20), (3, 30)].map(Entry::from)).unwrap();
+    let index = Index::from_entries(4, [(1, 10), (2, 20), (3, 30)]).unwrap();
     let mut table = Table::open(&index, 0, 3).unwrap();
     let mut one = table.deal(&[3, 1], 0, 1).unwrap();
     let mut other = table.deal(&[2], 0, 1).unwrap();
     assert_eq!(one.replace(1, 11), Ok(Answer::Replaced(10)));
     assert_eq!(one.transfer(&mut other, &[1, 2]), Err(Error::KeyNotYours(2)));
     assert_eq!(one.transfer(&mut other, &[1, 3, 1]), Err(Error::KeyNotYours(1)));
-    assert_eq!(other.find(1), Err(Error::NotYours));
+    assert_eq!(other.get(1), Err(Error::NotYours));
     assert_eq!(one.transfer(&mut other, &[1]), Ok(()));
-    assert_eq!((one.find(1), one.glance(1), one.find(3)), (Err(Error::NotYours), Some(11), Ok(Answer::Found(30))));
+    assert_eq!((one.get(1), one.glance(1), one.get(3)), (Err(Error::NotYours), Some(11), Ok(Some(30))));
     let other = thread::spawn(move || {
         let mut other = other;
-        assert_eq!(other.delete(1), Ok(Answer::Removed(11)));
+        assert_eq!(other.remove(1), Ok(Answer::Removed(11)));
         other
     })
     .join()
@@ -134,9 +134,9 @@ fn keys_go_from_pass_to_pass_and_back_to_the_table() {
     assert_eq!(table.deal(&[3, 1], 0, 0).unwrap_err(), Error::Taken(1));
     table.give_back(other).unwrap();
     let mut again = table.deal(&[3, 1], 0, 1).unwrap();
-    assert_eq!((again.find(1), again.replace(3, 33)), (Ok(Answer::Absent), Ok(Answer::Replaced(30))));
+    assert_eq!((again.get(1), again.replace(3, 33)), (Ok(None), Ok(Answer::Replaced(30))));
     let closed = table.close([again]).unwrap();
-    assert!(closed.scan(..).eq([(2, 20), (3, 33)].map(Entry::from)));
+    assert!(closed.iter().eq([(2, 20), (3, 33)]));
 }
 
 #[test]
@@ -162,7 +162,7 @@ fn an_operation_goes_on_where_another_holds_the_page() {
 
 #[test]
 fn handles_move_to_other_threads() {
-    let index = thread::spawn(|| Index::from_entries(8, &[(1, 10)].map(Entry::from)).unwrap()).join().unwrap();
+    let index = thread::spawn(|| Index::from_entries(8, [(1, 10)]).unwrap()).join().unwrap();
     let mut table = Table::open(&index, 1, 0).unwrap();
     let pass = table.deal(&[2], 1, 0).unwrap();
     drop(index);
